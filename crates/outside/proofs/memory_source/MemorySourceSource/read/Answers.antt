@@ -1,0 +1,11 @@
+use Rattle.std.proofs.Common.{◌≡◌, ◌≤◌, drop, length, Some, ap, arith, rules, ◌∙◌, sym}
+use Rattle.outside.specs.Memory.{SourceState}
+use Rattle.outside.proofs.Pieces.{drop-moved}
+use Rattle.outside.proofs.memory_source.MemorySourceSource.read.Goals as goal
+
+pub returns-clause-bytes : goal.returns-clause-bytes
+returns-clause-bytes c =
+    let left = ap (λ (s : SourceState). s.left) c.self.view_is in
+    let rest : drop c.self.inside.at c.self.inside.bytes.items ≡ c.split_at.result.1.now = search rules in
+    let within : c.min-count.result ≤ length c.split_at.result.1.now = omega arith in
+    ap Some (sym left ∙ rest ∙ rw c.copy_front.ensures (drop-moved c.self.inside.bytes.items c.split_at.result.1.now (drop c.min-count.result c.args.into.now) c.self.inside.at c.min-count.result rest within))

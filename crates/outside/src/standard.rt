@@ -1,0 +1,100 @@
+// Sources and sinks over std's readers and writers: the edge of what is proved. They tell no bytes.
+ghost use Rattle.std.specs.Prelude.{◌≡◌, ◌<◌, ◌≤◌, None, IfOk, length, drop, take};
+ghost use Rattle.outside.specs.Bytes.{prepend_known, append_known, IsAtEnd};
+ghost use Rattle.outside.specs.Calls.{taken, given, TakesWithin, GivesWithin, CountsRead, CountsWrite};
+
+use crate::copy::copy_front;
+use crate::{Gave, Sink, Source, Took};
+use std::io::{Read, Write};
+
+const BUFFER: usize = 16384;
+
+/// A source over a reader. Each error of the reader is a fault, and a read of 0 bytes is the end.
+///
+/// std says nothing of the part of a buffer that a read didn't fill, so the source reads into a buffer of its own.
+#[derive(Drop)]
+pub struct StdSource<R: Read> {
+    reader: R,
+    buffer: [u8; BUFFER],
+    faults: u64,
+}
+
+impl<R: Read> StdSource<R> {
+    /// A source over what the reader gives from here on.
+    pub fn new(reader: R) -> StdSource<R>
+        ensures reader { result.reader ≡ reader }
+        ensures faults { result.faults ≡ 0 }
+    {
+        StdSource {
+            reader,
+            buffer: [0; BUFFER],
+            faults: 0,
+        }
+    }
+}
+
+impl<R: Read> Source for StdSource<R> {
+    ghost faults = { λ s. s.faults };
+
+    ghost left = { λ _. None };
+
+    fn read(&mut self, into: &mut [u8]) -> Took {
+        let room = into.len().min(BUFFER);
+        let buffer = &mut self.buffer[..];
+        let count = match self.reader.read(&mut buffer[..room]) {
+            Ok(count) => count,
+            Err(_) => {
+                self.faults = self.faults.saturating_add(1);
+                return Took::Failed;
+            }
+        };
+        if count == 0 {
+            return Took::End;
+        }
+        copy_front(buffer, into, count);
+        Took::Got(count)
+    }
+}
+
+/// A sink over a writer, flushed at each call. Each error of the writer is a fault, and so is a write of 0 bytes.
+#[derive(Drop)]
+pub struct StdSink<W: Write> {
+    writer: W,
+    faults: u64,
+}
+
+impl<W: Write> StdSink<W> {
+    /// A sink for the writer.
+    pub fn new(writer: W) -> StdSink<W>
+        ensures writer { result.writer ≡ writer }
+        ensures faults { result.faults ≡ 0 }
+    {
+        StdSink { writer, faults: 0 }
+    }
+
+    // Writes a front of the piece, and flushes.
+    fn push(&mut self, piece: &[u8]) -> std::io::Result<usize>
+        ensures within { IfOk result (λ count. count ≤ length piece.now) }
+        ensures same { self.new.faults ≡ self.old.faults }
+    {
+        let count = self.writer.write(piece)?;
+        self.writer.flush()?;
+        Ok(count)
+    }
+}
+
+impl<W: Write> Sink for StdSink<W> {
+    ghost faults = { λ s. s.faults };
+
+    ghost written = { λ _. None };
+
+    fn write(&mut self, piece: &[u8]) -> Gave {
+        match self.push(piece) {
+            Ok(count) if count > 0 => Gave::Wrote(count),
+            _ => {
+                self.faults = self.faults.saturating_add(1);
+                Gave::Failed
+            }
+        }
+    }
+}
