@@ -1,0 +1,100 @@
+//! The neighbours of each node, in one flat array.
+
+ghost use Rattle.std.specs.Prelude.{◌≡◌, ◌<◌, ◌≤◌, ◌++◌, List, IfOk, OnOk, All, length};
+ghost use Rattle.net_graph.specs.declared.edge.Edge.{Edge};
+ghost use Rattle.net_graph.specs.Layout.{AreArcsOf, arcs_of_row};
+ghost use Rattle.net_graph.specs.Network.{IsEdge, IsInLimits, SameWalks};
+ghost use Rattle.net_graph.specs.Table.{IsTableOf};
+
+use crate::edge::MAX_NODES;
+use std::alloc::{AllocError, Global};
+use std::marker::Model;
+
+/// One direction of an edge.
+#[derive(Clone, Copy, Debug, PartialEq, Eq)]
+pub(crate) struct Arc {
+    pub(crate) target: u32,
+    pub(crate) weight: u32,
+}
+
+/// A network as the arcs of each node: those of node u are at `starts[u]` to `starts[u + 1]`.
+#[derive(Debug, Drop)]
+pub(crate) struct Neighbours {
+    nodes: u32,
+    starts: Vec<usize>,
+    arcs: Vec<Arc>,
+}
+
+impl Model for Neighbours {
+    ghost use Rattle.net_graph.specs.Network.{Network};
+
+    ghost Value = { Network };
+
+    ghost use Rattle.net_graph.specs.Layout.{IsLaidOut, edges_from};
+
+    ghost view = { λ g. record { nodes = g.nodes; edges = edges_from g.starts.items g.arcs.items g.nodes } };
+
+    ghost invariant = { λ g. IsLaidOut g.nodes g.starts.items g.arcs.items };
+}
+
+impl Neighbours {
+    // The network of a table of least weights.
+    pub(crate) fn from_table(
+        alloc: Global,
+        n: u32,
+        table: &[Option<u32>],
+    ) -> Result<Neighbours, AllocError>
+        ghost edges: { List Edge }
+        requires positive { 1 ≤ n }
+        requires few { n ≤ MAX_NODES }
+        requires edges { All (IsEdge n) edges }
+        requires table { IsTableOf n edges table.now }
+        ensures nodes { IfOk result (λ g. g.nodes ≡ n) }
+        ensures same { IfOk result (λ g. SameWalks edges g.edges) }
+    {
+        let mut starts = Vec::with_capacity(alloc, n as usize + 1)?;
+        let mut arcs = Vec::new(alloc);
+        starts.push(0)?;
+        for u in 0..n as usize {
+            push_row(&table[u * n as usize..(u + 1) * n as usize], &mut arcs)?;
+            starts.push(arcs.len())?;
+        }
+        Ok(Neighbours {
+            nodes: n,
+            starts,
+            arcs,
+        })
+    }
+
+    // How many nodes there are.
+    pub(crate) fn nodes(&self) -> u32
+        ensures count { result ≡ self.now.nodes }
+        ensures limits { IsInLimits self.now }
+    {
+        self.nodes
+    }
+
+    // The arcs from a node.
+    pub(crate) fn arcs_of(&self, node: u32) -> &[Arc]
+        requires { node < self.now.nodes }
+        ensures { AreArcsOf self.now.nodes self.now.edges node result.now }
+    {
+        &self.arcs[self.starts[node as usize]..self.starts[node as usize + 1]]
+    }
+}
+
+// Appends the arcs of a row of the table.
+fn push_row(row: &[Option<u32>], arcs: &mut Vec<Arc>) -> Result<(), AllocError>
+    requires { length row.now ≤ MAX_NODES }
+    ensures { OnOk result (arcs.new.items ≡ arcs.old.items ++ arcs_of_row row.now (length row.now)) }
+{
+    for (target, cell) in row.iter().enumerate() {
+        if let Some(weight) = cell {
+            arcs.push(Arc {
+                target: target as u32,
+                weight: *weight,
+            })?;
+        }
+    }
+    Ok(())
+}
