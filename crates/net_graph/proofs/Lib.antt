@@ -1,1 +1,4 @@
 pub mod WalkLaws
+pub mod Rows
+pub mod Cells
+pub mod LayingOut

@@ -94,7 +94,7 @@ least_of_step edges inside u v w x at_u at_v joined p =
   omega (arith, p.least (record { node = v; weight = x } ∷ []) (at_u, joined, (at_v, refl)))
 
 -- each edge of the one list that isn't a loop has one of the other list between its ends that is no heavier
-pub Covers : List Edge → List Edge → Type 0
+abbrev pub Covers : List Edge → List Edge → Type 0
 Covers old new = (u v w : ℕ) → u ≢ v → Joins old u v w → (x : ℕ) × Joins new u v x × (x ≤ w)
 
 -- a walk that weighs no more
@@ -114,7 +114,6 @@ walk_replaced edges inside u y v w c x at_u joined light rest =
 
 pub walk_covered : (old new : List Edge) → Covers old new → (inside : ℕ → Bool) (u : ℕ) (steps : List Step) (v : ℕ)
   → IsWalk old inside u steps v → IsNoHeavier new inside u v (weight_of steps)
-unfolding Covers
 walk_covered old new covers inside u [] v walk = record { steps = []; walk = walk; light = omega arith }
 walk_covered old new covers inside u (step ∷ steps) v walk =
   let rest = walk_covered old new covers inside step.node steps v walk.2 in
