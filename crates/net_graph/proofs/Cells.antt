@@ -18,18 +18,18 @@ pub at_most_some : (c : Option ℕ) (x : ℕ) → IsAtMost c x → (y : ℕ) × 
 at_most_some None x h = absurd h
 at_most_some (Some y) x h = (y, refl, h)
 
-lowered_light : (c : Option ℕ) (w : ℕ) → IsAtMost (lowered c w) w
+pub lowered_light : (c : Option ℕ) (w : ℕ) → IsAtMost (lowered c w) w
 lowered_light None w = omega arith
 lowered_light (Some x) w = omega arith
 
-lowered_keeps : (c : Option ℕ) (w y : ℕ) → IsAtMost c y → IsAtMost (lowered c w) y
+pub lowered_keeps : (c : Option ℕ) (w y : ℕ) → IsAtMost c y → IsAtMost (lowered c w) y
 lowered_keeps None w y h = absurd h
 lowered_keeps (Some x) w y h = omega arith
 
 some_or_other : (x y : ℕ) → (min x y ≡ x) ⊎ (min x y ≡ y)
 some_or_other x y = elim (cases_lt x y) [ inl less ↦ inl (omega arith) | inr more ↦ inr (omega arith) ]
 
-lowered_cause : (c : Option ℕ) (w x : ℕ) → lowered c w ≡ Some x → (c ≡ Some x) ⊎ (w ≡ x)
+pub lowered_cause : (c : Option ℕ) (w x : ℕ) → lowered c w ≡ Some x → (c ≡ Some x) ⊎ (w ≡ x)
 lowered_cause None w x h = inr (cc)
 lowered_cause (Some y) w x h = elim (some_or_other y w) [ inl first ↦ inl (cc) | inr second ↦ inr (cc) ]
 

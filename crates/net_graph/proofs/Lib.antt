@@ -2,3 +2,5 @@ pub mod WalkLaws
 pub mod Rows
 pub mod Cells
 pub mod LayingOut
+pub mod Relaxing
+pub mod Searching

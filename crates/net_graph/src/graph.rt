@@ -1,6 +1,6 @@
 //! Graphs, as contracts see them: a number of nodes and a list of edges.
 
-ghost use Rattle.std.specs.Prelude.{◌≡◌, ◌≤◌, All, EachIndex, IfErr, IfNone, IfOk, IfSome, length, slice_get, take, true, vec_len};
+ghost use Rattle.std.specs.Prelude.{◌≡◌, ◌≤◌, All, EachIndex, IfErr, IfNone, IfOk, IfSome, IsTrue, length, slice_get, take, vec_len};
 ghost use Rattle.net_graph.specs.Network.{IsEdge, IsGraphOf, IsNetwork};
 ghost use Rattle.net_graph.specs.Faults.{IsGraphFault};
 ghost use Rattle.net_graph.specs.Trees.{AreLeastWeights, at_node};
@@ -62,7 +62,7 @@ impl Graph {
     /// The least walks from `root` through the nodes at which `allowed` holds true.
     pub fn tree_from(&self, alloc: Global, allowed: &[bool], root: u32) -> Result<Tree, OutOfMemory>
         requires count { length allowed.now ≡ self.now.nodes }
-        requires root { slice_get allowed.now root ≡ Some true }
+        requires root { IsTrue (among allowed.now root) }
         ensures weights { IfOk result (λ tree. AreLeastWeights self.now (among allowed.now) root tree.weight.items) }
         ensures parents { IfOk result (λ tree. vec_len tree.parent ≡ self.now.nodes) }
     {

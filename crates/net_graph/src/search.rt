@@ -1,6 +1,6 @@
 //! The search for least walks: of the unsettled nodes the lightest is settled next, and the arcs that leave it are relaxed.
 
-ghost use Rattle.std.specs.Prelude.{◌≡◌, ◌+◌, ◌*◌, ◌<◌, ◌≤◌, ◌^◌, All, IfOk, length, slice_get, true};
+ghost use Rattle.std.specs.Prelude.{◌≡◌, ◌+◌, ◌*◌, ◌<◌, ◌≤◌, ◌^◌, All, IfOk, IsTrue, length};
 ghost use Rattle.net_graph.specs.Trees.{AreLeastWeights};
 ghost use Rattle.net_graph.specs.Search.{IsLightestBelow, lighter_of, relaxed, relaxed_by};
 ghost use Rattle.net_graph.specs.Layout.{IsArc};
@@ -17,7 +17,7 @@ pub(crate) fn weights_from(
     root: u32,
 ) -> Result<Vec<Option<u64>>, AllocError>
     requires count { length allowed.now ≡ neighbours.now.nodes }
-    requires root { slice_get allowed.now root ≡ Some true }
+    requires root { IsTrue (among allowed.now root) }
     ensures { IfOk result (λ weights. AreLeastWeights neighbours.now (among allowed.now) root weights.items) }
 {
     let mut weights = vec![in alloc; None; neighbours.nodes() as usize]?;
