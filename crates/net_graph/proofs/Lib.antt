@@ -4,3 +4,4 @@ pub mod Cells
 pub mod LayingOut
 pub mod Relaxing
 pub mod Searching
+pub mod Connecting

@@ -1,6 +1,6 @@
 //! Graphs, as contracts see them: a number of nodes and a list of edges.
 
-ghost use Rattle.std.specs.Prelude.{◌≡◌, ◌≤◌, All, EachIndex, IfErr, IfNone, IfOk, IfSome, IsTrue, length, slice_get, take, vec_len};
+ghost use Rattle.std.specs.Prelude.{◌≡◌, ◌<◌, ◌≤◌, ℕ, All, IfErr, IfNone, IfOk, IfSome, IsTrue, length, vec_len};
 ghost use Rattle.net_graph.specs.Network.{IsEdge, IsGraphOf, IsNetwork};
 ghost use Rattle.net_graph.specs.Faults.{IsGraphFault};
 ghost use Rattle.net_graph.specs.Trees.{AreLeastWeights, at_node};
@@ -10,7 +10,6 @@ use crate::edge::{Edge, MAX_NODES};
 use crate::fault::{GraphFault, OutOfMemory};
 use crate::neighbours::Neighbours;
 use crate::search::weights_from;
-use crate::table::least_weights;
 use crate::tree::Tree;
 use std::alloc::Global;
 use std::marker::Model;
@@ -41,8 +40,7 @@ impl Graph {
         ensures graph { IfOk result (IsGraphOf n edges.now) }
         ensures fault { IfErr result (IsGraphFault n edges.now) }
     {
-        let table = least_weights(alloc, n, edges)?;
-        let neighbours = Neighbours::from_table(alloc, n, &table)?;
+        let neighbours = Neighbours::new(alloc, n, edges)?;
         let allowed = vec![in alloc; true; n as usize]?;
         let weights = weights_from(alloc, &neighbours, &allowed, 0)?;
         match first_apart(&weights) {
@@ -75,9 +73,9 @@ impl Graph {
 // The first node that has no weight.
 fn first_apart(weights: &[Option<u64>]) -> Option<u32>
     requires { length weights.now ≤ MAX_NODES }
-    ensures apart { IfSome result (λ node. slice_get weights.now node ≡ Some None) }
-    ensures first { IfSome result (λ node. EachIndex (take node weights.now) (λ v. ¬ (at_node weights.now v ≡ None))) }
-    ensures none { IfNone result (EachIndex weights.now (λ v. ¬ (at_node weights.now v ≡ None))) }
+    ensures apart { IfSome result (λ node. (node < length weights.now) × (at_node weights.now node ≡ None)) }
+    ensures first { IfSome result (λ node. (v : ℕ) → v < node → at_node weights.now v ≡ None → ⊥) }
+    ensures none { IfNone result ((v : ℕ) → v < length weights.now → at_node weights.now v ≡ None → ⊥) }
 {
     for (node, weight) in weights.iter().enumerate() {
         if weight.is_none() {

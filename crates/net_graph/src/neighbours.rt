@@ -1,12 +1,11 @@
 //! The neighbours of each node, in one flat array.
 
-ghost use Rattle.std.specs.Prelude.{◌≡◌, ◌<◌, ◌≤◌, ◌++◌, List, IfOk, OnOk, All, length};
-ghost use Rattle.net_graph.specs.declared.edge.Edge.{Edge};
+ghost use Rattle.std.specs.Prelude.{◌≡◌, ◌<◌, ◌≤◌, ◌++◌, IfOk, OnOk, All, length};
 ghost use Rattle.net_graph.specs.Layout.{AreArcsOf, arcs_of_row};
 ghost use Rattle.net_graph.specs.Network.{IsEdge, IsInLimits, SameWalks};
-ghost use Rattle.net_graph.specs.Table.{IsTableOf};
 
-use crate::edge::MAX_NODES;
+use crate::edge::{Edge, MAX_NODES};
+use crate::table::least_weights;
 use std::alloc::{AllocError, Global};
 use std::marker::Model;
 
@@ -38,25 +37,22 @@ impl Model for Neighbours {
 }
 
 impl Neighbours {
-    // The network of a table of least weights.
-    pub(crate) fn from_table(
-        alloc: Global,
-        n: u32,
-        table: &[Option<u32>],
-    ) -> Result<Neighbours, AllocError>
-        ghost edges: { List Edge }
+    // A network of `n` nodes, in which the lightest of edges that join the same nodes counts, and no loop.
+    pub(crate) fn new(alloc: Global, n: u32, edges: &[Edge]) -> Result<Neighbours, AllocError>
         requires positive { 1 ≤ n }
         requires few { n ≤ MAX_NODES }
-        requires edges { All (IsEdge n) edges }
-        requires table { IsTableOf n edges table.now }
+        requires edges { All (IsEdge n) edges.now }
         ensures nodes { IfOk result (λ g. g.nodes ≡ n) }
-        ensures same { IfOk result (λ g. SameWalks edges g.edges) }
+        ensures limits { IfOk result IsInLimits }
+        ensures same { IfOk result (λ g. SameWalks edges.now g.edges) }
     {
-        let mut starts = Vec::with_capacity(alloc, n as usize + 1)?;
+        let table = least_weights(alloc, n, edges)?;
+        let width = n as usize;
+        let mut starts = Vec::with_capacity(alloc, width + 1)?;
         let mut arcs = Vec::new(alloc);
         starts.push(0)?;
-        for u in 0..n as usize {
-            push_row(&table[u * n as usize..(u + 1) * n as usize], &mut arcs)?;
+        for u in 0..width {
+            push_row(&table[u * width..(u + 1) * width], &mut arcs)?;
             starts.push(arcs.len())?;
         }
         Ok(Neighbours {
