@@ -1,0 +1,5 @@
+use Rattle.net_graph.proofs.WalkLaws.{unreached_back}
+use Rattle.net_graph.proofs.laws.unreached_turned.Goals as goal
+
+pub returns : goal.returns
+returns c = unreached_back

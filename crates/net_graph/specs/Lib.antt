@@ -1,0 +1,7 @@
+pub mod Walks
+pub mod Network
+pub mod Trees
+pub mod Layout
+pub mod Table
+pub mod Faults
+pub mod Search

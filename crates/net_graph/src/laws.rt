@@ -1,0 +1,58 @@
+//! Laws of least weights, for the proofs of callers: each function does nothing, and its clause is a law.
+
+ghost use Rattle.std.specs.Prelude.{◌≡◌, ◌+◌, ◌<◌, ◌≤◌, ◌↔◌, ℕ, Bool, true, List, All, length};
+ghost use Rattle.net_graph.specs.declared.edge.Edge.{Edge};
+ghost use Rattle.net_graph.specs.Network.{IsEdge};
+ghost use Rattle.net_graph.specs.Walks.{Joins, IsLeastWeight, IsUnreached, IsReached, among, everywhere};
+
+/// Two least weights of walks between the same nodes are equal.
+pub fn least_weight_is_one()
+    ensures { (edges : List Edge) (inside : ℕ → Bool) (u v w x : ℕ)
+        → IsLeastWeight edges inside u v w → IsLeastWeight edges inside u v x → w ≡ x }
+{}
+
+/// A least weight is the same from either end.
+pub fn least_weight_turned()
+    ensures { (edges : List Edge) (inside : ℕ → Bool) (u v w : ℕ)
+        → IsLeastWeight edges inside u v w → IsLeastWeight edges inside v u w }
+{}
+
+/// What isn't reached from one end isn't reached from the other.
+pub fn unreached_turned()
+    ensures { (edges : List Edge) (inside : ℕ → Bool) (u v : ℕ)
+        → IsUnreached edges inside u v → IsUnreached edges inside v u }
+{}
+
+/// The triangle inequality.
+pub fn least_weights_add_up()
+    ensures { (edges : List Edge) (inside : ℕ → Bool) (u v x a b c : ℕ)
+        → IsLeastWeight edges inside u v a → IsLeastWeight edges inside v x b → IsLeastWeight edges inside u x c
+        → c ≤ a + b }
+{}
+
+/// The least weight from a node inside to itself is 0.
+pub fn least_weight_to_itself()
+    ensures { (edges : List Edge) (inside : ℕ → Bool) (u : ℕ) → inside u ≡ true → IsLeastWeight edges inside u u 0 }
+{}
+
+/// A least weight is at most the weight of an edge between the nodes.
+pub fn least_weight_of_a_step()
+    ensures { (edges : List Edge) (inside : ℕ → Bool) (u v w x : ℕ) → inside u ≡ true → inside v ≡ true
+        → Joins edges u v x → IsLeastWeight edges inside u v w → w ≤ x }
+{}
+
+/// A node that has a least weight is reached, and one that is unreached has none.
+pub fn least_weight_is_reached()
+    ensures { (edges : List Edge) (inside : ℕ → Bool) (u v w : ℕ)
+        → IsLeastWeight edges inside u v w → IsReached edges inside u v × ¬ (IsUnreached edges inside u v) }
+{}
+
+/// Where all nodes are allowed, walks go everywhere.
+pub fn all_allowed_is_everywhere()
+    ensures least { (n : ℕ) (edges : List Edge) (allowed : List Bool) (u v w : ℕ)
+        → All (IsEdge n) edges → length allowed ≡ n → All (λ x. x ≡ true) allowed → u < n
+        → IsLeastWeight edges (among allowed) u v w ↔ IsLeastWeight edges everywhere u v w }
+    ensures unreached { (n : ℕ) (edges : List Edge) (allowed : List Bool) (u v : ℕ)
+        → All (IsEdge n) edges → length allowed ≡ n → All (λ x. x ≡ true) allowed → u < n
+        → IsUnreached edges (among allowed) u v ↔ IsUnreached edges everywhere u v }
+{}
