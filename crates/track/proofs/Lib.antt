@@ -1,0 +1,5 @@
+pub mod Digits
+pub mod ManyLines
+pub mod Spelled
+pub mod SpelledRows
+pub mod SpelledContents

@@ -1,0 +1,4 @@
+pub mod Contents
+pub mod Fields
+pub mod PlainText
+pub mod Reading
