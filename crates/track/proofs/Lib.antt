@@ -3,3 +3,5 @@ pub mod ManyLines
 pub mod Spelled
 pub mod SpelledRows
 pub mod SpelledContents
+pub mod FlatPlans
+pub mod Made

@@ -1,9 +1,11 @@
 //! The program `track` as one call: from the bytes of an input to the bytes of a report.
 #![tactic(auto)]
 
+mod directory;
 mod fault;
 mod fields;
 mod input;
 mod limits;
+mod outcome;
 mod plain;
 mod rows;

@@ -1,0 +1,68 @@
+-- Finds over the flat plan where nobody moves, as the code makes them: it keeps the least weights from node 0 alone, and
+-- one entry for each subscriber. Nothing above stands on this; the laws in proofs/ join it to `Finds`.
+use Rattle.std.specs.Prelude.{◌≡◌, ℕ, ◌+◌, ◌<◌, ◌≤◌, ◌==◌, Bool, true, false, List, Option, Some, None, length, map, flat_map}
+use Rattle.net_graph.specs.Walks.{IsLeastWeight, everywhere}
+use Rattle.net_graph.specs.Trees.{at_node}
+use Rattle.track.specs.declared.directory.Mark.{Mark}
+use Rattle.track.specs.declared.directory.Mark.TheVariants as marks
+use Rattle.track.specs.declared.input.Find.{Find}
+use Rattle.track.specs.declared.directory.Found.{Found}
+use Rattle.track.specs.Contents.{Contents}
+use Rattle.track.specs.declared.outcome.Done as made
+use Rattle.track.specs.declared.outcome.Outcome as made_all
+use Rattle.track.specs.Finds.{Next}
+use Rattle.track.specs.Finds.Next.{answers}
+use Rattle.track.specs.Finds.Found.{at}
+use Rattle.track.specs.Outcome.{home_of, Done, Outcome, done_from, visits_of, outcome}
+use Rattle.track.specs.Plans.{Plan, IsFlat}
+
+-- the least weight of a walk from node 0 to this node stands in the list
+pub record HasWeight (contents : Contents) (weights : List (Option ℕ)) (node : ℕ) : Type 0 where
+  pub weight : ℕ
+  pub stands : at_node weights node ≡ Some weight
+  pub least : IsLeastWeight contents.edges everywhere 0 node weight
+  pub bounded : weight ≤ 1073741824
+
+-- the least weights of walks from node 0 stand in the list, node by node
+pub record AreWeights (contents : Contents) (weights : List (Option ℕ)) : Type 0 where
+  pub count : length weights ≡ contents.nodes
+  pub each : (v : ℕ) → v < contents.nodes → HasWeight contents weights v
+
+-- a presence mark is Here with number 0 where the test says so, and else Empty
+abbrev pub IsHere : Mark → Bool → Type 0
+IsHere marks.Empty test = test ≡ false
+IsHere (marks.Here number) test = (test ≡ true) × (number ≡ 0)
+
+-- what a find from its subscriber's home answers, and what one from elsewhere does
+abbrev pub found_at : Contents → ℕ → ℕ → Find → Bool → Found
+found_at contents a b call true = record { node = call.from; number = 0; level = None; weight = 0; looks = 1 }
+found_at contents a b call false = record { node = home_of contents call.sub; number = 0; level = Some 0; weight = a + b; looks = 3 }
+
+-- the find has this answer, its weights standing in the list
+pub record Finds (contents : Contents) (weights : List (Option ℕ)) (call : Find) (found : Found) : Type 0 where
+  pub to_origin : ℕ
+  pub to_home : ℕ
+  pub origin : at_node weights call.from ≡ Some to_origin
+  pub home : at_node weights (home_of contents call.sub) ≡ Some to_home
+  pub answer : found ≡ found_at contents to_origin to_home call (call.from == home_of contents call.sub)
+
+-- the answer as a find's next
+abbrev pub result_of : Found → Next
+result_of found = answers (at found.node found.number found.level found.weight)
+
+-- a call that the code has done
+abbrev pub shown_done : made.Done → Done
+shown_done done = record { call = done.call; result = result_of done.found; first = done.first; last = done.last }
+
+-- an outcome that the code has made
+abbrev pub shown : made_all.Outcome → Outcome
+shown made = record { calls = map shown_done made.calls.items; order = made.order.items }
+
+-- what the code has made is what becomes of these calls, one after another, over every flat plan of the network
+pub record AreMade (contents : Contents) (calls : List Find) (made : made_all.Outcome) : Type 0 where
+  pub calls_made : (plan : Plan) → IsFlat contents.nodes contents.edges plan → (shown made).calls ≡ done_from plan contents 0 calls
+  pub order_made : (shown made).order ≡ flat_map visits_of (shown made).calls
+
+-- what the code has made is the outcome of the input, over every flat plan of its network
+abbrev pub IsOutcome : Contents → made_all.Outcome → Type 0
+IsOutcome contents made = (plan : Plan) → IsFlat contents.nodes contents.edges plan → shown made ≡ outcome plan contents

@@ -1,0 +1,57 @@
+-- The report's text: a line for each call, the actors of all tickets, and how many visits there were.
+use Rattle.std.specs.Prelude.{◌≡◌, ℕ, zero, suc, ◌+◌, ◌%◌, ◌==◌, List, [], ◌∷◌, ◌++◌, Option, Some, None, length, flat_map, codes, if◌then◌else◌}
+use Rattle.std.specs.Fmt.{decimal}
+use Rattle.track.specs.Finds.{Next, Found, Why}
+use Rattle.track.specs.Finds.Next.{wants, answers}
+use Rattle.track.specs.Finds.Found.{at, again}
+use Rattle.track.specs.Finds.Why.{nothing_at, no_entry, chased}
+use Rattle.track.specs.Outcome.{Done, Outcome}
+
+infixr 65 ◌then◌
+-- one text after another
+abbrev pub ◌then◌ : List ℕ → List ℕ → List ℕ
+xs then ys = xs ++ ys
+
+-- a blank and a number
+abbrev pub field : ℕ → List ℕ
+field n = 32 ∷ decimal n
+
+-- the level, or a dash
+abbrev pub level_text : Option ℕ → List ℕ
+level_text None = codes "-"
+level_text (Some level) = decimal level
+
+-- why a find has to be made again
+abbrev pub why_text : Why → List ℕ
+why_text (nothing_at node) = codes "empty" then field node
+why_text no_entry = codes "none"
+why_text chased = codes "chased"
+
+-- the weight and the tickets at the end of a call's line
+abbrev pub line_end : Done → ℕ → List ℕ
+line_end done weight = codes " weight" then field weight then codes " first" then field done.first then codes " last" then field done.last then 10 ∷ []
+
+-- who finds whom, and from where
+abbrev pub asked : Done → List ℕ
+asked done = field done.call.caller then field done.call.from then field done.call.sub
+
+-- the line of a call; a find that has no answer has none
+abbrev pub call_line : Done → Next → List ℕ
+call_line done (wants key) = []
+call_line done (answers (at node number level weight)) =
+  codes "find" then asked done then codes " at" then field node then codes " number" then field number then codes " level " then level_text level then line_end done weight
+call_line done (answers (again why weight)) = codes "again" then asked done then 32 ∷ why_text why then line_end done weight
+
+-- the actors of the tickets from this one on: 64 on each line, fewer on the last
+unfoldable pub order_text : ℕ → List ℕ → List ℕ
+order_text ticket [] = []
+order_text ticket (actor ∷ actors) =
+  (if ticket % 64 == 0 then codes "order" else []) then field actor then (if ticket % 64 == 63 then 10 ∷ [] else (if length actors == 0 then 10 ∷ [] else [])) then order_text (ticket + 1) actors
+
+-- the report of an outcome
+abbrev pub report_of : Outcome → List ℕ
+report_of outcome = flat_map (λ done. call_line done done.result) outcome.calls then order_text 0 outcome.order then codes "end" then field (length outcome.order) then 10 ∷ []
+
+-- the line of an input whose network isn't connected: how many lines there are, and the least node apart
+abbrev pub apart_line : ℕ → ℕ → List ℕ
+apart_line lines node = codes "refused" then field lines then codes " apart" then field node then 10 ∷ []
