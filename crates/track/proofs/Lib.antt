@@ -5,3 +5,4 @@ pub mod SpelledRows
 pub mod SpelledContents
 pub mod FlatPlans
 pub mod Made
+pub mod OrderLines

@@ -1,5 +1,5 @@
 -- The report's text: a line for each call, the actors of all tickets, and how many visits there were.
-use Rattle.std.specs.Prelude.{◌≡◌, ℕ, zero, suc, ◌+◌, ◌%◌, ◌==◌, List, [], ◌∷◌, ◌++◌, Option, Some, None, length, flat_map, codes, if◌then◌else◌}
+use Rattle.std.specs.Prelude.{◌≡◌, ℕ, zero, suc, ◌+◌, ◌%◌, ◌==◌, ◌||◌, Bool, List, [], ◌∷◌, ◌++◌, Option, Some, None, length, flat_map, codes, if◌then◌else◌}
 use Rattle.std.specs.Fmt.{decimal}
 use Rattle.track.specs.Finds.{Next, Found, Why}
 use Rattle.track.specs.Finds.Next.{wants, answers}
@@ -42,11 +42,15 @@ call_line done (answers (at node number level weight)) =
   codes "find" then asked done then codes " at" then field node then codes " number" then field number then codes " level " then level_text level then line_end done weight
 call_line done (answers (again why weight)) = codes "again" then asked done then 32 ∷ why_text why then line_end done weight
 
--- the actors of the tickets from this one on: 64 on each line, fewer on the last
+-- the actor of a ticket: the word `order` stands before each 64th from the first on, and the line ends behind each
+-- 64th and behind the last
+abbrev pub turn_text : ℕ → ℕ → Bool → List ℕ
+turn_text ticket actor is_last = (if ticket % 64 == 0 then codes "order" else []) then field actor then (if ticket % 64 == 63 || is_last then 10 ∷ [] else [])
+
+-- the actors of the tickets from this one on
 unfoldable pub order_text : ℕ → List ℕ → List ℕ
 order_text ticket [] = []
-order_text ticket (actor ∷ actors) =
-  (if ticket % 64 == 0 then codes "order" else []) then field actor then (if ticket % 64 == 63 then 10 ∷ [] else (if length actors == 0 then 10 ∷ [] else [])) then order_text (ticket + 1) actors
+order_text ticket (actor ∷ actors) = turn_text ticket actor (length actors == 0) then order_text (ticket + 1) actors
 
 -- the report of an outcome
 abbrev pub report_of : Outcome → List ℕ

@@ -8,4 +8,5 @@ mod input;
 mod limits;
 mod outcome;
 mod plain;
+mod report;
 mod rows;
