@@ -1,5 +1,5 @@
 -- What one call of a source or of a sink may answer, and what the count of its faults does. The largest count is
--- 2^64-1, where it stands still. Laws: HasFaulted-after.
+-- 2^64-1, where it stands still.
 use Rattle.std.specs.Prelude.{◌≡◌, ◌⊎◌, ℕ, ◌<◌, ◌≤◌}
 use Rattle.outside.specs.declared.source.Took.{Took}
 use Rattle.outside.specs.declared.source.Took.TheVariants.{Got, End}

@@ -8,3 +8,5 @@ pub mod Finds
 pub mod Outcome
 pub mod Report
 pub mod FlatFinds
+pub mod Transfer
+pub mod Command

@@ -10,3 +10,5 @@ mod outcome;
 mod plain;
 mod report;
 mod rows;
+mod status;
+mod transfer;

@@ -1,0 +1,33 @@
+-- What stands after all bytes of a source were read, and after a text was written to a sink.
+use Rattle.std.specs.Prelude.{◌≡◌, ℕ, ◌<◌, ◌≤◌, List, [], ◌++◌, length, Option, IfSome}
+use Rattle.outside.specs.Bytes.{prepend_known, append_known, IsAtEnd}
+use Rattle.outside.specs.Calls.{HasFaulted}
+use Rattle.track.specs.declared.limits.TheConstants.{MAX_BYTES}
+use Rattle.track.specs.declared.status.Stop.{Stop}
+use Rattle.track.specs.declared.status.Stop.TheVariants.{OutOfMemory, ReadFailed, WriteFailed, NotPlain}
+
+-- what is left is an end of what was left
+pub record IsRest (before now : Option (List ℕ)) : Type 0 where
+  pub front : List ℕ
+  pub parts : before ≡ prepend_known front now
+
+-- all that was left was read, nothing is left, and there was no fault
+pub record AllRead (bytes : List ℕ) (before now : Option (List ℕ)) (faults_before faults_now : ℕ) : Type 0 where
+  pub parts : before ≡ prepend_known bytes now
+  pub end : IsAtEnd now
+  pub short : length bytes ≤ MAX_BYTES
+  pub no_fault : faults_now ≡ faults_before
+
+-- why not all was read
+abbrev pub StopsReading : Stop → Option (List ℕ) → ℕ → ℕ → Type 0
+StopsReading OutOfMemory before faults_before faults_now = faults_now ≡ faults_before
+StopsReading ReadFailed before faults_before faults_now = HasFaulted faults_before faults_now
+StopsReading WriteFailed before faults_before faults_now = ⊥
+StopsReading NotPlain before faults_before faults_now = IfSome before (λ bytes. MAX_BYTES < length bytes) × (faults_now ≡ faults_before)
+
+-- the text was written up to here
+pub record IsWrittenPart (text : List ℕ) (before now : Option (List ℕ)) : Type 0 where
+  pub front : List ℕ
+  pub back : List ℕ
+  pub parts : text ≡ front ++ back
+  pub written : now ≡ append_known before front
