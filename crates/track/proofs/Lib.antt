@@ -6,3 +6,4 @@ pub mod SpelledContents
 pub mod FlatPlans
 pub mod Made
 pub mod OrderLines
+pub mod Answering

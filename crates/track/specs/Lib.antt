@@ -8,5 +8,6 @@ pub mod Finds
 pub mod Outcome
 pub mod Report
 pub mod FlatFinds
+pub mod Answers
 pub mod Transfer
 pub mod Command

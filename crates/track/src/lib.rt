@@ -1,6 +1,7 @@
 //! The program `track` as one call: from the bytes of an input to the bytes of a report.
 #![tactic(auto)]
 
+mod answer;
 mod directory;
 mod fault;
 mod fields;

@@ -1,0 +1,48 @@
+-- What answers an input: the report of its finds where its network is connected, and a line that names the least node
+-- apart where it isn't. Laws: one_answer, that an input has one answer only, and flat_plan_is, that a connected network
+-- has a flat plan, over which its report is told.
+use Rattle.std.specs.Prelude.{◌≡◌, ℕ, ◌<◌, List, Option, length, All}
+use Rattle.net_graph.specs.Network.{IsFirstApart}
+use Rattle.net_graph.specs.Walks.{IsReached, everywhere}
+use Rattle.track.specs.declared.status.Status.{Status}
+use Rattle.track.specs.declared.status.Status.TheVariants.{Done, Refused, BadWords, OutOfMemory, ReadFailed, WriteFailed, NotPlain}
+use Rattle.track.specs.Contents.{Contents}
+use Rattle.track.specs.Finds.Next.{answers}
+use Rattle.track.specs.Finds.Found.{at}
+use Rattle.track.specs.Outcome as outcomes
+use Rattle.track.specs.Outcome.{home_of, outcome}
+use Rattle.track.specs.Plans.{Plan, IsFlat}
+use Rattle.track.specs.PlainText.{rows_of}
+use Rattle.track.specs.Report.{report_of, apart_line}
+
+-- where a subscriber stands; nobody moves, so it is at home
+abbrev pub standing : Contents → ℕ → ℕ
+standing contents sub = home_of contents sub
+
+-- the find answered, and names the node where its subscriber stands
+pub record NamesStanding (contents : Contents) (done : outcomes.Done) : Type 0 where
+  pub level : Option ℕ
+  pub weight : ℕ
+  pub answer : done.result ≡ answers (at (standing contents done.call.sub) 0 level weight)
+
+-- the network is connected, the text is the report over its flat plan, and every find answers rightly
+pub record IsReport (contents : Contents) (text : List ℕ) : Type 0 where
+  pub connected : (v : ℕ) → v < contents.nodes → IsReached contents.edges everywhere 0 v
+  pub report : (plan : Plan) → IsFlat contents.nodes contents.edges plan → text ≡ report_of (outcome plan contents)
+  pub right : (plan : Plan) → IsFlat contents.nodes contents.edges plan → All (NamesStanding contents) (outcome plan contents).calls
+
+-- no walk leads from node 0 to some node, and the text names the least such node behind the number of lines
+pub record IsRefusal (contents : Contents) (text : List ℕ) : Type 0 where
+  pub node : ℕ
+  pub apart : IsFirstApart contents.nodes contents.edges node
+  pub line : text ≡ apart_line (length (rows_of contents)) node
+
+-- the text that goes with a status
+abbrev pub IsAnswer : Status → Contents → List ℕ → Type 0
+IsAnswer Done contents text = IsReport contents text
+IsAnswer Refused contents text = IsRefusal contents text
+IsAnswer BadWords contents text = ⊥
+IsAnswer OutOfMemory contents text = ⊥
+IsAnswer ReadFailed contents text = ⊥
+IsAnswer WriteFailed contents text = ⊥
+IsAnswer NotPlain contents text = ⊥
