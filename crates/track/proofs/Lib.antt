@@ -7,3 +7,5 @@ pub mod FlatPlans
 pub mod Made
 pub mod OrderLines
 pub mod Answering
+pub mod Words
+pub mod Telling

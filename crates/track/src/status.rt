@@ -2,7 +2,7 @@
 ghost use Rattle.std.specs.Prelude.{◌≡◌};
 ghost use Rattle.track.specs.declared.fault.ReadError.TheVariants as faults;
 ghost use Rattle.track.specs.declared.status.Stop.TheVariants as stops;
-ghost use Rattle.track.specs.Command.{status_of, stop_of};
+ghost use Rattle.track.specs.Command.{number_of, status_of, stop_of};
 
 use crate::fault::ReadError;
 use std::alloc::{AllocError, AllocFailed};
@@ -66,5 +66,13 @@ impl From<Stop> for Status {
             Stop::WriteFailed => Status::WriteFailed,
             Stop::NotPlain => Status::NotPlain,
         }
+    }
+}
+
+impl From<Status> for u8 {
+    ghost from_gives = { λ status number. number ≡ number_of status };
+
+    fn from(status: Status) -> u8 {
+        status as u8
     }
 }
