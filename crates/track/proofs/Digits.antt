@@ -13,8 +13,8 @@ use Rattle.std.proofs.Math.Nat.{pow-le-pow_right}
 -- a byte that passes the test of digits is one
 digit-is : (c : ℕ) → is_ascii_digit c ≡ true → digit_value c < 10
 digit-is c e =
-  let range : IsInRange 48 57 c = grind (arith, nat_tests) in
-  omega (arith, digit_value_digit c range)
+    let range : IsInRange 48 57 c = grind (arith, nat_tests) in
+    omega (arith, digit_value_digit c range)
 
 one-add : (n : ℕ) → 1 + n ≡ suc n
 one-add n = omega arith
@@ -37,14 +37,14 @@ AllDigits-take (suc i) (d ∷ digits) h = (h.0, AllDigits-take i digits h.1)
 -- a number of at most 18 digits is below 10^18
 pub digits_value-small : (digits : List ℕ) → AllDigits 10 digits → length digits ≤ 18 → digits_value 10 digits < 1000000000000000000
 digits_value-small digits h few =
-  let below = digits_value-lt 10 digits h in
-  let power = pow-le-pow_right {n = 10} (omega arith) few in
-  omega (arith, below, power)
+    let below = digits_value-lt 10 digits h in
+    let power = pow-le-pow_right {n = 10} (omega arith) few in
+    omega (arith, below, power)
 
 -- a front of at most 18 digits is below 10^18
 pub digits_value-take-small : (i : ℕ) (digits : List ℕ) → AllDigits 10 digits → length digits ≤ 18 → digits_value 10 (take i digits) < 1000000000000000000
 digits_value-take-small i digits h few =
-  digits_value-small (take i digits) (AllDigits-take i digits h) (omega (arith, length-take i digits))
+    digits_value-small (take i digits) (AllDigits-take i digits h) (omega (arith, length-take i digits))
 
 -- a digit passes the test of digits
 pub digit_in_range : (c : ℕ) → digit_value c < 10 → is_ascii_digit c ≡ true

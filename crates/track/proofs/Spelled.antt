@@ -41,30 +41,30 @@ nat_eq_decides a b = (eqb-true a b, eq-eqb a b)
 pub word_at-sound : (word bytes rest : List ℕ) → word_at word bytes ≡ Some rest → bytes ≡ word ++ rest
 unfolding word_at
 word_at-sound word bytes rest e =
-  let found = test_some (starts_with nat_eq bytes word) (drop (length word) bytes) rest e in
-  rw (← found.1) ((starts_is nat_eq_decides bytes word (starts_with nat_eq bytes word) refl).0 found.0)
+    let found = test_some (starts_with nat_eq bytes word) (drop (length word) bytes) rest e in
+    rw (← found.1) ((starts_is nat_eq_decides bytes word (starts_with nat_eq bytes word) refl).0 found.0)
 
 pub word_at-whole : (word rest : List ℕ) → word_at word (word ++ rest) ≡ Some rest
 unfolding word_at
 word_at-whole word rest =
-  let starts : starts_with nat_eq (word ++ rest) word ≡ true = (starts_is nat_eq_decides (word ++ rest) word (starts_with nat_eq (word ++ rest) word) refl).1 rest refl in
-  rw (starts, drop_at word rest (length word) refl) refl
+    let starts : starts_with nat_eq (word ++ rest) word ≡ true = (starts_is nat_eq_decides (word ++ rest) word (starts_with nat_eq (word ++ rest) word) refl).1 rest refl in
+    rw (starts, drop_at word rest (length word) refl) refl
 
 -- ---- numbers
 
 -- the tests that digits pass
 number_of-sound : (digits : List ℕ) (n : ℕ) → AllDigits 10 digits → number_of digits ≡ Some n → Spells digits n
 number_of-sound digits n decimal e =
-  let outer = outer_some (nat_le 1 (length digits) && nat_le (length digits) 18) (cond (nat_lt (digits_value 10 digits) (2 ^ 32)) (Some (digits_value 10 digits)) None) n e in
-  let inner = test_some (nat_lt (digits_value 10 digits) (2 ^ 32)) (digits_value 10 digits) n outer.1 in
-  record { some = grind (arith, nat_tests, outer.0); few = grind (arith, nat_tests, outer.0); decimal = decimal; value = inner.1 }
+    let outer = outer_some (nat_le 1 (length digits) && nat_le (length digits) 18) (cond (nat_lt (digits_value 10 digits) (2 ^ 32)) (Some (digits_value 10 digits)) None) n e in
+    let inner = test_some (nat_lt (digits_value 10 digits) (2 ^ 32)) (digits_value 10 digits) n outer.1 in
+    record { some = grind (arith, nat_tests, outer.0); few = grind (arith, nat_tests, outer.0); decimal = decimal; value = inner.1 }
 
 number_of-whole : (digits : List ℕ) (n : ℕ) → Spells digits n → n < 2 ^ 32 → number_of digits ≡ Some n
 number_of-whole digits n spelled small =
-  let some : nat_le 1 (length digits) ≡ true = grind (arith, nat_tests, spelled.some) in
-  let few : nat_le (length digits) 18 ≡ true = grind (arith, nat_tests, spelled.few) in
-  let below : nat_lt n (2 ^ 32) ≡ true = grind (arith, nat_tests, small) in
-  rw (some, few, spelled.value, below) refl
+    let some : nat_le 1 (length digits) ≡ true = grind (arith, nat_tests, spelled.some) in
+    let few : nat_le (length digits) 18 ≡ true = grind (arith, nat_tests, spelled.few) in
+    let below : nat_lt n (2 ^ 32) ≡ true = grind (arith, nat_tests, small) in
+    rw (some, few, spelled.value, below) refl
 
 -- digits are a longest front of digits where no digit stands behind them
 prefix_len-digits : (digits : List ℕ) → AllDigits 10 digits → prefix_len is_ascii_digit digits ≡ length digits
@@ -74,27 +74,27 @@ prefix_len-digits (d ∷ digits) h = rw (digit_in_range d h.0, prefix_len-digits
 digits_at-sound : (bytes : List ℕ) (n : ℕ) (rest : List ℕ) → digits_at bytes ≡ Some (n, rest) → (digits : List ℕ) × (Spells digits n × (bytes ≡ digits ++ rest))
 unfolding digits_at
 digits_at-sound bytes n rest e =
-  let front = take (prefix_len is_ascii_digit bytes) bytes in
-  let found = bind_some (number_of front) (λ m. Some (m, drop (prefix_len is_ascii_digit bytes) bytes)) (n, rest) e in
-  let same : found.0 ≡ n = ap (λ (p : ℕ × List ℕ). p.0) (some_is _ _ found.2) in
-  let behind : drop (prefix_len is_ascii_digit bytes) bytes ≡ rest = ap (λ (p : ℕ × List ℕ). p.1) (some_is _ _ found.2) in
-  (front, (number_of-sound front n (front_is_digits bytes) (found.1 ∙ ap (λ (m : ℕ). Some m) same), rw (← behind) (sym (take-append-drop (prefix_len is_ascii_digit bytes) bytes))))
+    let front = take (prefix_len is_ascii_digit bytes) bytes in
+    let found = bind_some (number_of front) (λ m. Some (m, drop (prefix_len is_ascii_digit bytes) bytes)) (n, rest) e in
+    let same : found.0 ≡ n = ap (λ (p : ℕ × List ℕ). p.0) (some_is _ _ found.2) in
+    let behind : drop (prefix_len is_ascii_digit bytes) bytes ≡ rest = ap (λ (p : ℕ × List ℕ). p.1) (some_is _ _ found.2) in
+    (front, (number_of-sound front n (front_is_digits bytes) (found.1 ∙ ap (λ (m : ℕ). Some m) same), rw (← behind) (sym (take-append-drop (prefix_len is_ascii_digit bytes) bytes))))
 
 digits_at-whole : (digits rest : List ℕ) (n : ℕ) → Spells digits n → n < 2 ^ 32 → prefix_len is_ascii_digit rest ≡ 0 → digits_at (digits ++ rest) ≡ Some (n, rest)
 unfolding digits_at
 digits_at-whole digits rest n spelled small stops =
-  let own : prefix_len is_ascii_digit digits ≡ length digits = prefix_len-digits digits spelled.decimal in
-  let all : prefix_len is_ascii_digit (digits ++ rest) ≡ length digits =
+    let own : prefix_len is_ascii_digit digits ≡ length digits = prefix_len-digits digits spelled.decimal in
+    let all : prefix_len is_ascii_digit (digits ++ rest) ≡ length digits =
     prefix_len-append is_ascii_digit digits rest ∙ rw (own, stops, eq-eqb (length digits) (length digits) refl) (omega arith) in
-  rw (all, take_at digits rest (length digits) refl, drop_at digits rest (length digits) refl, number_of-whole digits n spelled small) refl
+    rw (all, take_at digits rest (length digits) refl, drop_at digits rest (length digits) refl, number_of-whole digits n spelled small) refl
 
 pub number_at-sound : (bytes : List ℕ) (n : ℕ) (rest : List ℕ) → number_at bytes ≡ Some (n, rest) → (digits : List ℕ) × (Spells digits n × (bytes ≡ 32 ∷ (digits ++ rest)))
 unfolding number_at
 number_at-sound [] n rest e = absurd cc
 number_at-sound (b ∷ bytes) n rest e =
-  let outer = outer_some (b == 32) (digits_at bytes) (n, rest) e in
-  let found = digits_at-sound bytes n rest outer.1 in
-  (found.0, (found.1.0, ap (λ (x : ℕ). x ∷ bytes) (eqb-true b 32 outer.0) ∙ ap (λ (t : List ℕ). 32 ∷ t) found.1.1))
+    let outer = outer_some (b == 32) (digits_at bytes) (n, rest) e in
+    let found = digits_at-sound bytes n rest outer.1 in
+    (found.0, (found.1.0, ap (λ (x : ℕ). x ∷ bytes) (eqb-true b 32 outer.0) ∙ ap (λ (t : List ℕ). 32 ∷ t) found.1.1))
 
 pub number_at-whole : (digits rest : List ℕ) (n : ℕ) → Spells digits n → n < 2 ^ 32 → prefix_len is_ascii_digit rest ≡ 0 → number_at (32 ∷ (digits ++ rest)) ≡ Some (n, rest)
 unfolding number_at
@@ -106,8 +106,8 @@ pub end_at-sound : (bytes rest : List ℕ) → end_at bytes ≡ Some rest → by
 unfolding end_at
 end_at-sound [] rest e = absurd cc
 end_at-sound (b ∷ bytes) rest e =
-  let found = test_some (b == 10) bytes rest e in
-  rw (eqb-true b 10 found.0, found.1) refl
+    let found = test_some (b == 10) bytes rest e in
+    rw (eqb-true b 10 found.0, found.1) refl
 
 pub end_at-whole : (rest : List ℕ) → end_at (10 ∷ rest) ≡ Some rest
 unfolding end_at

@@ -6,27 +6,87 @@ use Rattle.track.specs.Command.{Outside, Ends, Tells, number_of}
 
 pub tells : (status : Status) (before now : Outside) → Ends status before now → Tells (number_of status) before now
 tells statuses.Done before now h = record {
-  report = λ _. h.0; refusal = λ e. absurd (omega arith); words = λ e. omega arith; read_fault = λ e. absurd (omega arith); no_read_fault = λ _. h.2;
-  write_fault = λ e. absurd (omega arith); no_write_fault = λ _. h.3; part = λ e. absurd (omega arith); not_plain = λ e. absurd (omega arith);
-  silent = λ e. elim e [ inl a ↦ absurd (omega arith) | inr b ↦ elim b [ inl a ↦ absurd (omega arith) | inr a ↦ absurd (omega arith) ] ]; all_read = λ _. h.1; known = inl (omega arith) }
+  report = λ _. h.0;
+  refusal = λ e. absurd (omega arith);
+  words = λ e. omega arith;
+  read_fault = λ e. absurd (omega arith);
+  no_read_fault = λ _. h.2;
+  write_fault = λ e. absurd (omega arith);
+  no_write_fault = λ _. h.3;
+  part = λ e. absurd (omega arith);
+  not_plain = λ e. absurd (omega arith);
+  silent = λ e. elim e [ inl a ↦ absurd (omega arith) | inr b ↦ elim b [ inl a ↦ absurd (omega arith) | inr a ↦ absurd (omega arith) ] ];
+  all_read = λ _. h.1;
+  known = inl (omega arith);
+}
 tells statuses.Refused before now h = record {
-  report = λ e. absurd (omega arith); refusal = λ _. h.0; words = λ e. omega arith; read_fault = λ e. absurd (omega arith); no_read_fault = λ _. h.2;
-  write_fault = λ e. absurd (omega arith); no_write_fault = λ _. h.3; part = λ e. absurd (omega arith); not_plain = λ e. absurd (omega arith);
-  silent = λ e. elim e [ inl a ↦ absurd (omega arith) | inr b ↦ elim b [ inl a ↦ absurd (omega arith) | inr a ↦ absurd (omega arith) ] ]; all_read = λ _. h.1; known = inl (omega arith) }
+  report = λ e. absurd (omega arith);
+  refusal = λ _. h.0;
+  words = λ e. omega arith;
+  read_fault = λ e. absurd (omega arith);
+  no_read_fault = λ _. h.2;
+  write_fault = λ e. absurd (omega arith);
+  no_write_fault = λ _. h.3;
+  part = λ e. absurd (omega arith);
+  not_plain = λ e. absurd (omega arith);
+  silent = λ e. elim e [ inl a ↦ absurd (omega arith) | inr b ↦ elim b [ inl a ↦ absurd (omega arith) | inr a ↦ absurd (omega arith) ] ];
+  all_read = λ _. h.1;
+  known = inl (omega arith);
+}
 tells statuses.BadWords before now h = absurd h
 tells statuses.OutOfMemory before now h = record {
-  report = λ e. absurd (omega arith); refusal = λ e. absurd (omega arith); words = λ e. omega arith; read_fault = λ e. absurd (omega arith); no_read_fault = λ _. h.1;
-  write_fault = λ e. absurd (omega arith); no_write_fault = λ _. h.2; part = λ e. absurd (omega arith); not_plain = λ e. absurd (omega arith);
-  silent = λ _. h.0; all_read = λ e. elim e [ inl a ↦ absurd (omega arith) | inr b ↦ elim b [ inl a ↦ absurd (omega arith) | inr a ↦ absurd (omega arith) ] ]; known = inl (omega arith) }
+  report = λ e. absurd (omega arith);
+  refusal = λ e. absurd (omega arith);
+  words = λ e. omega arith;
+  read_fault = λ e. absurd (omega arith);
+  no_read_fault = λ _. h.1;
+  write_fault = λ e. absurd (omega arith);
+  no_write_fault = λ _. h.2;
+  part = λ e. absurd (omega arith);
+  not_plain = λ e. absurd (omega arith);
+  silent = λ _. h.0;
+  all_read = λ e. elim e [ inl a ↦ absurd (omega arith) | inr b ↦ elim b [ inl a ↦ absurd (omega arith) | inr a ↦ absurd (omega arith) ] ];
+  known = inl (omega arith);
+}
 tells statuses.ReadFailed before now h = record {
-  report = λ e. absurd (omega arith); refusal = λ e. absurd (omega arith); words = λ e. omega arith; read_fault = λ _. h.0; no_read_fault = λ ne. absurd (ne refl);
-  write_fault = λ e. absurd (omega arith); no_write_fault = λ _. h.2; part = λ e. absurd (omega arith); not_plain = λ e. absurd (omega arith);
-  silent = λ _. h.1; all_read = λ e. elim e [ inl a ↦ absurd (omega arith) | inr b ↦ elim b [ inl a ↦ absurd (omega arith) | inr a ↦ absurd (omega arith) ] ]; known = inl (omega arith) }
+  report = λ e. absurd (omega arith);
+  refusal = λ e. absurd (omega arith);
+  words = λ e. omega arith;
+  read_fault = λ _. h.0;
+  no_read_fault = λ ne. absurd (ne refl);
+  write_fault = λ e. absurd (omega arith);
+  no_write_fault = λ _. h.2;
+  part = λ e. absurd (omega arith);
+  not_plain = λ e. absurd (omega arith);
+  silent = λ _. h.1;
+  all_read = λ e. elim e [ inl a ↦ absurd (omega arith) | inr b ↦ elim b [ inl a ↦ absurd (omega arith) | inr a ↦ absurd (omega arith) ] ];
+  known = inl (omega arith);
+}
 tells statuses.WriteFailed before now h = record {
-  report = λ e. absurd (omega arith); refusal = λ e. absurd (omega arith); words = λ e. omega arith; read_fault = λ e. absurd (omega arith); no_read_fault = λ _. h.3;
-  write_fault = λ _. h.0; no_write_fault = λ ne. absurd (ne refl); part = λ _. h.1; not_plain = λ e. absurd (omega arith);
-  silent = λ e. elim e [ inl a ↦ absurd (omega arith) | inr b ↦ elim b [ inl a ↦ absurd (omega arith) | inr a ↦ absurd (omega arith) ] ]; all_read = λ _. h.2; known = inl (omega arith) }
+  report = λ e. absurd (omega arith);
+  refusal = λ e. absurd (omega arith);
+  words = λ e. omega arith;
+  read_fault = λ e. absurd (omega arith);
+  no_read_fault = λ _. h.3;
+  write_fault = λ _. h.0;
+  no_write_fault = λ ne. absurd (ne refl);
+  part = λ _. h.1;
+  not_plain = λ e. absurd (omega arith);
+  silent = λ e. elim e [ inl a ↦ absurd (omega arith) | inr b ↦ elim b [ inl a ↦ absurd (omega arith) | inr a ↦ absurd (omega arith) ] ];
+  all_read = λ _. h.2;
+  known = inl (omega arith);
+}
 tells statuses.NotPlain before now h = record {
-  report = λ e. absurd (omega arith); refusal = λ e. absurd (omega arith); words = λ e. omega arith; read_fault = λ e. absurd (omega arith); no_read_fault = λ _. h.2;
-  write_fault = λ e. absurd (omega arith); no_write_fault = λ _. h.3; part = λ e. absurd (omega arith); not_plain = λ _. h.0;
-  silent = λ _. h.1; all_read = λ e. elim e [ inl a ↦ absurd (omega arith) | inr b ↦ elim b [ inl a ↦ absurd (omega arith) | inr a ↦ absurd (omega arith) ] ]; known = inr refl }
+  report = λ e. absurd (omega arith);
+  refusal = λ e. absurd (omega arith);
+  words = λ e. omega arith;
+  read_fault = λ e. absurd (omega arith);
+  no_read_fault = λ _. h.2;
+  write_fault = λ e. absurd (omega arith);
+  no_write_fault = λ _. h.3;
+  part = λ e. absurd (omega arith);
+  not_plain = λ _. h.0;
+  silent = λ _. h.1;
+  all_read = λ e. elim e [ inl a ↦ absurd (omega arith) | inr b ↦ elim b [ inl a ↦ absurd (omega arith) | inr a ↦ absurd (omega arith) ] ];
+  known = inr refl;
+}

@@ -12,9 +12,10 @@ one_word (w ∷ v ∷ words) word some few is = absurd (omega arith)
 
 -- the test of the one word
 pub is_word : (words : List (String Global)) (word : String Global) (bytes text : List ℕ) (r : Bool) → 1 ≤ length words → length words < 2 → word ≡ get_or words 0 word
-  → bytes ≡ string_bytes word → r ≡ pointwise nat_eq bytes text → IsTrue r ↔ (map string_bytes words ≡ text ∷ [])
+    → bytes ≡ string_bytes word → r ≡ pointwise nat_eq bytes text → IsTrue r ↔ (map string_bytes words ≡ text ∷ [])
 is_word words word bytes text r some few is seen e =
-  let all = one_word words word some few is in
-  let decides = bytes_decides bytes text in
-  ((λ yes. all ∙ ap (λ (x : List ℕ). x ∷ []) (sym seen ∙ decides.0 (sym e ∙ yes))),
-   (λ same. let heads : string_bytes word ≡ text = cc in e ∙ decides.1 (seen ∙ heads)))
+    let all = one_word words word some few is in
+    let decides = bytes_decides bytes text in (
+      (λ yes. all ∙ ap (λ (x : List ℕ). x ∷ []) (sym seen ∙ decides.0 (sym e ∙ yes))),
+      (λ same. let heads : string_bytes word ≡ text = cc in e ∙ decides.1 (seen ∙ heads)),
+    )

@@ -76,14 +76,14 @@ outside left read_faults written write_faults = record { left = left; read_fault
 -- what a status says of the outside, before and after, where the words are `replay`
 abbrev pub Ends : Status → Outside → Outside → Type 0
 Ends statuses.Done before now = IfSome before.left (λ bytes. IsWritten statuses.Done bytes before.written now.written)
-  × IsAtEnd now.left × (now.read_faults ≡ before.read_faults) × (now.write_faults ≡ before.write_faults)
+    × IsAtEnd now.left × (now.read_faults ≡ before.read_faults) × (now.write_faults ≡ before.write_faults)
 Ends statuses.Refused before now = IfSome before.left (λ bytes. IsWritten statuses.Refused bytes before.written now.written)
-  × IsAtEnd now.left × (now.read_faults ≡ before.read_faults) × (now.write_faults ≡ before.write_faults)
+    × IsAtEnd now.left × (now.read_faults ≡ before.read_faults) × (now.write_faults ≡ before.write_faults)
 Ends statuses.BadWords before now = ⊥
 Ends statuses.OutOfMemory before now = (now.written ≡ before.written) × (now.read_faults ≡ before.read_faults) × (now.write_faults ≡ before.write_faults)
 Ends statuses.ReadFailed before now = HasFaulted before.read_faults now.read_faults × (now.written ≡ before.written) × (now.write_faults ≡ before.write_faults)
 Ends statuses.WriteFailed before now = HasFaulted before.write_faults now.write_faults × IfSome before.left (λ bytes. IsPartWritten bytes before.written now.written)
-  × IsAtEnd now.left × (now.read_faults ≡ before.read_faults)
+    × IsAtEnd now.left × (now.read_faults ≡ before.read_faults)
 Ends statuses.NotPlain before now = IfSome before.left IsNoInput × (now.written ≡ before.written) × (now.read_faults ≡ before.read_faults) × (now.write_faults ≡ before.write_faults)
 
 -- the number of a status

@@ -57,7 +57,7 @@ after_turn go weight (suc more) (hops known to) = go known to more
 unfoldable pub chase : Plan → ℕ → Option ℕ → ℕ → ℕ → Option ℕ → ℕ → List Word → Next
 chase plan sub level weight hops_left known node [] = wants (presence node sub)
 chase plan sub level weight hops_left known node (word ∷ words) =
-  after_turn (λ known to more. chase plan sub level (weight + plan.distance node to) more known to words) weight hops_left
+    after_turn (λ known to more. chase plan sub level (weight + plan.distance node to) more known to words) weight hops_left
     (turn level weight known node (mark_of word))
 
 -- a cluster of a level
@@ -80,10 +80,10 @@ unfoldable pub climb : Plan → ℕ → ℕ → Option ℕ → ℕ → List Read
 climb plan sub origin known weight [] words = answers (again no_entry weight)
 climb plan sub origin known weight (reader ∷ readers) [] = wants (entry reader.level reader.cluster sub)
 climb plan sub origin known weight (reader ∷ readers) (word ∷ words) =
-  after_entry (climb plan sub origin known (weight + 2 * plan.inside reader.level reader.cluster origin) readers words)
+    after_entry (climb plan sub origin known (weight + 2 * plan.inside reader.level reader.cluster origin) readers words)
     (λ address. chase plan sub (Some reader.level)
-      (weight + plan.inside reader.level reader.cluster origin + plan.distance (plan.leader reader.level reader.cluster) address.node)
-      (plan.nodes + 2) known address.node words)
+    (weight + plan.inside reader.level reader.cluster origin + plan.distance (plan.leader reader.level reader.cluster) address.node)
+    (plan.nodes + 2) known address.node words)
     (address_of word)
 
 -- what a find does once it has read the mark at its origin

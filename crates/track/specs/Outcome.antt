@@ -21,7 +21,7 @@ home_of contents sub = (slice_index_or contents.homes sub (record { node = 0 }))
 abbrev pub opening : Plan → Contents → Key → Word
 opening plan contents (presence node sub) = if node == home_of contents sub then mark (here 0) else mark empty
 opening plan contents (entry level cluster sub) =
-  if cluster == plan.home level (home_of contents sub) then slot (Some (record { number = 0; node = home_of contents sub })) else slot None
+    if cluster == plan.home level (home_of contents sub) then slot (Some (record { number = 0; node = home_of contents sub })) else slot None
 
 -- the words that are read, at most so many, where a cell holds what `word_at` says
 abbrev pub read_on : (Key → Word) → (Word → List Word) → Next → List Word
@@ -47,7 +47,7 @@ pub record Done : Type 0 where
 unfoldable pub done_from : Plan → Contents → ℕ → List Find → List Done
 done_from plan contents ticket [] = []
 done_from plan contents ticket (call ∷ calls) =
-  record { call = call; result = find plan call.sub call.from (words_of plan contents call); first = ticket; last = ticket + length (words_of plan contents call) - 1 }
+    record { call = call; result = find plan call.sub call.from (words_of plan contents call); first = ticket; last = ticket + length (words_of plan contents call) - 1 }
     ∷ done_from plan contents (ticket + length (words_of plan contents call)) calls
 
 -- the finds of the actors from this one on, so many of them: actor by actor, each actor's in the order of the text
@@ -67,5 +67,5 @@ visits_of done = replicate (done.last + 1 - done.first) done.call.caller
 -- what becomes of an input's finds
 abbrev pub outcome : Plan → Contents → Outcome
 outcome plan contents =
-  let calls = done_from plan contents 0 (by_actor (subscriber_count contents) contents.callers contents.finds) in
-  record { calls = calls; order = flat_map visits_of calls }
+    let calls = done_from plan contents 0 (by_actor (subscriber_count contents) contents.callers contents.finds) in
+    record { calls = calls; order = flat_map visits_of calls }

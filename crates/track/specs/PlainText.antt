@@ -27,7 +27,7 @@ find_row find = record { word = codes "find"; numbers = find.caller ∷ find.fro
 -- all rows of an input, in order
 abbrev pub rows_of : Contents → List Row
 rows_of contents =
-  one_row (codes "track") 1 ∷ one_row (codes "nodes") contents.nodes ∷ one_row (codes "k") contents.k ∷
+    one_row (codes "track") 1 ∷ one_row (codes "nodes") contents.nodes ∷ one_row (codes "k") contents.k ∷
     (map edge_row contents.edges ++ (map home_row contents.homes ++ (one_row (codes "callers") contents.callers ∷ map find_row contents.finds)))
 
 -- the bytes are a plain input that says this

@@ -39,7 +39,7 @@ asked done = field done.call.caller then field done.call.from then field done.ca
 abbrev pub call_line : Done → Next → List ℕ
 call_line done (wants key) = []
 call_line done (answers (at node number level weight)) =
-  codes "find" then asked done then codes " at" then field node then codes " number" then field number then codes " level " then level_text level then line_end done weight
+    codes "find" then asked done then codes " at" then field node then codes " number" then field number then codes " level " then level_text level then line_end done weight
 call_line done (answers (again why weight)) = codes "again" then asked done then 32 ∷ why_text why then line_end done weight
 
 -- the actor of a ticket: the word `order` stands before each 64th from the first on, and the line ends behind each

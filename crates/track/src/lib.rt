@@ -12,9 +12,11 @@ mod plain;
 mod report;
 mod rows;
 mod status;
+#[cfg(test)]
+mod tests;
 mod top;
 mod transfer;
 
-pub use top::command;
 pub use limits::{MAX_BYTES, MAX_CALLERS, MAX_CALLS, MAX_EDGES, MAX_K, MAX_NODES, MAX_SUBSCRIBERS};
 pub use plain::one_meaning;
+pub use top::command;

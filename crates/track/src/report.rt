@@ -31,7 +31,12 @@ impl fmt::Display for Done {
 
     fn fmt<W: fmt::Write>(&self, f: &mut fmt::Formatter<W>) -> fmt::Result {
         let Find { caller, from, sub } = self.call;
-        let Found { node, number, weight, .. } = self.found;
+        let Found {
+            node,
+            number,
+            weight,
+            ..
+        } = self.found;
         let level = Level(self.found.level);
         let first = self.first;
         let last = self.last;

@@ -7,6 +7,6 @@ unreachable-requires c = let has = c.requires.weights.each c.args.node c.require
 
 pub returns-clause-bounded : goal.returns-clause-bounded
 returns-clause-bounded c =
-  let has = c.requires.weights.each c.args.node c.requires.node in
-  let same : c.in-Some.weight ≡ has.weight = some_is c.in-Some.weight has.weight (sym c.in-Some.is ∙ has.stands) in
-  omega (arith, same, has.bounded)
+    let has = c.requires.weights.each c.args.node c.requires.node in
+    let same : c.in-Some.weight ≡ has.weight = some_is c.in-Some.weight has.weight (sym c.in-Some.is ∙ has.stands) in
+    omega (arith, same, has.bounded)

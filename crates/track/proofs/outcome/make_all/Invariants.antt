@@ -9,6 +9,6 @@ use Rattle.track.proofs.outcome.make_all.Given as goal
 abbrev pub invariant-loop-call : goal.invariant-loop-call
 invariant-loop-call l = record {
   so_far : (plan : Plan) → IsFlat l.input.nodes l.input.edges.items plan
-    → map shown_done l.done.items ++ done_from plan (view l.input) (vec_len l.order) (drop l.call-index l.calls) ≡ done_from plan (view l.input) 0 l.calls;
-  visits : l.order.items ≡ flat_map visits_of (map shown_done l.done.items)
+      → map shown_done l.done.items ++ done_from plan (view l.input) (vec_len l.order) (drop l.call-index l.calls) ≡ done_from plan (view l.input) 0 l.calls;
+  visits : l.order.items ≡ flat_map visits_of (map shown_done l.done.items);
 }

@@ -13,16 +13,16 @@ pub returns-then-is_in_limits-clause-found : goal.returns-then-is_in_limits-clau
 returns-then-is_in_limits-clause-found c = record {
   limits = c.if-is_in_limits.ensures.0 refl;
   short = c.requires;
-  lines = contents_of-sound c.args.bytes.now (view c.in-Ok.input) c.in-Ok.ensures
-  }
+  lines = contents_of-sound c.args.bytes.now (view c.in-Ok.input) c.in-Ok.ensures;
+}
 
 pub returns-else-is_in_limits-clause-none : goal.returns-else-is_in_limits-clause-none
 returns-else-is_in_limits-clause-none c = λ _ contents says.
-  let no : false ≡ true = c.if-is_in_limits.ensures.1 (read_some c.args.bytes.now (view c.in-Ok.input) contents c.in-Ok.ensures says) in cc
+    let no : false ≡ true = c.if-is_in_limits.ensures.1 (read_some c.args.bytes.now (view c.in-Ok.input) contents c.in-Ok.ensures says) in cc
 
 -- a fault of the bytes is told only where they say nothing
 says_nothing : (bytes : List ℕ) (fault : ReadError) → Gives view (Err fault) (contents_of bytes) → IsErrOf {T = Input} (Err fault) errors.NotPlain
-  → (contents : Contents) → Says bytes contents → ⊥
+    → (contents : Contents) → Says bytes contents → ⊥
 says_nothing bytes errors.NotPlain e is contents says = read_none bytes contents e says
 says_nothing bytes errors.OutOfMemory e is contents says = cc
 

@@ -6,7 +6,7 @@ use Rattle.track.proofs.transfer.read_all.Given as goal
 abbrev pub invariant-pieces : goal.invariant-pieces
 invariant-pieces g l = record {
   parts : g.S.Source.left l.fn.source ≡ prepend_known l.bytes.items (g.S.Source.left l.source);
-  no_fault : g.S.Source.faults l.source ≡ g.S.Source.faults l.fn.source
+  no_fault : g.S.Source.faults l.source ≡ g.S.Source.faults l.fn.source;
 }
 
 abbrev pub decreases-pieces : goal.decreases-pieces

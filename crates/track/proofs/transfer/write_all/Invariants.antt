@@ -7,7 +7,7 @@ invariant-pieces g l = record {
   sent : List ℕ;
   parts : l.text ≡ sent ++ l.rest;
   written : g.K.Sink.written l.sink ≡ append_known (g.K.Sink.written l.fn.sink) sent;
-  no_fault : g.K.Sink.faults l.sink ≡ g.K.Sink.faults l.fn.sink
+  no_fault : g.K.Sink.faults l.sink ≡ g.K.Sink.faults l.fn.sink;
 }
 
 abbrev pub decreases-pieces : goal.decreases-pieces
