@@ -6,6 +6,7 @@ mod fault;
 mod graph;
 mod laws;
 mod neighbours;
+mod parents;
 mod search;
 mod table;
 mod tree;

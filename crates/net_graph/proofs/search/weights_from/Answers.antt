@@ -1,21 +1,19 @@
-use Rattle.std.proofs.Common.{◌≡◌, ◌∙◌, ◌++◌, ℕ, None, Some, sym, subst, ap, arith, rules, length, drop, set, replicate, List, Option, Bool}
-use Rattle.std.proofs.lemmas.Grind.{common_steps}
+use Rattle.std.proofs.Common.{◌≡◌, ◌∙◌, ℕ, None, ap, arith, rules, length, drop, replicate}
 use Rattle.net_graph.specs.Walks.{among}
-use Rattle.net_graph.specs.Search.{IsLightest, IsLightestBelow, relaxed}
-use Rattle.net_graph.proofs.Searching.{IsSearch, search_begins, search_settles, search_ends}
+use Rattle.net_graph.proofs.Searching.{search_begins, search_settles, search_ends}
 use Rattle.net_graph.proofs.search.weights_from.Goals as goal
 
 pub loop-lightest-init : goal.loop-lightest-init
 loop-lightest-init c =
-  let copied : c.in_ok-unsettled.unsettled.items ≡ c.args.allowed.now = search rules in
-  let filled : c.in_ok-weights.weights.items ≡ replicate c.nodes.result None = search rules in
-  let weights : c.in_ok-weights.weights.items ≡ replicate c.args.neighbours.now.nodes None = filled ∙ ap (λ (n : ℕ). replicate n None) c.nodes.ensures.count in
-  rw (copied, weights)
+    let copied : c.in_ok-unsettled.unsettled.items ≡ c.args.allowed.now = search rules in
+    let filled : c.in_ok-weights.weights.items ≡ replicate c.nodes.result None = search rules in
+    let weights : c.in_ok-weights.weights.items ≡ replicate c.args.neighbours.now.nodes None = filled ∙ ap (λ (n : ℕ). replicate n None) c.nodes.ensures.count in
+    rw (copied, weights)
     (search_begins c.args.neighbours.now c.args.allowed.now c.args.root c.nodes.ensures.limits.positive c.requires.count c.requires.root)
 
 pub loop-lightest-preserved : goal.loop-lightest-preserved
 loop-lightest-preserved c =
-  search_settles c.args.neighbours.now (among c.args.allowed.now) c.args.root c.loop-lightest.unsettled.items c.loop-lightest.weights.items
+    search_settles c.args.neighbours.now (among c.args.allowed.now) c.args.root c.loop-lightest.unsettled.items c.loop-lightest.weights.items
     c.loop-lightest.invariant c.in-Some.lightest
     (rw (c.deref.ensures.value, c.deref-in-loop-lightest.ensures.value) at c.in-Some.ensures)
     c.arcs_of.result.now c.arcs_of.ensures c.relax.new.weights (drop (length c.relax.new.weights) c.loop-lightest.weights.items) c.loop-lightest.weights.len
@@ -24,5 +22,5 @@ loop-lightest-preserved c =
 
 pub returns : goal.returns
 returns c =
-  search_ends c.args.neighbours.now (among c.args.allowed.now) c.args.root c.loop-lightest.unsettled.items c.loop-lightest.weights.items
+    search_ends c.args.neighbours.now (among c.args.allowed.now) c.args.root c.loop-lightest.unsettled.items c.loop-lightest.weights.items
     c.loop-lightest.invariant (rw (c.deref.ensures.value, c.deref-in-loop-lightest.ensures.value) at c.in_default.ensures)
