@@ -1,0 +1,14 @@
+use Rattle.std.proofs.Common.{◌≡◌, ap, arith, refl}
+use Rattle.node_set.specs.Nodes.{Nodes}
+use Rattle.node_set.proofs.Words.{words-insert, insert_bit}
+use Rattle.node_set.proofs.set.NodeSet.insert.Goals as goal
+
+pub invariant_of-self : goal.invariant_of-self
+invariant_of-self c =
+    let room : c.self.inside.room ≡ c.args.self.now.room = ap (λ (s : Nodes). s.room) c.self.view_is in
+    words-insert c.self.inside.room c.self.inside.words.items c.args.v c.index_mut.result.now c.self.invariant (omega arith) (omega arith) c.index_mut.ensures.value
+
+pub returns : goal.returns
+returns c =
+    let room : c.self.inside.room ≡ c.args.self.now.room = ap (λ (s : Nodes). s.room) c.self.view_is in
+    rw (← c.self.view_is, insert_bit c.self.inside.words.items c.args.v c.index_mut.result.now (omega arith) c.index_mut.ensures.value) refl
