@@ -97,6 +97,17 @@ pub least_of_step : (edges : List Edge) (inside : ℕ → Bool) (u v w x : ℕ) 
 least_of_step edges inside u v w x at_u at_v joined p =
     omega (arith, p.least (record { node = v; weight = x } ∷ []) (at_u, joined, (at_v, refl)))
 
+walk_positive : (n : ℕ) (edges : List Edge) (inside : ℕ → Bool) → All (IsEdge n) edges → (u : ℕ) (steps : List Step) (v : ℕ) → u ≢ v
+    → IsWalk edges inside u steps v → 1 ≤ weight_of steps
+walk_positive n edges inside all u [] v other walk = absurd (other walk.1)
+walk_positive n edges inside all u (step ∷ steps) v other walk =
+    omega (arith, (join_edge n edges u step.node step.weight all walk.1).2.positive)
+
+pub least_positive : (n : ℕ) (edges : List Edge) (inside : ℕ → Bool) (u v w : ℕ) → All (IsEdge n) edges → u ≢ v
+    → IsLeastWeight edges inside u v w → 1 ≤ w
+least_positive n edges inside u v w all other p =
+    omega (arith, walk_positive n edges inside all u p.attained.steps v other p.attained.walk, p.attained.sum)
+
 -- each edge of the one list that isn't a loop has one of the other list between its ends that is no heavier
 abbrev pub Covers : List Edge → List Edge → Type 0
 Covers old new = (u v w : ℕ) → u ≢ v → Joins old u v w → (x : ℕ) × Joins new u v x × (x ≤ w)

@@ -10,7 +10,7 @@ use crate::edge::{Edge, MAX_NODES};
 use crate::fault::{GraphFault, OutOfMemory};
 use crate::neighbours::Neighbours;
 use crate::parents::parents_in;
-use crate::search::weights_from;
+use crate::search::search_from;
 use crate::tree::Tree;
 use std::alloc::Global;
 use std::marker::Model;
@@ -43,7 +43,7 @@ impl Graph {
     {
         let neighbours = Neighbours::new(alloc, n, edges)?;
         let allowed = vec![in alloc; true; n as usize]?;
-        let weights = weights_from(alloc, &neighbours, &allowed, 0)?;
+        let weights = search_from(alloc, &neighbours, &allowed, 0)?;
         match first_apart(&weights) {
             Some(node) => Err(GraphFault::Apart { node }),
             None => Ok(Graph { neighbours }),
@@ -58,6 +58,21 @@ impl Graph {
         self.neighbours.nodes()
     }
 
+    /// For each node the least weight of a walk from `root` through the nodes at which `allowed` holds true, `None`
+    /// where there is no walk.
+    pub fn weights_from(
+        &self,
+        alloc: Global,
+        allowed: &[bool],
+        root: u32,
+    ) -> Result<Vec<Option<u64>>, OutOfMemory>
+        requires count { length allowed.now ≡ self.now.nodes }
+        requires root { IsTrue (among allowed.now root) }
+        ensures { IfOk result (λ weights. AreLeastWeights self.now (among allowed.now) root weights.items) }
+    {
+        search_from(alloc, &self.neighbours, allowed, root)
+    }
+
     /// The least walks from `root` through the nodes at which `allowed` holds true.
     pub fn tree_from(&self, alloc: Global, allowed: &[bool], root: u32) -> Result<Tree, OutOfMemory>
         requires count { length allowed.now ≡ self.now.nodes }
@@ -65,7 +80,7 @@ impl Graph {
         ensures weights { IfOk result (λ tree. AreLeastWeights self.now (among allowed.now) root tree.weight.items) }
         ensures parents { IfOk result (λ tree. AreParents self.now root tree.weight.items tree.parent.items) }
     {
-        let weight = weights_from(alloc, &self.neighbours, allowed, root)?;
+        let weight = search_from(alloc, &self.neighbours, allowed, root)?;
         let parent = parents_in(alloc, &self.neighbours, &weight)?;
         Ok(Tree { weight, parent })
     }

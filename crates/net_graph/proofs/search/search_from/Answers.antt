@@ -1,7 +1,7 @@
 use Rattle.std.proofs.Common.{◌≡◌, ◌∙◌, ℕ, None, ap, arith, rules, length, drop, replicate}
 use Rattle.net_graph.specs.Walks.{among}
 use Rattle.net_graph.proofs.Searching.{search_begins, search_settles, search_ends}
-use Rattle.net_graph.proofs.search.weights_from.Goals as goal
+use Rattle.net_graph.proofs.search.search_from.Goals as goal
 
 pub loop-lightest-init : goal.loop-lightest-init
 loop-lightest-init c =
