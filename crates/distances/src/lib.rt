@@ -1,13 +1,9 @@
-// A library with one function.
+//! All distances of a network, and the balls of its nodes.
 #![tactic(auto)]
 
-ghost use Rattle.std.specs.Prelude.{◌≡◌};
-ghost use Rattle.distances.specs.Echo.{echo_of};
+mod distances;
+mod laws;
 
-// The `ensures` clause is the contract: what `echo` returns is `echo_of` of its argument, a definition
-// in `specs/Echo.antt`, which a caller's clause can cite too.
-pub fn echo(x: usize) -> usize
-    ensures { result ≡ echo_of x }
-{
-    x
-}
+pub use distances::Distances;
+pub use laws::{distances_are_one, members_of_a_ball};
+pub use net_graph::OutOfMemory;
