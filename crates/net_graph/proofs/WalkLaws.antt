@@ -182,7 +182,7 @@ walk_widened n edges inside other all wider u (step ∷ steps) v below walk =
     let joined = join_edge n edges u step.node step.weight all walk.1 in
     (wider u below walk.0, walk.1, walk_widened n edges inside other all wider step.node steps v joined.1 walk.2)
 
-least_widened : (n : ℕ) (edges : List Edge) (inside other : ℕ → Bool) → All (IsEdge n) edges
+pub least_widened : (n : ℕ) (edges : List Edge) (inside other : ℕ → Bool) → All (IsEdge n) edges
     → ((x : ℕ) → x < n → inside x ≡ true → other x ≡ true) → ((x : ℕ) → x < n → other x ≡ true → inside x ≡ true)
     → (u v w : ℕ) → u < n → IsLeastWeight edges inside u v w → IsLeastWeight edges other u v w
 least_widened n edges inside other all there back u v w below p = record {

@@ -68,7 +68,8 @@ impl Graph {
     ) -> Result<Vec<Option<u64>>, OutOfMemory>
         requires count { length allowed.now ≡ self.now.nodes }
         requires root { IsTrue (among allowed.now root) }
-        ensures { IfOk result (λ weights. AreLeastWeights self.now (among allowed.now) root weights.items) }
+        ensures weights { IfOk result (λ weights. AreLeastWeights self.now (among allowed.now) root weights.items) }
+        ensures sound { IsNetwork self.now }
     {
         search_from(alloc, &self.neighbours, allowed, root)
     }
@@ -79,6 +80,7 @@ impl Graph {
         requires root { IsTrue (among allowed.now root) }
         ensures weights { IfOk result (λ tree. AreLeastWeights self.now (among allowed.now) root tree.weight.items) }
         ensures parents { IfOk result (λ tree. AreParents self.now root tree.weight.items tree.parent.items) }
+        ensures sound { IsNetwork self.now }
     {
         let weight = search_from(alloc, &self.neighbours, allowed, root)?;
         let parent = parents_in(alloc, &self.neighbours, &weight)?;

@@ -9,7 +9,7 @@ push_weights-requires c =
     (all_light c.args.graph.now c.nodes-nodes.ensures.sound c.in_ok-allowed.allowed.items
     (filled ∙ ap (λ (n : ℕ). replicate n true) c.nodes-nodes.ensures.count)
     c.loop-u.u (omega (arith, c.nodes-nodes.ensures.count)) c.in_ok-weights.weights.items
-    (rw c.deref.ensures.value at c.in_ok-weights.ensures))
+    (rw c.deref.ensures.value at c.in_ok-weights.ensures.weights))
 
 pub loop-u-preserved : goal.loop-u-preserved
 loop-u-preserved c =
@@ -17,7 +17,7 @@ loop-u-preserved c =
     more_rows c.args.graph.now c.nodes-nodes.ensures.sound c.in_ok-allowed.allowed.items
     (filled ∙ ap (λ (n : ℕ). replicate n true) c.nodes-nodes.ensures.count)
     c.loop-u.u (omega (arith, c.nodes-nodes.ensures.count)) c.in_ok-weights.weights.items
-    (rw c.deref.ensures.value at c.in_ok-weights.ensures)
+    (rw c.deref.ensures.value at c.in_ok-weights.ensures.weights)
     c.loop-u.table.items c.push_weights.new.table.items c.loop-u.invariant
     (rw c.deref-in-loop-u.ensures.value at c.in_ok-push_weights.ensures)
 
