@@ -5,3 +5,4 @@ pub mod LayingOut
 pub mod Relaxing
 pub mod Searching
 pub mod Connecting
+pub mod Parenting

@@ -1,87 +1,90 @@
 -- The rows of a flat array of arcs, and the edges that they stand for.
-use Rattle.std.proofs.Common.{◌≡◌, ◌≢◌, ◌⊎◌, ℕ, zero, suc, ◌+◌, ◌-◌, ◌*◌, ◌<◌, ◌≤◌, List, [], ◌∷◌, ◌++◌, Option, None, Some, length, get_or, take, drop, refl, sym, ◌∙◌, ap, subst, inl, inr, arith, rules, map, add-one, append_assoc}
+use Rattle.std.proofs.Common.{◌≡◌, ℕ, zero, suc, ◌+◌, ◌-◌, ◌<◌, ◌≤◌, List, [], ◌∷◌, ◌++◌, Option, None, Some, length, get_or, drop, refl, sym, ◌∙◌, ap, subst, inl, inr, arith, map, add-one, append_assoc}
 use Rattle.std.specs.Prelude.{Contains, All, slice_range}
-use Rattle.std.proofs.lemmas.List.{length-map, length-append, get_or-map, get_or_append_left, get_or_push, get_or_read, take-append-le, drop-append-le, drop_at, take_all, length-drop, length-take}
-use Rattle.std.proofs.lemmas.List.Elements.{All-contains, All-take, All-drop, All-append, Contains-append_left, Contains-append_right, Contains-append_cases, Contains-get_or, Contains-push_cases, Contains-push}
+use Rattle.std.proofs.lemmas.List.{length-map, length-append, get_or-map, get_or_append_left, get_or_push, get_or_read, take-append-le, drop-append-le, drop_at, take_all, length-drop}
+use Rattle.std.proofs.lemmas.List.Elements.{All-contains, All-take, All-drop, Contains-append_left, Contains-append_right, Contains-append_cases, Contains-get_or, Contains-push}
 use Rattle.std.proofs.lemmas.Bool.{cases_lt}
 use Rattle.net_graph.specs.declared.edge.Edge.{Edge}
 use Rattle.net_graph.specs.declared.neighbours.Arc.{Arc}
 use Rattle.net_graph.specs.Walks.{Joins, make_edge}
-use Rattle.net_graph.specs.Network.{Network, IsEdge, IsInLimits}
+use Rattle.net_graph.specs.Network.{Network, IsInLimits}
 use Rattle.net_graph.specs.Layout.{make_arc, edge_from, row, edges_from, IsArc, IsLaidOut, AreArcsOf, arc_of_cell, arcs_of_row}
 
 edge_of_arc : (k u v w : ℕ) (arc : Arc) → edge_from k arc ≡ make_edge u v w → (k ≡ u) × (arc ≡ make_arc v w)
-edge_of_arc k u v w arc same =
-  (ap (λ (e : Edge). e.a) same,
-   let at : arc.target ≡ v = ap (λ (e : Edge). e.b) same in
-   let of : arc.weight ≡ w = ap (λ (e : Edge). e.weight) same in
-   ap (λ t. make_arc t arc.weight) at ∙ ap (make_arc v) of)
+edge_of_arc k u v w arc same = (
+  ap (λ (e : Edge). e.a) same,
+  let at : arc.target ≡ v = ap (λ (e : Edge). e.b) same in
+      let of : arc.weight ≡ w = ap (λ (e : Edge). e.weight) same in
+      ap (λ t. make_arc t arc.weight) at ∙ ap (make_arc v) of,
+)
 
 mapped : (k v w : ℕ) (arcs : List Arc) → Contains arcs (make_arc v w) → Contains (map (edge_from k) arcs) (make_edge k v w)
-mapped k v w arcs (i, below, here) =
-  (i, omega (arith, length-map arcs (edge_from k)),
-   get_or-map (edge_from k) arcs i (make_arc v w) (make_edge k v w) below ∙ ap (edge_from k) here)
+mapped k v w arcs (i, below, here) = (
+  i,
+  omega (arith, length-map arcs (edge_from k)),
+  get_or-map (edge_from k) arcs i (make_arc v w) (make_edge k v w) below ∙ ap (edge_from k) here,
+)
 
 unmapped : (k u v w : ℕ) (arcs : List Arc) → Contains (map (edge_from k) arcs) (make_edge u v w) → (k ≡ u) × Contains arcs (make_arc v w)
 unmapped k u v w arcs (i, below, here) =
-  let short : i < length arcs = omega (arith, length-map arcs (edge_from k)) in
-  let same = edge_of_arc k u v w (get_or arcs i (make_arc v w)) (sym (get_or-map (edge_from k) arcs i (make_arc v w) (make_edge u v w) short) ∙ here) in
-  (same.0, (i, short, same.1))
+    let short : i < length arcs = omega (arith, length-map arcs (edge_from k)) in
+    let same = edge_of_arc k u v w (get_or arcs i (make_arc v w)) (sym (get_or-map (edge_from k) arcs i (make_arc v w) (make_edge u v w) short) ∙ here) in
+    (same.0, (i, short, same.1))
 
 pub edges_have_row : (starts : List ℕ) (arcs : List Arc) (n u v w : ℕ) → u < n
-  → Contains (row starts arcs u) (make_arc v w) → Contains (edges_from starts arcs n) (make_edge u v w)
+    → Contains (row starts arcs u) (make_arc v w) → Contains (edges_from starts arcs n) (make_edge u v w)
 unfolding edges_from
 edges_have_row starts arcs zero u v w below has = absurd (omega arith)
 edges_have_row starts arcs (suc n) u v w below has =
-  elim (cases_lt u n) [
-    inl less ↦ Contains-append_left (edges_from starts arcs n) (map (edge_from n) (row starts arcs n)) (make_edge u v w)
-      (edges_have_row starts arcs n u v w less has)
-  | inr more ↦
-      let same : u ≡ n = omega arith in
-      subst (λ k. Contains (edges_from starts arcs n ++ map (edge_from k) (row starts arcs k)) (make_edge u v w)) same
-        (Contains-append_right (edges_from starts arcs n) (map (edge_from u) (row starts arcs u)) (make_edge u v w)
+    elim (cases_lt u n) [
+      | inl less ↦ Contains-append_left (edges_from starts arcs n) (map (edge_from n) (row starts arcs n)) (make_edge u v w)
+          (edges_have_row starts arcs n u v w less has)
+      | inr more ↦
+          let same : u ≡ n = omega arith in
+          subst (λ k. Contains (edges_from starts arcs n ++ map (edge_from k) (row starts arcs k)) (make_edge u v w)) same
+          (Contains-append_right (edges_from starts arcs n) (map (edge_from u) (row starts arcs u)) (make_edge u v w)
           (mapped u v w (row starts arcs u) has))
-  ]
+    ]
 
 pub row_has_edge : (starts : List ℕ) (arcs : List Arc) (n u v w : ℕ)
-  → Contains (edges_from starts arcs n) (make_edge u v w) → (u < n) × Contains (row starts arcs u) (make_arc v w)
+    → Contains (edges_from starts arcs n) (make_edge u v w) → (u < n) × Contains (row starts arcs u) (make_arc v w)
 unfolding edges_from
 row_has_edge starts arcs zero u v w (i, below, here) = absurd (omega arith)
 row_has_edge starts arcs (suc n) u v w has =
-  elim (Contains-append_cases (edges_from starts arcs n) (map (edge_from n) (row starts arcs n)) (make_edge u v w) has) [
-    inl before ↦ let r = row_has_edge starts arcs n u v w before in (omega (arith, r.0), r.1)
-  | inr here ↦ let r = unmapped n u v w (row starts arcs n) here in
-      (omega (arith, r.0), subst (λ k. Contains (row starts arcs k) (make_arc v w)) r.0 r.1)
-  ]
+    elim (Contains-append_cases (edges_from starts arcs n) (map (edge_from n) (row starts arcs n)) (make_edge u v w) has) [
+      | inl before ↦ let r = row_has_edge starts arcs n u v w before in (omega (arith, r.0), r.1)
+      | inr here ↦ let r = unmapped n u v w (row starts arcs n) here in
+          (omega (arith, r.0), subst (λ k. Contains (row starts arcs k) (make_arc v w)) r.0 r.1)
+    ]
 
 row_limits : (n : ℕ) (starts : List ℕ) (arcs : List Arc) (u : ℕ) → All (IsArc n) arcs → All (IsArc n) (row starts arcs u)
 row_limits n starts arcs u all =
-  All-take (IsArc n) (get_or starts (u + 1) 0 - get_or starts u 0) (drop (get_or starts u 0) arcs)
+    All-take (IsArc n) (get_or starts (u + 1) 0 - get_or starts u 0) (drop (get_or starts u 0) arcs)
     (All-drop (IsArc n) (get_or starts u 0) arcs all)
 
 pub laid_out_limits : (n : ℕ) (starts : List ℕ) (arcs : List Arc) → IsLaidOut n starts arcs
-  → IsInLimits (record { nodes = n; edges = edges_from starts arcs n })
+    → IsInLimits (record { nodes = n; edges = edges_from starts arcs n })
 laid_out_limits n starts arcs laid = record {
   positive = laid.positive;
   few = laid.few;
   edges = λ k d below.
-    let e : Edge = get_or (edges_from starts arcs n) k d in
-    let r = row_has_edge starts arcs n e.a e.b e.weight (Contains-get_or (edges_from starts arcs n) k d below) in
-    let arc = All-contains (IsArc n) (row starts arcs e.a) (make_arc e.b e.weight) (row_limits n starts arcs e.a laid.limits) r.1 in
-    record { a_below = r.0; b_below = arc.below; positive = arc.positive; light = arc.light }
+      let e : Edge = get_or (edges_from starts arcs n) k d in
+      let r = row_has_edge starts arcs n e.a e.b e.weight (Contains-get_or (edges_from starts arcs n) k d below) in
+      let arc = All-contains (IsArc n) (row starts arcs e.a) (make_arc e.b e.weight) (row_limits n starts arcs e.a laid.limits) r.1 in
+      record { a_below = r.0; b_below = arc.below; positive = arc.positive; light = arc.light };
 }
 
 whole_row : (n : ℕ) (starts : List ℕ) (arcs : List Arc) (u : ℕ) → IsLaidOut n starts arcs
-  → (v w : ℕ) → Joins (edges_from starts arcs n) u v w → Contains (row starts arcs u) (make_arc v w)
+    → (v w : ℕ) → Joins (edges_from starts arcs n) u v w → Contains (row starts arcs u) (make_arc v w)
 whole_row n starts arcs u laid v w (inl h) = (row_has_edge starts arcs n u v w h).1
 whole_row n starts arcs u laid v w (inr h) = let r = row_has_edge starts arcs n v u w h in laid.turned v u w r.0 r.1
 
 pub row_arcs : (n : ℕ) (starts : List ℕ) (arcs : List Arc) (u : ℕ) → IsLaidOut n starts arcs → u < n
-  → AreArcsOf n (edges_from starts arcs n) u (row starts arcs u)
+    → AreArcsOf n (edges_from starts arcs n) u (row starts arcs u)
 row_arcs n starts arcs u laid below = record {
   sound = λ v w has. inl (edges_have_row starts arcs n u v w below has);
   whole = whole_row n starts arcs u laid;
-  limits = row_limits n starts arcs u laid.limits
+  limits = row_limits n starts arcs u laid.limits;
 }
 
 pub arcs_of_row-nil : (cells : List (Option ℕ)) → arcs_of_row cells 0 ≡ []
@@ -94,75 +97,75 @@ arcs_of_row-suc cells k = rw add-one refl
 
 -- the arcs of a node, as they are read
 pub read_row : (n : ℕ) (starts : List ℕ) (arcs : List Arc) (network : Network) (u first next : ℕ) (list : List Arc)
-  → IsLaidOut n starts arcs → record { nodes = n; edges = edges_from starts arcs n } ≡ network → u < network.nodes
-  → first ≡ get_or starts u first → next ≡ get_or starts (u + 1) next → list ≡ arcs
-  → AreArcsOf network.nodes network.edges u (slice_range list first next)
+    → IsLaidOut n starts arcs → record { nodes = n; edges = edges_from starts arcs n } ≡ network → u < network.nodes
+    → first ≡ get_or starts u first → next ≡ get_or starts (u + 1) next → list ≡ arcs
+    → AreArcsOf network.nodes network.edges u (slice_range list first next)
 read_row n starts arcs network u first next list laid view below at_first at_next whole =
-  let short : u < n = subst (λ (k : ℕ). u < k) (sym (ap (λ (x : Network). x.nodes) view)) below in
-  let begins : first ≡ get_or starts u 0 = get_or_read starts u first (omega (arith, laid.count)) at_first 0 in
-  let ends : next ≡ get_or starts (u + 1) 0 = get_or_read starts (u + 1) next (omega (arith, laid.count)) at_next 0 in
-  subst (λ (x : Network). AreArcsOf x.nodes x.edges u (slice_range list first next)) view
+    let short : u < n = subst (λ (k : ℕ). u < k) (sym (ap (λ (x : Network). x.nodes) view)) below in
+    let begins : first ≡ get_or starts u 0 = get_or_read starts u first (omega (arith, laid.count)) at_first 0 in
+    let ends : next ≡ get_or starts (u + 1) 0 = get_or_read starts (u + 1) next (omega (arith, laid.count)) at_next 0 in
+    subst (λ (x : Network). AreArcsOf x.nodes x.edges u (slice_range list first next)) view
     (rw (begins, ends, whole) (row_arcs n starts arcs u laid short))
 
 pub row_step : (base items arcs : List Arc) (cells : List (Option ℕ)) (k : ℕ) → items ≡ base ++ arcs_of_row cells k
-  → arcs ≡ items ++ arc_of_cell k (get_or cells k None) → arcs ≡ base ++ arcs_of_row cells (k + 1)
+    → arcs ≡ items ++ arc_of_cell k (get_or cells k None) → arcs ≡ base ++ arcs_of_row cells (k + 1)
 row_step base items arcs cells k before now =
-  now ∙ ap (λ xs. xs ++ arc_of_cell k (get_or cells k None)) before
-  ∙ append_assoc base (arcs_of_row cells k) (arc_of_cell k (get_or cells k None))
-  ∙ ap (λ xs. base ++ xs) (sym (arcs_of_row-suc cells k))
+    now ∙ ap (λ xs. xs ++ arc_of_cell k (get_or cells k None)) before
+    ∙ append_assoc base (arcs_of_row cells k) (arc_of_cell k (get_or cells k None))
+    ∙ ap (λ xs. base ++ xs) (sym (arcs_of_row-suc cells k))
 
 -- the arcs of a row of cells are those of its cells that have a weight
 pub arcs_have_cell : (cells : List (Option ℕ)) (k v w : ℕ) → v < k → get_or cells v None ≡ Some w → Contains (arcs_of_row cells k) (make_arc v w)
 unfolding arcs_of_row
 arcs_have_cell cells zero v w below here = absurd (omega arith)
 arcs_have_cell cells (suc k) v w below here =
-  elim (cases_lt v k) [
-    inl less ↦ Contains-append_left (arcs_of_row cells k) (arc_of_cell k (get_or cells k None)) (make_arc v w) (arcs_have_cell cells k v w less here)
-  | inr more ↦
-      let same : v ≡ k = omega arith in
-      subst (λ j. Contains (arcs_of_row cells k ++ arc_of_cell j (get_or cells j None)) (make_arc v w)) same
-        (subst (λ c. Contains (arcs_of_row cells k ++ arc_of_cell v c) (make_arc v w)) (sym here)
+    elim (cases_lt v k) [
+      | inl less ↦ Contains-append_left (arcs_of_row cells k) (arc_of_cell k (get_or cells k None)) (make_arc v w) (arcs_have_cell cells k v w less here)
+      | inr more ↦
+          let same : v ≡ k = omega arith in
+          subst (λ j. Contains (arcs_of_row cells k ++ arc_of_cell j (get_or cells j None)) (make_arc v w)) same
+          (subst (λ c. Contains (arcs_of_row cells k ++ arc_of_cell v c) (make_arc v w)) (sym here)
           (Contains-push (arcs_of_row cells k) (make_arc v w)))
-  ]
+    ]
 
 last_arc : (v w k : ℕ) (c : Option ℕ) → Contains (arc_of_cell k c) (make_arc v w) → (v ≡ k) × (c ≡ Some w)
 last_arc v w k None (i, below, here) = absurd (omega arith)
 last_arc v w k (Some x) (zero, below, here) =
-  (sym (ap (λ (arc : Arc). arc.target) here), ap Some (ap (λ (arc : Arc). arc.weight) here))
+    (sym (ap (λ (arc : Arc). arc.target) here), ap Some (ap (λ (arc : Arc). arc.weight) here))
 last_arc v w k (Some x) (suc i, below, here) = absurd (omega arith)
 
 pub cell_has_arc : (cells : List (Option ℕ)) (k v w : ℕ) → Contains (arcs_of_row cells k) (make_arc v w) → (v < k) × (get_or cells v None ≡ Some w)
 unfolding arcs_of_row
 cell_has_arc cells zero v w (i, below, here) = absurd (omega arith)
 cell_has_arc cells (suc k) v w has =
-  elim (Contains-append_cases (arcs_of_row cells k) (arc_of_cell k (get_or cells k None)) (make_arc v w) has) [
-    inl before ↦ let r = cell_has_arc cells k v w before in (omega (arith, r.0), r.1)
-  | inr here ↦ let r = last_arc v w k (get_or cells k None) here in
-      (omega (arith, r.0), subst (λ j. get_or cells j None ≡ Some w) (sym r.0) r.1)
-  ]
+    elim (Contains-append_cases (arcs_of_row cells k) (arc_of_cell k (get_or cells k None)) (make_arc v w) has) [
+      | inl before ↦ let r = cell_has_arc cells k v w before in (omega (arith, r.0), r.1)
+      | inr here ↦ let r = last_arc v w k (get_or cells k None) here in
+          (omega (arith, r.0), subst (λ j. get_or cells j None ≡ Some w) (sym r.0) r.1)
+    ]
 
 slice_kept : (xs ys : List Arc) (i j : ℕ) → i ≤ j → j ≤ length xs → slice_range (xs ++ ys) i j ≡ slice_range xs i j
 slice_kept xs ys i j ordered within =
-  let short : i ≤ length xs = omega arith in
-  let fits : j - i ≤ length (drop i xs) = omega (arith, length-drop i xs) in
-  rw (drop-append-le i xs ys short) (take-append-le (j - i) (drop i xs) ys fits)
+    let short : i ≤ length xs = omega arith in
+    let fits : j - i ≤ length (drop i xs) = omega (arith, length-drop i xs) in
+    rw (drop-append-le i xs ys short) (take-append-le (j - i) (drop i xs) ys fits)
 
 -- a row that is there stays as it is when more arcs and starts follow
 pub row_kept : (starts more_starts : List ℕ) (arcs more : List Arc) (k : ℕ) → k + 1 < length starts
-  → get_or starts k 0 ≤ get_or starts (k + 1) 0 → get_or starts (k + 1) 0 ≤ length arcs
-  → row (starts ++ more_starts) (arcs ++ more) k ≡ row starts arcs k
+    → get_or starts k 0 ≤ get_or starts (k + 1) 0 → get_or starts (k + 1) 0 ≤ length arcs
+    → row (starts ++ more_starts) (arcs ++ more) k ≡ row starts arcs k
 row_kept starts more_starts arcs more k there ordered within =
-  let first : get_or (starts ++ more_starts) k 0 ≡ get_or starts k 0 = get_or_append_left starts more_starts 0 k (omega arith) in
-  let next : get_or (starts ++ more_starts) (k + 1) 0 ≡ get_or starts (k + 1) 0 = get_or_append_left starts more_starts 0 (k + 1) there in
-  rw (first, next)
+    let first : get_or (starts ++ more_starts) k 0 ≡ get_or starts k 0 = get_or_append_left starts more_starts 0 k (omega arith) in
+    let next : get_or (starts ++ more_starts) (k + 1) 0 ≡ get_or starts (k + 1) 0 = get_or_append_left starts more_starts 0 (k + 1) there in
+    rw (first, next)
     (slice_kept arcs more (get_or starts k 0) (get_or starts (k + 1) 0) ordered within)
 
 -- the row that was put last
 pub row_last : (starts : List ℕ) (arcs more : List Arc) (k : ℕ) → length starts ≡ k + 1 → get_or starts k 0 ≡ length arcs
-  → row (starts ++ length (arcs ++ more) ∷ []) (arcs ++ more) k ≡ more
+    → row (starts ++ length (arcs ++ more) ∷ []) (arcs ++ more) k ≡ more
 row_last starts arcs more k count last =
-  let end : ℕ = length (arcs ++ more) in
-  let first : get_or (starts ++ end ∷ []) k 0 ≡ length arcs = get_or_append_left starts (end ∷ []) 0 k (omega arith) ∙ last in
-  let next : get_or (starts ++ end ∷ []) (k + 1) 0 ≡ end = get_or_push starts end 0 (k + 1) count in
-  rw (first, next)
+    let end : ℕ = length (arcs ++ more) in
+    let first : get_or (starts ++ end ∷ []) k 0 ≡ length arcs = get_or_append_left starts (end ∷ []) 0 k (omega arith) ∙ last in
+    let next : get_or (starts ++ end ∷ []) (k + 1) 0 ≡ end = get_or_push starts end 0 (k + 1) count in
+    rw (first, next)
     (rw (drop_at arcs more (length arcs) refl) (take_all (length (arcs ++ more) - length arcs) more (omega (arith, length-append arcs more))))

@@ -1,16 +1,15 @@
 -- The search as a whole: what it keeps, and that least weights are left when no unsettled node has a weight.
-use Rattle.std.proofs.Common.{◌≡◌, ◌≢◌, ◌⊎◌, ℕ, ◌+◌, ◌-◌, ◌*◌, ◌^◌, ◌<◌, ◌≤◌, Bool, true, false, cond, List, [], ◌∷◌, ◌++◌, take, Option, None, Some, length, get_or, set, replicate, refl, sym, ◌∙◌, ap, subst, inl, inr, arith}
+use Rattle.std.proofs.Common.{◌≡◌, ◌≢◌, ◌⊎◌, ℕ, ◌+◌, ◌-◌, ◌*◌, ◌^◌, ◌<◌, ◌≤◌, Bool, true, false, cond, List, [], ◌∷◌, ◌++◌, take, Option, None, Some, length, get_or, set, replicate, sym, ◌∙◌, ap, subst, inl, inr, arith}
 use Rattle.std.specs.Prelude.{Contains, All}
-use Rattle.std.specs.List.{count_by, sum_by}
+use Rattle.std.specs.List.{count_by}
 use Rattle.std.proofs.lemmas.List.{length-set, get_or-set_same, get_or-set_other, get_or_past, get_or-replicate, length-replicate, take_at}
 use Rattle.std.proofs.lemmas.List.Elements.{All-contains}
 use Rattle.std.proofs.lemmas.List.Sums.{sum_by-set, count_by-le-length}
 use Rattle.std.proofs.lemmas.Bool.{cases_eq, cases_lt}
-use Rattle.net_graph.specs.declared.edge.Edge.{Edge}
 use Rattle.net_graph.specs.declared.edge.TheConstants.{MAX_NODES, MAX_WEIGHT}
 use Rattle.net_graph.specs.declared.neighbours.Arc.{Arc}
 use Rattle.net_graph.specs.declared.search.Candidate.{Candidate}
-use Rattle.net_graph.specs.Walks.{Joins, Step, IsWalk, weight_of, IsWalkWeight, IsLeastWeight, among}
+use Rattle.net_graph.specs.Walks.{Joins, Step, IsWalk, weight_of, IsWalkWeight, among}
 use Rattle.net_graph.specs.Network.{Network}
 use Rattle.net_graph.specs.Trees.{at_node, AreLeastWeights}
 use Rattle.net_graph.specs.Layout.{make_arc, IsArc, AreArcsOf}
@@ -18,7 +17,7 @@ use Rattle.net_graph.specs.Table.{IsAtMost}
 use Rattle.net_graph.specs.Search.{IsLightest, IsLightestBelow, relaxed}
 use Rattle.net_graph.proofs.WalkLaws.{walk_further, walk_begins}
 use Rattle.net_graph.proofs.Cells.{at_most_trans, at_most_some}
-use Rattle.net_graph.proofs.Relaxing.{among_below, true_or_false, IsThrough, IsRelaxed, relaxed_facts}
+use Rattle.net_graph.proofs.Relaxing.{among_below, true_or_false, IsRelaxed, relaxed_facts}
 
 -- how many nodes are unsettled
 abbrev pub unsettled_count : List Bool → ℕ
@@ -48,65 +47,72 @@ true_is_not_false b h k = let both : true ≡ false = sym h ∙ k in cc
 
 none_there : (n v w : ℕ) → get_or (replicate n None) v None ≡ Some w → ⊥
 none_there n v w here = elim (cases_lt v n) [
-    inl below ↦ none_is_not_some w (sym (get_or-replicate n v None None below) ∙ here)
+  | inl below ↦ none_is_not_some w (sym (get_or-replicate n v None None below) ∙ here)
   | inr past ↦ none_is_not_some w (sym (get_or_past (replicate n None) v None (omega (arith, length-replicate {A = Option ℕ} n None))) ∙ here)
-  ]
+]
 
 -- the beginning, where the root alone has a weight
 only_root : (n root v w : ℕ) → at_node (set (replicate n None) root (Some 0)) v ≡ Some w → (v ≡ root) × (w ≡ 0)
 only_root n root v w here = elim (cases_lt root n) [
-    inl below ↦ elim (cases_eq v root) [
-      inl same ↦ (same, sym (some_injective 0 w
-        (sym (get_or-set_same (replicate n None) root (Some 0) None (omega (arith, length-replicate {A = Option ℕ} n None)))
-         ∙ sym (ap (at_node (set (replicate n None) root (Some 0))) same) ∙ here)))
-    | inr other ↦ absurd (none_there n v w (sym (get_or-set_other (replicate n None) root v (Some 0) None other) ∙ here)) ]
+  | inl below ↦ elim (cases_eq v root) [
+    | inl same ↦ (
+      same,
+      sym (some_injective 0 w
+          (sym (get_or-set_same (replicate n None) root (Some 0) None (omega (arith, length-replicate {A = Option ℕ} n None)))
+          ∙ sym (ap (at_node (set (replicate n None) root (Some 0))) same) ∙ here)),
+    )
+    | inr other ↦ absurd (none_there n v w (sym (get_or-set_other (replicate n None) root v (Some 0) None other) ∙ here))
+  ]
   | inr past ↦ elim (cases_eq v root) [
-      inl same ↦ absurd (none_is_not_some w (sym (get_or_past (set (replicate n None) root (Some 0)) v None
+    | inl same ↦ absurd (none_is_not_some w (sym (get_or_past (set (replicate n None) root (Some 0)) v None
         (omega (arith, length-set {A = Option ℕ} (replicate n None) root (Some 0), length-replicate {A = Option ℕ} n None))) ∙ here))
-    | inr other ↦ absurd (none_there n v w (sym (get_or-set_other (replicate n None) root v (Some 0) None other) ∙ here)) ] ]
+    | inr other ↦ absurd (none_there n v w (sym (get_or-set_other (replicate n None) root v (Some 0) None other) ∙ here))
+  ]
+]
 
 pub search_begins : (network : Network) (allowed : List Bool) (root : ℕ) → 1 ≤ network.nodes → length allowed ≡ network.nodes
-  → among allowed root ≡ true
-  → IsSearch network (among allowed) root allowed (set (replicate network.nodes None) root (Some 0))
+    → among allowed root ≡ true
+    → IsSearch network (among allowed) root allowed (set (replicate network.nodes None) root (Some 0))
 search_begins network allowed root positive count at_root =
-  let n : ℕ = network.nodes in
-  let below : root < length (replicate {A = Option ℕ} n None) = omega (arith, among_below allowed root at_root, count, length-replicate {A = Option ℕ} n None) in
-  let few : unsettled_count allowed ≤ n = omega (arith, count_by-le-length (λ b. b) allowed, count) in
-  record {
-    nodes = count;
-    count = length-set (replicate n None) root (Some 0) ∙ length-replicate n None;
-    start = subst (λ c. IsAtMost c 0) (sym (get_or-set_same (replicate n None) root (Some 0) None below)) (omega arith);
-    inner = λ v h. h;
-    settled = λ v h k. absurd (true_is_not_false (among allowed v) h k);
-    sound = λ v w here. let r = only_root n root v w here in
-      record { steps = []; walk = (at_root, sym r.0); sum = sym r.1 };
-    closed = λ u v w c is_settled here h joined. let r = only_root n root u w here in
-      absurd (true_is_not_false (among allowed root) at_root (sym (ap (among allowed) r.0) ∙ is_settled));
-    lightest = λ u v x y is_settled here waits there. let r = only_root n root u x here in
-      absurd (true_is_not_false (among allowed root) at_root (sym (ap (among allowed) r.0) ∙ is_settled));
-    slack = λ v w here. let r = only_root n root v w here in omega (arith, r.1, few);
-    bounded = λ v w here. let r = only_root n root v w here in omega (arith, r.1)
-  }
+    let n : ℕ = network.nodes in
+    let below : root < length (replicate {A = Option ℕ} n None) = omega (arith, among_below allowed root at_root, count, length-replicate {A = Option ℕ} n None) in
+    let few : unsettled_count allowed ≤ n = omega (arith, count_by-le-length (λ b. b) allowed, count) in
+    record {
+      nodes = count;
+      count = length-set (replicate n None) root (Some 0) ∙ length-replicate n None;
+      start = subst (λ c. IsAtMost c 0) (sym (get_or-set_same (replicate n None) root (Some 0) None below)) (omega arith);
+      inner = λ v h. h;
+      settled = λ v h k. absurd (true_is_not_false (among allowed v) h k);
+      sound = λ v w here. let r = only_root n root v w here in
+          record { steps = []; walk = (at_root, sym r.0); sum = sym r.1 };
+      closed = λ u v w c is_settled here h joined. let r = only_root n root u w here in
+          absurd (true_is_not_false (among allowed root) at_root (sym (ap (among allowed) r.0) ∙ is_settled));
+      lightest = λ u v x y is_settled here waits there. let r = only_root n root u x here in
+          absurd (true_is_not_false (among allowed root) at_root (sym (ap (among allowed) r.0) ∙ is_settled));
+      slack = λ v w here. let r = only_root n root v w here in omega (arith, r.1, few);
+      bounded = λ v w here. let r = only_root n root v w here in omega (arith, r.1);
+    }
 
 -- settling a node
 settled_now : (unsettled : List Bool) (x v : ℕ) → among (set unsettled x false) v ≡ false → (v ≡ x) ⊎ (among unsettled v ≡ false)
 settled_now unsettled x v h = elim (cases_eq v x) [
-    inl same ↦ inl same
-  | inr other ↦ inr (sym (get_or-set_other unsettled x v false false other) ∙ h) ]
+  | inl same ↦ inl same
+  | inr other ↦ inr (sym (get_or-set_other unsettled x v false false other) ∙ h)
+]
 
 unsettled_still : (unsettled : List Bool) (x v : ℕ) → x < length unsettled → among (set unsettled x false) v ≡ true → (v ≢ x) × (among unsettled v ≡ true)
 unsettled_still unsettled x v below h =
-  let other : v ≢ x = λ same. true_is_not_false (among (set unsettled x false) x)
+    let other : v ≢ x = λ same. true_is_not_false (among (set unsettled x false) x)
     (sym (ap (among (set unsettled x false)) same) ∙ h) (get_or-set_same unsettled x false false below) in
-  (other, sym (get_or-set_other unsettled x v false false other) ∙ h)
+    (other, sym (get_or-set_other unsettled x v false false other) ∙ h)
 
 count_falls : (unsettled : List Bool) (x : ℕ) → among unsettled x ≡ true → unsettled_count (set unsettled x false) + 1 ≡ unsettled_count unsettled
 count_falls unsettled x waits =
-  let f : Bool → ℕ = λ b. cond b 1 0 in
-  let one : f (among unsettled x) ≡ 1 = ap f waits in
-  let e : unsettled_count (set unsettled x false) + f (among unsettled x) ≡ unsettled_count unsettled + 0
-      = sum_by-set f unsettled x false false (among_below unsettled x waits) in
-  omega (arith, e, one)
+    let f : Bool → ℕ = λ b. cond b 1 0 in
+    let one : f (among unsettled x) ≡ 1 = ap f waits in
+    let e : unsettled_count (set unsettled x false) + f (among unsettled x) ≡ unsettled_count unsettled + 0
+    = sum_by-set f unsettled x false false (among_below unsettled x waits) in
+    omega (arith, e, one)
 
 count_positive : (unsettled : List Bool) (v : ℕ) → among unsettled v ≡ true → 1 ≤ unsettled_count unsettled
 count_positive unsettled v waits = omega (arith, count_falls unsettled v waits)
@@ -120,82 +126,96 @@ module _ (network : Network) (inside : ℕ → Bool) (root : ℕ) (unsettled : L
   module _ (arcs : List Arc) (of_node : AreArcsOf network.nodes network.edges best.node arcs)
       (new : List (Option ℕ)) (r : IsRelaxed arcs best.weight (set unsettled best.node false) weights new) where
     closed_now : (u v w c : ℕ) → among (set unsettled best.node false) u ≡ false → at_node new u ≡ Some w → inside v ≡ true
-      → Joins network.edges u v c → IsAtMost (at_node new v) (w + c)
+        → Joins network.edges u v c → IsAtMost (at_node new v) (w + c)
     closed_now u v w c is_settled here inner joined =
-      let before : at_node weights u ≡ Some w = sym (r.kept u is_settled) ∙ here in
-      elim (settled_now unsettled best.node u is_settled) [
-        inr old ↦ r.falls v (w + c) (so_far.closed u v w c old before inner joined)
-      | inl same ↦
-          let w_is : best.weight ≡ w = some_injective best.weight w (sym lightest.weighs ∙ sym (ap (at_node weights) same) ∙ before) in
-          let from : Joins network.edges best.node v c = subst (λ i. Joins network.edges i v c) same joined in
-          elim (true_or_false (among (set unsettled best.node false) v)) [
-            inl waits ↦ subst (λ i. IsAtMost (at_node new v) (i + c)) w_is (r.reached v c (of_node.whole v c from) waits)
-          | inr gone ↦ subst (λ o. IsAtMost o (w + c)) (sym (r.kept v gone)) (elim (settled_now unsettled best.node v gone) [
-              inl itself ↦ subst (λ o. IsAtMost o (w + c)) (sym (ap (at_node weights) itself ∙ lightest.weighs)) (omega (arith, w_is))
-            | inr old ↦
-                let y = so_far.settled v inner old in
-                subst (λ o. IsAtMost o (w + c)) (sym y.1)
-                  (omega (arith, w_is, so_far.lightest v best.node y.0 best.weight old y.1 lightest.waits lightest.weighs)) ]) ] ]
+        let before : at_node weights u ≡ Some w = sym (r.kept u is_settled) ∙ here in
+        elim (settled_now unsettled best.node u is_settled) [
+          | inr old ↦ r.falls v (w + c) (so_far.closed u v w c old before inner joined)
+          | inl same ↦
+              let w_is : best.weight ≡ w = some_injective best.weight w (sym lightest.weighs ∙ sym (ap (at_node weights) same) ∙ before) in
+              let from : Joins network.edges best.node v c = subst (λ i. Joins network.edges i v c) same joined in
+              elim (true_or_false (among (set unsettled best.node false) v)) [
+                | inl waits ↦ subst (λ i. IsAtMost (at_node new v) (i + c)) w_is (r.reached v c (of_node.whole v c from) waits)
+                | inr gone ↦ subst (λ o. IsAtMost o (w + c)) (sym (r.kept v gone)) (elim (settled_now unsettled best.node v gone) [
+                  | inl itself ↦ subst (λ o. IsAtMost o (w + c)) (sym (ap (at_node weights) itself ∙ lightest.weighs)) (omega (arith, w_is))
+                  | inr old ↦
+                      let y = so_far.settled v inner old in
+                      subst (λ o. IsAtMost o (w + c)) (sym y.1)
+                      (omega (arith, w_is, so_far.lightest v best.node y.0 best.weight old y.1 lightest.waits lightest.weighs))
+                ])
+              ]
+        ]
 
     lightest_now : (u v x y : ℕ) → among (set unsettled best.node false) u ≡ false → at_node new u ≡ Some x
-      → among (set unsettled best.node false) v ≡ true → at_node new v ≡ Some y → x ≤ y
+        → among (set unsettled best.node false) v ≡ true → at_node new v ≡ Some y → x ≤ y
     lightest_now u v x y is_settled here waits there =
-      let before : at_node weights u ≡ Some x = sym (r.kept u is_settled) ∙ here in
-      let still = unsettled_still unsettled best.node v (among_below unsettled best.node lightest.waits) waits in
-      let light : x ≤ best.weight = elim (settled_now unsettled best.node u is_settled) [
-            inl same ↦ omega (arith, some_injective best.weight x (sym lightest.weighs ∙ sym (ap (at_node weights) same) ∙ before))
-          | inr old ↦ so_far.lightest u best.node x best.weight old before lightest.waits lightest.weighs ] in
-      elim (r.cause v y there) [
-        inl old ↦ omega (arith, light, lightest.lightest v y (among_below unsettled v still.1) still.1 old)
-      | inr through ↦ omega (arith, light, through.sum) ]
-
+        let before : at_node weights u ≡ Some x = sym (r.kept u is_settled) ∙ here in
+        let still = unsettled_still unsettled best.node v (among_below unsettled best.node lightest.waits) waits in
+        let light : x ≤ best.weight = elim (settled_now unsettled best.node u is_settled) [
+          | inl same ↦ omega (arith, some_injective best.weight x (sym lightest.weighs ∙ sym (ap (at_node weights) same) ∙ before))
+          | inr old ↦ so_far.lightest u best.node x best.weight old before lightest.waits lightest.weighs
+        ] in
+        elim (r.cause v y there) [
+          | inl old ↦ omega (arith, light, lightest.lightest v y (among_below unsettled v still.1) still.1 old)
+          | inr through ↦ omega (arith, light, through.sum)
+        ]
 
     through_light : (v c : ℕ) → Contains arcs (make_arc v c) → c ≤ MAX_WEIGHT
     through_light v c has = (All-contains (IsArc network.nodes) arcs (make_arc v c) of_node.limits has).light
 
     pub search_goes_on : IsSearch network inside root (set unsettled best.node false) new
     search_goes_on =
-      let next : List Bool = set unsettled best.node false in
-      let fallen : unsettled_count next + 1 ≡ unsettled_count unsettled = count_falls unsettled best.node lightest.waits in
-      record {
-        nodes = length-set unsettled best.node false ∙ so_far.nodes;
-        count = r.count ∙ so_far.count;
-        start = r.falls root 0 so_far.start;
-        inner = λ v waits. so_far.inner v (unsettled_still unsettled best.node v (among_below unsettled best.node lightest.waits) waits).1;
-        settled = λ v inner gone. elim (settled_now unsettled best.node v gone) [
-            inl same ↦ (best.weight, r.kept v gone ∙ ap (at_node weights) same ∙ lightest.weighs)
-          | inr old ↦ let y = so_far.settled v inner old in (y.0, r.kept v gone ∙ y.1) ];
-        sound = λ v w here. elim (r.cause v w here) [
-            inl old ↦ so_far.sound v w old
-          | inr through ↦
-              let still = unsettled_still unsettled best.node v (among_below unsettled best.node lightest.waits) through.waits in
-              subst (λ i. IsWalkWeight network.edges inside root v i) (sym through.sum)
+        let next : List Bool = set unsettled best.node false in
+        let fallen : unsettled_count next + 1 ≡ unsettled_count unsettled = count_falls unsettled best.node lightest.waits in
+        record {
+          nodes = length-set unsettled best.node false ∙ so_far.nodes;
+          count = r.count ∙ so_far.count;
+          start = r.falls root 0 so_far.start;
+          inner = λ v waits. so_far.inner v (unsettled_still unsettled best.node v (among_below unsettled best.node lightest.waits) waits).1;
+          settled = λ v inner gone. elim (settled_now unsettled best.node v gone) [
+            | inl same ↦ (best.weight, r.kept v gone ∙ ap (at_node weights) same ∙ lightest.weighs)
+            | inr old ↦ let y = so_far.settled v inner old in (y.0, r.kept v gone ∙ y.1)
+          ];
+          sound = λ v w here. elim (r.cause v w here) [
+            | inl old ↦ so_far.sound v w old
+            | inr through ↦
+                let still = unsettled_still unsettled best.node v (among_below unsettled best.node lightest.waits) through.waits in
+                subst (λ i. IsWalkWeight network.edges inside root v i) (sym through.sum)
                 (walk_further network.edges inside root best.node v best.weight through.by
-                  (so_far.sound best.node best.weight lightest.weighs) (so_far.inner v still.1) (of_node.sound v through.by through.arc)) ];
-        closed = closed_now;
-        lightest = lightest_now;
-        slack = λ v w here. elim (r.cause v w here) [
-            inl old ↦ omega (arith, so_far.slack v w old, fallen)
-          | inr through ↦ omega (arith, through.sum, fallen, so_far.slack best.node best.weight lightest.weighs, through_light v through.by through.arc) ];
-        bounded = λ v w here. elim (r.cause v w here) [
-            inl old ↦ so_far.bounded v w old
-          | inr through ↦ omega (arith, through.sum, fallen, count_positive next v through.waits,
-              so_far.slack best.node best.weight lightest.weighs, through_light v through.by through.arc) ]
-      }
+                (so_far.sound best.node best.weight lightest.weighs) (so_far.inner v still.1) (of_node.sound v through.by through.arc))
+          ];
+          closed = closed_now;
+          lightest = lightest_now;
+          slack = λ v w here. elim (r.cause v w here) [
+            | inl old ↦ omega (arith, so_far.slack v w old, fallen)
+            | inr through ↦ omega (arith, through.sum, fallen, so_far.slack best.node best.weight lightest.weighs, through_light v through.by through.arc)
+          ];
+          bounded = λ v w here. elim (r.cause v w here) [
+            | inl old ↦ so_far.bounded v w old
+            | inr through ↦ omega (
+              arith,
+              through.sum,
+              fallen,
+              count_positive next v through.waits,
+              so_far.slack best.node best.weight lightest.weighs,
+              through_light v through.by through.arc,
+            )
+          ];
+        }
 
 -- one round, on a part of a longer list of weights
 pub search_settles : (network : Network) (inside : ℕ → Bool) (root : ℕ) (unsettled : List Bool) (weights : List (Option ℕ))
-  → IsSearch network inside root unsettled weights
-  → (best : Candidate) → IsLightest (length unsettled) unsettled weights best
-  → (arcs : List Arc) → AreArcsOf network.nodes network.edges best.node arcs
-  → (new rest : List (Option ℕ)) (k : ℕ) → new ≡ relaxed best.weight (set unsettled best.node false) arcs weights → length new ≡ k
-  → IsSearch network inside root (set unsettled best.node false) (take k (new ++ rest))
+    → IsSearch network inside root unsettled weights
+    → (best : Candidate) → IsLightest (length unsettled) unsettled weights best
+    → (arcs : List Arc) → AreArcsOf network.nodes network.edges best.node arcs
+    → (new rest : List (Option ℕ)) (k : ℕ) → new ≡ relaxed best.weight (set unsettled best.node false) arcs weights → length new ≡ k
+    → IsSearch network inside root (set unsettled best.node false) (take k (new ++ rest))
 search_settles network inside root unsettled weights so_far best lightest arcs of_node new rest k is count =
-  rw (take_at new rest k count)
+    rw (take_at new rest k count)
     (search_goes_on network inside root unsettled weights so_far best lightest arcs of_node new
-      (subst (λ xs. IsRelaxed arcs best.weight (set unsettled best.node false) weights xs) (sym is)
-        (relaxed_facts arcs best.weight (set unsettled best.node false) weights
-          (subst (λ n. All (IsArc n) arcs) (sym so_far.count) of_node.limits))))
+    (subst (λ xs. IsRelaxed arcs best.weight (set unsettled best.node false) weights xs) (sym is)
+    (relaxed_facts arcs best.weight (set unsettled best.node false) weights
+    (subst (λ n. All (IsArc n) arcs) (sym so_far.count) of_node.limits))))
 
 -- the end, where no unsettled node has a weight
 module _ (network : Network) (inside : ℕ → Bool) (root : ℕ) (unsettled : List Bool) (weights : List (Option ℕ))
@@ -203,30 +223,32 @@ module _ (network : Network) (inside : ℕ → Bool) (root : ℕ) (unsettled : L
     (none : IsLightestBelow (length unsettled) unsettled weights None) where
   weighed_is_settled : (u w : ℕ) → at_node weights u ≡ Some w → among unsettled u ≡ false
   weighed_is_settled u w here = elim (true_or_false (among unsettled u)) [
-      inl waits ↦ absurd (none u w (among_below unsettled u waits) waits here)
-    | inr gone ↦ gone ]
+    | inl waits ↦ absurd (none u w (among_below unsettled u waits) waits here)
+    | inr gone ↦ gone
+  ]
 
   follows : (u : ℕ) (steps : List Step) (v w : ℕ) → at_node weights u ≡ Some w → IsWalk network.edges inside u steps v
-    → IsAtMost (at_node weights v) (w + weight_of steps)
+      → IsAtMost (at_node weights v) (w + weight_of steps)
   follows u [] v w here walk = subst (λ o. IsAtMost o (w + 0)) (sym here ∙ ap (at_node weights) walk.1) (omega arith)
   follows u (step ∷ steps) v w here walk =
-    let inner : inside step.node ≡ true = walk_begins network.edges inside step.node steps v walk.2 in
-    let y = at_most_some (at_node weights step.node) (w + step.weight)
+      let inner : inside step.node ≡ true = walk_begins network.edges inside step.node steps v walk.2 in
+      let y = at_most_some (at_node weights step.node) (w + step.weight)
       (so_far.closed u step.node w step.weight (weighed_is_settled u w here) here inner walk.1) in
-    at_most_trans (at_node weights v) (y.0 + weight_of steps) (w + (step.weight + weight_of steps))
+      at_most_trans (at_node weights v) (y.0 + weight_of steps) (w + (step.weight + weight_of steps))
       (follows step.node steps v y.0 y.1 walk.2) (omega (arith, y.2))
 
   from_root : (steps : List Step) (v : ℕ) → IsWalk network.edges inside root steps v → IsAtMost (at_node weights v) (weight_of steps)
   from_root steps v walk =
-    let y = at_most_some (at_node weights root) 0 so_far.start in
-    at_most_trans (at_node weights v) (y.0 + weight_of steps) (weight_of steps) (follows root steps v y.0 y.1 walk) (omega (arith, y.2))
+      let y = at_most_some (at_node weights root) 0 so_far.start in
+      at_most_trans (at_node weights v) (y.0 + weight_of steps) (weight_of steps) (follows root steps v y.0 y.1 walk) (omega (arith, y.2))
 
   pub search_ends : AreLeastWeights network inside root weights
   search_ends = record {
     count = so_far.count;
     least = λ v w below here. record {
       attained = so_far.sound v w here;
-      least = λ steps walk. subst (λ o. IsAtMost o (weight_of steps)) here (from_root steps v walk) };
+      least = λ steps walk. subst (λ o. IsAtMost o (weight_of steps)) here (from_root steps v walk);
+    };
     unreached = λ v below here steps walk. subst (λ o. IsAtMost o (weight_of steps)) here (from_root steps v walk);
-    bounded = λ v w below here. so_far.bounded v w here
+    bounded = λ v w below here. so_far.bounded v w here;
   }

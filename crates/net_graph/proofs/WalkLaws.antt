@@ -1,6 +1,6 @@
 -- Laws of walks, of their weights and of least weights.
-use Rattle.std.proofs.Common.{◌≡◌, ◌≢◌, ◌⊎◌, ℕ, ◌+◌, ◌<◌, ◌≤◌, Bool, true, false, List, [], ◌∷◌, ◌++◌, length, get_or, refl, sym, ◌∙◌, ap, subst, inl, inr, arith, eqb}
-use Rattle.std.specs.Prelude.{Contains, All, ◌↔◌}
+use Rattle.std.proofs.Common.{◌≡◌, ◌≢◌, ℕ, ◌+◌, ◌<◌, ◌≤◌, Bool, true, false, List, [], ◌∷◌, ◌++◌, length, refl, sym, ◌∙◌, subst, inl, inr, arith}
+use Rattle.std.specs.Prelude.{All, ◌↔◌}
 use Rattle.std.proofs.lemmas.List.Elements.{All-contains}
 use Rattle.std.proofs.lemmas.Bool.{cases_eq}
 use Rattle.net_graph.specs.declared.edge.Edge.{Edge}
@@ -14,10 +14,10 @@ join_turned edges u v w (inr h) = inl h
 -- what an edge joins lies below n, and its weight is positive
 pub join_edge : (n : ℕ) (edges : List Edge) (u v w : ℕ) → All (IsEdge n) edges → Joins edges u v w → (u < n) × (v < n) × IsEdge n (make_edge u v w)
 join_edge n edges u v w all (inl h) =
-  let e = All-contains (IsEdge n) edges (make_edge u v w) all h in (e.a_below, e.b_below, e)
+    let e = All-contains (IsEdge n) edges (make_edge u v w) all h in (e.a_below, e.b_below, e)
 join_edge n edges u v w all (inr h) =
-  let e = All-contains (IsEdge n) edges (make_edge v u w) all h in
-  (e.b_below, e.a_below, record { a_below = e.b_below; b_below = e.a_below; positive = e.positive; light = e.light })
+    let e = All-contains (IsEdge n) edges (make_edge v u w) all h in
+    (e.b_below, e.a_below, record { a_below = e.b_below; b_below = e.a_below; positive = e.positive; light = e.light })
 
 pub walk_begins : (edges : List Edge) (inside : ℕ → Bool) (u : ℕ) (steps : List Step) (v : ℕ) → IsWalk edges inside u steps v → inside u ≡ true
 walk_begins edges inside u [] v walk = walk.0
@@ -28,10 +28,10 @@ walk_ends edges inside u [] v walk = subst (λ x. inside x ≡ true) walk.1 walk
 walk_ends edges inside u (step ∷ steps) v walk = walk_ends edges inside step.node steps v walk.2
 
 pub walk-append : (edges : List Edge) (inside : ℕ → Bool) (u : ℕ) (steps : List Step) (v : ℕ) (more : List Step) (x : ℕ)
-  → IsWalk edges inside u steps v → IsWalk edges inside v more x → IsWalk edges inside u (steps ++ more) x
+    → IsWalk edges inside u steps v → IsWalk edges inside v more x → IsWalk edges inside u (steps ++ more) x
 walk-append edges inside u [] v more x walk next = subst (λ y. IsWalk edges inside y more x) (sym walk.1) next
 walk-append edges inside u (step ∷ steps) v more x walk next =
-  (walk.0, walk.1, walk-append edges inside step.node steps v more x walk.2 next)
+    (walk.0, walk.1, walk-append edges inside step.node steps v more x walk.2 next)
 
 pub weight_of-append : (steps more : List Step) → weight_of (steps ++ more) ≡ weight_of steps + weight_of more
 weight_of-append [] more = omega arith
@@ -39,59 +39,74 @@ weight_of-append (step ∷ steps) more = omega (arith, weight_of-append steps mo
 
 -- one more step at the end
 pub walk_further : (edges : List Edge) (inside : ℕ → Bool) (u v x w c : ℕ)
-  → IsWalkWeight edges inside u v w → inside x ≡ true → Joins edges v x c → IsWalkWeight edges inside u x (w + c)
+    → IsWalkWeight edges inside u v w → inside x ≡ true → Joins edges v x c → IsWalkWeight edges inside u x (w + c)
 walk_further edges inside u v x w c so_far is_inside joined =
-  let last : List Step = record { node = x; weight = c } ∷ [] in
-  record {
-    steps = so_far.steps ++ last;
-    walk = walk-append edges inside u so_far.steps v last x so_far.walk
-      (walk_ends edges inside u so_far.steps v so_far.walk, joined, (is_inside, refl));
-    sum = omega (arith, weight_of-append so_far.steps last, so_far.sum)
-  }
+    let last : List Step = record { node = x; weight = c } ∷ [] in
+    record {
+      steps = so_far.steps ++ last;
+      walk = walk-append edges inside u so_far.steps v last x so_far.walk
+          (walk_ends edges inside u so_far.steps v so_far.walk, joined, (is_inside, refl));
+      sum = omega (arith, weight_of-append so_far.steps last, so_far.sum);
+    }
 
 pub walk_turned : (edges : List Edge) (inside : ℕ → Bool) (u : ℕ) (steps : List Step) (v : ℕ)
-  → IsWalk edges inside u steps v → IsWalkWeight edges inside v u (weight_of steps)
+    → IsWalk edges inside u steps v → IsWalkWeight edges inside v u (weight_of steps)
 walk_turned edges inside u [] v walk =
-  record { steps = []; walk = (subst (λ x. inside x ≡ true) walk.1 walk.0, sym walk.1); sum = refl }
+    record { steps = []; walk = (subst (λ x. inside x ≡ true) walk.1 walk.0, sym walk.1); sum = refl }
 walk_turned edges inside u (step ∷ steps) v walk =
-  let back = walk_turned edges inside step.node steps v walk.2 in
-  let whole = walk_further edges inside v step.node u (weight_of steps) step.weight back walk.0
+    let back = walk_turned edges inside step.node steps v walk.2 in
+    let whole = walk_further edges inside v step.node u (weight_of steps) step.weight back walk.0
     (join_turned edges u step.node step.weight walk.1) in
-  record { steps = whole.steps; walk = whole.walk; sum = omega (arith, whole.sum) }
+    record { steps = whole.steps; walk = whole.walk; sum = omega (arith, whole.sum) }
 
 pub least_weight_one : (edges : List Edge) (inside : ℕ → Bool) (u v w x : ℕ)
-  → IsLeastWeight edges inside u v w → IsLeastWeight edges inside u v x → w ≡ x
+    → IsLeastWeight edges inside u v w → IsLeastWeight edges inside u v x → w ≡ x
 least_weight_one edges inside u v w x p q =
-  omega (arith, p.least q.attained.steps q.attained.walk, q.least p.attained.steps p.attained.walk, p.attained.sum, q.attained.sum)
+    omega (arith, p.least q.attained.steps q.attained.walk, q.least p.attained.steps p.attained.walk, p.attained.sum, q.attained.sum)
 
 pub least_weight_back : (edges : List Edge) (inside : ℕ → Bool) (u v w : ℕ)
-  → IsLeastWeight edges inside u v w → IsLeastWeight edges inside v u w
+    → IsLeastWeight edges inside u v w → IsLeastWeight edges inside v u w
 least_weight_back edges inside u v w p =
-  let back = walk_turned edges inside u p.attained.steps v p.attained.walk in
-  record {
-    attained = record { steps = back.steps; walk = back.walk; sum = back.sum ∙ p.attained.sum };
-    least = λ steps walk.
-      let there = walk_turned edges inside v steps u walk in
-      omega (arith, p.least there.steps there.walk, there.sum)
-  }
+    let back = walk_turned edges inside u p.attained.steps v p.attained.walk in
+    record {
+      attained = record { steps = back.steps; walk = back.walk; sum = back.sum ∙ p.attained.sum };
+      least = λ steps walk.
+          let there = walk_turned edges inside v steps u walk in
+          omega (arith, p.least there.steps there.walk, there.sum);
+    }
 
 pub unreached_back : (edges : List Edge) (inside : ℕ → Bool) (u v : ℕ)
-  → IsUnreached edges inside u v → IsUnreached edges inside v u
+    → IsUnreached edges inside u v → IsUnreached edges inside v u
 unreached_back edges inside u v none steps walk =
-  let there = walk_turned edges inside v steps u walk in none there.steps there.walk
+    let there = walk_turned edges inside v steps u walk in none there.steps there.walk
 
 pub triangle : (edges : List Edge) (inside : ℕ → Bool) (u v x a b c : ℕ)
-  → IsLeastWeight edges inside u v a → IsLeastWeight edges inside v x b → IsLeastWeight edges inside u x c → c ≤ a + b
+    → IsLeastWeight edges inside u v a → IsLeastWeight edges inside v x b → IsLeastWeight edges inside u x c → c ≤ a + b
 triangle edges inside u v x a b c p q r =
-  omega (arith,
-    r.least (p.attained.steps ++ q.attained.steps)
-      (walk-append edges inside u p.attained.steps v q.attained.steps x p.attained.walk q.attained.walk),
-    weight_of-append p.attained.steps q.attained.steps, p.attained.sum, q.attained.sum)
+    omega (
+      arith,
+      r.least (p.attained.steps ++ q.attained.steps)
+          (walk-append edges inside u p.attained.steps v q.attained.steps x p.attained.walk q.attained.walk),
+      weight_of-append p.attained.steps q.attained.steps,
+      p.attained.sum,
+      q.attained.sum,
+    )
 
 pub least_of_step : (edges : List Edge) (inside : ℕ → Bool) (u v w x : ℕ) → inside u ≡ true → inside v ≡ true
-  → Joins edges u v x → IsLeastWeight edges inside u v w → w ≤ x
+    → Joins edges u v x → IsLeastWeight edges inside u v w → w ≤ x
 least_of_step edges inside u v w x at_u at_v joined p =
-  omega (arith, p.least (record { node = v; weight = x } ∷ []) (at_u, joined, (at_v, refl)))
+    omega (arith, p.least (record { node = v; weight = x } ∷ []) (at_u, joined, (at_v, refl)))
+
+walk_positive : (n : ℕ) (edges : List Edge) (inside : ℕ → Bool) → All (IsEdge n) edges → (u : ℕ) (steps : List Step) (v : ℕ) → u ≢ v
+    → IsWalk edges inside u steps v → 1 ≤ weight_of steps
+walk_positive n edges inside all u [] v other walk = absurd (other walk.1)
+walk_positive n edges inside all u (step ∷ steps) v other walk =
+    omega (arith, (join_edge n edges u step.node step.weight all walk.1).2.positive)
+
+pub least_positive : (n : ℕ) (edges : List Edge) (inside : ℕ → Bool) (u v w : ℕ) → All (IsEdge n) edges → u ≢ v
+    → IsLeastWeight edges inside u v w → 1 ≤ w
+least_positive n edges inside u v w all other p =
+    omega (arith, walk_positive n edges inside all u p.attained.steps v other p.attained.walk, p.attained.sum)
 
 -- each edge of the one list that isn't a loop has one of the other list between its ends that is no heavier
 abbrev pub Covers : List Edge → List Edge → Type 0
@@ -105,91 +120,96 @@ pub record IsNoHeavier (edges : List Edge) (inside : ℕ → Bool) (u v w : ℕ)
 
 walk_skipped : (edges : List Edge) (inside : ℕ → Bool) (u y v w c : ℕ) → u ≡ y → IsNoHeavier edges inside y v w → IsNoHeavier edges inside u v (c + w)
 walk_skipped edges inside u y v w c e rest =
-  record { steps = rest.steps; walk = subst (λ z. IsWalk edges inside z rest.steps v) (sym e) rest.walk; light = omega (arith, rest.light) }
+    record { steps = rest.steps; walk = subst (λ z. IsWalk edges inside z rest.steps v) (sym e) rest.walk; light = omega (arith, rest.light) }
 
 walk_replaced : (edges : List Edge) (inside : ℕ → Bool) (u y v w c x : ℕ) → inside u ≡ true → Joins edges u y x → x ≤ c
-  → IsNoHeavier edges inside y v w → IsNoHeavier edges inside u v (c + w)
+    → IsNoHeavier edges inside y v w → IsNoHeavier edges inside u v (c + w)
 walk_replaced edges inside u y v w c x at_u joined light rest =
-  record { steps = record { node = y; weight = x } ∷ rest.steps; walk = (at_u, joined, rest.walk); light = omega (arith, rest.light, light) }
+    record { steps = record { node = y; weight = x } ∷ rest.steps; walk = (at_u, joined, rest.walk); light = omega (arith, rest.light, light) }
 
 pub walk_covered : (old new : List Edge) → Covers old new → (inside : ℕ → Bool) (u : ℕ) (steps : List Step) (v : ℕ)
-  → IsWalk old inside u steps v → IsNoHeavier new inside u v (weight_of steps)
+    → IsWalk old inside u steps v → IsNoHeavier new inside u v (weight_of steps)
 walk_covered old new covers inside u [] v walk = record { steps = []; walk = walk; light = omega arith }
 walk_covered old new covers inside u (step ∷ steps) v walk =
-  let rest = walk_covered old new covers inside step.node steps v walk.2 in
-  elim (cases_eq u step.node) [
-    inl same ↦ walk_skipped new inside u step.node v (weight_of steps) step.weight same rest
-  | inr other ↦
-      let found = covers u step.node step.weight other walk.1 in
-      walk_replaced new inside u step.node v (weight_of steps) step.weight found.0 walk.0 found.1 found.2 rest
-  ]
+    let rest = walk_covered old new covers inside step.node steps v walk.2 in
+    elim (cases_eq u step.node) [
+      | inl same ↦ walk_skipped new inside u step.node v (weight_of steps) step.weight same rest
+      | inr other ↦
+          let found = covers u step.node step.weight other walk.1 in
+          walk_replaced new inside u step.node v (weight_of steps) step.weight found.0 walk.0 found.1 found.2 rest
+    ]
 
 least_kept : (old new : List Edge) → Covers old new → Covers new old → (inside : ℕ → Bool) (u v w : ℕ)
-  → IsLeastWeight old inside u v w → IsLeastWeight new inside u v w
+    → IsLeastWeight old inside u v w → IsLeastWeight new inside u v w
 least_kept old new there back inside u v w p =
-  let found = walk_covered old new there inside u p.attained.steps v p.attained.walk in
-  let again = walk_covered new old back inside u found.steps v found.walk in
-  record {
-    attained = record {
-      steps = found.steps; walk = found.walk;
-      sum = omega (arith, found.light, again.light, p.attained.sum, p.least again.steps again.walk) };
-    least = λ steps walk.
-      let over = walk_covered new old back inside u steps v walk in
-      omega (arith, p.least over.steps over.walk, over.light)
-  }
+    let found = walk_covered old new there inside u p.attained.steps v p.attained.walk in
+    let again = walk_covered new old back inside u found.steps v found.walk in
+    record {
+      attained = record {
+        steps = found.steps;
+        walk = found.walk;
+        sum = omega (arith, found.light, again.light, p.attained.sum, p.least again.steps again.walk);
+      };
+      least = λ steps walk.
+          let over = walk_covered new old back inside u steps v walk in
+          omega (arith, p.least over.steps over.walk, over.light);
+    }
 
 reached_kept : (old new : List Edge) → Covers old new → (inside : ℕ → Bool) (u v : ℕ)
-  → IsReached old inside u v → IsReached new inside u v
+    → IsReached old inside u v → IsReached new inside u v
 reached_kept old new there inside u v p =
-  let found = walk_covered old new there inside u p.steps v p.walk in
-  record { steps = found.steps; walk = found.walk }
+    let found = walk_covered old new there inside u p.steps v p.walk in
+    record { steps = found.steps; walk = found.walk }
 
 unreached_kept : (old new : List Edge) → Covers new old → (inside : ℕ → Bool) (u v : ℕ)
-  → IsUnreached old inside u v → IsUnreached new inside u v
+    → IsUnreached old inside u v → IsUnreached new inside u v
 unreached_kept old new back inside u v none steps walk =
-  let found = walk_covered new old back inside u steps v walk in none found.steps found.walk
+    let found = walk_covered new old back inside u steps v walk in none found.steps found.walk
 
 pub same_walks : (old new : List Edge) → Covers old new → Covers new old → SameWalks old new
 same_walks old new there back = record {
   least = λ inside u v w. (least_kept old new there back inside u v w, least_kept new old back there inside u v w);
   reached = λ inside u v. (reached_kept old new there inside u v, reached_kept new old back inside u v);
-  unreached = λ inside u v. (unreached_kept old new back inside u v, unreached_kept new old there inside u v)
+  unreached = λ inside u v. (unreached_kept old new back inside u v, unreached_kept new old there inside u v);
 }
 
 -- a walk stays inside a test that holds wherever another does, below n
 pub walk_widened : (n : ℕ) (edges : List Edge) (inside other : ℕ → Bool) → All (IsEdge n) edges
-  → ((x : ℕ) → x < n → inside x ≡ true → other x ≡ true)
-  → (u : ℕ) (steps : List Step) (v : ℕ) → u < n → IsWalk edges inside u steps v → IsWalk edges other u steps v
+    → ((x : ℕ) → x < n → inside x ≡ true → other x ≡ true)
+    → (u : ℕ) (steps : List Step) (v : ℕ) → u < n → IsWalk edges inside u steps v → IsWalk edges other u steps v
 walk_widened n edges inside other all wider u [] v below walk = (wider u below walk.0, walk.1)
 walk_widened n edges inside other all wider u (step ∷ steps) v below walk =
-  let joined = join_edge n edges u step.node step.weight all walk.1 in
-  (wider u below walk.0, walk.1, walk_widened n edges inside other all wider step.node steps v joined.1 walk.2)
+    let joined = join_edge n edges u step.node step.weight all walk.1 in
+    (wider u below walk.0, walk.1, walk_widened n edges inside other all wider step.node steps v joined.1 walk.2)
 
-least_widened : (n : ℕ) (edges : List Edge) (inside other : ℕ → Bool) → All (IsEdge n) edges
-  → ((x : ℕ) → x < n → inside x ≡ true → other x ≡ true) → ((x : ℕ) → x < n → other x ≡ true → inside x ≡ true)
-  → (u v w : ℕ) → u < n → IsLeastWeight edges inside u v w → IsLeastWeight edges other u v w
+pub least_widened : (n : ℕ) (edges : List Edge) (inside other : ℕ → Bool) → All (IsEdge n) edges
+    → ((x : ℕ) → x < n → inside x ≡ true → other x ≡ true) → ((x : ℕ) → x < n → other x ≡ true → inside x ≡ true)
+    → (u v w : ℕ) → u < n → IsLeastWeight edges inside u v w → IsLeastWeight edges other u v w
 least_widened n edges inside other all there back u v w below p = record {
   attained = record {
     steps = p.attained.steps;
     walk = walk_widened n edges inside other all there u p.attained.steps v below p.attained.walk;
-    sum = p.attained.sum };
-  least = λ steps walk. p.least steps (walk_widened n edges other inside all back u steps v below walk)
+    sum = p.attained.sum;
+  };
+  least = λ steps walk. p.least steps (walk_widened n edges other inside all back u steps v below walk);
 }
 
 everywhere_true : (allowed : List Bool) (n : ℕ) → length allowed ≡ n → All (λ x. x ≡ true) allowed
-  → (x : ℕ) → x < n → everywhere x ≡ true → among allowed x ≡ true
+    → (x : ℕ) → x < n → everywhere x ≡ true → among allowed x ≡ true
 everywhere_true allowed n count all x below h = all x false (omega arith)
 
 pub least_everywhere : (n : ℕ) (edges : List Edge) (allowed : List Bool) (u v w : ℕ)
-  → All (IsEdge n) edges → length allowed ≡ n → All (λ x. x ≡ true) allowed → u < n
-  → IsLeastWeight edges (among allowed) u v w ↔ IsLeastWeight edges everywhere u v w
-least_everywhere n edges allowed u v w all count true_all below =
-  (least_widened n edges (among allowed) everywhere all (λ x b h. refl) (everywhere_true allowed n count true_all) u v w below,
-   least_widened n edges everywhere (among allowed) all (everywhere_true allowed n count true_all) (λ x b h. refl) u v w below)
+    → All (IsEdge n) edges → length allowed ≡ n → All (λ x. x ≡ true) allowed → u < n
+    → IsLeastWeight edges (among allowed) u v w ↔ IsLeastWeight edges everywhere u v w
+least_everywhere n edges allowed u v w all count true_all below = (
+  least_widened n edges (among allowed) everywhere all (λ x b h. refl) (everywhere_true allowed n count true_all) u v w below,
+  least_widened n edges everywhere (among allowed) all (everywhere_true allowed n count true_all) (λ x b h. refl) u v w below,
+)
 
 pub unreached_everywhere : (n : ℕ) (edges : List Edge) (allowed : List Bool) (u v : ℕ)
-  → All (IsEdge n) edges → length allowed ≡ n → All (λ x. x ≡ true) allowed → u < n
-  → IsUnreached edges (among allowed) u v ↔ IsUnreached edges everywhere u v
-unreached_everywhere n edges allowed u v all count true_all below =
-  (λ none steps walk. none steps (walk_widened n edges everywhere (among allowed) all (everywhere_true allowed n count true_all) u steps v below walk),
-   λ none steps walk. none steps (walk_widened n edges (among allowed) everywhere all (λ x b h. refl) u steps v below walk))
+    → All (IsEdge n) edges → length allowed ≡ n → All (λ x. x ≡ true) allowed → u < n
+    → IsUnreached edges (among allowed) u v ↔ IsUnreached edges everywhere u v
+unreached_everywhere n edges allowed u v all count true_all below = (
+  λ none steps walk. none steps (walk_widened n edges everywhere (among allowed) all (everywhere_true allowed n count true_all) u steps v below walk),
+  λ none steps walk. none steps (walk_widened n edges (among allowed) everywhere all (λ x b h. refl) u steps v below walk),
+)

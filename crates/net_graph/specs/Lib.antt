@@ -5,3 +5,4 @@ pub mod Layout
 pub mod Table
 pub mod Faults
 pub mod Search
+pub mod Parents

@@ -1,15 +1,16 @@
 //! Graphs, as contracts see them: a number of nodes and a list of edges.
 
-ghost use Rattle.std.specs.Prelude.{◌≡◌, ◌<◌, ◌≤◌, ℕ, All, IfErr, IfNone, IfOk, IfSome, IsTrue, length, vec_len};
+ghost use Rattle.std.specs.Prelude.{◌≡◌, ◌<◌, ◌≤◌, ℕ, All, IfErr, IfNone, IfOk, IfSome, IsTrue, length};
 ghost use Rattle.net_graph.specs.Network.{IsEdge, IsGraphOf, IsNetwork};
 ghost use Rattle.net_graph.specs.Faults.{IsGraphFault};
-ghost use Rattle.net_graph.specs.Trees.{AreLeastWeights, at_node};
+ghost use Rattle.net_graph.specs.Trees.{AreLeastWeights, AreParents, at_node};
 ghost use Rattle.net_graph.specs.Walks.{among};
 
 use crate::edge::{Edge, MAX_NODES};
 use crate::fault::{GraphFault, OutOfMemory};
 use crate::neighbours::Neighbours;
-use crate::search::weights_from;
+use crate::parents::parents_in;
+use crate::search::search_from;
 use crate::tree::Tree;
 use std::alloc::Global;
 use std::marker::Model;
@@ -42,7 +43,7 @@ impl Graph {
     {
         let neighbours = Neighbours::new(alloc, n, edges)?;
         let allowed = vec![in alloc; true; n as usize]?;
-        let weights = weights_from(alloc, &neighbours, &allowed, 0)?;
+        let weights = search_from(alloc, &neighbours, &allowed, 0)?;
         match first_apart(&weights) {
             Some(node) => Err(GraphFault::Apart { node }),
             None => Ok(Graph { neighbours }),
@@ -57,15 +58,32 @@ impl Graph {
         self.neighbours.nodes()
     }
 
+    /// For each node the least weight of a walk from `root` through the nodes at which `allowed` holds true, `None`
+    /// where there is no walk.
+    pub fn weights_from(
+        &self,
+        alloc: Global,
+        allowed: &[bool],
+        root: u32,
+    ) -> Result<Vec<Option<u64>>, OutOfMemory>
+        requires count { length allowed.now ≡ self.now.nodes }
+        requires root { IsTrue (among allowed.now root) }
+        ensures weights { IfOk result (λ weights. AreLeastWeights self.now (among allowed.now) root weights.items) }
+        ensures sound { IsNetwork self.now }
+    {
+        search_from(alloc, &self.neighbours, allowed, root)
+    }
+
     /// The least walks from `root` through the nodes at which `allowed` holds true.
     pub fn tree_from(&self, alloc: Global, allowed: &[bool], root: u32) -> Result<Tree, OutOfMemory>
         requires count { length allowed.now ≡ self.now.nodes }
         requires root { IsTrue (among allowed.now root) }
         ensures weights { IfOk result (λ tree. AreLeastWeights self.now (among allowed.now) root tree.weight.items) }
-        ensures parents { IfOk result (λ tree. vec_len tree.parent ≡ self.now.nodes) }
+        ensures parents { IfOk result (λ tree. AreParents self.now root tree.weight.items tree.parent.items) }
+        ensures sound { IsNetwork self.now }
     {
-        let weight = weights_from(alloc, &self.neighbours, allowed, root)?;
-        let parent = vec![in alloc; None; self.nodes() as usize]?;
+        let weight = search_from(alloc, &self.neighbours, allowed, root)?;
+        let parent = parents_in(alloc, &self.neighbours, &weight)?;
         Ok(Tree { weight, parent })
     }
 }
@@ -83,4 +101,57 @@ fn first_apart(weights: &[Option<u64>]) -> Option<u32>
         }
     }
     None
+}
+
+#[cfg(test)]
+mod tests {
+    use super::*;
+    use std::test::Fail;
+
+    fn edge(a: u32, b: u32, weight: u64) -> Edge
+        ensures { result ≡ record { a = a; b = b; weight = weight } }
+    {
+        Edge { a, b, weight }
+    }
+
+    #[test]
+    fn a_line_of_four(rt: HostRuntime) -> Result<(), Fail> {
+        let edges = [edge(0, 1, 1), edge(1, 2, 1), edge(2, 3, 1)];
+        let graph = Graph::new(rt.alloc(), 4, &edges)?;
+        assert_eq!(rt; graph.nodes(), 4);
+        let tree = graph.tree_from(rt.alloc(), &[true; 4], 0)?;
+        assert_eq!(rt;
+            tree.weight.as_slice(),
+            [Some(0), Some(1), Some(2), Some(3)].as_slice()
+        );
+        Ok(())
+    }
+
+    #[test]
+    fn an_allowed_set_that_cuts(rt: HostRuntime) -> Result<(), Fail> {
+        let edges = [edge(0, 1, 1), edge(1, 2, 1), edge(2, 3, 1), edge(0, 3, 9)];
+        let graph = Graph::new(rt.alloc(), 4, &edges)?;
+        let tree = graph.tree_from(rt.alloc(), &[true, false, true, true], 0)?;
+        assert_eq!(rt;
+            tree.weight.as_slice(),
+            [Some(0), None, Some(10), Some(9)].as_slice()
+        );
+        Ok(())
+    }
+
+    #[test]
+    fn the_lightest_edge_counts(rt: HostRuntime) -> Result<(), Fail> {
+        let edges = [edge(0, 1, 5), edge(1, 0, 2), edge(0, 0, 9)];
+        let graph = Graph::new(rt.alloc(), 2, &edges)?;
+        let tree = graph.tree_from(rt.alloc(), &[true; 2], 1)?;
+        assert_eq!(rt; tree.weight.as_slice(), [Some(2), Some(0)].as_slice());
+        Ok(())
+    }
+
+    #[test]
+    fn a_node_apart(rt: HostRuntime) -> Result<(), Fail> {
+        let fault = Graph::new(rt.alloc(), 3, &[edge(0, 1, 1)]).err();
+        assert!(rt; matches!(fault, Some(GraphFault::Apart { node: 2 })));
+        Ok(())
+    }
 }

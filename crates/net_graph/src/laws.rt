@@ -1,6 +1,6 @@
 //! Laws of least weights, for the proofs of callers: each function does nothing, and its clause is a law.
 
-ghost use Rattle.std.specs.Prelude.{◌≡◌, ◌+◌, ◌<◌, ◌≤◌, ◌↔◌, ℕ, Bool, true, List, All, length};
+ghost use Rattle.std.specs.Prelude.{◌≡◌, ◌≢◌, ◌+◌, ◌<◌, ◌≤◌, ◌↔◌, ℕ, Bool, true, List, All, length};
 ghost use Rattle.net_graph.specs.declared.edge.Edge.{Edge};
 ghost use Rattle.net_graph.specs.Network.{IsEdge};
 ghost use Rattle.net_graph.specs.Walks.{Joins, IsLeastWeight, IsUnreached, IsReached, among, everywhere};
@@ -39,6 +39,12 @@ pub fn least_weight_to_itself()
 pub fn least_weight_of_a_step()
     ensures { (edges : List Edge) (inside : ℕ → Bool) (u v w x : ℕ) → inside u ≡ true → inside v ≡ true
         → Joins edges u v x → IsLeastWeight edges inside u v w → w ≤ x }
+{}
+
+/// The least weight between different nodes is positive.
+pub fn least_weight_is_positive()
+    ensures { (n : ℕ) (edges : List Edge) (inside : ℕ → Bool) (u v w : ℕ) → All (IsEdge n) edges → u ≢ v
+        → IsLeastWeight edges inside u v w → 1 ≤ w }
 {}
 
 /// A node that has a least weight is reached, and one that is unreached has none.

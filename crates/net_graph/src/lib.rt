@@ -6,6 +6,7 @@ mod fault;
 mod graph;
 mod laws;
 mod neighbours;
+mod parents;
 mod search;
 mod table;
 mod tree;
@@ -14,8 +15,8 @@ pub use edge::{Edge, MAX_NODES, MAX_WEIGHT};
 pub use fault::{GraphFault, OutOfMemory};
 pub use graph::Graph;
 pub use laws::{
-    all_allowed_is_everywhere, least_weight_is_one, least_weight_is_reached,
-    least_weight_of_a_step, least_weight_to_itself, least_weight_turned, least_weights_add_up,
-    unreached_turned,
+    all_allowed_is_everywhere, least_weight_is_one, least_weight_is_positive,
+    least_weight_is_reached, least_weight_of_a_step, least_weight_to_itself, least_weight_turned,
+    least_weights_add_up, unreached_turned,
 };
 pub use tree::Tree;

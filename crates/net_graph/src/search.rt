@@ -10,7 +10,7 @@ use crate::neighbours::{Arc, Neighbours};
 use std::alloc::{AllocError, Global};
 
 // The least weight of a walk from the root to each node through the allowed nodes.
-pub(crate) fn weights_from(
+pub(crate) fn search_from(
     alloc: Global,
     neighbours: &Neighbours,
     allowed: &[bool],

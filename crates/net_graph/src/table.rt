@@ -42,8 +42,8 @@ fn note(n: usize, edge: &Edge, table: &mut [Option<u32>])
     }
 }
 
-// Lowers a cell to a weight.
-fn lower(cell: &mut Option<u32>, weight: u32)
+// Lowers a number that may be missing to another.
+pub(crate) fn lower(cell: &mut Option<u32>, weight: u32)
     ensures { cell.new ≡ lowered cell.old weight }
 {
     *cell = Some(cell.map_or(weight, |least| least.min(weight)));

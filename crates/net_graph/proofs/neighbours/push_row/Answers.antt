@@ -9,9 +9,9 @@ loop-target-init c = rw arcs_of_row-nil (sym (append-nil c.args.arcs.now.items))
 
 pub loop-target-preserved : goal.loop-target-preserved
 loop-target-preserved c =
-  row_step c.args.arcs.now.items c.loop-target.arcs.items c.match-cell.arcs.items c.args.row.now c.loop-target.target
+    row_step c.args.arcs.now.items c.loop-target.arcs.items c.match-cell.arcs.items c.args.row.now c.loop-target.target
     c.loop-target.invariant
     (elim c.match-cell.branch [
-      in-Some+in_ok-push w ↦ rw w.in-Some.is (cc (w.in_ok-push.ensures.items))
-    | in_default w ↦ rw (w.in_default.is, append-nil) (cc)
+      | in-Some+in_ok-push w ↦ rw w.in-Some.is (cc (w.in_ok-push.ensures.items))
+      | in_default w ↦ rw (w.in_default.is, append-nil) (cc)
     ])

@@ -7,10 +7,10 @@ use Rattle.net_graph.proofs.search.lightest_unsettled.Goals.{then-waits, else-wa
 
 pub loop-node-preserved : goal.loop-node-preserved
 loop-node-preserved c = elim c.if-waits.branch [
-    then-waits w ↦ subst (λ (best : Option Candidate). IsLightestBelow (c.loop-node.node + 1) c.args.unsettled.now c.args.weights.now best)
+  | then-waits w ↦ subst (λ (best : Option Candidate). IsLightestBelow (c.loop-node.node + 1) c.args.unsettled.now c.args.weights.now best)
       (sym (w.best-is ∙ w.lighter-best.ensures))
       (scan_takes c.loop-node.node c.args.unsettled.now c.args.weights.now w.if-waits.true c.loop-node.best c.loop-node.invariant)
   | else-waits w ↦ subst (λ (best : Option Candidate). IsLightestBelow (c.loop-node.node + 1) c.args.unsettled.now c.args.weights.now best)
       (sym w.best-is)
       (scan_skips c.loop-node.node c.args.unsettled.now c.args.weights.now c.loop-node.best w.if-waits.false c.loop-node.invariant)
-  ]
+]

@@ -1,6 +1,6 @@
 use Rattle.net_graph.specs.Walks.{among}
 use Rattle.net_graph.proofs.Searching.{IsSearch, unsettled_count}
-use Rattle.net_graph.proofs.search.weights_from.Given as goal
+use Rattle.net_graph.proofs.search.search_from.Given as goal
 
 abbrev pub invariant-loop-lightest : goal.invariant-loop-lightest
 invariant-loop-lightest l = IsSearch l.neighbours (among l.allowed) l.root l.unsettled.items l.weights.items

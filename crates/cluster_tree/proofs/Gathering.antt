@@ -1,0 +1,84 @@
+-- The members and their weights, one node after another.
+use Rattle.std.proofs.Common.{◌≡◌, ℕ, ◌+◌, ◌<◌, Bool, true, false, List, [], ◌∷◌, ◌++◌, Option, Some, length, refl, sym, ◌∙◌, ap, subst, inl, inr, arith}
+use Rattle.std.proofs.lemmas.List.{length_push, get_or_append_left, get_or_push}
+use Rattle.std.proofs.lemmas.Bool.{cases_eq, cases_lt}
+use Rattle.net_graph.specs.Walks.{among}
+use Rattle.net_graph.specs.Trees.{at_node}
+use Rattle.node_set.specs.Nodes.{Nodes, AreNodes}
+use Rattle.node_set.specs.Ascending.{has, passing}
+use Rattle.node_set.proofs.Ascending.{has-passing, passing_over, ascending-passing, same_members, below-has}
+use Rattle.cluster_tree.specs.declared.weighing.Weighed.{Weighed}
+use Rattle.cluster_tree.specs.Tree.{weight_beside}
+use Rattle.cluster_tree.specs.Weighing.{AreFlagsBelow, AreWeighedBelow}
+use Rattle.cluster_tree.proofs.Places.{true_or_false, beside_old, beside_new, passing_takes, passing_skips}
+
+pub no_flags : (members : List ℕ) → AreFlagsBelow 0 members []
+no_flags members = record { count = refl; each = λ v below. absurd (omega arith) }
+
+pub more_flags : (i : ℕ) (members : List ℕ) (flags next : List Bool) (flag : Bool) → flag ≡ has i members → next ≡ flags ++ flag ∷ []
+    → AreFlagsBelow i members flags → AreFlagsBelow (i + 1) members next
+more_flags i members flags next flag is grown so_far = subst (λ xs. AreFlagsBelow (i + 1) members xs) (sym grown) (record {
+  count = omega (arith, length_push flags flag, so_far.count);
+  each = λ v below. elim (cases_lt v i) [
+    | inl less ↦ get_or_append_left flags (flag ∷ []) false v (omega (arith, so_far.count)) ∙ so_far.each v less
+    | inr more ↦ let same : i ≡ v = omega arith in
+        subst (λ k. among (flags ++ flag ∷ []) k ≡ has k members) same (get_or_push flags flag false i so_far.count ∙ is)
+  ];
+})
+
+below_member : (members : List ℕ) (i v : ℕ) → v < i → has v members ≡ true → has v (passing (λ x. has x members) 0 i) ≡ true
+below_member members i v below member = has-passing (λ x. has x members) v 0 i (omega arith) (omega arith) ∙ member
+
+pub member_taken : (i w : ℕ) (members : List ℕ) (weights : List (Option ℕ)) (old new : Weighed)
+    → has i members ≡ true → at_node weights i ≡ Some w
+    → new.nodes.items ≡ old.nodes.items ++ i ∷ [] → new.weights.items ≡ old.weights.items ++ w ∷ []
+    → AreWeighedBelow i members weights old → AreWeighedBelow (i + 1) members weights new
+member_taken i w members weights old new member weighs nodes_are weights_are so_far = record {
+  nodes = nodes_are ∙ ap (λ xs. xs ++ i ∷ []) so_far.nodes ∙ sym (passing_takes (λ x. has x members) i member);
+  count = omega (arith, ap length nodes_are, ap length weights_are, length_push old.nodes.items i, length_push old.weights.items w, so_far.count);
+  each = λ v below v_member. elim (cases_lt v i) [
+    | inl less ↦ so_far.each v less v_member ∙ ap Some (sym (
+        ap (λ xs. weight_beside v xs new.weights.items) nodes_are
+        ∙ ap (λ xs. weight_beside v (old.nodes.items ++ i ∷ []) xs) weights_are
+        ∙ beside_old v i w old.nodes.items old.weights.items
+        (subst (λ xs. has v xs ≡ true) (sym so_far.nodes) (below_member members i v less v_member)) so_far.count))
+    | inr more ↦ let same : i ≡ v = omega arith in
+        subst (λ k. at_node weights k ≡ Some (weight_beside k new.nodes.items new.weights.items)) same
+        (weighs ∙ ap Some (sym (
+        ap (λ xs. weight_beside i xs new.weights.items) nodes_are
+        ∙ ap (λ xs. weight_beside i (old.nodes.items ++ i ∷ []) xs) weights_are
+        ∙ beside_new i w old.nodes.items old.weights.items
+        (subst (λ xs. has i xs ≡ false) (sym so_far.nodes) (passing_over (λ x. has x members) i 0 i (omega arith))) so_far.count)))
+  ];
+}
+
+pub other_skipped : (i : ℕ) (members : List ℕ) (weights : List (Option ℕ)) (weighed : Weighed)
+    → has i members ≡ false → AreWeighedBelow i members weights weighed → AreWeighedBelow (i + 1) members weights weighed
+other_skipped i members weights weighed other so_far = record {
+  nodes = so_far.nodes ∙ sym (passing_skips (λ x. has x members) i other);
+  count = so_far.count;
+  each = λ v below member. elim (cases_eq v i) [
+    | inl same ↦ absurd (let both : true ≡ false = sym member ∙ ap (λ x. has x members) same ∙ other in cc)
+    | inr apart ↦ so_far.each v (omega arith) member
+  ];
+}
+
+pub no_member : (members : List ℕ) (weights : List (Option ℕ)) (weighed : Weighed) → weighed.nodes.items ≡ [] → weighed.weights.items ≡ []
+    → AreWeighedBelow 0 members weights weighed
+no_member members weights weighed nodes_are weights_are = record {
+  nodes = nodes_are;
+  count = ap length weights_are ∙ sym (ap length nodes_are);
+  each = λ v below member. absurd (omega arith);
+}
+
+-- all members are gathered
+pub all_members : (set : Nodes) → AreNodes set → passing (λ x. has x set.members) 0 set.room ≡ set.members
+all_members set sound =
+    same_members (passing (λ x. has x set.members) 0 set.room) set.members (ascending-passing (λ x. has x set.members) 0 set.room) sound.ascending
+    (λ x. elim (cases_lt x set.room) [
+      | inl below ↦ has-passing (λ y. has y set.members) x 0 set.room (omega arith) (omega arith)
+      | inr past ↦ passing_over (λ y. has y set.members) x 0 set.room (omega arith) ∙ elim (true_or_false (has x set.members)) [
+        | inl member ↦ absurd (omega (arith, below-has set.room x set.members sound.below member))
+        | inr other ↦ sym other
+      ]
+    ])

@@ -1,0 +1,104 @@
+-- From the weights of the members to the tree of the cluster.
+use Rattle.std.proofs.Common.{◌≡◌, ℕ, ◌^◌, ◌<◌, ◌≤◌, Bool, true, List, Option, Some, length, get_or, refl, sym, ◌∙◌, subst, arith}
+use Rattle.std.specs.Prelude.{All, Contains, IfErr, IsErrAnd, Result, Ok, Err}
+use Rattle.std.proofs.lemmas.List.{get_or_default}
+use Rattle.net_graph.specs.Walks.{IsLeastWeight, among}
+use Rattle.net_graph.specs.Network.{Network, IsNetwork}
+use Rattle.net_graph.specs.Trees.{at_node, AreLeastWeights}
+use Rattle.net_graph.proofs.WalkLaws.{walk_widened, least_widened}
+use Rattle.node_set.specs.Nodes.{Nodes, AreNodes}
+use Rattle.node_set.specs.Ascending.{has, IsAscending}
+use Rattle.node_set.proofs.Ascending.{below-has}
+use Rattle.cluster_tree.specs.declared.fault.TreeFault.{TreeFault}
+use Rattle.cluster_tree.specs.declared.fault.TreeFault.TheVariants.{Outside, OutOfMemory}
+use Rattle.cluster_tree.specs.declared.weighing.Weighed.{Weighed}
+use Rattle.cluster_tree.specs.Tree.{weight_beside, within, IsTreeOf, IsKept}
+use Rattle.cluster_tree.specs.Faults.{IsFirstOutside, IsTreeFault}
+use Rattle.cluster_tree.specs.Weighing.{AreFlagsBelow, AreWeighedBelow, IsFirstMissing, IsMissing}
+use Rattle.cluster_tree.proofs.Places.{has_place, place_of, beside_place, beside_contained}
+use Rattle.cluster_tree.proofs.Gathering.{all_members}
+
+-- an error that is handed on
+pub err_passed : {T E : Type 0} (result : Result T E) (e : E) (P : E → Type 0) → IsErrAnd result (λ x. x ≡ e) → P e → IfErr result P
+err_passed (Ok x) e P h p = tt
+err_passed (Err x) e P h p = subst P (sym h) p
+
+module _ (network : Network) (sound : IsNetwork network) (set : Nodes) (nodes : AreNodes set) (room : set.room ≡ network.nodes)
+    (leader : ℕ) (leads : has leader set.members ≡ true) (flags : List Bool) (are_flags : AreFlagsBelow set.room set.members flags) where
+  pub leader_below : leader < network.nodes
+  leader_below = omega (arith, below-has set.room leader set.members nodes.below leads, room)
+
+  pub flags_count : length flags ≡ network.nodes
+  flags_count = are_flags.count ∙ room
+
+  pub leader_flag : among flags leader ≡ true
+  leader_flag = are_flags.each leader (omega (arith, leader_below, room)) ∙ leads
+
+  module _ (weights : List (Option ℕ)) (least : AreLeastWeights network (among flags) leader weights) where
+    to_within : (x : ℕ) → x < network.nodes → among flags x ≡ true → within set.members x ≡ true
+    to_within x below h = sym (are_flags.each x (omega (arith, room))) ∙ h
+
+    from_within : (x : ℕ) → x < network.nodes → within set.members x ≡ true → among flags x ≡ true
+    from_within x below h = are_flags.each x (omega (arith, room)) ∙ h
+
+    least_within : (v w : ℕ) → v < network.nodes → at_node weights v ≡ Some w → IsLeastWeight network.edges (within set.members) leader v w
+    least_within v w below is =
+        least_widened network.nodes network.edges (among flags) (within set.members) sound.limits.edges to_within from_within leader v w leader_below
+        (least.least v w below is)
+
+    pub is_light : (v w : ℕ) → v < set.room → at_node weights v ≡ Some w → w < 2 ^ 32
+    is_light v w below is = omega (arith, least.bounded v w (omega (arith, room)) is, sound.limits.few)
+
+    pub is_outside : (node : ℕ) → IsFirstMissing set weights node → IsFirstOutside network set.members leader node
+    is_outside node missing = record {
+      member = missing.member;
+      unreached = λ steps walk. least.unreached node (omega (arith, missing.below, room)) missing.missing steps
+          (walk_widened network.nodes network.edges (within set.members) (among flags) sound.limits.edges from_within leader steps node leader_below walk);
+      first = λ v less member.
+          let w = missing.first v less member in
+          let reached = least_within v w.0 (omega (arith, below-has set.room v set.members nodes.below member, room)) w.1 in
+          record { steps = reached.attained.steps; walk = reached.attained.walk };
+    }
+
+    pub is_fault : (fault : TreeFault) → IsMissing set weights fault → IsTreeFault network set.members leader fault
+    is_fault (Outside node) missing = is_outside node missing
+    is_fault OutOfMemory missing = tt
+
+    module _ (weighed : Weighed) (are_weighed : AreWeighedBelow set.room set.members weights weighed) where
+      members_are : weighed.nodes.items ≡ set.members
+      members_are = are_weighed.nodes ∙ all_members set nodes
+
+      pub is_tree : IsTreeOf network set.members leader (record { leader = leader; members = weighed.nodes.items; weights = weighed.weights.items })
+      is_tree = record {
+        leader_is = refl;
+        members_are = members_are;
+        each = λ v member.
+            let below : v < set.room = below-has set.room v set.members nodes.below member in
+            least_within v (weight_beside v weighed.nodes.items weighed.weights.items) (omega (arith, below, room)) (are_weighed.each v below member);
+      }
+
+      pub is_kept : (depth : ℕ) → All (λ x. x ≤ depth) weighed.weights.items
+          → (0 < length weighed.weights.items → Contains weighed.weights.items depth)
+          → IsKept (record { leader = leader; members = weighed.nodes.items; weights = weighed.weights.items }) depth
+      is_kept depth bound attained =
+          let ascending : IsAscending weighed.nodes.items = subst (λ xs. IsAscending xs) (sym members_are) nodes.ascending in
+          let leads_here : has leader weighed.nodes.items ≡ true = subst (λ xs. has leader xs ≡ true) (sym members_are) leads in
+          let some = place_of leader weighed.nodes.items leads_here in
+          let at = attained (omega (arith, some.1, are_weighed.count)) in
+          let short : at.0 < length weighed.nodes.items = omega (arith, at.1, are_weighed.count) in
+          record {
+            ascending = ascending;
+            count = are_weighed.count;
+            leads = leads_here;
+            depth_is = record {
+              greatest = λ v member.
+                  let beside = beside_contained v weighed.nodes.items weighed.weights.items ascending member are_weighed.count in
+                  omega (arith, beside.2, bound beside.0 0 beside.1);
+              attained = record {
+                node = get_or weighed.nodes.items at.0 0;
+                member = has_place weighed.nodes.items at.0 short;
+                far = beside_place weighed.nodes.items weighed.weights.items at.0 ascending are_weighed.count short
+                    ∙ get_or_default weighed.weights.items at.0 0 depth at.1 ∙ at.2;
+              };
+            };
+          }

@@ -1,0 +1,10 @@
+//! The tree of least walks inside a cluster, from its leader to its members.
+#![tactic(auto)]
+
+mod fault;
+mod tree;
+mod weighing;
+
+pub use fault::TreeFault;
+pub use net_graph::OutOfMemory;
+pub use tree::ClusterTree;
