@@ -5,4 +5,5 @@ pub mod LayingOut
 pub mod Relaxing
 pub mod Searching
 pub mod Connecting
+pub mod LeastWalks
 pub mod Parenting

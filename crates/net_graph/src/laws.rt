@@ -62,3 +62,16 @@ pub fn all_allowed_is_everywhere()
         → All (IsEdge n) edges → length allowed ≡ n → All (λ x. x ≡ true) allowed → u < n
         → IsUnreached edges (among allowed) u v ↔ IsUnreached edges everywhere u v }
 {}
+
+/// Where a walk leads to a node, one of least weight does.
+pub fn reached_has_a_least_weight()
+    ensures { (n : ℕ) (edges : List Edge) (inside : ℕ → Bool) (u v : ℕ) → All (IsEdge n) edges
+        → IsReached edges inside u v → (w : ℕ) × IsLeastWeight edges inside u v w }
+{}
+
+/// Walks lead back, and on from where they end.
+pub fn reached_both_ways()
+    ensures back { (edges : List Edge) (inside : ℕ → Bool) (u v : ℕ) → IsReached edges inside u v → IsReached edges inside v u }
+    ensures on { (edges : List Edge) (inside : ℕ → Bool) (u v x : ℕ)
+        → IsReached edges inside u v → IsReached edges inside v x → IsReached edges inside u x }
+{}

@@ -17,6 +17,6 @@ pub use graph::Graph;
 pub use laws::{
     all_allowed_is_everywhere, least_weight_is_one, least_weight_is_positive,
     least_weight_is_reached, least_weight_of_a_step, least_weight_to_itself, least_weight_turned,
-    least_weights_add_up, unreached_turned,
+    least_weights_add_up, reached_both_ways, reached_has_a_least_weight, unreached_turned,
 };
 pub use tree::Tree;
