@@ -9,3 +9,4 @@ pub mod OrderLines
 pub mod Answering
 pub mod Words
 pub mod Telling
+pub mod OneAnswer

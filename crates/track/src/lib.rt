@@ -6,6 +6,7 @@ mod directory;
 mod fault;
 mod fields;
 mod input;
+mod laws;
 mod limits;
 mod outcome;
 mod plain;
@@ -17,6 +18,6 @@ mod tests;
 mod top;
 mod transfer;
 
+pub use laws::{flat_plan_is, one_answer, one_meaning};
 pub use limits::{MAX_BYTES, MAX_CALLERS, MAX_CALLS, MAX_EDGES, MAX_K, MAX_NODES, MAX_SUBSCRIBERS};
-pub use plain::one_meaning;
 pub use top::command;

@@ -62,8 +62,3 @@ pub(crate) fn read_plain(alloc: Global, bytes: &[u8]) -> Result<Input, ReadError
         Err(fault) => Err(fault),
     }
 }
-
-/// Bytes say one input only.
-pub fn one_meaning()
-    ensures { (bytes : List ℕ) (one other : Contents) → Says bytes one → Says bytes other → one ≡ other }
-{}
