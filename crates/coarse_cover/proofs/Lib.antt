@@ -1,0 +1,5 @@
+pub mod Lists
+pub mod Growth
+pub mod Phase
+pub mod Whole
+pub mod Marking

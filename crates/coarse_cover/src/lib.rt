@@ -1,0 +1,8 @@
+//! Coarsening of balls into clusters of bounded radius and bounded overlap.
+#![tactic(auto)]
+
+mod cover;
+mod growing;
+mod marks;
+
+pub use cover::{Cluster, Cover};
