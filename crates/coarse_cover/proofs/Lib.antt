@@ -1,5 +1,6 @@
-pub mod Lists
 pub mod Growth
-pub mod Phase
-pub mod Whole
+pub mod Lists
 pub mod Marking
+pub mod Phase
+pub mod Steps
+pub mod Whole

@@ -154,7 +154,7 @@ absorb_end balls marks v nodes x all h before =
     ap (λ (b : Bool). b || has x nodes) (sym (ap (λ (vs : List ℕ). has x (union_of balls vs)) (marked_from_end marks v h) ∙ union_nothing balls x)) ∙ before
 
 -- a list that was written over whole
-pub written : (n : ℕ) (new old : List Bool) → length new ≡ length old → n ≡ length old → take n (new ++ drop (length new) old) ≡ new
+pub written : {A : Type 0} (n : ℕ) (new old : List A) → length new ≡ length old → n ≡ length old → take n (new ++ drop (length new) old) ≡ new
 written n new old same whole = let e : n ≡ length new = whole ∙ sym same in rw (e, take-append_seam) refl
 
 pub nodes_from : (s : Nodes) (n : ℕ) (members : List ℕ) → s.room ≡ n → s.members ≡ members → s ≡ record { room = n; members = members }

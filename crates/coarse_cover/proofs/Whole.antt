@@ -19,10 +19,10 @@ ArePhases balls k left [] = left ≡ []
 ArePhases balls k left (cs ∷ later) = (0 < length cs) × IsPhase balls k (length left) left cs × ArePhases balls k (unhomed cs left) later
 
 -- a phase leaves fewer balls
-phase_fewer : (balls : List (List ℕ)) (k r : ℕ) (left : List ℕ) (cs : List Grown) → IsPhase balls k r left cs → length (unhomed cs left) + length cs ≤ length left
+pub phase_fewer : (balls : List (List ℕ)) (k r : ℕ) (left : List ℕ) (cs : List Grown) → IsPhase balls k r left cs → length (unhomed cs left) + length cs ≤ length left
 phase_fewer balls k r left cs is = omega (arith, phase_count balls k r left cs is, filter_halves (is_homed cs) left)
 
-some_clusters : (balls : List (List ℕ)) (k r v : ℕ) (vs : List ℕ) (cs : List Grown) → IsPhase balls k r (v ∷ vs) cs → 0 < length cs
+pub some_clusters : (balls : List (List ℕ)) (k r v : ℕ) (vs : List ℕ) (cs : List Grown) → IsPhase balls k r (v ∷ vs) cs → 0 < length cs
 some_clusters balls k r v vs [] is = absurd (omega (arith, ap length is))
 some_clusters balls k r v vs (c ∷ cs) is = omega arith
 

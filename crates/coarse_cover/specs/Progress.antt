@@ -1,10 +1,12 @@
 -- How far the making of a cover has come: what is done, followed by what the definition gives for the balls that are left, is what it gives for all.
 -- Only the private functions of this crate speak of it.
-use Rattle.std.specs.Prelude.{◌≡◌, ℕ, ◌+◌, ◌<◌, ◌≤◌, Bool, true, false, cond, List, [], ◌∷◌, ◌++◌, length, get_or}
+use Rattle.std.specs.Prelude.{◌≡◌, ℕ, ◌+◌, ◌<◌, ◌≤◌, Bool, true, false, cond, not, List, [], ◌∷◌, ◌++◌, length, get_or, filter}
 use Rattle.node_set.specs.Ascending.{has, IsAscending, passing}
-use Rattle.coarse_cover.specs.Coarsening.{ball, Grown, phase, phases, unhomed, all_clusters, home_of, coarsening}
-use Rattle.coarse_cover.specs.Covers.{listed}
+use Rattle.coarse_cover.specs.Coarsening.{ball, touches, Grown, phase, phases, unhomed, all_clusters, home_of, coarsening}
+use Rattle.coarse_cover.specs.Covers.{listed, shown}
 use Rattle.coarse_cover.specs.declared.cover.Cluster.{Cluster}
+use Rattle.coarse_cover.specs.declared.cover.Cover.{Cover}
+use Rattle.coarse_cover.specs.declared.phasing.Work.{Work}
 
 -- the centres that are marked
 unfoldable pub marked : List Bool → List ℕ
@@ -42,3 +44,20 @@ pub record IsInPhase (balls : List (List ℕ)) (k r : ℕ) (waiting left : List 
 pub record IsBetween (balls : List (List ℕ)) (k : ℕ) (left : List ℕ) (clusters : List Cluster) (home : List ℕ) (p : ℕ) : Type 0 where
   pub left_ready : IsReady balls k (length left) left
   pub so_far : Agrees (length balls) (coarsening balls k) (phases_of balls k left) left clusters home p
+
+-- each list of marks has one for each ball
+pub record IsSized (n : ℕ) (work : Work) : Type 0 where
+  pub left : length work.left.items ≡ n
+  pub waiting : length work.waiting.items ≡ n
+  pub taken : length work.growth.taken.items ≡ n
+  pub touched : length work.growth.touched.items ≡ n
+
+-- the cluster c was added: its balls have their home and are left no more, those that touch it wait no more
+pub record IsAdded (n : ℕ) (balls : List (List ℕ)) (c : Grown) (old new : Work) (before after : Cover) : Type 0 where
+  pub waiting : marked new.waiting.items ≡ filter (λ v. not (touches balls c.members v)) (marked old.waiting.items)
+  pub left : marked new.left.items ≡ filter (λ v. not (has v c.homed)) (marked old.left.items)
+  pub clusters : after.clusters.items ≡ before.clusters.items ++ shown n before.phases c ∷ []
+  pub homes : (v : ℕ) → v < n → get_or after.home.items v 0 ≡ cond (has v c.homed) (length before.clusters.items) (get_or before.home.items v 0)
+  pub phases : after.phases ≡ before.phases
+  pub sized : IsSized n new
+  pub home_len : length after.home.items ≡ n

@@ -4,5 +4,6 @@
 mod cover;
 mod growing;
 mod marks;
+mod phasing;
 
 pub use cover::{Cluster, Cover};
