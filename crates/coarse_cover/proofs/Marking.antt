@@ -159,3 +159,30 @@ written n new old same whole = let e : n ≡ length new = whole ∙ sym same in 
 
 pub nodes_from : (s : Nodes) (n : ℕ) (members : List ℕ) → s.room ≡ n → s.members ≡ members → s ≡ record { room = n; members = members }
 nodes_from s n members e f = rw (← e, ← f) refl
+
+-- ---- the first mark
+
+skip_none : (marks : List Bool) (a : ℕ) → a ≤ length marks → ((v : ℕ) → v < a → get_or marks v false ≡ false) → marked_from marks 0 ≡ marked_from marks a
+skip_none marks zero h none = refl
+skip_none marks (suc a) h none =
+    skip_none marks a (omega arith) (λ v below. none v (omega arith)) ∙ (marked_from_no marks a (omega arith) (none a (omega arith)) ∙ ap (λ (n : ℕ). marked_from marks n) (add-one a))
+
+pub marked_lead : (marks : List Bool) (a : ℕ) → a < length marks → ((v : ℕ) → v < a → get_or marks v false ≡ false) → get_or marks a false ≡ true → (rest : List ℕ) × (marked marks ≡ a ∷ rest)
+marked_lead marks a h none here =
+    (marked_from marks (a + 1), sym (marked_from_start marks) ∙ (skip_none marks a (omega arith) none ∙ marked_from_yes marks a h here))
+
+pub marked_none : (marks : List Bool) → ((v : ℕ) → v < length marks → get_or marks v false ≡ false) → marked marks ≡ []
+marked_none marks none = sym (marked_from_start marks) ∙ (skip_none marks (length marks) (omega arith) none ∙ marked_from_end marks (length marks) (omega arith))
+
+pub marked_all : (n : ℕ) → marked (replicate n true) ≡ passing (λ v. true) 0 n
+marked_all n = marked_is (replicate n true) (passing (λ v. true) 0 n) (ascending-passing (λ v. true) 0 n) (λ x. at x (cases_lt x n))
+  where
+    at : (x : ℕ) → (x < n) ⊎ (n ≤ x) → get_or (replicate n true) x false ≡ has x (passing (λ v. true) 0 n)
+    at x (inl below) = get_or-replicate n x true false below ∙ sym (has-passing (λ v. true) x 0 n (omega arith) (omega arith))
+    at x (inr over) = get_or_past (replicate n true) x false (omega (arith, length-replicate n true)) ∙ sym (passing_over (λ v. true) x 0 n (omega arith))
+
+-- the default is of no matter within the list
+pub any_default : (marks : List Bool) (i : ℕ) (d e : Bool) → i < length marks → get_or marks i d ≡ get_or marks i e
+any_default [] i d e h = absurd (omega arith)
+any_default (m ∷ ms) zero d e h = refl
+any_default (m ∷ ms) (suc i) d e h = any_default ms i d e (omega arith)

@@ -1,17 +1,19 @@
 -- What is done, and what the definition gives for the rest.
 use Rattle.std.proofs.Common.{◌≡◌, ◌≢◌, ◌⊎◌, inl, inr, ℕ, zero, suc, ◌+◌, ◌<◌, ◌≤◌, Bool, true, false, cond, not, ◌&&◌, List, [], ◌∷◌, ◌++◌, length, length-append, append_assoc, filter, get_or, map, refl, sym, ◌∙◌, ap, subst, arith}
 use Rattle.std.proofs.Math.Nat.{le_refl}
-use Rattle.std.proofs.lemmas.Bool.{cases_Bool, cases_lt, false≢true, not-true, not_from_false, not_from_true}
+use Rattle.std.proofs.lemmas.Bool.{cases_Bool, cases_lt, false≢true, not-true, not_from_false, false_from_ne_true, and_right}
 use Rattle.node_set.specs.Ascending.{has, IsAscending, passing}
 use Rattle.node_set.proofs.Ascending.{has-passing, passing_over, ascending-passing}
 use Rattle.coarse_cover.specs.Coarsening.{ball, touches, Grown, cluster_of, phase, phases, is_homed, unhomed, all_clusters, home_of, centres, coarsening}
 use Rattle.coarse_cover.specs.Covers.{listed, shown, AreCentred}
-use Rattle.coarse_cover.specs.Progress.{phase_of, phases_of, IsReady, Agrees, IsInPhase, IsBetween}
+use Rattle.coarse_cover.specs.Progress.{phase_of, phases_of, IsReady, Agrees, IsInPhase, IsBetween, IsAdded, marked}
 use Rattle.coarse_cover.specs.declared.cover.Cluster.{Cluster}
+use Rattle.coarse_cover.specs.declared.cover.Cover.{Cover}
+use Rattle.coarse_cover.specs.declared.phasing.Work.{Work}
 use Rattle.coarse_cover.proofs.Lists.{filter_keeps, filter_has, filter_twice, filter_same}
-use Rattle.coarse_cover.proofs.Marking.{has-filter}
+use Rattle.coarse_cover.proofs.Marking.{has-filter, has-marked}
 use Rattle.coarse_cover.proofs.Phase.{IsCluster, IsPhase, apart, apart_fewer, cluster_ready, ready_filter, phase_is}
-use Rattle.coarse_cover.proofs.Whole.{ArePhases, phases_are, ready_left, phase_fewer, some_clusters}
+use Rattle.coarse_cover.proofs.Whole.{ArePhases, phases_are, ready_left, phase_fewer, some_clusters, clusters_within, phases_within}
 
 -- ---- enough fuel is enough
 
@@ -154,3 +156,137 @@ agrees_phase n all later left clusters home p so_far = record { clusters_so_far 
 
 agrees_as : (n : ℕ) (all later same : List (List Grown)) (left : List ℕ) (clusters : List Cluster) (home : List ℕ) (p : ℕ) → later ≡ same → Agrees n all later left clusters home p → Agrees n all same left clusters home p
 agrees_as n all later same left clusters home p e so_far = subst (λ (l : List (List Grown)). Agrees n all l left clusters home p) e so_far
+
+-- ---- a phase: its start, its steps, its end
+
+pub in_phase_start : (balls : List (List ℕ)) (k r : ℕ) (waiting left : List ℕ) (clusters : List Cluster) (home : List ℕ) (p : ℕ) →
+  IsBetween balls k left clusters home p → 0 < length left → waiting ≡ left → r ≡ length left → IsInPhase balls k r waiting left clusters home p
+in_phase_start balls k r waiting left clusters home p between some same counted =
+    subst (λ (l : List ℕ). IsInPhase balls k r l left clusters home p) (sym same) (subst (λ (m : ℕ). IsInPhase balls k m left left clusters home p) (sym counted) (record {
+      ready = between.left_ready;
+      left_ready = between.left_ready;
+      waiting_left = λ v h. h;
+      so_far = agrees_as (length balls) (coarsening balls k) (phases_of balls k left) (phase_of balls k (length left) left ∷ phases_of balls k (unhomed (phase_of balls k (length left) left) left)) left clusters home p
+        (phases_of_next balls k left some between.left_ready) between.so_far;
+    }))
+
+pub in_phase_end : (balls : List (List ℕ)) (k r : ℕ) (waiting left : List ℕ) (clusters : List Cluster) (home : List ℕ) (p : ℕ) →
+  IsInPhase balls k r waiting left clusters home p → waiting ≡ [] → IsBetween balls k left clusters home (suc p)
+in_phase_end balls k r waiting left clusters home p phase none = record {
+  left_ready = phase.left_ready;
+  so_far = agrees_phase (length balls) (coarsening balls k) (phases_of balls k left) left clusters home p
+    (agrees_as (length balls) (coarsening balls k) (phase_of balls k r waiting ∷ phases_of balls k (unhomed (phase_of balls k r waiting) left)) ([] ∷ phases_of balls k left) left clusters home p
+    (ap (λ (cs : List Grown). cs ∷ phases_of balls k (unhomed cs left)) (ap (phase_of balls k r) none ∙ phase_of_none balls k r) ∙ ap (λ (l : List ℕ). [] ∷ phases_of balls k l) (unhomed_none left)) phase.so_far);
+}
+
+pub cluster_is : (balls : List (List ℕ)) (k r a : ℕ) (waiting rest : List ℕ) → waiting ≡ a ∷ rest → IsReady balls k r waiting → IsCluster balls k r waiting (cluster_of balls k r waiting a)
+cluster_is balls k r a waiting rest leads ready = subst (λ (l : List ℕ). IsReady balls k r l → IsCluster balls k r l (cluster_of balls k r l a)) (sym leads) (cluster_ready balls k r a rest) ready
+
+first_is : (balls : List (List ℕ)) (k r a : ℕ) (waiting : List ℕ) → (cluster_of balls k r waiting a).first ≡ a
+unfolding cluster_of
+first_is balls k r a waiting = refl
+
+-- the leader waits no more
+pub leader_gone : (balls : List (List ℕ)) (k r a : ℕ) (waiting rest : List ℕ) → waiting ≡ a ∷ rest → IsReady balls k r waiting → has a (apart balls (cluster_of balls k r waiting a).members waiting) ≡ false
+leader_gone balls k r a waiting rest leads ready =
+    let is : IsCluster balls k r waiting (cluster_of balls k r waiting a) = cluster_is balls k r a waiting rest leads ready in
+    let touched : touches balls (cluster_of balls k r waiting a).members a ≡ true =
+      subst (λ (v : ℕ). touches balls (cluster_of balls k r waiting a).members v ≡ true) (first_is balls k r a waiting) (is.touching (cluster_of balls k r waiting a).first is.leads)
+    in
+    has-filter (λ v. not (touches balls (cluster_of balls k r waiting a).members v)) a waiting ∙ (ap (λ (b : Bool). has a waiting && not b) touched ∙ and_right (has a waiting) false refl)
+
+pub in_phase_next : (balls : List (List ℕ)) (k r a : ℕ) (rest : List ℕ) (old new : Work) (before after : Cover) → marked old.waiting.items ≡ a ∷ rest →
+  IsInPhase balls k r (marked old.waiting.items) (marked old.left.items) before.clusters.items before.home.items before.phases →
+  IsAdded (length balls) balls (cluster_of balls k r (marked old.waiting.items) a) old new before after →
+  IsInPhase balls k r (marked new.waiting.items) (marked new.left.items) after.clusters.items after.home.items after.phases
+in_phase_next balls k r a rest old new before after leads phase added =
+    let is : IsCluster balls k r (marked old.waiting.items) (cluster_of balls k r (marked old.waiting.items) a) = cluster_is balls k r a (marked old.waiting.items) rest leads phase.ready in
+    rw (added.waiting, added.left, added.phases) (record {
+      ready = ready_filter balls k r (marked old.waiting.items) (λ v. not (touches balls (cluster_of balls k r (marked old.waiting.items) a).members v)) phase.ready;
+      left_ready = ready_shrunk balls k (marked old.left.items) (λ v. not (has v (cluster_of balls k r (marked old.waiting.items) a).homed)) phase.left_ready;
+      waiting_left = λ v h.
+        let w : (has v (marked old.waiting.items) ≡ true) × (not (touches balls (cluster_of balls k r (marked old.waiting.items) a).members v) ≡ true) =
+          filter_keeps (λ u. not (touches balls (cluster_of balls k r (marked old.waiting.items) a).members u)) v (marked old.waiting.items) h
+        in
+        filter_has (λ u. not (has u (cluster_of balls k r (marked old.waiting.items) a).homed)) v (marked old.left.items) (phase.waiting_left v w.0)
+        (not_from_false (has v (cluster_of balls k r (marked old.waiting.items) a).homed) (false_from_ne_true (has v (cluster_of balls k r (marked old.waiting.items) a).homed) (λ homed.
+        false≢true (sym (not-true (touches balls (cluster_of balls k r (marked old.waiting.items) a).members v) w.1) ∙ is.touching v homed))));
+      so_far = agrees_cluster (length balls) (coarsening balls k) (phases_of balls k (unhomed (phase_of balls k r (apart balls (cluster_of balls k r (marked old.waiting.items) a).members (marked old.waiting.items))) (filter (λ v. not (has v (cluster_of balls k r (marked old.waiting.items) a).homed)) (marked old.left.items)))) (cluster_of balls k r (marked old.waiting.items) a) (phase_of balls k r (apart balls (cluster_of balls k r (marked old.waiting.items) a).members (marked old.waiting.items))) (marked old.left.items) before.clusters.items after.clusters.items before.home.items after.home.items before.phases
+        (agrees_as (length balls) (coarsening balls k) (phase_of balls k r (marked old.waiting.items) ∷ phases_of balls k (unhomed (phase_of balls k r (marked old.waiting.items)) (marked old.left.items))) (((cluster_of balls k r (marked old.waiting.items) a) ∷ (phase_of balls k r (apart balls (cluster_of balls k r (marked old.waiting.items) a).members (marked old.waiting.items)))) ∷ phases_of balls k (unhomed (phase_of balls k r (apart balls (cluster_of balls k r (marked old.waiting.items) a).members (marked old.waiting.items))) (filter (λ v. not (has v (cluster_of balls k r (marked old.waiting.items) a).homed)) (marked old.left.items)))) (marked old.left.items) before.clusters.items before.home.items before.phases
+        (ap (λ (cs : List Grown). cs ∷ phases_of balls k (unhomed cs (marked old.left.items))) (phase_of_next balls k r a (marked old.waiting.items) rest leads phase.ready) ∙
+        ap (λ (l : List ℕ). ((cluster_of balls k r (marked old.waiting.items) a) ∷ (phase_of balls k r (apart balls (cluster_of balls k r (marked old.waiting.items) a).members (marked old.waiting.items)))) ∷ phases_of balls k l) (unhomed_next (cluster_of balls k r (marked old.waiting.items) a) (phase_of balls k r (apart balls (cluster_of balls k r (marked old.waiting.items) a).members (marked old.waiting.items))) (marked old.left.items))) phase.so_far)
+        (λ v h. phase.waiting_left v (is.waits v h)) added.clusters added.homes;
+    })
+
+-- ---- the start and the end of it all
+
+pub ready_all : (balls : List (List ℕ)) (k : ℕ) → 0 < k → AreCentred balls → IsReady balls k (length (centres (length balls))) (centres (length balls))
+ready_all balls k some centred = record {
+  some = some;
+  fits = le_refl (length (centres (length balls)));
+  ascending = ascending-passing (λ v. true) 0 (length balls);
+  centred = λ v h. elim (cases_lt v (length balls)) [
+    inl below ↦ centred v below
+  | inr over ↦ absurd (false≢true (sym (passing_over (λ w. true) v 0 (length balls) (omega arith)) ∙ h))
+  ];
+}
+
+length-all : (v n : ℕ) → length (passing (λ w. true) v n) ≡ n
+length-all v zero = refl
+length-all v (suc n) = ap suc (length-all (suc v) n)
+
+pub coarsening_is : (balls : List (List ℕ)) (k : ℕ) → phases_of balls k (centres (length balls)) ≡ coarsening balls k
+unfolding phases_of
+coarsening_is balls k = ap (λ (n : ℕ). phases balls k n (centres (length balls))) (length-all 0 (length balls))
+
+pub coarsening_phases : (balls : List (List ℕ)) (k : ℕ) → 0 < k → AreCentred balls → ArePhases balls k (centres (length balls)) (coarsening balls k)
+coarsening_phases balls k some centred = phases_are balls k (length balls) (centres (length balls)) (ready_all balls k some centred) (omega (arith, length-all 0 (length balls)))
+
+pub length-centres : (n : ℕ) → length (centres n) ≡ n
+length-centres n = length-all 0 n
+
+pub between_start : (balls : List (List ℕ)) (k : ℕ) (left : List ℕ) (home : List ℕ) → 0 < k → AreCentred balls → left ≡ centres (length balls) → IsBetween balls k left [] home 0
+between_start balls k left home some centred all = rw all (record {
+  left_ready = ready_all balls k some centred;
+  so_far = agrees_as (length balls) (coarsening balls k) (coarsening balls k) (phases_of balls k (centres (length balls))) (centres (length balls)) [] home 0 (sym (coarsening_is balls k)) (record {
+    clusters_so_far = refl;
+    homes_so_far = λ v h. rw (has-passing (λ w. true) v 0 (length balls) (omega arith) (omega arith)) (omega arith);
+    phases_so_far = omega arith;
+  });
+})
+
+-- ---- bounds on what is done
+
+length-map_shown : (n p : ℕ) (cs : List Grown) → length (map (shown n p) cs) ≡ length cs
+length-map_shown n p [] = refl
+length-map_shown n p (c ∷ cs) = ap suc (length-map_shown n p cs)
+
+pub length-listed : (n p : ℕ) (all : List (List Grown)) → length (listed n p all) ≡ length (all_clusters all)
+unfolding listed all_clusters
+length-listed n p [] = refl
+length-listed n p (cs ∷ later) = omega (arith, length-append (map (shown n p) cs) (listed n (suc p) later), length-append cs (all_clusters later), length-map_shown n p cs, length-listed n (suc p) later)
+
+pub in_phase_numbers : (balls : List (List ℕ)) (k r : ℕ) (waiting left : List ℕ) (clusters : List Cluster) (home : List ℕ) (p : ℕ) → 0 < k → AreCentred balls →
+  IsInPhase balls k r waiting left clusters home p → length clusters ≤ length balls
+in_phase_numbers balls k r waiting left clusters home p some centred phase =
+    omega (arith, ap length phase.so_far.clusters_so_far,
+    length-append clusters (listed (length balls) p (phase_of balls k r waiting ∷ phases_of balls k (unhomed (phase_of balls k r waiting) left))),
+    length-listed (length balls) 0 (coarsening balls k), length-centres (length balls),
+    clusters_within balls k (centres (length balls)) (coarsening balls k) (coarsening_phases balls k some centred))
+
+pub in_phase_number : (balls : List (List ℕ)) (k r : ℕ) (waiting left : List ℕ) (clusters : List Cluster) (home : List ℕ) (p : ℕ) → 0 < k → AreCentred balls →
+  IsInPhase balls k r waiting left clusters home p → p < length balls
+in_phase_number balls k r waiting left clusters home p some centred phase =
+    omega (arith, phase.so_far.phases_so_far, length-centres (length balls), phases_within balls k (centres (length balls)) (coarsening balls k) (coarsening_phases balls k some centred))
+
+pub none_next : (balls : List (List ℕ)) (k r a : ℕ) (rest : List ℕ) (old new : List Bool) → marked old ≡ a ∷ rest → IsReady balls k r (marked old) →
+  marked new ≡ apart balls (cluster_of balls k r (marked old) a).members (marked old) → ((v : ℕ) → v < a → get_or old v false ≡ false) → (v : ℕ) → v < a + 1 → get_or new v false ≡ false
+none_next balls k r a rest old new leads ready gone none v h =
+    sym (has-marked new v) ∙ (ap (λ (l : List ℕ). has v l) gone ∙ elim (cases_lt v a) [
+      inl before ↦
+      has-filter (λ u. not (touches balls (cluster_of balls k r (marked old) a).members u)) v (marked old) ∙
+      ap (λ (b : Bool). b && not (touches balls (cluster_of balls k r (marked old) a).members v)) (has-marked old v ∙ none v before)
+    | inr here ↦
+      let same : v ≡ a = omega arith in
+      subst (λ (u : ℕ). has u (apart balls (cluster_of balls k r (marked old) a).members (marked old)) ≡ false) (sym same) (leader_gone balls k r a (marked old) rest leads ready)
+    ])

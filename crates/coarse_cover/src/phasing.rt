@@ -45,3 +45,30 @@ fn add_cluster(alloc: Global, balls: &[NodeSet], k: u32, r: u32, first: usize, w
     })?;
     Ok(())
 }
+
+// Makes one phase of the balls that are left.
+pub fn make_phase(alloc: Global, balls: &[NodeSet], k: u32, work: &mut Work, cover: &mut Cover) -> Result<(), OutOfMemory>
+    requires small { length balls.now ≤ 1024 }
+    requires rooms { All (λ (b : Nodes). b.room ≡ length balls.now) balls.now }
+    requires centred { AreCentred (sets balls.now) }
+    requires low { 1 ≤ k }
+    requires few { k ≤ 8 }
+    requires sized { IsSized (length balls.now) work.old }
+    requires home_len { length cover.old.home.items ≡ length balls.now }
+    requires between { IsBetween (sets balls.now) k (marked work.old.left.items) cover.old.clusters.items cover.old.home.items cover.old.phases }
+    requires some { 0 < length (marked work.old.left.items) }
+    ensures between { OnOk result (IsBetween (sets balls.now) k (marked work.new.left.items) cover.new.clusters.items cover.new.home.items cover.new.phases) }
+    ensures next { OnOk result (cover.new.phases ≡ cover.old.phases + 1) }
+    ensures sized { OnOk result (IsSized (length balls.now) work.new) }
+    ensures home_len { OnOk result (length cover.new.home.items ≡ length balls.now) }
+{
+    work.waiting.copy_from_slice(&work.left);
+    let r = count(&work.left);
+    for first in 0..balls.len() {
+        if work.waiting[first] {
+            add_cluster(alloc, balls, k, r, first, work, cover)?;
+        }
+    }
+    cover.phases += 1;
+    Ok(())
+}
