@@ -1,7 +1,7 @@
 // One phase: clusters are added until no ball waits.
-ghost use Rattle.std.specs.Prelude.{◌≡◌, ℕ, ◌+◌, ◌≤◌, ◌<◌, ◌∷◌, ◌^◌, List, length, All, OnOk};
+ghost use Rattle.std.specs.Prelude.{◌≡◌, ℕ, ◌+◌, ◌≤◌, ◌<◌, ◌∷◌, ◌^◌, List, length, All, IfOk, OnOk};
 ghost use Rattle.node_set.specs.Nodes.{Nodes};
-ghost use Rattle.coarse_cover.specs.Coarsening.{cluster_of};
+ghost use Rattle.coarse_cover.specs.Coarsening.{cluster_of, centres};
 ghost use Rattle.coarse_cover.specs.Covers.{sets, AreCentred};
 ghost use Rattle.coarse_cover.specs.Progress.{marked, IsReady, IsSized, IsAdded, IsBetween};
 
@@ -17,6 +17,23 @@ pub struct Work {
     pub left: Vec<bool>,
     pub waiting: Vec<bool>,
     pub growth: Growth,
+}
+
+impl Work {
+    // All of `n` balls are left.
+    pub fn new(alloc: Global, n: usize) -> Result<Self, OutOfMemory>
+        ensures sized { IfOk result (λ work. IsSized n work) }
+        ensures all_left { IfOk result (λ work. marked work.left.items ≡ centres n) }
+    {
+        Ok(Self {
+            left: vec![in alloc; true; n]?,
+            waiting: vec![in alloc; false; n]?,
+            growth: Growth {
+                taken: vec![in alloc; false; n]?,
+                touched: vec![in alloc; false; n]?,
+            },
+        })
+    }
 }
 
 // Adds the cluster that `first` leads.
