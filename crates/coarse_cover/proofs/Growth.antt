@@ -1,14 +1,13 @@
 -- Growth of one cluster: what the balls of a growth are, and that fewer than k growths are enough.
-use Rattle.std.proofs.Common.{◌≡◌, ◌≢◌, ◌⊎◌, inl, inr, ℕ, zero, suc, ◌+◌, ◌-◌, ◌*◌, ◌^◌, ◌<◌, ◌≤◌, Bool, true, false, cond, not, ◌||◌, List, [], ◌∷◌, length, filter, get_or, refl, sym, ◌∙◌, ap, subst, arith}
-use Rattle.std.specs.Prelude.{◌==◌, nat_le}
-use Rattle.std.proofs.lemmas.Bool.Decides.{nat_tests}
-use Rattle.std.proofs.lemmas.Bool.{cases_Bool, cases_lt, false≢true, eqb-true, eq-eqb, ne_eqb, or_cases, or_left, or_right, leb-true, leb-false, le-leb, lt-leb}
-use Rattle.std.proofs.Math.Nat.{pow-zero, pow-succ', one-le-pow, pow-le-pow_left, mul-le-mul_left, mul-lt-mul_of_pos_left, lt_of_not-le}
-use Rattle.node_set.specs.Ascending.{has, IsBelowAll, IsAscending, union, share, passing}
-use Rattle.node_set.proofs.Ascending.{has-union, ascending-union, same_members, share_from, share_gives}
+use Rattle.std.proofs.Common.{◌≡◌, inl, inr, ℕ, zero, suc, ◌-◌, ◌*◌, ◌^◌, ◌<◌, ◌≤◌, Bool, true, false, cond, ◌||◌, List, [], ◌∷◌, length, filter, refl, sym, ◌∙◌, ap, subst, arith}
+use Rattle.std.specs.Prelude.{◌==◌}
+use Rattle.std.proofs.lemmas.Bool.{cases_lt, false≢true, eqb-true, ne_eqb, or_cases, or_left, or_right, leb-true, leb-false, le-leb, lt-leb}
+use Rattle.std.proofs.Math.Nat.{pow-zero, pow-succ', mul-lt-mul_of_pos_left, lt_of_not-le}
+use Rattle.node_set.specs.Ascending.{has, IsBelowAll, IsAscending, union}
+use Rattle.node_set.proofs.Ascending.{has-union, ascending-union, same_members, share_from}
 use Rattle.whole_powers.proofs.Inequalities.{lt_of_pow}
-use Rattle.coarse_cover.specs.Coarsening.{ball, union_of, touches, grown, is_enough, least, Grown, cluster_of}
-use Rattle.coarse_cover.proofs.Lists.{has_here, filter_keeps, filter_has, filter_same, filter_within, filter_own, filter_halves, filter_fewer, filter_more}
+use Rattle.coarse_cover.specs.Coarsening.{ball, union_of, touches, grown, is_enough, least, cluster_of}
+use Rattle.coarse_cover.proofs.Lists.{has_here, filter_keeps, filter_has, filter_own, filter_fewer}
 
 -- ---- unions
 
@@ -18,8 +17,8 @@ union_has balls x v [] h e = absurd (false≢true h)
 union_has balls x v (w ∷ ws) h e =
     has-union x (ball balls w) (union_of balls ws) ∙
     elim (or_cases (v == w) (has v ws) h) [
-      inl here ↦ or_left (has x (ball balls w)) (has x (union_of balls ws)) (subst (λ (n : ℕ). has x (ball balls n) ≡ true) (eqb-true v w here) e)
-    | inr later ↦ or_right (has x (ball balls w)) (has x (union_of balls ws)) (union_has balls x v ws later e)
+      | inl here ↦ or_left (has x (ball balls w)) (has x (union_of balls ws)) (subst (λ (n : ℕ). has x (ball balls n) ≡ true) (eqb-true v w here) e)
+      | inr later ↦ or_right (has x (ball balls w)) (has x (union_of balls ws)) (union_has balls x v ws later e)
     ]
 
 pub union_from : (balls : List (List ℕ)) (x : ℕ) (vs : List ℕ) → has x (union_of balls vs) ≡ true → (v : ℕ) × (has v vs ≡ true) × (has x (ball balls v) ≡ true)
@@ -27,10 +26,10 @@ unfolding union_of
 union_from balls x [] h = absurd (false≢true h)
 union_from balls x (w ∷ ws) h =
     elim (or_cases (has x (ball balls w)) (has x (union_of balls ws)) (sym (has-union x (ball balls w) (union_of balls ws)) ∙ h)) [
-      inl here ↦ (w, has_here w ws, here)
-    | inr later ↦
-      let v : (v : ℕ) × (has v ws ≡ true) × (has x (ball balls v) ≡ true) = union_from balls x ws later in
-      (v.0, or_right (v.0 == w) (has v.0 ws) v.1, v.2)
+      | inl here ↦ (w, has_here w ws, here)
+      | inr later ↦
+          let v : (v : ℕ) × (has v ws ≡ true) × (has x (ball balls v) ≡ true) = union_from balls x ws later in
+          (v.0, or_right (v.0 == w) (has v.0 ws) v.1, v.2)
     ]
 
 pub ascending-union_of : (balls : List (List ℕ)) (vs : List ℕ) → IsAscending (union_of balls vs)
@@ -97,7 +96,7 @@ least_passes test zero h = absurd (omega arith)
 least_passes test (suc limit) h = at (test 0) refl h (least_passes (λ j. test (suc j)) limit)
   where
     at : (b : Bool) → test 0 ≡ b → cond b 0 (suc (least (λ j. test (suc j)) limit)) < suc limit →
-      (least (λ j. test (suc j)) limit < limit → test (suc (least (λ j. test (suc j)) limit)) ≡ true) → test (cond b 0 (suc (least (λ j. test (suc j)) limit))) ≡ true
+        (least (λ j. test (suc j)) limit < limit → test (suc (least (λ j. test (suc j)) limit)) ≡ true) → test (cond b 0 (suc (least (λ j. test (suc j)) limit))) ≡ true
     at true e less rest = e
     at false e less rest = rest (omega arith)
 
@@ -107,7 +106,7 @@ least_first test zero j h = absurd (omega arith)
 least_first test (suc limit) j h = at (test 0) refl j h (least_first (λ i. test (suc i)) limit)
   where
     at : (b : Bool) → test 0 ≡ b → (j : ℕ) → j < cond b 0 (suc (least (λ i. test (suc i)) limit)) →
-      ((i : ℕ) → i < least (λ i. test (suc i)) limit → test (suc i) ≡ false) → test j ≡ false
+        ((i : ℕ) → i < least (λ i. test (suc i)) limit → test (suc i) ≡ false) → test j ≡ false
     at true e j less rest = absurd (omega arith)
     at false e zero less rest = e
     at false e (suc j) less rest = rest j (omega arith)
@@ -115,8 +114,8 @@ least_first test (suc limit) j h = at (test 0) refl j h (least_first (λ i. test
 pub least_is : (test : ℕ → Bool) (limit j : ℕ) → j < limit → test j ≡ true → ((i : ℕ) → i < j → test i ≡ false) → least test limit ≡ j
 least_is test limit j h passes first =
     elim (cases_lt (least test limit) j) [
-      inl less ↦ absurd (false≢true (sym (first (least test limit) less) ∙ least_passes test limit (omega arith)))
-    | inr more ↦ elim (cases_lt j (least test limit)) [ inl over ↦ absurd (false≢true (sym (least_first test limit j over) ∙ passes)) | inr same ↦ omega arith ]
+      | inl less ↦ absurd (false≢true (sym (first (least test limit) less) ∙ least_passes test limit (omega arith)))
+      | inr more ↦ elim (cases_lt j (least test limit)) [ inl over ↦ absurd (false≢true (sym (least_first test limit j over) ∙ passes)) | inr same ↦ omega arith ]
     ]
 
 -- ---- fewer than k growths are enough
@@ -151,15 +150,15 @@ module _ (balls : List (List ℕ)) (k r a : ℕ) (rest : List ℕ) where
   pub growths_few : 0 < k → length (a ∷ rest) ≤ r → least (is_enough balls k r (a ∷ rest) a) k < k
   growths_few pos fits =
       elim (cases_lt (least (is_enough balls k r (a ∷ rest) a) k) k) [
-        inl few ↦ few
-      | inr many ↦
-        let none : (i : ℕ) → i < suc (k - 1) → is_enough balls k r (a ∷ rest) a i ≡ false = λ i h. least_first (is_enough balls k r (a ∷ rest) a) k i (omega arith) in
-        let large : r ^ suc (k - 1) < length (grown balls (a ∷ rest) a (suc (k - 1))) ^ k = grows (omega arith) (k - 1) none in
-        let same : suc (k - 1) ≡ k = omega arith in
-        let larger : r < length (grown balls (a ∷ rest) a (suc (k - 1))) =
-          lt_of_pow r (length (grown balls (a ∷ rest) a (suc (k - 1)))) k (subst (λ (n : ℕ). r ^ n < length (grown balls (a ∷ rest) a (suc (k - 1))) ^ k) same large)
-        in
-        absurd (omega (arith, grown_size balls a rest (suc (k - 1))))
+        | inl few ↦ few
+        | inr many ↦
+            let none : (i : ℕ) → i < suc (k - 1) → is_enough balls k r (a ∷ rest) a i ≡ false = λ i h. least_first (is_enough balls k r (a ∷ rest) a) k i (omega arith) in
+            let large : r ^ suc (k - 1) < length (grown balls (a ∷ rest) a (suc (k - 1))) ^ k = grows (omega arith) (k - 1) none in
+            let same : suc (k - 1) ≡ k = omega arith in
+            let larger : r < length (grown balls (a ∷ rest) a (suc (k - 1))) =
+            lt_of_pow r (length (grown balls (a ∷ rest) a (suc (k - 1)))) k (subst (λ (n : ℕ). r ^ n < length (grown balls (a ∷ rest) a (suc (k - 1))) ^ k) same large)
+            in
+            absurd (omega (arith, grown_size balls a rest (suc (k - 1))))
       ]
 
 -- ---- what the loop that grows a cluster needs
@@ -204,7 +203,7 @@ module _ (balls : List (List ℕ)) (k r a : ℕ) (waiting rest : List ℕ) (lead
   pub some_enough : 0 < k → length waiting ≤ r → ((i : ℕ) → i < k → is_enough balls k r waiting a i ≡ false) → ⊥
   some_enough pos fits none =
       let few : least (is_enough balls k r waiting a) k < k =
-        subst (λ (l : List ℕ). length l ≤ r → least (is_enough balls k r l a) k < k) (sym leads) (growths_few balls k r a rest pos) fits
+      subst (λ (l : List ℕ). length l ≤ r → least (is_enough balls k r l a) k < k) (sym leads) (growths_few balls k r a rest pos) fits
       in
       false≢true (sym (none (least (is_enough balls k r waiting a) k) few) ∙ least_passes (is_enough balls k r waiting a) k few)
 
@@ -219,7 +218,7 @@ module _ (balls : List (List ℕ)) (k r a : ℕ) (waiting rest : List ℕ) (lead
 
   -- the union of one growth more, from the one before
   pub next_union : HoldCentres balls waiting → (j : ℕ) (nodes : List ℕ) → IsAscending nodes →
-    ((x : ℕ) → has x nodes ≡ (has x (union_of balls (grown balls waiting a (suc j))) || has x (union_of balls (grown balls waiting a j)))) → nodes ≡ union_of balls (grown balls waiting a (suc j))
+      ((x : ℕ) → has x nodes ≡ (has x (union_of balls (grown balls waiting a (suc j))) || has x (union_of balls (grown balls waiting a j)))) → nodes ≡ union_of balls (grown balls waiting a (suc j))
   next_union hold j nodes ascending either =
       same_members nodes (union_of balls (grown balls waiting a (suc j))) ascending (ascending-union_of balls (grown balls waiting a (suc j)))
       (λ x. either x ∙ at (has x (union_of balls (grown balls waiting a (suc j)))) (has x (union_of balls (grown balls waiting a j))) (union_more balls x (grown balls waiting a j) (grown balls waiting a (suc j)) (grown_kept hold j)))
@@ -244,9 +243,9 @@ module _ (balls : List (List ℕ)) (k r a : ℕ) (waiting : List ℕ) (j more si
     pub goes_on : ((i : ℕ) → i < j → is_enough balls k r waiting a i ≡ false) → (more ^ k ≤ r * size ^ k → ⊥) → (i : ℕ) → i < suc j → is_enough balls k r waiting a i ≡ false
     goes_on none large i h =
         elim (cases_lt i j) [
-          inl before ↦ none i before
-        | inr here ↦
-          let same : i ≡ j = omega arith in
-          subst (λ (n : ℕ). is_enough balls k r waiting a n ≡ false) (sym same)
-          (not_enough_is balls k r a waiting j (λ fits. large (subst (λ (n : ℕ). more ^ k ≤ r * n ^ k) (sym sized) (subst (λ (n : ℕ). n ^ k ≤ r * length (grown balls waiting a j) ^ k) (sym (counted ∙ ap length reached)) fits))))
+          | inl before ↦ none i before
+          | inr here ↦
+              let same : i ≡ j = omega arith in
+              subst (λ (n : ℕ). is_enough balls k r waiting a n ≡ false) (sym same)
+              (not_enough_is balls k r a waiting j (λ fits. large (subst (λ (n : ℕ). more ^ k ≤ r * n ^ k) (sym sized) (subst (λ (n : ℕ). n ^ k ≤ r * length (grown balls waiting a j) ^ k) (sym (counted ∙ ap length reached)) fits))))
         ]

@@ -2,7 +2,7 @@
 use Rattle.std.proofs.Common.{◌≡◌, ◌⊎◌, inl, inr, ℕ, zero, suc, ◌+◌, ◌<◌, ◌≤◌, Bool, true, false, cond, not, ◌&&◌, List, [], ◌∷◌, length, filter, refl, sym, ◌∙◌, ap, subst, arith}
 use Rattle.std.specs.Prelude.{◌==◌}
 use Rattle.std.proofs.lemmas.Bool.Decides.{nat_tests}
-use Rattle.std.proofs.lemmas.Bool.{cases_Bool, false≢true, eqb-true, or_cases, or_left, or_right}
+use Rattle.std.proofs.lemmas.Bool.{cases_Bool, false≢true, eqb-true, or_cases, or_right}
 use Rattle.node_set.specs.Ascending.{has, IsBelowAll, IsAscending, passing}
 
 pub has_here : (x : ℕ) (xs : List ℕ) → has x (x ∷ xs) ≡ true
@@ -18,8 +18,8 @@ pub filter_keeps : (p : ℕ → Bool) (x : ℕ) (xs : List ℕ) → has x (filte
 filter_keeps p x [] h = absurd (false≢true h)
 filter_keeps p x (y ∷ ys) h =
     elim (has_cond (p y) x y (filter p ys) h) [
-      inl here ↦ (subst (λ (n : ℕ). has n (y ∷ ys) ≡ true) (sym here.0) (has_here y ys), ap p here.0 ∙ here.1)
-    | inr later ↦ let w : (has x ys ≡ true) × (p x ≡ true) = filter_keeps p x ys later in (or_right (x == y) (has x ys) w.0, w.1)
+      | inl here ↦ (subst (λ (n : ℕ). has n (y ∷ ys) ≡ true) (sym here.0) (has_here y ys), ap p here.0 ∙ here.1)
+      | inr later ↦ let w : (has x ys ≡ true) × (p x ≡ true) = filter_keeps p x ys later in (or_right (x == y) (has x ys) w.0, w.1)
     ]
 
 cond_has : (b : Bool) (x y : ℕ) (xs : List ℕ) → has x xs ≡ true → has x (cond b (y ∷ xs) xs) ≡ true
@@ -33,8 +33,8 @@ pub filter_has : (p : ℕ → Bool) (x : ℕ) (xs : List ℕ) → has x xs ≡ t
 filter_has p x [] h e = absurd (false≢true h)
 filter_has p x (y ∷ ys) h e =
     elim (or_cases (x == y) (has x ys) h) [
-      inl here ↦ let same : x ≡ y = eqb-true x y here in rw same (cond_has_here (p y) y (filter p ys) (subst (λ (n : ℕ). p n ≡ true) same e))
-    | inr later ↦ cond_has (p y) x y (filter p ys) (filter_has p x ys later e)
+      | inl here ↦ let same : x ≡ y = eqb-true x y here in rw same (cond_has_here (p y) y (filter p ys) (subst (λ (n : ℕ). p n ≡ true) same e))
+      | inr later ↦ cond_has (p y) x y (filter p ys) (filter_has p x ys later e)
     ]
 
 -- two tests that agree on the list
@@ -44,7 +44,7 @@ filter_same p q (y ∷ ys) same =
     rw (same y (has_here y ys), filter_same p q ys (λ x h. same x (or_right (x == y) (has x ys) h))) refl
 
 cond_filter : (p q : ℕ → Bool) (y : ℕ) (rest : List ℕ) (b c : Bool) → p y ≡ b → q y ≡ c →
-  filter p (cond c (y ∷ filter q rest) (filter q rest)) ≡ cond c (cond b (y ∷ filter p (filter q rest)) (filter p (filter q rest))) (filter p (filter q rest))
+    filter p (cond c (y ∷ filter q rest) (filter q rest)) ≡ cond c (cond b (y ∷ filter p (filter q rest)) (filter p (filter q rest))) (filter p (filter q rest))
 cond_filter p q y rest b true e f = rw e refl
 cond_filter p q y rest b false e f = refl
 
@@ -54,7 +54,7 @@ filter_twice p q [] = refl
 filter_twice p q (y ∷ ys) = at (q y) (p y) refl (filter_twice p q ys)
   where
     at : (c b : Bool) → p y ≡ b → filter p (filter q ys) ≡ filter (λ x. q x && p x) ys →
-      filter p (cond c (y ∷ filter q ys) (filter q ys)) ≡ cond (c && b) (y ∷ filter (λ x. q x && p x) ys) (filter (λ x. q x && p x) ys)
+        filter p (cond c (y ∷ filter q ys) (filter q ys)) ≡ cond (c && b) (y ∷ filter (λ x. q x && p x) ys) (filter (λ x. q x && p x) ys)
     at true true e f = rw (e, f) refl
     at true false e f = rw (e, f) refl
     at false b e f = f
@@ -83,7 +83,7 @@ filter_halves p [] = refl
 filter_halves p (y ∷ ys) = at (p y) (filter_halves p ys)
   where
     at : (b : Bool) → length (filter p ys) + length (filter (λ x. not (p x)) ys) ≡ length ys →
-      length (cond b (y ∷ filter p ys) (filter p ys)) + length (cond (not b) (y ∷ filter (λ x. not (p x)) ys) (filter (λ x. not (p x)) ys)) ≡ suc (length ys)
+        length (cond b (y ∷ filter p ys) (filter p ys)) + length (cond (not b) (y ∷ filter (λ x. not (p x)) ys) (filter (λ x. not (p x)) ys)) ≡ suc (length ys)
     at true e = omega arith
     at false e = omega arith
 
@@ -122,7 +122,7 @@ filter-passing p q v zero = refl
 filter-passing p q v (suc k) = at (p v) (q v) refl (filter-passing p q (suc v) k)
   where
     at : (b c : Bool) → q v ≡ c → filter q (passing p (suc v) k) ≡ passing (λ x. p x && q x) (suc v) k →
-      filter q (cond b (v ∷ passing p (suc v) k) (passing p (suc v) k)) ≡ cond (b && c) (v ∷ passing (λ x. p x && q x) (suc v) k) (passing (λ x. p x && q x) (suc v) k)
+        filter q (cond b (v ∷ passing p (suc v) k) (passing p (suc v) k)) ≡ cond (b && c) (v ∷ passing (λ x. p x && q x) (suc v) k) (passing (λ x. p x && q x) (suc v) k)
     at true true e f = rw (e, f) refl
     at true false e f = rw (e, f) refl
     at false c e f = f

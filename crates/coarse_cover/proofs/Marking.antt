@@ -1,24 +1,22 @@
 -- The centres that are marked, and what one pass over the marks makes of them.
-use Rattle.std.proofs.Common.{◌≡◌, ◌≢◌, ◌⊎◌, inl, inr, ℕ, zero, suc, ◌+◌, ◌-◌, ◌<◌, ◌≤◌, Bool, true, false, cond, not, ◌&&◌, ◌||◌, List, [], ◌∷◌, length, take, drop, ◌++◌, filter, get_or, set, map, replicate, refl, sym, ◌∙◌, ap, subst, arith, add-one}
-use Rattle.std.specs.Prelude.{◌==◌, All}
-use Rattle.std.proofs.lemmas.Bool.Decides.{nat_tests}
-use Rattle.std.proofs.lemmas.Bool.{cases_Bool, cases_lt, cases_eq, false≢true, ne_eqb, eq-eqb, and_left, and_right}
+use Rattle.std.proofs.Common.{◌≡◌, ◌⊎◌, inl, inr, ℕ, zero, suc, ◌+◌, ◌-◌, ◌<◌, ◌≤◌, Bool, true, false, cond, ◌&&◌, ◌||◌, List, [], ◌∷◌, length, take, drop, ◌++◌, filter, get_or, set, replicate, refl, sym, ◌∙◌, ap, arith, add-one}
+use Rattle.std.proofs.lemmas.Bool.{cases_Bool, cases_lt, cases_eq, false≢true, ne_eqb, eq-eqb}
 use Rattle.std.proofs.Math.Seq.{take-append_seam}
 use Rattle.std.proofs.lemmas.List.{get_or_past, get_or-replicate, length-replicate, get_or-set_same, get_or-set_other}
-use Rattle.node_set.specs.Ascending.{has, IsAscending, share, union, passing}
+use Rattle.node_set.specs.Ascending.{has, IsAscending, union, passing}
 use Rattle.node_set.specs.Nodes.{Nodes}
-use Rattle.node_set.proofs.Ascending.{has-passing, passing_over, ascending-passing, same_members, has-union, ascending-union}
-use Rattle.coarse_cover.specs.Coarsening.{ball, touches, union_of}
+use Rattle.node_set.proofs.Ascending.{has-passing, passing_over, ascending-passing, same_members, has-union}
+use Rattle.coarse_cover.specs.Coarsening.{ball, union_of}
 use Rattle.coarse_cover.specs.Covers.{sets}
 use Rattle.coarse_cover.specs.Progress.{marked}
-use Rattle.coarse_cover.proofs.Lists.{filter_keeps, filter_has, filter-passing, passing_same, ascending-filter}
+use Rattle.coarse_cover.proofs.Lists.{filter_keeps, filter_has, ascending-filter}
 
 pub has-marked : (marks : List Bool) (x : ℕ) → has x (marked marks) ≡ get_or marks x false
 unfolding marked
 has-marked marks x =
     elim (cases_lt x (length marks)) [
-      inl below ↦ has-passing (λ v. get_or marks v false) x 0 (length marks) (omega arith) (omega arith)
-    | inr over ↦ passing_over (λ v. get_or marks v false) x 0 (length marks) (omega arith) ∙ sym (get_or_past marks x false over)
+      | inl below ↦ has-passing (λ v. get_or marks v false) x 0 (length marks) (omega arith) (omega arith)
+      | inr over ↦ passing_over (λ v. get_or marks v false) x 0 (length marks) (omega arith) ∙ sym (get_or_past marks x false over)
     ]
 
 pub ascending-marked : (marks : List Bool) → IsAscending (marked marks)
@@ -64,8 +62,8 @@ marked_from_end marks i h = let none : length marks - i ≡ 0 = omega arith in r
 only_has : (n a x : ℕ) → a < n → get_or (set (replicate n false) a true) x false ≡ has x (a ∷ [])
 only_has n a x h =
     elim (cases_eq x a) [
-      inl same ↦ rw (same, get_or-set_same (replicate n false) a true false (omega (arith, length-replicate n false)), eq-eqb a a refl) refl
-    | inr other ↦ rw (get_or-set_other (replicate n false) a x true false other, ne_eqb x a other) (none n x)
+      | inl same ↦ rw (same, get_or-set_same (replicate n false) a true false (omega (arith, length-replicate n false)), eq-eqb a a refl) refl
+      | inr other ↦ rw (get_or-set_other (replicate n false) a x true false other, ne_eqb x a other) (none n x)
     ]
   where
     none : (n x : ℕ) → get_or (replicate n false) x false ≡ false
@@ -77,7 +75,7 @@ marked_only n a h = marked_is (set (replicate n false) a true) (a ∷ []) (tt, t
 -- ---- marks that pass
 
 pub marked_filter : (p : ℕ → Bool) (before after : List Bool) → length after ≡ length before →
-  ((x : ℕ) → x < length before → get_or after x false ≡ (get_or before x false && p x)) → marked after ≡ filter p (marked before)
+    ((x : ℕ) → x < length before → get_or after x false ≡ (get_or before x false && p x)) → marked after ≡ filter p (marked before)
 marked_filter p before after same kept =
     marked_is after (filter p (marked before)) (ascending-filter p (marked before) (ascending-marked before))
     (λ x. at x (cases_lt x (length before)) ∙ sym (has-filter p x (marked before) ∙ ap (λ (b : Bool). b && p x) (has-marked before x)))
@@ -99,7 +97,7 @@ length-sets (c ∷ cs) = ap suc (length-sets cs)
 
 -- one ball more in the union
 pub union_next : (balls : List (List ℕ)) (v x : ℕ) (vs nodes : List ℕ) →
-  (has x (union_of balls vs) || has x (union (ball balls v) nodes)) ≡ (has x (union_of balls (v ∷ vs)) || has x nodes)
+    (has x (union_of balls vs) || has x (union (ball balls v) nodes)) ≡ (has x (union_of balls (v ∷ vs)) || has x nodes)
 unfolding union_of
 union_next balls v x vs nodes =
     rw (has-union x (ball balls v) nodes, has-union x (ball balls v) (union_of balls vs)) (at (has x (ball balls v)) (has x (union_of balls vs)) (has x nodes))
@@ -140,16 +138,16 @@ unfolding marked
 marked_few marks = passing_few (λ v. get_or marks v false) 0 (length marks)
 
 pub absorb_more : (balls : List (List ℕ)) (marks : List Bool) (v : ℕ) (nodes : List ℕ) (x : ℕ) (all : Bool) → v < length marks → get_or marks v false ≡ true →
-  (has x (union_of balls (marked_from marks v)) || has x nodes) ≡ all → (has x (union_of balls (marked_from marks (v + 1))) || has x (union (ball balls v) nodes)) ≡ all
+    (has x (union_of balls (marked_from marks v)) || has x nodes) ≡ all → (has x (union_of balls (marked_from marks (v + 1))) || has x (union (ball balls v) nodes)) ≡ all
 absorb_more balls marks v nodes x all h e before =
     union_next balls v x (marked_from marks (v + 1)) nodes ∙ (ap (λ (vs : List ℕ). has x (union_of balls vs) || has x nodes) (sym (marked_from_yes marks v h e)) ∙ before)
 
 pub absorb_same : (balls : List (List ℕ)) (marks : List Bool) (v : ℕ) (nodes : List ℕ) (x : ℕ) (all : Bool) → v < length marks → get_or marks v false ≡ false →
-  (has x (union_of balls (marked_from marks v)) || has x nodes) ≡ all → (has x (union_of balls (marked_from marks (v + 1))) || has x nodes) ≡ all
+    (has x (union_of balls (marked_from marks v)) || has x nodes) ≡ all → (has x (union_of balls (marked_from marks (v + 1))) || has x nodes) ≡ all
 absorb_same balls marks v nodes x all h e before = ap (λ (vs : List ℕ). has x (union_of balls vs) || has x nodes) (sym (marked_from_no marks v h e)) ∙ before
 
 pub absorb_end : (balls : List (List ℕ)) (marks : List Bool) (v : ℕ) (nodes : List ℕ) (x : ℕ) (all : Bool) → length marks ≤ v →
-  (has x (union_of balls (marked_from marks v)) || has x nodes) ≡ all → has x nodes ≡ all
+    (has x (union_of balls (marked_from marks v)) || has x nodes) ≡ all → has x nodes ≡ all
 absorb_end balls marks v nodes x all h before =
     ap (λ (b : Bool). b || has x nodes) (sym (ap (λ (vs : List ℕ). has x (union_of balls vs)) (marked_from_end marks v h) ∙ union_nothing balls x)) ∙ before
 

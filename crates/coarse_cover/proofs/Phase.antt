@@ -1,18 +1,17 @@
 -- One phase: its clusters are disjoint, and the balls that they are homes of are many.
-use Rattle.std.proofs.Common.{◌≡◌, ◌≢◌, ◌⊎◌, inl, inr, ℕ, zero, suc, ◌+◌, ◌-◌, ◌*◌, ◌^◌, ◌<◌, ◌≤◌, Bool, true, false, cond, not, ◌&&◌, ◌||◌, List, [], ◌∷◌, length, filter, get_or, refl, sym, ◌∙◌, ap, subst, arith}
-use Rattle.std.specs.Prelude.{◌==◌, count_by, All}
+use Rattle.std.proofs.Common.{◌≡◌, ◌⊎◌, inl, inr, ℕ, zero, suc, ◌+◌, ◌*◌, ◌^◌, ◌<◌, ◌≤◌, Bool, true, false, cond, not, ◌&&◌, List, [], ◌∷◌, length, filter, refl, sym, ◌∙◌, ap, subst, arith}
+use Rattle.std.specs.Prelude.{count_by, All}
 use Rattle.std.proofs.lemmas.List.Elements.{All-nil, All-cons, All-head, All-tail}
 use Rattle.std.proofs.lemmas.List.Sums.{sum_by-cons}
-use Rattle.std.proofs.lemmas.Bool.Decides.{nat_tests}
-use Rattle.std.proofs.lemmas.Bool.{cases_Bool, cases_lt, false≢true, eqb-true, or_cases, or_left, or_right, true_from_ne_false, false_from_ne_true, not-true, and_from, and_parts}
+use Rattle.std.proofs.lemmas.Bool.{false≢true, false_from_ne_true, not-true, and_from, and_parts}
 use Rattle.std.proofs.Math.Nat.{le_trans, pow-le-pow_left, mul-le-mul_left}
-use Rattle.node_set.specs.Ascending.{has, IsBelowAll, IsAscending, share}
+use Rattle.node_set.specs.Ascending.{has, IsBelowAll, share}
 use Rattle.node_set.proofs.Ascending.{share_from, share_gives}
 use Rattle.whole_powers.proofs.Inequalities.{powers_add, zero_pow}
-use Rattle.coarse_cover.specs.Coarsening.{ball, union_of, touches, grown, is_enough, least, Grown, cluster_of, phase, is_homed, unhomed}
+use Rattle.coarse_cover.specs.Coarsening.{ball, union_of, touches, grown, is_enough, least, Grown, cluster_of, phase, is_homed}
 use Rattle.coarse_cover.specs.Progress.{IsReady}
-use Rattle.coarse_cover.proofs.Lists.{has_here, filter_keeps, filter_has, filter_same, filter_twice, filter_halves, filter_fewer, filter_more, some_length, ascending-filter}
-use Rattle.coarse_cover.proofs.Growth.{HoldCentres, union_has, union_from, touches_own, grown_waits, grown_stays, grown_leader, grown_picked, growths_few, enough_means, least_passes, least_within}
+use Rattle.coarse_cover.proofs.Lists.{filter_keeps, filter_has, filter_twice, filter_halves, filter_fewer, filter_more, some_length, ascending-filter}
+use Rattle.coarse_cover.proofs.Growth.{HoldCentres, union_from, touches_own, grown_waits, grown_leader, grown_picked, growths_few, enough_means, least_passes}
 
 -- ---- one cluster
 
@@ -95,9 +94,11 @@ phase_is balls k r zero (a ∷ rest) ready enough = absurd (omega arith)
 phase_is balls k r (suc more) [] ready enough = refl
 phase_is balls k r (suc more) (a ∷ rest) ready enough =
     let c : Grown = cluster_of balls k r (a ∷ rest) a in
-    let is : IsCluster balls k r (a ∷ rest) (cluster_of balls k r (a ∷ rest) a) = cluster_ready balls k r a rest ready in
-    (is, phase_is balls k r more (apart balls (cluster_of balls k r (a ∷ rest) a).members (a ∷ rest)) (ready_filter balls k r (a ∷ rest) (λ v. not (touches balls (cluster_of balls k r (a ∷ rest) a).members v)) ready)
-      (omega (arith, apart_fewer balls k r (a ∷ rest) (cluster_of balls k r (a ∷ rest) a) is)))
+    let is : IsCluster balls k r (a ∷ rest) (cluster_of balls k r (a ∷ rest) a) = cluster_ready balls k r a rest ready in (
+      is,
+      phase_is balls k r more (apart balls (cluster_of balls k r (a ∷ rest) a).members (a ∷ rest)) (ready_filter balls k r (a ∷ rest) (λ v. not (touches balls (cluster_of balls k r (a ∷ rest) a).members v)) ready)
+          (omega (arith, apart_fewer balls k r (a ∷ rest) (cluster_of balls k r (a ∷ rest) a) is)),
+    )
 
 module _ (balls : List (List ℕ)) (k r : ℕ) where
   pub homed_waits : (waiting : List ℕ) (cs : List Grown) → IsPhase balls k r waiting cs → (v : ℕ) → is_homed cs v ≡ true → has v waiting ≡ true
@@ -105,36 +106,41 @@ module _ (balls : List (List ℕ)) (k r : ℕ) where
   homed_waits waiting [] is v h = absurd (false≢true h)
   homed_waits waiting (c ∷ cs) is v h =
       elim (homed_cases c cs v h) [
-        inl here ↦ is.0.waits v here
-      | inr later ↦ (filter_keeps (λ w. not (touches balls c.members w)) v waiting (homed_waits (apart balls c.members waiting) cs is.1 v later)).0
+        | inl here ↦ is.0.waits v here
+        | inr later ↦ (filter_keeps (λ w. not (touches balls c.members w)) v waiting (homed_waits (apart balls c.members waiting) cs is.1 v later)).0
       ]
 
   -- the balls of a cluster and those of the later ones are counted apart
   split_homed : (waiting : List ℕ) (c : Grown) (cs : List Grown) → IsCluster balls k r waiting c →
-    length c.homed + length (filter (is_homed cs) (apart balls c.members waiting)) ≤ length (filter (is_homed (c ∷ cs)) waiting)
+      length c.homed + length (filter (is_homed cs) (apart balls c.members waiting)) ≤ length (filter (is_homed (c ∷ cs)) waiting)
   split_homed waiting c cs is =
       let own : length c.homed ≤ length (filter (λ v. is_homed (c ∷ cs) v && touches balls c.members v) waiting) =
-        subst (λ (n : ℕ). n ≤ length (filter (λ v. is_homed (c ∷ cs) v && touches balls c.members v) waiting)) (sym (ap length is.picked))
-        (filter_more (λ v. has v c.homed) (λ v. is_homed (c ∷ cs) v && touches balls c.members v) waiting
-        (λ v here h. and_from (is_homed (c ∷ cs) v) (touches balls c.members v) (homed_here c cs v h) (is.touching v h)))
+      subst (λ (n : ℕ). n ≤ length (filter (λ v. is_homed (c ∷ cs) v && touches balls c.members v) waiting)) (sym (ap length is.picked))
+      (filter_more (λ v. has v c.homed) (λ v. is_homed (c ∷ cs) v && touches balls c.members v) waiting
+      (λ v here h. and_from (is_homed (c ∷ cs) v) (touches balls c.members v) (homed_here c cs v h) (is.touching v h)))
       in
       let others : length (filter (λ v. not (touches balls c.members v) && is_homed cs v) waiting) ≤ length (filter (λ v. is_homed (c ∷ cs) v && not (touches balls c.members v)) waiting) =
-        filter_more (λ v. not (touches balls c.members v) && is_homed cs v) (λ v. is_homed (c ∷ cs) v && not (touches balls c.members v)) waiting
-        (λ v here h.
-        let both : (not (touches balls c.members v) ≡ true) × (is_homed cs v ≡ true) = and_parts (not (touches balls c.members v)) (is_homed cs v) h in
-        and_from (is_homed (c ∷ cs) v) (not (touches balls c.members v)) (homed_later c cs v both.1) both.0)
+      filter_more (λ v. not (touches balls c.members v) && is_homed cs v) (λ v. is_homed (c ∷ cs) v && not (touches balls c.members v)) waiting
+      (λ v here h.
+      let both : (not (touches balls c.members v) ≡ true) × (is_homed cs v ≡ true) = and_parts (not (touches balls c.members v)) (is_homed cs v) h in
+      and_from (is_homed (c ∷ cs) v) (not (touches balls c.members v)) (homed_later c cs v both.1) both.0)
       in
-      omega (arith, own, others, filter_halves (touches balls c.members) (filter (is_homed (c ∷ cs)) waiting),
-      ap length (filter_twice (touches balls c.members) (is_homed (c ∷ cs)) waiting),
-      ap length (filter_twice (λ v. not (touches balls c.members v)) (is_homed (c ∷ cs)) waiting),
-      ap length (filter_twice (is_homed cs) (λ v. not (touches balls c.members v)) waiting))
+      omega (
+        arith,
+        own,
+        others,
+        filter_halves (touches balls c.members) (filter (is_homed (c ∷ cs)) waiting),
+        ap length (filter_twice (touches balls c.members) (is_homed (c ∷ cs)) waiting),
+        ap length (filter_twice (λ v. not (touches balls c.members v)) (is_homed (c ∷ cs)) waiting),
+        ap length (filter_twice (is_homed cs) (λ v. not (touches balls c.members v)) waiting),
+      )
 
   pub phase_size : (waiting : List ℕ) (cs : List Grown) → 0 < k → IsPhase balls k r waiting cs → length waiting ^ k ≤ r * length (filter (is_homed cs) waiting) ^ k
   phase_size waiting [] pos is = subst (λ (w : List ℕ). length w ^ k ≤ r * length (filter (is_homed []) w) ^ k) (sym is) (omega (arith, zero_pow k pos))
   phase_size waiting (c ∷ cs) pos is =
       let sums : (length (filter (touches balls c.members) waiting) + length (apart balls c.members waiting)) ^ k ≤ r * (length c.homed + length (filter (is_homed cs) (apart balls c.members waiting))) ^ k =
-        powers_add k r (length (filter (touches balls c.members) waiting)) (length (apart balls c.members waiting)) (length c.homed) (length (filter (is_homed cs) (apart balls c.members waiting))) pos is.0.enough
-        (phase_size (apart balls c.members waiting) cs pos is.1)
+      powers_add k r (length (filter (touches balls c.members) waiting)) (length (apart balls c.members waiting)) (length c.homed) (length (filter (is_homed cs) (apart balls c.members waiting))) pos is.0.enough
+      (phase_size (apart balls c.members waiting) cs pos is.1)
       in
       le_trans (subst (λ (n : ℕ). n ^ k ≤ r * (length c.homed + length (filter (is_homed cs) (apart balls c.members waiting))) ^ k) (filter_halves (touches balls c.members) waiting) sums)
       (mul-le-mul_left r (pow-le-pow_left (split_homed waiting c cs is.0) k))
@@ -149,11 +155,11 @@ module _ (balls : List (List ℕ)) (k r : ℕ) where
   -- no later cluster has a node of a set that no waiting ball touches
   cluster_misses : (nodes waiting : List ℕ) (c : Grown) (x : ℕ) → IsCluster balls k r waiting c → ((v : ℕ) → has v waiting ≡ true → touches balls nodes v ≡ false) → has x nodes ≡ true → has x c.members ≡ false
   cluster_misses nodes waiting c x is none here = false_from_ne_true (has x c.members) (λ there.
-    let w : (v : ℕ) × (has v c.homed ≡ true) × (has x (ball balls v) ≡ true) = union_from balls x c.homed (subst (λ (l : List ℕ). has x l ≡ true) is.joined there) in
-    false≢true (sym (none w.0 (is.waits w.0 w.1)) ∙ share_from x (ball balls w.0) nodes w.2 here))
+      let w : (v : ℕ) × (has v c.homed ≡ true) × (has x (ball balls v) ≡ true) = union_from balls x c.homed (subst (λ (l : List ℕ). has x l ≡ true) is.joined there) in
+      false≢true (sym (none w.0 (is.waits w.0 w.1)) ∙ share_from x (ball balls w.0) nodes w.2 here))
 
   pub later_apart : (nodes waiting : List ℕ) (cs : List Grown) → IsPhase balls k r waiting cs →
-    ((v : ℕ) → has v waiting ≡ true → touches balls nodes v ≡ false) → All (λ (d : Grown). share nodes d.members ≡ false) cs
+      ((v : ℕ) → has v waiting ≡ true → touches balls nodes v ≡ false) → All (λ (d : Grown). share nodes d.members ≡ false) cs
   later_apart nodes waiting [] is none = All-nil (λ (d : Grown). share nodes d.members ≡ false)
   later_apart nodes waiting (c ∷ cs) is none =
       All-cons (λ (d : Grown). share nodes d.members ≡ false) c cs

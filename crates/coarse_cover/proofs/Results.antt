@@ -1,11 +1,10 @@
 -- What a finished cover is, and what follows of its clusters.
-use Rattle.std.proofs.Common.{◌≡◌, ◌≢◌, ◌⊎◌, inl, inr, ℕ, zero, suc, ◌+◌, ◌-◌, ◌*◌, ◌^◌, ◌<◌, ◌≤◌, Bool, true, false, cond, not, ◌&&◌, List, [], ◌∷◌, ◌++◌, length, length-append, append_assoc, get_or, map, refl, sym, ◌∙◌, ap, subst, arith}
+use Rattle.std.proofs.Common.{◌≡◌, ℕ, zero, suc, ◌+◌, ◌-◌, ◌*◌, ◌^◌, ◌<◌, ◌≤◌, true, false, cond, List, [], ◌∷◌, ◌++◌, length, get_or, map, refl, sym, ◌∙◌, ap, subst, arith}
 use Rattle.std.specs.Prelude.{count_by, All}
 use Rattle.std.specs.List.{sum_by}
-use Rattle.std.proofs.lemmas.Bool.{cases_lt, false≢true}
 use Rattle.std.proofs.lemmas.Grind.{same_number_lists}
 use Rattle.std.proofs.lemmas.List.{get_or-map, length-map}
-use Rattle.std.proofs.lemmas.List.Elements.{All-nil, All-cons, All-append, All-map, All-weaker}
+use Rattle.std.proofs.lemmas.List.Elements.{All-nil, All-append, All-map, All-weaker}
 use Rattle.std.proofs.lemmas.List.Sums.{sum_by-cons}
 use Rattle.node_set.specs.Ascending.{has, share, passing}
 use Rattle.node_set.proofs.Ascending.{has-passing}
@@ -41,18 +40,18 @@ append_nothing [] = refl
 append_nothing (x ∷ xs) = ap (λ (l : List Cluster). x ∷ l) (append_nothing xs)
 
 pub is_cover : (balls : List (List ℕ)) (k : ℕ) (left : List ℕ) (cover : Cover) → IsBetween balls k left cover.clusters.items cover.home.items cover.phases → left ≡ [] → length cover.home.items ≡ length balls →
-  IsCover (length balls) (coarsening balls k) cover
+    IsCover (length balls) (coarsening balls k) cover
 unfolding listed all_clusters
 is_cover balls k left cover between none sized =
     let over : Agrees (length balls) (coarsening balls k) [] [] cover.clusters.items cover.home.items cover.phases =
-      subst (λ (l : List (List Grown)). Agrees (length balls) (coarsening balls k) l [] cover.clusters.items cover.home.items cover.phases) (phases_of_none balls k)
-      (subst (λ (l : List ℕ). Agrees (length balls) (coarsening balls k) (phases_of balls k l) l cover.clusters.items cover.home.items cover.phases) none between.so_far)
+    subst (λ (l : List (List Grown)). Agrees (length balls) (coarsening balls k) l [] cover.clusters.items cover.home.items cover.phases) (phases_of_none balls k)
+    (subst (λ (l : List ℕ). Agrees (length balls) (coarsening balls k) (phases_of balls k l) l cover.clusters.items cover.home.items cover.phases) none between.so_far)
     in
     record {
       clusters = sym (append_nothing cover.clusters.items) ∙ over.clusters_so_far;
       homes = same_number_lists cover.home.items (map (home_of (all_clusters (coarsening balls k))) (centres (length balls)))
-        (sized ∙ sym (length-map (centres (length balls)) (home_of (all_clusters (coarsening balls k))) ∙ length-centres (length balls)))
-        (λ v h. over.homes_so_far v (omega arith) ∙ sym (home_at (home_of (all_clusters (coarsening balls k))) (length balls) v (omega arith)));
+          (sized ∙ sym (length-map (centres (length balls)) (home_of (all_clusters (coarsening balls k))) ∙ length-centres (length balls)))
+          (λ v h. over.homes_so_far v (omega arith) ∙ sym (home_at (home_of (all_clusters (coarsening balls k))) (length balls) v (omega arith)));
       phases = omega (arith, over.phases_so_far);
     }
 
@@ -82,9 +81,9 @@ count_map f x (y ∷ ys) =
 pub overlap : (balls : List (List ℕ)) (k n : ℕ) (cover : Cover) (x : ℕ) → 0 < k → AreCentred balls → IsCover n (coarsening balls k) cover → count_by (λ c. has x c.members.members) cover.clusters.items ≤ cover.phases
 overlap balls k n cover x some centred is =
     let same : count_by (λ c. has x c.members.members) cover.clusters.items ≡ count_by (λ c. has x c.members) (all_clusters (coarsening balls k)) =
-      ap (λ (l : List Cluster). count_by (λ (c : Cluster). has x c.members.members) l) is.clusters ∙
-      (count_map (λ (c : Cluster). c.members.members) x (listed n 0 (coarsening balls k)) ∙
-      (ap (λ (l : List (List ℕ)). sum_by (λ m. cond (has x m) 1 0) l) (listed_nodes n 0 (coarsening balls k)) ∙ sym (count_map (λ (c : Grown). c.members) x (all_clusters (coarsening balls k)))))
+    ap (λ (l : List Cluster). count_by (λ (c : Cluster). has x c.members.members) l) is.clusters ∙
+    (count_map (λ (c : Cluster). c.members.members) x (listed n 0 (coarsening balls k)) ∙
+    (ap (λ (l : List (List ℕ)). sum_by (λ m. cond (has x m) 1 0) l) (listed_nodes n 0 (coarsening balls k)) ∙ sym (count_map (λ (c : Grown). c.members) x (all_clusters (coarsening balls k)))))
     in
     omega (arith, same, is.phases, few_have balls k (centres (length balls)) (coarsening balls k) x (coarsening_phases balls k some centred))
 
@@ -115,27 +114,28 @@ nodes_at n i all clusters d e h =
 
 -- the cluster that is a ball's home has the ball's nodes
 home_has_nodes : (balls : List (List ℕ)) (k v x : ℕ) (left : List ℕ) (all : List (List Grown)) → ArePhases balls k left all → has v left ≡ true → has x (ball balls v) ≡ true →
-  has x (get_or (all_clusters all) (home_of (all_clusters all) v) no_cluster).members ≡ true
+    has x (get_or (all_clusters all) (home_of (all_clusters all) v) no_cluster).members ≡ true
 home_has_nodes balls k v x left all are waits inside =
     let homed : is_homed (all_clusters all) v ≡ true = all_homed balls k left all are v waits in
     let within : home_of (all_clusters all) v < length (all_clusters all) = home_within balls k (all_clusters all) v homed in
     let joined : (get_or (all_clusters all) (home_of (all_clusters all) v) no_cluster).members ≡ union_of balls (get_or (all_clusters all) (home_of (all_clusters all) v) no_cluster).homed =
-      (all_joined balls k left all are (home_of (all_clusters all) v) no_cluster within).0
+    (all_joined balls k left all are (home_of (all_clusters all) v) no_cluster within).0
     in
     subst (λ (l : List ℕ). has x l ≡ true) (sym joined) (union_has balls x v (get_or (all_clusters all) (home_of (all_clusters all) v) no_cluster).homed (home_has balls k (all_clusters all) v no_cluster homed) inside)
 
 pub homes_hold : (balls : List (List ℕ)) (k n : ℕ) (cover : Cover) → 0 < k → AreCentred balls → n ≡ length balls → IsCover n (coarsening balls k) cover → AreHomes balls cover
 homes_hold balls k n cover some centred size is = λ v d h.
-  let are : ArePhases balls k (centres (length balls)) (coarsening balls k) = coarsening_phases balls k some centred in
-  let waits : has v (centres (length balls)) ≡ true = has-passing (λ w. true) v 0 (length balls) (omega arith) (omega arith) in
-  let home : get_or cover.home.items v 0 ≡ home_of (all_clusters (coarsening balls k)) v = ap (λ (l : List ℕ). get_or l v 0) is.homes ∙ home_at (home_of (all_clusters (coarsening balls k))) n v (omega arith) in
-  let within : home_of (all_clusters (coarsening balls k)) v < length (all_clusters (coarsening balls k)) =
+    let are : ArePhases balls k (centres (length balls)) (coarsening balls k) = coarsening_phases balls k some centred in
+    let waits : has v (centres (length balls)) ≡ true = has-passing (λ w. true) v 0 (length balls) (omega arith) (omega arith) in
+    let home : get_or cover.home.items v 0 ≡ home_of (all_clusters (coarsening balls k)) v = ap (λ (l : List ℕ). get_or l v 0) is.homes ∙ home_at (home_of (all_clusters (coarsening balls k))) n v (omega arith) in
+    let within : home_of (all_clusters (coarsening balls k)) v < length (all_clusters (coarsening balls k)) =
     home_within balls k (all_clusters (coarsening balls k)) v (all_homed balls k (centres (length balls)) (coarsening balls k) are v waits)
-  in
-  (subst (λ (i : ℕ). i < length cover.clusters.items) (sym home) (subst (λ (m : ℕ). home_of (all_clusters (coarsening balls k)) v < m) (sym (ap length is.clusters ∙ length-listed n 0 (coarsening balls k))) within),
-  λ x inside. subst (λ (i : ℕ). has x (get_or cover.clusters.items i d).members.members ≡ true) (sym home)
-    (subst (λ (l : List ℕ). has x l ≡ true) (sym (nodes_at n (home_of (all_clusters (coarsening balls k)) v) (coarsening balls k) cover.clusters.items d is.clusters within))
-    (home_has_nodes balls k v x (centres (length balls)) (coarsening balls k) are waits inside)))
+    in (
+      subst (λ (i : ℕ). i < length cover.clusters.items) (sym home) (subst (λ (m : ℕ). home_of (all_clusters (coarsening balls k)) v < m) (sym (ap length is.clusters ∙ length-listed n 0 (coarsening balls k))) within),
+      λ x inside. subst (λ (i : ℕ). has x (get_or cover.clusters.items i d).members.members ≡ true) (sym home)
+          (subst (λ (l : List ℕ). has x l ≡ true) (sym (nodes_at n (home_of (all_clusters (coarsening balls k)) v) (coarsening balls k) cover.clusters.items d is.clusters within))
+          (home_has_nodes balls k v x (centres (length balls)) (coarsening balls k) are waits inside)),
+    )
 
 -- ---- clusters of one phase are apart
 
@@ -151,12 +151,13 @@ module _ (balls : List (List ℕ)) (k n : ℕ) where
   apart_front : (r p : ℕ) (waiting : List ℕ) (cs : List Grown) (later : List (List Grown)) → IsPhase balls k r waiting cs → AreApart (listed n (suc p) later) → AreApart (map (shown n p) cs ++ listed n (suc p) later)
   unfolding shown
   apart_front r p waiting [] later is rest = rest
-  apart_front r p waiting (c ∷ cs) later is rest =
-      (All-append (λ (d : Cluster). d.phase ≡ p → share c.members d.members.members ≡ false) (map (shown n p) cs) (listed n (suc p) later)
-      (All-map (λ (d : Cluster). d.phase ≡ p → share c.members d.members.members ≡ false) (shown n p) cs
-      (All-weaker (λ (d : Grown). share c.members d.members ≡ false) (λ (d : Grown). p ≡ p → share c.members d.members ≡ false) (λ d h e. h) cs (phase_apart balls k r waiting c cs is)))
-      (All-weaker (λ (d : Cluster). suc p ≤ d.phase) (λ (d : Cluster). d.phase ≡ p → share c.members d.members.members ≡ false) (λ d h e. absurd (omega arith)) (listed n (suc p) later) (later_phases n (suc p) later)),
-      apart_front r p (apart balls c.members waiting) cs later is.1 rest)
+  apart_front r p waiting (c ∷ cs) later is rest = (
+    All-append (λ (d : Cluster). d.phase ≡ p → share c.members d.members.members ≡ false) (map (shown n p) cs) (listed n (suc p) later)
+        (All-map (λ (d : Cluster). d.phase ≡ p → share c.members d.members.members ≡ false) (shown n p) cs
+        (All-weaker (λ (d : Grown). share c.members d.members ≡ false) (λ (d : Grown). p ≡ p → share c.members d.members ≡ false) (λ d h e. h) cs (phase_apart balls k r waiting c cs is)))
+        (All-weaker (λ (d : Cluster). suc p ≤ d.phase) (λ (d : Cluster). d.phase ≡ p → share c.members d.members.members ≡ false) (λ d h e. absurd (omega arith)) (listed n (suc p) later) (later_phases n (suc p) later)),
+    apart_front r p (apart balls c.members waiting) cs later is.1 rest,
+  )
 
   apart_listed : (p : ℕ) (left : List ℕ) (all : List (List Grown)) → ArePhases balls k left all → AreApart (listed n p all)
   unfolding listed

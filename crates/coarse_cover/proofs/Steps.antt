@@ -1,10 +1,10 @@
 -- What is done, and what the definition gives for the rest.
-use Rattle.std.proofs.Common.{◌≡◌, ◌≢◌, ◌⊎◌, inl, inr, ℕ, zero, suc, ◌+◌, ◌<◌, ◌≤◌, Bool, true, false, cond, not, ◌&&◌, List, [], ◌∷◌, ◌++◌, length, length-append, append_assoc, filter, get_or, map, refl, sym, ◌∙◌, ap, subst, arith}
+use Rattle.std.proofs.Common.{◌≡◌, inl, inr, ℕ, zero, suc, ◌+◌, ◌<◌, ◌≤◌, Bool, true, false, cond, not, ◌&&◌, List, [], ◌∷◌, ◌++◌, length, length-append, append_assoc, filter, get_or, map, refl, sym, ◌∙◌, ap, subst, arith}
 use Rattle.std.proofs.Math.Nat.{le_refl}
-use Rattle.std.proofs.lemmas.Bool.{cases_Bool, cases_lt, false≢true, not-true, not_from_false, false_from_ne_true, and_right}
-use Rattle.node_set.specs.Ascending.{has, IsAscending, passing}
+use Rattle.std.proofs.lemmas.Bool.{cases_lt, false≢true, not-true, not_from_false, false_from_ne_true, and_right}
+use Rattle.node_set.specs.Ascending.{has, passing}
 use Rattle.node_set.proofs.Ascending.{has-passing, passing_over, ascending-passing}
-use Rattle.coarse_cover.specs.Coarsening.{ball, touches, Grown, cluster_of, phase, phases, is_homed, unhomed, all_clusters, home_of, centres, coarsening}
+use Rattle.coarse_cover.specs.Coarsening.{touches, Grown, cluster_of, phase, phases, is_homed, unhomed, all_clusters, home_of, centres, coarsening}
 use Rattle.coarse_cover.specs.Covers.{listed, shown, AreCentred}
 use Rattle.coarse_cover.specs.Progress.{phase_of, phases_of, IsReady, Agrees, IsInPhase, IsBetween, IsAdded, marked}
 use Rattle.coarse_cover.specs.declared.cover.Cluster.{Cluster}
@@ -38,7 +38,7 @@ unfolding phase_of phase
 phase_of_none balls k r = refl
 
 phase_of_lead : (balls : List (List ℕ)) (k r a : ℕ) (rest : List ℕ) → IsReady balls k r (a ∷ rest) →
-  phase_of balls k r (a ∷ rest) ≡ cluster_of balls k r (a ∷ rest) a ∷ phase_of balls k r (apart balls (cluster_of balls k r (a ∷ rest) a).members (a ∷ rest))
+    phase_of balls k r (a ∷ rest) ≡ cluster_of balls k r (a ∷ rest) a ∷ phase_of balls k r (apart balls (cluster_of balls k r (a ∷ rest) a).members (a ∷ rest))
 unfolding phase_of phase
 phase_of_lead balls k r a rest ready =
     let fewer : length (apart balls (cluster_of balls k r (a ∷ rest) a).members (a ∷ rest)) < length (a ∷ rest) = apart_fewer balls k r (a ∷ rest) (cluster_of balls k r (a ∷ rest) a) (cluster_ready balls k r a rest ready) in
@@ -47,7 +47,7 @@ phase_of_lead balls k r a rest ready =
     (ready_filter balls k r (a ∷ rest) (λ v. not (touches balls (cluster_of balls k r (a ∷ rest) a).members v)) ready) (omega arith) (le_refl (length (apart balls (cluster_of balls k r (a ∷ rest) a).members (a ∷ rest)))))
 
 pub phase_of_next : (balls : List (List ℕ)) (k r a : ℕ) (waiting rest : List ℕ) → waiting ≡ a ∷ rest → IsReady balls k r waiting →
-  phase_of balls k r waiting ≡ cluster_of balls k r waiting a ∷ phase_of balls k r (apart balls (cluster_of balls k r waiting a).members waiting)
+    phase_of balls k r waiting ≡ cluster_of balls k r waiting a ∷ phase_of balls k r (apart balls (cluster_of balls k r waiting a).members waiting)
 phase_of_next balls k r a waiting rest leads ready =
     subst (λ (l : List ℕ). IsReady balls k r l → phase_of balls k r l ≡ cluster_of balls k r l a ∷ phase_of balls k r (apart balls (cluster_of balls k r l a).members l)) (sym leads) (phase_of_lead balls k r a rest) ready
 
@@ -89,7 +89,7 @@ unfolding phases_of phases
 phases_of_none balls k = refl
 
 pub phases_of_next : (balls : List (List ℕ)) (k : ℕ) (left : List ℕ) → 0 < length left → IsReady balls k (length left) left →
-  phases_of balls k left ≡ phase_of balls k (length left) left ∷ phases_of balls k (unhomed (phase_of balls k (length left) left) left)
+    phases_of balls k left ≡ phase_of balls k (length left) left ∷ phases_of balls k (unhomed (phase_of balls k (length left) left) left)
 unfolding phases_of phase_of phases first_phase
 phases_of_next balls k [] some ready = absurd (omega arith)
 phases_of_next balls k (v ∷ vs) some ready =
@@ -138,15 +138,15 @@ home_step false false old new len more rest f inside next before now = omega ari
 
 -- what the steps keep
 agrees_cluster : (n : ℕ) (all later : List (List Grown)) (c : Grown) (cs : List Grown) (left : List ℕ) (before after : List Cluster) (home new_home : List ℕ) (p : ℕ) →
-  Agrees n all ((c ∷ cs) ∷ later) left before home p → ((v : ℕ) → has v c.homed ≡ true → has v left ≡ true) → after ≡ before ++ shown n p c ∷ [] →
-  ((v : ℕ) → v < n → get_or new_home v 0 ≡ cond (has v c.homed) (length before) (get_or home v 0)) →
-  Agrees n all (cs ∷ later) (filter (λ v. not (has v c.homed)) left) after new_home p
+    Agrees n all ((c ∷ cs) ∷ later) left before home p → ((v : ℕ) → has v c.homed ≡ true → has v left ≡ true) → after ≡ before ++ shown n p c ∷ [] →
+    ((v : ℕ) → v < n → get_or new_home v 0 ≡ cond (has v c.homed) (length before) (get_or home v 0)) →
+    Agrees n all (cs ∷ later) (filter (λ v. not (has v c.homed)) left) after new_home p
 unfolding listed all_clusters home_of
 agrees_cluster n all later c cs left before after home new_home p so_far inside added homed = record {
   clusters_so_far = rw (added, append_assoc before (shown n p c ∷ []) (map (shown n p) cs ++ listed n (suc p) later)) so_far.clusters_so_far;
   homes_so_far = λ v h. subst (λ (b : Bool). cond b (length after + home_of (cs ++ all_clusters later) v) (get_or new_home v 0) ≡ home_of (all_clusters all) v) (sym (has-filter (λ w. not (has w c.homed)) v left))
-    (home_step (has v left) (has v c.homed) (get_or home v 0) (get_or new_home v 0) (length before) (length after) (home_of (cs ++ all_clusters later) v) (home_of (all_clusters all) v) (inside v)
-    (ap length added ∙ length-append before (shown n p c ∷ [])) (so_far.homes_so_far v h) (homed v h));
+      (home_step (has v left) (has v c.homed) (get_or home v 0) (get_or new_home v 0) (length before) (length after) (home_of (cs ++ all_clusters later) v) (home_of (all_clusters all) v) (inside v)
+      (ap length added ∙ length-append before (shown n p c ∷ [])) (so_far.homes_so_far v h) (homed v h));
   phases_so_far = so_far.phases_so_far;
 }
 
@@ -160,23 +160,23 @@ agrees_as n all later same left clusters home p e so_far = subst (λ (l : List (
 -- ---- a phase: its start, its steps, its end
 
 pub in_phase_start : (balls : List (List ℕ)) (k r : ℕ) (waiting left : List ℕ) (clusters : List Cluster) (home : List ℕ) (p : ℕ) →
-  IsBetween balls k left clusters home p → 0 < length left → waiting ≡ left → r ≡ length left → IsInPhase balls k r waiting left clusters home p
+    IsBetween balls k left clusters home p → 0 < length left → waiting ≡ left → r ≡ length left → IsInPhase balls k r waiting left clusters home p
 in_phase_start balls k r waiting left clusters home p between some same counted =
     subst (λ (l : List ℕ). IsInPhase balls k r l left clusters home p) (sym same) (subst (λ (m : ℕ). IsInPhase balls k m left left clusters home p) (sym counted) (record {
       ready = between.left_ready;
       left_ready = between.left_ready;
       waiting_left = λ v h. h;
       so_far = agrees_as (length balls) (coarsening balls k) (phases_of balls k left) (phase_of balls k (length left) left ∷ phases_of balls k (unhomed (phase_of balls k (length left) left) left)) left clusters home p
-        (phases_of_next balls k left some between.left_ready) between.so_far;
+          (phases_of_next balls k left some between.left_ready) between.so_far;
     }))
 
 pub in_phase_end : (balls : List (List ℕ)) (k r : ℕ) (waiting left : List ℕ) (clusters : List Cluster) (home : List ℕ) (p : ℕ) →
-  IsInPhase balls k r waiting left clusters home p → waiting ≡ [] → IsBetween balls k left clusters home (suc p)
+    IsInPhase balls k r waiting left clusters home p → waiting ≡ [] → IsBetween balls k left clusters home (suc p)
 in_phase_end balls k r waiting left clusters home p phase none = record {
   left_ready = phase.left_ready;
   so_far = agrees_phase (length balls) (coarsening balls k) (phases_of balls k left) left clusters home p
-    (agrees_as (length balls) (coarsening balls k) (phase_of balls k r waiting ∷ phases_of balls k (unhomed (phase_of balls k r waiting) left)) ([] ∷ phases_of balls k left) left clusters home p
-    (ap (λ (cs : List Grown). cs ∷ phases_of balls k (unhomed cs left)) (ap (phase_of balls k r) none ∙ phase_of_none balls k r) ∙ ap (λ (l : List ℕ). [] ∷ phases_of balls k l) (unhomed_none left)) phase.so_far);
+      (agrees_as (length balls) (coarsening balls k) (phase_of balls k r waiting ∷ phases_of balls k (unhomed (phase_of balls k r waiting) left)) ([] ∷ phases_of balls k left) left clusters home p
+      (ap (λ (cs : List Grown). cs ∷ phases_of balls k (unhomed cs left)) (ap (phase_of balls k r) none ∙ phase_of_none balls k r) ∙ ap (λ (l : List ℕ). [] ∷ phases_of balls k l) (unhomed_none left)) phase.so_far);
 }
 
 pub cluster_is : (balls : List (List ℕ)) (k r a : ℕ) (waiting rest : List ℕ) → waiting ≡ a ∷ rest → IsReady balls k r waiting → IsCluster balls k r waiting (cluster_of balls k r waiting a)
@@ -191,31 +191,31 @@ pub leader_gone : (balls : List (List ℕ)) (k r a : ℕ) (waiting rest : List �
 leader_gone balls k r a waiting rest leads ready =
     let is : IsCluster balls k r waiting (cluster_of balls k r waiting a) = cluster_is balls k r a waiting rest leads ready in
     let touched : touches balls (cluster_of balls k r waiting a).members a ≡ true =
-      subst (λ (v : ℕ). touches balls (cluster_of balls k r waiting a).members v ≡ true) (first_is balls k r a waiting) (is.touching (cluster_of balls k r waiting a).first is.leads)
+    subst (λ (v : ℕ). touches balls (cluster_of balls k r waiting a).members v ≡ true) (first_is balls k r a waiting) (is.touching (cluster_of balls k r waiting a).first is.leads)
     in
     has-filter (λ v. not (touches balls (cluster_of balls k r waiting a).members v)) a waiting ∙ (ap (λ (b : Bool). has a waiting && not b) touched ∙ and_right (has a waiting) false refl)
 
 pub in_phase_next : (balls : List (List ℕ)) (k r a : ℕ) (rest : List ℕ) (old new : Work) (before after : Cover) → marked old.waiting.items ≡ a ∷ rest →
-  IsInPhase balls k r (marked old.waiting.items) (marked old.left.items) before.clusters.items before.home.items before.phases →
-  IsAdded (length balls) balls (cluster_of balls k r (marked old.waiting.items) a) old new before after →
-  IsInPhase balls k r (marked new.waiting.items) (marked new.left.items) after.clusters.items after.home.items after.phases
+    IsInPhase balls k r (marked old.waiting.items) (marked old.left.items) before.clusters.items before.home.items before.phases →
+    IsAdded (length balls) balls (cluster_of balls k r (marked old.waiting.items) a) old new before after →
+    IsInPhase balls k r (marked new.waiting.items) (marked new.left.items) after.clusters.items after.home.items after.phases
 in_phase_next balls k r a rest old new before after leads phase added =
     let is : IsCluster balls k r (marked old.waiting.items) (cluster_of balls k r (marked old.waiting.items) a) = cluster_is balls k r a (marked old.waiting.items) rest leads phase.ready in
     rw (added.waiting, added.left, added.phases) (record {
       ready = ready_filter balls k r (marked old.waiting.items) (λ v. not (touches balls (cluster_of balls k r (marked old.waiting.items) a).members v)) phase.ready;
       left_ready = ready_shrunk balls k (marked old.left.items) (λ v. not (has v (cluster_of balls k r (marked old.waiting.items) a).homed)) phase.left_ready;
       waiting_left = λ v h.
-        let w : (has v (marked old.waiting.items) ≡ true) × (not (touches balls (cluster_of balls k r (marked old.waiting.items) a).members v) ≡ true) =
+          let w : (has v (marked old.waiting.items) ≡ true) × (not (touches balls (cluster_of balls k r (marked old.waiting.items) a).members v) ≡ true) =
           filter_keeps (λ u. not (touches balls (cluster_of balls k r (marked old.waiting.items) a).members u)) v (marked old.waiting.items) h
-        in
-        filter_has (λ u. not (has u (cluster_of balls k r (marked old.waiting.items) a).homed)) v (marked old.left.items) (phase.waiting_left v w.0)
-        (not_from_false (has v (cluster_of balls k r (marked old.waiting.items) a).homed) (false_from_ne_true (has v (cluster_of balls k r (marked old.waiting.items) a).homed) (λ homed.
-        false≢true (sym (not-true (touches balls (cluster_of balls k r (marked old.waiting.items) a).members v) w.1) ∙ is.touching v homed))));
+          in
+          filter_has (λ u. not (has u (cluster_of balls k r (marked old.waiting.items) a).homed)) v (marked old.left.items) (phase.waiting_left v w.0)
+          (not_from_false (has v (cluster_of balls k r (marked old.waiting.items) a).homed) (false_from_ne_true (has v (cluster_of balls k r (marked old.waiting.items) a).homed) (λ homed.
+          false≢true (sym (not-true (touches balls (cluster_of balls k r (marked old.waiting.items) a).members v) w.1) ∙ is.touching v homed))));
       so_far = agrees_cluster (length balls) (coarsening balls k) (phases_of balls k (unhomed (phase_of balls k r (apart balls (cluster_of balls k r (marked old.waiting.items) a).members (marked old.waiting.items))) (filter (λ v. not (has v (cluster_of balls k r (marked old.waiting.items) a).homed)) (marked old.left.items)))) (cluster_of balls k r (marked old.waiting.items) a) (phase_of balls k r (apart balls (cluster_of balls k r (marked old.waiting.items) a).members (marked old.waiting.items))) (marked old.left.items) before.clusters.items after.clusters.items before.home.items after.home.items before.phases
-        (agrees_as (length balls) (coarsening balls k) (phase_of balls k r (marked old.waiting.items) ∷ phases_of balls k (unhomed (phase_of balls k r (marked old.waiting.items)) (marked old.left.items))) (((cluster_of balls k r (marked old.waiting.items) a) ∷ (phase_of balls k r (apart balls (cluster_of balls k r (marked old.waiting.items) a).members (marked old.waiting.items)))) ∷ phases_of balls k (unhomed (phase_of balls k r (apart balls (cluster_of balls k r (marked old.waiting.items) a).members (marked old.waiting.items))) (filter (λ v. not (has v (cluster_of balls k r (marked old.waiting.items) a).homed)) (marked old.left.items)))) (marked old.left.items) before.clusters.items before.home.items before.phases
-        (ap (λ (cs : List Grown). cs ∷ phases_of balls k (unhomed cs (marked old.left.items))) (phase_of_next balls k r a (marked old.waiting.items) rest leads phase.ready) ∙
-        ap (λ (l : List ℕ). ((cluster_of balls k r (marked old.waiting.items) a) ∷ (phase_of balls k r (apart balls (cluster_of balls k r (marked old.waiting.items) a).members (marked old.waiting.items)))) ∷ phases_of balls k l) (unhomed_next (cluster_of balls k r (marked old.waiting.items) a) (phase_of balls k r (apart balls (cluster_of balls k r (marked old.waiting.items) a).members (marked old.waiting.items))) (marked old.left.items))) phase.so_far)
-        (λ v h. phase.waiting_left v (is.waits v h)) added.clusters added.homes;
+          (agrees_as (length balls) (coarsening balls k) (phase_of balls k r (marked old.waiting.items) ∷ phases_of balls k (unhomed (phase_of balls k r (marked old.waiting.items)) (marked old.left.items))) (((cluster_of balls k r (marked old.waiting.items) a) ∷ (phase_of balls k r (apart balls (cluster_of balls k r (marked old.waiting.items) a).members (marked old.waiting.items)))) ∷ phases_of balls k (unhomed (phase_of balls k r (apart balls (cluster_of balls k r (marked old.waiting.items) a).members (marked old.waiting.items))) (filter (λ v. not (has v (cluster_of balls k r (marked old.waiting.items) a).homed)) (marked old.left.items)))) (marked old.left.items) before.clusters.items before.home.items before.phases
+          (ap (λ (cs : List Grown). cs ∷ phases_of balls k (unhomed cs (marked old.left.items))) (phase_of_next balls k r a (marked old.waiting.items) rest leads phase.ready) ∙
+          ap (λ (l : List ℕ). ((cluster_of balls k r (marked old.waiting.items) a) ∷ (phase_of balls k r (apart balls (cluster_of balls k r (marked old.waiting.items) a).members (marked old.waiting.items)))) ∷ phases_of balls k l) (unhomed_next (cluster_of balls k r (marked old.waiting.items) a) (phase_of balls k r (apart balls (cluster_of balls k r (marked old.waiting.items) a).members (marked old.waiting.items))) (marked old.left.items))) phase.so_far)
+          (λ v h. phase.waiting_left v (is.waits v h)) added.clusters added.homes;
     })
 
 -- ---- the start and the end of it all
@@ -226,8 +226,8 @@ ready_all balls k some centred = record {
   fits = le_refl (length (centres (length balls)));
   ascending = ascending-passing (λ v. true) 0 (length balls);
   centred = λ v h. elim (cases_lt v (length balls)) [
-    inl below ↦ centred v below
-  | inr over ↦ absurd (false≢true (sym (passing_over (λ w. true) v 0 (length balls) (omega arith)) ∙ h))
+    | inl below ↦ centred v below
+    | inr over ↦ absurd (false≢true (sym (passing_over (λ w. true) v 0 (length balls) (omega arith)) ∙ h))
   ];
 }
 
@@ -267,26 +267,30 @@ length-listed n p [] = refl
 length-listed n p (cs ∷ later) = omega (arith, length-append (map (shown n p) cs) (listed n (suc p) later), length-append cs (all_clusters later), length-map_shown n p cs, length-listed n (suc p) later)
 
 pub in_phase_numbers : (balls : List (List ℕ)) (k r : ℕ) (waiting left : List ℕ) (clusters : List Cluster) (home : List ℕ) (p : ℕ) → 0 < k → AreCentred balls →
-  IsInPhase balls k r waiting left clusters home p → length clusters ≤ length balls
+    IsInPhase balls k r waiting left clusters home p → length clusters ≤ length balls
 in_phase_numbers balls k r waiting left clusters home p some centred phase =
-    omega (arith, ap length phase.so_far.clusters_so_far,
-    length-append clusters (listed (length balls) p (phase_of balls k r waiting ∷ phases_of balls k (unhomed (phase_of balls k r waiting) left))),
-    length-listed (length balls) 0 (coarsening balls k), length-centres (length balls),
-    clusters_within balls k (centres (length balls)) (coarsening balls k) (coarsening_phases balls k some centred))
+    omega (
+      arith,
+      ap length phase.so_far.clusters_so_far,
+      length-append clusters (listed (length balls) p (phase_of balls k r waiting ∷ phases_of balls k (unhomed (phase_of balls k r waiting) left))),
+      length-listed (length balls) 0 (coarsening balls k),
+      length-centres (length balls),
+      clusters_within balls k (centres (length balls)) (coarsening balls k) (coarsening_phases balls k some centred),
+    )
 
 pub in_phase_number : (balls : List (List ℕ)) (k r : ℕ) (waiting left : List ℕ) (clusters : List Cluster) (home : List ℕ) (p : ℕ) → 0 < k → AreCentred balls →
-  IsInPhase balls k r waiting left clusters home p → p < length balls
+    IsInPhase balls k r waiting left clusters home p → p < length balls
 in_phase_number balls k r waiting left clusters home p some centred phase =
     omega (arith, phase.so_far.phases_so_far, length-centres (length balls), phases_within balls k (centres (length balls)) (coarsening balls k) (coarsening_phases balls k some centred))
 
 pub none_next : (balls : List (List ℕ)) (k r a : ℕ) (rest : List ℕ) (old new : List Bool) → marked old ≡ a ∷ rest → IsReady balls k r (marked old) →
-  marked new ≡ apart balls (cluster_of balls k r (marked old) a).members (marked old) → ((v : ℕ) → v < a → get_or old v false ≡ false) → (v : ℕ) → v < a + 1 → get_or new v false ≡ false
+    marked new ≡ apart balls (cluster_of balls k r (marked old) a).members (marked old) → ((v : ℕ) → v < a → get_or old v false ≡ false) → (v : ℕ) → v < a + 1 → get_or new v false ≡ false
 none_next balls k r a rest old new leads ready gone none v h =
     sym (has-marked new v) ∙ (ap (λ (l : List ℕ). has v l) gone ∙ elim (cases_lt v a) [
-      inl before ↦
-      has-filter (λ u. not (touches balls (cluster_of balls k r (marked old) a).members u)) v (marked old) ∙
-      ap (λ (b : Bool). b && not (touches balls (cluster_of balls k r (marked old) a).members v)) (has-marked old v ∙ none v before)
-    | inr here ↦
-      let same : v ≡ a = omega arith in
-      subst (λ (u : ℕ). has u (apart balls (cluster_of balls k r (marked old) a).members (marked old)) ≡ false) (sym same) (leader_gone balls k r a (marked old) rest leads ready)
+      | inl before ↦
+          has-filter (λ u. not (touches balls (cluster_of balls k r (marked old) a).members u)) v (marked old) ∙
+          ap (λ (b : Bool). b && not (touches balls (cluster_of balls k r (marked old) a).members v)) (has-marked old v ∙ none v before)
+      | inr here ↦
+          let same : v ≡ a = omega arith in
+          subst (λ (u : ℕ). has u (apart balls (cluster_of balls k r (marked old) a).members (marked old)) ≡ false) (sym same) (leader_gone balls k r a (marked old) rest leads ready)
     ])

@@ -1,17 +1,16 @@
 -- All phases: how many they are, that each ball finds a home, and how many clusters a node is in.
-use Rattle.std.proofs.Common.{◌≡◌, ◌≢◌, ◌⊎◌, inl, inr, ℕ, zero, suc, ◌+◌, ◌-◌, ◌*◌, ◌^◌, ◌<◌, ◌≤◌, Bool, true, false, cond, not, ◌&&◌, ◌||◌, List, [], ◌∷◌, ◌++◌, length, length-append, filter, get_or, refl, sym, ◌∙◌, ap, subst, arith}
+use Rattle.std.proofs.Common.{◌≡◌, inl, inr, ℕ, zero, suc, ◌+◌, ◌-◌, ◌*◌, ◌^◌, ◌<◌, ◌≤◌, Bool, true, false, cond, not, List, [], ◌∷◌, ◌++◌, length, length-append, filter, get_or, refl, ap, subst, arith}
 use Rattle.std.specs.Prelude.{count_by, All}
 use Rattle.std.proofs.Math.Nat.{le_refl}
 use Rattle.std.proofs.lemmas.List.Elements.{All-nil, All-append}
 use Rattle.std.proofs.lemmas.List.Sums.{sum_by-append}
-use Rattle.std.proofs.lemmas.Bool.{cases_Bool, cases_lt, false≢true, not_from_false}
-use Rattle.node_set.specs.Ascending.{has, IsBelowAll, IsAscending, share}
+use Rattle.std.proofs.lemmas.Bool.{cases_Bool, false≢true, not_from_false}
+use Rattle.node_set.specs.Ascending.{has}
 use Rattle.whole_powers.proofs.Inequalities.{one_phase, zero_pow}
-use Rattle.coarse_cover.specs.Coarsening.{ball, union_of, touches, Grown, cluster_of, phase, is_homed, unhomed, phases, all_clusters, home_of}
+use Rattle.coarse_cover.specs.Coarsening.{union_of, Grown, phase, is_homed, unhomed, phases, all_clusters, home_of}
 use Rattle.coarse_cover.specs.Progress.{IsReady}
-use Rattle.coarse_cover.proofs.Lists.{has_here, filter_keeps, filter_has, filter_halves, filter_fewer, some_length, ascending-filter}
-use Rattle.coarse_cover.proofs.Growth.{HoldCentres, union_has}
-use Rattle.coarse_cover.proofs.Phase.{IsCluster, IsPhase, ready_filter, phase_is, phase_size, phase_count, phase_once, phase_joined, homed_waits}
+use Rattle.coarse_cover.proofs.Lists.{filter_has, filter_halves, filter_fewer}
+use Rattle.coarse_cover.proofs.Phase.{IsPhase, ready_filter, phase_is, phase_size, phase_count, phase_once, phase_joined}
 
 -- the lists are those of the phases of the balls that are left
 abbrev pub ArePhases : List (List ℕ) → ℕ → List ℕ → List (List Grown) → Type 0
@@ -38,14 +37,16 @@ phases_are balls k zero (v ∷ vs) ready enough = absurd (omega arith)
 phases_are balls k (suc more) [] ready enough = refl
 phases_are balls k (suc more) (v ∷ vs) ready enough =
     let here : IsPhase balls k (length (v ∷ vs)) (v ∷ vs) (phase balls k (length (v ∷ vs)) (length (v ∷ vs)) (v ∷ vs)) =
-      phase_is balls k (length (v ∷ vs)) (length (v ∷ vs)) (v ∷ vs) ready (le_refl (length (v ∷ vs)))
+    phase_is balls k (length (v ∷ vs)) (length (v ∷ vs)) (v ∷ vs) ready (le_refl (length (v ∷ vs)))
     in
-    let some : 0 < length (phase balls k (length (v ∷ vs)) (length (v ∷ vs)) (v ∷ vs)) = some_clusters balls k (length (v ∷ vs)) v vs (phase balls k (length (v ∷ vs)) (length (v ∷ vs)) (v ∷ vs)) here in
-    (some, here,
-    phases_are balls k more (unhomed (phase balls k (length (v ∷ vs)) (length (v ∷ vs)) (v ∷ vs)) (v ∷ vs))
-    (ready_left balls k (v ∷ vs) (phase balls k (length (v ∷ vs)) (length (v ∷ vs)) (v ∷ vs)) ready)
-    (fewer (length (unhomed (phase balls k (length (v ∷ vs)) (length (v ∷ vs)) (v ∷ vs)) (v ∷ vs))) (length (phase balls k (length (v ∷ vs)) (length (v ∷ vs)) (v ∷ vs))) (length (v ∷ vs)) more
-    (phase_fewer balls k (length (v ∷ vs)) (v ∷ vs) (phase balls k (length (v ∷ vs)) (length (v ∷ vs)) (v ∷ vs)) here) some enough))
+    let some : 0 < length (phase balls k (length (v ∷ vs)) (length (v ∷ vs)) (v ∷ vs)) = some_clusters balls k (length (v ∷ vs)) v vs (phase balls k (length (v ∷ vs)) (length (v ∷ vs)) (v ∷ vs)) here in (
+      some,
+      here,
+      phases_are balls k more (unhomed (phase balls k (length (v ∷ vs)) (length (v ∷ vs)) (v ∷ vs)) (v ∷ vs))
+          (ready_left balls k (v ∷ vs) (phase balls k (length (v ∷ vs)) (length (v ∷ vs)) (v ∷ vs)) ready)
+          (fewer (length (unhomed (phase balls k (length (v ∷ vs)) (length (v ∷ vs)) (v ∷ vs)) (v ∷ vs))) (length (phase balls k (length (v ∷ vs)) (length (v ∷ vs)) (v ∷ vs))) (length (v ∷ vs)) more
+          (phase_fewer balls k (length (v ∷ vs)) (v ∷ vs) (phase balls k (length (v ∷ vs)) (length (v ∷ vs)) (v ∷ vs)) here) some enough),
+    )
   where
     fewer : (after taken before more : ℕ) → after + taken ≤ before → 0 < taken → before ≤ suc more → after ≤ more
     fewer after taken before more h some enough = omega arith
@@ -92,8 +93,8 @@ module _ (balls : List (List ℕ)) (k : ℕ) where
   all_homed left [] are v h = absurd (false≢true (subst (λ (l : List ℕ). has v l ≡ true) are h))
   all_homed left (cs ∷ later) are v h =
       elim (cases_Bool (is_homed cs v)) [
-        inl here ↦ homed_front cs (all_clusters later) v here
-      | inr gone ↦ homed_end cs (all_clusters later) v (all_homed (unhomed cs left) later are.2 v (filter_has (λ w. not (is_homed cs w)) v left h (not_from_false (is_homed cs v) gone)))
+        | inl here ↦ homed_front cs (all_clusters later) v here
+        | inr gone ↦ homed_end cs (all_clusters later) v (all_homed (unhomed cs left) later are.2 v (filter_has (λ w. not (is_homed cs w)) v left h (not_from_false (is_homed cs v) gone)))
       ]
 
   pub home_within : (cs : List Grown) (v : ℕ) → is_homed cs v ≡ true → home_of cs v < length cs
@@ -111,7 +112,7 @@ module _ (balls : List (List ℕ)) (k : ℕ) where
   home_has (c ∷ cs) v d h = at (has v c.homed) refl h (home_has cs v d)
     where
       at : (b : Bool) → has v c.homed ≡ b → cond b true (is_homed cs v) ≡ true → (is_homed cs v ≡ true → has v (get_or cs (home_of cs v) d).homed ≡ true) →
-        has v (get_or (c ∷ cs) (cond b 0 (suc (home_of cs v))) d).homed ≡ true
+          has v (get_or (c ∷ cs) (cond b 0 (suc (home_of cs v))) d).homed ≡ true
       at true e h rest = e
       at false e h rest = rest h
 

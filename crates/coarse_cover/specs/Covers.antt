@@ -1,6 +1,6 @@
 -- A cover as it is given: the clusters of all phases one after another, and for each ball the number of the cluster that is its home.
 -- Key law: `coarsen` gives the cover of its balls' coarsening, by its clause `exact`.
-use Rattle.std.specs.Prelude.{◌≡◌, ℕ, suc, ◌<◌, Bool, true, false, List, [], ◌∷◌, ◌++◌, length, get_or, map, All}
+use Rattle.std.specs.Prelude.{◌≡◌, ℕ, suc, ◌<◌, true, false, List, [], ◌∷◌, ◌++◌, length, get_or, map, All}
 use Rattle.node_set.specs.Ascending.{has, share}
 use Rattle.node_set.specs.Nodes.{Nodes}
 use Rattle.coarse_cover.specs.Coarsening.{ball, Grown, all_clusters, centres, home_of}
@@ -38,4 +38,4 @@ AreApart (c ∷ cs) = All (λ (d : Cluster). d.phase ≡ c.phase → share c.mem
 -- each ball lies in the cluster that is its home
 abbrev pub AreHomes : List (List ℕ) → Cover → Type 0
 AreHomes balls cover = (v : ℕ) (d : Cluster) → v < length balls →
-  (get_or cover.home.items v 0 < length cover.clusters.items) × ((x : ℕ) → has x (ball balls v) ≡ true → has x (get_or cover.clusters.items (get_or cover.home.items v 0) d).members.members ≡ true)
+    (get_or cover.home.items v 0 < length cover.clusters.items) × ((x : ℕ) → has x (ball balls v) ≡ true → has x (get_or cover.clusters.items (get_or cover.home.items v 0) d).members.members ≡ true)

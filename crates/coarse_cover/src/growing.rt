@@ -19,7 +19,15 @@ pub struct Growth {
 }
 
 // Grows the cluster that `first` leads, until one more growth would not multiply its balls enough.
-pub fn grow(alloc: Global, balls: &[NodeSet], k: u32, r: u32, first: usize, waiting: &[bool], growth: &mut Growth) -> Result<NodeSet, OutOfMemory>
+pub fn grow(
+    alloc: Global,
+    balls: &[NodeSet],
+    k: u32,
+    r: u32,
+    first: usize,
+    waiting: &[bool],
+    growth: &mut Growth,
+) -> Result<NodeSet, OutOfMemory>
     requires small { length balls.now ≤ 1024 }
     requires rooms { All (λ (b : Nodes). b.room ≡ length balls.now) balls.now }
     requires few { k ≤ 8 }

@@ -9,3 +9,6 @@ mod phasing;
 
 pub use coarsening::coarsen;
 pub use cover::{Cluster, Cover};
+
+#[cfg(test)]
+mod tests;

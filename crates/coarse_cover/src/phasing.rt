@@ -37,7 +37,15 @@ impl Work {
 }
 
 // Adds the cluster that `first` leads.
-fn add_cluster(alloc: Global, balls: &[NodeSet], k: u32, r: u32, first: usize, work: &mut Work, cover: &mut Cover) -> Result<(), OutOfMemory>
+fn add_cluster(
+    alloc: Global,
+    balls: &[NodeSet],
+    k: u32,
+    r: u32,
+    first: usize,
+    work: &mut Work,
+    cover: &mut Cover,
+) -> Result<(), OutOfMemory>
     requires small { length balls.now ≤ 1024 }
     requires rooms { All (λ (b : Nodes). b.room ≡ length balls.now) balls.now }
     requires few { k ≤ 8 }
@@ -64,7 +72,13 @@ fn add_cluster(alloc: Global, balls: &[NodeSet], k: u32, r: u32, first: usize, w
 }
 
 // Makes one phase of the balls that are left.
-pub fn make_phase(alloc: Global, balls: &[NodeSet], k: u32, work: &mut Work, cover: &mut Cover) -> Result<(), OutOfMemory>
+pub fn make_phase(
+    alloc: Global,
+    balls: &[NodeSet],
+    k: u32,
+    work: &mut Work,
+    cover: &mut Cover,
+) -> Result<(), OutOfMemory>
     requires small { length balls.now ≤ 1024 }
     requires rooms { All (λ (b : Nodes). b.room ≡ length balls.now) balls.now }
     requires centred { AreCentred (sets balls.now) }

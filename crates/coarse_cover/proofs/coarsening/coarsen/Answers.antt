@@ -1,4 +1,4 @@
-use Rattle.std.proofs.Common.{◌≡◌, ◌<◌, ◌≤◌, ◌*◌, ◌^◌, ℕ, List, [], Bool, length, ap, arith, refl, sym, ◌∙◌, subst}
+use Rattle.std.proofs.Common.{◌≡◌, ◌≤◌, ◌*◌, ◌^◌, ℕ, List, [], Bool, length, ap, sym, ◌∙◌, subst}
 use Rattle.coarse_cover.specs.Coarsening.{coarsening, centres}
 use Rattle.coarse_cover.specs.Covers.{sets, IsCover}
 use Rattle.coarse_cover.specs.Progress.{marked, IsBetween}
@@ -14,7 +14,7 @@ phase-init c =
     let all : marked c.in_ok-work.work.left.items ≡ centres (length (sets c.args.balls.now)) = c.in_ok-work.ensures.all_left ∙ ap (λ (n : ℕ). centres n) (sym (length-sets c.args.balls.now)) in
     record {
       between = subst (λ (l : List Cluster). IsBetween (sets c.args.balls.now) c.args.k (marked c.in_ok-work.work.left.items) l c.in_ok-vec.field-0.items 0) (sym c.new-2.ensures.items)
-        (between_start (sets c.args.balls.now) c.args.k (marked c.in_ok-work.work.left.items) c.in_ok-vec.field-0.items c.requires.low c.requires.centred all);
+          (between_start (sets c.args.balls.now) c.args.k (marked c.in_ok-work.work.left.items) c.in_ok-vec.field-0.items c.requires.low c.requires.centred all);
       sized = c.in_ok-work.ensures.sized;
       home_len = sym c.in_ok-vec.field-0.ok.0 ∙ c.in_ok-vec.ensures.len;
     }
@@ -22,7 +22,7 @@ phase-init c =
 cover_is : (c : After-drop-work-5) → IsCover (length c.args.balls.now) (coarsening (sets c.args.balls.now) c.args.k) c.phase.cover
 cover_is c =
     let none : marked c.phase.work.left.items ≡ [] =
-      nothing_in (marked c.phase.work.left.items) (subst (λ (l : List Bool). length (marked l) ≤ 0) c.deref.ensures.value (subst (λ (n : ℕ). n ≤ 0) c.count.ensures c.phase-test.false))
+    nothing_in (marked c.phase.work.left.items) (subst (λ (l : List Bool). length (marked l) ≤ 0) c.deref.ensures.value (subst (λ (n : ℕ). n ≤ 0) c.count.ensures c.phase-test.false))
     in
     subst (λ (n : ℕ). IsCover n (coarsening (sets c.args.balls.now) c.args.k) c.phase.cover) (length-sets c.args.balls.now)
     (is_cover (sets c.args.balls.now) c.args.k (marked c.phase.work.left.items) c.phase.cover c.phase.invariant.between none (c.phase.invariant.home_len ∙ sym (length-sets c.args.balls.now)))

@@ -11,5 +11,5 @@ invariant-loop-step l = record {
   size : l.size ≡ length (grown (sets l.balls) (marked l.waiting) l.first l._step);
   none : (i : ℕ) → i < l._step → is_enough (sets l.balls) l.k l.r (marked l.waiting) l.first i ≡ false;
   taken_len : length l.growth.taken.items ≡ length l.balls;
-  touched_len : length l.growth.touched.items ≡ length l.balls
+  touched_len : length l.growth.touched.items ≡ length l.balls;
 }

@@ -19,13 +19,13 @@ pub loop-v-preserved : goal.loop-v-preserved
 loop-v-preserved c =
     let all : (x : ℕ) → Bool = λ x. has x (union_of (sets c.args.balls.now) (marked c.args.marks.now)) || has x c.args.nodes.now.members in
     elim c.if-marks-v.branch [
-      then-marks-v w ↦ rw (w.nodes-is, w.absorb.ensures) (record {
+      | then-marks-v w ↦ rw (w.nodes-is, w.absorb.ensures) (record {
         room_kept = c.loop-v.invariant.room_kept;
         order = λ ascending. ascending-union w.index-balls-v.result.members c.loop-v.nodes.members (c.loop-v.invariant.order ascending);
         all = λ x. subst (λ (ball : List ℕ). (has x (union_of (sets c.args.balls.now) (marked_from c.args.marks.now (c.loop-v.v + 1))) || has x (union ball c.loop-v.nodes.members)) ≡ all x) (ball_at c.args.balls.now c.loop-v.v w.index-balls-v.result c.loop-v-test.true w.index-balls-v.is)
-          (absorb_more (sets c.args.balls.now) c.args.marks.now c.loop-v.v c.loop-v.nodes.members x (all x) (omega arith) w.if-marks-v.true (c.loop-v.invariant.all x));
+            (absorb_more (sets c.args.balls.now) c.args.marks.now c.loop-v.v c.loop-v.nodes.members x (all x) (omega arith) w.if-marks-v.true (c.loop-v.invariant.all x));
       })
-    | else-marks-v w ↦ rw w.nodes-is (record {
+      | else-marks-v w ↦ rw w.nodes-is (record {
         room_kept = c.loop-v.invariant.room_kept;
         order = c.loop-v.invariant.order;
         all = λ x. absorb_same (sets c.args.balls.now) c.args.marks.now c.loop-v.v c.loop-v.nodes.members x (all x) (omega arith) w.if-marks-v.false (c.loop-v.invariant.all x);

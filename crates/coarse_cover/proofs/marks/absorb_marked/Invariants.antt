@@ -10,5 +10,5 @@ abbrev pub invariant-loop-v : goal.invariant-loop-v
 invariant-loop-v l = record {
   room_kept : l.nodes.room ≡ l.initial.nodes.room;
   order : IsAscending l.initial.nodes.members → IsAscending l.nodes.members;
-  all : (x : ℕ) → (has x (union_of (sets l.balls) (marked_from l.marks l.v)) || has x l.nodes.members) ≡ (has x (union_of (sets l.balls) (marked l.marks)) || has x l.initial.nodes.members)
+  all : (x : ℕ) → (has x (union_of (sets l.balls) (marked_from l.marks l.v)) || has x l.nodes.members) ≡ (has x (union_of (sets l.balls) (marked l.marks)) || has x l.initial.nodes.members);
 }

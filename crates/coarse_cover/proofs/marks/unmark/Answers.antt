@@ -1,4 +1,4 @@
-use Rattle.std.proofs.Common.{◌≡◌, ◌∙◌, ◌&&◌, Bool, ap, sym, not, arith, get_or, false}
+use Rattle.std.proofs.Common.{◌∙◌, ◌&&◌, Bool, ap, sym, not, arith, get_or, false}
 use Rattle.node_set.specs.Ascending.{has}
 use Rattle.coarse_cover.specs.Progress.{marked}
 use Rattle.coarse_cover.proofs.Marking.{marked_filter, has-marked}

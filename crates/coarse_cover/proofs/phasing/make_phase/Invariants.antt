@@ -10,5 +10,5 @@ invariant-loop-first l = record {
   sized : IsSized (length l.balls) l.work;
   home_len : length l.cover.home.items ≡ length l.balls;
   phases_kept : l.cover.phases ≡ l.initial.cover.phases;
-  small : l.r ≤ 1024
+  small : l.r ≤ 1024;
 }

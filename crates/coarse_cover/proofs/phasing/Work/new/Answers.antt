@@ -1,4 +1,4 @@
-use Rattle.std.proofs.Common.{◌≡◌, Bool, List, true, replicate, ap, ◌∙◌}
+use Rattle.std.proofs.Common.{Bool, List, ap, ◌∙◌}
 use Rattle.coarse_cover.specs.Progress.{marked}
 use Rattle.coarse_cover.proofs.Marking.{marked_all}
 use Rattle.coarse_cover.proofs.phasing.Work.new.Goals as goal
