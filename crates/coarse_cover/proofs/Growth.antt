@@ -1,9 +1,9 @@
 -- Growth of one cluster: what the balls of a growth are, and that fewer than k growths are enough.
-use Rattle.std.proofs.Common.{◌≡◌, inl, inr, ℕ, zero, suc, ◌-◌, ◌*◌, ◌^◌, ◌<◌, ◌≤◌, Bool, true, false, cond, ◌||◌, List, [], ◌∷◌, length, filter, refl, sym, ◌∙◌, ap, subst, arith}
+use Rattle.std.proofs.Common.{◌≡◌, inl, inr, ℕ, zero, suc, ◌-◌, ◌*◌, ◌^◌, ◌<◌, ◌≤◌, Bool, ◌↔◌, true, false, cond, ◌||◌, List, [], ◌∷◌, length, filter, refl, sym, ◌∙◌, ap, subst, arith}
 use Rattle.std.specs.Prelude.{◌==◌}
 use Rattle.std.proofs.lemmas.Bool.{cases_lt, false≢true, eqb-true, ne_eqb, or_cases, or_left, or_right, leb-true, leb-false, le-leb, lt-leb}
 use Rattle.std.proofs.Math.Nat.{pow-zero, pow-succ', mul-lt-mul_of_pos_left, lt_of_not-le}
-use Rattle.node_set.specs.Ascending.{has, IsBelowAll, IsAscending, union}
+use Rattle.node_set.specs.Ascending.{has, IsBelowAll, IsAscending, share, union}
 use Rattle.node_set.proofs.Ascending.{has-union, ascending-union, same_members, share_from}
 use Rattle.whole_powers.proofs.Inequalities.{lt_of_pow}
 use Rattle.coarse_cover.specs.Coarsening.{ball, union_of, touches, grown, is_enough, least, cluster_of}
@@ -249,3 +249,13 @@ module _ (balls : List (List ℕ)) (k r a : ℕ) (waiting : List ℕ) (j more si
               subst (λ (n : ℕ). is_enough balls k r waiting a n ≡ false) (sym same)
               (not_enough_is balls k r a waiting j (λ fits. large (subst (λ (n : ℕ). more ^ k ≤ r * n ^ k) (sym sized) (subst (λ (n : ℕ). n ^ k ≤ r * length (grown balls waiting a j) ^ k) (sym (counted ∙ ap length reached)) fits))))
         ]
+
+-- ---- laws for the layers above
+
+pub union_means : (balls : List (List ℕ)) (vs : List ℕ) (x : ℕ) → (has x (union_of balls vs) ≡ true) ↔ ((v : ℕ) × (has v vs ≡ true) × (has x (ball balls v) ≡ true))
+union_means balls vs x = (union_from balls x vs, λ w. union_has balls x w.0 vs w.1 w.2)
+
+pub next_means : (balls : List (List ℕ)) (waiting : List ℕ) (a j v : ℕ) → (has v (grown balls waiting a (suc j)) ≡ true) ↔ ((has v waiting ≡ true) × (share (ball balls v) (union_of balls (grown balls waiting a j)) ≡ true))
+unfolding grown
+next_means balls waiting a j v =
+    (filter_keeps (touches balls (union_of balls (grown balls waiting a j))) v waiting, λ w. filter_has (touches balls (union_of balls (grown balls waiting a j))) v waiting w.0 w.1)

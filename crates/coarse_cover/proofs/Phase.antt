@@ -15,6 +15,10 @@ use Rattle.coarse_cover.proofs.Growth.{HoldCentres, union_from, touches_own, gro
 
 -- ---- one cluster
 
+-- grown from its leader's ball, fewer than k times, and the union of the balls that it is the home of
+abbrev pub IsShaped : List (List ℕ) → ℕ → Grown → Type 0
+IsShaped balls k c = (c.growths < k) × (c.members ≡ union_of balls c.homed) × ((waiting : List ℕ) × (c.homed ≡ grown balls waiting c.first c.growths))
+
 -- those that do not touch the cluster
 abbrev pub apart : List (List ℕ) → List ℕ → List ℕ → List ℕ
 apart balls nodes waiting = filter (λ v. not (touches balls nodes v)) waiting
@@ -28,6 +32,7 @@ pub record IsCluster (balls : List (List ℕ)) (k r : ℕ) (waiting : List ℕ) 
   pub few : c.growths < k
   pub enough : length (filter (touches balls c.members) waiting) ^ k ≤ r * length c.homed ^ k
   pub picked : c.homed ≡ filter (λ v. has v c.homed) waiting
+  pub shape : c.homed ≡ grown balls waiting c.first c.growths
 
 pub is_cluster : (balls : List (List ℕ)) (k r a : ℕ) (rest : List ℕ) → 0 < k → length (a ∷ rest) ≤ r → IsBelowAll a rest → HoldCentres balls (a ∷ rest) → IsCluster balls k r (a ∷ rest) (cluster_of balls k r (a ∷ rest) a)
 unfolding cluster_of grown
@@ -40,6 +45,7 @@ is_cluster balls k r a rest pos fits below hold =
       few = growths_few balls k r a rest pos fits;
       enough = enough_means balls k r a rest (least (is_enough balls k r (a ∷ rest) a) k) (least_passes (is_enough balls k r (a ∷ rest) a) k (growths_few balls k r a rest pos fits));
       picked = grown_picked balls a rest below (least (is_enough balls k r (a ∷ rest) a) k);
+      shape = refl;
     }
 
 -- the cluster's own balls, and those that the rest of the phase finds a home for, are apart
@@ -190,7 +196,7 @@ module _ (balls : List (List ℕ)) (k r : ℕ) where
 
   -- ---- each cluster is the union of the balls that it is the home of
 
-  pub phase_joined : (waiting : List ℕ) (cs : List Grown) → IsPhase balls k r waiting cs → All (λ (c : Grown). (c.members ≡ union_of balls c.homed) × (c.growths < k)) cs
-  phase_joined waiting [] is = All-nil (λ (c : Grown). (c.members ≡ union_of balls c.homed) × (c.growths < k))
+  pub phase_joined : (waiting : List ℕ) (cs : List Grown) → IsPhase balls k r waiting cs → All (IsShaped balls k) cs
+  phase_joined waiting [] is = All-nil (IsShaped balls k)
   phase_joined waiting (c ∷ cs) is =
-      All-cons (λ (c : Grown). (c.members ≡ union_of balls c.homed) × (c.growths < k)) c cs (is.0.joined, is.0.few) (phase_joined (apart balls c.members waiting) cs is.1)
+      All-cons (IsShaped balls k) c cs (is.0.few, is.0.joined, (waiting, is.0.shape)) (phase_joined (apart balls c.members waiting) cs is.1)

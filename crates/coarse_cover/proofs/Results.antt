@@ -14,7 +14,7 @@ use Rattle.coarse_cover.specs.Progress.{phases_of, Agrees, IsBetween}
 use Rattle.coarse_cover.specs.declared.cover.Cluster.{Cluster}
 use Rattle.coarse_cover.specs.declared.cover.Cover.{Cover}
 use Rattle.coarse_cover.proofs.Growth.{union_has}
-use Rattle.coarse_cover.proofs.Phase.{IsPhase, apart, phase_apart}
+use Rattle.coarse_cover.proofs.Phase.{IsPhase, IsShaped, apart, phase_apart}
 use Rattle.coarse_cover.proofs.Whole.{ArePhases, all_homed, home_within, home_has, few_have, all_joined, phases_few, clusters_within}
 use Rattle.coarse_cover.proofs.Steps.{phases_of_none, coarsening_phases, length-centres, length-listed}
 
@@ -98,7 +98,7 @@ clusters_few balls k n cover some centred is =
 
 pub growths_bounded : (balls : List (List ℕ)) (k : ℕ) → 0 < k → AreCentred balls → All (λ c. c.growths ≤ k - 1) (all_clusters (coarsening balls k))
 growths_bounded balls k some centred =
-    All-weaker (λ (c : Grown). (c.members ≡ union_of balls c.homed) × (c.growths < k)) (λ (c : Grown). c.growths ≤ k - 1) (λ c h. omega (arith, h.1)) (all_clusters (coarsening balls k))
+    All-weaker (IsShaped balls k) (λ (c : Grown). c.growths ≤ k - 1) (λ c h. omega (arith, h.0)) (all_clusters (coarsening balls k))
     (all_joined balls k (centres (length balls)) (coarsening balls k) (coarsening_phases balls k some centred))
 
 no_cluster : Grown
@@ -119,7 +119,7 @@ home_has_nodes balls k v x left all are waits inside =
     let homed : is_homed (all_clusters all) v ≡ true = all_homed balls k left all are v waits in
     let within : home_of (all_clusters all) v < length (all_clusters all) = home_within balls k (all_clusters all) v homed in
     let joined : (get_or (all_clusters all) (home_of (all_clusters all) v) no_cluster).members ≡ union_of balls (get_or (all_clusters all) (home_of (all_clusters all) v) no_cluster).homed =
-    (all_joined balls k left all are (home_of (all_clusters all) v) no_cluster within).0
+    (all_joined balls k left all are (home_of (all_clusters all) v) no_cluster within).1
     in
     subst (λ (l : List ℕ). has x l ≡ true) (sym joined) (union_has balls x v (get_or (all_clusters all) (home_of (all_clusters all) v) no_cluster).homed (home_has balls k (all_clusters all) v no_cluster homed) inside)
 
@@ -171,3 +171,18 @@ module _ (balls : List (List ℕ)) (k n : ℕ) where
 pub nothing_in : (xs : List ℕ) → length xs ≤ 0 → xs ≡ []
 nothing_in [] h = refl
 nothing_in (x ∷ xs) h = absurd (omega arith)
+
+-- ---- laws for the layers above
+
+pub clusters_shaped : (balls : List (List ℕ)) (k : ℕ) → 0 < k → AreCentred balls → All (IsShaped balls k) (all_clusters (coarsening balls k))
+clusters_shaped balls k some centred = all_joined balls k (centres (length balls)) (coarsening balls k) (coarsening_phases balls k some centred)
+
+module _ (balls : List (List ℕ)) (k v : ℕ) (some : 0 < k) (centred : AreCentred balls) (below : v < length balls) where
+  has_home : is_homed (all_clusters (coarsening balls k)) v ≡ true
+  has_home = all_homed balls k (centres (length balls)) (coarsening balls k) (coarsening_phases balls k some centred) v (has-passing (λ w. true) v 0 (length balls) (omega arith) (omega arith))
+
+  pub home_is_within : home_of (all_clusters (coarsening balls k)) v < length (all_clusters (coarsening balls k))
+  home_is_within = home_within balls k (all_clusters (coarsening balls k)) v has_home
+
+  pub home_is_home : (d : Grown) → has v (get_or (all_clusters (coarsening balls k)) (home_of (all_clusters (coarsening balls k)) v) d).homed ≡ true
+  home_is_home d = home_has balls k (all_clusters (coarsening balls k)) v d has_home

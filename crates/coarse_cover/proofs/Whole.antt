@@ -7,10 +7,10 @@ use Rattle.std.proofs.lemmas.List.Sums.{sum_by-append}
 use Rattle.std.proofs.lemmas.Bool.{cases_Bool, false≢true, not_from_false}
 use Rattle.node_set.specs.Ascending.{has}
 use Rattle.whole_powers.proofs.Inequalities.{one_phase, zero_pow}
-use Rattle.coarse_cover.specs.Coarsening.{union_of, Grown, phase, is_homed, unhomed, phases, all_clusters, home_of}
+use Rattle.coarse_cover.specs.Coarsening.{Grown, phase, is_homed, unhomed, phases, all_clusters, home_of}
 use Rattle.coarse_cover.specs.Progress.{IsReady}
 use Rattle.coarse_cover.proofs.Lists.{filter_has, filter_halves, filter_fewer}
-use Rattle.coarse_cover.proofs.Phase.{IsPhase, ready_filter, phase_is, phase_size, phase_count, phase_once, phase_joined}
+use Rattle.coarse_cover.proofs.Phase.{IsPhase, IsShaped, ready_filter, phase_is, phase_size, phase_count, phase_once, phase_joined}
 
 -- the lists are those of the phases of the balls that are left
 abbrev pub ArePhases : List (List ℕ) → ℕ → List ℕ → List (List Grown) → Type 0
@@ -124,8 +124,8 @@ module _ (balls : List (List ℕ)) (k : ℕ) where
   few_have left (cs ∷ later) x are =
       omega (arith, sum_by-append (λ (c : Grown). cond (has x c.members) 1 0) cs (all_clusters later), phase_once balls k (length left) left cs x are.1, few_have (unhomed cs left) later x are.2)
 
-  pub all_joined : (left : List ℕ) (all : List (List Grown)) → ArePhases balls k left all → All (λ (c : Grown). (c.members ≡ union_of balls c.homed) × (c.growths < k)) (all_clusters all)
+  pub all_joined : (left : List ℕ) (all : List (List Grown)) → ArePhases balls k left all → All (IsShaped balls k) (all_clusters all)
   unfolding all_clusters
-  all_joined left [] are = All-nil (λ (c : Grown). (c.members ≡ union_of balls c.homed) × (c.growths < k))
+  all_joined left [] are = All-nil (IsShaped balls k)
   all_joined left (cs ∷ later) are =
-      All-append (λ (c : Grown). (c.members ≡ union_of balls c.homed) × (c.growths < k)) cs (all_clusters later) (phase_joined balls k (length left) left cs are.1) (all_joined (unhomed cs left) later are.2)
+      All-append (IsShaped balls k) cs (all_clusters later) (phase_joined balls k (length left) left cs are.1) (all_joined (unhomed cs left) later are.2)

@@ -4,11 +4,13 @@
 mod coarsening;
 mod cover;
 mod growing;
+mod laws;
 mod marks;
 mod phasing;
 
 pub use coarsening::coarsen;
 pub use cover::{Cluster, Cover};
+pub use laws::{cluster_shape, growth_means, home_means, least_means, union_means};
 
 #[cfg(test)]
 mod tests;
