@@ -24,7 +24,7 @@ bernoulli_below (suc k) q = rw (pow-succ' (suc q) k, pow-succ' q k) (below_step 
 
 -- ---- powers and order
 
-lt_of_pow : (a b k : ℕ) → a ^ k < b ^ k → a < b
+pub lt_of_pow : (a b k : ℕ) → a ^ k < b ^ k → a < b
 lt_of_pow a b k h = elim (cases_lt a b) [ inl less ↦ less | inr more ↦ absurd (omega (arith, pow-le-pow_left more k)) ]
 
 -- within the limits of the test no power is above 2 ^ 80
@@ -33,7 +33,7 @@ small_power z k h few = le_trans (pow-le-pow_left h k) (pow-le-pow_right (lit< t
 
 -- ---- two bounds on powers add up
 
-zero_pow : (k : ℕ) → 0 < k → ◌≡◌ {A = ℕ} (0 ^ k) 0
+pub zero_pow : (k : ℕ) → 0 < k → ◌≡◌ {A = ℕ} (0 ^ k) 0
 zero_pow zero pos = absurd (omega arith)
 zero_pow (suc k) pos = rw (pow-succ' 0 k) (omega arith)
 

@@ -1,0 +1,296 @@
+-- What is done, and what the definition gives for the rest.
+use Rattle.std.proofs.Common.{◌≡◌, inl, inr, ℕ, zero, suc, ◌+◌, ◌<◌, ◌≤◌, Bool, true, false, cond, not, ◌&&◌, List, [], ◌∷◌, ◌++◌, length, length-append, append_assoc, filter, get_or, map, refl, sym, ◌∙◌, ap, subst, arith}
+use Rattle.std.proofs.Math.Nat.{le_refl}
+use Rattle.std.proofs.lemmas.Bool.{cases_lt, false≢true, not-true, not_from_false, false_from_ne_true, and_right}
+use Rattle.node_set.specs.Ascending.{has, passing}
+use Rattle.node_set.proofs.Ascending.{has-passing, passing_over, ascending-passing}
+use Rattle.coarse_cover.specs.Coarsening.{touches, Grown, cluster_of, phase, phases, is_homed, unhomed, all_clusters, home_of, centres, coarsening}
+use Rattle.coarse_cover.specs.Covers.{listed, shown, AreCentred}
+use Rattle.coarse_cover.specs.Progress.{phase_of, phases_of, IsReady, Agrees, IsInPhase, IsBetween, IsAdded, marked}
+use Rattle.coarse_cover.specs.declared.cover.Cluster.{Cluster}
+use Rattle.coarse_cover.specs.declared.cover.Cover.{Cover}
+use Rattle.coarse_cover.specs.declared.phasing.Work.{Work}
+use Rattle.coarse_cover.proofs.Lists.{filter_keeps, filter_has, filter_twice, filter_same}
+use Rattle.coarse_cover.proofs.Marking.{has-filter, has-marked}
+use Rattle.coarse_cover.proofs.Phase.{IsCluster, IsPhase, apart, apart_fewer, cluster_ready, ready_filter, phase_is}
+use Rattle.coarse_cover.proofs.Whole.{ArePhases, phases_are, ready_left, phase_fewer, some_clusters, clusters_within, phases_within}
+
+-- ---- enough fuel is enough
+
+phase_none : (balls : List (List ℕ)) (k r more : ℕ) → phase balls k r more [] ≡ []
+unfolding phase
+phase_none balls k r zero = refl
+phase_none balls k r (suc more) = refl
+
+phase_enough : (balls : List (List ℕ)) (k r m n : ℕ) (waiting : List ℕ) → IsReady balls k r waiting → length waiting ≤ m → length waiting ≤ n → phase balls k r m waiting ≡ phase balls k r n waiting
+unfolding phase
+phase_enough balls k r m n [] ready h g = phase_none balls k r m ∙ sym (phase_none balls k r n)
+phase_enough balls k r zero n (a ∷ rest) ready h g = absurd (omega arith)
+phase_enough balls k r (suc m) zero (a ∷ rest) ready h g = absurd (omega arith)
+phase_enough balls k r (suc m) (suc n) (a ∷ rest) ready h g =
+    let fewer : length (apart balls (cluster_of balls k r (a ∷ rest) a).members (a ∷ rest)) < length (a ∷ rest) = apart_fewer balls k r (a ∷ rest) (cluster_of balls k r (a ∷ rest) a) (cluster_ready balls k r a rest ready) in
+    ap (λ (cs : List Grown). cluster_of balls k r (a ∷ rest) a ∷ cs)
+    (phase_enough balls k r m n (apart balls (cluster_of balls k r (a ∷ rest) a).members (a ∷ rest)) (ready_filter balls k r (a ∷ rest) (λ v. not (touches balls (cluster_of balls k r (a ∷ rest) a).members v)) ready)
+    (omega arith) (omega arith))
+
+pub phase_of_none : (balls : List (List ℕ)) (k r : ℕ) → phase_of balls k r [] ≡ []
+unfolding phase_of phase
+phase_of_none balls k r = refl
+
+phase_of_lead : (balls : List (List ℕ)) (k r a : ℕ) (rest : List ℕ) → IsReady balls k r (a ∷ rest) →
+    phase_of balls k r (a ∷ rest) ≡ cluster_of balls k r (a ∷ rest) a ∷ phase_of balls k r (apart balls (cluster_of balls k r (a ∷ rest) a).members (a ∷ rest))
+unfolding phase_of phase
+phase_of_lead balls k r a rest ready =
+    let fewer : length (apart balls (cluster_of balls k r (a ∷ rest) a).members (a ∷ rest)) < length (a ∷ rest) = apart_fewer balls k r (a ∷ rest) (cluster_of balls k r (a ∷ rest) a) (cluster_ready balls k r a rest ready) in
+    ap (λ (cs : List Grown). cluster_of balls k r (a ∷ rest) a ∷ cs)
+    (phase_enough balls k r (length rest) (length (apart balls (cluster_of balls k r (a ∷ rest) a).members (a ∷ rest))) (apart balls (cluster_of balls k r (a ∷ rest) a).members (a ∷ rest))
+    (ready_filter balls k r (a ∷ rest) (λ v. not (touches balls (cluster_of balls k r (a ∷ rest) a).members v)) ready) (omega arith) (le_refl (length (apart balls (cluster_of balls k r (a ∷ rest) a).members (a ∷ rest)))))
+
+pub phase_of_next : (balls : List (List ℕ)) (k r a : ℕ) (waiting rest : List ℕ) → waiting ≡ a ∷ rest → IsReady balls k r waiting →
+    phase_of balls k r waiting ≡ cluster_of balls k r waiting a ∷ phase_of balls k r (apart balls (cluster_of balls k r waiting a).members waiting)
+phase_of_next balls k r a waiting rest leads ready =
+    subst (λ (l : List ℕ). IsReady balls k r l → phase_of balls k r l ≡ cluster_of balls k r l a ∷ phase_of balls k r (apart balls (cluster_of balls k r l a).members l)) (sym leads) (phase_of_lead balls k r a rest) ready
+
+phases_none : (balls : List (List ℕ)) (k more : ℕ) → phases balls k more [] ≡ []
+unfolding phases
+phases_none balls k zero = refl
+phases_none balls k (suc more) = refl
+
+-- the first phase of the balls v ∷ vs
+first_phase : (balls : List (List ℕ)) (k v : ℕ) (vs : List ℕ) → List Grown
+first_phase balls k v vs = phase balls k (length (v ∷ vs)) (length (v ∷ vs)) (v ∷ vs)
+
+first_fewer : (balls : List (List ℕ)) (k v : ℕ) (vs : List ℕ) → IsReady balls k (length (v ∷ vs)) (v ∷ vs) → length (unhomed (first_phase balls k v vs) (v ∷ vs)) < length (v ∷ vs)
+unfolding first_phase
+first_fewer balls k v vs ready =
+    let is : IsPhase balls k (length (v ∷ vs)) (v ∷ vs) (phase balls k (length (v ∷ vs)) (length (v ∷ vs)) (v ∷ vs)) = phase_is balls k (length (v ∷ vs)) (length (v ∷ vs)) (v ∷ vs) ready (le_refl (length (v ∷ vs))) in
+    fewer (length (unhomed (phase balls k (length (v ∷ vs)) (length (v ∷ vs)) (v ∷ vs)) (v ∷ vs))) (length (phase balls k (length (v ∷ vs)) (length (v ∷ vs)) (v ∷ vs))) (length (v ∷ vs))
+    (phase_fewer balls k (length (v ∷ vs)) (v ∷ vs) (phase balls k (length (v ∷ vs)) (length (v ∷ vs)) (v ∷ vs)) is) (some_clusters balls k (length (v ∷ vs)) v vs (phase balls k (length (v ∷ vs)) (length (v ∷ vs)) (v ∷ vs)) is)
+  where
+    fewer : (after taken before : ℕ) → after + taken ≤ before → 0 < taken → after < before
+    fewer after taken before h some = omega arith
+
+phases_enough : (balls : List (List ℕ)) (k m n : ℕ) (left : List ℕ) → IsReady balls k (length left) left → length left ≤ m → length left ≤ n → phases balls k m left ≡ phases balls k n left
+unfolding phases first_phase
+phases_enough balls k m n [] ready h g = phases_none balls k m ∙ sym (phases_none balls k n)
+phases_enough balls k zero n (v ∷ vs) ready h g = absurd (omega arith)
+phases_enough balls k (suc m) zero (v ∷ vs) ready h g = absurd (omega arith)
+phases_enough balls k (suc m) (suc n) (v ∷ vs) ready h g =
+    ap (λ (later : List (List Grown)). first_phase balls k v vs ∷ later)
+    (phases_enough balls k m n (unhomed (first_phase balls k v vs) (v ∷ vs)) (ready_left balls k (v ∷ vs) (first_phase balls k v vs) ready)
+    (less (length (unhomed (first_phase balls k v vs) (v ∷ vs))) (length (v ∷ vs)) m (first_fewer balls k v vs ready) h)
+    (less (length (unhomed (first_phase balls k v vs) (v ∷ vs))) (length (v ∷ vs)) n (first_fewer balls k v vs ready) g))
+  where
+    less : (a b c : ℕ) → a < b → b ≤ suc c → a ≤ c
+    less a b c h g = omega arith
+
+pub phases_of_none : (balls : List (List ℕ)) (k : ℕ) → phases_of balls k [] ≡ []
+unfolding phases_of phases
+phases_of_none balls k = refl
+
+pub phases_of_next : (balls : List (List ℕ)) (k : ℕ) (left : List ℕ) → 0 < length left → IsReady balls k (length left) left →
+    phases_of balls k left ≡ phase_of balls k (length left) left ∷ phases_of balls k (unhomed (phase_of balls k (length left) left) left)
+unfolding phases_of phase_of phases first_phase
+phases_of_next balls k [] some ready = absurd (omega arith)
+phases_of_next balls k (v ∷ vs) some ready =
+    ap (λ (later : List (List Grown)). first_phase balls k v vs ∷ later)
+    (phases_enough balls k (length vs) (length (unhomed (first_phase balls k v vs) (v ∷ vs))) (unhomed (first_phase balls k v vs) (v ∷ vs)) (ready_left balls k (v ∷ vs) (first_phase balls k v vs) ready)
+    (less (length (unhomed (first_phase balls k v vs) (v ∷ vs))) (length vs) (first_fewer balls k v vs ready)) (le_refl (length (unhomed (first_phase balls k v vs) (v ∷ vs)))))
+  where
+    less : (a c : ℕ) → a < suc c → a ≤ c
+    less a c h = omega arith
+
+-- ---- one cluster more
+
+pub shown_is : (balls : List (List ℕ)) (k r a n p : ℕ) (waiting : List ℕ) → shown n p (cluster_of balls k r waiting a) ≡ record { first = a; members = record { room = n; members = (cluster_of balls k r waiting a).members }; phase = p }
+unfolding shown cluster_of
+shown_is balls k r a n p waiting = refl
+
+pub filter_rest : (t : ℕ → Bool) (xs : List ℕ) → filter (λ v. not (has v (filter t xs))) xs ≡ filter (λ v. not (t v)) xs
+filter_rest t xs = filter_same (λ v. not (has v (filter t xs))) (λ v. not (t v)) xs (λ v h. ap not (has-filter t v xs ∙ ap (λ (b : Bool). b && t v) h))
+
+pub ready_shrunk : (balls : List (List ℕ)) (k : ℕ) (left : List ℕ) (p : ℕ → Bool) → IsReady balls k (length left) left → IsReady balls k (length (filter p left)) (filter p left)
+ready_shrunk balls k left p ready =
+    let all : IsReady balls k (length left) (filter p left) = ready_filter balls k (length left) left p ready in
+    record { some = all.some; fits = le_refl (length (filter p left)); ascending = all.ascending; centred = all.centred }
+
+-- the balls that the later clusters leave without a home, once those of the first are gone
+unhomed_next : (c : Grown) (cs : List Grown) (left : List ℕ) → unhomed (c ∷ cs) left ≡ unhomed cs (filter (λ v. not (has v c.homed)) left)
+unfolding is_homed
+unhomed_next c cs left =
+    filter_same (λ v. not (is_homed (c ∷ cs) v)) (λ v. not (has v c.homed) && not (is_homed cs v)) left (λ v h. at (has v c.homed) (is_homed cs v)) ∙
+    sym (filter_twice (λ v. not (is_homed cs v)) (λ v. not (has v c.homed)) left)
+  where
+    at : (b d : Bool) → not (cond b true d) ≡ (not b && not d)
+    at true d = refl
+    at false d = refl
+
+unhomed_none : (left : List ℕ) → unhomed [] left ≡ left
+unfolding is_homed
+unhomed_none [] = refl
+unhomed_none (v ∷ vs) = ap (λ (l : List ℕ). v ∷ l) (unhomed_none vs)
+
+home_step : (b h : Bool) (old new len more rest f : ℕ) → (h ≡ true → b ≡ true) → more ≡ len + 1 → cond b (len + cond h 0 (suc rest)) old ≡ f → new ≡ cond h len old → cond (b && not h) (more + rest) new ≡ f
+home_step true true old new len more rest f inside next before now = omega arith
+home_step true false old new len more rest f inside next before now = omega arith
+home_step false true old new len more rest f inside next before now = absurd (false≢true (inside refl))
+home_step false false old new len more rest f inside next before now = omega arith
+
+-- what the steps keep
+agrees_cluster : (n : ℕ) (all later : List (List Grown)) (c : Grown) (cs : List Grown) (left : List ℕ) (before after : List Cluster) (home new_home : List ℕ) (p : ℕ) →
+    Agrees n all ((c ∷ cs) ∷ later) left before home p → ((v : ℕ) → has v c.homed ≡ true → has v left ≡ true) → after ≡ before ++ shown n p c ∷ [] →
+    ((v : ℕ) → v < n → get_or new_home v 0 ≡ cond (has v c.homed) (length before) (get_or home v 0)) →
+    Agrees n all (cs ∷ later) (filter (λ v. not (has v c.homed)) left) after new_home p
+unfolding listed all_clusters home_of
+agrees_cluster n all later c cs left before after home new_home p so_far inside added homed = record {
+  clusters_so_far = rw (added, append_assoc before (shown n p c ∷ []) (map (shown n p) cs ++ listed n (suc p) later)) so_far.clusters_so_far;
+  homes_so_far = λ v h. subst (λ (b : Bool). cond b (length after + home_of (cs ++ all_clusters later) v) (get_or new_home v 0) ≡ home_of (all_clusters all) v) (sym (has-filter (λ w. not (has w c.homed)) v left))
+      (home_step (has v left) (has v c.homed) (get_or home v 0) (get_or new_home v 0) (length before) (length after) (home_of (cs ++ all_clusters later) v) (home_of (all_clusters all) v) (inside v)
+      (ap length added ∙ length-append before (shown n p c ∷ [])) (so_far.homes_so_far v h) (homed v h));
+  phases_so_far = so_far.phases_so_far;
+}
+
+agrees_phase : (n : ℕ) (all later : List (List Grown)) (left : List ℕ) (clusters : List Cluster) (home : List ℕ) (p : ℕ) → Agrees n all ([] ∷ later) left clusters home p → Agrees n all later left clusters home (suc p)
+unfolding listed all_clusters
+agrees_phase n all later left clusters home p so_far = record { clusters_so_far = so_far.clusters_so_far; homes_so_far = so_far.homes_so_far; phases_so_far = omega (arith, so_far.phases_so_far) }
+
+agrees_as : (n : ℕ) (all later same : List (List Grown)) (left : List ℕ) (clusters : List Cluster) (home : List ℕ) (p : ℕ) → later ≡ same → Agrees n all later left clusters home p → Agrees n all same left clusters home p
+agrees_as n all later same left clusters home p e so_far = subst (λ (l : List (List Grown)). Agrees n all l left clusters home p) e so_far
+
+-- ---- a phase: its start, its steps, its end
+
+pub in_phase_start : (balls : List (List ℕ)) (k r : ℕ) (waiting left : List ℕ) (clusters : List Cluster) (home : List ℕ) (p : ℕ) →
+    IsBetween balls k left clusters home p → 0 < length left → waiting ≡ left → r ≡ length left → IsInPhase balls k r waiting left clusters home p
+in_phase_start balls k r waiting left clusters home p between some same counted =
+    subst (λ (l : List ℕ). IsInPhase balls k r l left clusters home p) (sym same) (subst (λ (m : ℕ). IsInPhase balls k m left left clusters home p) (sym counted) (record {
+      ready = between.left_ready;
+      left_ready = between.left_ready;
+      waiting_left = λ v h. h;
+      so_far = agrees_as (length balls) (coarsening balls k) (phases_of balls k left) (phase_of balls k (length left) left ∷ phases_of balls k (unhomed (phase_of balls k (length left) left) left)) left clusters home p
+          (phases_of_next balls k left some between.left_ready) between.so_far;
+    }))
+
+pub in_phase_end : (balls : List (List ℕ)) (k r : ℕ) (waiting left : List ℕ) (clusters : List Cluster) (home : List ℕ) (p : ℕ) →
+    IsInPhase balls k r waiting left clusters home p → waiting ≡ [] → IsBetween balls k left clusters home (suc p)
+in_phase_end balls k r waiting left clusters home p phase none = record {
+  left_ready = phase.left_ready;
+  so_far = agrees_phase (length balls) (coarsening balls k) (phases_of balls k left) left clusters home p
+      (agrees_as (length balls) (coarsening balls k) (phase_of balls k r waiting ∷ phases_of balls k (unhomed (phase_of balls k r waiting) left)) ([] ∷ phases_of balls k left) left clusters home p
+      (ap (λ (cs : List Grown). cs ∷ phases_of balls k (unhomed cs left)) (ap (phase_of balls k r) none ∙ phase_of_none balls k r) ∙ ap (λ (l : List ℕ). [] ∷ phases_of balls k l) (unhomed_none left)) phase.so_far);
+}
+
+pub cluster_is : (balls : List (List ℕ)) (k r a : ℕ) (waiting rest : List ℕ) → waiting ≡ a ∷ rest → IsReady balls k r waiting → IsCluster balls k r waiting (cluster_of balls k r waiting a)
+cluster_is balls k r a waiting rest leads ready = subst (λ (l : List ℕ). IsReady balls k r l → IsCluster balls k r l (cluster_of balls k r l a)) (sym leads) (cluster_ready balls k r a rest) ready
+
+first_is : (balls : List (List ℕ)) (k r a : ℕ) (waiting : List ℕ) → (cluster_of balls k r waiting a).first ≡ a
+unfolding cluster_of
+first_is balls k r a waiting = refl
+
+-- the leader waits no more
+pub leader_gone : (balls : List (List ℕ)) (k r a : ℕ) (waiting rest : List ℕ) → waiting ≡ a ∷ rest → IsReady balls k r waiting → has a (apart balls (cluster_of balls k r waiting a).members waiting) ≡ false
+leader_gone balls k r a waiting rest leads ready =
+    let is : IsCluster balls k r waiting (cluster_of balls k r waiting a) = cluster_is balls k r a waiting rest leads ready in
+    let touched : touches balls (cluster_of balls k r waiting a).members a ≡ true =
+    subst (λ (v : ℕ). touches balls (cluster_of balls k r waiting a).members v ≡ true) (first_is balls k r a waiting) (is.touching (cluster_of balls k r waiting a).first is.leads)
+    in
+    has-filter (λ v. not (touches balls (cluster_of balls k r waiting a).members v)) a waiting ∙ (ap (λ (b : Bool). has a waiting && not b) touched ∙ and_right (has a waiting) false refl)
+
+pub in_phase_next : (balls : List (List ℕ)) (k r a : ℕ) (rest : List ℕ) (old new : Work) (before after : Cover) → marked old.waiting.items ≡ a ∷ rest →
+    IsInPhase balls k r (marked old.waiting.items) (marked old.left.items) before.clusters.items before.home.items before.phases →
+    IsAdded (length balls) balls (cluster_of balls k r (marked old.waiting.items) a) old new before after →
+    IsInPhase balls k r (marked new.waiting.items) (marked new.left.items) after.clusters.items after.home.items after.phases
+in_phase_next balls k r a rest old new before after leads phase added =
+    let is : IsCluster balls k r (marked old.waiting.items) (cluster_of balls k r (marked old.waiting.items) a) = cluster_is balls k r a (marked old.waiting.items) rest leads phase.ready in
+    rw (added.waiting, added.left, added.phases) (record {
+      ready = ready_filter balls k r (marked old.waiting.items) (λ v. not (touches balls (cluster_of balls k r (marked old.waiting.items) a).members v)) phase.ready;
+      left_ready = ready_shrunk balls k (marked old.left.items) (λ v. not (has v (cluster_of balls k r (marked old.waiting.items) a).homed)) phase.left_ready;
+      waiting_left = λ v h.
+          let w : (has v (marked old.waiting.items) ≡ true) × (not (touches balls (cluster_of balls k r (marked old.waiting.items) a).members v) ≡ true) =
+          filter_keeps (λ u. not (touches balls (cluster_of balls k r (marked old.waiting.items) a).members u)) v (marked old.waiting.items) h
+          in
+          filter_has (λ u. not (has u (cluster_of balls k r (marked old.waiting.items) a).homed)) v (marked old.left.items) (phase.waiting_left v w.0)
+          (not_from_false (has v (cluster_of balls k r (marked old.waiting.items) a).homed) (false_from_ne_true (has v (cluster_of balls k r (marked old.waiting.items) a).homed) (λ homed.
+          false≢true (sym (not-true (touches balls (cluster_of balls k r (marked old.waiting.items) a).members v) w.1) ∙ is.touching v homed))));
+      so_far = agrees_cluster (length balls) (coarsening balls k) (phases_of balls k (unhomed (phase_of balls k r (apart balls (cluster_of balls k r (marked old.waiting.items) a).members (marked old.waiting.items))) (filter (λ v. not (has v (cluster_of balls k r (marked old.waiting.items) a).homed)) (marked old.left.items)))) (cluster_of balls k r (marked old.waiting.items) a) (phase_of balls k r (apart balls (cluster_of balls k r (marked old.waiting.items) a).members (marked old.waiting.items))) (marked old.left.items) before.clusters.items after.clusters.items before.home.items after.home.items before.phases
+          (agrees_as (length balls) (coarsening balls k) (phase_of balls k r (marked old.waiting.items) ∷ phases_of balls k (unhomed (phase_of balls k r (marked old.waiting.items)) (marked old.left.items))) (((cluster_of balls k r (marked old.waiting.items) a) ∷ (phase_of balls k r (apart balls (cluster_of balls k r (marked old.waiting.items) a).members (marked old.waiting.items)))) ∷ phases_of balls k (unhomed (phase_of balls k r (apart balls (cluster_of balls k r (marked old.waiting.items) a).members (marked old.waiting.items))) (filter (λ v. not (has v (cluster_of balls k r (marked old.waiting.items) a).homed)) (marked old.left.items)))) (marked old.left.items) before.clusters.items before.home.items before.phases
+          (ap (λ (cs : List Grown). cs ∷ phases_of balls k (unhomed cs (marked old.left.items))) (phase_of_next balls k r a (marked old.waiting.items) rest leads phase.ready) ∙
+          ap (λ (l : List ℕ). ((cluster_of balls k r (marked old.waiting.items) a) ∷ (phase_of balls k r (apart balls (cluster_of balls k r (marked old.waiting.items) a).members (marked old.waiting.items)))) ∷ phases_of balls k l) (unhomed_next (cluster_of balls k r (marked old.waiting.items) a) (phase_of balls k r (apart balls (cluster_of balls k r (marked old.waiting.items) a).members (marked old.waiting.items))) (marked old.left.items))) phase.so_far)
+          (λ v h. phase.waiting_left v (is.waits v h)) added.clusters added.homes;
+    })
+
+-- ---- the start and the end of it all
+
+pub ready_all : (balls : List (List ℕ)) (k : ℕ) → 0 < k → AreCentred balls → IsReady balls k (length (centres (length balls))) (centres (length balls))
+ready_all balls k some centred = record {
+  some = some;
+  fits = le_refl (length (centres (length balls)));
+  ascending = ascending-passing (λ v. true) 0 (length balls);
+  centred = λ v h. elim (cases_lt v (length balls)) [
+    | inl below ↦ centred v below
+    | inr over ↦ absurd (false≢true (sym (passing_over (λ w. true) v 0 (length balls) (omega arith)) ∙ h))
+  ];
+}
+
+length-all : (v n : ℕ) → length (passing (λ w. true) v n) ≡ n
+length-all v zero = refl
+length-all v (suc n) = ap suc (length-all (suc v) n)
+
+pub coarsening_is : (balls : List (List ℕ)) (k : ℕ) → phases_of balls k (centres (length balls)) ≡ coarsening balls k
+unfolding phases_of
+coarsening_is balls k = ap (λ (n : ℕ). phases balls k n (centres (length balls))) (length-all 0 (length balls))
+
+pub coarsening_phases : (balls : List (List ℕ)) (k : ℕ) → 0 < k → AreCentred balls → ArePhases balls k (centres (length balls)) (coarsening balls k)
+coarsening_phases balls k some centred = phases_are balls k (length balls) (centres (length balls)) (ready_all balls k some centred) (omega (arith, length-all 0 (length balls)))
+
+pub length-centres : (n : ℕ) → length (centres n) ≡ n
+length-centres n = length-all 0 n
+
+pub between_start : (balls : List (List ℕ)) (k : ℕ) (left : List ℕ) (home : List ℕ) → 0 < k → AreCentred balls → left ≡ centres (length balls) → IsBetween balls k left [] home 0
+between_start balls k left home some centred all = rw all (record {
+  left_ready = ready_all balls k some centred;
+  so_far = agrees_as (length balls) (coarsening balls k) (coarsening balls k) (phases_of balls k (centres (length balls))) (centres (length balls)) [] home 0 (sym (coarsening_is balls k)) (record {
+    clusters_so_far = refl;
+    homes_so_far = λ v h. rw (has-passing (λ w. true) v 0 (length balls) (omega arith) (omega arith)) (omega arith);
+    phases_so_far = omega arith;
+  });
+})
+
+-- ---- bounds on what is done
+
+length-map_shown : (n p : ℕ) (cs : List Grown) → length (map (shown n p) cs) ≡ length cs
+length-map_shown n p [] = refl
+length-map_shown n p (c ∷ cs) = ap suc (length-map_shown n p cs)
+
+pub length-listed : (n p : ℕ) (all : List (List Grown)) → length (listed n p all) ≡ length (all_clusters all)
+unfolding listed all_clusters
+length-listed n p [] = refl
+length-listed n p (cs ∷ later) = omega (arith, length-append (map (shown n p) cs) (listed n (suc p) later), length-append cs (all_clusters later), length-map_shown n p cs, length-listed n (suc p) later)
+
+pub in_phase_numbers : (balls : List (List ℕ)) (k r : ℕ) (waiting left : List ℕ) (clusters : List Cluster) (home : List ℕ) (p : ℕ) → 0 < k → AreCentred balls →
+    IsInPhase balls k r waiting left clusters home p → length clusters ≤ length balls
+in_phase_numbers balls k r waiting left clusters home p some centred phase =
+    omega (
+      arith,
+      ap length phase.so_far.clusters_so_far,
+      length-append clusters (listed (length balls) p (phase_of balls k r waiting ∷ phases_of balls k (unhomed (phase_of balls k r waiting) left))),
+      length-listed (length balls) 0 (coarsening balls k),
+      length-centres (length balls),
+      clusters_within balls k (centres (length balls)) (coarsening balls k) (coarsening_phases balls k some centred),
+    )
+
+pub in_phase_number : (balls : List (List ℕ)) (k r : ℕ) (waiting left : List ℕ) (clusters : List Cluster) (home : List ℕ) (p : ℕ) → 0 < k → AreCentred balls →
+    IsInPhase balls k r waiting left clusters home p → p < length balls
+in_phase_number balls k r waiting left clusters home p some centred phase =
+    omega (arith, phase.so_far.phases_so_far, length-centres (length balls), phases_within balls k (centres (length balls)) (coarsening balls k) (coarsening_phases balls k some centred))
+
+pub none_next : (balls : List (List ℕ)) (k r a : ℕ) (rest : List ℕ) (old new : List Bool) → marked old ≡ a ∷ rest → IsReady balls k r (marked old) →
+    marked new ≡ apart balls (cluster_of balls k r (marked old) a).members (marked old) → ((v : ℕ) → v < a → get_or old v false ≡ false) → (v : ℕ) → v < a + 1 → get_or new v false ≡ false
+none_next balls k r a rest old new leads ready gone none v h =
+    sym (has-marked new v) ∙ (ap (λ (l : List ℕ). has v l) gone ∙ elim (cases_lt v a) [
+      | inl before ↦
+          has-filter (λ u. not (touches balls (cluster_of balls k r (marked old) a).members u)) v (marked old) ∙
+          ap (λ (b : Bool). b && not (touches balls (cluster_of balls k r (marked old) a).members v)) (has-marked old v ∙ none v before)
+      | inr here ↦
+          let same : v ≡ a = omega arith in
+          subst (λ (u : ℕ). has u (apart balls (cluster_of balls k r (marked old) a).members (marked old)) ≡ false) (sym same) (leader_gone balls k r a (marked old) rest leads ready)
+    ])

@@ -1,0 +1,3 @@
+pub mod Coarsening
+pub mod Covers
+pub mod Progress

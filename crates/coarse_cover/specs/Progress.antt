@@ -1,0 +1,63 @@
+-- How far the making of a cover has come: what is done, followed by what the definition gives for the balls that are left, is what it gives for all.
+-- Only the private functions of this crate speak of it.
+use Rattle.std.specs.Prelude.{◌≡◌, ℕ, ◌+◌, ◌<◌, ◌≤◌, Bool, true, false, cond, not, List, [], ◌∷◌, ◌++◌, length, get_or, filter}
+use Rattle.node_set.specs.Ascending.{has, IsAscending, passing}
+use Rattle.coarse_cover.specs.Coarsening.{ball, touches, Grown, phase, phases, unhomed, all_clusters, home_of, coarsening}
+use Rattle.coarse_cover.specs.Covers.{listed, shown}
+use Rattle.coarse_cover.specs.declared.cover.Cluster.{Cluster}
+use Rattle.coarse_cover.specs.declared.cover.Cover.{Cover}
+use Rattle.coarse_cover.specs.declared.phasing.Work.{Work}
+
+-- the centres that are marked
+unfoldable pub marked : List Bool → List ℕ
+marked marks = passing (λ v. get_or marks v false) 0 (length marks)
+
+-- the clusters of a phase, from these waiting balls on
+unfoldable pub phase_of : List (List ℕ) → ℕ → ℕ → List ℕ → List Grown
+phase_of balls k r waiting = phase balls k r (length waiting) waiting
+
+-- the phases, from these balls on
+unfoldable pub phases_of : List (List ℕ) → ℕ → List ℕ → List (List Grown)
+phases_of balls k left = phases balls k (length left) left
+
+-- what a phase begins with
+pub record IsReady (balls : List (List ℕ)) (k r : ℕ) (waiting : List ℕ) : Type 0 where
+  pub some : 0 < k
+  pub fits : length waiting ≤ r
+  pub ascending : IsAscending waiting
+  pub centred : (v : ℕ) → has v waiting ≡ true → has v (ball balls v) ≡ true
+
+-- these clusters and homes, made up to phase p, followed by what comes later, are those of all phases
+pub record Agrees (n : ℕ) (all later : List (List Grown)) (left : List ℕ) (clusters : List Cluster) (home : List ℕ) (p : ℕ) : Type 0 where
+  pub clusters_so_far : clusters ++ listed n p later ≡ listed n 0 all
+  pub homes_so_far : (v : ℕ) → v < n → cond (has v left) (length clusters + home_of (all_clusters later) v) (get_or home v 0) ≡ home_of (all_clusters all) v
+  pub phases_so_far : p + length later ≡ length all
+
+-- within a phase
+pub record IsInPhase (balls : List (List ℕ)) (k r : ℕ) (waiting left : List ℕ) (clusters : List Cluster) (home : List ℕ) (p : ℕ) : Type 0 where
+  pub ready : IsReady balls k r waiting
+  pub left_ready : IsReady balls k (length left) left
+  pub waiting_left : (v : ℕ) → has v waiting ≡ true → has v left ≡ true
+  pub so_far : Agrees (length balls) (coarsening balls k) (phase_of balls k r waiting ∷ phases_of balls k (unhomed (phase_of balls k r waiting) left)) left clusters home p
+
+-- between two phases
+pub record IsBetween (balls : List (List ℕ)) (k : ℕ) (left : List ℕ) (clusters : List Cluster) (home : List ℕ) (p : ℕ) : Type 0 where
+  pub left_ready : IsReady balls k (length left) left
+  pub so_far : Agrees (length balls) (coarsening balls k) (phases_of balls k left) left clusters home p
+
+-- each list of marks has one for each ball
+pub record IsSized (n : ℕ) (work : Work) : Type 0 where
+  pub left : length work.left.items ≡ n
+  pub waiting : length work.waiting.items ≡ n
+  pub taken : length work.growth.taken.items ≡ n
+  pub touched : length work.growth.touched.items ≡ n
+
+-- the cluster c was added: its balls have their home and are left no more, those that touch it wait no more
+pub record IsAdded (n : ℕ) (balls : List (List ℕ)) (c : Grown) (old new : Work) (before after : Cover) : Type 0 where
+  pub waiting : marked new.waiting.items ≡ filter (λ v. not (touches balls c.members v)) (marked old.waiting.items)
+  pub left : marked new.left.items ≡ filter (λ v. not (has v c.homed)) (marked old.left.items)
+  pub clusters : after.clusters.items ≡ before.clusters.items ++ shown n before.phases c ∷ []
+  pub homes : (v : ℕ) → v < n → get_or after.home.items v 0 ≡ cond (has v c.homed) (length before.clusters.items) (get_or before.home.items v 0)
+  pub phases : after.phases ≡ before.phases
+  pub sized : IsSized n new
+  pub home_len : length after.home.items ≡ n

@@ -1,0 +1,16 @@
+//! Coarsening of balls into clusters of bounded radius and bounded overlap.
+#![tactic(auto)]
+
+mod coarsening;
+mod cover;
+mod growing;
+mod laws;
+mod marks;
+mod phasing;
+
+pub use coarsening::coarsen;
+pub use cover::{Cluster, Cover};
+pub use laws::{cluster_shape, growth_means, home_means, least_means, union_means};
+
+#[cfg(test)]
+mod tests;
