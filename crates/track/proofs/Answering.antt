@@ -1,5 +1,5 @@
 -- What the answer of an input stands on: the weights from node 0, and that every find names where its subscriber stands.
-use Rattle.std.proofs.Common.{◌≡◌, ℕ, ◌+◌, ◌-◌, ◌*◌, ◌<◌, ◌≤◌, Bool, true, false, List, [], ◌∷◌, Option, Some, None, length, refl, sym, ap, subst, ◌∙◌, arith}
+use Rattle.std.proofs.Common.{◌≡◌, ℕ, ◌+◌, ◌-◌, ◌<◌, Bool, true, false, List, [], ◌∷◌, Option, Some, None, length, refl, ap, subst, ◌∙◌, arith}
 use Rattle.std.specs.Prelude.{◌==◌, ◌↔◌, All}
 use Rattle.std.specs.List.{AllByRecursion}
 use Rattle.std.proofs.lemmas.Bool.{eqb-true, eqb-false}
@@ -11,11 +11,11 @@ use Rattle.net_graph.specs.Walks.{IsLeastWeight, IsUnreached, IsReached, among, 
 use Rattle.track.specs.declared.input.Find.{Find}
 use Rattle.track.specs.Answers.{NamesStanding}
 use Rattle.track.specs.Contents.{Contents, AreInLimits, IsFind, subscriber_count}
-use Rattle.track.specs.Finds.{Next, find}
+use Rattle.track.specs.Finds.{find}
 use Rattle.track.specs.Finds.Next.{answers}
 use Rattle.track.specs.Finds.Found.{at}
 use Rattle.track.specs.FlatFinds.{AreWeights, HasWeight}
-use Rattle.track.specs.Outcome.{Done, home_of, words_of, done_from, by_actor, outcome}
+use Rattle.track.specs.Outcome.{home_of, words_of, done_from, by_actor, outcome}
 use Rattle.track.specs.Plans.{Plan, IsFlat}
 use Rattle.track.proofs.FlatPlans.{at_home, from_away}
 use Rattle.track.proofs.Made.{All-by_actor, home_below}

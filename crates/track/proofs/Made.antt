@@ -1,21 +1,18 @@
 -- The calls of an input in the order of their actors, and what becomes of them one after another.
-use Rattle.std.proofs.Common.{◌≡◌, ℕ, zero, suc, ◌+◌, ◌-◌, ◌<◌, ◌≤◌, Bool, true, false, List, [], ◌∷◌, ◌++◌, Option, Some, None, length, map, drop, get_or, refl, sym, ap, subst, ◌∙◌, append_assoc, arith, vec_len, length-append, drop-cons}
+use Rattle.std.proofs.Common.{◌≡◌, ℕ, zero, suc, ◌+◌, ◌-◌, ◌<◌, ◌≤◌, Bool, true, false, List, [], ◌∷◌, ◌++◌, Option, length, map, drop, refl, sym, ap, subst, ◌∙◌, append_assoc, arith}
 use Rattle.std.specs.Prelude.{◌==◌, All, filter, flat_map, replicate}
-use Rattle.std.specs.List.{AllByRecursion}
 use Rattle.std.proofs.lemmas.Bool.{eqb-true, eqb-false}
 use Rattle.std.proofs.lemmas.List.{append-nil, map-append, drop_all}
 use Rattle.std.proofs.lemmas.List.Concat.{flat_map-append}
-use Rattle.std.proofs.lemmas.List.Elements.{All-append, All-filter, All-nil, recursion_from_All, All-from_recursion}
+use Rattle.std.proofs.lemmas.List.Elements.{All-append, All-filter, All-from_recursion}
 use Rattle.net_graph.specs.declared.edge.Edge.{Edge}
 use Rattle.net_graph.specs.Walks.{IsLeastWeight, everywhere}
-use Rattle.net_graph.specs.Trees.{at_node}
 use Rattle.track.specs.declared.directory.Found.{Found}
 use Rattle.track.specs.declared.input.Find.{Find}
-use Rattle.track.specs.declared.input.Home.{Home}
 use Rattle.track.specs.declared.outcome.Done as made
 use Rattle.track.specs.Contents.{Contents, AreInLimits, IsFind, subscriber_count}
-use Rattle.track.specs.Finds.{Next, find}
-use Rattle.track.specs.FlatFinds.{AreWeights, HasWeight, Finds, found_at, result_of, shown_done}
+use Rattle.track.specs.Finds.{find}
+use Rattle.track.specs.FlatFinds.{AreWeights, Finds, found_at, result_of, shown_done}
 use Rattle.track.specs.Outcome.{Done, home_of, words_of, done_from, by_actor, visits_of}
 use Rattle.track.specs.Plans.{Plan, IsFlat}
 use Rattle.track.proofs.FlatPlans.{at_home, from_away}

@@ -1,19 +1,18 @@
 -- A connected network has a flat plan, and bytes have one answer only.
-use Rattle.std.proofs.Common.{◌≡◌, ℕ, zero, ◌+◌, ◌<◌, ◌≤◌, Bool, List, [], ◌∷◌, length, refl, sym, ap, subst, ◌∙◌, inl, inr, arith}
-use Rattle.std.specs.Prelude.{All, ◌⊎◌}
+use Rattle.std.proofs.Common.{◌≡◌, ℕ, ◌<◌, ◌≤◌, List, [], ◌∷◌, length, refl, sym, ap, subst, ◌∙◌, inl, inr, arith}
+use Rattle.std.specs.Prelude.{◌⊎◌}
 use Rattle.std.proofs.lemmas.Bool.{cases_lt}
 use Rattle.net_graph.specs.declared.edge.Edge.{Edge}
-use Rattle.net_graph.specs.Network.{IsEdge, IsFirstApart}
+use Rattle.net_graph.specs.Network.{IsFirstApart}
 use Rattle.net_graph.specs.Walks.{IsLeastWeight, IsReached, everywhere}
 use Rattle.track.specs.declared.status.Status.{Status}
 use Rattle.track.specs.declared.status.Status.TheVariants as statuses
 use Rattle.track.specs.Answers.{IsReport, IsRefusal, IsAnswer}
 use Rattle.track.specs.Command.{AnswersWith}
 use Rattle.track.specs.Contents.{Contents, AreInLimits}
-use Rattle.track.specs.Outcome.{outcome}
-use Rattle.track.specs.PlainText.{rows_of, Says}
+use Rattle.track.specs.PlainText.{rows_of}
 use Rattle.track.specs.Plans.{Plan, IsFlat}
-use Rattle.track.specs.Report.{report_of, apart_line}
+use Rattle.track.specs.Report.{apart_line}
 use Rattle.track.proofs.SpelledContents.{one_meaning_lem}
 
 -- ---- the flat plan

@@ -1,5 +1,5 @@
 -- From a status to what its number tells.
-use Rattle.std.proofs.Common.{◌≡◌, ℕ, refl, arith, inl, inr}
+use Rattle.std.proofs.Common.{refl, arith, inl, inr}
 use Rattle.track.specs.declared.status.Status.{Status}
 use Rattle.track.specs.declared.status.Status.TheVariants as statuses
 use Rattle.track.specs.Command.{Outside, Ends, Tells, number_of}

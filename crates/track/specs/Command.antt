@@ -10,10 +10,10 @@ use Rattle.track.specs.declared.status.Stop.{Stop}
 use Rattle.track.specs.declared.status.Stop.TheVariants as stops
 use Rattle.track.specs.declared.status.Status.{Status}
 use Rattle.track.specs.declared.status.Status.TheVariants as statuses
-use Rattle.track.specs.Answers.{IsReport, IsRefusal, IsAnswer}
+use Rattle.track.specs.Answers.{IsAnswer}
 use Rattle.track.specs.Contents.{Contents}
 use Rattle.track.specs.PlainText.{Says}
-use Rattle.track.specs.Transfer.{IsRest, IsWrittenPart}
+use Rattle.track.specs.Transfer.{IsWrittenPart}
 
 -- the status of a stop
 abbrev pub status_of : Stop → Status

@@ -1,9 +1,8 @@
-use Rattle.std.proofs.Common.{◌≡◌, ℕ, ◌+◌, ◌-◌, List, [], ◌∷◌, ◌++◌, length, get_or, drop, vec_len, refl, sym, ap, ◌∙◌, arith, add-one, drop-cons, length-append}
+use Rattle.std.proofs.Common.{◌≡◌, ◌+◌, ◌-◌, [], ◌∷◌, ◌++◌, length, get_or, drop, vec_len, ap, arith, add-one, drop-cons, length-append}
 use Rattle.std.specs.Prelude.{replicate}
 use Rattle.std.proofs.lemmas.List.{length-replicate}
 use Rattle.std.proofs.lemmas.Grind.{common_steps}
 use Rattle.track.specs.declared.input.Find.{Find}
-use Rattle.track.specs.declared.outcome.Done.{Done}
 use Rattle.track.specs.Outcome.{done_from}
 use Rattle.track.specs.Reading.{view}
 use Rattle.track.proofs.Made.{made_more, made_all, visits_more, one_done, looks_made}
