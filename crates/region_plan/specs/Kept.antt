@@ -1,0 +1,39 @@
+-- What every plan keeps: its sizes.
+use Rattle.std.specs.Prelude.{◌≡◌, ℕ, ◌+◌, ◌≤◌, ◌<◌, List, All, length, map, slice_index, slice_range}
+use Rattle.distances.specs.Table.{IsMetric}
+use Rattle.region_plan.specs.Plan.{PlanCluster, PlanData, Level, nodes_of, levels_of}
+use Rattle.region_plan.specs.Regions.{containing}
+use Rattle.region_plan.specs.Measures.{degree_of}
+
+-- a level over n nodes
+pub record IsSized (n : ℕ) (level : Level) : Type 0 where
+  pub homes : length level.homes ≡ n
+  pub readers : length level.readers ≡ n
+  pub clusters : length level.clusters ≤ n
+  pub exponent : level.exponent ≤ 30
+
+-- the sizes of a plan
+pub record IsKept (plan : PlanData) : Type 0 where
+  pub some : 1 ≤ levels_of plan
+  pub few : levels_of plan ≤ 31
+  pub low : 1 ≤ plan.k
+  pub high : plan.k ≤ 8
+  pub metric : IsMetric plan.distances
+  pub levels : All (IsSized (nodes_of plan)) plan.levels
+
+-- the weights of the members, from a list of weights that has one for each node
+abbrev pub weights_among : List ℕ → List ℕ → List ℕ
+weights_among cells members = map (λ v. slice_index cells v) members
+
+-- the readers of n nodes lie one after another, and the starts say where those of each node begin and end
+pub record AreRows (n : ℕ) (clusters : List PlanCluster) (starts readers : List ℕ) : Type 0 where
+  pub count : length starts ≡ n + 1
+  pub order : (v : ℕ) → v < n → slice_index starts v ≤ slice_index starts (v + 1)
+  pub within : (v : ℕ) → v ≤ n → slice_index starts v ≤ length readers
+  pub each : (v : ℕ) → v < n → slice_range readers (slice_index starts v) (slice_index starts (v + 1)) ≡ containing clusters v
+
+-- the sizes of a plan, and its degree
+pub record IsPlanKept (plan : PlanData) (d : ℕ) : Type 0 where
+  pub kept : IsKept plan
+  pub degree : d ≡ degree_of plan
+  pub light : d ≤ 1024

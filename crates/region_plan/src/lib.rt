@@ -1,0 +1,9 @@
+//! Plans: for each power of two a cover of a network, with a home and readers for each node.
+#![tactic(auto)]
+
+mod level;
+mod plan;
+mod row;
+
+pub use net_graph::OutOfMemory;
+pub use plan::Plan;
