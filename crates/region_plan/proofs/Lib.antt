@@ -1,0 +1,4 @@
+mod Lists
+mod Rows
+mod Measuring
+mod Making

@@ -10,6 +10,7 @@ ghost use Rattle.region_plan.specs.Matched.{IsMatched, IsWithinRadius};
 ghost use Rattle.region_plan.specs.Measures.{degree_of, stretch_of, most_looks_of, most_writes_of};
 ghost use Rattle.region_plan.specs.Kept.{IsKept};
 
+use crate::flat::flat_level;
 use crate::level::LevelTable;
 use distances::Distances;
 use net_graph::{Graph, OutOfMemory};
@@ -50,6 +51,23 @@ impl Plan {
         ensures matched { IfOk result IsMatched }
     {
         Err(AllocError)
+    }
+
+    // The plan of these levels.
+    fn of_levels(k: u32, distances: Distances, levels: Vec<LevelTable>) -> Plan
+        requires { IsKept (record { k = k; distances = distances; levels = levels.items }) }
+        ensures { result ≡ record { k = k; distances = distances; levels = levels.items } }
+    {
+        let mut degree = 0;
+        for level in &levels {
+            degree = degree.max(level.degree());
+        }
+        Plan {
+            k,
+            degree,
+            distances,
+            levels,
+        }
     }
 
     /// The plan of the network with the trade-off `k`: a larger `k` makes larger clusters that overlap less. Level `i`

@@ -1,6 +1,7 @@
 // The text of a plan.
 ghost use Rattle.std.specs.Prelude.{◌≡◌, ◌<◌, ◌++◌, IfOk, OnOk, string_bytes};
 ghost use Rattle.region_plan.specs.Plan.{level_at, cluster_at, nodes_of, levels_of, clusters_of};
+ghost use Rattle.region_plan.specs.Kept.{IsKept};
 ghost use Rattle.report_text.specs.Texts.{fields};
 ghost use Rattle.report_text.specs.PlanText.{ascending_members, cluster_line, clusters_text, homes_line, level_text, levels_text, plan_text_of};
 
@@ -32,7 +33,8 @@ fn push_cluster(text: &mut String, plan: &Plan, level: u32, cluster: u32) -> Res
     let depth = plan.depth(level, cluster);
     write!(text, "cluster {cluster} phase {phase} leader {leader} depth {depth} members")?;
     push_members(text, plan, level, cluster)?;
-    text.push_str("\n")
+    text.push_str("\n")?;
+    Ok(())
 }
 
 // The lines of all clusters of a level.
@@ -56,12 +58,14 @@ fn push_homes(text: &mut String, plan: &Plan, level: u32) -> Result<(), AllocErr
         let home = plan.home(level, node);
         write!(text, " {home}")?;
     }
-    text.push_str("\n")
+    text.push_str("\n")?;
+    Ok(())
 }
 
 // The lines of a level.
 fn push_level(text: &mut String, plan: &Plan, level: u32) -> Result<(), AllocError>
-    requires { level < levels_of plan.now }
+    requires level { level < levels_of plan.now }
+    requires kept { IsKept plan.now }
     ensures { OnOk result (string_bytes text.new ≡ string_bytes text.old ++ level_text (nodes_of plan.now) level (level_at plan.now level)) }
 {
     let radius = 1u64 << plan.exponent(level);
@@ -69,11 +73,13 @@ fn push_level(text: &mut String, plan: &Plan, level: u32) -> Result<(), AllocErr
     let phases = plan.phases(level);
     write!(text, "level {level} radius {radius} clusters {clusters} phases {phases}\n")?;
     push_clusters(text, plan, level)?;
-    push_homes(text, plan, level)
+    push_homes(text, plan, level)?;
+    Ok(())
 }
 
 // The lines of all levels.
 fn push_levels(text: &mut String, plan: &Plan) -> Result<(), AllocError>
+    requires { IsKept plan.now }
     ensures { OnOk result (string_bytes text.new ≡ string_bytes text.old ++ levels_text (nodes_of plan.now) 0 plan.now.levels) }
 {
     for level in 0..plan.levels() {
