@@ -2,3 +2,5 @@ mod Lists
 mod Rows
 mod Measuring
 mod Making
+mod Flatness
+mod Alone

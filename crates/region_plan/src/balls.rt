@@ -3,7 +3,7 @@ ghost use Rattle.std.specs.Prelude.{◌≡◌, ℕ, ◌<◌, ◌≤◌, ◌^◌,
 ghost use Rattle.node_set.specs.Nodes.{Nodes};
 ghost use Rattle.coarse_cover.specs.Coarsening.{centres};
 ghost use Rattle.coarse_cover.specs.Covers.{sets};
-ghost use Rattle.distances.specs.Table.{ball_of};
+ghost use Rattle.distances.specs.Table.{IsMetric, ball_of};
 ghost use Rattle.region_plan.specs.Regions.{IsTop};
 
 use distances::Distances;
@@ -15,6 +15,7 @@ use std::alloc::Global;
 pub fn top_for(distances: &Distances) -> u32
     ensures top { IsTop distances.now result }
     ensures few { result ≤ 30 }
+    ensures metric { IsMetric distances.now }
 {
     let _nodes = distances.nodes();
     least_exponent(distances.diameter())

@@ -1,5 +1,6 @@
 // The level of the flat plan.
 ghost use Rattle.std.specs.Prelude.{IfOk};
+ghost use Rattle.distances.specs.Table.{IsMetric};
 ghost use Rattle.region_plan.specs.Regions.{IsFlatLevel};
 ghost use Rattle.region_plan.specs.Kept.{IsSized};
 
@@ -14,6 +15,7 @@ use std::alloc::Global;
 pub fn flat_level(alloc: Global, distances: &Distances) -> Result<LevelTable, OutOfMemory>
     ensures level { IfOk result (IsFlatLevel distances.now) }
     ensures sized { IfOk result (IsSized distances.now.nodes) }
+    ensures metric { IsMetric distances.now }
 {
     let top = top_for(distances);
     let mut clusters = Vec::with_capacity(alloc, 1)?;

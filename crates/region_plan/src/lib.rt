@@ -3,9 +3,11 @@
 
 mod balls;
 mod flat;
+mod laws;
 mod level;
 mod plan;
 mod row;
 
+pub use laws::plan_is_one;
 pub use net_graph::OutOfMemory;
 pub use plan::Plan;

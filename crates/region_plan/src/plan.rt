@@ -50,7 +50,9 @@ impl Plan {
         ensures copy { IfOk result (λ plan. plan.distances ≡ distances.now) }
         ensures matched { IfOk result IsMatched }
     {
-        Err(AllocError)
+        let mut levels = Vec::with_capacity(alloc, 1)?;
+        levels.push(flat_level(alloc, distances)?)?;
+        Ok(Plan::of_levels(1, distances.copy(alloc)?, levels))
     }
 
     // The plan of these levels.
