@@ -1,7 +1,7 @@
 -- What the answer of an input stands on: that a graph's plan is the plan of the edges that it was made of, and that every
 -- find names where its subscriber stands.
-use Rattle.std.proofs.Common.{◌≡◌, ℕ, ◌+◌, ◌-◌, ◌<◌, Bool, true, false, List, [], ◌∷◌, Option, Some, None, length, refl, ap, subst, ◌∙◌, arith}
-use Rattle.std.specs.Prelude.{◌==◌, ◌↔◌, All}
+use Rattle.std.proofs.Common.{Result, Ok, Err, IfOk, ◌≡◌, ℕ, ◌+◌, ◌-◌, ◌<◌, Bool, true, false, List, [], ◌∷◌, Some, None, length, refl, ap, subst, ◌∙◌, arith}
+use Rattle.std.specs.Prelude.{◌==◌, All}
 use Rattle.std.specs.List.{AllByRecursion}
 use Rattle.std.proofs.lemmas.Bool.{eqb-true, eqb-false}
 use Rattle.std.proofs.lemmas.List.Elements.{recursion_from_All, All-from_recursion}
@@ -107,3 +107,8 @@ finds_stand plan contents flat limits =
 pub connected_of : (n : ℕ) (edges given : List Edge) (network : Network) → given ≡ edges → IsGraphOf n given network → (v : ℕ) → v < n → IsReached edges everywhere 0 v
 connected_of n edges given network same graph v below =
     subst (λ (es : List Edge). IsReached es everywhere 0 v) same ((graph.same.reached everywhere 0 v).1 (graph.sound.connected v (omega (arith, graph.nodes))))
+
+-- the text of the plan is the network's, where there is one
+pub if_ok : {X E : Type 0} (r : Result X E) (P Q : X → Type 0) → ((x : X) → P x → Q x) → IfOk r P → IfOk r Q
+if_ok (Ok x) P Q on h = on x h
+if_ok (Err e) P Q on h = tt

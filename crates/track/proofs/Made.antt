@@ -7,16 +7,17 @@ use Rattle.std.proofs.lemmas.List.Concat.{flat_map-append}
 use Rattle.std.proofs.lemmas.List.Elements.{All-append, All-filter, All-from_recursion}
 use Rattle.net_graph.specs.declared.edge.Edge.{Edge}
 use Rattle.net_graph.specs.Walks.{IsLeastWeight, everywhere}
-use Rattle.node_set.specs.Ascending.{passing}
+use Rattle.node_set.specs.Ascending.{has, passing}
+use Rattle.node_set.proofs.Ascending.{has-passing}
 use Rattle.distances.specs.Table.{dist}
 use Rattle.cluster_tree.specs.Tree.{weight_beside}
-use Rattle.region_plan.specs.Plan.{PlanData}
+use Rattle.region_plan.specs.Plan.{PlanData, members_of}
 use Rattle.track.specs.declared.directory.Found.{Found}
 use Rattle.track.specs.declared.input.Find.{Find}
 use Rattle.track.specs.declared.outcome.Done as made
 use Rattle.track.specs.Contents.{Contents, AreInLimits, IsFind, subscriber_count}
 use Rattle.track.specs.Finds.{find}
-use Rattle.track.specs.FlatFinds.{AreWeights, Finds, found_at, result_of, shown_done}
+use Rattle.track.specs.FlatFinds.{IsPlanFor, found_at, found_over, result_of, shown_done, weight_of}
 use Rattle.track.specs.Outcome.{Done, home_of, words_of, done_from, by_actor, visits_of}
 use Rattle.track.specs.Plans.{Plan, IsFlat}
 use Rattle.track.proofs.FlatPlans.{at_home, from_away}
@@ -85,17 +86,33 @@ weight_beside-all : (f : ℕ → ℕ) (v a k : ℕ) → a ≤ v → v < a + k �
 weight_beside-all f v a zero low high = absurd (omega arith)
 weight_beside-all f v a (suc k) low high = beside_first f v a k low high (v == a) refl (λ later. weight_beside-all f v (suc a) k later (omega arith))
 
+-- a node's weight in the code's plan is its distance from node 0
+weight_is_distance : (contents : Contents) (made : PlanData) (v : ℕ) → IsPlanFor contents made → v < contents.nodes → weight_of made v ≡ dist made.distances 0 v
+weight_is_distance contents made v for below =
+    let whole = for.flat.level.whole in
+    let within : v < 0 + made.distances.nodes = omega (arith, for.flat.distances.nodes, for.graph.nodes) in
+    rw (whole.members, whole.weights) (weight_beside-all (λ x. dist made.distances 0 x) v 0 made.distances.nodes (omega arith) within)
+
 -- the weights of the code's plan are least weights from node 0
 pub weight_is : (contents : Contents) (made : PlanData) (v : ℕ) → IsPlanFor contents made → 1 ≤ contents.nodes → v < contents.nodes → IsLeastWeight contents.edges everywhere 0 v (weight_of made v)
 weight_is contents made v for some below =
-    let whole = for.flat.level.whole in
-    let table = made.distances in
-    let nodes : table.nodes ≡ contents.nodes = for.flat.distances.nodes ∙ for.graph.nodes in
-    let within : v < table.nodes = omega arith in
-    let is : weight_of made v ≡ dist table 0 v =
-        rw (whole.members, whole.weights) (weight_beside-all (λ x. dist table 0 x) v 0 table.nodes (omega arith) within) in
-    let least = for.flat.distances.each 0 v (omega arith) within in
-    subst (λ w. IsLeastWeight contents.edges everywhere 0 v w) (sym is) ((for.graph.same.least everywhere 0 v (dist table 0 v)).1 least)
+    let nodes : made.distances.nodes ≡ contents.nodes = for.flat.distances.nodes ∙ for.graph.nodes in
+    let least = for.flat.distances.each 0 v (omega arith) (omega arith) in
+    subst (λ w. IsLeastWeight contents.edges everywhere 0 v w) (sym (weight_is_distance contents made v for below))
+    ((for.graph.same.least everywhere 0 v (dist made.distances 0 v)).1 least)
+
+-- and they are within the limits
+pub weight_light : (contents : Contents) (made : PlanData) (v : ℕ) → IsPlanFor contents made → v < contents.nodes → weight_of made v ≤ 1073741824
+weight_light contents made v for below =
+    let nodes : made.distances.nodes ≡ contents.nodes = for.flat.distances.nodes ∙ for.graph.nodes in
+    let bounded = for.kept.metric.bounded 0 v (omega arith) (omega arith) in
+    omega (arith, weight_is_distance contents made v for below, bounded, for.kept.metric.few)
+
+-- each node is a member of the one cluster
+pub all_members : (contents : Contents) (made : PlanData) (v : ℕ) → IsPlanFor contents made → v < contents.nodes → has v (members_of made 0 0) ≡ true
+all_members contents made v for below =
+    let within : v < 0 + made.distances.nodes = omega (arith, for.flat.distances.nodes, for.graph.nodes) in
+    rw (for.flat.level.whole.members) (has-passing (λ x. true) v 0 made.distances.nodes (omega arith) within)
 
 pub one_done : (one : LeastIsOne) (plan : Plan) (made : PlanData) (contents : Contents) (call : Find)
     → IsFlat contents.nodes contents.edges plan → IsPlanFor contents made → AreInLimits contents → IsFind contents call

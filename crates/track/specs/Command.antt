@@ -1,7 +1,6 @@
 -- How a command ends: a status, and what it says of the words, of the source and of the sink. `AnswersWith` goes from the
 -- bytes to the right text; laws: one_meaning, one_answer.
-use Rattle.std.specs.Prelude.{◌≡◌, ◌≢◌, ◌⊎◌, ℕ, ◌≤◌, List, [], ◌∷◌, Option, map, codes, string_bytes, IfSome, String}
-use Rattle.std.specs.Global.{Global}
+use Rattle.std.specs.Prelude.{◌≡◌, ◌≢◌, ◌⊎◌, ℕ, ◌≤◌, List, Option, IfSome}
 use Rattle.outside.specs.Bytes.{append_known, IsAtEnd}
 use Rattle.outside.specs.Calls.{HasFaulted}
 use Rattle.track.specs.declared.fault.ReadError.{ReadError}

@@ -1,6 +1,7 @@
 -- Finds over the flat plan where nobody moves, as the code makes them: one entry for each subscriber, at the one cluster. Nothing above stands on this; the laws in proofs/ join it to `Finds`.
 use Rattle.std.specs.Prelude.{◌≡◌, ℕ, ◌+◌, ◌==◌, Bool, true, false, List, Some, None, map, flat_map}
 use Rattle.net_graph.specs.Network.{Network, IsGraphOf}
+use Rattle.region_plan.specs.Kept.{IsKept}
 use Rattle.region_plan.specs.Plan.{PlanData, inside}
 use Rattle.region_plan.specs.Regions as flat_plan
 use Rattle.track.specs.declared.directory.Mark.{Mark}
@@ -21,6 +22,7 @@ pub record IsPlanFor (contents : Contents) (plan : PlanData) : Type 0 where
   pub network : Network
   pub graph : IsGraphOf contents.nodes contents.edges network
   pub flat : flat_plan.IsFlat network plan
+  pub kept : IsKept plan
 
 -- the weight of a node from the leader of all nodes
 abbrev pub weight_of : PlanData → ℕ → ℕ
