@@ -1,0 +1,5 @@
+mod Lists
+mod Rows
+mod Measuring
+mod Making
+mod Flatness

@@ -1,8 +1,9 @@
 -- What every plan keeps: its sizes.
 use Rattle.std.specs.Prelude.{◌≡◌, ℕ, ◌+◌, ◌≤◌, ◌<◌, List, All, length, map, slice_index, slice_range}
+use Rattle.node_set.specs.Nodes.{Nodes, AreNodes}
 use Rattle.distances.specs.Table.{IsMetric}
 use Rattle.region_plan.specs.Plan.{PlanCluster, PlanData, Level, nodes_of, levels_of}
-use Rattle.region_plan.specs.Regions.{containing}
+use Rattle.region_plan.specs.Regions.{containing, readers_of}
 use Rattle.region_plan.specs.Measures.{degree_of}
 
 -- a level over n nodes
@@ -25,6 +26,11 @@ pub record IsKept (plan : PlanData) : Type 0 where
 abbrev pub weights_among : List ℕ → List ℕ → List ℕ
 weights_among cells members = map (λ v. slice_index cells v) members
 
+-- a set of members, and a list of weights that has one for each number below its room
+pub record IsRow (members : Nodes) (cells : List ℕ) : Type 0 where
+  pub sound : AreNodes members
+  pub count : length cells ≡ members.room
+
 -- the readers of n nodes lie one after another, and the starts say where those of each node begin and end
 pub record AreRows (n : ℕ) (clusters : List PlanCluster) (starts readers : List ℕ) : Type 0 where
   pub count : length starts ≡ n + 1
@@ -37,3 +43,8 @@ pub record IsPlanKept (plan : PlanData) (d : ℕ) : Type 0 where
   pub kept : IsKept plan
   pub degree : d ≡ degree_of plan
   pub light : d ≤ 1024
+
+-- a level of these parts
+abbrev pub level_of : ℕ → ℕ → ℕ → List PlanCluster → List ℕ → Level
+level_of exponent threshold phases clusters homes =
+    record { exponent = exponent; threshold = threshold; phases = phases; clusters = clusters; homes = homes; readers = readers_of (length homes) clusters }

@@ -1,6 +1,8 @@
 //! Plans: for each power of two a cover of a network, with a home and readers for each node.
 #![tactic(auto)]
 
+mod balls;
+mod flat;
 mod level;
 mod plan;
 mod row;

@@ -10,6 +10,7 @@ ghost use Rattle.region_plan.specs.Matched.{IsMatched, IsWithinRadius};
 ghost use Rattle.region_plan.specs.Measures.{degree_of, stretch_of, most_looks_of, most_writes_of};
 ghost use Rattle.region_plan.specs.Kept.{IsKept};
 
+use crate::flat::flat_level;
 use crate::level::LevelTable;
 use distances::Distances;
 use net_graph::{Graph, OutOfMemory};
@@ -49,7 +50,26 @@ impl Plan {
         ensures copy { IfOk result (λ plan. plan.distances ≡ distances.now) }
         ensures matched { IfOk result IsMatched }
     {
-        Err(AllocError)
+        let mut levels = Vec::with_capacity(alloc, 1)?;
+        levels.push(flat_level(alloc, distances)?)?;
+        Ok(Plan::of_levels(1, distances.copy(alloc)?, levels))
+    }
+
+    // The plan of these levels.
+    fn of_levels(k: u32, distances: Distances, levels: Vec<LevelTable>) -> Plan
+        requires { IsKept (record { k = k; distances = distances; levels = levels.items }) }
+        ensures { result ≡ record { k = k; distances = distances; levels = levels.items } }
+    {
+        let mut degree = 0;
+        for level in &levels {
+            degree = degree.max(level.degree());
+        }
+        Plan {
+            k,
+            degree,
+            distances,
+            levels,
+        }
     }
 
     /// The plan of the network with the trade-off `k`: a larger `k` makes larger clusters that overlap less. Level `i`
