@@ -3,3 +3,7 @@ mod Rows
 mod Measuring
 mod Making
 mod Flatness
+mod Reaching
+mod Spanning
+mod Levels
+mod Matching

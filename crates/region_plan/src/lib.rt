@@ -2,6 +2,7 @@
 #![tactic(auto)]
 
 mod balls;
+mod building;
 mod flat;
 mod level;
 mod plan;
