@@ -3,4 +3,7 @@ mod Rows
 mod Measuring
 mod Making
 mod Flatness
-mod Alone
+mod Reaching
+mod Spanning
+mod Levels
+mod Matching

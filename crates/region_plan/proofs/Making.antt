@@ -1,19 +1,23 @@
 -- The parts of a level, step by step.
-use Rattle.std.proofs.Common.{◌≡◌, ℕ, zero, suc, ◌+◌, ◌-◌, ◌<◌, ◌≤◌, Bool, true, false, cond, List, [], ◌∷◌, ◌++◌, length, map, take, drop, replicate, get_or, refl, sym, ◌∙◌, ap, subst, inl, inr, arith}
+use Rattle.std.proofs.Common.{◌≡◌, ℕ, zero, suc, ◌+◌, ◌-◌, ◌*◌, ◌<◌, ◌≤◌, Bool, true, false, cond, List, [], ◌∷◌, ◌++◌, length, map, take, drop, replicate, get_or, refl, sym, ◌∙◌, ap, subst, inl, inr, arith}
 use Rattle.std.specs.Prelude.{All, Contains, nat_le, slice_range}
 use Rattle.std.proofs.lemmas.Bool.{cases_lt, le-leb}
-use Rattle.std.proofs.lemmas.List.{append_assoc, map_push, length-append, length-drop, length-replicate, length_push, get_or_append_left, get_or_push, get_or_default, take_all, take-append-le, drop-append-le, drop_all}
+use Rattle.std.proofs.lemmas.List.{append_assoc, map_push, length-append, length-drop, length-map, length-replicate, length_push, get_or_append_left, get_or_push, get_or_default, take_all, take-append-le, drop-append-le, drop_all, take-append-drop}
+use Rattle.net_graph.specs.Walks.{IsLeastWeight}
+use Rattle.net_graph.specs.Network.{Network}
 use Rattle.node_set.specs.Ascending.{has, passing}
 use Rattle.node_set.specs.Nodes.{Nodes, AreNodes}
-use Rattle.node_set.proofs.Ascending.{ascending-passing, below_from_has}
+use Rattle.node_set.proofs.Ascending.{ascending-passing, below-has, below_from_has, has-passing}
 use Rattle.distances.specs.Table.{DistanceTable, dist, ball_of, IsMetric, IsDiameter}
 use Rattle.distances.proofs.Balls.{ball_members}
 use Rattle.coarse_cover.specs.Coarsening.{centres}
 use Rattle.coarse_cover.specs.Covers.{sets}
+use Rattle.coarse_cover.specs.declared.cover.Cluster.{Cluster}
+use Rattle.cluster_tree.specs.Tree.{WeighedCluster, weight_beside, inside_weight, within, IsTreeOf, IsDepth}
 use Rattle.cluster_tree.proofs.Places.{passing_takes, passing_skips}
 use Rattle.region_plan.specs.Plan.{PlanCluster, Level, cluster_in}
-use Rattle.region_plan.specs.Regions.{containing, readers_of, IsTop, IsWhole, IsFlatLevel}
-use Rattle.region_plan.specs.Kept.{AreRows, IsSized, weights_among, level_of}
+use Rattle.region_plan.specs.Regions.{containing, readers_of, weighed, IsTop, IsWhole, IsFlatLevel, IsClusterOf, AreClustersOf}
+use Rattle.region_plan.specs.Kept.{AreRows, IsRow, IsSized, weights_among, level_of}
 use Rattle.region_plan.proofs.Rows.{length-containing}
 use Rattle.region_plan.proofs.Lists.{made_at, made_more, map_same, passing_same, length-made, beside_map, has_centre}
 
@@ -170,3 +174,54 @@ pub level_sized : (n exponent threshold phases : ℕ) (clusters : List PlanClust
     → length homes ≡ n → length clusters ≤ n → exponent ≤ 30 → IsSized n level
 level_sized n exponent threshold phases clusters homes level is nodes few light =
     subst (λ (l : Level). IsSized n l) (sym is) (record { homes = nodes; readers = length-made (containing clusters) (length homes) ∙ nodes; clusters = few; exponent = light })
+
+-- ---- a cluster of a cover, as a row
+
+module _ (network : Network) (made : Cluster) (cells : List ℕ) (tree : WeighedCluster) (depth : ℕ) (row : IsRow made.members cells)
+    (each : (v : ℕ) → v < made.members.room → has v made.members.members ≡ true → get_or cells v 0 ≡ inside_weight tree v)
+    (tree_is : IsTreeOf network made.members.members made.first tree) (depth_is : IsDepth tree depth) where
+  same_weight : (v : ℕ) → has v made.members.members ≡ true → weight_beside v made.members.members (weights_among cells made.members.members) ≡ inside_weight tree v
+  same_weight v h = beside_map (λ x. get_or cells x 0) v made.members.members h ∙ each v (below-has made.members.room v made.members.members row.sound.below h) h
+
+  in_tree : (v : ℕ) → has v made.members.members ≡ true → has v tree.members ≡ true
+  in_tree v h = ap (has v) tree_is.members_are ∙ h
+
+  pub row_is : IsClusterOf network made (record { leader = made.first; phase = made.phase; members = made.members.members; weights = weights_among cells made.members.members; depth = depth })
+  row_is = record {
+    leader = refl;
+    phase = refl;
+    members = refl;
+    tree = record {
+      leader_is = refl;
+      members_are = refl;
+      each = λ v h. subst (λ w. IsLeastWeight network.edges (within made.members.members) made.first v w) (sym (same_weight v h)) (tree_is.each v h);
+    };
+    count = length-map made.members.members (λ v. get_or cells v 0);
+    depth = record {
+      greatest = λ v h. subst (λ w. w ≤ depth) (sym (same_weight v h)) (depth_is.greatest v (in_tree v h));
+      attained =
+        let at = depth_is.attained in
+        let member : has at.node made.members.members ≡ true = ap (has at.node) (sym tree_is.members_are) ∙ at.member in
+        record { node = at.node; member = member; far = same_weight at.node member ∙ at.far };
+    };
+  }
+
+pub more_clusters : (network : Network) (made : List Cluster) (rows : List PlanCluster) (c : Cluster) (d : PlanCluster) → AreClustersOf network made rows → IsClusterOf network c d
+    → AreClustersOf network (made ++ c ∷ []) (rows ++ d ∷ [])
+more_clusters network [] [] c d are is = (is, tt)
+more_clusters network [] (e ∷ es) c d are is = absurd are
+more_clusters network (b ∷ bs) [] c d are is = absurd are
+more_clusters network (b ∷ bs) (e ∷ es) c d are is = (are.0, more_clusters network bs es c d are.1 is)
+
+pub clusters_count : (network : Network) (made : List Cluster) (rows : List PlanCluster) → AreClustersOf network made rows → length made ≡ length rows
+clusters_count network [] [] are = refl
+clusters_count network [] (e ∷ es) are = absurd are
+clusters_count network (b ∷ bs) [] are = absurd are
+clusters_count network (b ∷ bs) (e ∷ es) are = omega (arith, clusters_count network bs es are.1)
+
+pub clusters_at : (network : Network) (made : List Cluster) (rows : List PlanCluster) → AreClustersOf network made rows → (c : ℕ) (d : Cluster) (e : PlanCluster) → c < length made
+    → IsClusterOf network (get_or made c d) (get_or rows c e)
+clusters_at network [] rows are c d e below = absurd (omega arith)
+clusters_at network (b ∷ bs) [] are c d e below = absurd are
+clusters_at network (b ∷ bs) (f ∷ fs) are zero d e below = are.0
+clusters_at network (b ∷ bs) (f ∷ fs) are (suc c) d e below = clusters_at network bs fs are.1 c d e (omega arith)

@@ -1,6 +1,11 @@
 -- What every plan keeps: its sizes.
-use Rattle.std.specs.Prelude.{◌≡◌, ℕ, ◌+◌, ◌≤◌, ◌<◌, List, All, length, map, slice_index, slice_range}
+use Rattle.std.specs.Prelude.{◌≡◌, ℕ, true, ◌+◌, ◌≤◌, ◌<◌, List, All, length, map, slice_index, slice_range}
+use Rattle.net_graph.specs.Network.{Network}
+use Rattle.net_graph.specs.Walks.{IsReached}
 use Rattle.node_set.specs.Nodes.{Nodes, AreNodes}
+use Rattle.node_set.specs.Ascending.{has}
+use Rattle.coarse_cover.specs.declared.cover.Cluster.{Cluster}
+use Rattle.cluster_tree.specs.Tree.{within}
 use Rattle.distances.specs.Table.{IsMetric}
 use Rattle.region_plan.specs.Plan.{PlanCluster, PlanData, Level, nodes_of, levels_of}
 use Rattle.region_plan.specs.Regions.{containing, readers_of}
@@ -48,3 +53,9 @@ pub record IsPlanKept (plan : PlanData) (d : ℕ) : Type 0 where
 abbrev pub level_of : ℕ → ℕ → ℕ → List PlanCluster → List ℕ → Level
 level_of exponent threshold phases clusters homes =
     record { exponent = exponent; threshold = threshold; phases = phases; clusters = clusters; homes = homes; readers = readers_of (length homes) clusters }
+
+-- the cluster is over the network's nodes, and walks inside it lead from the centre that leads it to each member
+pub record IsSpanned (network : Network) (cluster : Cluster) : Type 0 where
+  pub room : cluster.members.room ≡ network.nodes
+  pub leads : has cluster.first cluster.members.members ≡ true
+  pub reached : (v : ℕ) → has v cluster.members.members ≡ true → IsReached network.edges (within cluster.members.members) cluster.first v

@@ -50,8 +50,11 @@ abbrev pub distance : PlanData → ℕ → ℕ → ℕ
 distance plan u v = dist plan.distances u v
 
 -- a level, and a cluster of a level
+abbrev pub level_in : List Level → ℕ → Level
+level_in levels i = slice_index_or levels i no_level
+
 abbrev pub level_at : PlanData → ℕ → Level
-level_at plan i = slice_index_or plan.levels i no_level
+level_at plan i = level_in plan.levels i
 
 abbrev pub cluster_in : List PlanCluster → ℕ → PlanCluster
 cluster_in clusters c = slice_index_or clusters c no_cluster

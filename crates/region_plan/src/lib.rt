@@ -2,8 +2,8 @@
 #![tactic(auto)]
 
 mod balls;
+mod building;
 mod flat;
-mod laws;
 mod level;
 mod plan;
 mod row;

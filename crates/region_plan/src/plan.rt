@@ -10,11 +10,13 @@ ghost use Rattle.region_plan.specs.Matched.{IsMatched, IsWithinRadius};
 ghost use Rattle.region_plan.specs.Measures.{degree_of, stretch_of, most_looks_of, most_writes_of};
 ghost use Rattle.region_plan.specs.Kept.{IsKept};
 
+use crate::balls::top_for;
+use crate::building::build_level;
 use crate::flat::flat_level;
 use crate::level::LevelTable;
 use distances::Distances;
 use net_graph::{Graph, OutOfMemory};
-use std::alloc::{AllocError, Global};
+use std::alloc::Global;
 use std::marker::Model;
 
 /// A plan: for each level the clusters of a cover, the home of each node and the clusters that it reads.
@@ -88,7 +90,13 @@ impl Plan {
         ensures matched { IfOk result IsMatched }
         ensures radius { IfOk result IsWithinRadius }
     {
-        Err(AllocError)
+        let _nodes = graph.nodes();
+        let top = top_for(distances);
+        let mut levels = Vec::with_capacity(alloc, top as usize + 1)?;
+        for i in 0..top + 1 {
+            levels.push(build_level(alloc, graph, distances, k, i)?)?;
+        }
+        Ok(Plan::of_levels(k, distances.copy(alloc)?, levels))
     }
 
     /// How many nodes there are.

@@ -1,13 +1,16 @@
 // A cluster of a plan, with a weight for each node of the network.
-ghost use Rattle.std.specs.Prelude.{◌≡◌, ◌<◌, ◌≤◌, All, Contains, IfOk, IsTrue, length};
+ghost use Rattle.std.specs.Prelude.{◌≡◌, ◌<◌, ◌≤◌, All, Contains, IfOk, IsTrue, length, slice_index, true, ℕ};
 ghost use Rattle.node_set.specs.Ascending.{has};
-ghost use Rattle.cluster_tree.specs.Tree.{weight_beside};
-ghost use Rattle.region_plan.specs.Regions.{IsWhole};
+ghost use Rattle.cluster_tree.specs.Tree.{IsTreeOf, inside_weight, weight_beside};
+ghost use Rattle.region_plan.specs.Kept.{IsRow, IsSpanned};
+ghost use Rattle.region_plan.specs.Regions.{AreClustersOf, IsClusterOf, IsWhole};
 
+use cluster_tree::{ClusterTree, TreeFault};
+use coarse_cover::Cluster;
 use distances::Distances;
-use net_graph::OutOfMemory;
+use net_graph::{Graph, OutOfMemory};
 use node_set::NodeSet;
-use std::alloc::Global;
+use std::alloc::{AllocError, Global};
 use std::marker::Model;
 
 // A cluster: its members, and for each node below their room the least weight inside the cluster from the leader, 0
@@ -34,6 +37,31 @@ impl Model for ClusterRow {
 }
 
 impl ClusterRow {
+    // A cluster of a cover, weighed inside it from the centre that leads it.
+    pub fn new(
+        alloc: Global,
+        graph: &Graph,
+        cluster: Cluster,
+    ) -> Result<ClusterRow, OutOfMemory>
+        requires { IsSpanned graph.now cluster }
+        ensures { IfOk result (IsClusterOf graph.now cluster) }
+    {
+        let Cluster {
+            first,
+            members,
+            phase,
+        } = cluster;
+        let tree = spanning_tree(alloc, graph, &members, first)?;
+        let weights = weights_of(alloc, &members, &tree)?;
+        Ok(ClusterRow {
+            leader: first,
+            phase,
+            depth: tree.depth(),
+            members,
+            weights,
+        })
+    }
+
     // The cluster of all nodes, from node 0.
     pub fn whole(alloc: Global, distances: &Distances) -> Result<ClusterRow, OutOfMemory>
         ensures { IfOk result (IsWhole distances.now) }
@@ -82,6 +110,69 @@ impl ClusterRow {
     {
         u64::from(self.weights[v as usize])
     }
+}
+
+// The tree of members that walks among them reach from the leader.
+fn spanning_tree(
+    alloc: Global,
+    graph: &Graph,
+    members: &NodeSet,
+    leader: u32,
+) -> Result<ClusterTree, OutOfMemory>
+    requires spanned { IsSpanned graph.now (record { first = leader; members = members.now; phase = 0 }) }
+    ensures { IfOk result (IsTreeOf graph.now members.now.members leader) }
+{
+    match ClusterTree::new(alloc, graph, members, leader) {
+        Ok(tree) => Ok(tree),
+        Err(TreeFault::OutOfMemory) => Err(AllocError),
+        Err(TreeFault::Outside { .. }) => unreachable!(),
+    }
+}
+
+// For each node its weight in the tree, 0 where it isn't a member.
+fn weights_of(
+    alloc: Global,
+    members: &NodeSet,
+    tree: &ClusterTree,
+) -> Result<Vec<u32>, OutOfMemory>
+    requires { tree.now.members ≡ members.now.members }
+    ensures row { IfOk result (λ weights. IsRow members.now weights.items) }
+    ensures each { IfOk result (λ weights. (v : ℕ) → v < members.now.room → has v members.now.members ≡ true → slice_index weights.items v ≡ inside_weight tree.now v) }
+{
+    let mut weights = Vec::with_capacity(alloc, members.room() as usize)?;
+    for v in 0..members.room() {
+        weights.push(weight_in(members, tree, v))?;
+    }
+    Ok(weights)
+}
+
+// The weight of a node in the tree, 0 where it isn't a member.
+fn weight_in(members: &NodeSet, tree: &ClusterTree, v: u32) -> u32
+    requires same { tree.now.members ≡ members.now.members }
+    requires below { v < members.now.room }
+    ensures { has v members.now.members ≡ true → result ≡ inside_weight tree.now v }
+{
+    if members.has(v) {
+        tree.weight_of(v) as u32
+    } else {
+        0
+    }
+}
+
+// The rows of the clusters, one for one.
+pub fn rows_of(
+    alloc: Global,
+    graph: &Graph,
+    clusters: Vec<Cluster>,
+) -> Result<Vec<ClusterRow>, OutOfMemory>
+    requires { All (IsSpanned graph.now) clusters.items }
+    ensures { IfOk result (λ rows. AreClustersOf graph.now clusters.items rows.items) }
+{
+    let mut rows = Vec::with_capacity(alloc, clusters.len())?;
+    for cluster in clusters {
+        rows.push(ClusterRow::new(alloc, graph, cluster)?)?;
+    }
+    Ok(rows)
 }
 
 // The greatest of the numbers, 0 where there is none.

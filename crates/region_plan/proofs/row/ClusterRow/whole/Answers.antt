@@ -1,4 +1,5 @@
-use Rattle.std.proofs.Common.{◌≡◌, ℕ, length, map, ◌∙◌, sym, ap, subst, arith}
+use Rattle.std.proofs.Common.{◌≡◌, ℕ, List, length, map, ◌∙◌, sym, ap, subst, arith}
+use Rattle.std.specs.Prelude.{All, Contains}
 use Rattle.coarse_cover.specs.Coarsening.{centres}
 use Rattle.distances.specs.Table.{dist}
 use Rattle.region_plan.specs.Regions.{IsWhole}
