@@ -4,6 +4,7 @@
 mod balls;
 mod building;
 mod flat;
+mod laws;
 mod level;
 mod plan;
 mod row;
