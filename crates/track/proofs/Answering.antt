@@ -39,15 +39,17 @@ clusters_of : (one other : Network) (made : List Cluster) (clusters : List PlanC
 clusters_of one other [] [] same h = tt
 clusters_of one other [] (d ∷ ds) same h = h
 clusters_of one other (c ∷ cs) [] same h = h
-clusters_of one other (c ∷ cs) (d ∷ ds) same h =
-    (record {
-      leader = h.0.leader;
-      phase = h.0.phase;
-      members = h.0.members;
-      tree = tree_of one other c.members.members c.first (weighed d) same h.0.tree;
-      count = h.0.count;
-      depth = h.0.depth;
-    }, clusters_of one other cs ds same h.1)
+clusters_of one other (c ∷ cs) (d ∷ ds) same h = (
+  record {
+    leader = h.0.leader;
+    phase = h.0.phase;
+    members = h.0.members;
+    tree = tree_of one other c.members.members c.first (weighed d) same h.0.tree;
+    count = h.0.count;
+    depth = h.0.depth;
+  },
+  clusters_of one other cs ds same h.1,
+)
 
 distances_of : (one other : Network) (table : DistanceTable) → one.nodes ≡ other.nodes → SameWalks other.edges one.edges → AreDistancesOf one table → AreDistancesOf other table
 distances_of one other table nodes same are = record {

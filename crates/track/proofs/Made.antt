@@ -122,9 +122,9 @@ one_done one plan made contents call flat for limits is =
     let below = home_below contents call.sub limits is.sub in
     let some = limits.counts.some_node in
     let inside : plan.inside 0 0 call.from ≡ weight_of made call.from =
-        one contents.edges everywhere 0 call.from (plan.inside 0 0 call.from) (weight_of made call.from) (flat.inside call.from is.from) (weight_is contents made call.from for some is.from) in
+    one contents.edges everywhere 0 call.from (plan.inside 0 0 call.from) (weight_of made call.from) (flat.inside call.from is.from) (weight_is contents made call.from for some is.from) in
     let distance : plan.distance 0 home ≡ weight_of made home =
-        one contents.edges everywhere 0 home (plan.distance 0 home) (weight_of made home) (flat.distance 0 home (omega arith) below) (weight_is contents made home for some below) in
+    one contents.edges everywhere 0 home (plan.distance 0 home) (weight_of made home) (flat.distance 0 home (omega arith) below) (weight_is contents made home for some below) in
     done_by_test plan contents call (weight_of made call.from) (weight_of made home) (call.from == home) flat is below inside distance refl
 
 -- ---- one find after another

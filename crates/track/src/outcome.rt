@@ -93,11 +93,7 @@ fn make_all(
 }
 
 // What becomes of an input's finds.
-pub(crate) fn make_outcome(
-    alloc: Global,
-    input: &Input,
-    plan: &Plan,
-) -> Result<Outcome, AllocError>
+pub(crate) fn make_outcome(alloc: Global, input: &Input, plan: &Plan) -> Result<Outcome, AllocError>
     requires plan { IsPlanFor (view input.now) plan.now }
     requires limits { AreInLimits (view input.now) }
     ensures { IfOk result (IsOutcome (view input.now)) }
