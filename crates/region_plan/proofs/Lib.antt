@@ -7,3 +7,4 @@ mod Reaching
 mod Spanning
 mod Levels
 mod Matching
+mod Alone

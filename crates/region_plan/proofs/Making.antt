@@ -1,13 +1,13 @@
 -- The parts of a level, step by step.
-use Rattle.std.proofs.Common.{◌≡◌, ℕ, zero, suc, ◌+◌, ◌-◌, ◌*◌, ◌<◌, ◌≤◌, Bool, true, false, cond, List, [], ◌∷◌, ◌++◌, length, map, take, drop, replicate, get_or, refl, sym, ◌∙◌, ap, subst, inl, inr, arith}
+use Rattle.std.proofs.Common.{◌≡◌, ℕ, zero, suc, ◌+◌, ◌-◌, ◌<◌, ◌≤◌, Bool, true, false, cond, List, [], ◌∷◌, ◌++◌, length, map, take, drop, replicate, get_or, refl, sym, ◌∙◌, ap, subst, inl, inr, arith}
 use Rattle.std.specs.Prelude.{All, Contains, nat_le, slice_range}
 use Rattle.std.proofs.lemmas.Bool.{cases_lt, le-leb}
-use Rattle.std.proofs.lemmas.List.{append_assoc, map_push, length-append, length-drop, length-map, length-replicate, length_push, get_or_append_left, get_or_push, get_or_default, take_all, take-append-le, drop-append-le, drop_all, take-append-drop}
+use Rattle.std.proofs.lemmas.List.{append_assoc, map_push, length-append, length-drop, length-map, length-replicate, length_push, get_or_append_left, get_or_push, get_or_default, take_all, take-append-le, drop-append-le, drop_all}
 use Rattle.net_graph.specs.Walks.{IsLeastWeight}
 use Rattle.net_graph.specs.Network.{Network}
 use Rattle.node_set.specs.Ascending.{has, passing}
 use Rattle.node_set.specs.Nodes.{Nodes, AreNodes}
-use Rattle.node_set.proofs.Ascending.{ascending-passing, below-has, below_from_has, has-passing}
+use Rattle.node_set.proofs.Ascending.{ascending-passing, below-has, below_from_has}
 use Rattle.distances.specs.Table.{DistanceTable, dist, ball_of, IsMetric, IsDiameter}
 use Rattle.distances.proofs.Balls.{ball_members}
 use Rattle.coarse_cover.specs.Coarsening.{centres}
@@ -16,7 +16,7 @@ use Rattle.coarse_cover.specs.declared.cover.Cluster.{Cluster}
 use Rattle.cluster_tree.specs.Tree.{WeighedCluster, weight_beside, inside_weight, within, IsTreeOf, IsDepth}
 use Rattle.cluster_tree.proofs.Places.{passing_takes, passing_skips}
 use Rattle.region_plan.specs.Plan.{PlanCluster, Level, cluster_in}
-use Rattle.region_plan.specs.Regions.{containing, readers_of, weighed, IsTop, IsWhole, IsFlatLevel, IsClusterOf, AreClustersOf}
+use Rattle.region_plan.specs.Regions.{containing, readers_of, IsTop, IsWhole, IsFlatLevel, IsClusterOf, AreClustersOf}
 use Rattle.region_plan.specs.Kept.{AreRows, IsRow, IsSized, weights_among, level_of}
 use Rattle.region_plan.proofs.Rows.{length-containing}
 use Rattle.region_plan.proofs.Lists.{made_at, made_more, map_same, passing_same, length-made, beside_map, has_centre}

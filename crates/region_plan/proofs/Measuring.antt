@@ -1,11 +1,11 @@
 -- The greatest of some numbers, one after another.
-use Rattle.std.proofs.Common.{◌≡◌, ℕ, zero, suc, ◌+◌, ◌<◌, ◌≤◌, List, [], ◌∷◌, ◌++◌, length, map, take, get_or, refl, sym, ◌∙◌, ap, subst, arith, rules}
+use Rattle.std.proofs.Common.{◌≡◌, ℕ, ◌+◌, ◌<◌, ◌≤◌, List, [], ◌∷◌, ◌++◌, length, map, take, get_or, sym, ◌∙◌, ap, arith, rules}
 use Rattle.std.specs.Prelude.{max}
 use Rattle.std.specs.Ordering.{ord_max, nat_cmp}
 use Rattle.std.proofs.lemmas.Bool.Decides.{nat_tests}
 use Rattle.std.proofs.lemmas.List.{get_or-map, length-map, take_more, take_all}
-use Rattle.std.proofs.Math.Nat.{max-zero, zero-max, le-max_left, le-max_right}
-use Rattle.region_plan.specs.Plan.{Level, no_level, readers_in}
+use Rattle.std.proofs.Math.Nat.{max-zero, zero-max}
+use Rattle.region_plan.specs.Plan.{Level, readers_in}
 use Rattle.region_plan.specs.Measures.{most, degree_in}
 
 max_both : (a b c : ℕ) → max (max a b) c ≡ max a (max b c)

@@ -1,13 +1,13 @@
 -- Walks inside unions of balls: a least walk from a centre stays in its ball, so a cluster is spanned from its leader.
-use Rattle.std.proofs.Common.{◌≡◌, ◌⊎◌, ℕ, zero, suc, ◌+◌, ◌-◌, ◌*◌, ◌^◌, ◌<◌, ◌≤◌, Bool, true, false, cond, ◌||◌, List, [], ◌∷◌, ◌++◌, length, map, get_or, refl, sym, ◌∙◌, ap, subst, inl, inr, arith, eqb, eq-eqb}
-use Rattle.std.specs.Prelude.{All, nat_le}
+use Rattle.std.proofs.Common.{◌≡◌, ◌⊎◌, ℕ, zero, suc, ◌+◌, ◌*◌, ◌<◌, ◌≤◌, Bool, true, false, ◌||◌, List, [], ◌∷◌, ◌++◌, length, map, get_or, refl, sym, ◌∙◌, ap, subst, inl, inr, arith, eqb, eq-eqb}
+use Rattle.std.specs.Prelude.{All}
 use Rattle.std.proofs.lemmas.Bool.{cases_lt, eqb-true}
 use Rattle.std.proofs.lemmas.List.{get_or_past}
 use Rattle.net_graph.specs.declared.edge.Edge.{Edge}
-use Rattle.net_graph.specs.Walks.{Joins, Step, IsWalk, weight_of, IsLeastWeight, everywhere}
+use Rattle.net_graph.specs.Walks.{Joins, Step, IsWalk, weight_of, everywhere}
 use Rattle.net_graph.specs.Network.{Network, IsEdge}
 use Rattle.net_graph.proofs.WalkLaws.{IsNoHeavier, join_edge, walk-append, weight_of-append, walk_turned, walk_widened}
-use Rattle.node_set.specs.Ascending.{has, share}
+use Rattle.node_set.specs.Ascending.{has}
 use Rattle.node_set.proofs.Ascending.{share_gives}
 use Rattle.distances.specs.Table.{DistanceTable, AreDistancesOf, IsMetric, dist, ball_of}
 use Rattle.distances.proofs.Balls.{ball_members}

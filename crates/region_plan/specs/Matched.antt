@@ -1,10 +1,10 @@
 -- A matched plan: at each level the home of a node is read by every node within the level's radius.
 -- Key laws: `Plan::build` and `Plan::flat` give matched plans, by their clauses `matched`; `Plan::build` gives clusters
 -- within their radius, by its clause `radius`.
-use Rattle.std.specs.Prelude.{◌≡◌, ℕ, ◌-◌, ◌*◌, ◌^◌, ◌<◌, ◌≤◌, true, length}
+use Rattle.std.specs.Prelude.{◌≡◌, ℕ, ◌-◌, ◌*◌, ◌^◌, ◌<◌, ◌≤◌, true}
 use Rattle.node_set.specs.Ascending.{has}
 use Rattle.distances.specs.Table.{IsMetric}
-use Rattle.region_plan.specs.Plan.{PlanData, nodes_of, levels_of, top_of, distance, level_at, cluster_at, clusters_of, members_of, home, readers, leader, inside, threshold}
+use Rattle.region_plan.specs.Plan.{PlanData, nodes_of, levels_of, top_of, distance, level_at, clusters_of, members_of, home, readers, leader, inside, threshold}
 use Rattle.region_plan.specs.Regions.{containing}
 
 -- each home contains its node, each node reads just the clusters that contain it, and those within a level's radius read

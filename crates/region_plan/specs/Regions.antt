@@ -1,7 +1,7 @@
 -- The plan of a network, level by level: level i coarsens the balls of radius 2^i; and the flat plan, one cluster of all nodes.
 -- Key laws: `Plan::build` gives the plan of its network and k, `Plan::flat` gives the flat plan, and `plan_is_one` says
 -- that a network and k have one plan.
-use Rattle.std.specs.Prelude.{◌≡◌, ℕ, zero, suc, ◌+◌, ◌-◌, ◌*◌, ◌^◌, ◌<◌, ◌≤◌, List, [], ◌∷◌, length, map}
+use Rattle.std.specs.Prelude.{◌≡◌, ℕ, zero, suc, ◌^◌, ◌<◌, ◌≤◌, List, [], ◌∷◌, length, map}
 use Rattle.net_graph.specs.Network.{Network}
 use Rattle.node_set.specs.Ascending.{has, passing}
 use Rattle.distances.specs.Table.{DistanceTable, AreDistancesOf, IsDiameter, ball_of, dist}

@@ -4,9 +4,14 @@
 mod balls;
 mod building;
 mod flat;
+mod laws;
 mod level;
 mod plan;
 mod row;
 
+pub use laws::plan_is_one;
 pub use net_graph::OutOfMemory;
 pub use plan::Plan;
+
+#[cfg(test)]
+mod tests;

@@ -1,4 +1,4 @@
-use Rattle.std.proofs.Common.{◌≤◌, length, subst, sym, arith}
+use Rattle.std.proofs.Common.{arith}
 use Rattle.region_plan.proofs.Levels.{balls_few, balls_rooms, balls_centred, cover_spanned, homes_count, rows_few, level_built, level_fits}
 use Rattle.region_plan.proofs.building.build_level.Goals as goal
 
