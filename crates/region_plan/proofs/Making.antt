@@ -138,9 +138,9 @@ module _ (table : DistanceTable) (metric : IsMetric table) (radius : ℕ) (diame
     depth = record {
       greatest = λ v h. rw (beside_map (λ x. get_or cells x 0) v ball.members h) (bound v 0 (omega (arith, count, below v h)));
       attained =
-        let at = attained (omega (arith, count, metric.some)) in
-        let member : has at.0 ball.members ≡ true = ap (has at.0) all ∙ has_centre table.nodes at.0 (omega (arith, at.1, count)) in
-        record { node = at.0; member = member; far = beside_map (λ x. get_or cells x 0) at.0 ball.members member ∙ get_or_default cells at.0 0 depth at.1 ∙ at.2 };
+          let at = attained (omega (arith, count, metric.some)) in
+          let member : has at.0 ball.members ≡ true = ap (has at.0) all ∙ has_centre table.nodes at.0 (omega (arith, at.1, count)) in
+          record { node = at.0; member = member; far = beside_map (λ x. get_or cells x 0) at.0 ball.members member ∙ get_or_default cells at.0 0 depth at.1 ∙ at.2 };
     };
   }
 
@@ -200,9 +200,9 @@ module _ (network : Network) (made : Cluster) (cells : List ℕ) (tree : Weighed
     depth = record {
       greatest = λ v h. subst (λ w. w ≤ depth) (sym (same_weight v h)) (depth_is.greatest v (in_tree v h));
       attained =
-        let at = depth_is.attained in
-        let member : has at.node made.members.members ≡ true = ap (has at.node) (sym tree_is.members_are) ∙ at.member in
-        record { node = at.node; member = member; far = same_weight at.node member ∙ at.far };
+          let at = depth_is.attained in
+          let member : has at.node made.members.members ≡ true = ap (has at.node) (sym tree_is.members_are) ∙ at.member in
+          record { node = at.node; member = member; far = same_weight at.node member ∙ at.far };
     };
   }
 

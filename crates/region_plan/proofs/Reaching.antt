@@ -50,9 +50,11 @@ module _ (network : Network) (table : DistanceTable) (metric : IsMetric table) (
       let ends = join_edge network.nodes network.edges u step.node step.weight limits walk.1 in
       let below : step.node < table.nodes = omega (arith, ends.1, least.nodes) in
       let near : dist table u step.node ≤ step.weight = hop u step.node step.weight hu below walk.1 in
-      let on : dist table c step.node ≤ dist table c u + dist table u step.node = metric.triangle c u step.node hc hu below in
-      (holds u hu (omega arith), walk.1,
-      stays inside c r hc holds steps (a + step.weight) step.node x below (omega arith) walk.2 (omega arith))
+      let on : dist table c step.node ≤ dist table c u + dist table u step.node = metric.triangle c u step.node hc hu below in (
+        holds u hu (omega arith),
+        walk.1,
+        stays inside c r hc holds steps (a + step.weight) step.node x below (omega arith) walk.2 (omega arith),
+      )
 
   near_centre : (inside : ℕ → Bool) (c r x : ℕ) → c < table.nodes → x < table.nodes → dist table c x ≤ r
       → ((y : ℕ) → y < table.nodes → dist table c y ≤ r → inside y ≡ true) → IsNoHeavier network.edges inside c x r

@@ -148,7 +148,16 @@ fn the_flat_plan_of_a_line(rt: HostRuntime) -> Result<(), Fail> {
     assert_eq!(rt; plan.degree(), 1);
     assert_eq!(rt; plan.stretch(), 40);
     level_is(&rt, &plan, 0, 2, 1, 1, 1, &[0, 0, 0, 0]);
-    cluster_is(&rt, &plan, 0, 0, 0, 0, 3, &[Some(0), Some(1), Some(2), Some(3)]);
+    cluster_is(
+        &rt,
+        &plan,
+        0,
+        0,
+        0,
+        0,
+        3,
+        &[Some(0), Some(1), Some(2), Some(3)],
+    );
     reads(&rt, &plan, 0, 3, &[0]);
     assert_eq!(rt; plan.nodes(), 4);
     assert_eq!(rt; plan.most_looks(1), 9);
