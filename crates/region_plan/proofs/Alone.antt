@@ -60,9 +60,9 @@ same_weights : (xs ws us : List ℕ) → IsAscending xs → length ws ≡ length
     → ((v : ℕ) → has v xs ≡ true → weight_beside v xs ws ≡ weight_beside v xs us) → ws ≡ us
 same_weights xs ws us rises one two same =
     same_lists ws us (one ∙ sym two) (λ i d below.
-      get_or_default ws i d 0 below ∙ sym (beside_place xs ws i rises one (omega (arith, one)))
-      ∙ same (get_or xs i 0) (has_place xs i (omega (arith, one)))
-      ∙ beside_place xs us i rises two (omega (arith, one)) ∙ get_or_default us i 0 d (omega (arith, one, two)))
+    get_or_default ws i d 0 below ∙ sym (beside_place xs ws i rises one (omega (arith, one)))
+    ∙ same (get_or xs i 0) (has_place xs i (omega (arith, one)))
+    ∙ beside_place xs us i rises two (omega (arith, one)) ∙ get_or_default us i 0 d (omega (arith, one, two)))
 
 same_depth : (cluster : WeighedCluster) (d e : ℕ) → IsDepth cluster d → IsDepth cluster e → d ≡ e
 same_depth cluster d e p q =
@@ -81,9 +81,9 @@ same_cluster one_weight network made d e rises p q =
     let phase_is : d.phase ≡ e.phase = p.phase ∙ sym q.phase in
     let members : d.members ≡ e.members = p.members ∙ sym q.members in
     let weights : d.weights ≡ e.weights = same_weights xs d.weights e.weights rises (p.count ∙ ap length p.members) (q.count ∙ ap length q.members)
-        (λ v h. ap (λ ys. weight_beside v ys d.weights) (sym p.members)
-          ∙ one_weight network.edges (within xs) made.first v (inside_weight (weighed d) v) (inside_weight (weighed e) v) (p.tree.each v h) (q.tree.each v h)
-          ∙ ap (λ ys. weight_beside v ys e.weights) q.members) in
+    (λ v h. ap (λ ys. weight_beside v ys d.weights) (sym p.members)
+    ∙ one_weight network.edges (within xs) made.first v (inside_weight (weighed d) v) (inside_weight (weighed e) v) (p.tree.each v h) (q.tree.each v h)
+    ∙ ap (λ ys. weight_beside v ys e.weights) q.members) in
     let both : weighed d ≡ weighed e = cc in
     let depth : d.depth ≡ e.depth = same_depth (weighed e) d.depth e.depth (subst (λ (c : WeighedCluster). IsDepth c d.depth) both p.depth) q.depth in
     let parts : ◌≡◌ {A = PlanCluster} (record { leader = d.leader; phase = d.phase; members = d.members; weights = d.weights; depth = d.depth }) (record { leader = e.leader; phase = e.phase; members = e.members; weights = e.weights; depth = e.depth }) = cc in
@@ -154,4 +154,4 @@ one_plan one_table one_weight network k one two p q =
 
     levels : one.levels ≡ two.levels
     levels = same_lists one.levels two.levels count (λ i d below.
-      get_or_default one.levels i d no_level below ∙ level i below ∙ get_or_default two.levels i no_level d (omega (arith, count)))
+        get_or_default one.levels i d no_level below ∙ level i below ∙ get_or_default two.levels i no_level d (omega (arith, count)))

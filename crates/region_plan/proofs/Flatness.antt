@@ -1,12 +1,11 @@
 -- The flat plan is matched.
-use Rattle.std.proofs.Common.{◌≡◌, ℕ, zero, suc, ◌+◌, ◌-◌, ◌*◌, ◌^◌, ◌<◌, ◌≤◌, Bool, true, false, cond, List, [], ◌∷◌, length, map, get_or, refl, sym, ◌∙◌, ap, subst, arith}
+use Rattle.std.proofs.Common.{◌≡◌, ℕ, ◌^◌, ◌<◌, ◌≤◌, true, cond, List, [], ◌∷◌, get_or, refl, sym, ◌∙◌, ap, subst, arith}
 use Rattle.node_set.specs.Ascending.{has, passing}
-use Rattle.node_set.proofs.Ascending.{passing_over}
 use Rattle.distances.specs.Table.{dist, IsMetric}
 use Rattle.net_graph.specs.Network.{Network}
 use Rattle.coarse_cover.specs.Coarsening.{centres}
 use Rattle.cluster_tree.specs.Tree.{weight_beside}
-use Rattle.region_plan.specs.Plan.{PlanData, PlanCluster, nodes_of, levels_of, top_of, distance, level_at, cluster_in, cluster_at, clusters_of, members_of, home, readers, leader, inside, threshold}
+use Rattle.region_plan.specs.Plan.{PlanData, nodes_of, levels_of, top_of, distance, level_at, cluster_in, cluster_at, clusters_of, members_of, home, readers, leader, inside}
 use Rattle.region_plan.specs.Regions.{containing, IsFlat}
 use Rattle.region_plan.specs.Matched.{IsMatched}
 use Rattle.region_plan.proofs.Lists.{made_at, beside_map, has_centre, below_centre}

@@ -1,13 +1,13 @@
 -- A level as it is built, and the plan of all levels.
-use Rattle.std.proofs.Common.{◌≡◌, ℕ, zero, suc, ◌+◌, ◌-◌, ◌*◌, ◌^◌, ◌<◌, ◌≤◌, List, [], ◌∷◌, ◌++◌, length, map, get_or, refl, sym, ◌∙◌, ap, subst, inl, inr, arith}
+use Rattle.std.proofs.Common.{◌≡◌, ℕ, ◌+◌, ◌-◌, ◌^◌, ◌<◌, ◌≤◌, List, [], ◌∷◌, ◌++◌, length, map, get_or, refl, sym, ◌∙◌, ap, subst, inl, inr, arith}
 use Rattle.std.specs.Prelude.{All}
 use Rattle.std.proofs.lemmas.Bool.{cases_lt}
-use Rattle.std.proofs.lemmas.List.{get_or_append_left, get_or_push, length_push}
+use Rattle.std.proofs.lemmas.List.{get_or_append_left, get_or_push}
 use Rattle.net_graph.specs.Network.{Network, IsNetwork}
 use Rattle.node_set.specs.Nodes.{Nodes}
 use Rattle.distances.specs.Table.{DistanceTable, AreDistancesOf, IsMetric, ball_of}
-use Rattle.coarse_cover.specs.Coarsening.{Grown, coarsening, all_clusters, home_of, centres}
-use Rattle.coarse_cover.specs.Covers.{sets, listed, AreCentred, IsCover}
+use Rattle.coarse_cover.specs.Coarsening.{coarsening, all_clusters, home_of, centres}
+use Rattle.coarse_cover.specs.Covers.{sets, AreCentred, IsCover}
 use Rattle.coarse_cover.specs.declared.cover.Cluster.{Cluster}
 use Rattle.coarse_cover.specs.declared.cover.Cover.{Cover}
 use Rattle.coarse_cover.proofs.Marking.{length-sets}

@@ -8,3 +8,4 @@ mod Spanning
 mod Levels
 mod Matching
 mod Alone
+mod Uniqueness

@@ -1,12 +1,12 @@
 -- Numbers from 0 on, and what stands beside a member.
-use Rattle.std.proofs.Common.{◌≡◌, ◌⊎◌, ℕ, zero, suc, ◌+◌, ◌-◌, ◌<◌, ◌≤◌, Bool, true, false, cond, ◌||◌, List, [], ◌∷◌, ◌++◌, length, map, get_or, refl, sym, ◌∙◌, ap, subst, inl, inr, arith, eqb, eq-eqb, ne_eqb}
+use Rattle.std.proofs.Common.{◌≡◌, ◌⊎◌, ℕ, zero, suc, ◌+◌, ◌<◌, ◌≤◌, Bool, true, false, cond, ◌||◌, List, [], ◌∷◌, ◌++◌, length, map, get_or, refl, sym, ◌∙◌, ap, subst, inl, inr, arith, eq-eqb, ne_eqb}
 use Rattle.std.proofs.lemmas.Bool.{cases_eq, cases_lt}
 use Rattle.std.proofs.lemmas.List.{get_or-map, length-map, map_push}
-use Rattle.node_set.specs.Ascending.{has, passing, IsAscending}
-use Rattle.node_set.proofs.Ascending.{has-passing, passing_over, ascending-passing, same_members}
+use Rattle.node_set.specs.Ascending.{has, passing}
+use Rattle.node_set.proofs.Ascending.{has-passing, passing_over}
 use Rattle.coarse_cover.specs.Coarsening.{centres}
 use Rattle.cluster_tree.specs.Tree.{weight_beside}
-use Rattle.cluster_tree.proofs.Places.{passing_takes, passing_skips}
+use Rattle.cluster_tree.proofs.Places.{passing_takes}
 
 pub true_or_false : (b : Bool) → (b ≡ true) ⊎ (b ≡ false)
 true_or_false true = inl refl

@@ -1,13 +1,13 @@
 -- The parts of a level, step by step.
-use Rattle.std.proofs.Common.{◌≡◌, ℕ, zero, suc, ◌+◌, ◌-◌, ◌*◌, ◌<◌, ◌≤◌, Bool, true, false, cond, List, [], ◌∷◌, ◌++◌, length, map, take, drop, replicate, get_or, refl, sym, ◌∙◌, ap, subst, inl, inr, arith}
+use Rattle.std.proofs.Common.{◌≡◌, ℕ, zero, suc, ◌+◌, ◌-◌, ◌<◌, ◌≤◌, Bool, true, false, cond, List, [], ◌∷◌, ◌++◌, length, map, take, drop, replicate, get_or, refl, sym, ◌∙◌, ap, subst, inl, inr, arith}
 use Rattle.std.specs.Prelude.{All, Contains, nat_le, slice_range}
 use Rattle.std.proofs.lemmas.Bool.{cases_lt, le-leb}
-use Rattle.std.proofs.lemmas.List.{append_assoc, map_push, length-append, length-drop, length-map, length-replicate, length_push, get_or_append_left, get_or_push, get_or_default, take_all, take-append-le, drop-append-le, drop_all, take-append-drop}
+use Rattle.std.proofs.lemmas.List.{append_assoc, map_push, length-append, length-drop, length-map, length-replicate, length_push, get_or_append_left, get_or_push, get_or_default, take_all, take-append-le, drop-append-le, drop_all}
 use Rattle.net_graph.specs.Walks.{IsLeastWeight}
 use Rattle.net_graph.specs.Network.{Network}
 use Rattle.node_set.specs.Ascending.{has, passing}
 use Rattle.node_set.specs.Nodes.{Nodes, AreNodes}
-use Rattle.node_set.proofs.Ascending.{ascending-passing, below-has, below_from_has, has-passing}
+use Rattle.node_set.proofs.Ascending.{ascending-passing, below-has, below_from_has}
 use Rattle.distances.specs.Table.{DistanceTable, dist, ball_of, IsMetric, IsDiameter}
 use Rattle.distances.proofs.Balls.{ball_members}
 use Rattle.coarse_cover.specs.Coarsening.{centres}
@@ -16,7 +16,7 @@ use Rattle.coarse_cover.specs.declared.cover.Cluster.{Cluster}
 use Rattle.cluster_tree.specs.Tree.{WeighedCluster, weight_beside, inside_weight, within, IsTreeOf, IsDepth}
 use Rattle.cluster_tree.proofs.Places.{passing_takes, passing_skips}
 use Rattle.region_plan.specs.Plan.{PlanCluster, Level, cluster_in}
-use Rattle.region_plan.specs.Regions.{containing, readers_of, weighed, IsTop, IsWhole, IsFlatLevel, IsClusterOf, AreClustersOf}
+use Rattle.region_plan.specs.Regions.{containing, readers_of, IsTop, IsWhole, IsFlatLevel, IsClusterOf, AreClustersOf}
 use Rattle.region_plan.specs.Kept.{AreRows, IsRow, IsSized, weights_among, level_of}
 use Rattle.region_plan.proofs.Rows.{length-containing}
 use Rattle.region_plan.proofs.Lists.{made_at, made_more, map_same, passing_same, length-made, beside_map, has_centre}
@@ -138,9 +138,9 @@ module _ (table : DistanceTable) (metric : IsMetric table) (radius : ℕ) (diame
     depth = record {
       greatest = λ v h. rw (beside_map (λ x. get_or cells x 0) v ball.members h) (bound v 0 (omega (arith, count, below v h)));
       attained =
-        let at = attained (omega (arith, count, metric.some)) in
-        let member : has at.0 ball.members ≡ true = ap (has at.0) all ∙ has_centre table.nodes at.0 (omega (arith, at.1, count)) in
-        record { node = at.0; member = member; far = beside_map (λ x. get_or cells x 0) at.0 ball.members member ∙ get_or_default cells at.0 0 depth at.1 ∙ at.2 };
+          let at = attained (omega (arith, count, metric.some)) in
+          let member : has at.0 ball.members ≡ true = ap (has at.0) all ∙ has_centre table.nodes at.0 (omega (arith, at.1, count)) in
+          record { node = at.0; member = member; far = beside_map (λ x. get_or cells x 0) at.0 ball.members member ∙ get_or_default cells at.0 0 depth at.1 ∙ at.2 };
     };
   }
 
@@ -200,9 +200,9 @@ module _ (network : Network) (made : Cluster) (cells : List ℕ) (tree : Weighed
     depth = record {
       greatest = λ v h. subst (λ w. w ≤ depth) (sym (same_weight v h)) (depth_is.greatest v (in_tree v h));
       attained =
-        let at = depth_is.attained in
-        let member : has at.node made.members.members ≡ true = ap (has at.node) (sym tree_is.members_are) ∙ at.member in
-        record { node = at.node; member = member; far = same_weight at.node member ∙ at.far };
+          let at = depth_is.attained in
+          let member : has at.node made.members.members ≡ true = ap (has at.node) (sym tree_is.members_are) ∙ at.member in
+          record { node = at.node; member = member; far = same_weight at.node member ∙ at.far };
     };
   }
 

@@ -1,25 +1,24 @@
 -- The plan of a network is matched, and its clusters are within their radius.
-use Rattle.std.proofs.Common.{◌≡◌, ℕ, zero, suc, ◌+◌, ◌-◌, ◌*◌, ◌^◌, ◌<◌, ◌≤◌, true, List, [], ◌∷◌, length, map, get_or, refl, sym, ◌∙◌, ap, subst, arith}
-use Rattle.std.specs.Prelude.{All}
-use Rattle.std.proofs.lemmas.List.{get_or-map, length-map}
+use Rattle.std.proofs.Common.{◌≡◌, ℕ, ◌-◌, ◌*◌, ◌^◌, ◌<◌, ◌≤◌, true, List, [], length, get_or, refl, sym, ◌∙◌, ap, subst, arith}
+use Rattle.std.proofs.lemmas.List.{get_or-map}
 use Rattle.net_graph.specs.Walks.{IsLeastWeight, weight_of, everywhere}
 use Rattle.net_graph.specs.Network.{Network, IsNetwork}
 use Rattle.net_graph.proofs.WalkLaws.{walk_widened}
-use Rattle.node_set.specs.Ascending.{has, passing}
+use Rattle.node_set.specs.Ascending.{has}
 use Rattle.node_set.proofs.Ascending.{has-passing}
-use Rattle.distances.specs.Table.{DistanceTable, AreDistancesOf, IsMetric, dist, ball_of}
-use Rattle.coarse_cover.specs.Coarsening.{Grown, ball, coarsening, all_clusters, home_of, centres}
+use Rattle.distances.specs.Table.{IsMetric, dist, ball_of}
+use Rattle.coarse_cover.specs.Coarsening.{Grown, ball, all_clusters, home_of}
 use Rattle.coarse_cover.specs.Covers.{listed}
 use Rattle.coarse_cover.specs.declared.cover.Cluster.{Cluster}
 use Rattle.coarse_cover.proofs.Growth.{union_has}
 use Rattle.coarse_cover.proofs.Results.{clusters_shaped, home_is_within, home_is_home, listed_nodes}
 use Rattle.coarse_cover.proofs.Steps.{length-listed}
-use Rattle.cluster_tree.specs.Tree.{within, weight_beside}
-use Rattle.region_plan.specs.Plan.{PlanData, PlanCluster, Level, nodes_of, levels_of, top_of, distance, level_at, no_cluster, cluster_in, cluster_at, clusters_of, members_of, home, readers, leader, inside, threshold}
+use Rattle.cluster_tree.specs.Tree.{within}
+use Rattle.region_plan.specs.Plan.{PlanData, nodes_of, levels_of, top_of, distance, level_at, no_cluster, cluster_in, cluster_at, clusters_of, members_of, home, readers, leader, inside}
 use Rattle.region_plan.specs.Regions.{balls_of, regions_of, containing, IsClusterOf, IsLevelOf, IsPlanOf}
 use Rattle.region_plan.specs.Matched.{IsMatched, IsWithinRadius}
 use Rattle.region_plan.proofs.Lists.{made_at, length-made}
-use Rattle.region_plan.proofs.Reaching.{own_ball, to_ball}
+use Rattle.region_plan.proofs.Reaching.{to_ball}
 use Rattle.region_plan.proofs.Spanning.{IsClose, centred, listed_close}
 use Rattle.region_plan.proofs.Making.{clusters_count, clusters_at}
 

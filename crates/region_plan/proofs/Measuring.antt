@@ -1,12 +1,12 @@
 -- The greatest of some numbers, one after another.
-use Rattle.std.proofs.Common.{◌≡◌, ℕ, zero, suc, ◌+◌, ◌<◌, ◌≤◌, List, [], ◌∷◌, ◌++◌, length, map, take, get_or, refl, sym, ◌∙◌, ap, subst, arith, rules}
+use Rattle.std.proofs.Common.{◌≡◌, ℕ, zero, suc, ◌+◌, ◌<◌, ◌≤◌, List, [], ◌∷◌, ◌++◌, length, map, take, get_or, refl, sym, ◌∙◌, ap, arith, rules}
 use Rattle.std.specs.Prelude.{max}
 use Rattle.std.specs.Ordering.{ord_max, nat_cmp}
 use Rattle.std.proofs.lemmas.Bool.Decides.{nat_tests}
 use Rattle.std.proofs.lemmas.List.{get_or-map, length-map, take_more, take_all}
 use Rattle.std.proofs.Math.Nat.{max-zero, zero-max, le-max_left, le-max_right}
-use Rattle.region_plan.specs.Plan.{Level, no_level, readers_in}
-use Rattle.region_plan.specs.Measures.{most, degree_in}
+use Rattle.region_plan.specs.Plan.{PlanData, Level, no_level, level_at, readers, readers_in}
+use Rattle.region_plan.specs.Measures.{most, degree_in, degree_of}
 
 max_both : (a b c : ℕ) → max (max a b) c ≡ max a (max b c)
 max_both a b c = omega arith
@@ -38,3 +38,24 @@ max_few a b c new is left right = omega arith
 
 pub greater_is : (a b new : ℕ) → new ≡ ord_max nat_cmp a b → new ≡ max a b
 greater_is a b new is = first_of (omega arith, grind (arith, nat_tests), grind arith, search rules)
+
+-- no number is above the greatest
+most_bounds : (xs : List ℕ) (i : ℕ) → get_or xs i 0 ≤ most xs
+most_bounds [] i = omega arith
+most_bounds (x ∷ xs) zero = le-max_left x (most xs)
+most_bounds (x ∷ xs) (suc i) = omega (arith, most_bounds xs i, le-max_right x (most xs))
+
+at_map : {X : Type 0} (f : X → ℕ) (xs : List X) (i : ℕ) (d : X) → f d ≡ 0 → f (get_or xs i d) ≡ get_or (map f xs) i 0
+at_map f [] i d none = none
+at_map f (x ∷ xs) zero d none = refl
+at_map f (x ∷ xs) (suc i) d none = at_map f xs i d none
+
+pub degree_bounds : (plan : PlanData) (i v : ℕ) → length (readers plan i v) ≤ degree_of plan
+degree_bounds plan i v =
+    omega (
+      arith,
+      at_map (length {A = ℕ}) (level_at plan i).readers v [] refl,
+      most_bounds (map length (level_at plan i).readers) v,
+      at_map degree_in plan.levels i no_level refl,
+      most_bounds (map degree_in plan.levels) i,
+    )

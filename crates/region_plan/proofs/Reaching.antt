@@ -1,13 +1,13 @@
 -- Walks inside unions of balls: a least walk from a centre stays in its ball, so a cluster is spanned from its leader.
-use Rattle.std.proofs.Common.{◌≡◌, ◌⊎◌, ℕ, zero, suc, ◌+◌, ◌-◌, ◌*◌, ◌^◌, ◌<◌, ◌≤◌, Bool, true, false, cond, ◌||◌, List, [], ◌∷◌, ◌++◌, length, map, get_or, refl, sym, ◌∙◌, ap, subst, inl, inr, arith, eqb, eq-eqb}
-use Rattle.std.specs.Prelude.{All, nat_le}
+use Rattle.std.proofs.Common.{◌≡◌, ◌⊎◌, ℕ, zero, suc, ◌+◌, ◌*◌, ◌<◌, ◌≤◌, Bool, true, false, ◌||◌, List, [], ◌∷◌, ◌++◌, length, map, get_or, refl, sym, ◌∙◌, ap, subst, inl, inr, arith, eqb, eq-eqb}
+use Rattle.std.specs.Prelude.{All}
 use Rattle.std.proofs.lemmas.Bool.{cases_lt, eqb-true}
 use Rattle.std.proofs.lemmas.List.{get_or_past}
 use Rattle.net_graph.specs.declared.edge.Edge.{Edge}
-use Rattle.net_graph.specs.Walks.{Joins, Step, IsWalk, weight_of, IsLeastWeight, everywhere}
+use Rattle.net_graph.specs.Walks.{Joins, Step, IsWalk, weight_of, everywhere}
 use Rattle.net_graph.specs.Network.{Network, IsEdge}
 use Rattle.net_graph.proofs.WalkLaws.{IsNoHeavier, join_edge, walk-append, weight_of-append, walk_turned, walk_widened}
-use Rattle.node_set.specs.Ascending.{has, share}
+use Rattle.node_set.specs.Ascending.{has}
 use Rattle.node_set.proofs.Ascending.{share_gives}
 use Rattle.distances.specs.Table.{DistanceTable, AreDistancesOf, IsMetric, dist, ball_of}
 use Rattle.distances.proofs.Balls.{ball_members}
@@ -50,9 +50,11 @@ module _ (network : Network) (table : DistanceTable) (metric : IsMetric table) (
       let ends = join_edge network.nodes network.edges u step.node step.weight limits walk.1 in
       let below : step.node < table.nodes = omega (arith, ends.1, least.nodes) in
       let near : dist table u step.node ≤ step.weight = hop u step.node step.weight hu below walk.1 in
-      let on : dist table c step.node ≤ dist table c u + dist table u step.node = metric.triangle c u step.node hc hu below in
-      (holds u hu (omega arith), walk.1,
-      stays inside c r hc holds steps (a + step.weight) step.node x below (omega arith) walk.2 (omega arith))
+      let on : dist table c step.node ≤ dist table c u + dist table u step.node = metric.triangle c u step.node hc hu below in (
+        holds u hu (omega arith),
+        walk.1,
+        stays inside c r hc holds steps (a + step.weight) step.node x below (omega arith) walk.2 (omega arith),
+      )
 
   near_centre : (inside : ℕ → Bool) (c r x : ℕ) → c < table.nodes → x < table.nodes → dist table c x ≤ r
       → ((y : ℕ) → y < table.nodes → dist table c y ≤ r → inside y ≡ true) → IsNoHeavier network.edges inside c x r

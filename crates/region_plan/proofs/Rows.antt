@@ -1,14 +1,14 @@
 -- A cluster's row, and a level's readers, as they are read.
-use Rattle.std.proofs.Common.{◌≡◌, ℕ, ◌+◌, ◌-◌, ◌<◌, ◌≤◌, Bool, true, false, List, [], ◌∷◌, length, map, get_or, refl, sym, ◌∙◌, ap, subst, inl, inr, arith}
+use Rattle.std.proofs.Common.{◌≡◌, ℕ, ◌+◌, ◌<◌, ◌≤◌, true, List, [], length, get_or, sym, ◌∙◌, ap, subst, inl, inr, arith}
 use Rattle.std.specs.Prelude.{nat_lt, slice_range}
 use Rattle.std.proofs.lemmas.Bool.{le-ltb}
 use Rattle.std.proofs.lemmas.List.{get_or_read}
-use Rattle.node_set.specs.Ascending.{has, passing}
+use Rattle.node_set.specs.Ascending.{has}
 use Rattle.node_set.specs.Nodes.{Nodes, AreNodes}
 use Rattle.node_set.proofs.Ascending.{below-has}
 use Rattle.cluster_tree.specs.Tree.{weight_beside}
 use Rattle.region_plan.specs.Plan.{PlanCluster, Level, cluster_in, readers_in}
-use Rattle.region_plan.specs.Regions.{containing, readers_of}
+use Rattle.region_plan.specs.Regions.{containing}
 use Rattle.region_plan.specs.Kept.{IsRow, AreRows, weights_among, level_of}
 use Rattle.region_plan.proofs.Lists.{true_or_false, made_at, beside_map, length-made, length-passing}
 

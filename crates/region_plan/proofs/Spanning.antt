@@ -1,15 +1,14 @@
 -- The clusters of a level: each is spanned from its leader, within its radius.
-use Rattle.std.proofs.Common.{◌≡◌, ◌⊎◌, ℕ, zero, suc, ◌+◌, ◌-◌, ◌*◌, ◌^◌, ◌<◌, ◌≤◌, Bool, true, false, List, [], ◌∷◌, ◌++◌, length, map, get_or, refl, sym, ◌∙◌, ap, subst, inl, inr, arith}
+use Rattle.std.proofs.Common.{◌≡◌, ℕ, suc, ◌+◌, ◌-◌, ◌*◌, ◌^◌, ◌<◌, ◌≤◌, true, List, [], ◌∷◌, ◌++◌, length, map, get_or, refl, sym, ◌∙◌, ap, subst, arith}
 use Rattle.std.specs.Prelude.{All}
 use Rattle.std.proofs.Math.Nat.{mul-le-mul_right}
 use Rattle.std.proofs.lemmas.List.{length-append, get_or_append_left, get_or-append-add}
 use Rattle.std.proofs.lemmas.List.Elements.{All-nil, All-append, All-map}
-use Rattle.net_graph.specs.Walks.{IsLeastWeight, IsReached}
-use Rattle.net_graph.specs.Network.{Network, IsEdge, IsNetwork}
+use Rattle.net_graph.specs.Network.{Network, IsNetwork}
 use Rattle.net_graph.proofs.WalkLaws.{IsNoHeavier}
 use Rattle.node_set.specs.Ascending.{has}
-use Rattle.distances.specs.Table.{DistanceTable, AreDistancesOf, IsMetric, dist, ball_of}
-use Rattle.coarse_cover.specs.Coarsening.{Grown, ball, union_of, grown, coarsening, all_clusters, centres}
+use Rattle.distances.specs.Table.{DistanceTable, AreDistancesOf, IsMetric, ball_of}
+use Rattle.coarse_cover.specs.Coarsening.{Grown, union_of, grown, all_clusters}
 use Rattle.coarse_cover.specs.Covers.{listed, shown, AreCentred}
 use Rattle.coarse_cover.specs.declared.cover.Cluster.{Cluster}
 use Rattle.coarse_cover.proofs.Growth.{union_has, union_from}
@@ -18,7 +17,7 @@ use Rattle.coarse_cover.proofs.Results.{clusters_shaped}
 use Rattle.cluster_tree.specs.Tree.{within}
 use Rattle.region_plan.specs.Regions.{balls_of, regions_of}
 use Rattle.region_plan.specs.Kept.{IsSpanned}
-use Rattle.region_plan.proofs.Lists.{made_at, length-made}
+use Rattle.region_plan.proofs.Lists.{length-made}
 use Rattle.region_plan.proofs.Reaching.{near_more, in_ball, own_ball, near_leader, grown_leads}
 
 -- ---- what holds of each part of a list

@@ -37,14 +37,7 @@ pub fn build_level(
         phases,
     } = coarsen(alloc, &balls, k)?;
     let rows = rows_of(alloc, graph, clusters)?;
-    Ok(LevelTable::new(
-        alloc,
-        i,
-        threshold_for(i),
-        phases,
-        rows,
-        home,
-    )?)
+    Ok(LevelTable::new(alloc, i, threshold_for(i), phases, rows, home)?)
 }
 
 // The power of two.

@@ -31,8 +31,13 @@ impl Model for LevelTable {
     ghost Value = { Level };
 
     ghost view = { λ l. record {
-        exponent = l.exponent; threshold = l.threshold; phases = l.phases; clusters = l.clusters.items; homes = l.homes.items;
-        readers = readers_of (length l.homes.items) l.clusters.items } };
+      exponent = l.exponent;
+      threshold = l.threshold;
+      phases = l.phases;
+      clusters = l.clusters.items;
+      homes = l.homes.items;
+      readers = readers_of (length l.homes.items) l.clusters.items;
+    } };
 
     ghost invariant = { λ l. AreRows (length l.homes.items) l.clusters.items l.starts.items l.readers.items };
 }

@@ -31,18 +31,19 @@ impl Model for ClusterRow {
     ghost Value = { PlanCluster };
 
     ghost view = { λ r. record {
-        leader = r.leader; phase = r.phase; members = r.members.members; weights = weights_among r.weights.items r.members.members; depth = r.depth } };
+      leader = r.leader;
+      phase = r.phase;
+      members = r.members.members;
+      weights = weights_among r.weights.items r.members.members;
+      depth = r.depth;
+    } };
 
     ghost invariant = { λ r. IsRow r.members r.weights.items };
 }
 
 impl ClusterRow {
     // A cluster of a cover, weighed inside it from the centre that leads it.
-    pub fn new(
-        alloc: Global,
-        graph: &Graph,
-        cluster: Cluster,
-    ) -> Result<ClusterRow, OutOfMemory>
+    pub fn new(alloc: Global, graph: &Graph, cluster: Cluster) -> Result<ClusterRow, OutOfMemory>
         requires { IsSpanned graph.now cluster }
         ensures { IfOk result (IsClusterOf graph.now cluster) }
     {
@@ -130,11 +131,7 @@ fn spanning_tree(
 }
 
 // For each node its weight in the tree, 0 where it isn't a member.
-fn weights_of(
-    alloc: Global,
-    members: &NodeSet,
-    tree: &ClusterTree,
-) -> Result<Vec<u32>, OutOfMemory>
+fn weights_of(alloc: Global, members: &NodeSet, tree: &ClusterTree) -> Result<Vec<u32>, OutOfMemory>
     requires { tree.now.members ≡ members.now.members }
     ensures row { IfOk result (λ weights. IsRow members.now weights.items) }
     ensures each { IfOk result (λ weights. (v : ℕ) → v < members.now.room → has v members.now.members ≡ true → slice_index weights.items v ≡ inside_weight tree.now v) }

@@ -1,4 +1,4 @@
-use Rattle.std.proofs.Common.{◌≤◌, length, subst, sym, arith}
+use Rattle.std.proofs.Common.{arith}
 use Rattle.region_plan.proofs.Levels.{balls_few, balls_rooms, balls_centred, cover_spanned, homes_count, rows_few, level_built, level_fits}
 use Rattle.region_plan.proofs.building.build_level.Goals as goal
 
@@ -28,7 +28,7 @@ new-requires-clause-nodes c =
       arith,
       c.requires.metric.few,
       homes_count c.args.graph.now c.args.distances.now c.requires.metric c.requires.belongs c.requires.network c.args.k c.args.i c.requires.low c.two_to.result c.two_to.ensures
-      c.in_ok-balls.balls.items c.deref.result.now c.deref.ensures.value c.in_ok-balls.ensures.balls c.in_ok-clusters.field-0 c.in_ok-clusters.ensures.exact,
+          c.in_ok-balls.balls.items c.deref.result.now c.deref.ensures.value c.in_ok-balls.ensures.balls c.in_ok-clusters.field-0 c.in_ok-clusters.ensures.exact,
     )
 
 pub new-requires-clause-clusters : goal.new-requires-clause-clusters
@@ -37,8 +37,8 @@ new-requires-clause-clusters c =
       arith,
       c.requires.metric.few,
       rows_few c.args.graph.now c.args.distances.now c.requires.metric c.requires.belongs c.requires.network c.args.k c.args.i c.requires.low c.two_to.result c.two_to.ensures
-      c.in_ok-balls.balls.items c.deref.result.now c.deref.ensures.value c.in_ok-balls.ensures.balls c.in_ok-clusters.field-0 c.in_ok-clusters.ensures.exact
-      c.in_ok-rows.rows.items c.in_ok-rows.ensures c.in_ok-clusters.ensures.few,
+          c.in_ok-balls.balls.items c.deref.result.now c.deref.ensures.value c.in_ok-balls.ensures.balls c.in_ok-clusters.field-0 c.in_ok-clusters.ensures.exact
+          c.in_ok-rows.rows.items c.in_ok-rows.ensures c.in_ok-clusters.ensures.few,
     )
 
 pub returns-clause-level : goal.returns-clause-level

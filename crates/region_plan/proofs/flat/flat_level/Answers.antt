@@ -1,6 +1,5 @@
-use Rattle.std.proofs.Common.{◌≡◌, ◌∷◌, ◌++◌, [], ℕ, List, length, replicate, ◌∙◌, sym, ap, subst, arith, rules}
+use Rattle.std.proofs.Common.{◌≡◌, ◌∷◌, [], ℕ, length, replicate, ◌∙◌, ap, arith, rules}
 use Rattle.std.proofs.lemmas.List.{length-replicate}
-use Rattle.region_plan.specs.Plan.{PlanCluster}
 use Rattle.region_plan.proofs.Making.{flat_level_is, level_sized}
 use Rattle.region_plan.proofs.flat.flat_level.Goals as goal
 

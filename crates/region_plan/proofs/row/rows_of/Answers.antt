@@ -1,4 +1,4 @@
-use Rattle.std.proofs.Common.{List, ◌∷◌, ◌++◌, [], subst, sym, ap, ◌∙◌, rules}
+use Rattle.std.proofs.Common.{List, ◌∷◌, ◌++◌, [], subst, sym, ap, ◌∙◌}
 use Rattle.std.proofs.lemmas.List.{append_assoc}
 use Rattle.std.specs.Vec.Iter.{into_iter_items}
 use Rattle.coarse_cover.specs.declared.cover.Cluster.{Cluster}

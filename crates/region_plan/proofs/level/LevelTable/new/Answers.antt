@@ -1,7 +1,6 @@
-use Rattle.std.proofs.Common.{◌≡◌, ◌≤◌, ◌+◌, ◌*◌, ◌++◌, List, length, subst, ◌∙◌, ap, arith}
+use Rattle.std.proofs.Common.{◌≡◌, ◌++◌, List, length, subst, arith}
 use Rattle.region_plan.specs.Plan.{PlanCluster}
 use Rattle.region_plan.specs.Regions.{containing}
-use Rattle.region_plan.proofs.Rows.{length-containing}
 use Rattle.region_plan.proofs.Making.{more_rows, new_start, longer_by}
 use Rattle.region_plan.proofs.level.LevelTable.new.Goals as goal
 

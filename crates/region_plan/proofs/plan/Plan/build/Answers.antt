@@ -1,10 +1,10 @@
-use Rattle.std.proofs.Common.{◌≡◌, ◌+◌, ◌<◌, ℕ, List, length, subst, sym, ap, ◌∙◌, arith}
+use Rattle.std.proofs.Common.{◌+◌, List, length, subst, sym, ap, ◌∙◌, arith}
 use Rattle.std.specs.Prelude.{All}
 use Rattle.std.proofs.lemmas.List.{length_push}
 use Rattle.std.proofs.lemmas.List.Elements.{All-push}
 use Rattle.distances.specs.Table.{DistanceTable, IsMetric}
-use Rattle.region_plan.specs.Plan.{Level, PlanData, level_in}
-use Rattle.region_plan.specs.Regions.{IsLevelOf, IsPlanOf}
+use Rattle.region_plan.specs.Plan.{Level, PlanData}
+use Rattle.region_plan.specs.Regions.{IsPlanOf}
 use Rattle.region_plan.specs.Kept.{IsSized}
 use Rattle.region_plan.proofs.Levels.{more_levels, plan_built}
 use Rattle.region_plan.proofs.Matching.{plan_matched, plan_near}

@@ -1,6 +1,6 @@
 use Rattle.std.proofs.Common.{◌≡◌, ◌<◌, ℕ, length}
 use Rattle.std.specs.Prelude.{All}
-use Rattle.region_plan.specs.Plan.{PlanData, level_in}
+use Rattle.region_plan.specs.Plan.{level_in}
 use Rattle.region_plan.specs.Regions.{IsLevelOf}
 use Rattle.region_plan.specs.Kept.{IsSized}
 use Rattle.region_plan.proofs.plan.Plan.build.Given as goal

@@ -1,4 +1,4 @@
-use Rattle.std.proofs.Common.{◌≡◌, ◌∙◌, ap}
+use Rattle.std.proofs.Common.{◌∙◌, ap}
 use Rattle.node_set.specs.Ascending.{has}
 use Rattle.region_plan.specs.Plan.{PlanCluster}
 use Rattle.region_plan.proofs.Rows.{no_member}

@@ -1,5 +1,4 @@
-use Rattle.std.proofs.Common.{◌≡◌, ℕ, List, length, map, ◌∙◌, sym, ap, subst, arith}
-use Rattle.std.specs.Prelude.{All, Contains}
+use Rattle.std.proofs.Common.{◌≡◌, ℕ, length, map, ◌∙◌, sym, ap, subst, arith}
 use Rattle.coarse_cover.specs.Coarsening.{centres}
 use Rattle.distances.specs.Table.{dist}
 use Rattle.region_plan.specs.Regions.{IsWhole}
