@@ -1,0 +1,22 @@
+-- Which histories are legal for a subscriber: what is put into its cells are the first writes of some itinerary, in
+-- their order, put there by itself. All laws of the directory are told over every legal history, whoever made it.
+-- Key laws: `front_is_legal` (a front of a legal history is legal), `more_moves` (more moves only add writes at the end).
+use Rattle.std.specs.Prelude.{◌≡◌, ◌≢◌, ℕ, suc, ◌<◌, ◌^◌, List, ◌∷◌, take, length, All, slice_index_or}
+use Rattle.directory.specs.Plan.{PlanData, nodes_of}
+use Rattle.directory.specs.Keys.{home_node}
+use Rattle.directory.specs.Histories.{History, puts_to}
+use Rattle.directory.specs.Courses.{stop_of, visits_of}
+
+-- an itinerary from a home node: its nodes are nodes of the plan, each is another than the one before, and its moves can be numbered
+pub record IsItinerary (plan : PlanData) (start : ℕ) (itinerary : List ℕ) : Type 0 where
+  pub begins : start < nodes_of plan
+  pub inside : (q : ℕ) → q < length itinerary → stop_of start itinerary (suc q) < nodes_of plan
+  pub moving : (q : ℕ) → q < length itinerary → stop_of start itinerary (suc q) ≢ stop_of start itinerary q
+  pub few : length itinerary < 2 ^ 32
+
+-- a history is legal for a subscriber: there is an itinerary, and so many of its writes are made
+pub record IsLegal (plan : PlanData) (homes : List ℕ) (sub : ℕ) (history : History) : Type 0 where
+  pub itinerary : List ℕ
+  pub sound : IsItinerary plan (home_node homes sub) itinerary
+  pub made : ℕ
+  pub writes : puts_to sub history ≡ take made (visits_of plan sub (home_node homes sub) itinerary)

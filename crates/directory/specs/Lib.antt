@@ -1,0 +1,13 @@
+pub mod Plan
+pub mod Keys
+pub mod Histories
+pub mod Writes
+pub mod Courses
+pub mod Legal
+pub mod Standing
+pub mod Finds
+pub mod Looks
+pub mod Orders
+pub mod Outcomes
+pub mod Census
+pub mod LineOfFour
