@@ -44,3 +44,23 @@ line_scripts moves finds = record { homes = 3 ∷ []; moves = moves ∷ []; find
 -- a find of the subscriber from a node
 abbrev pub find_from : ℕ → Call
 find_from node = record { from = node; sub = 0 }
+
+-- two nodes joined by weight 1, with the plan for k of 1: one level, whose two clusters have both nodes
+abbrev pub pair_distances : DistanceTable
+pair_distances = record { nodes = 2; cells = 0 ∷ 1 ∷ 1 ∷ 0 ∷ [] }
+
+abbrev pub pair_level : Level
+pair_level =
+    record {
+    exponent = 0; threshold = 1; phases = 2;
+    clusters = record { leader = 0; phase = 0; members = 0 ∷ 1 ∷ []; weights = 0 ∷ 1 ∷ []; depth = 1 } ∷ record { leader = 1; phase = 1; members = 0 ∷ 1 ∷ []; weights = 1 ∷ 0 ∷ []; depth = 1 } ∷ [];
+    homes = 0 ∷ 1 ∷ [];
+    readers = (0 ∷ 1 ∷ []) ∷ (0 ∷ 1 ∷ []) ∷ []
+    }
+
+abbrev pub pair : PlanData
+pair = record { k = 1; distances = pair_distances; levels = pair_level ∷ [] }
+
+-- a subscriber that moves from node 1 to node 0, and a find of it from node 0
+abbrev pub pair_scripts : Scripts
+pair_scripts = record { homes = 1 ∷ []; moves = (0 ∷ []) ∷ []; finds = (find_from 0 ∷ []) ∷ [] }

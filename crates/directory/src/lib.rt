@@ -3,4 +3,4 @@
 
 mod examples;
 
-pub use examples::example_climb;
+pub use examples::{find_examples, meeting_examples, move_examples};
