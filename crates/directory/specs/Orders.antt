@@ -4,15 +4,16 @@
 -- scripts are done; a turn of an actor that is done changes nothing.
 -- Key laws: `each_visit_is_next` (each visit is its actor's next one after the history before it), `idle_turns` (turns of
 -- actors that are done change nothing), `every_order_is_legal` (the history of an order is legal for every subscriber).
-use Rattle.std.specs.Prelude.{ℕ, ◌+◌, ◌-◌, Bool, nat_lt, if◌then◌else◌, List, [], ◌∷◌, ◌++◌, length, Option, Some, None, option_map, option_to_list, slice_get, slice_index_or, fold, flat_map, replicate, sum_by}
+use Rattle.std.specs.Prelude.{◌≡◌, ℕ, ◌+◌, ◌-◌, ◌<◌, ◌≤◌, Bool, All, nat_lt, if◌then◌else◌, List, [], ◌∷◌, ◌++◌, length, Option, Some, None, option_map, option_to_list, slice_get, slice_index_or, fold, flat_map, replicate, sum_by}
 use Rattle.entry_word.specs.declared.visit.Key.{Key}
 use Rattle.entry_word.specs.declared.visit.Act.TheVariants.{Look}
 use Rattle.entry_word.specs.declared.visit.Visit.{Visit}
-use Rattle.directory.specs.Plan.{PlanData}
+use Rattle.directory.specs.Plan.{PlanData, nodes_of}
 use Rattle.directory.specs.Keys.{home_node}
-use Rattle.directory.specs.Histories.{History, own, words_read}
+use Rattle.directory.specs.Histories.{History, before, own, words_read}
 use Rattle.directory.specs.Writes.{numbers_from}
 use Rattle.directory.specs.Courses.{visits_of}
+use Rattle.directory.specs.Legal.{IsItinerary}
 use Rattle.directory.specs.Finds.{Next, wants, answers, find, most_looks}
 
 -- a find: from a node, of a subscriber
@@ -80,3 +81,19 @@ last_turns plan scripts = flat_map (λ actor. replicate (most_turns plan scripts
 -- the history of an order: its turns, and then the visits that are left
 abbrev pub history_of : PlanData → Scripts → List ℕ → History
 history_of plan scripts order = play plan scripts [] (order ++ last_turns plan scripts)
+
+-- each visit of a history was its actor's next one
+abbrev pub IsPlayed : PlanData → Scripts → History → Type 0
+IsPlayed plan scripts history = (ticket : ℕ) (visit : Visit) → slice_get history ticket ≡ Some visit → next plan scripts (before ticket history) visit.actor ≡ Some visit
+
+-- an actor is done: it has no next visit
+abbrev pub IsDone : PlanData → Scripts → History → ℕ → Type 0
+IsDone plan scripts history actor = next plan scripts history actor ≡ None
+
+-- scripts over a plan are valid: each subscriber's moves are an itinerary from its home node, and each find is from a
+-- node and of a subscriber
+pub record AreValid (plan : PlanData) (scripts : Scripts) : Type 0 where
+  pub some : 1 ≤ length scripts.homes
+  pub count : length scripts.moves ≡ length scripts.homes
+  pub moves : (sub : ℕ) → sub < length scripts.homes → IsItinerary plan (home_node scripts.homes sub) (moves_of scripts sub)
+  pub finds : All (λ calls. All (λ (call : Call). (call.from < nodes_of plan) × (call.sub < length scripts.homes)) calls) scripts.finds
