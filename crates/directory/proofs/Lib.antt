@@ -1,3 +1,4 @@
 pub mod Computed
 pub mod HistoryLaws
+pub mod FindLaws
 pub mod OrderLaws

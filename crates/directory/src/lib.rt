@@ -2,9 +2,11 @@
 #![tactic(auto)]
 
 mod examples;
+mod finds;
 mod histories;
 mod orders;
 
 pub use examples::{find_examples, meeting_examples, move_examples};
+pub use finds::{answer_stays, few_looks, one_of_both};
 pub use histories::{cell_after, own_after};
-pub use orders::{each_visit_is_next, every_order_is_legal, idle_turns, next_is_own, scripts_in_order};
+pub use orders::{all_scripts_done, each_visit_is_next, every_order_is_legal, idle_turns, next_is_own, order_of_history, scripts_in_order};
