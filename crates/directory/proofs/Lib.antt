@@ -1,4 +1,5 @@
 pub mod Computed
 pub mod HistoryLaws
 pub mod FindLaws
+pub mod CourseLaws
 pub mod OrderLaws

@@ -1,11 +1,13 @@
 //! The directory: what it is, and the laws of its definitions. Each public function is a law, and does nothing.
 #![tactic(auto)]
 
+mod courses;
 mod examples;
 mod finds;
 mod histories;
 mod orders;
 
+pub use courses::{base_of_course, more_moves};
 pub use examples::{find_examples, meeting_examples, move_examples};
 pub use finds::{answer_stays, few_looks, one_of_both};
 pub use histories::{cell_after, own_after};
