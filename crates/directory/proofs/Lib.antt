@@ -2,4 +2,5 @@ pub mod Computed
 pub mod HistoryLaws
 pub mod FindLaws
 pub mod CourseLaws
+pub mod LegalLaws
 pub mod OrderLaws

@@ -3,8 +3,8 @@ pub mod Keys
 pub mod Histories
 pub mod Writes
 pub mod Courses
-pub mod Legal
 pub mod Standing
+pub mod Legal
 pub mod Finds
 pub mod Looks
 pub mod Orders

@@ -12,6 +12,7 @@ use Rattle.entry_word.specs.declared.visit.Act.TheVariants.{Look, Put, Census}
 use Rattle.directory.specs.Plan.{PlanData, distance}
 use Rattle.directory.specs.Keys.{home_node}
 use Rattle.directory.specs.Histories.{History}
+use Rattle.directory.specs.Writes.{Write, mark_at, entry_at}
 
 -- a mark that a subscriber puts at a node
 pub record Marking : Type 0 where
@@ -29,6 +30,11 @@ marking_by sub (Look key) = None
 marking_by sub (Put (Presence node owner) word) = if owner == sub then marking_of node (mark_of word) else None
 marking_by sub (Put (Entry level cluster owner) word) = None
 marking_by sub (Census node) = None
+
+-- the mark that a write puts, if it does
+abbrev pub marking_in : Write → Option Marking
+marking_in (mark_at node mark) = Some (record { node = node; mark = mark })
+marking_in (entry_at level cluster address) = None
 
 -- the marks that were put for a subscriber, the oldest first
 abbrev pub markings : ℕ → History → List Marking
