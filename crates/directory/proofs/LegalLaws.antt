@@ -62,7 +62,7 @@ filter_map-each_from h first (suc count) written none =
     filter_map-append h (written first) (each_from (suc first) count written) ∙ (ap (λ xs. xs ++ filter_map h (each_from (suc first) count written)) (none first) ∙ filter_map-each_from h (suc first) count written none)
 
 -- the node that a write says its subscriber is coming to
-abbrev coming_in : Write → Option ℕ
+abbrev pub coming_in : Write → Option ℕ
 coming_in (mark_at node mark) = coming_to node mark
 coming_in (entry_at level cluster address) = None
 
@@ -100,7 +100,7 @@ pub record AreBegun (one : Course) (q n k : ℕ) : Type 0 where
   pub shown : filter_map coming_in (take k (joined one q n)) ≡ map one.stop (numbers_from (suc q) count)
   pub enough : take k (joined one q n) ≡ take k (joined one q count)
 
-begun : (one : Course) (q n k : ℕ) → AreBegun one q n k
+pub begun : (one : Course) (q n k : ℕ) → AreBegun one q n k
 unfolding joined
 begun one q zero zero = record { count = 0; few = omega arith; shown = refl; enough = refl }
 begun one q zero (suc k) = record { count = 0; few = omega arith; shown = refl; enough = refl }

@@ -3,4 +3,5 @@ pub mod HistoryLaws
 pub mod FindLaws
 pub mod CourseLaws
 pub mod LegalLaws
+pub mod ShownLaws
 pub mod OrderLaws

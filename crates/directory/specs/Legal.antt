@@ -35,3 +35,8 @@ coming_to node (Coming number from) = Some node
 -- the itinerary that a history shows: the nodes at which its subscriber said that it is coming, the oldest first
 abbrev pub itinerary_of : ℕ → History → List ℕ
 itinerary_of sub history = filter_map (λ marking. coming_to marking.node marking.mark) (markings sub history)
+
+-- the itinerary that a history shows is a front of this one, and all puts of the history are writes of what it shows
+pub record IsShown (plan : PlanData) (homes : List ℕ) (sub : ℕ) (history : History) (itinerary : List ℕ) : Type 0 where
+  pub front : itinerary_of sub history ≡ take (length (itinerary_of sub history)) itinerary
+  pub writes : puts_to sub history ≡ take (length (puts_to sub history)) (visits_of plan sub (home_node homes sub) (itinerary_of sub history))
