@@ -4,4 +4,5 @@ pub mod FindLaws
 pub mod CourseLaws
 pub mod LegalLaws
 pub mod ShownLaws
+pub mod LineLaws
 pub mod OrderLaws

@@ -1,4 +1,5 @@
 pub mod Plan
+pub mod Matched
 pub mod Keys
 pub mod Histories
 pub mod Writes
