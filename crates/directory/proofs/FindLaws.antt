@@ -10,7 +10,7 @@ use Rattle.entry_word.specs.declared.visit.Key.TheVariants.{Presence, Entry}
 use Rattle.directory.specs.Plan.{PlanData, nodes_of, distance, inside, leader}
 use Rattle.directory.specs.Keys.{sub_of}
 use Rattle.directory.specs.Finds.{Found, at, again, Why, nothing_at, no_entry, chased, Next, wants, answers, Turn, stops, hops, turn, after_turn, chase, most_hops, Reader, all_readers, after_entry, climb, after_origin, find, look_of, answer_of, mark_in, address_in, most_looks}
-use Rattle.directory.specs.Orders.{Call, after_find, next_look}
+use Rattle.directory.specs.Orders.{FindCall, after_find, next_look}
 
 -- a next step has a look or an answer
 pub one_of_both : (n : Next) → is_some (look_of n) ≡ is_none (answer_of n)
@@ -123,13 +123,13 @@ unfolding Few
 find-answers_few plan sub origin words left found h = subst (λ n. Few (most_looks plan origin) words n) h (find-few plan sub origin words)
 
 -- a caller that wants a look has read fewer words than its finds may
-pub next_look-few : (plan : PlanData) (calls : List Call) (words : List ℕ) (key : Key) → next_look plan calls words ≡ Some key → length words < sum_by (λ (call : Call). most_looks plan call.from) calls
+pub next_look-few : (plan : PlanData) (calls : List FindCall) (words : List ℕ) (key : Key) → next_look plan calls words ≡ Some key → length words < sum_by (λ (call : FindCall). most_looks plan call.from) calls
 unfolding next_look
 next_look-few plan [] words key h = cc
-next_look-few plan (call ∷ calls) words key h = rw (sum_by-cons (λ (c : Call). most_looks plan c.from) call calls) (at_next (find plan call.sub call.from words) refl (λ left. next_look-few plan calls left key) h)
+next_look-few plan (call ∷ calls) words key h = rw (sum_by-cons (λ (c : FindCall). most_looks plan c.from) call calls) (at_next (find plan call.sub call.from words) refl (λ left. next_look-few plan calls left key) h)
     where
     at_next : (n : Next) → find plan call.sub call.from words ≡ n
-        → ((left : List ℕ) → next_look plan calls left ≡ Some key → length left < sum_by (λ (c : Call). most_looks plan c.from) calls)
-        → after_find (λ left. next_look plan calls left) n ≡ Some key → length words < most_looks plan call.from + sum_by (λ (c : Call). most_looks plan c.from) calls
+        → ((left : List ℕ) → next_look plan calls left ≡ Some key → length left < sum_by (λ (c : FindCall). most_looks plan c.from) calls)
+        → after_find (λ left. next_look plan calls left) n ≡ Some key → length words < most_looks plan call.from + sum_by (λ (c : FindCall). most_looks plan c.from) calls
     at_next (wants k) e later h = omega (arith, find-wants_few plan call.sub call.from words k e)
     at_next (answers found left) e later h = omega (arith, find-answers_few plan call.sub call.from words left found e, later left h)

@@ -3,6 +3,8 @@ pub mod HistoryLaws
 pub mod FindLaws
 pub mod CourseLaws
 pub mod LegalLaws
+pub mod CellLaws
+pub mod LookLaws
 pub mod ShownLaws
 pub mod LineLaws
 pub mod OrderLaws

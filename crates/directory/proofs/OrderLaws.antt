@@ -17,7 +17,7 @@ use Rattle.directory.specs.Finds.{most_looks}
 use Rattle.directory.specs.Writes.{numbers_from, Write, mark_at, entry_at, visit_of, joined}
 use Rattle.directory.specs.Courses.{visits_of, course}
 use Rattle.directory.specs.Legal.{IsItinerary, IsLegal}
-use Rattle.directory.specs.Orders.{Call, actors_of, Scripts, is_sub, moves_of, finds_of, script_visits, next_look, next, after_turn_of, play, most_turns, last_turns, history_of, IsPlayed, AreValid, IsDone}
+use Rattle.directory.specs.Orders.{FindCall, actors_of, Scripts, is_sub, moves_of, finds_of, script_visits, next_look, next, after_turn_of, play, most_turns, last_turns, history_of, IsPlayed, AreValid, IsDone}
 use Rattle.directory.proofs.HistoryLaws.{take-more, by_fronts, own-push, puts_to-push, words_read-push}
 use Rattle.directory.proofs.FindLaws.{next_look-few}
 use Rattle.node_set.specs.Ascending.{has, passing}
@@ -221,7 +221,7 @@ next-few plan scripts history actor visit played h =
     cases : (a b : ℕ) → (a < b) ⊎ (b ≤ a)
     cases a b = grind (arith, nat_tests)
     wanting : (wanted : Option Key) → next_look plan (finds_of scripts actor) (words_read plan scripts.homes actor history) ≡ wanted → option_map (λ (key : Key). record { actor = actor; act = Look key }) wanted ≡ Some visit
-        → length scripts.homes ≤ actor → length (own actor history) < sum_by (λ (call : Call). most_looks plan call.from) (finds_of scripts actor)
+        → length scripts.homes ≤ actor → length (own actor history) < sum_by (λ (call : FindCall). most_looks plan call.from) (finds_of scripts actor)
     wanting None e g high = cc
     wanting (Some key) e g high = omega (arith, next_look-few plan (finds_of scripts actor) (words_read plan scripts.homes actor history) key e, played-words plan scripts history actor high played)
 

@@ -3,7 +3,7 @@
 use Rattle.std.specs.Prelude.{ℕ, List, [], ◌∷◌}
 use Rattle.distances.specs.Table.{DistanceTable}
 use Rattle.directory.specs.Plan.{PlanCluster, Level, PlanData}
-use Rattle.directory.specs.Orders.{Call, Scripts}
+use Rattle.directory.specs.Orders.{FindCall, Scripts}
 
 -- the distances between the four nodes
 abbrev pub line_distances : DistanceTable
@@ -38,11 +38,11 @@ abbrev pub line : PlanData
 line = record { k = 2; distances = line_distances; levels = lowest_level ∷ whole_level 1 1 ∷ whole_level 2 2 ∷ [] }
 
 -- one subscriber at node 3 that makes these moves, and one caller that makes these finds
-abbrev pub line_scripts : List ℕ → List Call → Scripts
+abbrev pub line_scripts : List ℕ → List FindCall → Scripts
 line_scripts moves finds = record { homes = 3 ∷ []; moves = moves ∷ []; finds = finds ∷ [] }
 
 -- a find of the subscriber from a node
-abbrev pub find_from : ℕ → Call
+abbrev pub find_from : ℕ → FindCall
 find_from node = record { from = node; sub = 0 }
 
 -- two nodes joined by weight 1, with the plan for k of 1: one level, whose two clusters have both nodes

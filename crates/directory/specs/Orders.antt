@@ -17,7 +17,7 @@ use Rattle.directory.specs.Legal.{IsItinerary}
 use Rattle.directory.specs.Finds.{Next, wants, answers, find, most_looks}
 
 -- a find: from a node, of a subscriber
-pub record Call : Type 0 where
+pub record FindCall : Type 0 where
   pub from : ℕ
   pub sub : ℕ
 
@@ -25,7 +25,7 @@ pub record Call : Type 0 where
 pub record Scripts : Type 0 where
   pub homes : List ℕ
   pub moves : List (List ℕ)
-  pub finds : List (List Call)
+  pub finds : List (List FindCall)
 
 -- whether an actor is a subscriber
 abbrev pub is_sub : Scripts → ℕ → Bool
@@ -39,7 +39,7 @@ actors_of scripts = length scripts.homes + length scripts.finds
 abbrev pub moves_of : Scripts → ℕ → List ℕ
 moves_of scripts sub = slice_index_or scripts.moves sub []
 
-abbrev pub finds_of : Scripts → ℕ → List Call
+abbrev pub finds_of : Scripts → ℕ → List FindCall
 finds_of scripts caller = slice_index_or scripts.finds (caller - length scripts.homes) []
 
 -- all visits of a subscriber's script, in order
@@ -52,7 +52,7 @@ after_find go (wants key) = Some key
 after_find go (answers found left) = go left
 
 -- the next look of a caller that makes these finds and has read these words: that of the first find without an answer
-unfoldable pub next_look : PlanData → List Call → List ℕ → Option Key
+unfoldable pub next_look : PlanData → List FindCall → List ℕ → Option Key
 next_look plan [] words = None
 next_look plan (call ∷ calls) words = after_find (λ left. next_look plan calls left) (find plan call.sub call.from words)
 
@@ -96,4 +96,4 @@ pub record AreValid (plan : PlanData) (scripts : Scripts) : Type 0 where
   pub some : 1 ≤ length scripts.homes
   pub count : length scripts.moves ≡ length scripts.homes
   pub moves : (sub : ℕ) → sub < length scripts.homes → IsItinerary plan (home_node scripts.homes sub) (moves_of scripts sub)
-  pub finds : All (λ calls. All (λ (call : Call). (call.from < nodes_of plan) × (call.sub < length scripts.homes)) calls) scripts.finds
+  pub finds : All (λ calls. All (λ (call : FindCall). (call.from < nodes_of plan) × (call.sub < length scripts.homes)) calls) scripts.finds

@@ -10,7 +10,7 @@ use Rattle.directory.specs.Histories.{History, tickets, words_read}
 use Rattle.directory.specs.Writes.{Course, writes, joined, levels_renewed, numbers_from}
 use Rattle.directory.specs.Courses.{course}
 use Rattle.directory.specs.Finds.{Why, Found, at, again, Next, wants, answers, find}
-use Rattle.directory.specs.Orders.{Call, Scripts, moves_of, finds_of, history_of}
+use Rattle.directory.specs.Orders.{FindCall, Scripts, moves_of, finds_of, history_of}
 
 -- what became of a call
 pub data Done : Type 0 where
@@ -40,18 +40,18 @@ done_moves plan scripts history sub =
     map (done_move plan (course plan (home_node scripts.homes sub) (moves_of scripts sub)) sub (tickets sub history)) (numbers_from 0 (length (moves_of scripts sub)))
 
 -- what became of a find that answered, with its first ticket and its last
-abbrev pub done_find : ℕ → Call → ℕ → ℕ → Found → Done
+abbrev pub done_find : ℕ → FindCall → ℕ → ℕ → Found → Done
 done_find caller call first last (at node number level weight) = found caller call.from call.sub node number level weight first last
 done_find caller call first last (again why weight) = failed caller call.from call.sub why weight first last
 
 -- a find that answers is done, and the finds after it go on with what it left
-abbrev pub after_answer : ℕ → Call → List ℕ → ℕ → (List ℕ → ℕ → List Done) → Next → List Done
+abbrev pub after_answer : ℕ → FindCall → List ℕ → ℕ → (List ℕ → ℕ → List Done) → Next → List Done
 after_answer caller call seen count go (wants key) = []
 after_answer caller call seen count go (answers f left) =
     done_find caller call (slice_index seen 0) (slice_index seen (count - length left - 1)) f ∷ go left (count - length left)
 
 -- what became of these finds of a caller, which read these words at these tickets
-unfoldable pub done_finds : PlanData → ℕ → List Call → List ℕ → List ℕ → List Done
+unfoldable pub done_finds : PlanData → ℕ → List FindCall → List ℕ → List ℕ → List Done
 done_finds plan caller [] seen words = []
 done_finds plan caller (call ∷ calls) seen words =
     after_answer caller call seen (length words) (λ left used. done_finds plan caller calls (drop used seen) left) (find plan call.sub call.from words)
