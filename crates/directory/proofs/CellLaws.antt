@@ -1,8 +1,8 @@
 -- Cells and what is told from them: keys, the cells of one subscriber, where it stands, and who is at a node.
-use Rattle.std.proofs.Common.{◌≡◌, ℕ, zero, suc, ◌+◌, ◌<◌, ◌≤◌, Bool, true, false, cond, ◌==◌, ◌&&◌, ◌↔◌, List, [], ◌∷◌, ◌++◌, Option, Some, None, length, fold, filter, refl, sym, ap, ◌∙◌, subst, arith, zero-add}
-use Rattle.std.specs.Prelude.{if◌then◌else◌, filter_map, sum_by}
+use Rattle.std.proofs.Common.{◌≡◌, ℕ, ◌+◌, Bool, true, false, cond, ◌==◌, ◌&&◌, ◌↔◌, List, [], ◌∷◌, ◌++◌, Some, None, fold, refl, sym, ap, ◌∙◌, subst, zero-add}
+use Rattle.std.specs.Prelude.{sum_by}
 use Rattle.std.specs.List.{cons_option}
-use Rattle.std.proofs.lemmas.Bool.{and_parts, and_from, eqb-true, eq-eqb, ne_eqb}
+use Rattle.std.proofs.lemmas.Bool.{and_parts, and_from, eqb-true, eq-eqb}
 use Rattle.std.proofs.lemmas.List.Sums.{fold-append, sum_by-append}
 use Rattle.std.proofs.lemmas.List.Elements.{filter_map-append}
 use Rattle.std.proofs.lemmas.List.{append-nil}
@@ -39,7 +39,7 @@ same_key_means one other = (same_key-true one other, λ e. subst (λ key. same_k
 act-kept : (key : Key) (word : ℕ) (act : Act) → puts_for (sub_of key) act ≡ false → after_act key word act ≡ word
 act-kept key word (Look other) h = refl
 act-kept key word (Put other new) h = at_test (same_key key other) refl
-    where
+  where
     at_test : (b : Bool) → same_key key other ≡ b → cond b new word ≡ word
     at_test false e = refl
     at_test true e =
@@ -50,7 +50,7 @@ act-kept key word (Census node) h = refl
 puts-enough : (key : Key) (word : ℕ) (history : History) → fold (λ w (visit : Visit). after_act key w visit.act) word history ≡ fold (λ w (visit : Visit). after_act key w visit.act) word (puts_to (sub_of key) history)
 puts-enough key word [] = refl
 puts-enough key word (visit ∷ later) = at_test (puts_for (sub_of key) visit.act) refl (puts-enough key (after_act key word visit.act) later)
-    where
+  where
     at_test : (b : Bool) → puts_for (sub_of key) visit.act ≡ b
         → fold (λ w (v : Visit). after_act key w v.act) (after_act key word visit.act) later ≡ fold (λ w (v : Visit). after_act key w v.act) (after_act key word visit.act) (puts_to (sub_of key) later)
         → fold (λ w (v : Visit). after_act key w v.act) (after_act key word visit.act) later ≡ fold (λ w (v : Visit). after_act key w v.act) word (cond b (visit ∷ puts_to (sub_of key) later) (puts_to (sub_of key) later))

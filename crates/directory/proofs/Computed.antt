@@ -1,5 +1,5 @@
 -- The worked examples, each computed by unfolding.
-use Rattle.std.proofs.Common.{◌≡◌, ℕ, List, [], ◌∷◌, Some, None, map, refl}
+use Rattle.std.proofs.Common.{◌≡◌, [], ◌∷◌, Some, None, map, refl}
 use Rattle.entry_word.specs.declared.visit.Key.TheVariants.{Presence, Entry}
 use Rattle.entry_word.specs.declared.visit.Act.TheVariants.{Look, Put}
 use Rattle.directory.specs.Histories.{tickets_from, words_after, words_read}
@@ -7,7 +7,7 @@ use Rattle.directory.specs.Writes.{base, each_from, writes, joined}
 use Rattle.directory.specs.Courses.{way, highest, bases}
 use Rattle.directory.specs.Finds.{chase, readers_from, climb, find, nothing_at, no_entry}
 use Rattle.directory.specs.Orders.{next_look, history_of}
-use Rattle.directory.specs.Outcomes.{Outcome, Done, outcome_of, moved, found, failed, done_finds}
+use Rattle.directory.specs.Outcomes.{outcome_of, moved, found, failed, done_finds}
 use Rattle.directory.specs.Census.{census}
 use Rattle.directory.specs.LineOfFour.{line, line_scripts, find_from, pair, pair_scripts}
 

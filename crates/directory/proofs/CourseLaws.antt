@@ -1,11 +1,11 @@
 -- The course of a subscriber: its bases, and that its writes depend on the moves so far alone.
-use Rattle.std.proofs.Common.{◌≡◌, ℕ, zero, suc, ◌+◌, ◌-◌, ◌<◌, ◌≤◌, Bool, true, false, cond, ◌==◌, List, [], ◌∷◌, ◌++◌, Option, Some, None, length, map, refl, sym, ap, ◌∙◌, subst, arith, append_assoc, length-append}
-use Rattle.std.specs.Prelude.{nat_le, if◌then◌else◌, slice_index_or, not, ◌&&◌}
-use Rattle.std.proofs.lemmas.List.{append-nil, get_or_append_left, map-append}
+use Rattle.std.proofs.Common.{◌≡◌, ℕ, zero, suc, ◌+◌, ◌-◌, ◌<◌, ◌≤◌, Bool, true, false, cond, ◌==◌, List, [], ◌∷◌, ◌++◌, Some, None, length, map, refl, sym, ap, ◌∙◌, subst, arith, append_assoc, length-append}
+use Rattle.std.specs.Prelude.{nat_le, if◌then◌else◌, not, ◌&&◌}
+use Rattle.std.proofs.lemmas.List.{get_or_append_left, map-append}
 use Rattle.node_set.specs.Ascending.{has}
-use Rattle.entry_word.specs.declared.mark.PresenceMark.TheVariants.{Empty, Here, Gone, Coming}
-use Rattle.directory.specs.Plan.{PlanData, distance, threshold, levels_of, home}
-use Rattle.directory.specs.Writes.{Course, base, numbers_from, trail, Write, mark_at, entry_at, visit_of, each_from, coming, addressing, commit, confirm, old_cluster, erasing, purging, levels_renewed, writes, joined}
+use Rattle.entry_word.specs.declared.mark.PresenceMark.TheVariants.{Empty, Coming}
+use Rattle.directory.specs.Plan.{PlanData, distance, threshold, levels_of}
+use Rattle.directory.specs.Writes.{Course, base, numbers_from, trail, Write, mark_at, entry_at, visit_of, each_from, addressing, commit, confirm, old_cluster, erasing, purging, levels_renewed, writes, joined}
 use Rattle.directory.specs.Courses.{stop_of, way, gathered, highest, renewal, bases, renewed, course, visits_of}
 
 -- the last renewals that decide on a move are the bases of the course
@@ -19,7 +19,7 @@ pub bases-le : (plan : PlanData) (stop : ℕ → ℕ) (q level : ℕ) → bases 
 unfolding bases
 bases-le plan stop zero level = omega arith
 bases-le plan stop (suc q) level = at_test (nat_le level (renewal plan stop (bases plan stop q) q)) (bases-le plan stop q level)
-    where
+  where
     at_test : (b : Bool) → bases plan stop q level ≤ q → cond b q (bases plan stop q level) ≤ suc q
     at_test true h = omega arith
     at_test false h = omega arith
@@ -47,7 +47,7 @@ base-le : (one : Course) (level q : ℕ) → base one level q ≤ q
 unfolding base
 base-le one level zero = omega arith
 base-le one level (suc q) = at_test (nat_le level (one.renewed q)) (base-le one level q)
-    where
+  where
     at_test : (b : Bool) → base one level q ≤ q → cond b q (base one level q) ≤ suc q
     at_test true h = omega arith
     at_test false h = omega arith
@@ -84,23 +84,29 @@ writes-same one other m q same low =
     (here-same there)
     (each_from-same (erasing one q) (erasing other q) 0 (levels_renewed one q) (levels_renewed other q) levels (λ level. erase-same level there (base-same one other m level (suc q) same (omega arith)) (base-le one level (suc q))))
     (purge-same there trails)
-    where
+  where
     mark-same : (u v : ℕ) (x y n : ℕ) → u ≡ v → x ≡ y → mark_at u (Coming n x) ≡ mark_at v (Coming n y)
     mark-same u v x y n e f = cc
+
     gone-same : one.stop q ≡ other.stop q → one.stop (suc q) ≡ other.stop (suc q) → commit one q ≡ commit other q
     gone-same e f = cc
+
     here-same : one.stop (suc q) ≡ other.stop (suc q) → confirm one q ≡ confirm other q
     here-same f = cc
+
     address-same : (level : ℕ) → one.stop (suc q) ≡ other.stop (suc q) → addressing one q level ≡ addressing other q level
     address-same level e = ap (λ v. entry_at level (one.cluster level v) (Some (record { number = suc q; node = v })) ∷ []) e ∙ ap (λ c. entry_at level c (Some (record { number = suc q; node = other.stop (suc q) })) ∷ []) (same.cluster level (other.stop (suc q)))
+
     erase-same : (level : ℕ) → one.stop (suc q) ≡ other.stop (suc q) → base one level (suc q) ≡ base other level (suc q) → base one level (suc q) ≤ suc q → erasing one q level ≡ erasing other q level
     erase-same level there e below =
         let old : old_cluster one q level ≡ old_cluster other q level =
-            ap (λ v. one.cluster level v) (same.stop (base one level (suc q)) (omega arith) ∙ ap other.stop e) ∙ same.cluster level (other.stop (base other level (suc q))) in
+        ap (λ v. one.cluster level v) (same.stop (base one level (suc q)) (omega arith) ∙ ap other.stop e) ∙ same.cluster level (other.stop (base other level (suc q))) in
         let now : one.cluster level (one.stop (suc q)) ≡ other.cluster level (other.stop (suc q)) = ap (λ v. one.cluster level v) there ∙ same.cluster level (other.stop (suc q)) in
         ap (λ c. if c == one.cluster level (one.stop (suc q)) then [] else entry_at level c None ∷ []) old ∙ ap (λ c. if old_cluster other q level == c then [] else entry_at level (old_cluster other q level) None ∷ []) now
+
     purge_node-same : (node : ℕ) → one.stop (suc q) ≡ other.stop (suc q) → trail one (suc q) ≡ trail other (suc q) → purging one q node ≡ purging other q node
     purge_node-same node e f = ap (λ xs. if has node xs && not (node == one.stop (suc q)) then mark_at node Empty ∷ [] else []) f ∙ ap (λ v. if has node (trail other (suc q)) && not (node == v) then mark_at node Empty ∷ [] else []) e
+
     purge-same : one.stop (suc q) ≡ other.stop (suc q) → trail one (suc q) ≡ trail other (suc q)
         → (if one.renewed (suc q) == one.top then each_from 0 one.nodes (purging one q) else []) ≡ (if other.renewed (suc q) == other.top then each_from 0 other.nodes (purging other q) else [])
     purge-same e f =
@@ -153,14 +159,14 @@ bases-same plan one other m (suc q) level same low =
 pub course-agrees : (plan : PlanData) (start : ℕ) (itinerary more : List ℕ) → Agrees (course plan start (itinerary ++ more)) (course plan start itinerary) (length itinerary)
 course-agrees plan start itinerary more =
     record {
-    nodes = refl;
-    top = refl;
-    cluster = λ level node. refl;
-    stop = λ p low. stops p low;
-    renewed = λ p low. renewal-same plan (stop_of start (itinerary ++ more)) (stop_of start itinerary) _ _ (length itinerary) p stops low
-        (λ level. bases-same plan (stop_of start (itinerary ++ more)) (stop_of start itinerary) (length itinerary) p level stops (omega arith)) (λ level. bases-le plan (stop_of start (itinerary ++ more)) p level)
+      nodes = refl;
+      top = refl;
+      cluster = λ level node. refl;
+      stop = λ p low. stops p low;
+      renewed = λ p low. renewal-same plan (stop_of start (itinerary ++ more)) (stop_of start itinerary) _ _ (length itinerary) p stops low
+          (λ level. bases-same plan (stop_of start (itinerary ++ more)) (stop_of start itinerary) (length itinerary) p level stops (omega arith)) (λ level. bases-le plan (stop_of start (itinerary ++ more)) p level);
     }
-    where
+  where
     stops : (p : ℕ) → p ≤ length itinerary → stop_of start (itinerary ++ more) p ≡ stop_of start itinerary p
     stops p low = get_or_append_left (start ∷ itinerary) more start p (omega arith)
 
@@ -173,8 +179,8 @@ more_moves plan sub start itinerary more =
     ∙ (ap (λ ws. map (visit_of sub) ws) (joined-split (course plan start (itinerary ++ more)) 0 (length itinerary) (length more))
     ∙ (map-append (visit_of sub) (joined (course plan start (itinerary ++ more)) 0 (length itinerary)) (joined (course plan start (itinerary ++ more)) (0 + length itinerary) (length more))
     ∙ (ap (λ ws. map (visit_of sub) ws ++ map (visit_of sub) (joined (course plan start (itinerary ++ more)) (0 + length itinerary) (length more)))
-        (joined-same (course plan start (itinerary ++ more)) (course plan start itinerary) (length itinerary) 0 (length itinerary) (course-agrees plan start itinerary more) (omega arith))
+    (joined-same (course plan start (itinerary ++ more)) (course plan start itinerary) (length itinerary) 0 (length itinerary) (course-agrees plan start itinerary more) (omega arith))
     ∙ ap (λ q. visits_of plan sub start itinerary ++ map (visit_of sub) (joined (course plan start (itinerary ++ more)) q (length more))) (zero_plus (length itinerary)))))
-    where
+  where
     zero_plus : (n : ℕ) → 0 + n ≡ n
     zero_plus n = omega arith

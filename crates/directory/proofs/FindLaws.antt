@@ -1,15 +1,13 @@
 -- Finds: more words change no answer, an answer leaves what it didn't read, and a find makes few looks.
-use Rattle.std.proofs.Common.{◌≡◌, ℕ, zero, suc, ◌+◌, ◌*◌, ◌<◌, ◌≤◌, Bool, true, false, cond, List, [], ◌∷◌, ◌++◌, Option, Some, None, length, map, refl, sym, ap, ◌∙◌, subst, arith, append_assoc, length-append}
-use Rattle.std.specs.Prelude.{option_map, is_some, is_none, sum_by, unwrap_or, nat_le}
+use Rattle.std.proofs.Common.{◌≡◌, ℕ, zero, suc, ◌+◌, ◌*◌, ◌<◌, ◌≤◌, List, [], ◌∷◌, ◌++◌, Option, Some, None, length, refl, subst, arith}
+use Rattle.std.specs.Prelude.{is_some, is_none, sum_by}
 use Rattle.std.proofs.lemmas.List.Sums.{sum_by-cons}
 use Rattle.entry_word.specs.declared.mark.PresenceMark.{PresenceMark}
 use Rattle.entry_word.specs.declared.mark.PresenceMark.TheVariants.{Empty, Here, Gone, Coming}
 use Rattle.entry_word.specs.declared.address.Address.{Address}
 use Rattle.entry_word.specs.declared.visit.Key.{Key}
-use Rattle.entry_word.specs.declared.visit.Key.TheVariants.{Presence, Entry}
 use Rattle.directory.specs.Plan.{PlanData, nodes_of, distance, inside, leader}
-use Rattle.directory.specs.Keys.{sub_of}
-use Rattle.directory.specs.Finds.{Found, at, again, Why, nothing_at, no_entry, chased, Next, wants, answers, Turn, stops, hops, turn, after_turn, chase, most_hops, Reader, all_readers, after_entry, climb, after_origin, find, look_of, answer_of, mark_in, address_in, most_looks}
+use Rattle.directory.specs.Finds.{Found, at, again, no_entry, chased, Next, wants, answers, Turn, stops, hops, turn, after_turn, chase, most_hops, Reader, all_readers, after_entry, climb, after_origin, find, look_of, answer_of, mark_in, address_in, most_looks}
 use Rattle.directory.specs.Orders.{FindCall, after_find, next_look}
 
 -- a next step has a look or an answer
@@ -72,7 +70,7 @@ unfolding Few
 after_turn-few go weight hops_left word words (stops found) step = omega arith
 after_turn-few go weight zero word words (hops known to) step = omega arith
 after_turn-few go weight (suc m) word words (hops known to) step = one_more (go known to m) (step known to m)
-    where
+  where
     one_more : (n : Next) → Few (suc m) words n → Few (suc (suc m)) (word ∷ words) n
     one_more (wants key) h = omega arith
     one_more (answers found left) h = omega arith
@@ -95,7 +93,7 @@ climb-few plan sub origin known weight [] words = omega arith
 climb-few plan sub origin known weight (reader ∷ later) [] = omega arith
 climb-few plan sub origin known weight (reader ∷ later) (word ∷ words) =
     at_entry (climb-few plan sub origin known (weight + 2 * inside plan reader.level reader.cluster origin) later words) (address_in word)
-    where
+  where
     at_entry : Few (length later + nodes_of plan + 3) words (climb plan sub origin known (weight + 2 * inside plan reader.level reader.cluster origin) later words)
         → (entry : Option Address) → Few (length (reader ∷ later) + nodes_of plan + 3) (word ∷ words)
         (after_entry (climb plan sub origin known (weight + 2 * inside plan reader.level reader.cluster origin) later words)
@@ -107,7 +105,7 @@ find-few : (plan : PlanData) (sub origin : ℕ) (words : List ℕ) → Few (most
 unfolding find Few
 find-few plan sub origin [] = omega arith
 find-few plan sub origin (word ∷ words) = at_mark (mark_in word)
-    where
+  where
     at_mark : (mark : PresenceMark) → Few (most_looks plan origin) (word ∷ words) (after_origin plan sub origin words mark)
     at_mark Empty = few-more (length (all_readers plan origin) + nodes_of plan + 3) _ word words _ (omega arith) (climb-few plan sub origin None 0 (all_readers plan origin) words)
     at_mark (Here number) = omega arith
@@ -127,7 +125,7 @@ pub next_look-few : (plan : PlanData) (calls : List FindCall) (words : List ℕ)
 unfolding next_look
 next_look-few plan [] words key h = cc
 next_look-few plan (call ∷ calls) words key h = rw (sum_by-cons (λ (c : FindCall). most_looks plan c.from) call calls) (at_next (find plan call.sub call.from words) refl (λ left. next_look-few plan calls left key) h)
-    where
+  where
     at_next : (n : Next) → find plan call.sub call.from words ≡ n
         → ((left : List ℕ) → next_look plan calls left ≡ Some key → length left < sum_by (λ (c : FindCall). most_looks plan c.from) calls)
         → after_find (λ left. next_look plan calls left) n ≡ Some key → length words < most_looks plan call.from + sum_by (λ (c : FindCall). most_looks plan c.from) calls

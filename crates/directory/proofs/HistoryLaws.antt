@@ -1,11 +1,10 @@
 -- Histories, visit by visit: an induction over the fronts of a history, and what one more visit changes.
-use Rattle.std.proofs.Common.{◌≡◌, ℕ, zero, suc, ◌+◌, ◌<◌, ◌≤◌, min, Bool, true, false, cond, ◌==◌, List, [], ◌∷◌, ◌++◌, Option, Some, None, length, take, fold, filter, refl, sym, ap, ◌∙◌, subst, arith, append_assoc, length-append}
+use Rattle.std.proofs.Common.{◌≡◌, ℕ, zero, suc, ◌<◌, ◌≤◌, min, Bool, true, false, cond, ◌==◌, List, [], ◌∷◌, ◌++◌, Some, length, take, filter, refl, sym, ap, subst, arith, append_assoc}
 use Rattle.std.specs.Prelude.{slice_get}
-use Rattle.std.proofs.lemmas.List.{append-nil, take_all, length_push}
+use Rattle.std.proofs.lemmas.List.{append-nil, take_all}
 use Rattle.std.proofs.lemmas.List.Sums.{fold-append}
 use Rattle.std.proofs.lemmas.List.Elements.{filter-append}
 use Rattle.entry_word.specs.declared.visit.Key.{Key}
-use Rattle.entry_word.specs.declared.visit.Act.{Act}
 use Rattle.entry_word.specs.declared.visit.Visit.{Visit}
 use Rattle.directory.specs.Plan.{PlanData}
 use Rattle.directory.specs.Histories.{History, after_act, cell, puts_for, puts_to, own, tickets_from, word_by, words_after, words_read}
@@ -36,8 +35,9 @@ pub filter-front : {A : Type 0} (p : A → Bool) (t : ℕ) (xs : List A) → fil
 filter-front p zero xs = refl
 filter-front p (suc t) [] = refl
 filter-front p (suc t) (x ∷ xs) = elim (p x) as (λ b. cond b (x ∷ filter p (take t xs)) (filter p (take t xs)) ≡ take (length (cond b (x ∷ filter p (take t xs)) (filter p (take t xs)))) (cond b (x ∷ filter p xs) (filter p xs))) [
-    true ↦ ap (λ zs. x ∷ zs) (filter-front p t xs)
-    | false ↦ filter-front p t xs ]
+  | true ↦ ap (λ zs. x ∷ zs) (filter-front p t xs)
+  | false ↦ filter-front p t xs
+]
 
 -- a front of a front
 pub take-both : {A : Type 0} (m n : ℕ) (xs : List A) → take m (take n xs) ≡ take (min m n) xs
@@ -70,5 +70,6 @@ pub length-tickets_from : (actor ticket : ℕ) (history : History) → length (t
 unfolding tickets_from
 length-tickets_from actor ticket [] = refl
 length-tickets_from actor ticket (visit ∷ later) = elim (visit.actor == actor) as (λ b. length (cond b (ticket ∷ tickets_from actor (suc ticket) later) (tickets_from actor (suc ticket) later)) ≡ length (cond b (visit ∷ own actor later) (own actor later))) [
-    true ↦ ap suc (length-tickets_from actor (suc ticket) later)
-    | false ↦ length-tickets_from actor (suc ticket) later ]
+  | true ↦ ap suc (length-tickets_from actor (suc ticket) later)
+  | false ↦ length-tickets_from actor (suc ticket) later
+]

@@ -1,37 +1,28 @@
 -- Legal histories: their fronts, and the itinerary that they show.
-use Rattle.std.proofs.Common.{◌≡◌, ℕ, zero, suc, ◌+◌, ◌-◌, ◌<◌, ◌≤◌, ◌^◌, min, Bool, true, false, cond, ◌==◌, List, [], ◌∷◌, ◌++◌, Option, Some, None, length, map, take, drop, filter, refl, sym, ap, ◌∙◌, subst, arith, append_assoc, length-append}
-use Rattle.std.specs.Prelude.{if◌then◌else◌, slice_index_or, filter_map, get_or}
-use Rattle.std.proofs.lemmas.Bool.{eq-eqb}
-use Rattle.std.proofs.lemmas.List.{append-nil, take-map, take-append-drop, length-take-le, drop_more, take-append-le}
+use Rattle.std.proofs.Common.{◌≡◌, ℕ, zero, suc, ◌-◌, ◌≤◌, min, Bool, true, false, cond, ◌==◌, List, [], ◌∷◌, ◌++◌, Option, Some, None, length, map, take, refl, sym, ap, ◌∙◌, arith}
+use Rattle.std.specs.Prelude.{if◌then◌else◌, filter_map}
+use Rattle.std.proofs.lemmas.List.{take-append-le}
 use Rattle.std.proofs.lemmas.List.Elements.{filter_map-append}
-use Rattle.entry_word.specs.Marks.{mark_word, mark_of, IsSmallMark}
-use Rattle.entry_word.specs.declared.mark.PresenceMark.{PresenceMark}
-use Rattle.entry_word.specs.declared.mark.PresenceMark.TheVariants.{Empty, Here, Gone, Coming}
-use Rattle.entry_word.specs.declared.visit.Key.{Key}
-use Rattle.entry_word.specs.declared.visit.Key.TheVariants.{Presence, Entry}
-use Rattle.entry_word.specs.declared.visit.Act.{Act}
-use Rattle.entry_word.specs.declared.visit.Act.TheVariants.{Look, Put, Census}
-use Rattle.entry_word.specs.declared.visit.Visit.{Visit}
-use Rattle.directory.specs.Plan.{PlanData, nodes_of}
+use Rattle.entry_word.specs.declared.mark.PresenceMark.TheVariants.{Empty}
+use Rattle.directory.specs.Plan.{PlanData}
 use Rattle.directory.specs.Keys.{home_node}
 use Rattle.directory.specs.Histories.{History, puts_for, puts_to}
-use Rattle.directory.specs.Writes.{Course, Write, mark_at, entry_at, visit_of, numbers_from, each_from, coming, addressing, commit, confirm, erasing, old_cluster, purging, trail, levels_renewed, writes, joined}
-use Rattle.directory.specs.Courses.{stop_of, course, visits_of}
-use Rattle.directory.specs.Legal.{IsItinerary, IsLegal, coming_to, itinerary_of}
-use Rattle.directory.specs.Standing.{Marking, marking_of, marking_by, marking_in, markings}
+use Rattle.directory.specs.Writes.{Course, Write, mark_at, entry_at, numbers_from, each_from, addressing, commit, confirm, erasing, old_cluster, purging, levels_renewed, writes, joined}
+use Rattle.directory.specs.Courses.{visits_of}
+use Rattle.directory.specs.Legal.{IsLegal, coming_to}
 use Rattle.directory.proofs.HistoryLaws.{filter-front, take-both}
-use Rattle.directory.proofs.CourseLaws.{joined-same, course-agrees, more_moves}
+use Rattle.directory.proofs.CourseLaws.{more_moves}
 
 -- a front of a legal history is legal
 pub front_is_legal : (plan : PlanData) (homes : List ℕ) (sub : ℕ) (history : History) (t : ℕ) → IsLegal plan homes sub history → IsLegal plan homes sub (take t history)
 front_is_legal plan homes sub history t legal =
     record {
-    itinerary = legal.itinerary;
-    sound = legal.sound;
-    made = min (length (puts_to sub (take t history))) legal.made;
-    writes = filter-front (λ visit. puts_for sub visit.act) t history
-        ∙ (ap (λ puts. take (length (puts_to sub (take t history))) puts) legal.writes
-        ∙ take-both (length (puts_to sub (take t history))) legal.made (visits_of plan sub (home_node homes sub) legal.itinerary))
+      itinerary = legal.itinerary;
+      sound = legal.sound;
+      made = min (length (puts_to sub (take t history))) legal.made;
+      writes = filter-front (λ visit. puts_for sub visit.act) t history
+          ∙ (ap (λ puts. take (length (puts_to sub (take t history))) puts) legal.writes
+          ∙ take-both (length (puts_to sub (take t history))) legal.made (visits_of plan sub (home_node homes sub) legal.itinerary));
     }
 
 -- so many writes of an itinerary are the same when it goes on
@@ -50,7 +41,7 @@ filter_map-none : {A B : Type 0} (h : A → Option B) (k : ℕ) (xs : List A) �
 filter_map-none {B = B} h zero xs none = refl
 filter_map-none {B = B} h (suc k) [] none = refl
 filter_map-none {B = B} h (suc k) (x ∷ xs) none = at_first (h x) refl (filter_map-none h k xs)
-    where
+  where
     at_first : (o : Option B) → h x ≡ o → (filter_map h xs ≡ [] → filter_map h (take k xs) ≡ []) → filter_map h (take (suc k) (x ∷ xs)) ≡ []
     at_first None e later = rw e (later (rw e at none))
     at_first (Some b) e later = let clash : b ∷ filter_map h xs ≡ [] = rw e at none in cc
@@ -76,15 +67,17 @@ rest-silent one q =
     both-silent (each_from 0 (levels_renewed one q) (addressing one q)) _ (filter_map-each_from coming_in 0 (levels_renewed one q) (addressing one q) (λ level. refl))
     (both-silent (each_from 0 (levels_renewed one q) (erasing one q)) _ (filter_map-each_from coming_in 0 (levels_renewed one q) (erasing one q) (λ level. erasing-silent level))
     (purge-silent (one.renewed (suc q) == one.top)))
-    where
+  where
     erasing-silent : (level : ℕ) → filter_map coming_in (erasing one q level) ≡ []
     erasing-silent level = elim (old_cluster one q level == one.cluster level (one.stop (suc q))) as (λ b. filter_map coming_in (cond b [] (entry_at level (old_cluster one q level) None ∷ [])) ≡ []) [ true ↦ refl | false ↦ refl ]
+
     purging-silent : (node : ℕ) → filter_map coming_in (purging one q node) ≡ []
     purging-silent node = silent _
-        where
+      where
         silent : (b : Bool) → filter_map coming_in (cond b (mark_at node Empty ∷ []) []) ≡ []
         silent true = refl
         silent false = refl
+
     purge-silent : (b : Bool) → filter_map coming_in (cond b (each_from 0 one.nodes (purging one q)) []) ≡ []
     purge-silent true = filter_map-each_from coming_in 0 one.nodes (purging one q) purging-silent
     purge-silent false = refl
@@ -106,15 +99,15 @@ begun one q zero zero = record { count = 0; few = omega arith; shown = refl; eno
 begun one q zero (suc k) = record { count = 0; few = omega arith; shown = refl; enough = refl }
 begun one q (suc n) zero = record { count = 0; few = omega arith; shown = refl; enough = refl }
 begun one q (suc n) (suc k) = more (begun one (suc q) n (suc k - length (writes one q)))
-    where
+  where
     more : AreBegun one (suc q) n (suc k - length (writes one q)) → AreBegun one q (suc n) (suc k)
     more later = record {
-        count = suc later.count;
-        few = omega (arith, later.few);
-        shown = ap (λ ws. filter_map coming_in ws) (take-append (suc k) (writes one q) (joined one (suc q) n))
-            ∙ (filter_map-append coming_in (take (suc k) (writes one q)) _
-            ∙ (ap (λ xs. xs ++ filter_map coming_in (take (suc k - length (writes one q)) (joined one (suc q) n))) (first-coming one q k)
-            ∙ ap (λ xs. one.stop (suc q) ∷ xs) later.shown));
-        enough = take-append (suc k) (writes one q) (joined one (suc q) n)
-            ∙ (ap (λ ws. take (suc k) (writes one q) ++ ws) later.enough ∙ sym (take-append (suc k) (writes one q) (joined one (suc q) later.count)))
-        }
+      count = suc later.count;
+      few = omega (arith, later.few);
+      shown = ap (λ ws. filter_map coming_in ws) (take-append (suc k) (writes one q) (joined one (suc q) n))
+          ∙ (filter_map-append coming_in (take (suc k) (writes one q)) _
+          ∙ (ap (λ xs. xs ++ filter_map coming_in (take (suc k - length (writes one q)) (joined one (suc q) n))) (first-coming one q k)
+          ∙ ap (λ xs. one.stop (suc q) ∷ xs) later.shown));
+      enough = take-append (suc k) (writes one q) (joined one (suc q) n)
+          ∙ (ap (λ ws. take (suc k) (writes one q) ++ ws) later.enough ∙ sym (take-append (suc k) (writes one q) (joined one (suc q) later.count)));
+    }

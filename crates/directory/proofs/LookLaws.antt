@@ -1,13 +1,12 @@
 -- What a find wants: it looks at cells of its own subscriber, and answers with its last look, so that nothing is left.
-use Rattle.std.proofs.Common.{◌≡◌, ℕ, zero, suc, ◌+◌, ◌*◌, Bool, true, false, cond, List, [], ◌∷◌, ◌++◌, Option, Some, None, refl, sym, ap, ◌∙◌, subst}
+use Rattle.std.proofs.Common.{◌≡◌, ℕ, zero, suc, ◌+◌, ◌*◌, List, [], ◌∷◌, ◌++◌, Option, Some, None, refl, subst}
 use Rattle.entry_word.specs.declared.mark.PresenceMark.{PresenceMark}
 use Rattle.entry_word.specs.declared.mark.PresenceMark.TheVariants.{Empty, Here, Gone, Coming}
 use Rattle.entry_word.specs.declared.address.Address.{Address}
 use Rattle.entry_word.specs.declared.visit.Key.{Key}
-use Rattle.entry_word.specs.declared.visit.Key.TheVariants.{Presence, Entry}
-use Rattle.directory.specs.Plan.{PlanData, distance, inside, leader}
+use Rattle.directory.specs.Plan.{PlanData, distance, inside}
 use Rattle.directory.specs.Keys.{sub_of}
-use Rattle.directory.specs.Finds.{Found, at, again, Next, wants, answers, Turn, stops, hops, turn, after_turn, chase, most_hops, Reader, all_readers, after_entry, climb, after_origin, find, mark_in, address_in}
+use Rattle.directory.specs.Finds.{Found, Next, wants, answers, Turn, stops, hops, turn, after_turn, chase, most_hops, Reader, all_readers, after_entry, climb, after_origin, find, mark_in, address_in}
 
 -- what is wanted is a cell of the subscriber
 IsOwnLook : ℕ → Next → Type 0

@@ -1,26 +1,23 @@
 -- Histories in which each visit was its actor's next one, and the histories of orders, which are such.
-use Rattle.std.proofs.Common.{◌≡◌, ◌≢◌, ℕ, zero, suc, ◌+◌, ◌-◌, ◌<◌, ◌≤◌, ◌^◌, min, Bool, true, false, cond, ◌==◌, List, [], ◌∷◌, ◌++◌, Option, Some, None, length, take, map, fold, filter, refl, sym, ap, ◌∙◌, subst, arith, inl, inr, ◌⊎◌, nat_lt, ◌||◌, append_assoc, length-append}
-use Rattle.std.specs.Prelude.{slice_get, slice_index_or, sum_by, flat_map, replicate, option_map, option_to_list, if◌then◌else◌, All}
-use Rattle.std.proofs.lemmas.Bool.{eqb-true, eqb-false, ltb-true, ltb-false, lt-ltb, le-ltb, ne_eqb, eq-eqb}
+use Rattle.std.proofs.Common.{◌≡◌, ℕ, zero, suc, ◌+◌, ◌-◌, ◌<◌, ◌≤◌, Bool, true, false, cond, ◌==◌, List, [], ◌∷◌, ◌++◌, Option, Some, None, length, take, map, refl, sym, ap, ◌∙◌, subst, arith, inl, inr, ◌⊎◌, ◌||◌, length-append}
+use Rattle.std.specs.Prelude.{slice_get, sum_by, flat_map, replicate, option_map, option_to_list, All}
+use Rattle.std.proofs.lemmas.Bool.{eqb-true, lt-ltb, le-ltb, ne_eqb, eq-eqb}
 use Rattle.std.proofs.lemmas.Bool.Decides.{nat_tests}
 use Rattle.std.proofs.lemmas.List.{append-nil, take_all, take-append-le, length_push, get_or_past, map-append}
-use Rattle.std.proofs.lemmas.Option.{slice_get_within, slice_get_past, slice_get-map}
+use Rattle.std.proofs.lemmas.Option.{slice_get_within}
 use Rattle.std.proofs.lemmas.List.Elements.{All-head, All-tail}
 use Rattle.entry_word.specs.declared.visit.Key.{Key}
-use Rattle.entry_word.specs.declared.visit.Act.{Act}
-use Rattle.entry_word.specs.declared.visit.Act.TheVariants.{Look, Put}
+use Rattle.entry_word.specs.declared.visit.Act.TheVariants.{Look}
 use Rattle.entry_word.specs.declared.visit.Visit.{Visit}
 use Rattle.directory.specs.Plan.{PlanData}
-use Rattle.directory.specs.Keys.{home_node, sub_of}
-use Rattle.directory.specs.Histories.{History, before, puts_for, puts_to, own, word_by, words_after, words_read}
+use Rattle.directory.specs.Histories.{History, puts_for, puts_to, own, word_by, words_after, words_read}
 use Rattle.directory.specs.Finds.{most_looks}
-use Rattle.directory.specs.Writes.{numbers_from, Write, mark_at, entry_at, visit_of, joined}
-use Rattle.directory.specs.Courses.{visits_of, course}
-use Rattle.directory.specs.Legal.{IsItinerary, IsLegal}
-use Rattle.directory.specs.Orders.{FindCall, actors_of, Scripts, is_sub, moves_of, finds_of, script_visits, next_look, next, after_turn_of, play, most_turns, last_turns, history_of, IsPlayed, AreValid, IsDone}
+use Rattle.directory.specs.Writes.{numbers_from, Write, mark_at, entry_at, visit_of}
+use Rattle.directory.specs.Legal.{IsLegal}
+use Rattle.directory.specs.Orders.{FindCall, actors_of, Scripts, moves_of, finds_of, script_visits, next_look, next, after_turn_of, play, most_turns, last_turns, history_of, IsPlayed, AreValid, IsDone}
 use Rattle.directory.proofs.HistoryLaws.{take-more, by_fronts, own-push, puts_to-push, words_read-push}
 use Rattle.directory.proofs.FindLaws.{next_look-few}
-use Rattle.node_set.specs.Ascending.{has, passing}
+use Rattle.node_set.specs.Ascending.{has}
 use Rattle.std.proofs.lemmas.List.Sums.{fold-append}
 
 -- what the next visit of a subscriber and of a caller is
@@ -57,10 +54,11 @@ pub next-actor : (plan : PlanData) (scripts : Scripts) (history : History) (acto
 unfolding IsOwn
 next-actor plan scripts history actor visit h =
     elim (cases actor (length scripts.homes)) as (λ _. visit.actor ≡ actor) [
-    inl low ↦ (slice_get-of_map actor 0 _ (length (own actor history)) visit (sym (next-sub plan scripts history actor low) ∙ h)).0
-    | inr high ↦ let found = look-next actor (next_look plan (finds_of scripts actor) (words_read plan scripts.homes actor history)) visit (sym (next-caller plan scripts history actor high) ∙ h) in
-      let e : visit ≡ record { actor = actor; act = Look found.0 } = found.1 in ap (λ (v : Visit). v.actor) e ]
-    where
+      | inl low ↦ (slice_get-of_map actor 0 _ (length (own actor history)) visit (sym (next-sub plan scripts history actor low) ∙ h)).0
+      | inr high ↦ let found = look-next actor (next_look plan (finds_of scripts actor) (words_read plan scripts.homes actor history)) visit (sym (next-caller plan scripts history actor high) ∙ h) in
+          let e : visit ≡ record { actor = actor; act = Look found.0 } = found.1 in ap (λ (v : Visit). v.actor) e
+    ]
+  where
     cases : (a b : ℕ) → (a < b) ⊎ (b ≤ a)
     cases a b = grind (arith, nat_tests)
 
@@ -75,7 +73,7 @@ turn-some plan scripts history actor visit h = ap (λ v. history ++ option_to_li
 kept_by_turn : (plan : PlanData) (scripts : Scripts) (P : History → Type 0) (history : History) (actor : ℕ)
     → ((visit : Visit) → next plan scripts history actor ≡ Some visit → P (history ++ visit ∷ [])) → P history → P (after_turn_of plan scripts history actor)
 kept_by_turn plan scripts P history actor more now = at_next (next plan scripts history actor) refl
-    where
+  where
     at_next : (n : Option Visit) → next plan scripts history actor ≡ n → P (after_turn_of plan scripts history actor)
     at_next None e = subst P (sym (turn-none plan scripts history actor e)) now
     at_next (Some visit) e = subst P (sym (turn-some plan scripts history actor visit e)) (more visit e)
@@ -91,22 +89,25 @@ kept_by_play plan scripts P more (actor ∷ order) history now =
 pub played-push : (plan : PlanData) (scripts : Scripts) (history : History) (actor : ℕ) (visit : Visit) → next plan scripts history actor ≡ Some visit → IsPlayed plan scripts history → IsPlayed plan scripts (history ++ visit ∷ [])
 played-push plan scripts history actor visit e played ticket found h =
     elim (cases ticket (length history)) as (λ _. next plan scripts (take ticket (history ++ visit ∷ [])) found.actor ≡ Some found) [
-    inl low ↦ rw (take-append-le ticket history (visit ∷ []) (omega arith)) (played ticket found (sym (get-left history (visit ∷ []) ticket low) ∙ h))
-    | inr high ↦
-      let within : ticket < length (history ++ visit ∷ []) = slice_get_within (history ++ visit ∷ []) ticket found h in
-      let same : ticket ≡ length history = omega (arith, length_push history visit) in
-      let at_end : Some visit ≡ Some found = sym (get-end history visit ticket same) ∙ h in
-      let is_found : visit ≡ found = cc in
-      let own_one : visit.actor ≡ actor = next-actor plan scripts history actor visit e in
-      rw (take-append-le ticket history (visit ∷ []) (omega arith), take_all ticket history (omega arith))
-      (subst (λ (v : Visit). next plan scripts history v.actor ≡ Some v) is_found (ap (λ a. next plan scripts history a) own_one ∙ e)) ]
-    where
+      | inl low ↦ rw (take-append-le ticket history (visit ∷ []) (omega arith)) (played ticket found (sym (get-left history (visit ∷ []) ticket low) ∙ h))
+      | inr high ↦
+          let within : ticket < length (history ++ visit ∷ []) = slice_get_within (history ++ visit ∷ []) ticket found h in
+          let same : ticket ≡ length history = omega (arith, length_push history visit) in
+          let at_end : Some visit ≡ Some found = sym (get-end history visit ticket same) ∙ h in
+          let is_found : visit ≡ found = cc in
+          let own_one : visit.actor ≡ actor = next-actor plan scripts history actor visit e in
+          rw (take-append-le ticket history (visit ∷ []) (omega arith), take_all ticket history (omega arith))
+          (subst (λ (v : Visit). next plan scripts history v.actor ≡ Some v) is_found (ap (λ a. next plan scripts history a) own_one ∙ e))
+    ]
+  where
     cases : (a b : ℕ) → (a < b) ⊎ (b ≤ a)
     cases a b = grind (arith, nat_tests)
+
     get-left : (xs ys : History) (i : ℕ) → i < length xs → slice_get (xs ++ ys) i ≡ slice_get xs i
     get-left [] ys i h = absurd (omega arith)
     get-left (x ∷ xs) ys zero h = refl
     get-left (x ∷ xs) ys (suc i) h = get-left xs ys i (omega arith)
+
     get-end : (xs : History) (x : Visit) (i : ℕ) → i ≡ length xs → slice_get (xs ++ x ∷ []) i ≡ Some x
     get-end [] x i h = rw h refl
     get-end (y ∷ ys) x zero h = absurd (omega arith)
@@ -133,13 +134,14 @@ next-puts : (plan : PlanData) (scripts : Scripts) (history : History) (actor sub
 unfolding IsOwn
 next-puts plan scripts history actor sub visit below h =
     elim (cases actor (length scripts.homes)) as (λ _. puts_for sub visit.act ≡ (visit.actor == sub)) [
-    inl low ↦ let found = slice_get-of_map actor sub _ (length (own actor history)) visit (sym (next-sub plan scripts history actor low) ∙ h) in
-      found.1 ∙ sym (ap (λ a. a == sub) found.0)
-    | inr high ↦ let found = look-next actor (next_look plan (finds_of scripts actor) (words_read plan scripts.homes actor history)) visit (sym (next-caller plan scripts history actor high) ∙ h) in
-      let e : visit ≡ record { actor = actor; act = Look found.0 } = found.1 in
-      let apart : (actor == sub) ≡ false = ne_eqb actor sub (λ same. omega arith) in
-      subst (λ (v : Visit). puts_for sub v.act ≡ (v.actor == sub)) (sym e) (sym apart) ]
-    where
+      | inl low ↦ let found = slice_get-of_map actor sub _ (length (own actor history)) visit (sym (next-sub plan scripts history actor low) ∙ h) in
+          found.1 ∙ sym (ap (λ a. a == sub) found.0)
+      | inr high ↦ let found = look-next actor (next_look plan (finds_of scripts actor) (words_read plan scripts.homes actor history)) visit (sym (next-caller plan scripts history actor high) ∙ h) in
+          let e : visit ≡ record { actor = actor; act = Look found.0 } = found.1 in
+          let apart : (actor == sub) ≡ false = ne_eqb actor sub (λ same. omega arith) in
+          subst (λ (v : Visit). puts_for sub v.act ≡ (v.actor == sub)) (sym e) (sym apart)
+    ]
+  where
     cases : (a b : ℕ) → (a < b) ⊎ (b ≤ a)
     cases a b = grind (arith, nat_tests)
 
@@ -164,7 +166,7 @@ pub played-own : (plan : PlanData) (scripts : Scripts) (history : History) (sub 
 played-own plan scripts history sub below played =
     by_fronts (λ front. own sub front ≡ take (length (own sub front)) (script_visits plan scripts sub)) history refl
     (λ t visit h so_far. step t visit h so_far (visit.actor == sub) refl)
-    where
+  where
     step : (t : ℕ) (visit : Visit) → slice_get history t ≡ Some visit → own sub (take t history) ≡ take (length (own sub (take t history))) (script_visits plan scripts sub)
         → (b : Bool) → (visit.actor == sub) ≡ b → own sub (take t history ++ visit ∷ []) ≡ take (length (own sub (take t history ++ visit ∷ []))) (script_visits plan scripts sub)
     step t visit h so_far true e =
@@ -181,10 +183,10 @@ played-own plan scripts history sub below played =
 pub played-legal : (plan : PlanData) (scripts : Scripts) (history : History) (sub : ℕ) → AreValid plan scripts → sub < length scripts.homes → IsPlayed plan scripts history → IsLegal plan scripts.homes sub history
 played-legal plan scripts history sub valid below played =
     record {
-    itinerary = moves_of scripts sub;
-    sound = valid.moves sub below;
-    made = length (own sub history);
-    writes = played-puts plan scripts history sub below played ∙ played-own plan scripts history sub below played
+      itinerary = moves_of scripts sub;
+      sound = valid.moves sub below;
+      made = length (own sub history);
+      writes = played-puts plan scripts history sub below played ∙ played-own plan scripts history sub below played;
     }
 
 -- each own visit of a caller reads one word
@@ -199,7 +201,7 @@ unfolding words_after
 played-words plan scripts history actor high played =
     by_fronts (λ front. length (words_read plan scripts.homes actor front) ≡ length (own actor front)) history refl
     (λ t visit h same. step t visit h same (visit.actor == actor) refl)
-    where
+  where
     step : (t : ℕ) (visit : Visit) → slice_get history t ≡ Some visit → length (words_read plan scripts.homes actor (take t history)) ≡ length (own actor (take t history))
         → (b : Bool) → (visit.actor == actor) ≡ b → length (words_read plan scripts.homes actor (take t history ++ visit ∷ [])) ≡ length (own actor (take t history ++ visit ∷ []))
     step t visit h same true e =
@@ -215,11 +217,13 @@ played-words plan scripts history actor high played =
 pub next-few : (plan : PlanData) (scripts : Scripts) (history : History) (actor : ℕ) (visit : Visit) → IsPlayed plan scripts history → next plan scripts history actor ≡ Some visit → length (own actor history) < most_turns plan scripts actor
 next-few plan scripts history actor visit played h =
     elim (cases actor (length scripts.homes)) as (λ _. length (own actor history) < most_turns plan scripts actor) [
-    inl low ↦ rw (lt-ltb actor (length scripts.homes) low) (slice_get_within (script_visits plan scripts actor) (length (own actor history)) visit (sym (next-sub plan scripts history actor low) ∙ h))
-    | inr high ↦ rw (le-ltb actor (length scripts.homes) high) (wanting (next_look plan (finds_of scripts actor) (words_read plan scripts.homes actor history)) refl (sym (next-caller plan scripts history actor high) ∙ h) high) ]
-    where
+      | inl low ↦ rw (lt-ltb actor (length scripts.homes) low) (slice_get_within (script_visits plan scripts actor) (length (own actor history)) visit (sym (next-sub plan scripts history actor low) ∙ h))
+      | inr high ↦ rw (le-ltb actor (length scripts.homes) high) (wanting (next_look plan (finds_of scripts actor) (words_read plan scripts.homes actor history)) refl (sym (next-caller plan scripts history actor high) ∙ h) high)
+    ]
+  where
     cases : (a b : ℕ) → (a < b) ⊎ (b ≤ a)
     cases a b = grind (arith, nat_tests)
+
     wanting : (wanted : Option Key) → next_look plan (finds_of scripts actor) (words_read plan scripts.homes actor history) ≡ wanted → option_map (λ (key : Key). record { actor = actor; act = Look key }) wanted ≡ Some visit
         → length scripts.homes ≤ actor → length (own actor history) < sum_by (λ (call : FindCall). most_looks plan call.from) (finds_of scripts actor)
     wanting None e g high = cc
@@ -234,10 +238,10 @@ next-kept plan scripts history actor visit e =
 -- an actor that is done stays done
 pub done-kept : (plan : PlanData) (scripts : Scripts) (actor : ℕ) (order : List ℕ) (history : History) → IsDone plan scripts history actor → IsDone plan scripts (play plan scripts history order) actor
 done-kept plan scripts actor order history done = kept_by_play plan scripts (λ h. IsDone plan scripts h actor) more order history done
-    where
+  where
     more : (h : History) (other : ℕ) (visit : Visit) → next plan scripts h other ≡ Some visit → IsDone plan scripts h actor → IsDone plan scripts (h ++ visit ∷ []) actor
     more h other visit e now = next-kept plan scripts h actor visit (ne_eqb visit.actor actor (λ same. clash same)) ∙ now
-        where
+      where
         clash : visit.actor ≡ actor → ⊥
         clash same = let its : other ≡ actor = sym (next-actor plan scripts h other visit e) ∙ same in let both : Some visit ≡ None = sym e ∙ (ap (λ a. next plan scripts h a) its ∙ now) in cc
 
@@ -246,7 +250,7 @@ counted : (plan : PlanData) (scripts : Scripts) (actor k : ℕ) (history : Histo
     → IsDone plan scripts (play plan scripts history (replicate k actor)) actor ⊎ (k + length (own actor history) ≤ length (own actor (play plan scripts history (replicate k actor))))
 counted plan scripts actor zero history = inr (omega arith)
 counted plan scripts actor (suc k) history = at_next (next plan scripts history actor) refl (counted plan scripts actor k)
-    where
+  where
     at_next : (n : Option Visit) → next plan scripts history actor ≡ n
         → ((h : History) → IsDone plan scripts (play plan scripts h (replicate k actor)) actor ⊎ (k + length (own actor h) ≤ length (own actor (play plan scripts h (replicate k actor)))))
         → IsDone plan scripts (play plan scripts (after_turn_of plan scripts history actor) (replicate k actor)) actor
@@ -254,33 +258,35 @@ counted plan scripts actor (suc k) history = at_next (next plan scripts history 
     at_next None e more = inl (done-kept plan scripts actor (replicate k actor) _ (subst (λ h. IsDone plan scripts h actor) (sym (turn-none plan scripts history actor e)) e))
     at_next (Some visit) e more =
         let one_more : length (own actor (history ++ visit ∷ [])) ≡ length (own actor history) + 1 =
-            ap length (own-push actor history visit ∙ ap (λ b. own actor history ++ cond b (visit ∷ []) []) (eq-eqb visit.actor actor (next-actor plan scripts history actor visit e))) ∙ length_push (own actor history) visit in
+        ap length (own-push actor history visit ∙ ap (λ b. own actor history ++ cond b (visit ∷ []) []) (eq-eqb visit.actor actor (next-actor plan scripts history actor visit e))) ∙ length_push (own actor history) visit in
         rw (turn-some plan scripts history actor visit e)
         (elim (more (history ++ visit ∷ [])) as (λ _. IsDone plan scripts (play plan scripts (history ++ visit ∷ []) (replicate k actor)) actor
-            ⊎ (suc k + length (own actor history) ≤ length (own actor (play plan scripts (history ++ visit ∷ []) (replicate k actor))))) [
-        inl done ↦ inl done
-        | inr many ↦ inr (omega arith) ])
+        ⊎ (suc k + length (own actor history) ≤ length (own actor (play plan scripts (history ++ visit ∷ []) (replicate k actor))))) [
+          | inl done ↦ inl done
+          | inr many ↦ inr (omega arith)
+        ])
 
 played-kept : (plan : PlanData) (scripts : Scripts) (order : List ℕ) (history : History) → IsPlayed plan scripts history → IsPlayed plan scripts (play plan scripts history order)
 played-kept plan scripts order history played = kept_by_play plan scripts (IsPlayed plan scripts) (played-push plan scripts) order history played
 
 done-after : (plan : PlanData) (scripts : Scripts) (actor : ℕ) (history : History) → IsPlayed plan scripts history → IsDone plan scripts (play plan scripts history (replicate (most_turns plan scripts actor) actor)) actor
 done-after plan scripts actor history played = at_next (next plan scripts (play plan scripts history (replicate (most_turns plan scripts actor) actor)) actor) refl
-    where
+  where
     at_next : (n : Option Visit) → next plan scripts (play plan scripts history (replicate (most_turns plan scripts actor) actor)) actor ≡ n → IsDone plan scripts (play plan scripts history (replicate (most_turns plan scripts actor) actor)) actor
     at_next None e = e
     at_next (Some visit) e =
         let few : length (own actor (play plan scripts history (replicate (most_turns plan scripts actor) actor))) < most_turns plan scripts actor =
-            next-few plan scripts _ actor visit (played-kept plan scripts (replicate (most_turns plan scripts actor) actor) history played) e in
+        next-few plan scripts _ actor visit (played-kept plan scripts (replicate (most_turns plan scripts actor) actor) history played) e in
         elim (counted plan scripts actor (most_turns plan scripts actor) history) as (λ _. IsDone plan scripts (play plan scripts history (replicate (most_turns plan scripts actor) actor)) actor) [
-        inl done ↦ done
-        | inr many ↦ absurd (omega arith) ]
+          | inl done ↦ done
+          | inr many ↦ absurd (omega arith)
+        ]
 
 -- a number of a range
 in_numbers : (x v k : ℕ) → v ≤ x → x < v + k → has x (numbers_from v k) ≡ true
 in_numbers x v zero low high = absurd (omega arith)
 in_numbers x v (suc k) low high = at_test (x == v) refl (in_numbers x (suc v) k)
-    where
+  where
     at_test : (b : Bool) → (x == v) ≡ b → (suc v ≤ x → x < suc v + k → has x (numbers_from (suc v) k) ≡ true) → (b || has x (numbers_from (suc v) k)) ≡ true
     at_test true e later = refl
     at_test false e later = later (grind (arith, nat_tests)) (omega arith)
@@ -295,7 +301,7 @@ done-each plan scripts actor [] history inside played = cc
 done-each plan scripts actor (first ∷ others) history inside played =
     rw (play-append plan scripts history (replicate (most_turns plan scripts first) first) (flat_map (λ a. replicate (most_turns plan scripts a) a) others))
     (at_test (actor == first) refl inside (done-each plan scripts actor others))
-    where
+  where
     at_test : (b : Bool) → (actor == first) ≡ b → (b || has actor others) ≡ true
         → ((h : History) → has actor others ≡ true → IsPlayed plan scripts h → IsDone plan scripts (play plan scripts h (flat_map (λ a. replicate (most_turns plan scripts a) a) others)) actor)
         → IsDone plan scripts (play plan scripts (play plan scripts history (replicate (most_turns plan scripts first) first)) (flat_map (λ a. replicate (most_turns plan scripts a) a) others)) actor
@@ -317,10 +323,11 @@ stranger-done plan scripts history actor high =
 pub all-done : (plan : PlanData) (scripts : Scripts) (order : List ℕ) (actor : ℕ) → IsDone plan scripts (history_of plan scripts order) actor
 all-done plan scripts order actor =
     elim (cases actor (actors_of scripts)) as (λ _. IsDone plan scripts (history_of plan scripts order) actor) [
-    inl low ↦ rw (play-append plan scripts [] order (last_turns plan scripts))
-      (done-each plan scripts actor (numbers_from 0 (actors_of scripts)) (play plan scripts [] order) (in_numbers actor 0 (actors_of scripts) (omega arith) (omega arith)) (played-of_play plan scripts order))
-    | inr high ↦ stranger-done plan scripts (history_of plan scripts order) actor high ]
-    where
+      | inl low ↦ rw (play-append plan scripts [] order (last_turns plan scripts))
+          (done-each plan scripts actor (numbers_from 0 (actors_of scripts)) (play plan scripts [] order) (in_numbers actor 0 (actors_of scripts) (omega arith) (omega arith)) (played-of_play plan scripts order))
+      | inr high ↦ stranger-done plan scripts (history_of plan scripts order) actor high
+    ]
+  where
     cases : (a b : ℕ) → (a < b) ⊎ (b ≤ a)
     cases a b = grind (arith, nat_tests)
 

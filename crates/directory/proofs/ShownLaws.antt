@@ -1,25 +1,22 @@
 -- What a legal history shows: the marks that are read back are those of the writes, and so the itinerary is shown.
-use Rattle.std.proofs.Common.{◌≡◌, ℕ, zero, suc, ◌+◌, ◌-◌, ◌<◌, ◌≤◌, ◌^◌, min, Bool, true, false, cond, ◌==◌, List, [], ◌∷◌, ◌++◌, Option, Some, None, length, map, take, drop, filter, refl, sym, ap, ◌∙◌, subst, arith, append_assoc, length-append}
-use Rattle.std.specs.Prelude.{if◌then◌else◌, filter_map, get_or}
+use Rattle.std.proofs.Common.{◌≡◌, ℕ, zero, suc, ◌+◌, ◌<◌, ◌≤◌, ◌^◌, Bool, true, false, cond, ◌==◌, List, [], ◌∷◌, ◌++◌, Some, None, length, map, take, drop, refl, sym, ap, ◌∙◌, subst, arith}
+use Rattle.std.specs.Prelude.{filter_map, get_or}
 use Rattle.std.specs.List.{cons_option}
 use Rattle.std.proofs.lemmas.Bool.{eq-eqb}
-use Rattle.std.proofs.lemmas.List.{take-map, take-append-drop, length-take-le, drop_more, get_or-drop}
-use Rattle.std.proofs.lemmas.List.Elements.{filter_map-append}
+use Rattle.std.proofs.lemmas.List.{take-map, take-append-drop, length-take-le, drop_more}
 use Rattle.entry_word.specs.Marks.{mark_word, mark_of, IsSmallMark}
 use Rattle.entry_word.specs.declared.mark.PresenceMark.{PresenceMark}
-use Rattle.entry_word.specs.declared.mark.PresenceMark.TheVariants.{Empty, Here, Gone, Coming}
-use Rattle.entry_word.specs.declared.visit.Key.{Key}
+use Rattle.entry_word.specs.declared.mark.PresenceMark.TheVariants.{Empty}
 use Rattle.entry_word.specs.declared.visit.Key.TheVariants.{Presence, Entry}
 use Rattle.entry_word.specs.declared.visit.Act.{Act}
 use Rattle.entry_word.specs.declared.visit.Act.TheVariants.{Look, Put, Census}
-use Rattle.entry_word.specs.declared.visit.Visit.{Visit}
 use Rattle.directory.specs.Plan.{PlanData, nodes_of}
 use Rattle.directory.specs.Keys.{home_node}
 use Rattle.directory.specs.Histories.{History, puts_for, puts_to}
-use Rattle.directory.specs.Writes.{Course, Write, mark_at, entry_at, visit_of, numbers_from, each_from, coming, addressing, commit, confirm, erasing, old_cluster, purging, trail, levels_renewed, writes, joined}
+use Rattle.directory.specs.Writes.{Course, Write, mark_at, entry_at, visit_of, numbers_from, each_from, addressing, erasing, old_cluster, purging, levels_renewed, writes, joined}
 use Rattle.directory.specs.Courses.{stop_of, course, visits_of}
 use Rattle.directory.specs.Legal.{IsItinerary, IsLegal, IsShown, coming_to, itinerary_of}
-use Rattle.directory.specs.Standing.{Marking, marking_of, marking_by, marking_in, markings}
+use Rattle.directory.specs.Standing.{Marking, marking_by, marking_in, markings}
 use Rattle.directory.proofs.CourseLaws.{joined-same, course-agrees}
 use Rattle.directory.proofs.LegalLaws.{coming_in, AreBegun, begun}
 
@@ -54,17 +51,26 @@ small-each_from first (suc count) written f = small-append (written first) (each
 
 small-writes : (one : Course) (q : ℕ) → suc q < 2 ^ 32 → one.stop q < 2 ^ 16 → one.stop (suc q) < 2 ^ 16 → AreSmall (writes one q)
 unfolding AreSmall writes
-small-writes one q few from to =
-    ((few, from), small-append (each_from 0 (levels_renewed one q) (addressing one q)) _ (small-each_from 0 (levels_renewed one q) (addressing one q) (λ level. (tt, tt)))
-    ((few, to), (few, small-append (each_from 0 (levels_renewed one q) (erasing one q)) _ (small-each_from 0 (levels_renewed one q) (erasing one q) (λ level. small-erasing (old_cluster one q level == one.cluster level (one.stop (suc q))) level))
-    (small-purge (one.renewed (suc q) == one.top)))))
-    where
+small-writes one q few from to = (
+  (few, from),
+  small-append (each_from 0 (levels_renewed one q) (addressing one q)) _ (small-each_from 0 (levels_renewed one q) (addressing one q) (λ level. (tt, tt))) (
+    (few, to),
+    (
+      few,
+      small-append (each_from 0 (levels_renewed one q) (erasing one q)) _ (small-each_from 0 (levels_renewed one q) (erasing one q) (λ level. small-erasing (old_cluster one q level == one.cluster level (one.stop (suc q))) level))
+          (small-purge (one.renewed (suc q) == one.top)),
+    ),
+  ),
+)
+  where
     small-erasing : (b : Bool) (level : ℕ) → AreSmall (cond b [] (entry_at level (old_cluster one q level) None ∷ []))
     small-erasing true level = tt
     small-erasing false level = (tt, tt)
+
     small-purging : (b : Bool) (node : ℕ) → AreSmall (cond b (mark_at node Empty ∷ []) [])
     small-purging true node = (tt, tt)
     small-purging false node = tt
+
     small-purge : (b : Bool) → AreSmall (cond b (each_from 0 one.nodes (purging one q)) [])
     small-purge true = small-each_from 0 one.nodes (purging one q) (λ node. small-purging _ node)
     small-purge false = tt
@@ -79,7 +85,7 @@ small-joined one q (suc n) few stops =
 -- the writes of an itinerary fit into their words
 itinerary-small : (plan : PlanData) (start : ℕ) (itinerary : List ℕ) → nodes_of plan ≤ 2 ^ 16 → IsItinerary plan start itinerary → AreSmall (joined (course plan start itinerary) 0 (length itinerary))
 itinerary-small plan start itinerary few sound = small-joined (course plan start itinerary) 0 (length itinerary) (omega (arith, sound.few)) stops
-    where
+  where
     stops : (p : ℕ) → p ≤ 0 + length itinerary → stop_of start itinerary p < 2 ^ 16
     stops zero h = omega (arith, sound.begins)
     stops (suc p) h = omega (arith, sound.inside p (omega arith))
@@ -105,7 +111,7 @@ other-silent sub (Census node) h = refl
 pub markings-puts : (sub : ℕ) (history : History) → markings sub history ≡ markings sub (puts_to sub history)
 markings-puts sub [] = refl
 markings-puts sub (visit ∷ later) = at_test (puts_for sub visit.act) refl (markings-puts sub later)
-    where
+  where
     at_test : (b : Bool) → puts_for sub visit.act ≡ b → markings sub later ≡ markings sub (puts_to sub later)
         → cons_option (marking_by sub visit.act) (markings sub later) ≡ markings sub (cond b (visit ∷ puts_to sub later) (puts_to sub later))
     at_test true e same = ap (λ xs. cons_option (marking_by sub visit.act) xs) same
@@ -118,7 +124,7 @@ marks_of_legal unpacks plan homes sub history few legal =
     markings-puts sub history
     ∙ (ap (markings sub) (legal.writes ∙ take-map (visit_of sub) legal.made (joined (course plan (home_node homes sub) legal.itinerary) 0 (length legal.itinerary)))
     ∙ markings-writes unpacks sub (take legal.made (joined (course plan (home_node homes sub) legal.itinerary) 0 (length legal.itinerary)))
-        (small-take legal.made _ (itinerary-small plan (home_node homes sub) legal.itinerary few legal.sound)))
+    (small-take legal.made _ (itinerary-small plan (home_node homes sub) legal.itinerary few legal.sound)))
 
 -- which of them say that the subscriber is coming
 coming-writes : (ws : List Write) → filter_map (λ (marking : Marking). coming_to marking.node marking.mark) (filter_map marking_in ws) ≡ filter_map coming_in ws
@@ -146,22 +152,22 @@ own_length xs ys k e = subst (λ (zs : History). zs ≡ take (length zs) ys) (sy
 -- the itinerary that a legal history shows is a front of its itinerary, and all that it has put are writes of that
 pub shown_of_legal : Unpacks → (plan : PlanData) (homes : List ℕ) (sub : ℕ) (history : History) → nodes_of plan ≤ 2 ^ 16 → (legal : IsLegal plan homes sub history) → IsShown plan homes sub history legal.itinerary
 shown_of_legal unpacks plan homes sub history few legal = at_begun (begun (course plan (home_node homes sub) legal.itinerary) 0 (length legal.itinerary) legal.made)
-    where
+  where
     at_begun : AreBegun (course plan (home_node homes sub) legal.itinerary) 0 (length legal.itinerary) legal.made → IsShown plan homes sub history legal.itinerary
     at_begun first =
         let shown : itinerary_of sub history ≡ take first.count legal.itinerary =
-            ap (λ ms. filter_map (λ (marking : Marking). coming_to marking.node marking.mark) ms) (marks_of_legal unpacks plan homes sub history few legal)
-            ∙ (coming-writes (take legal.made (joined (course plan (home_node homes sub) legal.itinerary) 0 (length legal.itinerary)))
-            ∙ (first.shown ∙ stops-take (home_node homes sub ∷ legal.itinerary) 1 first.count (home_node homes sub) (omega (arith, first.few)))) in
+        ap (λ ms. filter_map (λ (marking : Marking). coming_to marking.node marking.mark) ms) (marks_of_legal unpacks plan homes sub history few legal)
+        ∙ (coming-writes (take legal.made (joined (course plan (home_node homes sub) legal.itinerary) 0 (length legal.itinerary)))
+        ∙ (first.shown ∙ stops-take (home_node homes sub ∷ legal.itinerary) 1 first.count (home_node homes sub) (omega (arith, first.few)))) in
         let count_is : length (take first.count legal.itinerary) ≡ first.count = length-take-le first.count legal.itinerary first.few in
         let same : joined (course plan (home_node homes sub) legal.itinerary) 0 first.count ≡ joined (course plan (home_node homes sub) (take first.count legal.itinerary)) 0 first.count =
-            subst (λ xs. joined (course plan (home_node homes sub) xs) 0 first.count ≡ joined (course plan (home_node homes sub) (take first.count legal.itinerary)) 0 first.count) (take-append-drop first.count legal.itinerary)
-            (joined-same _ _ (length (take first.count legal.itinerary)) 0 first.count (course-agrees plan (home_node homes sub) (take first.count legal.itinerary) (drop first.count legal.itinerary)) (omega arith)) in
+        subst (λ xs. joined (course plan (home_node homes sub) xs) 0 first.count ≡ joined (course plan (home_node homes sub) (take first.count legal.itinerary)) 0 first.count) (take-append-drop first.count legal.itinerary)
+        (joined-same _ _ (length (take first.count legal.itinerary)) 0 first.count (course-agrees plan (home_node homes sub) (take first.count legal.itinerary) (drop first.count legal.itinerary)) (omega arith)) in
         let puts : puts_to sub history ≡ take legal.made (visits_of plan sub (home_node homes sub) (take first.count legal.itinerary)) =
-            legal.writes ∙ (take-map (visit_of sub) legal.made _ ∙ (ap (map (visit_of sub)) (first.enough
-            ∙ (ap (λ ws. take legal.made ws) same ∙ ap (λ n. take legal.made (joined (course plan (home_node homes sub) (take first.count legal.itinerary)) 0 n)) (sym count_is)))
-            ∙ sym (take-map (visit_of sub) legal.made _))) in
+        legal.writes ∙ (take-map (visit_of sub) legal.made _ ∙ (ap (map (visit_of sub)) (first.enough
+        ∙ (ap (λ ws. take legal.made ws) same ∙ ap (λ n. take legal.made (joined (course plan (home_node homes sub) (take first.count legal.itinerary)) 0 n)) (sym count_is)))
+        ∙ sym (take-map (visit_of sub) legal.made _))) in
         record {
-        front = subst (λ (xs : List ℕ). xs ≡ take (length xs) legal.itinerary) (sym shown) (ap (λ n. take n legal.itinerary) (sym count_is));
-        writes = subst (λ (xs : List ℕ). puts_to sub history ≡ take (length (puts_to sub history)) (visits_of plan sub (home_node homes sub) xs)) (sym shown) (own_length (puts_to sub history) (visits_of plan sub (home_node homes sub) (take first.count legal.itinerary)) legal.made puts)
+          front = subst (λ (xs : List ℕ). xs ≡ take (length xs) legal.itinerary) (sym shown) (ap (λ n. take n legal.itinerary) (sym count_is));
+          writes = subst (λ (xs : List ℕ). puts_to sub history ≡ take (length (puts_to sub history)) (visits_of plan sub (home_node homes sub) xs)) (sym shown) (own_length (puts_to sub history) (visits_of plan sub (home_node homes sub) (take first.count legal.itinerary)) legal.made puts);
         }

@@ -1,7 +1,7 @@
 -- The course of a subscriber over a plan. For each level it gathers the weight of the moves since its last renewal; a
 -- move renews all levels up to the highest one whose gathered weight, this move's with it, reaches the level's threshold.
 -- Key laws: `base_of_course` (the last renewals that decide on a move are the bases of the course).
-use Rattle.std.specs.Prelude.{ℕ, zero, suc, ◌+◌, ◌-◌, Bool, cond, nat_le, if◌then◌else◌, List, ◌∷◌, map, length, slice_index_or}
+use Rattle.std.specs.Prelude.{ℕ, zero, suc, ◌+◌, ◌-◌, Bool, nat_le, if◌then◌else◌, List, ◌∷◌, map, length, slice_index_or}
 use Rattle.entry_word.specs.declared.visit.Visit.{Visit}
 use Rattle.directory.specs.Plan.{PlanData, nodes_of, levels_of, top_of, distance, home, threshold}
 use Rattle.directory.specs.Writes.{Course, joined, visit_of}

@@ -1,7 +1,7 @@
 -- A history is the list of all visits, the oldest first; the ticket of a visit is its place in the list, from 0. A cell
 -- holds what was put into it last, or its opening word.
 -- Key laws: `cell_after` (a put changes its cell and no other), `own_after` (an actor's own visits, visit by visit).
-use Rattle.std.specs.Prelude.{ℕ, zero, suc, ◌+◌, ◌==◌, Bool, false, cond, if◌then◌else◌, List, [], ◌∷◌, ◌++◌, fold, filter, take}
+use Rattle.std.specs.Prelude.{ℕ, suc, ◌==◌, Bool, false, cond, if◌then◌else◌, List, [], ◌∷◌, ◌++◌, fold, filter, take}
 use Rattle.entry_word.specs.declared.visit.Key.{Key}
 use Rattle.entry_word.specs.declared.visit.Act.{Act}
 use Rattle.entry_word.specs.declared.visit.Act.TheVariants.{Look, Put, Census}

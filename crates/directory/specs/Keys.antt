@@ -2,7 +2,7 @@
 -- the leader of each cluster of each level. At the opening a subscriber is at its home node with number 0: its presence
 -- there says so, and at each level the entry of that node's home has its address; all other cells are empty.
 -- Key laws: `same_key_means` (two keys are the same just where the test says so).
-use Rattle.std.specs.Prelude.{ℕ, Bool, false, ◌==◌, ◌&&◌, if◌then◌else◌, List, Option, Some, None, slice_index}
+use Rattle.std.specs.Prelude.{ℕ, Bool, false, ◌==◌, ◌&&◌, if◌then◌else◌, List, Some, None, slice_index}
 use Rattle.entry_word.specs.Marks.{mark_word}
 use Rattle.entry_word.specs.Addresses.{address_word}
 use Rattle.entry_word.specs.declared.mark.PresenceMark.TheVariants.{Empty, Here}

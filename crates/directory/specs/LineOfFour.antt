@@ -20,17 +20,23 @@ last_two = record { leader = 3; phase = 1; members = 2 ∷ 3 ∷ []; weights = 1
 abbrev pub lowest_level : Level
 lowest_level =
     record {
-    exponent = 0; threshold = 1; phases = 2; clusters = whole_line ∷ last_two ∷ [];
-    homes = 0 ∷ 0 ∷ 0 ∷ 1 ∷ [];
-    readers = (0 ∷ []) ∷ (0 ∷ []) ∷ (0 ∷ 1 ∷ []) ∷ (0 ∷ 1 ∷ []) ∷ []
+      exponent = 0;
+      threshold = 1;
+      phases = 2;
+      clusters = whole_line ∷ last_two ∷ [];
+      homes = 0 ∷ 0 ∷ 0 ∷ 1 ∷ [];
+      readers = (0 ∷ []) ∷ (0 ∷ []) ∷ (0 ∷ 1 ∷ []) ∷ (0 ∷ 1 ∷ []) ∷ [];
     }
 
 abbrev pub whole_level : ℕ → ℕ → Level
 whole_level exponent threshold =
     record {
-    exponent = exponent; threshold = threshold; phases = 1; clusters = whole_line ∷ [];
-    homes = 0 ∷ 0 ∷ 0 ∷ 0 ∷ [];
-    readers = (0 ∷ []) ∷ (0 ∷ []) ∷ (0 ∷ []) ∷ (0 ∷ []) ∷ []
+      exponent = exponent;
+      threshold = threshold;
+      phases = 1;
+      clusters = whole_line ∷ [];
+      homes = 0 ∷ 0 ∷ 0 ∷ 0 ∷ [];
+      readers = (0 ∷ []) ∷ (0 ∷ []) ∷ (0 ∷ []) ∷ (0 ∷ []) ∷ [];
     }
 
 -- its plan
@@ -52,10 +58,12 @@ pair_distances = record { nodes = 2; cells = 0 ∷ 1 ∷ 1 ∷ 0 ∷ [] }
 abbrev pub pair_level : Level
 pair_level =
     record {
-    exponent = 0; threshold = 1; phases = 2;
-    clusters = record { leader = 0; phase = 0; members = 0 ∷ 1 ∷ []; weights = 0 ∷ 1 ∷ []; depth = 1 } ∷ record { leader = 1; phase = 1; members = 0 ∷ 1 ∷ []; weights = 1 ∷ 0 ∷ []; depth = 1 } ∷ [];
-    homes = 0 ∷ 1 ∷ [];
-    readers = (0 ∷ 1 ∷ []) ∷ (0 ∷ 1 ∷ []) ∷ []
+      exponent = 0;
+      threshold = 1;
+      phases = 2;
+      clusters = record { leader = 0; phase = 0; members = 0 ∷ 1 ∷ []; weights = 0 ∷ 1 ∷ []; depth = 1 } ∷ record { leader = 1; phase = 1; members = 0 ∷ 1 ∷ []; weights = 1 ∷ 0 ∷ []; depth = 1 } ∷ [];
+      homes = 0 ∷ 1 ∷ [];
+      readers = (0 ∷ 1 ∷ []) ∷ (0 ∷ 1 ∷ []) ∷ [];
     }
 
 abbrev pub pair : PlanData

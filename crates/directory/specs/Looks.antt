@@ -2,13 +2,12 @@
 -- words before, and reads the word that the cell holds at that ticket. A find is quiet where nothing is put into a cell
 -- of its subscriber between its first look and its last.
 -- Key laws: `looks_tell_words` (the tickets of the looks determine the words).
-use Rattle.std.specs.Prelude.{◌≡◌, ℕ, suc, ◌≤◌, ◌<◌, List, [], ◌∷◌, ◌++◌, take, drop, length, slice_get, Option, Some, None}
+use Rattle.std.specs.Prelude.{◌≡◌, ℕ, suc, ◌≤◌, List, [], ◌∷◌, ◌++◌, drop, slice_get, Option, Some, None}
 use Rattle.entry_word.specs.declared.visit.Key.{Key}
 use Rattle.entry_word.specs.declared.visit.Act.TheVariants.{Look}
-use Rattle.entry_word.specs.declared.visit.Visit.{Visit}
 use Rattle.directory.specs.Plan.{PlanData}
 use Rattle.directory.specs.Histories.{History, before, through, puts_to, cell}
-use Rattle.directory.specs.Finds.{Next, wants, find, look_of}
+use Rattle.directory.specs.Finds.{wants, find, look_of}
 
 -- the word that the next look reads at this ticket
 abbrev pub word_at : PlanData → List ℕ → History → ℕ → Option Key → List ℕ

@@ -1,7 +1,7 @@
 -- A matched plan: at each level the home of a node is read by every node within the level's radius. It is the premise of
 -- the laws on right answers.
 -- Key laws: `matched_plan_is` (the line of four has a matched plan).
-use Rattle.std.specs.Prelude.{◌≡◌, ℕ, ◌-◌, ◌*◌, ◌^◌, ◌<◌, ◌≤◌, true, length, List}
+use Rattle.std.specs.Prelude.{◌≡◌, ℕ, ◌^◌, ◌<◌, ◌≤◌, true, length, List}
 use Rattle.node_set.specs.Ascending.{has, passing}
 use Rattle.distances.specs.Table.{IsMetric}
 use Rattle.directory.specs.Plan.{PlanCluster, PlanData, nodes_of, levels_of, top_of, distance, level_at, cluster_in, clusters_of, members_of, home, readers, leader, inside, threshold}

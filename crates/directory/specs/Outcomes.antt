@@ -2,8 +2,7 @@
 -- its first visit, its commit and its last visit; for each find its answer, with the tickets of its first look and its
 -- last; and whose visit each ticket was.
 -- Key laws: the worked examples over the line of four nodes, computed.
-use Rattle.std.specs.Prelude.{ℕ, zero, suc, ◌+◌, ◌-◌, List, [], ◌∷◌, ◌++◌, map, length, drop, Option, flat_map, slice_index}
-use Rattle.entry_word.specs.declared.visit.Visit.{Visit}
+use Rattle.std.specs.Prelude.{ℕ, suc, ◌+◌, ◌-◌, List, [], ◌∷◌, ◌++◌, map, length, drop, Option, flat_map, slice_index}
 use Rattle.directory.specs.Plan.{PlanData, distance}
 use Rattle.directory.specs.Keys.{home_node}
 use Rattle.directory.specs.Histories.{History, tickets, words_read}
@@ -65,10 +64,10 @@ pub record Outcome : Type 0 where
 abbrev pub outcome_in : PlanData → Scripts → History → Outcome
 outcome_in plan scripts history =
     record {
-    calls = flat_map (done_moves plan scripts history) (numbers_from 0 (length scripts.homes))
-    ++ flat_map (λ caller. done_finds plan caller (finds_of scripts caller) (tickets caller history) (words_read plan scripts.homes caller history))
-    (numbers_from (length scripts.homes) (length scripts.finds));
-    order = map (λ visit. visit.actor) history
+      calls = flat_map (done_moves plan scripts history) (numbers_from 0 (length scripts.homes))
+          ++ flat_map (λ caller. done_finds plan caller (finds_of scripts caller) (tickets caller history) (words_read plan scripts.homes caller history))
+          (numbers_from (length scripts.homes) (length scripts.finds));
+      order = map (λ visit. visit.actor) history;
     }
 
 -- what becomes of the calls under an order

@@ -2,7 +2,7 @@
 -- which ones a node reads; for each cluster who leads it, who its members are, and the least weight of a walk inside it
 -- from its leader to each of them. The functions below read the data; outside of its nodes, levels and clusters they
 -- are 0 or empty, so that every fact about a plan names its bounds.
-use Rattle.std.specs.Prelude.{ℕ, ◌+◌, ◌*◌, ◌-◌, List, [], length, slice_index, slice_index_or}
+use Rattle.std.specs.Prelude.{ℕ, ◌-◌, List, [], length, slice_index, slice_index_or}
 use Rattle.distances.specs.Table.{DistanceTable, dist}
 use Rattle.cluster_tree.specs.Tree.{weight_beside}
 

@@ -4,7 +4,7 @@
 -- the new node that it is here; it erases the old addresses at those levels, and, where it renews the top level, it
 -- purges the trail of nodes that the subscriber passed since its last renewal of the top level.
 -- Key laws: `front_of_course` (the writes of a move depend on the moves so far alone).
-use Rattle.std.specs.Prelude.{ℕ, zero, suc, ◌+◌, ◌-◌, Bool, true, not, cond, ◌==◌, ◌&&◌, nat_le, if◌then◌else◌, List, [], ◌∷◌, ◌++◌, map, Option, Some, None}
+use Rattle.std.specs.Prelude.{ℕ, zero, suc, ◌-◌, true, not, ◌==◌, ◌&&◌, nat_le, if◌then◌else◌, List, [], ◌∷◌, ◌++◌, map, Option, Some, None}
 use Rattle.node_set.specs.Ascending.{has, passing}
 use Rattle.entry_word.specs.Marks.{mark_word}
 use Rattle.entry_word.specs.Addresses.{address_word}
