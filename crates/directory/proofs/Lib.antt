@@ -8,3 +8,4 @@ pub mod LookLaws
 pub mod ShownLaws
 pub mod LineLaws
 pub mod OrderLaws
+pub mod MadeLaws

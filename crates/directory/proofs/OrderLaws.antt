@@ -25,7 +25,7 @@ next-sub : (plan : PlanData) (scripts : Scripts) (history : History) (actor : �
     → next plan scripts history actor ≡ slice_get (script_visits plan scripts actor) (length (own actor history))
 next-sub plan scripts history actor low = rw (lt-ltb actor (length scripts.homes) low) refl
 
-next-caller : (plan : PlanData) (scripts : Scripts) (history : History) (actor : ℕ) → length scripts.homes ≤ actor
+pub next-caller : (plan : PlanData) (scripts : Scripts) (history : History) (actor : ℕ) → length scripts.homes ≤ actor
     → next plan scripts history actor ≡ option_map (λ (key : Key). record { actor = actor; act = Look key }) (next_look plan (finds_of scripts actor) (words_read plan scripts.homes actor history))
 next-caller plan scripts history actor high = rw (le-ltb actor (length scripts.homes) high) refl
 
@@ -45,7 +45,7 @@ slice_get-of_map sub s (write ∷ writes) zero visit h =
     subst (λ (v : Visit). (v.actor ≡ sub) × (puts_for s v.act ≡ (sub == s))) e (refl, write-puts sub s write)
 slice_get-of_map sub s (write ∷ writes) (suc i) visit h = slice_get-of_map sub s writes i visit h
 
-look-next : (actor : ℕ) (wanted : Option Key) (visit : Visit) → option_map (λ (key : Key). record { actor = actor; act = Look key }) wanted ≡ Some visit → (key : Key) × (visit ≡ record { actor = actor; act = Look key })
+pub look-next : (actor : ℕ) (wanted : Option Key) (visit : Visit) → option_map (λ (key : Key). record { actor = actor; act = Look key }) wanted ≡ Some visit → (key : Key) × (visit ≡ record { actor = actor; act = Look key })
 look-next actor None visit h = cc
 look-next actor (Some key) visit h = (key, cc)
 

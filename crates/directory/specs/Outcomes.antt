@@ -1,7 +1,7 @@
 -- What becomes of the calls of all actors under an order: for each move its number, nodes and weight, with the tickets of
 -- its first visit, its commit and its last visit; for each find its answer, with the tickets of its first look and its
 -- last; and whose visit each ticket was.
--- Key laws: the worked examples over the line of four nodes, computed.
+-- Key laws: `outcome_is_made` (each find of an outcome is a find in its history), and the worked examples over the line of four nodes, computed.
 use Rattle.std.specs.Prelude.{ℕ, suc, ◌+◌, ◌-◌, List, [], ◌∷◌, ◌++◌, map, length, drop, Option, flat_map, slice_index}
 use Rattle.directory.specs.Plan.{PlanData, distance}
 use Rattle.directory.specs.Keys.{home_node}
@@ -9,6 +9,7 @@ use Rattle.directory.specs.Histories.{History, tickets, words_read}
 use Rattle.directory.specs.Writes.{Course, writes, joined, levels_renewed, numbers_from}
 use Rattle.directory.specs.Courses.{course}
 use Rattle.directory.specs.Finds.{Why, Found, at, again, Next, wants, answers, find}
+use Rattle.directory.specs.Looks.{IsFoundBetween}
 use Rattle.directory.specs.Orders.{FindCall, Scripts, moves_of, finds_of, history_of}
 
 -- what became of a call
@@ -73,3 +74,9 @@ outcome_in plan scripts history =
 -- what becomes of the calls under an order
 abbrev pub outcome_of : PlanData → Scripts → List ℕ → Outcome
 outcome_of plan scripts order = outcome_in plan scripts (history_of plan scripts order)
+
+-- what became of a find is told by its looks in the history; of a move nothing is said here
+abbrev pub IsMade : PlanData → List ℕ → History → Done → Type 0
+IsMade plan homes history (moved actor q from to weight first commit last) = Unit {0}
+IsMade plan homes history (found actor from sub node q level weight first last) = IsFoundBetween plan homes history actor sub from (at node q level weight) first last
+IsMade plan homes history (failed actor from sub why weight first last) = IsFoundBetween plan homes history actor sub from (again why weight) first last

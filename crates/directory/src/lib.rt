@@ -8,6 +8,7 @@ mod finds;
 mod histories;
 mod legal;
 mod orders;
+mod outcomes;
 mod plans;
 
 pub use cells::{
@@ -22,4 +23,5 @@ pub use orders::{
     all_scripts_done, each_visit_is_next, every_order_is_legal, idle_turns, next_is_own,
     order_of_history, scripts_in_order,
 };
+pub use outcomes::outcome_is_made;
 pub use plans::matched_plan_is;
