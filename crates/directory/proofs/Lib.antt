@@ -9,3 +9,4 @@ pub mod ShownLaws
 pub mod LineLaws
 pub mod OrderLaws
 pub mod MadeLaws
+pub mod PlaceLaws

@@ -21,7 +21,7 @@ use Rattle.node_set.specs.Ascending.{has}
 use Rattle.std.proofs.lemmas.List.Sums.{fold-append}
 
 -- what the next visit of a subscriber and of a caller is
-next-sub : (plan : PlanData) (scripts : Scripts) (history : History) (actor : ℕ) → actor < length scripts.homes
+pub next-sub : (plan : PlanData) (scripts : Scripts) (history : History) (actor : ℕ) → actor < length scripts.homes
     → next plan scripts history actor ≡ slice_get (script_visits plan scripts actor) (length (own actor history))
 next-sub plan scripts history actor low = rw (lt-ltb actor (length scripts.homes) low) refl
 

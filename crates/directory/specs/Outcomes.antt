@@ -2,11 +2,11 @@
 -- its first visit, its commit and its last visit; for each find its answer, with the tickets of its first look and its
 -- last; and whose visit each ticket was.
 -- Key laws: `outcome_is_made` (each find of an outcome is a find in its history), and the worked examples over the line of four nodes, computed.
-use Rattle.std.specs.Prelude.{ℕ, suc, ◌+◌, ◌-◌, List, [], ◌∷◌, ◌++◌, map, length, drop, Option, flat_map, slice_index}
+use Rattle.std.specs.Prelude.{ℕ, suc, ◌+◌, ◌-◌, List, [], ◌∷◌, ◌++◌, map, length, drop, Option, flat_map, slice_index, ◌≡◌, slice_get, Some, option_map}
 use Rattle.directory.specs.Plan.{PlanData, distance}
 use Rattle.directory.specs.Keys.{home_node}
 use Rattle.directory.specs.Histories.{History, tickets, words_read}
-use Rattle.directory.specs.Writes.{Course, writes, joined, levels_renewed, numbers_from}
+use Rattle.directory.specs.Writes.{Course, coming, commit, visit_of, writes, joined, levels_renewed, numbers_from}
 use Rattle.directory.specs.Courses.{course}
 use Rattle.directory.specs.Finds.{Why, Found, at, again, Next, wants, answers, find}
 use Rattle.directory.specs.Looks.{IsFoundBetween}
@@ -74,6 +74,12 @@ outcome_in plan scripts history =
 -- what becomes of the calls under an order
 abbrev pub outcome_of : PlanData → Scripts → List ℕ → Outcome
 outcome_of plan scripts order = outcome_in plan scripts (history_of plan scripts order)
+
+-- at the three tickets of move q + 1 stand its first write, its commit and its last write
+pub record IsMoveMade (history : History) (sub : ℕ) (course : Course) (q : ℕ) (seen : List ℕ) : Type 0 where
+  pub begins : slice_get history (slice_index seen (first_place course q)) ≡ Some (visit_of sub (coming course q))
+  pub commits : slice_get history (slice_index seen (commit_place course q)) ≡ Some (visit_of sub (commit course q))
+  pub ends : slice_get history (slice_index seen (last_place course q)) ≡ option_map (visit_of sub) (slice_get (writes course q) (length (writes course q) - 1))
 
 -- what became of a find is told by its looks in the history; of a move nothing is said here
 abbrev pub IsMade : PlanData → List ℕ → History → Done → Type 0

@@ -1,5 +1,5 @@
 //! Laws of histories: what one more visit changes.
-ghost use Rattle.std.specs.Prelude.{◌≡◌, ◌==◌, ℕ, List, [], ◌∷◌, ◌++◌, cond, length};
+ghost use Rattle.std.specs.Prelude.{◌≡◌, ◌==◌, ◌<◌, ℕ, List, [], ◌∷◌, ◌++◌, cond, length, slice_get, slice_index};
 ghost use Rattle.entry_word.specs.declared.visit.Key.{Key};
 ghost use Rattle.entry_word.specs.declared.visit.Visit.{Visit};
 ghost use Rattle.directory.specs.Histories.{after_act, cell, History, own, puts_for, puts_to, tickets, word_by, words_read};
@@ -16,4 +16,9 @@ pub fn own_after()
     ensures puts { (sub : ℕ) (history : History) (visit : Visit) → puts_to sub (history ++ visit ∷ []) ≡ puts_to sub history ++ cond (puts_for sub visit.act) (visit ∷ []) [] }
     ensures words { (plan : PlanData) (homes : List ℕ) (actor : ℕ) (history : History) (visit : Visit) → words_read plan homes actor (history ++ visit ∷ []) ≡ words_read plan homes actor history ++ cond (visit.actor == actor) (word_by plan homes history visit.act) [] }
     ensures tickets { (actor : ℕ) (history : History) → length (tickets actor history) ≡ length (own actor history) }
+{}
+
+/// The tickets of an actor's own visits tell these.
+pub fn tickets_tell_visits()
+    ensures { (actor : ℕ) (history : History) (i : ℕ) → i < length (own actor history) → slice_get history (slice_index (tickets actor history) i) ≡ slice_get (own actor history) i }
 {}
