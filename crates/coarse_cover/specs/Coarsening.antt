@@ -1,7 +1,6 @@
 -- Coarsening: balls are merged into clusters, phase by phase, so that few clusters overlap and no cluster grows far.
 -- A ball is the ascending list of its nodes, and is named by its centre, its place in the list of balls.
--- Key laws: `coarsen` says of the clusters that each grew at most k - 1 times, that those of one phase are disjoint, that the number p of phases has p ^ k ≤ k ^ k * n, that each ball lies in its home, and that no node is in more than p clusters.
--- For the layers above: `cluster_shape`, `growth_means`, `union_means`, `least_means`, `home_means`.
+-- Key laws: `growths_few` (each cluster grows at most k - 1 times), `phase_apart` (clusters of one phase are disjoint), `phases_few` (their number p has p ^ k ≤ k ^ k * n), `homes_hold` (each ball lies in its home).
 use Rattle.std.specs.Prelude.{ℕ, zero, suc, ◌*◌, ◌^◌, Bool, true, false, cond, not, List, [], ◌∷◌, ◌++◌, length, get_or, filter, nat_le}
 use Rattle.node_set.specs.Ascending.{has, union, share, passing}
 

@@ -14,7 +14,7 @@ use std::alloc::Global;
 /// Coarsens balls into clusters, with a trade-off `k` of 1 to 8: a larger `k` makes larger clusters that overlap less.
 ///
 /// There are at most 1,024 balls, each a set of as many nodes as there are balls, and the ball at place `v` holds `v`, its centre.
-/// Takes one set of nodes for each cluster, and six lists as long as the balls beside them. A cluster costs at most `2 * k` operations on sets for each ball.
+/// Takes one set of nodes for each cluster, and five lists of the number of balls beside them.
 pub fn coarsen(alloc: Global, balls: &[NodeSet], k: u32) -> Result<Cover, OutOfMemory>
     requires small { length balls.now ≤ 1024 }
     requires rooms { All (λ (b : Nodes). b.room ≡ length balls.now) balls.now }
@@ -33,11 +33,9 @@ pub fn coarsen(alloc: Global, balls: &[NodeSet], k: u32) -> Result<Cover, OutOfM
 {
     let n = balls.len();
     let mut work = Work::new(alloc, n)?;
-    let clusters = Vec::with_capacity(alloc, n)?;
-    let home = vec![in alloc; 0u32; n]?;
     let mut cover = Cover {
-        clusters,
-        home,
+        clusters: Vec::new(alloc),
+        home: vec![in alloc; 0u32; n]?,
         phases: 0,
     };
     'phase: while count(&work.left) > 0 {

@@ -13,10 +13,10 @@ pub phase-init : goal.phase-init
 phase-init c =
     let all : marked c.in_ok-work.work.left.items ≡ centres (length (sets c.args.balls.now)) = c.in_ok-work.ensures.all_left ∙ ap (λ (n : ℕ). centres n) (sym (length-sets c.args.balls.now)) in
     record {
-      between = subst (λ (l : List Cluster). IsBetween (sets c.args.balls.now) c.args.k (marked c.in_ok-work.work.left.items) l c.in_ok-home.home.items 0) (sym c.in_ok-clusters.ensures.items)
-          (between_start (sets c.args.balls.now) c.args.k (marked c.in_ok-work.work.left.items) c.in_ok-home.home.items c.requires.low c.requires.centred all);
+      between = subst (λ (l : List Cluster). IsBetween (sets c.args.balls.now) c.args.k (marked c.in_ok-work.work.left.items) l c.in_ok-vec.field-0.items 0) (sym c.new-2.ensures.items)
+          (between_start (sets c.args.balls.now) c.args.k (marked c.in_ok-work.work.left.items) c.in_ok-vec.field-0.items c.requires.low c.requires.centred all);
       sized = c.in_ok-work.ensures.sized;
-      home_len = sym c.in_ok-home.home.ok.0 ∙ c.in_ok-home.ensures.len;
+      home_len = sym c.in_ok-vec.field-0.ok.0 ∙ c.in_ok-vec.ensures.len;
     }
 
 cover_is : (c : After-drop-work-5) → IsCover (length c.args.balls.now) (coarsening (sets c.args.balls.now) c.args.k) c.phase.cover

@@ -1,0 +1,12 @@
+pub mod Computed
+pub mod HistoryLaws
+pub mod FindLaws
+pub mod CourseLaws
+pub mod LegalLaws
+pub mod CellLaws
+pub mod LookLaws
+pub mod ShownLaws
+pub mod LineLaws
+pub mod OrderLaws
+pub mod MadeLaws
+pub mod PlaceLaws

@@ -1,0 +1,109 @@
+-- The plan of the line of four is matched: each fact is a test at every number below its bounds, and is computed.
+use Rattle.std.proofs.Common.{◌≡◌, ℕ, zero, suc, ◌+◌, ◌*◌, ◌^◌, ◌<◌, ◌≤◌, Bool, true, false, not, ◌==◌, ◌&&◌, ◌||◌, List, [], ◌∷◌, refl, ap, arith, nat_le, nat_lt, inl, inr}
+use Rattle.std.proofs.lemmas.Bool.{agree_below, agree_below_at, leb-true, ltb-true, eqb-true, le-leb, lt-ltb, ne_eqb, or_cases, and_parts}
+use Rattle.node_set.specs.Ascending.{has}
+use Rattle.distances.specs.Table.{IsMetric, dist}
+use Rattle.region_plan.specs.Plan.{distance, level_at, clusters_of, members_of, home, readers, leader, inside}
+use Rattle.region_plan.specs.Matched.{IsMatched}
+use Rattle.region_plan.specs.Regions.{containing}
+use Rattle.directory.specs.LineOfFour.{line, line_distances}
+
+-- a test at every number below one bound, two and three
+all1 : (ℕ → Bool) → ℕ → Bool
+all1 test n = agree_below test (λ _. true) n
+
+at1 : (test : ℕ → Bool) (n : ℕ) → all1 test n ≡ true → (x : ℕ) → x < n → test x ≡ true
+unfolding all1
+at1 test n h x low = agree_below_at test (λ _. true) n x h low
+
+all2 : (ℕ → ℕ → Bool) → ℕ → ℕ → Bool
+all2 test n m = all1 (λ x. all1 (test x) m) n
+
+at2 : (test : ℕ → ℕ → Bool) (n m : ℕ) → all2 test n m ≡ true → (x y : ℕ) → x < n → y < m → test x y ≡ true
+unfolding all2
+at2 test n m h x y low high = at1 (test x) m (at1 (λ z. all1 (test z) m) n h x low) y high
+
+all3 : (ℕ → ℕ → ℕ → Bool) → ℕ → ℕ → ℕ → Bool
+all3 test n m k = all1 (λ x. all2 (test x) m k) n
+
+at3 : (test : ℕ → ℕ → ℕ → Bool) (n m k : ℕ) → all3 test n m k ≡ true → (x y z : ℕ) → x < n → y < m → z < k → test x y z ≡ true
+unfolding all3
+at3 test n m k h x y z low high far = at2 (test x) m k (at1 (λ w. all2 (test w) m k) n h x low) y z high far
+
+-- what a test with a premise tells
+when : (a b : Bool) → (not a || b) ≡ true → a ≡ true → b ≡ true
+when true b h e = h
+when false b h e = cc
+
+line_metric : IsMetric line_distances
+unfolding all1 all2 all3
+line_metric = record {
+  some = leb-true 1 4 refl;
+  few = leb-true 4 1024 refl;
+  count = refl;
+  zero = λ u low. eqb-true (dist line_distances u u) 0 (at1 (λ u. dist line_distances u u == 0) 4 refl u low);
+  positive = λ u v low high apart. leb-true 1 (dist line_distances u v) (when (not (u == v)) (nat_le 1 (dist line_distances u v)) (at2 (λ u v. not (not (u == v)) || nat_le 1 (dist line_distances u v)) 4 4 refl u v low high) (ap not (ne_eqb u v apart)));
+  turned = λ u v low high. eqb-true (dist line_distances u v) (dist line_distances v u) (at2 (λ u v. dist line_distances u v == dist line_distances v u) 4 4 refl u v low high);
+  triangle = λ u v w low high far. leb-true (dist line_distances u w) (dist line_distances u v + dist line_distances v w) (at3 (λ u v w. nat_le (dist line_distances u w) (dist line_distances u v + dist line_distances v w)) 4 4 4 refl u v w low high far);
+  bounded = λ u v low high. leb-true (dist line_distances u v) (3 * 1048576) (at2 (λ u v. nat_le (dist line_distances u v) (3 * 1048576)) 4 4 refl u v low high);
+}
+
+-- the clusters that a node reads are those that contain it
+line_read : (i v : ℕ) → i < 3 → v < 4 → readers line i v ≡ containing (level_at line i).clusters v
+line_read zero zero low high = refl
+line_read zero (suc zero) low high = refl
+line_read zero (suc (suc zero)) low high = refl
+line_read zero (suc (suc (suc zero))) low high = refl
+line_read zero (suc (suc (suc (suc v)))) low high = absurd (omega arith)
+line_read (suc zero) zero low high = refl
+line_read (suc zero) (suc zero) low high = refl
+line_read (suc zero) (suc (suc zero)) low high = refl
+line_read (suc zero) (suc (suc (suc zero))) low high = refl
+line_read (suc zero) (suc (suc (suc (suc v)))) low high = absurd (omega arith)
+line_read (suc (suc zero)) zero low high = refl
+line_read (suc (suc zero)) (suc zero) low high = refl
+line_read (suc (suc zero)) (suc (suc zero)) low high = refl
+line_read (suc (suc zero)) (suc (suc (suc zero))) low high = refl
+line_read (suc (suc zero)) (suc (suc (suc (suc v)))) low high = absurd (omega arith)
+line_read (suc (suc (suc i))) v low high = absurd (omega arith)
+
+-- a level has at most two clusters, and their members are below four
+few_clusters : (i : ℕ) → i < 3 → clusters_of line i ≤ 2
+unfolding all1
+few_clusters i low = leb-true (clusters_of line i) 2 (at1 (λ i. nat_le (clusters_of line i) 2) 3 refl i low)
+
+below_four : List ℕ → Bool
+below_four [] = true
+below_four (x ∷ xs) = nat_lt x 4 && below_four xs
+
+members_below : (v : ℕ) (xs : List ℕ) → below_four xs ≡ true → has v xs ≡ true → v < 4
+unfolding below_four
+members_below v [] h e = cc
+members_below v (x ∷ xs) h e =
+    let both : (nat_lt x 4 ≡ true) × (below_four xs ≡ true) = and_parts (nat_lt x 4) (below_four xs) h in
+    elim (or_cases (v == x) (has v xs) e) as (λ _. v < 4) [
+      | inl same ↦ let is_x : v ≡ x = eqb-true v x same in let low : x < 4 = ltb-true x 4 both.0 in omega arith
+      | inr later ↦ members_below v xs both.1 later
+    ]
+
+pub line_matched : IsMatched line
+unfolding all1 all2 all3 below_four
+line_matched = record {
+  some = leb-true 1 3 refl;
+  metric = line_metric;
+  first = refl;
+  homes = λ i v low high. ltb-true (home line i v) (clusters_of line i) (at2 (λ i v. nat_lt (home line i v) (clusters_of line i)) 3 4 refl i v low high);
+  held = λ i v low high. at2 (λ i v. has v (members_of line i (home line i v))) 3 4 refl i v low high;
+  read = line_read;
+  met = λ i u v low high far near. when (nat_le (distance line u v) (2 ^ (level_at line i).exponent)) (has (home line i u) (readers line i v))
+      (at3 (λ i u v. not (nat_le (distance line u v) (2 ^ (level_at line i).exponent)) || has (home line i u) (readers line i v)) 3 4 4 refl i u v low high far)
+      (le-leb (distance line u v) (2 ^ (level_at line i).exponent) near);
+  whole = λ u v low high. at2 (λ u v. has u (members_of line 2 (home line 2 v))) 4 4 refl u v low high;
+  within = λ i c v low high inside_it. members_below v (members_of line i c) (at2 (λ i c. below_four (members_of line i c)) 3 2 refl i c low (omega (arith, few_clusters i low))) inside_it;
+  led = λ i c low high. when (nat_lt c (clusters_of line i)) (has (leader line i c) (members_of line i c)) (at2 (λ i c. not (nat_lt c (clusters_of line i)) || has (leader line i c) (members_of line i c)) 3 2 refl i c low (omega (arith, few_clusters i low))) (lt-ltb c (clusters_of line i) high);
+  starts = λ i c low high. eqb-true (inside line i c (leader line i c)) 0 (at2 (λ i c. inside line i c (leader line i c) == 0) 3 2 refl i c low (omega (arith, few_clusters i low)));
+  far = λ i c v low high inside_it.
+      let below : v < 4 = members_below v (members_of line i c) (at2 (λ i c. below_four (members_of line i c)) 3 2 refl i c low (omega (arith, few_clusters i low))) inside_it in
+      leb-true (distance line (leader line i c) v) (inside line i c v) (when (has v (members_of line i c)) (nat_le (distance line (leader line i c) v) (inside line i c v))
+      (at3 (λ i c v. not (has v (members_of line i c)) || nat_le (distance line (leader line i c) v) (inside line i c v)) 3 2 4 refl i c v low (omega (arith, few_clusters i low)) below) inside_it);
+}

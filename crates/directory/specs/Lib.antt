@@ -1,0 +1,12 @@
+pub mod Keys
+pub mod Histories
+pub mod Writes
+pub mod Courses
+pub mod Standing
+pub mod Legal
+pub mod Finds
+pub mod Looks
+pub mod Orders
+pub mod Outcomes
+pub mod Census
+pub mod LineOfFour

@@ -1,0 +1,74 @@
+-- The line of four nodes, joined by edges of weight 1, with its plan for k of 2: three levels, of which the lowest has two
+-- clusters. It is the running example of the directory, and the worked examples are computed over it.
+use Rattle.std.specs.Prelude.{ℕ, List, [], ◌∷◌}
+use Rattle.distances.specs.Table.{DistanceTable}
+use Rattle.region_plan.specs.Plan.{PlanCluster, Level, PlanData}
+use Rattle.directory.specs.Orders.{FindCall, Scripts}
+
+-- the distances between the four nodes
+abbrev pub line_distances : DistanceTable
+line_distances = record { nodes = 4; cells = 0 ∷ 1 ∷ 2 ∷ 3 ∷ 1 ∷ 0 ∷ 1 ∷ 2 ∷ 2 ∷ 1 ∷ 0 ∷ 1 ∷ 3 ∷ 2 ∷ 1 ∷ 0 ∷ [] }
+
+-- the cluster of all nodes, led by node 0, and the one of the last two, led by node 3
+abbrev pub whole_line : PlanCluster
+whole_line = record { leader = 0; phase = 0; members = 0 ∷ 1 ∷ 2 ∷ 3 ∷ []; weights = 0 ∷ 1 ∷ 2 ∷ 3 ∷ []; depth = 3 }
+
+abbrev pub last_two : PlanCluster
+last_two = record { leader = 3; phase = 1; members = 2 ∷ 3 ∷ []; weights = 1 ∷ 0 ∷ []; depth = 1 }
+
+-- its levels: the lowest, and those whose one cluster has all nodes
+abbrev pub lowest_level : Level
+lowest_level =
+    record {
+      exponent = 0;
+      threshold = 1;
+      phases = 2;
+      clusters = whole_line ∷ last_two ∷ [];
+      homes = 0 ∷ 0 ∷ 0 ∷ 1 ∷ [];
+      readers = (0 ∷ []) ∷ (0 ∷ []) ∷ (0 ∷ 1 ∷ []) ∷ (0 ∷ 1 ∷ []) ∷ [];
+    }
+
+abbrev pub whole_level : ℕ → ℕ → Level
+whole_level exponent threshold =
+    record {
+      exponent = exponent;
+      threshold = threshold;
+      phases = 1;
+      clusters = whole_line ∷ [];
+      homes = 0 ∷ 0 ∷ 0 ∷ 0 ∷ [];
+      readers = (0 ∷ []) ∷ (0 ∷ []) ∷ (0 ∷ []) ∷ (0 ∷ []) ∷ [];
+    }
+
+-- its plan
+abbrev pub line : PlanData
+line = record { k = 2; distances = line_distances; levels = lowest_level ∷ whole_level 1 1 ∷ whole_level 2 2 ∷ [] }
+
+-- one subscriber at node 3 that makes these moves, and one caller that makes these finds
+abbrev pub line_scripts : List ℕ → List FindCall → Scripts
+line_scripts moves finds = record { homes = 3 ∷ []; moves = moves ∷ []; finds = finds ∷ [] }
+
+-- a find of the subscriber from a node
+abbrev pub find_from : ℕ → FindCall
+find_from node = record { from = node; sub = 0 }
+
+-- two nodes joined by weight 1, with the plan for k of 1: one level, whose two clusters have both nodes
+abbrev pub pair_distances : DistanceTable
+pair_distances = record { nodes = 2; cells = 0 ∷ 1 ∷ 1 ∷ 0 ∷ [] }
+
+abbrev pub pair_level : Level
+pair_level =
+    record {
+      exponent = 0;
+      threshold = 1;
+      phases = 2;
+      clusters = record { leader = 0; phase = 0; members = 0 ∷ 1 ∷ []; weights = 0 ∷ 1 ∷ []; depth = 1 } ∷ record { leader = 1; phase = 1; members = 0 ∷ 1 ∷ []; weights = 1 ∷ 0 ∷ []; depth = 1 } ∷ [];
+      homes = 0 ∷ 1 ∷ [];
+      readers = (0 ∷ 1 ∷ []) ∷ (0 ∷ 1 ∷ []) ∷ [];
+    }
+
+abbrev pub pair : PlanData
+pair = record { k = 1; distances = pair_distances; levels = pair_level ∷ [] }
+
+-- a subscriber that moves from node 1 to node 0, and a find of it from node 0
+abbrev pub pair_scripts : Scripts
+pair_scripts = record { homes = 1 ∷ []; moves = (0 ∷ []) ∷ []; finds = (find_from 0 ∷ []) ∷ [] }

@@ -1,0 +1,26 @@
+-- The words of entries. An entry cell holds nothing, as kind 0, or an address, as kind 1: where its subscriber went with
+-- one of its moves.
+-- Key laws: `address_words` (an entry comes back from its word, and a word from its entry).
+use Rattle.std.specs.Prelude.{ℕ, zero, suc, ◌/◌, ◌%◌, ◌^◌, ◌<◌, ◌==◌, ◌&&◌, cond, Option, Some, None}
+use Rattle.entry_word.specs.Parts.{joined}
+use Rattle.entry_word.specs.declared.address.Address.{Address}
+
+-- the word of an entry
+abbrev pub address_word : Option Address → ℕ
+address_word None = 0
+address_word (Some address) = joined 1 address.number address.node
+
+-- the entry of these parts, if there is one
+abbrev pub address_from : ℕ → ℕ → ℕ → Option (Option Address)
+address_from zero number node = cond (number == 0 && node == 0) (Some None) None
+address_from (suc zero) number node = Some (Some (record { number = number; node = node }))
+address_from (suc (suc more)) number node = None
+
+-- the entry of a word, if there is one
+abbrev pub address_of : ℕ → Option (Option Address)
+address_of word = address_from (word / 2 ^ 48) (word / 2 ^ 16 % 2 ^ 32) (word % 2 ^ 16)
+
+-- the parts of an entry fit into its word
+abbrev pub IsSmallAddress : Option Address → Type 0
+IsSmallAddress None = Unit {0}
+IsSmallAddress (Some address) = (address.number < 2 ^ 32) × (address.node < 2 ^ 16)
