@@ -1,6 +1,6 @@
 //! The tree of a cluster.
 
-ghost use Rattle.std.specs.Prelude.{◌≡◌, IfErr, IfOk, IsTrue};
+ghost use Rattle.std.specs.Prelude.{◌≡◌, ◌<◌, ◌^◌, IfErr, IfOk, IsTrue};
 ghost use Rattle.node_set.specs.Ascending.{has};
 ghost use Rattle.cluster_tree.specs.Tree.{IsDepth, IsTreeOf, inside_weight};
 ghost use Rattle.cluster_tree.specs.Faults.{IsTreeFault};
@@ -60,7 +60,8 @@ impl ClusterTree {
     /// The least weight inside the cluster from the leader to the member `v`.
     pub fn weight_of(&self, v: u32) -> u64
         requires { IsTrue (has v self.now.members) }
-        ensures { result ≡ inside_weight self.now v }
+        ensures exact { result ≡ inside_weight self.now v }
+        ensures light { result < 2 ^ 32 }
     {
         match self.members.binary_search(&v) {
             Ok(place) => u64::from(self.weights[place]),

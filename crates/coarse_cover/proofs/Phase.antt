@@ -3,7 +3,8 @@ use Rattle.std.proofs.Common.{◌≡◌, ◌⊎◌, inl, inr, ℕ, zero, suc, �
 use Rattle.std.specs.Prelude.{count_by, All}
 use Rattle.std.proofs.lemmas.List.Elements.{All-nil, All-cons, All-head, All-tail}
 use Rattle.std.proofs.lemmas.List.Sums.{sum_by-cons}
-use Rattle.std.proofs.lemmas.Bool.{false≢true, false_from_ne_true, not-true, and_from, and_parts}
+use Rattle.std.proofs.lemmas.List.{get_or_past}
+use Rattle.std.proofs.lemmas.Bool.{cases_lt, false≢true, false_from_ne_true, not-true, and_from, and_parts}
 use Rattle.std.proofs.Math.Nat.{le_trans, pow-le-pow_left, mul-le-mul_left}
 use Rattle.node_set.specs.Ascending.{has, IsBelowAll, share}
 use Rattle.node_set.proofs.Ascending.{share_from, share_gives}
@@ -17,7 +18,16 @@ use Rattle.coarse_cover.proofs.Growth.{HoldCentres, union_from, touches_own, gro
 
 -- grown from its leader's ball, fewer than k times, and the union of the balls that it is the home of
 abbrev pub IsShaped : List (List ℕ) → ℕ → Grown → Type 0
-IsShaped balls k c = (c.growths < k) × (c.members ≡ union_of balls c.homed) × ((waiting : List ℕ) × (c.homed ≡ grown balls waiting c.first c.growths))
+IsShaped balls k c = (c.growths < k) × (c.members ≡ union_of balls c.homed) × (c.first < length balls) × ((waiting : List ℕ) × (has c.first waiting ≡ true) × (c.homed ≡ grown balls waiting c.first c.growths))
+
+-- a ball that touches others is there
+touching_below : (balls : List (List ℕ)) (nodes : List ℕ) (v : ℕ) → touches balls nodes v ≡ true → v < length balls
+touching_below balls nodes v h = elim (cases_lt v (length balls)) [
+  | inl below ↦ below
+  | inr past ↦
+      let x = share_gives (ball balls v) nodes h in
+      absurd (false≢true (sym (ap (has x.0) (get_or_past balls v [] past)) ∙ x.1))
+]
 
 -- those that do not touch the cluster
 abbrev pub apart : List (List ℕ) → List ℕ → List ℕ → List ℕ
@@ -199,4 +209,4 @@ module _ (balls : List (List ℕ)) (k r : ℕ) where
   pub phase_joined : (waiting : List ℕ) (cs : List Grown) → IsPhase balls k r waiting cs → All (IsShaped balls k) cs
   phase_joined waiting [] is = All-nil (IsShaped balls k)
   phase_joined waiting (c ∷ cs) is =
-      All-cons (IsShaped balls k) c cs (is.0.few, is.0.joined, (waiting, is.0.shape)) (phase_joined (apart balls c.members waiting) cs is.1)
+      All-cons (IsShaped balls k) c cs (is.0.few, is.0.joined, touching_below balls c.members c.first (is.0.touching c.first is.0.leads), (waiting, is.0.waits c.first is.0.leads, is.0.shape)) (phase_joined (apart balls c.members waiting) cs is.1)

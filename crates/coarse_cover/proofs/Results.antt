@@ -66,7 +66,7 @@ map-append : {X : Type 0} (f : X → List ℕ) (xs ys : List X) → map f (xs ++
 map-append f [] ys = refl
 map-append f (x ∷ xs) ys = ap (λ (l : List (List ℕ)). f x ∷ l) (map-append f xs ys)
 
-listed_nodes : (n p : ℕ) (all : List (List Grown)) → map (λ (d : Cluster). d.members.members) (listed n p all) ≡ map (λ (c : Grown). c.members) (all_clusters all)
+pub listed_nodes : (n p : ℕ) (all : List (List Grown)) → map (λ (d : Cluster). d.members.members) (listed n p all) ≡ map (λ (c : Grown). c.members) (all_clusters all)
 unfolding listed all_clusters
 listed_nodes n p [] = refl
 listed_nodes n p (cs ∷ later) =

@@ -22,9 +22,9 @@ pub fn least_means()
     ensures first { (test : ℕ → Bool) (limit j : ℕ) → j < least test limit → test j ≡ false }
 {}
 
-/// Each cluster is its leader's ball after fewer than `k` growths, and has the nodes of the balls that it is the home of.
+/// Each cluster is its leader's ball after fewer than `k` growths, its leader being a waiting centre, and has the nodes of the balls that it is the home of.
 pub fn cluster_shape()
-    ensures { (balls : List (List ℕ)) (k : ℕ) → 0 < k → AreCentred balls → All (λ (c : Grown). (c.growths < k) × (c.members ≡ union_of balls c.homed) × ((waiting : List ℕ) × (c.homed ≡ grown balls waiting c.first c.growths))) (all_clusters (coarsening balls k)) }
+    ensures { (balls : List (List ℕ)) (k : ℕ) → 0 < k → AreCentred balls → All (λ (c : Grown). (c.growths < k) × (c.members ≡ union_of balls c.homed) × (c.first < length balls) × ((waiting : List ℕ) × (has c.first waiting ≡ true) × (c.homed ≡ grown balls waiting c.first c.growths))) (all_clusters (coarsening balls k)) }
 {}
 
 /// Each ball is one of those that its home was grown from.

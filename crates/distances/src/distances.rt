@@ -48,6 +48,17 @@ impl Distances {
         })
     }
 
+    /// A copy in memory of its own.
+    pub fn copy(&self, alloc: Global) -> Result<Distances, OutOfMemory>
+        ensures { IfOk result (λ copy. copy ≡ self.now) }
+    {
+        Ok(Distances {
+            nodes: self.nodes,
+            table: self.table.to_vec(alloc)?,
+            diameter: self.diameter,
+        })
+    }
+
     /// How many nodes there are.
     pub fn nodes(&self) -> u32
         ensures count { result ≡ self.now.nodes }
@@ -144,6 +155,10 @@ mod tests {
         assert_eq!(rt; distances.between(0, 3), 3);
         assert_eq!(rt; distances.between(2, 1), 1);
         assert_eq!(rt; distances.diameter(), 3);
+        let copy = distances.copy(rt.alloc())?;
+        assert_eq!(rt; copy.nodes(), 4);
+        assert_eq!(rt; copy.between(0, 3), 3);
+        assert_eq!(rt; copy.diameter(), 3);
         Ok(())
     }
 

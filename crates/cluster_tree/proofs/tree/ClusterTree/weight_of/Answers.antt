@@ -11,8 +11,8 @@ unreachable-requires c =
     (subst (λ (cluster : WeighedCluster). has c.args.v cluster.members ≡ true) (sym c.self.view_is) c.requires)
     (rw c.deref.ensures.value at c.in-Err.ensures.position)
 
-pub returns : goal.returns
-returns c =
+pub returns-clause-exact : goal.returns-clause-exact
+returns-clause-exact c =
     let found = found_place c.self.inside.members.items c.self.inside.weights.items c.args.v c.in-Ok.place c.self.invariant.ascending
     c.self.invariant.count (rw c.deref.ensures.value at c.in-Ok.ensures.position) in
     c.from.ensures

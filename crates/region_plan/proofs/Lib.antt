@@ -1,0 +1,11 @@
+mod Lists
+mod Rows
+mod Measuring
+mod Making
+mod Flatness
+mod Reaching
+mod Spanning
+mod Levels
+mod Matching
+mod Alone
+mod Uniqueness

@@ -1,0 +1,61 @@
+-- The greatest of some numbers, one after another.
+use Rattle.std.proofs.Common.{◌≡◌, ℕ, zero, suc, ◌+◌, ◌<◌, ◌≤◌, List, [], ◌∷◌, ◌++◌, length, map, take, get_or, refl, sym, ◌∙◌, ap, arith, rules}
+use Rattle.std.specs.Prelude.{max}
+use Rattle.std.specs.Ordering.{ord_max, nat_cmp}
+use Rattle.std.proofs.lemmas.Bool.Decides.{nat_tests}
+use Rattle.std.proofs.lemmas.List.{get_or-map, length-map, take_more, take_all}
+use Rattle.std.proofs.Math.Nat.{max-zero, zero-max, le-max_left, le-max_right}
+use Rattle.region_plan.specs.Plan.{PlanData, Level, no_level, level_at, readers, readers_in}
+use Rattle.region_plan.specs.Measures.{most, degree_in, degree_of}
+
+max_both : (a b c : ℕ) → max (max a b) c ≡ max a (max b c)
+max_both a b c = omega arith
+
+most_push : (xs : List ℕ) (y : ℕ) → most (xs ++ y ∷ []) ≡ max (most xs) y
+most_push [] y = max-zero y ∙ sym (zero-max y)
+most_push (x ∷ xs) y = ap (λ n. max x n) (most_push xs y) ∙ sym (max_both x (most xs) y)
+
+most_more : (xs : List ℕ) (i y : ℕ) → i < length xs → get_or xs i 0 ≡ y → most (take (i + 1) xs) ≡ max (most (take i xs)) y
+most_more xs i y below is = ap most (take_more xs i 0 below) ∙ most_push (take i xs) (get_or xs i 0) ∙ ap (λ n. max (most (take i xs)) n) is
+
+pub degree_step : (level : Level) (v old len new : ℕ) (row : List ℕ) → v < length level.readers → old ≡ most (take v (map length level.readers))
+    → len ≡ length row → row ≡ readers_in level v → new ≡ max old len → new ≡ most (take (v + 1) (map length level.readers))
+degree_step level v old len new row below before is reads now =
+    let at : get_or (map length level.readers) v 0 ≡ len = get_or-map length level.readers v [] 0 below ∙ ap length (sym reads) ∙ sym is in
+    now ∙ ap (λ n. max n len) before ∙ sym (most_more (map length level.readers) v len (omega (arith, length-map level.readers (length {A = ℕ}))) at)
+
+pub degree_done : (level : Level) (v degree : ℕ) → length level.readers ≤ v → degree ≡ most (take v (map length level.readers)) → degree ≡ degree_in level
+degree_done level v degree past is = is ∙ ap most (take_all v (map length level.readers) (omega (arith, length-map level.readers (length {A = ℕ}))))
+
+pub level_step : (levels : List Level) (i old d new : ℕ) (level : Level) → i < length levels → old ≡ most (take i (map degree_in levels))
+    → level ≡ get_or levels i level → d ≡ degree_in level → new ≡ max old d → new ≡ most (take (i + 1) (map degree_in levels))
+level_step levels i old d new level below before is reads now =
+    let at : get_or (map degree_in levels) i 0 ≡ d = get_or-map degree_in levels i level 0 below ∙ ap degree_in (sym is) ∙ sym reads in
+    now ∙ ap (λ n. max n d) before ∙ sym (most_more (map degree_in levels) i d (omega (arith, length-map levels degree_in)) at)
+
+pub max_few : (a b c new : ℕ) → new ≡ max a b → a ≤ c → b ≤ c → new ≤ c
+max_few a b c new is left right = omega arith
+
+pub greater_is : (a b new : ℕ) → new ≡ ord_max nat_cmp a b → new ≡ max a b
+greater_is a b new is = first_of (omega arith, grind (arith, nat_tests), grind arith, search rules)
+
+-- no number is above the greatest
+most_bounds : (xs : List ℕ) (i : ℕ) → get_or xs i 0 ≤ most xs
+most_bounds [] i = omega arith
+most_bounds (x ∷ xs) zero = le-max_left x (most xs)
+most_bounds (x ∷ xs) (suc i) = omega (arith, most_bounds xs i, le-max_right x (most xs))
+
+at_map : {X : Type 0} (f : X → ℕ) (xs : List X) (i : ℕ) (d : X) → f d ≡ 0 → f (get_or xs i d) ≡ get_or (map f xs) i 0
+at_map f [] i d none = none
+at_map f (x ∷ xs) zero d none = refl
+at_map f (x ∷ xs) (suc i) d none = at_map f xs i d none
+
+pub degree_bounds : (plan : PlanData) (i v : ℕ) → length (readers plan i v) ≤ degree_of plan
+degree_bounds plan i v =
+    omega (
+      arith,
+      at_map (length {A = ℕ}) (level_at plan i).readers v [] refl,
+      most_bounds (map length (level_at plan i).readers) v,
+      at_map degree_in plan.levels i no_level refl,
+      most_bounds (map degree_in plan.levels) i,
+    )

@@ -1,0 +1,13 @@
+use Rattle.std.proofs.Common.{◌≡◌, map}
+use Rattle.std.specs.Prelude.{All}
+use Rattle.node_set.specs.Nodes.{Nodes}
+use Rattle.coarse_cover.specs.Coarsening.{centres}
+use Rattle.coarse_cover.specs.Covers.{sets}
+use Rattle.distances.specs.Table.{ball_of}
+use Rattle.region_plan.proofs.balls.balls_of_radius.Given as goal
+
+abbrev pub invariant-loop-v : goal.invariant-loop-v
+invariant-loop-v l = record {
+  balls : sets l.balls.items ≡ map (λ u. ball_of l.distances u l.radius) (centres l.v);
+  rooms : All (λ (b : Nodes). b.room ≡ l.distances.nodes) l.balls.items;
+}

@@ -1,0 +1,5 @@
+pub mod Plan
+pub mod Regions
+pub mod Matched
+pub mod Measures
+pub mod Kept

@@ -1,0 +1,116 @@
+// A level of a plan in flat arrays.
+ghost use Rattle.std.specs.Prelude.{◌≡◌, ◌+◌, ◌*◌, ◌<◌, ◌≤◌, ◌++◌, IfOk, List, OnOk, length, slice_index};
+ghost use Rattle.region_plan.specs.Plan.{readers_in};
+ghost use Rattle.region_plan.specs.Regions.{containing};
+ghost use Rattle.region_plan.specs.Measures.{degree_in};
+ghost use Rattle.region_plan.specs.Kept.{level_of};
+
+use crate::row::ClusterRow;
+use net_graph::OutOfMemory;
+use std::alloc::Global;
+use std::marker::Model;
+
+// A level: its clusters, each node's home, and the numbers of the clusters of each node, one node after another.
+#[derive(Drop)]
+pub struct LevelTable {
+    pub exponent: u32,
+    pub threshold: u64,
+    pub phases: u32,
+    pub clusters: Vec<ClusterRow>,
+    pub homes: Vec<u32>,
+    pub starts: Vec<u32>,
+    pub readers: Vec<u32>,
+}
+
+impl Model for LevelTable {
+    ghost use Rattle.std.specs.Prelude.{length};
+    ghost use Rattle.region_plan.specs.Plan.{Level};
+    ghost use Rattle.region_plan.specs.Regions.{readers_of};
+    ghost use Rattle.region_plan.specs.Kept.{AreRows};
+
+    ghost Value = { Level };
+
+    ghost view = { λ l. record {
+      exponent = l.exponent;
+      threshold = l.threshold;
+      phases = l.phases;
+      clusters = l.clusters.items;
+      homes = l.homes.items;
+      readers = readers_of (length l.homes.items) l.clusters.items;
+    } };
+
+    ghost invariant = { λ l. AreRows (length l.homes.items) l.clusters.items l.starts.items l.readers.items };
+}
+
+impl LevelTable {
+    // The level of these clusters and homes.
+    pub fn new(
+        alloc: Global,
+        exponent: u32,
+        threshold: u64,
+        phases: u32,
+        clusters: Vec<ClusterRow>,
+        homes: Vec<u32>,
+    ) -> Result<LevelTable, OutOfMemory>
+        requires nodes { length homes.items ≤ 1024 }
+        requires clusters { length clusters.items ≤ 1024 }
+        ensures { IfOk result (λ level. level ≡ level_of exponent threshold phases clusters.items homes.items) }
+    {
+        let mut starts = Vec::with_capacity(alloc, homes.len() + 1)?;
+        let mut readers = Vec::new(alloc);
+        starts.push(0u32)?;
+        for v in 0..homes.len() as u32 {
+            push_containing(&clusters, v, &mut readers)?;
+            starts.push(readers.len() as u32)?;
+        }
+        Ok(LevelTable {
+            exponent,
+            threshold,
+            phases,
+            clusters,
+            homes,
+            starts,
+            readers,
+        })
+    }
+
+    // The largest number of clusters that a node reads.
+    pub fn degree(&self) -> u32
+        requires clusters { length self.now.clusters ≤ 1024 }
+        requires nodes { length self.now.homes ≤ 1024 }
+        ensures exact { result ≡ degree_in self.now }
+        ensures few { result ≤ 1024 }
+    {
+        let mut degree = 0;
+        for v in 0..self.homes.len() {
+            degree = degree.max(self.readers_at(v as u32).len() as u32);
+        }
+        degree
+    }
+
+    // The numbers of the clusters that contain `v`.
+    pub fn readers_at(&self, v: u32) -> &[u32]
+        requires { v < length self.now.homes }
+        ensures numbers { result.now ≡ readers_in self.now v }
+        ensures few { length result.now ≤ length self.now.clusters }
+    {
+        &self.readers[self.starts[v as usize] as usize..self.starts[v as usize + 1] as usize]
+    }
+}
+
+// Appends the ascending numbers of the clusters that contain `v`.
+fn push_containing(
+    clusters: &[ClusterRow],
+    v: u32,
+    readers: &mut Vec<u32>,
+) -> Result<(), OutOfMemory>
+    requires { length clusters.now ≤ 1024 }
+    ensures { OnOk result (readers.new.items ≡ readers.old.items ++ containing clusters.now v) }
+{
+    for (c, cluster) in clusters.iter().enumerate() {
+        if cluster.member(v) {
+            readers.push(c as u32)?;
+        }
+    }
+    Ok(())
+}

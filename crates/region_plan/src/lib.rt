@@ -1,0 +1,17 @@
+//! Plans: for each power of two a cover of a network, with a home and readers for each node.
+#![tactic(auto)]
+
+mod balls;
+mod building;
+mod flat;
+mod laws;
+mod level;
+mod plan;
+mod row;
+
+pub use laws::{degree_bounds, flat_is_one, flat_means, plan_is_matched, plan_is_one};
+pub use net_graph::OutOfMemory;
+pub use plan::Plan;
+
+#[cfg(test)]
+mod tests;

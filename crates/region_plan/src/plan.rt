@@ -1,0 +1,253 @@
+//! The plan of a network.
+
+ghost use Rattle.std.specs.Prelude.{◌≡◌, ◌<◌, ◌≤◌, IfOk, IsTrue, length, slice_index_or};
+ghost use Rattle.node_set.specs.Ascending.{has};
+ghost use Rattle.distances.specs.Table.{AreDistancesOf};
+ghost use Rattle.region_plan.specs.Plan.{level_at, levels_of, nodes_of, clusters_of, cluster_at, members_of, inside};
+ghost use Rattle.region_plan.specs.Plan.{home as home_in, readers as readers_at, leader as leader_in, threshold as threshold_at};
+ghost use Rattle.region_plan.specs.Regions.{IsFlat, IsPlanOf};
+ghost use Rattle.region_plan.specs.Matched.{IsMatched, IsWithinRadius};
+ghost use Rattle.region_plan.specs.Measures.{degree_of, stretch_of, most_looks_of, most_writes_of};
+ghost use Rattle.region_plan.specs.Kept.{IsKept};
+
+use crate::balls::top_for;
+use crate::building::build_level;
+use crate::flat::flat_level;
+use crate::level::LevelTable;
+use distances::Distances;
+use net_graph::{Graph, OutOfMemory};
+use std::alloc::Global;
+use std::marker::Model;
+
+/// A plan: for each level the clusters of a cover, the home of each node and the clusters that it reads.
+///
+/// A number that names a node is below `nodes`, one that names a level below `levels`, and one that names a cluster
+/// below the clusters of its level. All calls but `flat` and `build` take no memory.
+#[derive(Drop)]
+pub struct Plan {
+    k: u32,
+    degree: u32,
+    distances: Distances,
+    levels: Vec<LevelTable>,
+}
+
+impl Model for Plan {
+    ghost use Rattle.std.specs.Prelude.{◌≡◌};
+    ghost use Rattle.region_plan.specs.Plan.{PlanData};
+    ghost use Rattle.region_plan.specs.Kept.{IsPlanKept};
+
+    ghost Value = { PlanData };
+
+    ghost view = { λ p. record { k = p.k; distances = p.distances; levels = p.levels.items } };
+
+    ghost invariant = { λ p. IsPlanKept (record { k = p.k; distances = p.distances; levels = p.levels.items }) p.degree };
+}
+
+impl Plan {
+    /// The flat plan: one level, whose exponent is that of the top level, with one cluster of all nodes that node 0
+    /// leads.
+    pub fn flat(alloc: Global, graph: &Graph, distances: &Distances) -> Result<Plan, OutOfMemory>
+        requires belongs { AreDistancesOf graph.now distances.now }
+        ensures plan { IfOk result (IsFlat graph.now) }
+        ensures copy { IfOk result (λ plan. plan.distances ≡ distances.now) }
+        ensures matched { IfOk result IsMatched }
+    {
+        let mut levels = Vec::with_capacity(alloc, 1)?;
+        levels.push(flat_level(alloc, distances)?)?;
+        Ok(Plan::of_levels(1, distances.copy(alloc)?, levels))
+    }
+
+    // The plan of these levels.
+    fn of_levels(k: u32, distances: Distances, levels: Vec<LevelTable>) -> Plan
+        requires { IsKept (record { k = k; distances = distances; levels = levels.items }) }
+        ensures { result ≡ record { k = k; distances = distances; levels = levels.items } }
+    {
+        let mut degree = 0;
+        for level in &levels {
+            degree = degree.max(level.degree());
+        }
+        Plan {
+            k,
+            degree,
+            distances,
+            levels,
+        }
+    }
+
+    /// The plan of the network with the trade-off `k`: a larger `k` makes larger clusters that overlap less. Level `i`
+    /// coarsens the balls of radius 2^`i`.
+    pub fn build(
+        alloc: Global,
+        graph: &Graph,
+        distances: &Distances,
+        k: u32,
+    ) -> Result<Plan, OutOfMemory>
+        requires belongs { AreDistancesOf graph.now distances.now }
+        requires low { 1 ≤ k }
+        requires high { k ≤ 8 }
+        ensures plan { IfOk result (IsPlanOf graph.now k) }
+        ensures copy { IfOk result (λ plan. plan.distances ≡ distances.now) }
+        ensures matched { IfOk result IsMatched }
+        ensures radius { IfOk result IsWithinRadius }
+    {
+        let _nodes = graph.nodes();
+        let top = top_for(distances);
+        let mut levels = Vec::with_capacity(alloc, top as usize + 1)?;
+        for i in 0..top + 1 {
+            levels.push(build_level(alloc, graph, distances, k, i)?)?;
+        }
+        Ok(Plan::of_levels(k, distances.copy(alloc)?, levels))
+    }
+
+    /// How many nodes there are.
+    pub fn nodes(&self) -> u32
+        ensures count { result ≡ nodes_of self.now }
+        ensures sound { IsKept self.now }
+    {
+        self.distances.nodes()
+    }
+
+    /// The trade-off that the plan was built with, 1 for the flat plan.
+    pub fn k(&self) -> u32
+        ensures { result ≡ self.now.k }
+    {
+        self.k
+    }
+
+    /// How many levels there are.
+    pub fn levels(&self) -> u32
+        ensures { result ≡ levels_of self.now }
+    {
+        self.levels.len() as u32
+    }
+
+    /// The exponent of a level: nodes within 2^exponent of each other meet at it.
+    pub fn exponent(&self, i: u32) -> u32
+        requires level { i < levels_of self.now }
+        ensures { result ≡ (level_at self.now i).exponent }
+    {
+        self.levels[i as usize].exponent
+    }
+
+    /// The weight that a subscriber gathers before its address at the level is renewed.
+    pub fn threshold(&self, i: u32) -> u64
+        requires level { i < levels_of self.now }
+        ensures { result ≡ threshold_at self.now i }
+    {
+        self.levels[i as usize].threshold
+    }
+
+    /// The number of phases that made the clusters of a level.
+    pub fn phases(&self, i: u32) -> u32
+        requires level { i < levels_of self.now }
+        ensures { result ≡ (level_at self.now i).phases }
+    {
+        self.levels[i as usize].phases
+    }
+
+    /// How many clusters a level has.
+    pub fn clusters(&self, i: u32) -> u32
+        requires level { i < levels_of self.now }
+        ensures { result ≡ clusters_of self.now i }
+    {
+        self.levels[i as usize].clusters.len() as u32
+    }
+
+    /// The phase that made a cluster.
+    pub fn phase_of(&self, i: u32, c: u32) -> u32
+        requires level { i < levels_of self.now }
+        requires cluster { c < clusters_of self.now i }
+        ensures { result ≡ (cluster_at self.now i c).phase }
+    {
+        self.levels[i as usize].clusters[c as usize].phase()
+    }
+
+    /// The cluster that is the home of `v`.
+    pub fn home(&self, i: u32, v: u32) -> u32
+        requires level { i < levels_of self.now }
+        requires node { v < nodes_of self.now }
+        ensures { result ≡ home_in self.now i v }
+    {
+        self.levels[i as usize].homes[v as usize]
+    }
+
+    /// The ascending numbers of the clusters that contain `v`.
+    pub fn readers(&self, i: u32, v: u32) -> &[u32]
+        requires level { i < levels_of self.now }
+        requires node { v < nodes_of self.now }
+        ensures { result.now ≡ readers_at self.now i v }
+    {
+        self.levels[i as usize].readers_at(v)
+    }
+
+    /// The node that leads a cluster.
+    pub fn leader(&self, i: u32, c: u32) -> u32
+        requires level { i < levels_of self.now }
+        requires cluster { c < clusters_of self.now i }
+        ensures { result ≡ leader_in self.now i c }
+    {
+        self.levels[i as usize].clusters[c as usize].leader()
+    }
+
+    /// Whether `v` is in a cluster.
+    pub fn member(&self, i: u32, c: u32, v: u32) -> bool
+        requires level { i < levels_of self.now }
+        requires cluster { c < clusters_of self.now i }
+        requires node { v < nodes_of self.now }
+        ensures { result ≡ has v (members_of self.now i c) }
+    {
+        self.levels[i as usize].clusters[c as usize].member(v)
+    }
+
+    /// The greatest weight of a member of a cluster.
+    pub fn depth(&self, i: u32, c: u32) -> u64
+        requires level { i < levels_of self.now }
+        requires cluster { c < clusters_of self.now i }
+        ensures { result ≡ (cluster_at self.now i c).depth }
+    {
+        self.levels[i as usize].clusters[c as usize].depth()
+    }
+
+    /// The least weight inside a cluster from its leader to the member `v`.
+    pub fn tree_weight(&self, i: u32, c: u32, v: u32) -> u64
+        requires level { i < levels_of self.now }
+        requires cluster { c < clusters_of self.now i }
+        requires member { IsTrue (has v (members_of self.now i c)) }
+        ensures { result ≡ inside self.now i c v }
+    {
+        self.levels[i as usize].clusters[c as usize].weight(v)
+    }
+
+    /// The largest number of clusters that a node reads at a level.
+    pub fn degree(&self) -> u32
+        ensures { result ≡ degree_of self.now }
+    {
+        self.degree
+    }
+
+    /// How many times its distance a find that meets no write may travel.
+    pub fn stretch(&self) -> u64
+        ensures { result ≡ stretch_of self.now }
+    {
+        16 * u64::from(self.degree) * (2 * u64::from(self.k) - 1) + 24 * u64::from(self.k)
+    }
+
+    /// The most looks of a find from a node.
+    pub fn most_looks(&self, from: u32) -> u64
+        requires { from < nodes_of self.now }
+        ensures { result ≡ most_looks_of self.now from }
+    {
+        let mut read = 0;
+        for level in &self.levels {
+            read += level.readers_at(from).len() as u64;
+        }
+        1 + read + u64::from(self.nodes()) + 3
+    }
+
+    /// The most writes of a move.
+    pub fn most_writes(&self) -> u64
+        ensures { result ≡ most_writes_of self.now }
+    {
+        3 + 2 * u64::from(self.levels()) + u64::from(self.nodes())
+    }
+}

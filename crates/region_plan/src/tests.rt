@@ -1,0 +1,166 @@
+// Plans of the line 0 - 1 - 2 - 3 of unit weights, and of two nodes.
+ghost use Rattle.std.specs.Prelude.{◌≡◌, IfOk};
+ghost use Rattle.distances.specs.Table.{AreDistancesOf};
+
+use crate::Plan;
+use distances::Distances;
+use net_graph::{Edge, Graph};
+use std::alloc::Global;
+use std::process::Abort;
+use std::test::Fail;
+
+fn edge(a: u32, b: u32, weight: u64) -> Edge
+    ensures { result ≡ record { a = a; b = b; weight = weight } }
+{
+    Edge { a, b, weight }
+}
+
+fn line_of_four(alloc: Global) -> Result<(Graph, Distances), Fail>
+    ensures { IfOk result (λ network. AreDistancesOf network.0 network.1) }
+{
+    let graph = Graph::new(alloc, 4, &[edge(0, 1, 1), edge(1, 2, 1), edge(2, 3, 1)])?;
+    let distances = Distances::new(alloc, &graph)?;
+    Ok((graph, distances))
+}
+
+fn two_nodes(alloc: Global, weight: u64) -> Result<(Graph, Distances), Fail>
+    requires { weight ≡ 1 }
+    ensures { IfOk result (λ network. AreDistancesOf network.0 network.1) }
+{
+    let graph = Graph::new(alloc, 2, &[edge(0, 1, weight)])?;
+    let distances = Distances::new(alloc, &graph)?;
+    Ok((graph, distances))
+}
+
+fn level_is(
+    rt: &impl Abort,
+    plan: &Plan,
+    i: u32,
+    exponent: u32,
+    threshold: u64,
+    phases: u32,
+    clusters: u32,
+    homes: &[u32],
+) {
+    assert!(rt; i < plan.levels());
+    assert_eq!(rt; plan.exponent(i), exponent);
+    assert_eq!(rt; plan.threshold(i), threshold);
+    assert_eq!(rt; plan.phases(i), phases);
+    assert_eq!(rt; plan.clusters(i), clusters);
+    assert_eq!(rt; plan.nodes() as usize, homes.len());
+    for (v, home) in homes.iter().enumerate() {
+        assert_eq!(rt; plan.home(i, v as u32), *home);
+    }
+}
+
+fn cluster_is(
+    rt: &impl Abort,
+    plan: &Plan,
+    i: u32,
+    c: u32,
+    phase: u32,
+    leader: u32,
+    depth: u64,
+    weights: &[Option<u64>],
+) {
+    assert!(rt; i < plan.levels());
+    assert!(rt; c < plan.clusters(i));
+    assert_eq!(rt; plan.phase_of(i, c), phase);
+    assert_eq!(rt; plan.leader(i, c), leader);
+    assert_eq!(rt; plan.depth(i, c), depth);
+    assert_eq!(rt; plan.nodes() as usize, weights.len());
+    for (v, weight) in weights.iter().enumerate() {
+        assert_eq!(rt; plan.member(i, c, v as u32), weight.is_some());
+        if plan.member(i, c, v as u32) {
+            assert_eq!(rt; Some(plan.tree_weight(i, c, v as u32)), *weight);
+        }
+    }
+}
+
+fn reads(rt: &impl Abort, plan: &Plan, i: u32, v: u32, clusters: &[u32]) {
+    assert!(rt; i < plan.levels());
+    assert!(rt; v < plan.nodes());
+    assert_eq!(rt; plan.readers(i, v), clusters);
+}
+
+#[test]
+fn the_plan_of_a_line(rt: HostRuntime) -> Result<(), Fail> {
+    let (graph, distances) = line_of_four(rt.alloc())?;
+    let plan = Plan::build(rt.alloc(), &graph, &distances, 2)?;
+    assert_eq!(rt; plan.nodes(), 4);
+    assert_eq!(rt; plan.k(), 2);
+    assert_eq!(rt; plan.levels(), 3);
+    assert_eq!(rt; plan.degree(), 2);
+    assert_eq!(rt; plan.stretch(), 144);
+    level_is(&rt, &plan, 0, 0, 1, 2, 2, &[0, 0, 0, 1]);
+    level_is(&rt, &plan, 1, 1, 1, 1, 1, &[0, 0, 0, 0]);
+    level_is(&rt, &plan, 2, 2, 2, 1, 1, &[0, 0, 0, 0]);
+    Ok(())
+}
+
+#[test]
+fn the_clusters_of_a_line(rt: HostRuntime) -> Result<(), Fail> {
+    let (graph, distances) = line_of_four(rt.alloc())?;
+    let plan = Plan::build(rt.alloc(), &graph, &distances, 2)?;
+    let all = [Some(0), Some(1), Some(2), Some(3)];
+    cluster_is(&rt, &plan, 0, 0, 0, 0, 3, &all);
+    cluster_is(&rt, &plan, 0, 1, 1, 3, 1, &[None, None, Some(1), Some(0)]);
+    cluster_is(&rt, &plan, 1, 0, 0, 0, 3, &all);
+    cluster_is(&rt, &plan, 2, 0, 0, 0, 3, &all);
+    Ok(())
+}
+
+#[test]
+fn the_readers_on_a_line(rt: HostRuntime) -> Result<(), Fail> {
+    let (graph, distances) = line_of_four(rt.alloc())?;
+    let plan = Plan::build(rt.alloc(), &graph, &distances, 2)?;
+    reads(&rt, &plan, 0, 1, &[0]);
+    reads(&rt, &plan, 0, 2, &[0, 1]);
+    reads(&rt, &plan, 0, 3, &[0, 1]);
+    reads(&rt, &plan, 2, 2, &[0]);
+    assert_eq!(rt; plan.nodes(), 4);
+    assert_eq!(rt; plan.most_looks(2), 12);
+    assert_eq!(rt; plan.most_looks(0), 11);
+    assert_eq!(rt; plan.most_writes(), 13);
+    Ok(())
+}
+
+#[test]
+fn the_plan_of_two_nodes(rt: HostRuntime) -> Result<(), Fail> {
+    let (graph, distances) = two_nodes(rt.alloc(), 1)?;
+    let plan = Plan::build(rt.alloc(), &graph, &distances, 1)?;
+    assert_eq!(rt; plan.levels(), 1);
+    assert_eq!(rt; plan.degree(), 2);
+    assert_eq!(rt; plan.stretch(), 56);
+    level_is(&rt, &plan, 0, 0, 1, 2, 2, &[0, 1]);
+    cluster_is(&rt, &plan, 0, 0, 0, 0, 1, &[Some(0), Some(1)]);
+    cluster_is(&rt, &plan, 0, 1, 1, 1, 1, &[Some(1), Some(0)]);
+    reads(&rt, &plan, 0, 0, &[0, 1]);
+    Ok(())
+}
+
+#[test]
+fn the_flat_plan_of_a_line(rt: HostRuntime) -> Result<(), Fail> {
+    let (graph, distances) = line_of_four(rt.alloc())?;
+    let plan = Plan::flat(rt.alloc(), &graph, &distances)?;
+    assert_eq!(rt; plan.k(), 1);
+    assert_eq!(rt; plan.levels(), 1);
+    assert_eq!(rt; plan.degree(), 1);
+    assert_eq!(rt; plan.stretch(), 40);
+    level_is(&rt, &plan, 0, 2, 1, 1, 1, &[0, 0, 0, 0]);
+    cluster_is(
+        &rt,
+        &plan,
+        0,
+        0,
+        0,
+        0,
+        3,
+        &[Some(0), Some(1), Some(2), Some(3)],
+    );
+    reads(&rt, &plan, 0, 3, &[0]);
+    assert_eq!(rt; plan.nodes(), 4);
+    assert_eq!(rt; plan.most_looks(1), 9);
+    assert_eq!(rt; plan.most_writes(), 9);
+    Ok(())
+}
