@@ -11,7 +11,7 @@ use Rattle.entry_word.specs.declared.visit.Key.TheVariants.{Presence, Entry}
 use Rattle.entry_word.specs.declared.visit.Act.{Act}
 use Rattle.entry_word.specs.declared.visit.Act.TheVariants.{Look, Put, Census}
 use Rattle.entry_word.specs.declared.visit.Visit.{Visit}
-use Rattle.directory.specs.Plan.{PlanData}
+use Rattle.region_plan.specs.Plan.{PlanData}
 use Rattle.directory.specs.Keys.{home_node, same_key, sub_of, opening}
 use Rattle.directory.specs.Histories.{History, after_act, cell, puts_for, puts_to}
 use Rattle.directory.specs.Standing.{Marking, marking_by, markings, place_after, standing, commits, number, passage_after, passage}

@@ -4,7 +4,7 @@ use Rattle.std.specs.Prelude.{nat_le, if◌then◌else◌, not, ◌&&◌}
 use Rattle.std.proofs.lemmas.List.{get_or_append_left, map-append}
 use Rattle.node_set.specs.Ascending.{has}
 use Rattle.entry_word.specs.declared.mark.PresenceMark.TheVariants.{Empty, Coming}
-use Rattle.directory.specs.Plan.{PlanData, distance, threshold, levels_of}
+use Rattle.region_plan.specs.Plan.{PlanData, distance, threshold, levels_of}
 use Rattle.directory.specs.Writes.{Course, base, numbers_from, trail, Write, mark_at, entry_at, visit_of, each_from, addressing, commit, confirm, old_cluster, erasing, purging, levels_renewed, writes, joined}
 use Rattle.directory.specs.Courses.{stop_of, way, gathered, highest, renewal, bases, renewed, course, visits_of}
 

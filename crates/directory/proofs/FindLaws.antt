@@ -6,7 +6,7 @@ use Rattle.entry_word.specs.declared.mark.PresenceMark.{PresenceMark}
 use Rattle.entry_word.specs.declared.mark.PresenceMark.TheVariants.{Empty, Here, Gone, Coming}
 use Rattle.entry_word.specs.declared.address.Address.{Address}
 use Rattle.entry_word.specs.declared.visit.Key.{Key}
-use Rattle.directory.specs.Plan.{PlanData, nodes_of, distance, inside, leader}
+use Rattle.region_plan.specs.Plan.{PlanData, nodes_of, distance, inside, leader}
 use Rattle.directory.specs.Finds.{Found, at, again, no_entry, chased, Next, wants, answers, Turn, stops, hops, turn, after_turn, chase, most_hops, Reader, all_readers, after_entry, climb, after_origin, find, look_of, answer_of, mark_in, address_in, most_looks}
 use Rattle.directory.specs.Orders.{FindCall, after_find, next_look}
 

@@ -6,7 +6,7 @@ use Rattle.std.proofs.lemmas.List.Sums.{fold-append}
 use Rattle.std.proofs.lemmas.List.Elements.{filter-append}
 use Rattle.entry_word.specs.declared.visit.Key.{Key}
 use Rattle.entry_word.specs.declared.visit.Visit.{Visit}
-use Rattle.directory.specs.Plan.{PlanData}
+use Rattle.region_plan.specs.Plan.{PlanData}
 use Rattle.directory.specs.Histories.{History, after_act, cell, puts_for, puts_to, own, tickets_from, word_by, words_after, words_read}
 
 -- one more visit of a list, at its place

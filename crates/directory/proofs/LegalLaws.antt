@@ -4,7 +4,7 @@ use Rattle.std.specs.Prelude.{if◌then◌else◌, filter_map}
 use Rattle.std.proofs.lemmas.List.{take-append-le}
 use Rattle.std.proofs.lemmas.List.Elements.{filter_map-append}
 use Rattle.entry_word.specs.declared.mark.PresenceMark.TheVariants.{Empty}
-use Rattle.directory.specs.Plan.{PlanData}
+use Rattle.region_plan.specs.Plan.{PlanData}
 use Rattle.directory.specs.Keys.{home_node}
 use Rattle.directory.specs.Histories.{History, puts_for, puts_to}
 use Rattle.directory.specs.Writes.{Course, Write, mark_at, entry_at, numbers_from, each_from, addressing, commit, confirm, erasing, old_cluster, purging, levels_renewed, writes, joined}

@@ -3,8 +3,9 @@ use Rattle.std.proofs.Common.{◌≡◌, ℕ, zero, suc, ◌+◌, ◌*◌, ◌^�
 use Rattle.std.proofs.lemmas.Bool.{agree_below, agree_below_at, leb-true, ltb-true, eqb-true, le-leb, lt-ltb, ne_eqb, or_cases, and_parts}
 use Rattle.node_set.specs.Ascending.{has}
 use Rattle.distances.specs.Table.{IsMetric, dist}
-use Rattle.directory.specs.Plan.{distance, level_at, clusters_of, members_of, home, readers, leader, inside}
-use Rattle.directory.specs.Matched.{IsMatched, containing}
+use Rattle.region_plan.specs.Plan.{distance, level_at, clusters_of, members_of, home, readers, leader, inside}
+use Rattle.region_plan.specs.Matched.{IsMatched}
+use Rattle.region_plan.specs.Regions.{containing}
 use Rattle.directory.specs.LineOfFour.{line, line_distances}
 
 -- a test at every number below one bound, two and three

@@ -4,7 +4,7 @@ use Rattle.entry_word.specs.declared.mark.PresenceMark.{PresenceMark}
 use Rattle.entry_word.specs.declared.mark.PresenceMark.TheVariants.{Empty, Here, Gone, Coming}
 use Rattle.entry_word.specs.declared.address.Address.{Address}
 use Rattle.entry_word.specs.declared.visit.Key.{Key}
-use Rattle.directory.specs.Plan.{PlanData, distance, inside}
+use Rattle.region_plan.specs.Plan.{PlanData, distance, inside}
 use Rattle.directory.specs.Keys.{sub_of}
 use Rattle.directory.specs.Finds.{Found, Next, wants, answers, Turn, stops, hops, turn, after_turn, chase, most_hops, Reader, all_readers, after_entry, climb, after_origin, find, mark_in, address_in}
 

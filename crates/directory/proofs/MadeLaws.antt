@@ -7,7 +7,7 @@ use Rattle.std.proofs.lemmas.List.Elements.{All-cons, All-nil, All-append}
 use Rattle.entry_word.specs.declared.visit.Key.{Key}
 use Rattle.entry_word.specs.declared.visit.Act.TheVariants.{Look}
 use Rattle.entry_word.specs.declared.visit.Visit.{Visit}
-use Rattle.directory.specs.Plan.{PlanData}
+use Rattle.region_plan.specs.Plan.{PlanData}
 use Rattle.directory.specs.Histories.{History, cell, tickets_from, tickets, word_by, words_after, words_read}
 use Rattle.directory.specs.Writes.{numbers_from}
 use Rattle.directory.specs.Finds.{Found, at, again, Next, wants, answers, find, look_of}

@@ -9,7 +9,7 @@ use Rattle.std.proofs.lemmas.List.Elements.{All-head, All-tail}
 use Rattle.entry_word.specs.declared.visit.Key.{Key}
 use Rattle.entry_word.specs.declared.visit.Act.TheVariants.{Look}
 use Rattle.entry_word.specs.declared.visit.Visit.{Visit}
-use Rattle.directory.specs.Plan.{PlanData}
+use Rattle.region_plan.specs.Plan.{PlanData}
 use Rattle.directory.specs.Histories.{History, puts_for, puts_to, own, word_by, words_after, words_read}
 use Rattle.directory.specs.Finds.{most_looks}
 use Rattle.directory.specs.Writes.{numbers_from, Write, mark_at, entry_at, visit_of}

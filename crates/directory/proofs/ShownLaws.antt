@@ -10,7 +10,7 @@ use Rattle.entry_word.specs.declared.mark.PresenceMark.TheVariants.{Empty}
 use Rattle.entry_word.specs.declared.visit.Key.TheVariants.{Presence, Entry}
 use Rattle.entry_word.specs.declared.visit.Act.{Act}
 use Rattle.entry_word.specs.declared.visit.Act.TheVariants.{Look, Put, Census}
-use Rattle.directory.specs.Plan.{PlanData, nodes_of}
+use Rattle.region_plan.specs.Plan.{PlanData, nodes_of}
 use Rattle.directory.specs.Keys.{home_node}
 use Rattle.directory.specs.Histories.{History, puts_for, puts_to}
 use Rattle.directory.specs.Writes.{Course, Write, mark_at, entry_at, visit_of, numbers_from, each_from, addressing, erasing, old_cluster, purging, levels_renewed, writes, joined}

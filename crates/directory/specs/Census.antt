@@ -5,7 +5,7 @@ use Rattle.node_set.specs.Ascending.{passing}
 use Rattle.entry_word.specs.declared.mark.PresenceMark.{PresenceMark}
 use Rattle.entry_word.specs.declared.mark.PresenceMark.TheVariants.{Empty, Here, Gone, Coming}
 use Rattle.entry_word.specs.declared.visit.Key.TheVariants.{Presence}
-use Rattle.directory.specs.Plan.{PlanData}
+use Rattle.region_plan.specs.Plan.{PlanData}
 use Rattle.directory.specs.Histories.{History, cell}
 use Rattle.directory.specs.Finds.{mark_in}
 

@@ -3,7 +3,7 @@
 -- Key laws: `base_of_course` (the last renewals that decide on a move are the bases of the course).
 use Rattle.std.specs.Prelude.{ℕ, zero, suc, ◌+◌, ◌-◌, Bool, nat_le, if◌then◌else◌, List, ◌∷◌, map, length, slice_index_or}
 use Rattle.entry_word.specs.declared.visit.Visit.{Visit}
-use Rattle.directory.specs.Plan.{PlanData, nodes_of, levels_of, top_of, distance, home, threshold}
+use Rattle.region_plan.specs.Plan.{PlanData, nodes_of, levels_of, top_of, distance, home, threshold}
 use Rattle.directory.specs.Writes.{Course, joined, visit_of}
 
 -- the node where a subscriber is after q moves: its home node and then the nodes of its itinerary

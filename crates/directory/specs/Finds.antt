@@ -12,7 +12,7 @@ use Rattle.entry_word.specs.declared.mark.PresenceMark.TheVariants.{Empty, Here,
 use Rattle.entry_word.specs.declared.address.Address.{Address}
 use Rattle.entry_word.specs.declared.visit.Key.{Key}
 use Rattle.entry_word.specs.declared.visit.Key.TheVariants.{Presence, Entry}
-use Rattle.directory.specs.Plan.{PlanData, nodes_of, levels_of, distance, readers, leader, inside}
+use Rattle.region_plan.specs.Plan.{PlanData, nodes_of, levels_of, distance, readers, leader, inside}
 
 -- why a find has to be made again: its chase met a node without a mark, no entry had an address, or the chase was too long
 pub data Why : Type 0 where

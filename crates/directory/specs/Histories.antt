@@ -6,7 +6,7 @@ use Rattle.entry_word.specs.declared.visit.Key.{Key}
 use Rattle.entry_word.specs.declared.visit.Act.{Act}
 use Rattle.entry_word.specs.declared.visit.Act.TheVariants.{Look, Put, Census}
 use Rattle.entry_word.specs.declared.visit.Visit.{Visit}
-use Rattle.directory.specs.Plan.{PlanData}
+use Rattle.region_plan.specs.Plan.{PlanData}
 use Rattle.directory.specs.Keys.{same_key, sub_of, opening}
 
 -- all visits, the oldest first

@@ -8,7 +8,7 @@ use Rattle.entry_word.specs.Addresses.{address_word}
 use Rattle.entry_word.specs.declared.mark.PresenceMark.TheVariants.{Empty, Here}
 use Rattle.entry_word.specs.declared.visit.Key.{Key}
 use Rattle.entry_word.specs.declared.visit.Key.TheVariants.{Presence, Entry}
-use Rattle.directory.specs.Plan.{PlanData, home, leader}
+use Rattle.region_plan.specs.Plan.{PlanData, home, leader}
 
 -- the node at which a cell lies
 abbrev pub key_node : PlanData → Key → ℕ

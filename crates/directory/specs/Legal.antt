@@ -5,7 +5,7 @@
 use Rattle.std.specs.Prelude.{◌≡◌, ◌≢◌, ℕ, suc, ◌<◌, ◌^◌, List, Option, Some, None, take, length, filter_map}
 use Rattle.entry_word.specs.declared.mark.PresenceMark.{PresenceMark}
 use Rattle.entry_word.specs.declared.mark.PresenceMark.TheVariants.{Empty, Here, Gone, Coming}
-use Rattle.directory.specs.Plan.{PlanData, nodes_of}
+use Rattle.region_plan.specs.Plan.{PlanData, nodes_of}
 use Rattle.directory.specs.Keys.{home_node}
 use Rattle.directory.specs.Histories.{History, puts_to}
 use Rattle.directory.specs.Courses.{stop_of, visits_of}

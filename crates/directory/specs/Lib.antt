@@ -1,5 +1,3 @@
-pub mod Plan
-pub mod Matched
 pub mod Keys
 pub mod Histories
 pub mod Writes

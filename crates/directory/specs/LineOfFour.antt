@@ -2,7 +2,7 @@
 -- clusters. It is the running example of the directory, and the worked examples are computed over it.
 use Rattle.std.specs.Prelude.{ℕ, List, [], ◌∷◌}
 use Rattle.distances.specs.Table.{DistanceTable}
-use Rattle.directory.specs.Plan.{PlanCluster, Level, PlanData}
+use Rattle.region_plan.specs.Plan.{PlanCluster, Level, PlanData}
 use Rattle.directory.specs.Orders.{FindCall, Scripts}
 
 -- the distances between the four nodes

@@ -5,7 +5,7 @@
 use Rattle.std.specs.Prelude.{◌≡◌, ℕ, suc, ◌≤◌, List, [], ◌∷◌, ◌++◌, drop, slice_get, Option, Some, None, slice_index, length, ◌-◌}
 use Rattle.entry_word.specs.declared.visit.Key.{Key}
 use Rattle.entry_word.specs.declared.visit.Act.TheVariants.{Look}
-use Rattle.directory.specs.Plan.{PlanData}
+use Rattle.region_plan.specs.Plan.{PlanData}
 use Rattle.directory.specs.Histories.{History, before, through, puts_to, cell}
 use Rattle.directory.specs.Finds.{Found, wants, answers, find, look_of}
 

@@ -3,7 +3,7 @@
 -- last; and whose visit each ticket was.
 -- Key laws: `outcome_is_made` (each find of an outcome is a find in its history), and the worked examples over the line of four nodes, computed.
 use Rattle.std.specs.Prelude.{ℕ, suc, ◌+◌, ◌-◌, List, [], ◌∷◌, ◌++◌, map, length, drop, Option, flat_map, slice_index, ◌≡◌, slice_get, Some, option_map}
-use Rattle.directory.specs.Plan.{PlanData, distance}
+use Rattle.region_plan.specs.Plan.{PlanData, distance}
 use Rattle.directory.specs.Keys.{home_node}
 use Rattle.directory.specs.Histories.{History, tickets, words_read}
 use Rattle.directory.specs.Writes.{Course, coming, commit, visit_of, writes, joined, levels_renewed, numbers_from}

@@ -9,7 +9,7 @@ use Rattle.entry_word.specs.declared.mark.PresenceMark.TheVariants.{Empty, Here,
 use Rattle.entry_word.specs.declared.visit.Key.TheVariants.{Presence, Entry}
 use Rattle.entry_word.specs.declared.visit.Act.{Act}
 use Rattle.entry_word.specs.declared.visit.Act.TheVariants.{Look, Put, Census}
-use Rattle.directory.specs.Plan.{PlanData, distance}
+use Rattle.region_plan.specs.Plan.{PlanData, distance}
 use Rattle.directory.specs.Keys.{home_node}
 use Rattle.directory.specs.Histories.{History}
 use Rattle.directory.specs.Writes.{Write, mark_at, entry_at}

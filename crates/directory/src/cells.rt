@@ -8,7 +8,7 @@ ghost use Rattle.directory.specs.Census.{census, is_here};
 ghost use Rattle.directory.specs.Finds.{mark_in};
 ghost use Rattle.directory.specs.Histories.{cell, History, puts_to};
 ghost use Rattle.directory.specs.Keys.{same_key, sub_of};
-ghost use Rattle.directory.specs.Plan.{PlanData};
+ghost use Rattle.region_plan.specs.Plan.{PlanData};
 ghost use Rattle.directory.specs.Standing.{commits, Marking, marking_by, number, passage, passage_after, place_after, standing};
 
 use node_set::passing_members;

@@ -1,7 +1,7 @@
 //! Laws of courses and of legal histories.
 ghost use Rattle.std.specs.Prelude.{◌≡◌, ℕ, List, ◌++◌, length, map};
 ghost use Rattle.directory.specs.Courses.{bases, course, stop_of, visits_of};
-ghost use Rattle.directory.specs.Plan.{PlanData};
+ghost use Rattle.region_plan.specs.Plan.{PlanData};
 ghost use Rattle.directory.specs.Writes.{base, joined, visit_of};
 
 /// The last renewals that decide on a move are the bases of the course.

@@ -3,7 +3,7 @@ ghost use Rattle.std.specs.Prelude.{◌≡◌, ◌+◌, ◌<◌, ◌≤◌, ℕ,
 ghost use Rattle.entry_word.specs.declared.visit.Key.{Key};
 ghost use Rattle.directory.specs.Finds.{answer_of, answers, find, Found, look_of, most_looks, Next, wants};
 ghost use Rattle.directory.specs.Keys.{sub_of};
-ghost use Rattle.directory.specs.Plan.{PlanData};
+ghost use Rattle.region_plan.specs.Plan.{PlanData};
 
 /// A find has a next look or an answer, and never both.
 pub fn one_of_both()

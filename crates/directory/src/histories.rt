@@ -3,7 +3,7 @@ ghost use Rattle.std.specs.Prelude.{◌≡◌, ◌==◌, ◌<◌, ℕ, List, [],
 ghost use Rattle.entry_word.specs.declared.visit.Key.{Key};
 ghost use Rattle.entry_word.specs.declared.visit.Visit.{Visit};
 ghost use Rattle.directory.specs.Histories.{after_act, cell, History, own, puts_for, puts_to, tickets, word_by, words_read};
-ghost use Rattle.directory.specs.Plan.{PlanData};
+ghost use Rattle.region_plan.specs.Plan.{PlanData};
 
 /// A visit changes what a cell holds by its act alone.
 pub fn cell_after()

@@ -4,7 +4,7 @@ ghost use Rattle.directory.specs.Courses.{course, visits_of};
 ghost use Rattle.directory.specs.Histories.{History};
 ghost use Rattle.directory.specs.Keys.{home_node};
 ghost use Rattle.directory.specs.Legal.{IsLegal, IsShown};
-ghost use Rattle.directory.specs.Plan.{nodes_of, PlanData};
+ghost use Rattle.region_plan.specs.Plan.{nodes_of, PlanData};
 ghost use Rattle.directory.specs.Standing.{marking_in, markings};
 ghost use Rattle.directory.specs.Writes.{joined};
 

@@ -4,7 +4,7 @@ ghost use Rattle.entry_word.specs.declared.visit.Visit.{Visit};
 ghost use Rattle.directory.specs.Histories.{History, own, puts_to};
 ghost use Rattle.directory.specs.Legal.{IsLegal};
 ghost use Rattle.directory.specs.Orders.{AreValid, history_of, IsDone, IsPlayed, last_turns, next, play, script_visits, Scripts};
-ghost use Rattle.directory.specs.Plan.{PlanData};
+ghost use Rattle.region_plan.specs.Plan.{PlanData};
 
 /// The next visit of an actor is its own.
 pub fn next_is_own()

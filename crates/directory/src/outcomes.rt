@@ -5,7 +5,7 @@ ghost use Rattle.directory.specs.Histories.{History, tickets};
 ghost use Rattle.directory.specs.Keys.{home_node};
 ghost use Rattle.directory.specs.Orders.{history_of, IsDone, IsPlayed, moves_of, Scripts};
 ghost use Rattle.directory.specs.Outcomes.{IsMade, IsMoveMade, outcome_in, outcome_of};
-ghost use Rattle.directory.specs.Plan.{PlanData};
+ghost use Rattle.region_plan.specs.Plan.{PlanData};
 
 /// Each find of an outcome is a find in its history: it has those looks, those words and that answer.
 pub fn outcome_is_made()
