@@ -7,6 +7,8 @@ pub mod CellLaws
 pub mod LookLaws
 pub mod ShownLaws
 pub mod LineLaws
+pub mod LineWalks
+pub mod LinePlans
 pub mod OrderLaws
 pub mod MadeLaws
 pub mod PlaceLaws

@@ -9,29 +9,29 @@ use Rattle.region_plan.specs.Regions.{containing}
 use Rattle.directory.specs.LineOfFour.{line, line_distances}
 
 -- a test at every number below one bound, two and three
-all1 : (ℕ → Bool) → ℕ → Bool
+unfoldable pub all1 : (ℕ → Bool) → ℕ → Bool
 all1 test n = agree_below test (λ _. true) n
 
-at1 : (test : ℕ → Bool) (n : ℕ) → all1 test n ≡ true → (x : ℕ) → x < n → test x ≡ true
+pub at1 : (test : ℕ → Bool) (n : ℕ) → all1 test n ≡ true → (x : ℕ) → x < n → test x ≡ true
 unfolding all1
 at1 test n h x low = agree_below_at test (λ _. true) n x h low
 
-all2 : (ℕ → ℕ → Bool) → ℕ → ℕ → Bool
+unfoldable pub all2 : (ℕ → ℕ → Bool) → ℕ → ℕ → Bool
 all2 test n m = all1 (λ x. all1 (test x) m) n
 
-at2 : (test : ℕ → ℕ → Bool) (n m : ℕ) → all2 test n m ≡ true → (x y : ℕ) → x < n → y < m → test x y ≡ true
+pub at2 : (test : ℕ → ℕ → Bool) (n m : ℕ) → all2 test n m ≡ true → (x y : ℕ) → x < n → y < m → test x y ≡ true
 unfolding all2
 at2 test n m h x y low high = at1 (test x) m (at1 (λ z. all1 (test z) m) n h x low) y high
 
-all3 : (ℕ → ℕ → ℕ → Bool) → ℕ → ℕ → ℕ → Bool
+unfoldable pub all3 : (ℕ → ℕ → ℕ → Bool) → ℕ → ℕ → ℕ → Bool
 all3 test n m k = all1 (λ x. all2 (test x) m k) n
 
-at3 : (test : ℕ → ℕ → ℕ → Bool) (n m k : ℕ) → all3 test n m k ≡ true → (x y z : ℕ) → x < n → y < m → z < k → test x y z ≡ true
+pub at3 : (test : ℕ → ℕ → ℕ → Bool) (n m k : ℕ) → all3 test n m k ≡ true → (x y z : ℕ) → x < n → y < m → z < k → test x y z ≡ true
 unfolding all3
 at3 test n m k h x y z low high far = at2 (test x) m k (at1 (λ w. all2 (test w) m k) n h x low) y z high far
 
 -- what a test with a premise tells
-when : (a b : Bool) → (not a || b) ≡ true → a ≡ true → b ≡ true
+pub when : (a b : Bool) → (not a || b) ≡ true → a ≡ true → b ≡ true
 when true b h e = h
 when false b h e = cc
 
@@ -72,11 +72,11 @@ few_clusters : (i : ℕ) → i < 3 → clusters_of line i ≤ 2
 unfolding all1
 few_clusters i low = leb-true (clusters_of line i) 2 (at1 (λ i. nat_le (clusters_of line i) 2) 3 refl i low)
 
-below_four : List ℕ → Bool
+unfoldable pub below_four : List ℕ → Bool
 below_four [] = true
 below_four (x ∷ xs) = nat_lt x 4 && below_four xs
 
-members_below : (v : ℕ) (xs : List ℕ) → below_four xs ≡ true → has v xs ≡ true → v < 4
+pub members_below : (v : ℕ) (xs : List ℕ) → below_four xs ≡ true → has v xs ≡ true → v < 4
 unfolding below_four
 members_below v [] h e = cc
 members_below v (x ∷ xs) h e =

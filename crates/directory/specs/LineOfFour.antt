@@ -1,9 +1,19 @@
 -- The line of four nodes, joined by edges of weight 1, with its plan for k of 2: three levels, of which the lowest has two
 -- clusters. It is the running example of the directory, and the worked examples are computed over it.
 use Rattle.std.specs.Prelude.{ℕ, List, [], ◌∷◌}
+use Rattle.net_graph.specs.declared.edge.Edge.{Edge}
+use Rattle.net_graph.specs.Network.{Network}
+use Rattle.net_graph.specs.Walks.{make_edge}
 use Rattle.distances.specs.Table.{DistanceTable}
 use Rattle.region_plan.specs.Plan.{PlanCluster, Level, PlanData}
 use Rattle.directory.specs.Orders.{FindCall, Scripts}
+
+-- its network
+abbrev pub line_edges : List Edge
+line_edges = make_edge 0 1 1 ∷ make_edge 1 2 1 ∷ make_edge 2 3 1 ∷ []
+
+abbrev pub line_network : Network
+line_network = record { nodes = 4; edges = line_edges }
 
 -- the distances between the four nodes
 abbrev pub line_distances : DistanceTable

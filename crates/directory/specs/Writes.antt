@@ -3,7 +3,7 @@
 -- the levels that it renews; it commits, by saying at the old node that the subscriber is gone; it confirms, by saying at
 -- the new node that it is here; it erases the old addresses at those levels, and, where it renews the top level, it
 -- purges the trail of nodes that the subscriber passed since its last renewal of the top level.
--- Key laws: `front_of_course` (the writes of a move depend on the moves so far alone).
+-- Key laws: `more_moves` (the writes of a move depend on the moves so far alone).
 use Rattle.std.specs.Prelude.{ℕ, zero, suc, ◌-◌, true, not, ◌==◌, ◌&&◌, nat_le, if◌then◌else◌, List, [], ◌∷◌, ◌++◌, map, Option, Some, None}
 use Rattle.node_set.specs.Ascending.{has, passing}
 use Rattle.entry_word.specs.Marks.{mark_word}

@@ -24,4 +24,4 @@ pub use orders::{
     order_of_history, scripts_in_order,
 };
 pub use outcomes::{move_is_made, outcome_is_made};
-pub use plans::matched_plan_is;
+pub use plans::{line_has_its_plan, matched_plan_is};

@@ -1,8 +1,18 @@
-//! Laws of plans.
-ghost use Rattle.directory.specs.LineOfFour.{line};
+//! Laws of the plan that the examples use.
+ghost use Rattle.directory.specs.LineOfFour.{line, line_network};
 ghost use Rattle.region_plan.specs.Matched.{IsMatched};
+ghost use Rattle.region_plan.specs.Regions.{IsPlanOf};
+
+use net_graph::least_weight_turned;
 
 /// The plan of the line of four is matched, so that what is said of matched plans is said of some.
 pub fn matched_plan_is()
     ensures { IsMatched line }
 {}
+
+/// It is the plan of its network for k of 2.
+pub fn line_has_its_plan()
+    ensures { IsPlanOf line_network 2 line }
+{
+    least_weight_turned();
+}
