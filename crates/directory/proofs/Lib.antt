@@ -12,3 +12,4 @@ pub mod LinePlans
 pub mod OrderLaws
 pub mod MadeLaws
 pub mod PlaceLaws
+pub mod RestLaws

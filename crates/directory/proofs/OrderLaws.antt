@@ -63,10 +63,10 @@ next-actor plan scripts history actor visit h =
     cases a b = grind (arith, nat_tests)
 
 -- a turn makes the next visit, or none
-turn-none : (plan : PlanData) (scripts : Scripts) (history : History) (actor : ℕ) → IsDone plan scripts history actor → after_turn_of plan scripts history actor ≡ history
+pub turn-none : (plan : PlanData) (scripts : Scripts) (history : History) (actor : ℕ) → IsDone plan scripts history actor → after_turn_of plan scripts history actor ≡ history
 turn-none plan scripts history actor h = ap (λ v. history ++ option_to_list v) h ∙ append-nil history
 
-turn-some : (plan : PlanData) (scripts : Scripts) (history : History) (actor : ℕ) (visit : Visit) → next plan scripts history actor ≡ Some visit → after_turn_of plan scripts history actor ≡ history ++ visit ∷ []
+pub turn-some : (plan : PlanData) (scripts : Scripts) (history : History) (actor : ℕ) (visit : Visit) → next plan scripts history actor ≡ Some visit → after_turn_of plan scripts history actor ≡ history ++ visit ∷ []
 turn-some plan scripts history actor visit h = ap (λ v. history ++ option_to_list v) h
 
 -- what holds of a history and with each next visit holds after a turn, and after an order
@@ -113,7 +113,7 @@ played-push plan scripts history actor visit e played ticket found h =
     get-end (y ∷ ys) x zero h = absurd (omega arith)
     get-end (y ∷ ys) x (suc i) h = get-end ys x i (omega arith)
 
-none-played : (plan : PlanData) (scripts : Scripts) → IsPlayed plan scripts []
+pub none-played : (plan : PlanData) (scripts : Scripts) → IsPlayed plan scripts []
 none-played plan scripts ticket visit h = cc
 
 -- each visit of the history of an order was its actor's next one
@@ -266,10 +266,10 @@ counted plan scripts actor (suc k) history = at_next (next plan scripts history 
           | inr many ↦ inr (omega arith)
         ])
 
-played-kept : (plan : PlanData) (scripts : Scripts) (order : List ℕ) (history : History) → IsPlayed plan scripts history → IsPlayed plan scripts (play plan scripts history order)
+pub played-kept : (plan : PlanData) (scripts : Scripts) (order : List ℕ) (history : History) → IsPlayed plan scripts history → IsPlayed plan scripts (play plan scripts history order)
 played-kept plan scripts order history played = kept_by_play plan scripts (IsPlayed plan scripts) (played-push plan scripts) order history played
 
-done-after : (plan : PlanData) (scripts : Scripts) (actor : ℕ) (history : History) → IsPlayed plan scripts history → IsDone plan scripts (play plan scripts history (replicate (most_turns plan scripts actor) actor)) actor
+pub done-after : (plan : PlanData) (scripts : Scripts) (actor : ℕ) (history : History) → IsPlayed plan scripts history → IsDone plan scripts (play plan scripts history (replicate (most_turns plan scripts actor) actor)) actor
 done-after plan scripts actor history played = at_next (next plan scripts (play plan scripts history (replicate (most_turns plan scripts actor) actor)) actor) refl
   where
     at_next : (n : Option Visit) → next plan scripts (play plan scripts history (replicate (most_turns plan scripts actor) actor)) actor ≡ n → IsDone plan scripts (play plan scripts history (replicate (most_turns plan scripts actor) actor)) actor
@@ -291,7 +291,7 @@ in_numbers x v (suc k) low high = at_test (x == v) refl (in_numbers x (suc v) k)
     at_test true e later = refl
     at_test false e later = later (grind (arith, nat_tests)) (omega arith)
 
-play-append : (plan : PlanData) (scripts : Scripts) (history : History) (one other : List ℕ) → play plan scripts history (one ++ other) ≡ play plan scripts (play plan scripts history one) other
+pub play-append : (plan : PlanData) (scripts : Scripts) (history : History) (one other : List ℕ) → play plan scripts history (one ++ other) ≡ play plan scripts (play plan scripts history one) other
 play-append plan scripts history one other = fold-append (after_turn_of plan scripts) history one other
 
 -- after enough turns of each of some actors these are done

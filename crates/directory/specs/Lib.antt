@@ -10,3 +10,4 @@ pub mod Orders
 pub mod Outcomes
 pub mod Census
 pub mod LineOfFour
+pub mod Resting

@@ -23,5 +23,5 @@ pub use orders::{
     all_scripts_done, each_visit_is_next, every_order_is_legal, idle_turns, next_is_own,
     order_of_history, scripts_in_order,
 };
-pub use outcomes::{move_is_made, outcome_is_made};
+pub use outcomes::{move_is_made, outcome_is_made, rest_is_opening};
 pub use plans::{line_has_its_plan, matched_plan_is};
