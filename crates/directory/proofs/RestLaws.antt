@@ -1,12 +1,11 @@
 -- What becomes of finds where nobody moves: every look reads an opening word, so that the callers make their looks one
 -- after another, and each find answers what it does over the opening.
-use Rattle.std.proofs.Common.{◌≡◌, ℕ, zero, suc, ◌+◌, ◌-◌, ◌<◌, ◌≤◌, Bool, true, false, cond, ◌==◌, List, [], ◌∷◌, ◌++◌, Option, Some, None, length, map, refl, sym, ap, ◌∙◌, subst, arith, inl, inr, append_assoc, length-append}
+use Rattle.std.proofs.Common.{◌≡◌, ℕ, zero, suc, ◌+◌, ◌<◌, ◌≤◌, Bool, true, false, cond, ◌==◌, List, [], ◌∷◌, ◌++◌, Option, Some, None, length, map, refl, sym, ap, ◌∙◌, subst, arith, append_assoc, length-append}
 use Rattle.std.specs.Prelude.{All, flat_map, replicate, option_map, fold, slice_get}
-use Rattle.std.proofs.lemmas.Bool.{eq-eqb, ne_eqb, cases_lt}
-use Rattle.std.proofs.lemmas.List.{append-nil, map-append, length-map, length-replicate}
+use Rattle.std.proofs.lemmas.Bool.{eq-eqb, ne_eqb}
+use Rattle.std.proofs.lemmas.List.{append-nil, map-append, length-map}
 use Rattle.std.proofs.lemmas.List.Elements.{All-nil, All-cons, All-head, All-tail, All-append, All-replicate}
 use Rattle.std.proofs.lemmas.List.Concat.{flat_map-append}
-use Rattle.std.proofs.lemmas.List.Sums.{fold-append}
 use Rattle.entry_word.specs.declared.visit.Key.{Key}
 use Rattle.entry_word.specs.declared.visit.Act.TheVariants.{Look}
 use Rattle.entry_word.specs.declared.visit.Visit.{Visit}
@@ -14,7 +13,7 @@ use Rattle.region_plan.specs.Plan.{PlanData}
 use Rattle.directory.specs.Keys.{home_node, opening}
 use Rattle.directory.specs.Histories.{History, after_act, cell, own, words_after, words_read, tickets_from, tickets}
 use Rattle.directory.specs.Writes.{numbers_from, joined}
-use Rattle.directory.specs.Orders.{Scripts, moves_of, finds_of, next_look, next, play, most_turns, last_turns, history_of, IsPlayed, IsDone, after_turn_of}
+use Rattle.directory.specs.Orders.{Scripts, finds_of, next_look, next, play, most_turns, last_turns, history_of, IsPlayed, IsDone, after_turn_of}
 use Rattle.directory.specs.Outcomes.{Done, Outcome, done_finds, done_move, done_moves, outcome_in, outcome_of}
 use Rattle.directory.specs.Courses.{course, visits_of}
 use Rattle.directory.specs.Resting.{looks_by, IsRun, IsAtRest, AreRuns, calls_from, outcome_at_rest}
@@ -98,8 +97,8 @@ run_done plan scripts caller (suc n) (key ∷ keys) history high all run done =
     let some : next plan scripts history caller ≡ Some visit = next-caller plan scripts history caller high ∙ ap (λ o. option_map (λ (k : Key). record { actor = caller; act = Look k }) o) run.0 in
     let turned : after_turn_of plan scripts history caller ≡ history ++ visit ∷ [] = turn-some plan scripts history caller visit some in
     let later = run_done plan scripts caller n keys (history ++ visit ∷ []) high (pushed_rest history caller key all)
-        (subst (λ ws. IsRun (next_look plan (finds_of scripts caller)) (opening plan scripts.homes) ws keys) (sym (own_word plan scripts.homes history caller key all)) run.1)
-        (subst (λ h. IsDone plan scripts (play plan scripts h (replicate n caller)) caller) turned done) in
+    (subst (λ ws. IsRun (next_look plan (finds_of scripts caller)) (opening plan scripts.homes) ws keys) (sym (own_word plan scripts.homes history caller key all)) run.1)
+    (subst (λ h. IsDone plan scripts (play plan scripts h (replicate n caller)) caller) turned done) in
     ap (λ h. play plan scripts h (replicate n caller)) turned ∙ later ∙ append_assoc history (visit ∷ []) (looks_by caller keys)
 
 -- a caller's turns at the end, when it hasn't read a word
@@ -129,10 +128,10 @@ play_at_rest plan scripts keys (suc count) first history high played all none ru
     play-append plan scripts history turns later
     ∙ ap (λ h. play plan scripts h later) here
     ∙ play_at_rest plan scripts keys count (suc first) (history ++ looks) (omega arith)
-        (subst (λ h. IsPlayed plan scripts h) here (played-kept plan scripts turns history played))
-        (All-append Rests history looks all (looks_rest first (keys first)))
-        (λ caller above. other_words plan scripts.homes caller first (keys first) history (λ same. omega (arith, same, above)) ∙ none caller (omega arith))
-        (λ caller low below. runs caller (omega arith) (omega arith))
+    (subst (λ h. IsPlayed plan scripts h) here (played-kept plan scripts turns history played))
+    (All-append Rests history looks all (looks_rest first (keys first)))
+    (λ caller above. other_words plan scripts.homes caller first (keys first) history (λ same. omega (arith, same, above)) ∙ none caller (omega arith))
+    (λ caller low below. runs caller (omega arith) (omega arith))
     ∙ append_assoc history looks (looks_of_all keys (numbers_from (suc first) count))
 
 -- ---- tickets
@@ -194,23 +193,23 @@ calls_at plan scripts keys (suc count) first before all words seen =
     let later : History = looks_of_all keys (numbers_from (suc first) count) in
     let whole : before ++ (looks ++ later) ≡ (before ++ looks) ++ later = sym (append_assoc before looks later) in
     let length_is : length (before ++ looks) ≡ length before + length (keys first) =
-        length-append before looks ∙ ap (λ n. length before + n) (length-map (keys first) (λ (key : Key). record { actor = first; act = Look key })) in
+    length-append before looks ∙ ap (λ n. length before + n) (length-map (keys first) (λ (key : Key). record { actor = first; act = Look key })) in
     let here_tickets : tickets first (before ++ (looks ++ later)) ≡ numbers_from (length before) (length (keys first)) =
-        tickets-append first 0 before (looks ++ later)
-        ∙ rw (seen first (omega arith)) (tickets-append first (0 + length before) looks later
-          ∙ rw (own_tickets first (0 + length before) (keys first), later_tickets keys first (0 + length before + length looks) count (suc first) (omega arith))
-          (append-nil (numbers_from (0 + length before) (length (keys first))) ∙ ap (λ t. numbers_from t (length (keys first))) (omega arith))) in
+    tickets-append first 0 before (looks ++ later)
+    ∙ rw (seen first (omega arith)) (tickets-append first (0 + length before) looks later
+    ∙ rw (own_tickets first (0 + length before) (keys first), later_tickets keys first (0 + length before + length looks) count (suc first) (omega arith))
+    (append-nil (numbers_from (0 + length before) (length (keys first))) ∙ ap (λ t. numbers_from t (length (keys first))) (omega arith))) in
     let here_words : words_read plan scripts.homes first (before ++ (looks ++ later)) ≡ map (opening plan scripts.homes) (keys first) =
-        ap (words_read plan scripts.homes first) whole ∙ later_words plan scripts.homes keys first count (suc first) (before ++ looks) (omega arith)
-        ∙ own_words plan scripts.homes first (keys first) before all ∙ ap (λ ws. ws ++ map (opening plan scripts.homes) (keys first)) (words first (omega arith)) in
+    ap (words_read plan scripts.homes first) whole ∙ later_words plan scripts.homes keys first count (suc first) (before ++ looks) (omega arith)
+    ∙ own_words plan scripts.homes first (keys first) before all ∙ ap (λ ws. ws ++ map (opening plan scripts.homes) (keys first)) (words first (omega arith)) in
     let rest : flat_map (calls_in plan scripts ((before ++ looks) ++ later)) (numbers_from (suc first) count) ≡ calls_from plan scripts keys (length before + length (keys first)) (suc first) count =
-        calls_at plan scripts keys count (suc first) (before ++ looks) (All-append Rests before looks all (looks_rest first (keys first)))
-        (λ caller above. other_words plan scripts.homes caller first (keys first) before (λ same. omega (arith, same, above)) ∙ words caller (omega arith))
-        (λ caller above. tickets-append caller 0 before looks ∙ rw (seen caller (omega arith)) (other_tickets caller first (0 + length before) (keys first) (λ same. omega (arith, same, above))))
-        ∙ ap (λ t. calls_from plan scripts keys t (suc first) count) length_is in
+    calls_at plan scripts keys count (suc first) (before ++ looks) (All-append Rests before looks all (looks_rest first (keys first)))
+    (λ caller above. other_words plan scripts.homes caller first (keys first) before (λ same. omega (arith, same, above)) ∙ words caller (omega arith))
+    (λ caller above. tickets-append caller 0 before looks ∙ rw (seen caller (omega arith)) (other_tickets caller first (0 + length before) (keys first) (λ same. omega (arith, same, above))))
+    ∙ ap (λ t. calls_from plan scripts keys t (suc first) count) length_is in
     ap (λ xs. xs ++ flat_map (calls_in plan scripts (before ++ (looks ++ later))) (numbers_from (suc first) count))
     (ap (λ ts. done_finds plan first (finds_of scripts first) ts (words_read plan scripts.homes first (before ++ (looks ++ later)))) here_tickets
-      ∙ ap (λ ws. done_finds plan first (finds_of scripts first) (numbers_from (length before) (length (keys first))) ws) here_words)
+    ∙ ap (λ ws. done_finds plan first (finds_of scripts first) (numbers_from (length before) (length (keys first))) ws) here_words)
     ∙ ap (λ xs. done_finds plan first (finds_of scripts first) (numbers_from (length before) (length (keys first))) (map (opening plan scripts.homes) (keys first)) ++ xs)
     (ap (λ h. flat_map (calls_in plan scripts h) (numbers_from (suc first) count)) whole ∙ rest)
 
@@ -244,7 +243,7 @@ no_moves : (plan : PlanData) (scripts : Scripts) (history : History) (count firs
 no_moves plan scripts history zero first rest within = refl
 no_moves plan scripts history (suc count) first rest within =
     let here : done_moves plan scripts history first ≡ [] =
-        ap (λ (moves : List ℕ). map (done_move plan (course plan (home_node scripts.homes first) moves) first (tickets first history)) (numbers_from 0 (length moves))) (rest first (omega arith)) in
+    ap (λ (moves : List ℕ). map (done_move plan (course plan (home_node scripts.homes first) moves) first (tickets first history)) (numbers_from 0 (length moves))) (rest first (omega arith)) in
     ap (λ xs. xs ++ flat_map (done_moves plan scripts history) (numbers_from (suc first) count)) here ∙ no_moves plan scripts history count (suc first) rest (omega arith)
 
 -- who makes the looks
@@ -267,8 +266,8 @@ history_at_rest plan scripts keys rest runs =
     let callers : ℕ = length scripts.finds in
     let turns : ℕ → ℕ → List ℕ = λ first count. flat_map (λ a. replicate (most_turns plan scripts a) a) (numbers_from first count) in
     let split : last_turns plan scripts ≡ turns 0 subs ++ turns subs callers =
-        ap (λ ns. flat_map (λ a. replicate (most_turns plan scripts a) a) ns) (numbers-append 0 subs callers ∙ ap (λ n. numbers_from 0 subs ++ numbers_from n callers) (omega arith))
-        ∙ flat_map-append (λ a. replicate (most_turns plan scripts a) a) (numbers_from 0 subs) (numbers_from subs callers) in
+    ap (λ ns. flat_map (λ a. replicate (most_turns plan scripts a) a) ns) (numbers-append 0 subs callers ∙ ap (λ n. numbers_from 0 subs ++ numbers_from n callers) (omega arith))
+    ∙ flat_map-append (λ a. replicate (most_turns plan scripts a) a) (numbers_from 0 subs) (numbers_from subs callers) in
     ap (λ order. play plan scripts [] order) split
     ∙ play-append plan scripts [] (turns 0 subs) (turns subs callers)
     ∙ ap (λ h. play plan scripts h (turns subs callers)) (play-done plan scripts [] (turns 0 subs) (subs_done plan scripts subs 0 rest (omega arith)))
@@ -282,8 +281,8 @@ outcome_rests plan scripts keys rest runs =
     let callers : ℕ = length scripts.finds in
     let history : History = looks_of_all keys (numbers_from subs callers) in
     let calls : flat_map (done_moves plan scripts history) (numbers_from 0 subs) ++ flat_map (calls_in plan scripts history) (numbers_from subs callers) ≡ calls_from plan scripts keys 0 subs callers =
-        ap (λ xs. xs ++ flat_map (calls_in plan scripts history) (numbers_from subs callers)) (no_moves plan scripts history subs 0 rest (omega arith))
-        ∙ calls_at plan scripts keys callers subs [] (All-nil Rests) (λ caller above. refl) (λ caller above. refl) in
+    ap (λ xs. xs ++ flat_map (calls_in plan scripts history) (numbers_from subs callers)) (no_moves plan scripts history subs 0 rest (omega arith))
+    ∙ calls_at plan scripts keys callers subs [] (All-nil Rests) (λ caller above. refl) (λ caller above. refl) in
     let order : map (λ (visit : Visit). visit.actor) history ≡ flat_map (λ caller. replicate (length (keys caller)) caller) (numbers_from subs callers) = actors_at_rest keys callers subs in
     let parts : ◌≡◌ {A = Outcome} (outcome_in plan scripts history) (outcome_at_rest plan scripts keys) = rw (calls, order) refl in
     ap (λ h. outcome_in plan scripts h) (history_at_rest plan scripts keys rest runs) ∙ parts

@@ -3,8 +3,9 @@ pub mod ManyLines
 pub mod Spelled
 pub mod SpelledRows
 pub mod SpelledContents
-pub mod FlatPlans
+pub mod FlatFinds
 pub mod Made
+pub mod AtRest
 pub mod OrderLines
 pub mod Answering
 pub mod Words

@@ -1,27 +1,25 @@
 -- Finds over the flat plan where nobody moves, as the code makes them: one entry for each subscriber, at the one cluster. Nothing above stands on this; the laws in proofs/ join it to `Finds`.
-use Rattle.std.specs.Prelude.{◌≡◌, ℕ, ◌+◌, ◌==◌, Bool, true, false, List, Some, None, map, flat_map}
+use Rattle.std.specs.Prelude.{◌≡◌, ℕ, zero, suc, ◌+◌, ◌-◌, ◌==◌, ◌++◌, Bool, true, false, List, [], ◌∷◌, Some, None, map, flat_map, replicate}
 use Rattle.net_graph.specs.Network.{Network, IsGraphOf}
 use Rattle.region_plan.specs.Kept.{IsKept}
 use Rattle.region_plan.specs.Plan.{PlanData, inside}
-use Rattle.region_plan.specs.Regions as flat_plan
-use Rattle.track.specs.declared.directory.Mark.{Mark}
-use Rattle.track.specs.declared.directory.Mark.TheVariants as marks
+use Rattle.region_plan.specs.Regions.{IsFlat}
+use Rattle.directory.specs.Outcomes.{Done, Outcome, outcome_of}
+use Rattle.directory.specs.Outcomes.Done.{found}
+use Rattle.track.specs.declared.finding.Mark.{Mark}
+use Rattle.track.specs.declared.finding.Mark.TheVariants as marks
 use Rattle.track.specs.declared.input.Find.{Find}
-use Rattle.track.specs.declared.directory.Found.{Found}
+use Rattle.track.specs.declared.finding.Found.{Found}
 use Rattle.track.specs.Contents.{Contents}
 use Rattle.track.specs.declared.outcome.Done as made
 use Rattle.track.specs.declared.outcome.Outcome as made_all
-use Rattle.track.specs.Finds.{Next}
-use Rattle.track.specs.Finds.Next.{answers}
-use Rattle.track.specs.Finds.Found.{at}
-use Rattle.track.specs.Outcome.{home_of, Done, Outcome, done_from, visits_of, outcome}
-use Rattle.track.specs.Plans.{Plan, IsFlat}
+use Rattle.track.specs.Scripts.{finds_by, home_of, scripts_of}
 
 -- the flat plan that the code has is that of the input's network
 pub record IsPlanFor (contents : Contents) (plan : PlanData) : Type 0 where
   pub network : Network
   pub graph : IsGraphOf contents.nodes contents.edges network
-  pub flat : flat_plan.IsFlat network plan
+  pub flat : IsFlat network plan
   pub kept : IsKept plan
 
 -- the weight of a node from the leader of all nodes
@@ -43,23 +41,36 @@ abbrev pub found_over : PlanData → Contents → Find → Found
 found_over plan contents call =
     found_at contents (weight_of plan call.from) (weight_of plan (home_of contents call.sub)) call (call.from == home_of contents call.sub)
 
--- the answer as a find's next
-abbrev pub result_of : Found → Next
-result_of found = answers (at found.node found.number found.level found.weight)
-
 -- a call that the code has done
 abbrev pub shown_done : made.Done → Done
-shown_done done = record { call = done.call; result = result_of done.found; first = done.first; last = done.last }
+shown_done it =
+    found it.call.caller it.call.from it.call.sub it.found.node it.found.number it.found.level it.found.weight it.first it.last
 
 -- an outcome that the code has made
 abbrev pub shown : made_all.Outcome → Outcome
 shown made = record { calls = map shown_done made.calls.items; order = made.order.items }
 
--- what the code has made is what becomes of these calls, one after another, over every flat plan of the network
-pub record AreMade (contents : Contents) (calls : List Find) (made : made_all.Outcome) : Type 0 where
-  pub calls_made : (plan : Plan) → IsFlat contents.nodes contents.edges plan → (shown made).calls ≡ done_from plan contents 0 calls
-  pub order_made : (shown made).order ≡ flat_map visits_of (shown made).calls
+-- the finds of the actors from this one on, so many of them: actor by actor, each actor's in the order of the text
+unfoldable pub by_actor : ℕ → ℕ → List Find → List Find
+by_actor actor zero finds = []
+by_actor actor (suc count) finds = finds_by actor finds ++ by_actor (actor + 1) count finds
 
--- what the code has made is the outcome of the input, over every flat plan of its network
-abbrev pub IsOutcome : Contents → made_all.Outcome → Type 0
-IsOutcome contents made = (plan : Plan) → IsFlat contents.nodes contents.edges plan → shown made ≡ outcome plan contents
+-- finds one after another over the plan, the first look having this ticket
+unfoldable pub made_from : PlanData → Contents → ℕ → List Find → List Done
+made_from plan contents ticket [] = []
+made_from plan contents ticket (call ∷ calls) =
+    let it = found_over plan contents call in
+    shown_done (record { call = call; found = it; first = ticket; last = ticket + it.looks - 1 }) ∷ made_from plan contents (ticket + it.looks) calls
+
+-- who makes the looks of finds
+abbrev pub looks_made : PlanData → Contents → List Find → List ℕ
+looks_made plan contents calls = flat_map (λ call. replicate (found_over plan contents call).looks call.caller) calls
+
+-- what the code has made is what becomes of these calls, one after another
+pub record AreMade (plan : PlanData) (contents : Contents) (calls : List Find) (made : made_all.Outcome) : Type 0 where
+  pub calls_made : (shown made).calls ≡ made_from plan contents 0 calls
+  pub order_made : (shown made).order ≡ looks_made plan contents calls
+
+-- what the code has made is the outcome of the scripts
+abbrev pub IsOutcome : PlanData → Contents → made_all.Outcome → Type 0
+IsOutcome plan contents made = shown made ≡ outcome_of plan (scripts_of contents) []

@@ -2,10 +2,7 @@ pub mod Contents
 pub mod Fields
 pub mod PlainText
 pub mod Reading
-pub mod Cells
-pub mod Plans
-pub mod Finds
-pub mod Outcome
+pub mod Scripts
 pub mod Report
 pub mod FlatFinds
 pub mod Words

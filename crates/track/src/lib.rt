@@ -2,9 +2,9 @@
 #![tactic(auto)]
 
 mod answer;
-mod directory;
 mod fault;
 mod fields;
+mod finding;
 mod input;
 mod laws;
 mod limits;
@@ -19,6 +19,6 @@ mod top;
 mod transfer;
 mod word_line;
 
-pub use laws::{flat_plan_is, one_answer, one_meaning};
+pub use laws::{one_answer, one_meaning};
 pub use limits::{MAX_BYTES, MAX_CALLERS, MAX_CALLS, MAX_EDGES, MAX_K, MAX_NODES, MAX_SUBSCRIBERS};
 pub use top::command;

@@ -1,14 +1,15 @@
 // What becomes of an input's finds over the flat plan, where nobody moves.
 ghost use Rattle.std.specs.Prelude.{◌≡◌, ◌+◌, ◌==◌, ◌++◌, All, IfOk, OnOk, filter, replicate};
+ghost use Rattle.track.specs.Answers.{NamesStanding};
 ghost use Rattle.track.specs.Contents.{AreInLimits, IsFind, subscriber_count};
-ghost use Rattle.track.specs.FlatFinds.{IsPlanFor, AreMade, IsOutcome};
-ghost use Rattle.track.specs.Outcome.{by_actor};
+ghost use Rattle.track.specs.FlatFinds.{IsPlanFor, AreMade, IsOutcome, by_actor, shown};
 ghost use Rattle.track.specs.Reading.{view};
 
-use crate::directory::{Found, find};
+use crate::finding::{Found, find};
 use crate::input::{Find, Input};
-use net_graph::least_weight_is_one;
-use region_plan::Plan;
+use directory::rest_is_opening;
+use entry_word::address_words;
+use region_plan::{Plan, flat_means};
 use std::alloc::{AllocError, Global};
 
 // A find with its answer, and the tickets of its first and its last visit.
@@ -72,9 +73,8 @@ fn make_all(
     requires plan { IsPlanFor (view input.now) plan.now }
     requires limits { AreInLimits (view input.now) }
     requires calls { All (IsFind (view input.now)) calls.now }
-    ensures { IfOk result (AreMade (view input.now) calls.now) }
+    ensures { IfOk result (AreMade plan.now (view input.now) calls.now) }
 {
-    least_weight_is_one();
     let mut done = Vec::with_capacity(alloc, calls.len())?;
     let mut order = Vec::new(alloc);
     for call in calls {
@@ -96,8 +96,12 @@ fn make_all(
 pub(crate) fn make_outcome(alloc: Global, input: &Input, plan: &Plan) -> Result<Outcome, AllocError>
     requires plan { IsPlanFor (view input.now) plan.now }
     requires limits { AreInLimits (view input.now) }
-    ensures { IfOk result (IsOutcome (view input.now)) }
+    ensures outcome { IfOk result (IsOutcome plan.now (view input.now)) }
+    ensures right { IfOk result (λ made. All (NamesStanding (view input.now)) (shown made).calls) }
 {
+    rest_is_opening();
+    flat_means();
+    address_words();
     let calls = calls_by_actor(alloc, input)?;
     make_all(alloc, input, plan, &calls)
 }

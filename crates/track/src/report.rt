@@ -1,9 +1,9 @@
 // The texts that are written: reports, and the lines of refused inputs.
 ghost use Rattle.std.specs.Prelude.{◌≡◌, ◌++◌, Some, IfOk, OnOk, flat_map, map, string_bytes};
-ghost use Rattle.track.specs.FlatFinds.{shown, shown_done, result_of};
+ghost use Rattle.track.specs.FlatFinds.{shown, shown_done};
 ghost use Rattle.track.specs.Report.{level_text, call_line, turn_text, order_text, report_of, apart_line};
 
-use crate::directory::Found;
+use crate::finding::Found;
 use crate::input::Find;
 use crate::outcome::{Done, Outcome};
 use std::alloc::{AllocError, Global};
@@ -27,7 +27,7 @@ impl fmt::Display for Level {
 }
 
 impl fmt::Display for Done {
-    ghost output = { λ done. Some (call_line (shown_done done) (result_of done.found)) };
+    ghost output = { λ done. Some (call_line (shown_done done)) };
 
     fn fmt<W: fmt::Write>(&self, f: &mut fmt::Formatter<W>) -> fmt::Result {
         let Find { caller, from, sub } = self.call;
@@ -49,7 +49,7 @@ impl fmt::Display for Done {
 
 // The lines of the calls.
 fn push_calls(text: &mut String, calls: &[Done]) -> Result<(), AllocError>
-    ensures { OnOk result (string_bytes text.new ≡ string_bytes text.old ++ flat_map (λ done. call_line done done.result) (map shown_done calls.now)) }
+    ensures { OnOk result (string_bytes text.new ≡ string_bytes text.old ++ flat_map call_line (map shown_done calls.now)) }
 {
     for call in calls {
         write!(text, "{call}")?;

@@ -1,9 +1,12 @@
 use Rattle.std.proofs.Common.{ap, refl, subst, ◌∙◌}
 use Rattle.region_plan.specs.Kept.{IsKept}
 use Rattle.region_plan.specs.Plan.{PlanData}
+use Rattle.std.specs.Prelude.{All}
+use Rattle.directory.specs.Outcomes.{Outcome}
+use Rattle.track.specs.Answers.{NamesStanding}
 use Rattle.track.specs.Reading.{view}
 use Rattle.track.specs.Report.{report_of}
-use Rattle.track.proofs.Answering.{finds_stand, connected_of}
+use Rattle.track.proofs.Answering.{connected_of, flat_of_graph}
 use Rattle.track.proofs.answer.replay.Goals as goal
 
 pub make_outcome-requires-clause-plan : goal.make_outcome-requires-clause-plan
@@ -12,8 +15,11 @@ make_outcome-requires-clause-plan c = record { network = c.args.graph.now; graph
 pub returns : goal.returns
 returns c =
     let contents = view c.args.input.now in
+    let plan = c.in_ok-plan.plan in
     record {
       connected = connected_of c.args.input.now.nodes c.args.input.now.edges.items c.args.input.now.edges.items c.args.graph.now refl c.requires.graph;
-      report = λ plan flat. ap (λ v. v.items) c.into_bytes.ensures.value ∙ c.in_ok-text.ensures ∙ ap report_of (c.in_ok-outcome.ensures plan flat);
-      right = λ plan flat. finds_stand plan contents flat c.requires.limits;
+      plan = plan;
+      flat = flat_of_graph contents c.args.graph.now plan c.requires.graph c.in_ok-plan.ensures.plan;
+      report = ap (λ v. v.items) c.into_bytes.ensures.value ∙ c.in_ok-text.ensures ∙ ap report_of c.in_ok-outcome.ensures.outcome;
+      right = subst (λ (o : Outcome). All (NamesStanding contents) o.calls) c.in_ok-outcome.ensures.outcome c.in_ok-outcome.ensures.right;
     }

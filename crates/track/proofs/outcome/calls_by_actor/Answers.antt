@@ -1,5 +1,5 @@
 use Rattle.std.proofs.Common.{◌+◌, ◌≡◌, ap, arith, rules, ◌∙◌, length}
-use Rattle.track.specs.Outcome.{by_actor}
+use Rattle.track.specs.FlatFinds.{by_actor}
 use Rattle.track.proofs.Made.{by_actor_more, by_actor_done}
 use Rattle.track.proofs.outcome.calls_by_actor.Goals as goal
 

@@ -1,5 +1,5 @@
 use Rattle.std.proofs.Common.{◌≡◌, ◌-◌, ◌++◌}
-use Rattle.track.specs.Outcome.{by_actor}
+use Rattle.track.specs.FlatFinds.{by_actor}
 use Rattle.track.proofs.outcome.calls_by_actor.Given as goal
 
 abbrev pub invariant-loop-actor : goal.invariant-loop-actor

@@ -6,4 +6,4 @@ use Rattle.track.proofs.report.push_calls.Given as goal
 
 abbrev pub invariant-loop-call : goal.invariant-loop-call
 invariant-loop-call l =
-    string_bytes l.text ≡ string_bytes l.fn.text ++ flat_map (λ done. call_line done done.result) (map shown_done (take l.call-index l.calls))
+    string_bytes l.text ≡ string_bytes l.fn.text ++ flat_map call_line (map shown_done (take l.call-index l.calls))

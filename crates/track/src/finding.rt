@@ -2,7 +2,7 @@
 ghost use Rattle.std.specs.Prelude.{◌≡◌, ◌<◌, ◌≤◌, ◌==◌, Some, length};
 ghost use Rattle.track.specs.Contents.{IsFind, AreInLimits};
 ghost use Rattle.track.specs.FlatFinds.{IsPlanFor, IsHere, found_over, weight_of};
-ghost use Rattle.track.specs.Outcome.{home_of};
+ghost use Rattle.track.specs.Scripts.{home_of};
 ghost use Rattle.track.specs.Reading.{view};
 
 use crate::input::{Find, Input};

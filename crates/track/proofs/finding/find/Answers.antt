@@ -1,8 +1,8 @@
 use Rattle.std.proofs.Common.{◌≡◌, true, refl}
 use Rattle.std.specs.Prelude.{◌==◌}
-use Rattle.track.specs.Outcome.{home_of}
+use Rattle.track.specs.Scripts.{home_of}
 use Rattle.track.specs.Reading.{view}
-use Rattle.track.proofs.directory.find.Goals as goal
+use Rattle.track.proofs.finding.find.Goals as goal
 
 pub returns-in-Here : goal.returns-in-Here
 returns-in-Here c =
