@@ -1,16 +1,16 @@
 -- The plan of the line of four is the plan of its network for k of 2: its clusters are those of the coarsening of the
 -- balls of each level, computed, with their least weights.
-use Rattle.std.proofs.Common.{◌≡◌, ℕ, zero, suc, ◌+◌, ◌-◌, ◌*◌, ◌^◌, ◌<◌, ◌≤◌, Bool, true, false, cond, not, ◌==◌, ◌&&◌, ◌||◌, List, [], ◌∷◌, length, map, refl, sym, ap, ◌∙◌, subst, arith, nat_le, nat_lt, inl, inr, ◌⊎◌}
+use Rattle.std.proofs.Common.{◌≡◌, ℕ, zero, suc, ◌+◌, ◌-◌, ◌^◌, ◌<◌, ◌≤◌, Bool, true, not, ◌==◌, ◌||◌, [], ◌∷◌, refl, sym, subst, arith, nat_le, inl, inr}
 use Rattle.std.proofs.lemmas.Bool.{leb-true, eqb-true, le-leb, cases_lt}
-use Rattle.node_set.specs.Ascending.{has, passing}
+use Rattle.node_set.specs.Ascending.{has}
 use Rattle.net_graph.specs.Walks.{everywhere, IsLeastWeight}
-use Rattle.distances.specs.Table.{DistanceTable, AreDistancesOf, IsDiameter, dist}
-use Rattle.coarse_cover.specs.Coarsening.{Grown, union_of, grown, is_enough, least, cluster_of, phase, is_homed, phases, all_clusters, home_of, centres}
+use Rattle.distances.specs.Table.{AreDistancesOf, IsDiameter, dist}
+use Rattle.coarse_cover.specs.Coarsening.{union_of, grown, is_enough, least, cluster_of, phase, is_homed, phases, all_clusters, home_of}
 use Rattle.coarse_cover.specs.Covers.{shown, listed}
 use Rattle.coarse_cover.specs.declared.cover.Cluster.{Cluster}
-use Rattle.cluster_tree.specs.Tree.{WeighedCluster, IsTreeOf, IsDepth, inside_weight, within}
-use Rattle.region_plan.specs.Plan.{PlanCluster, Level, PlanData, level_at}
-use Rattle.region_plan.specs.Regions.{IsTop, regions_of, weighed, IsClusterOf, AreClustersOf, IsLevelOf, IsPlanOf, readers_of}
+use Rattle.cluster_tree.specs.Tree.{IsTreeOf, IsDepth, inside_weight, within}
+use Rattle.region_plan.specs.Plan.{level_at}
+use Rattle.region_plan.specs.Regions.{IsTop, regions_of, weighed, IsClusterOf, AreClustersOf, IsLevelOf, IsPlanOf}
 use Rattle.directory.specs.LineOfFour.{line, line_edges, line_network, line_distances, whole_line, last_two, lowest_level, whole_level}
 use Rattle.directory.proofs.LineWalks.{Turns, least_up, least_down}
 use Rattle.directory.proofs.LineLaws.{all1, at1, all2, at2, when, below_four, members_below}
@@ -42,26 +42,27 @@ least_apart : Turns → (inside : ℕ → Bool) (u v : ℕ) → u < 4 → v < 4 
 unfolding apart
 least_apart turns inside u v low high is_inside =
     elim (cases_lt u v) as (λ _. IsLeastWeight line_edges inside u v (u - v + (v - u))) [
-    inl up ↦ let e : u - v + (v - u) ≡ v - u = omega arith in rw e (least_up inside u v (omega arith) (omega arith) (λ p h g. is_inside p (omega arith) (omega arith)))
-    | inr down ↦ let e : u - v + (v - u) ≡ u - v = omega arith in rw e (least_down turns inside u v down (omega arith) (λ p h g. is_inside p (omega arith) (omega arith))) ]
+      | inl up ↦ let e : u - v + (v - u) ≡ v - u = omega arith in rw e (least_up inside u v (omega arith) (omega arith) (λ p h g. is_inside p (omega arith) (omega arith)))
+      | inr down ↦ let e : u - v + (v - u) ≡ u - v = omega arith in rw e (least_down turns inside u v down (omega arith) (λ p h g. is_inside p (omega arith) (omega arith)))
+    ]
 
 line_distances_are : Turns → AreDistancesOf line_network line_distances
 unfolding apart all1 all2
 line_distances_are turns = record {
-    nodes = refl;
-    count = refl;
-    each = λ u v low high. subst (λ w. IsLeastWeight line_edges everywhere u v w) (sym (eqb-true (dist line_distances u v) (apart u v) (at2 (λ u v. dist line_distances u v == u - v + (v - u)) 4 4 refl u v low high)))
-        (least_apart turns everywhere u v low high (λ p h g. refl))
-    }
+  nodes = refl;
+  count = refl;
+  each = λ u v low high. subst (λ w. IsLeastWeight line_edges everywhere u v w) (sym (eqb-true (dist line_distances u v) (apart u v) (at2 (λ u v. dist line_distances u v == u - v + (v - u)) 4 4 refl u v low high)))
+      (least_apart turns everywhere u v low high (λ p h g. refl));
+}
 
 whole_tree : Turns → IsTreeOf line_network (0 ∷ 1 ∷ 2 ∷ 3 ∷ []) 0 (weighed whole_line)
 unfolding apart all1 below_four
 whole_tree turns = record {
-    leader_is = refl;
-    members_are = refl;
-    each = λ v member. at_node v (members_below v (0 ∷ 1 ∷ 2 ∷ 3 ∷ []) refl member)
-    }
-    where
+  leader_is = refl;
+  members_are = refl;
+  each = λ v member. at_node v (members_below v (0 ∷ 1 ∷ 2 ∷ 3 ∷ []) refl member);
+}
+  where
     at_node : (v : ℕ) → v < 4 → IsLeastWeight line_edges (within (0 ∷ 1 ∷ 2 ∷ 3 ∷ [])) 0 v (inside_weight (weighed whole_line) v)
     at_node v low = subst (λ w. IsLeastWeight line_edges (within (0 ∷ 1 ∷ 2 ∷ 3 ∷ [])) 0 v w) (sym (eqb-true (inside_weight (weighed whole_line) v) (v - 0) (at1 (λ v. inside_weight (weighed whole_line) v == v - 0) 4 refl v low)))
         (least_up (within (0 ∷ 1 ∷ 2 ∷ 3 ∷ [])) 0 v (omega arith) (omega arith) (λ p h g. at1 (λ p. has p (0 ∷ 1 ∷ 2 ∷ 3 ∷ [])) 4 refl p (omega arith)))
@@ -69,31 +70,31 @@ whole_tree turns = record {
 whole_depth : IsDepth (weighed whole_line) 3
 unfolding all1 below_four
 whole_depth = record {
-    greatest = λ v member. leb-true (inside_weight (weighed whole_line) v) 3 (at1 (λ v. nat_le (inside_weight (weighed whole_line) v) 3) 4 refl v (members_below v (0 ∷ 1 ∷ 2 ∷ 3 ∷ []) refl member));
-    attained = record { node = 3; member = refl; far = refl }
-    }
+  greatest = λ v member. leb-true (inside_weight (weighed whole_line) v) 3 (at1 (λ v. nat_le (inside_weight (weighed whole_line) v) 3) 4 refl v (members_below v (0 ∷ 1 ∷ 2 ∷ 3 ∷ []) refl member));
+  attained = record { node = 3; member = refl; far = refl };
+}
 
 last_tree : Turns → IsTreeOf line_network (2 ∷ 3 ∷ []) 3 (weighed last_two)
 unfolding all1 below_four
 last_tree turns = record {
-    leader_is = refl;
-    members_are = refl;
-    each = λ v member. at_node v (members_below v (2 ∷ 3 ∷ []) refl member) member
-    }
-    where
+  leader_is = refl;
+  members_are = refl;
+  each = λ v member. at_node v (members_below v (2 ∷ 3 ∷ []) refl member) member;
+}
+  where
     at_node : (v : ℕ) → v < 4 → has v (2 ∷ 3 ∷ []) ≡ true → IsLeastWeight line_edges (within (2 ∷ 3 ∷ [])) 3 v (inside_weight (weighed last_two) v)
     at_node v low member =
         let high : 2 ≤ v = leb-true 2 v (when (has v (2 ∷ 3 ∷ [])) (nat_le 2 v) (at1 (λ v. not (has v (2 ∷ 3 ∷ [])) || nat_le 2 v) 4 refl v low) member) in
         subst (λ w. IsLeastWeight line_edges (within (2 ∷ 3 ∷ [])) 3 v w) (sym (eqb-true (inside_weight (weighed last_two) v) (3 - v)
-            (when (has v (2 ∷ 3 ∷ [])) (inside_weight (weighed last_two) v == 3 - v) (at1 (λ v. not (has v (2 ∷ 3 ∷ [])) || (inside_weight (weighed last_two) v == 3 - v)) 4 refl v low) member)))
+        (when (has v (2 ∷ 3 ∷ [])) (inside_weight (weighed last_two) v == 3 - v) (at1 (λ v. not (has v (2 ∷ 3 ∷ [])) || (inside_weight (weighed last_two) v == 3 - v)) 4 refl v low) member)))
         (least_down turns (within (2 ∷ 3 ∷ [])) 3 v (omega arith) (omega arith) (λ p h g. when (nat_le 2 p) (has p (2 ∷ 3 ∷ [])) (at1 (λ p. not (nat_le 2 p) || has p (2 ∷ 3 ∷ [])) 4 refl p (omega arith)) (le-leb 2 p (omega arith))))
 
 last_depth : IsDepth (weighed last_two) 1
 unfolding all1 below_four
 last_depth = record {
-    greatest = λ v member. leb-true (inside_weight (weighed last_two) v) 1 (at1 (λ v. nat_le (inside_weight (weighed last_two) v) 1) 4 refl v (members_below v (2 ∷ 3 ∷ []) refl member));
-    attained = record { node = 2; member = refl; far = refl }
-    }
+  greatest = λ v member. leb-true (inside_weight (weighed last_two) v) 1 (at1 (λ v. nat_le (inside_weight (weighed last_two) v) 1) 4 refl v (members_below v (2 ∷ 3 ∷ []) refl member));
+  attained = record { node = 2; member = refl; far = refl };
+}
 
 whole_is : Turns → IsClusterOf line_network whole_cluster whole_line
 unfolding whole_cluster
@@ -107,37 +108,46 @@ last_is turns = record { leader = refl; phase = refl; members = refl; tree = las
 lowest_is : Turns → IsLevelOf line_network line_distances 2 0 lowest_level
 unfolding union_of grown is_enough least cluster_of phase is_homed phases all_clusters home_of
 lowest_is turns = record {
-    exponent = refl; threshold = refl; phases = refl;
-    clusters = subst (λ cs. AreClustersOf line_network cs (whole_line ∷ last_two ∷ [])) (sym lowest_clusters) (whole_is turns, (last_is turns, tt));
-    homes = refl; readers = refl
-    }
+  exponent = refl;
+  threshold = refl;
+  phases = refl;
+  clusters = subst (λ cs. AreClustersOf line_network cs (whole_line ∷ last_two ∷ [])) (sym lowest_clusters) (whole_is turns, (last_is turns, tt));
+  homes = refl;
+  readers = refl;
+}
 
 middle_is : Turns → IsLevelOf line_network line_distances 2 1 (whole_level 1 1)
 unfolding union_of grown is_enough least cluster_of phase is_homed phases all_clusters home_of
 middle_is turns = record {
-    exponent = refl; threshold = refl; phases = refl;
-    clusters = subst (λ cs. AreClustersOf line_network cs (whole_line ∷ [])) (sym middle_clusters) (whole_is turns, tt);
-    homes = refl; readers = refl
-    }
+  exponent = refl;
+  threshold = refl;
+  phases = refl;
+  clusters = subst (λ cs. AreClustersOf line_network cs (whole_line ∷ [])) (sym middle_clusters) (whole_is turns, tt);
+  homes = refl;
+  readers = refl;
+}
 
 highest_is : Turns → IsLevelOf line_network line_distances 2 2 (whole_level 2 2)
 unfolding union_of grown is_enough least cluster_of phase is_homed phases all_clusters home_of
 highest_is turns = record {
-    exponent = refl; threshold = refl; phases = refl;
-    clusters = subst (λ cs. AreClustersOf line_network cs (whole_line ∷ [])) (sym highest_clusters) (whole_is turns, tt);
-    homes = refl; readers = refl
-    }
+  exponent = refl;
+  threshold = refl;
+  phases = refl;
+  clusters = subst (λ cs. AreClustersOf line_network cs (whole_line ∷ [])) (sym highest_clusters) (whole_is turns, tt);
+  homes = refl;
+  readers = refl;
+}
 
 line_diameter : IsDiameter line_distances 3
 unfolding all1 all2
 line_diameter = record {
-    greatest = λ u v low high. leb-true (dist line_distances u v) 3 (at2 (λ u v. nat_le (dist line_distances u v) 3) 4 4 refl u v low high);
-    attained = record { from = 0; to = 3; from_below = omega arith; to_below = omega arith; far = refl }
-    }
+  greatest = λ u v low high. leb-true (dist line_distances u v) 3 (at2 (λ u v. nat_le (dist line_distances u v) 3) 4 4 refl u v low high);
+  attained = record { from = 0; to = 3; from_below = omega arith; to_below = omega arith; far = refl };
+}
 
 line_top : IsTop line_distances 2
 line_top = record { diameter = 3; greatest = line_diameter; enough = omega arith; least = below }
-    where
+  where
     below : (i : ℕ) → i < 2 → 2 ^ i < 3
     below zero h = omega arith
     below (suc zero) h = omega arith
@@ -146,7 +156,7 @@ line_top = record { diameter = 3; greatest = line_diameter; enough = omega arith
 -- so it is the plan of its network
 pub line_is_plan : Turns → IsPlanOf line_network 2 line
 line_is_plan turns = record { distances = line_distances_are turns; trade_off = refl; some = omega arith; top = line_top; each = levels }
-    where
+  where
     levels : (i : ℕ) → i < 3 → IsLevelOf line_network line_distances 2 i (level_at line i)
     levels zero h = lowest_is turns
     levels (suc zero) h = middle_is turns
