@@ -145,6 +145,8 @@ mod tests {
         let graph = Graph::new(rt.alloc(), 2, &edges)?;
         let tree = graph.tree_from(rt.alloc(), &[true; 2], 1)?;
         assert_eq!(rt; tree.weight.as_slice(), [Some(2), Some(0)].as_slice());
+        let weights = graph.weights_from(rt.alloc(), &[true; 2], 0)?;
+        assert_eq!(rt; weights.as_slice(), [Some(0), Some(2)].as_slice());
         Ok(())
     }
 

@@ -1,59 +1,80 @@
--- What the answer of an input stands on: the weights from node 0, and that every find names where its subscriber stands.
-use Rattle.std.proofs.Common.{◌≡◌, ℕ, ◌+◌, ◌-◌, ◌*◌, ◌<◌, ◌≤◌, Bool, true, false, List, [], ◌∷◌, Option, Some, None, length, refl, sym, ap, subst, ◌∙◌, arith}
-use Rattle.std.specs.Prelude.{◌==◌, ◌↔◌, All}
+-- What the answer of an input stands on: that a graph's plan is the plan of the edges that it was made of, and that every
+-- find names where its subscriber stands.
+use Rattle.std.proofs.Common.{Result, Ok, Err, IfOk, ◌≡◌, ℕ, ◌+◌, ◌-◌, ◌<◌, Bool, true, false, List, [], ◌∷◌, Some, None, length, refl, ap, subst, ◌∙◌, arith}
+use Rattle.std.specs.Prelude.{◌==◌, All}
 use Rattle.std.specs.List.{AllByRecursion}
 use Rattle.std.proofs.lemmas.Bool.{eqb-true, eqb-false}
 use Rattle.std.proofs.lemmas.List.Elements.{recursion_from_All, All-from_recursion}
 use Rattle.net_graph.specs.declared.edge.Edge.{Edge}
-use Rattle.net_graph.specs.Network.{Network, IsEdge, IsGraphOf}
-use Rattle.net_graph.specs.Trees.{AreLeastWeights, at_node}
-use Rattle.net_graph.specs.Walks.{IsLeastWeight, IsUnreached, IsReached, among, everywhere}
+use Rattle.net_graph.specs.Network.{Network, IsGraphOf, SameWalks}
+use Rattle.net_graph.specs.Walks.{IsReached, everywhere}
+use Rattle.distances.specs.Table.{DistanceTable, AreDistancesOf, dist}
+use Rattle.cluster_tree.specs.Tree.{WeighedCluster, IsTreeOf, inside_weight, within}
+use Rattle.coarse_cover.specs.Covers.{listed}
+use Rattle.coarse_cover.specs.declared.cover.Cluster.{Cluster}
+use Rattle.region_plan.specs.Plan.{PlanCluster, PlanData, level_at}
+use Rattle.region_plan.specs.Regions.{IsPlanOf, AreClustersOf, regions_of, weighed}
 use Rattle.track.specs.declared.input.Find.{Find}
-use Rattle.track.specs.Answers.{NamesStanding}
+use Rattle.track.specs.Answers.{NamesStanding, network_of}
 use Rattle.track.specs.Contents.{Contents, AreInLimits, IsFind, subscriber_count}
-use Rattle.track.specs.Finds.{Next, find}
+use Rattle.track.specs.Finds.{find}
 use Rattle.track.specs.Finds.Next.{answers}
 use Rattle.track.specs.Finds.Found.{at}
-use Rattle.track.specs.FlatFinds.{AreWeights, HasWeight}
-use Rattle.track.specs.Outcome.{Done, home_of, words_of, done_from, by_actor, outcome}
+use Rattle.track.specs.Outcome.{home_of, words_of, done_from, by_actor, outcome}
 use Rattle.track.specs.Plans.{Plan, IsFlat}
 use Rattle.track.proofs.FlatPlans.{at_home, from_away}
 use Rattle.track.proofs.Made.{All-by_actor, home_below}
 
--- ---- the weights from node 0
+-- ---- the plan of the input's network
 
--- where all nodes are allowed, walks may go everywhere
-pub record AllAllowed : Type 0 where
-  pub least : (n : ℕ) (edges : List Edge) (allowed : List Bool) (u v w : ℕ) → All (IsEdge n) edges → length allowed ≡ n → All (λ x. x ≡ true) allowed → u < n
-      → IsLeastWeight edges (among allowed) u v w ↔ IsLeastWeight edges everywhere u v w
-  pub unreached : (n : ℕ) (edges : List Edge) (allowed : List Bool) (u v : ℕ) → All (IsEdge n) edges → length allowed ≡ n → All (λ x. x ≡ true) allowed → u < n
-      → IsUnreached edges (among allowed) u v ↔ IsUnreached edges everywhere u v
+-- the tree of a cluster is the same where the walks are
+tree_of : (one other : Network) (members : List ℕ) (leader : ℕ) (cluster : WeighedCluster) → SameWalks other.edges one.edges → IsTreeOf one members leader cluster → IsTreeOf other members leader cluster
+tree_of one other members leader cluster same tree = record {
+  leader_is = tree.leader_is;
+  members_are = tree.members_are;
+  each = λ v member. (same.least (within members) leader v (inside_weight cluster v)).1 (tree.each v member);
+}
 
-weight_at : (law : AllAllowed) (contents : Contents) (network : Network) (allowed : List Bool) (weights : List (Option ℕ)) (v : ℕ) (o : Option ℕ)
-    → AreInLimits contents → IsGraphOf contents.nodes contents.edges network → length allowed ≡ network.nodes → All (λ x. x ≡ true) allowed
-    → AreLeastWeights network (among allowed) 0 weights → v < contents.nodes → at_node weights v ≡ o → HasWeight contents weights v
-weight_at law contents network allowed weights v (Some w) limits graph count all are below e =
-    let in_network : v < network.nodes = omega (arith, graph.nodes) in
-    let least = (law.least network.nodes network.edges allowed 0 v w graph.sound.limits.edges count all graph.sound.limits.positive).0 (are.least v w in_network e) in
-    let bound = are.bounded v w in_network e in
-    record {
-      weight = w;
-      stands = e;
-      least = (graph.same.least everywhere 0 v w).1 least;
-      bounded = omega (arith, bound, graph.nodes, limits.counts.nodes);
-    }
-weight_at law contents network allowed weights v None limits graph count all are below e =
-    let in_network : v < network.nodes = omega (arith, graph.nodes) in
-    let none = (law.unreached network.nodes network.edges allowed 0 v graph.sound.limits.edges count all graph.sound.limits.positive).0 (are.unreached v in_network e) in
-    let reached = graph.sound.connected v in_network in
-    absurd (none reached.steps reached.walk)
+clusters_of : (one other : Network) (made : List Cluster) (clusters : List PlanCluster) → SameWalks other.edges one.edges → AreClustersOf one made clusters → AreClustersOf other made clusters
+clusters_of one other [] [] same h = tt
+clusters_of one other [] (d ∷ ds) same h = h
+clusters_of one other (c ∷ cs) [] same h = h
+clusters_of one other (c ∷ cs) (d ∷ ds) same h = (
+  record {
+    leader = h.0.leader;
+    phase = h.0.phase;
+    members = h.0.members;
+    tree = tree_of one other c.members.members c.first (weighed d) same h.0.tree;
+    count = h.0.count;
+    depth = h.0.depth;
+  },
+  clusters_of one other cs ds same h.1,
+)
 
-pub weights_are : (law : AllAllowed) (contents : Contents) (network : Network) (allowed : List Bool) (weights : List (Option ℕ))
-    → AreInLimits contents → IsGraphOf contents.nodes contents.edges network → length allowed ≡ network.nodes → All (λ x. x ≡ true) allowed
-    → AreLeastWeights network (among allowed) 0 weights → AreWeights contents weights
-weights_are law contents network allowed weights limits graph count all are = record {
-  count = are.count ∙ graph.nodes;
-  each = λ v below. weight_at law contents network allowed weights v (at_node weights v) limits graph count all are below refl;
+distances_of : (one other : Network) (table : DistanceTable) → one.nodes ≡ other.nodes → SameWalks other.edges one.edges → AreDistancesOf one table → AreDistancesOf other table
+distances_of one other table nodes same are = record {
+  nodes = are.nodes ∙ nodes;
+  count = are.count;
+  each = λ u v below_u below_v. (same.least everywhere u v (dist table u v)).1 (are.each u v below_u below_v);
+}
+
+-- the plan of a graph is the plan of the edges that it was made of
+pub plan_of_graph : (contents : Contents) (network : Network) (k : ℕ) (plan : PlanData) → IsGraphOf contents.nodes contents.edges network → IsPlanOf network k plan → IsPlanOf (network_of contents) k plan
+plan_of_graph contents network k plan graph is = record {
+  distances = distances_of network (network_of contents) plan.distances graph.nodes graph.same is.distances;
+  trade_off = is.trade_off;
+  some = is.some;
+  top = is.top;
+  each = λ i below.
+      let level = is.each i below in
+      record {
+        exponent = level.exponent;
+        threshold = level.threshold;
+        phases = level.phases;
+        clusters = clusters_of network (network_of contents) (listed plan.distances.nodes 0 (regions_of plan.distances k i)) (level_at plan i).clusters graph.same level.clusters;
+        homes = level.homes;
+        readers = level.readers;
+      };
 }
 
 -- ---- every find names where its subscriber stands
@@ -88,3 +109,8 @@ finds_stand plan contents flat limits =
 pub connected_of : (n : ℕ) (edges given : List Edge) (network : Network) → given ≡ edges → IsGraphOf n given network → (v : ℕ) → v < n → IsReached edges everywhere 0 v
 connected_of n edges given network same graph v below =
     subst (λ (es : List Edge). IsReached es everywhere 0 v) same ((graph.same.reached everywhere 0 v).1 (graph.sound.connected v (omega (arith, graph.nodes))))
+
+-- the text of the plan is the network's, where there is one
+pub if_ok : {X E : Type 0} (r : Result X E) (P Q : X → Type 0) → ((x : X) → P x → Q x) → IfOk r P → IfOk r Q
+if_ok (Ok x) P Q on h = on x h
+if_ok (Err e) P Q on h = tt

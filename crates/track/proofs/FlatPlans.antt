@@ -1,19 +1,17 @@
 -- What a find reads and answers over the flat plan, where nobody moves.
-use Rattle.std.proofs.Common.{◌≡◌, ◌≢◌, ℕ, zero, suc, ◌+◌, ◌<◌, ◌≤◌, Bool, true, false, List, [], ◌∷◌, ◌++◌, Option, Some, None, length, refl, ap, ◌∙◌, arith}
-use Rattle.std.specs.Prelude.{◌==◌}
+use Rattle.std.proofs.Common.{◌≡◌, ◌≢◌, ℕ, zero, suc, ◌+◌, ◌<◌, List, [], ◌∷◌, Some, None, length, refl, ap, ◌∙◌, arith}
 use Rattle.std.proofs.lemmas.Bool.{eq-eqb, ne_eqb}
 use Rattle.net_graph.specs.declared.edge.Edge.{Edge}
-use Rattle.net_graph.specs.Walks.{IsLeastWeight, everywhere}
 use Rattle.track.specs.declared.input.Find.{Find}
 use Rattle.track.specs.Contents.{Contents}
-use Rattle.track.specs.Cells.{Key, Mark, Address, Word}
+use Rattle.track.specs.Cells.{Key, Address, Word}
 use Rattle.track.specs.Cells.Key.{presence, entry}
 use Rattle.track.specs.Cells.Mark.{empty, here}
 use Rattle.track.specs.Cells.Word.{mark, slot}
 use Rattle.track.specs.Plans.{Plan, IsFlat}
 use Rattle.track.specs.Finds.{Next, Found, Reader, find, climb, chase, readers_from, most_looks}
 use Rattle.track.specs.Finds.Next.{wants, answers}
-use Rattle.track.specs.Finds.Found.{at, again}
+use Rattle.track.specs.Finds.Found.{at}
 use Rattle.track.specs.Outcome.{home_of, opening, words_read, words_of}
 
 -- one look more

@@ -1,25 +1,26 @@
 -- The calls of an input in the order of their actors, and what becomes of them one after another.
-use Rattle.std.proofs.Common.{◌≡◌, ℕ, zero, suc, ◌+◌, ◌-◌, ◌<◌, ◌≤◌, Bool, true, false, List, [], ◌∷◌, ◌++◌, Option, Some, None, length, map, drop, get_or, refl, sym, ap, subst, ◌∙◌, append_assoc, arith, vec_len, length-append, drop-cons}
+use Rattle.std.proofs.Common.{◌≡◌, ℕ, zero, suc, ◌+◌, ◌-◌, ◌<◌, ◌≤◌, Bool, true, false, List, [], ◌∷◌, ◌++◌, length, map, drop, refl, sym, ap, subst, ◌∙◌, append_assoc, arith}
 use Rattle.std.specs.Prelude.{◌==◌, All, filter, flat_map, replicate}
-use Rattle.std.specs.List.{AllByRecursion}
 use Rattle.std.proofs.lemmas.Bool.{eqb-true, eqb-false}
 use Rattle.std.proofs.lemmas.List.{append-nil, map-append, drop_all}
 use Rattle.std.proofs.lemmas.List.Concat.{flat_map-append}
-use Rattle.std.proofs.lemmas.List.Elements.{All-append, All-filter, All-nil, recursion_from_All, All-from_recursion}
+use Rattle.std.proofs.lemmas.List.Elements.{All-append, All-filter, All-from_recursion}
 use Rattle.net_graph.specs.declared.edge.Edge.{Edge}
 use Rattle.net_graph.specs.Walks.{IsLeastWeight, everywhere}
-use Rattle.net_graph.specs.Trees.{at_node}
+use Rattle.node_set.specs.Ascending.{has, passing}
+use Rattle.node_set.proofs.Ascending.{has-passing}
+use Rattle.distances.specs.Table.{dist}
+use Rattle.cluster_tree.specs.Tree.{weight_beside}
+use Rattle.region_plan.specs.Plan.{PlanData, members_of}
 use Rattle.track.specs.declared.directory.Found.{Found}
 use Rattle.track.specs.declared.input.Find.{Find}
-use Rattle.track.specs.declared.input.Home.{Home}
 use Rattle.track.specs.declared.outcome.Done as made
 use Rattle.track.specs.Contents.{Contents, AreInLimits, IsFind, subscriber_count}
-use Rattle.track.specs.Finds.{Next, find}
-use Rattle.track.specs.FlatFinds.{AreWeights, HasWeight, Finds, found_at, result_of, shown_done}
+use Rattle.track.specs.Finds.{find}
+use Rattle.track.specs.FlatFinds.{IsPlanFor, found_at, found_over, result_of, shown_done, weight_of}
 use Rattle.track.specs.Outcome.{Done, home_of, words_of, done_from, by_actor, visits_of}
 use Rattle.track.specs.Plans.{Plan, IsFlat}
 use Rattle.track.proofs.FlatPlans.{at_home, from_away}
-use Rattle.track.proofs.Spelled.{some_is}
 
 -- ---- the order of the actors
 
@@ -63,30 +64,68 @@ abbrev pub IsDone : Plan → Contents → Find → Found → Type 0
 IsDone plan contents call found =
     (length (words_of plan contents call) ≡ found.looks) × (find plan call.sub call.from (words_of plan contents call) ≡ result_of found) × (1 ≤ found.looks)
 
-done_by_test : (one : LeastIsOne) (plan : Plan) (contents : Contents) (weights : List (Option ℕ)) (call : Find) (a b : ℕ) (test : Bool)
+done_by_test : (plan : Plan) (contents : Contents) (call : Find) (a b : ℕ) (test : Bool)
     → IsFlat contents.nodes contents.edges plan → IsFind contents call → home_of contents call.sub < contents.nodes
     → plan.inside 0 0 call.from ≡ a → plan.distance 0 (home_of contents call.sub) ≡ b
     → (call.from == home_of contents call.sub) ≡ test → IsDone plan contents call (found_at contents a b call test)
-done_by_test one plan contents weights call a b true flat is home inside distance e =
+done_by_test plan contents call a b true flat is home inside distance e =
     let done = at_home contents plan call flat is.from (eqb-true call.from (home_of contents call.sub) e) in
     (ap length done.0, done.1, omega arith)
-done_by_test one plan contents weights call a b false flat is home inside distance e =
+done_by_test plan contents call a b false flat is home inside distance e =
     let done = from_away contents plan call a b flat is.from (eqb-false call.from (home_of contents call.sub) e) inside distance home in
     (ap length done.0, done.1, omega arith)
 
-pub one_done : (one : LeastIsOne) (plan : Plan) (contents : Contents) (weights : List (Option ℕ)) (call : Find) (found : Found)
-    → IsFlat contents.nodes contents.edges plan → AreWeights contents weights → AreInLimits contents → IsFind contents call → Finds contents weights call found
-    → IsDone plan contents call found
-one_done one plan contents weights call found flat are limits is finds =
+-- beside each of the numbers from a on stands what the function gives
+beside_first : (f : ℕ → ℕ) (v a k : ℕ) → a ≤ v → v < a + suc k → (test : Bool) → (v == a) ≡ test
+    → (suc a ≤ v → weight_beside v (passing (λ x. true) (suc a) k) (map f (passing (λ x. true) (suc a) k)) ≡ f v)
+    → weight_beside v (passing (λ x. true) a (suc k)) (map f (passing (λ x. true) a (suc k))) ≡ f v
+beside_first f v a k low high true e later = rw e (ap f (sym (eqb-true v a e)))
+beside_first f v a k low high false e later = let ne = eqb-false v a e in rw e (later (omega arith))
+
+weight_beside-all : (f : ℕ → ℕ) (v a k : ℕ) → a ≤ v → v < a + k → weight_beside v (passing (λ x. true) a k) (map f (passing (λ x. true) a k)) ≡ f v
+weight_beside-all f v a zero low high = absurd (omega arith)
+weight_beside-all f v a (suc k) low high = beside_first f v a k low high (v == a) refl (λ later. weight_beside-all f v (suc a) k later (omega arith))
+
+-- a node's weight in the code's plan is its distance from node 0
+weight_is_distance : (contents : Contents) (made : PlanData) (v : ℕ) → IsPlanFor contents made → v < contents.nodes → weight_of made v ≡ dist made.distances 0 v
+weight_is_distance contents made v for below =
+    let whole = for.flat.level.whole in
+    let within : v < 0 + made.distances.nodes = omega (arith, for.flat.distances.nodes, for.graph.nodes) in
+    rw (whole.members, whole.weights) (weight_beside-all (λ x. dist made.distances 0 x) v 0 made.distances.nodes (omega arith) within)
+
+-- the weights of the code's plan are least weights from node 0
+pub weight_is : (contents : Contents) (made : PlanData) (v : ℕ) → IsPlanFor contents made → 1 ≤ contents.nodes → v < contents.nodes → IsLeastWeight contents.edges everywhere 0 v (weight_of made v)
+weight_is contents made v for some below =
+    let nodes : made.distances.nodes ≡ contents.nodes = for.flat.distances.nodes ∙ for.graph.nodes in
+    let least = for.flat.distances.each 0 v (omega arith) (omega arith) in
+    subst (λ w. IsLeastWeight contents.edges everywhere 0 v w) (sym (weight_is_distance contents made v for below))
+    ((for.graph.same.least everywhere 0 v (dist made.distances 0 v)).1 least)
+
+-- and they are within the limits
+pub weight_light : (contents : Contents) (made : PlanData) (v : ℕ) → IsPlanFor contents made → v < contents.nodes → weight_of made v ≤ 1073741824
+weight_light contents made v for below =
+    let nodes : made.distances.nodes ≡ contents.nodes = for.flat.distances.nodes ∙ for.graph.nodes in
+    let bounded = for.kept.metric.bounded 0 v (omega arith) (omega arith) in
+    omega (arith, weight_is_distance contents made v for below, bounded, for.kept.metric.few)
+
+-- each node is a member of the one cluster
+pub all_members : (contents : Contents) (made : PlanData) (v : ℕ) → IsPlanFor contents made → v < contents.nodes → has v (members_of made 0 0) ≡ true
+all_members contents made v for below =
+    let within : v < 0 + made.distances.nodes = omega (arith, for.flat.distances.nodes, for.graph.nodes) in
+    rw (for.flat.level.whole.members) (has-passing (λ x. true) v 0 made.distances.nodes (omega arith) within)
+
+pub one_done : (one : LeastIsOne) (plan : Plan) (made : PlanData) (contents : Contents) (call : Find)
+    → IsFlat contents.nodes contents.edges plan → IsPlanFor contents made → AreInLimits contents → IsFind contents call
+    → IsDone plan contents call (found_over made contents call)
+one_done one plan made contents call flat for limits is =
     let home = home_of contents call.sub in
     let below = home_below contents call.sub limits is.sub in
-    let to_origin = are.each call.from is.from in
-    let to_home = are.each home below in
-    let a : to_origin.weight ≡ finds.to_origin = some_is to_origin.weight finds.to_origin (sym to_origin.stands ∙ finds.origin) in
-    let b : to_home.weight ≡ finds.to_home = some_is to_home.weight finds.to_home (sym to_home.stands ∙ finds.home) in
-    let inside : plan.inside 0 0 call.from ≡ finds.to_origin = one contents.edges everywhere 0 call.from (plan.inside 0 0 call.from) to_origin.weight (flat.inside call.from is.from) to_origin.least ∙ a in
-    let distance : plan.distance 0 home ≡ finds.to_home = one contents.edges everywhere 0 home (plan.distance 0 home) to_home.weight (flat.distance 0 home (omega (arith, limits.counts.some_node)) below) to_home.least ∙ b in
-    rw finds.answer (done_by_test one plan contents weights call finds.to_origin finds.to_home (call.from == home) flat is below inside distance refl)
+    let some = limits.counts.some_node in
+    let inside : plan.inside 0 0 call.from ≡ weight_of made call.from =
+    one contents.edges everywhere 0 call.from (plan.inside 0 0 call.from) (weight_of made call.from) (flat.inside call.from is.from) (weight_is contents made call.from for some is.from) in
+    let distance : plan.distance 0 home ≡ weight_of made home =
+    one contents.edges everywhere 0 home (plan.distance 0 home) (weight_of made home) (flat.distance 0 home (omega arith) below) (weight_is contents made home for some below) in
+    done_by_test plan contents call (weight_of made call.from) (weight_of made home) (call.from == home) flat is below inside distance refl
 
 -- ---- one find after another
 
@@ -132,6 +171,5 @@ some_looks : (contents : Contents) (a b : ℕ) (call : Find) (test : Bool) → 1
 some_looks contents a b call true = omega arith
 some_looks contents a b call false = omega arith
 
-pub looks_made : (contents : Contents) (weights : List (Option ℕ)) (call : Find) (found : Found) → Finds contents weights call found → 1 ≤ found.looks
-looks_made contents weights call found finds =
-    subst (λ (f : Found). 1 ≤ f.looks) (sym finds.answer) (some_looks contents finds.to_origin finds.to_home call (call.from == home_of contents call.sub))
+pub looks_made : (made : PlanData) (contents : Contents) (call : Find) → 1 ≤ (found_over made contents call).looks
+looks_made made contents call = some_looks contents (weight_of made call.from) (weight_of made (home_of contents call.sub)) call (call.from == home_of contents call.sub)

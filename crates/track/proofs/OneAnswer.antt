@@ -1,19 +1,23 @@
 -- A connected network has a flat plan, and bytes have one answer only.
-use Rattle.std.proofs.Common.{◌≡◌, ℕ, zero, ◌+◌, ◌<◌, ◌≤◌, Bool, List, [], ◌∷◌, length, refl, sym, ap, subst, ◌∙◌, inl, inr, arith}
-use Rattle.std.specs.Prelude.{All, ◌⊎◌}
+use Rattle.std.proofs.Common.{◌≡◌, ℕ, ◌<◌, ◌≤◌, List, [], ◌∷◌, length, refl, sym, ap, subst, ◌∙◌, inl, inr, arith}
+use Rattle.std.specs.Prelude.{◌⊎◌}
 use Rattle.std.proofs.lemmas.Bool.{cases_lt}
 use Rattle.net_graph.specs.declared.edge.Edge.{Edge}
-use Rattle.net_graph.specs.Network.{IsEdge, IsFirstApart}
+use Rattle.net_graph.specs.Network.{Network, IsFirstApart}
 use Rattle.net_graph.specs.Walks.{IsLeastWeight, IsReached, everywhere}
+use Rattle.region_plan.specs.Plan.{PlanData}
+use Rattle.region_plan.specs.Regions.{IsPlanOf}
+use Rattle.report_text.specs.PlanText.{plan_text_of}
+use Rattle.track.specs.declared.word_line.Command.{Command}
+use Rattle.track.specs.declared.word_line.Command.TheVariants.{Cover, Replay}
 use Rattle.track.specs.declared.status.Status.{Status}
 use Rattle.track.specs.declared.status.Status.TheVariants as statuses
-use Rattle.track.specs.Answers.{IsReport, IsRefusal, IsAnswer}
+use Rattle.track.specs.Answers.{IsRefusal, IsResult, IsAnswer, network_of}
 use Rattle.track.specs.Command.{AnswersWith}
 use Rattle.track.specs.Contents.{Contents, AreInLimits}
-use Rattle.track.specs.Outcome.{outcome}
-use Rattle.track.specs.PlainText.{rows_of, Says}
+use Rattle.track.specs.PlainText.{rows_of}
 use Rattle.track.specs.Plans.{Plan, IsFlat}
-use Rattle.track.specs.Report.{report_of, apart_line}
+use Rattle.track.specs.Report.{apart_line}
 use Rattle.track.proofs.SpelledContents.{one_meaning_lem}
 
 -- ---- the flat plan
@@ -52,35 +56,53 @@ one_apart n edges v w p q = elim (cases_lt v w) [
   | inr ge ↦ elim (cases_lt w v) [ inl lt ↦ let reached = p.first w lt in absurd (q.apart reached.steps reached.walk) | inr le ↦ omega arith ]
 ]
 
+-- an input that has a result is connected
+connected_of : (command : Command) (contents : Contents) (text : List ℕ) → IsResult command contents text → (v : ℕ) → v < contents.nodes → IsReached contents.edges everywhere 0 v
+connected_of Cover contents text p = p.connected
+connected_of Replay contents text p = p.connected
+
 -- a network isn't both connected and not
-not_both : (contents : Contents) (one other : List ℕ) → IsReport contents one → IsRefusal contents other → ⊥
-not_both contents one other p q = let reached = p.connected q.node q.apart.below in q.apart.apart reached.steps reached.walk
+not_both : (command : Command) (contents : Contents) (one other : List ℕ) → IsResult command contents one → IsRefusal contents other → ⊥
+not_both command contents one other p q =
+    let reached = connected_of command contents one p q.node q.apart.below in q.apart.apart reached.steps reached.walk
+
+-- a network and k have one plan
+abbrev pub PlanIsOne : Type 0
+PlanIsOne = (network : Network) (k : ℕ) (one two : PlanData) → IsPlanOf network k one → IsPlanOf network k two → one ≡ two
 
 -- a network of these contents has a flat plan where it is connected
 abbrev pub HasFlatPlan : Type 0
 HasFlatPlan = (contents : Contents) → AreInLimits contents → ((v : ℕ) → v < contents.nodes → IsReached contents.edges everywhere 0 v)
     → (plan : Plan) × IsFlat contents.nodes contents.edges plan
 
-same_answer : (plans : HasFlatPlan) (contents : Contents) (s t : Status) (one other : List ℕ) → AreInLimits contents → IsAnswer s contents one → IsAnswer t contents other → (s ≡ t) × (one ≡ other)
-same_answer plans contents statuses.Done statuses.Done one other limits p q =
-    let flat = plans contents limits p.connected in (refl, p.report flat.0 flat.1 ∙ sym (q.report flat.0 flat.1))
-same_answer plans contents statuses.Refused statuses.Refused one other limits p q =
+same_result : (plans : HasFlatPlan) (unique : PlanIsOne) (command : Command) (contents : Contents) (one other : List ℕ) → AreInLimits contents
+    → IsResult command contents one → IsResult command contents other → one ≡ other
+same_result plans unique Cover contents one other limits p q =
+    p.text_is ∙ ap plan_text_of (unique (network_of contents) contents.k p.plan q.plan p.is q.is) ∙ sym q.text_is
+same_result plans unique Replay contents one other limits p q =
+    let flat = plans contents limits p.connected in p.report flat.0 flat.1 ∙ sym (q.report flat.0 flat.1)
+
+same_answer : (plans : HasFlatPlan) (unique : PlanIsOne) (command : Command) (contents : Contents) (s t : Status) (one other : List ℕ) → AreInLimits contents
+    → IsAnswer command s contents one → IsAnswer command t contents other → (s ≡ t) × (one ≡ other)
+same_answer plans unique command contents statuses.Done statuses.Done one other limits p q = (refl, same_result plans unique command contents one other limits p q)
+same_answer plans unique command contents statuses.Refused statuses.Refused one other limits p q =
     let node = one_apart contents.nodes contents.edges p.node q.node p.apart q.apart in
     (refl, p.line ∙ ap (λ (v : ℕ). apart_line (length (rows_of contents)) v) node ∙ sym q.line)
-same_answer plans contents statuses.Done statuses.Refused one other limits p q = absurd (not_both contents one other p q)
-same_answer plans contents statuses.Refused statuses.Done one other limits p q = absurd (not_both contents other one q p)
-same_answer plans contents statuses.BadWords t one other limits p q = absurd p
-same_answer plans contents statuses.OutOfMemory t one other limits p q = absurd p
-same_answer plans contents statuses.ReadFailed t one other limits p q = absurd p
-same_answer plans contents statuses.WriteFailed t one other limits p q = absurd p
-same_answer plans contents statuses.NotPlain t one other limits p q = absurd p
-same_answer plans contents s statuses.BadWords one other limits p q = absurd q
-same_answer plans contents s statuses.OutOfMemory one other limits p q = absurd q
-same_answer plans contents s statuses.ReadFailed one other limits p q = absurd q
-same_answer plans contents s statuses.WriteFailed one other limits p q = absurd q
-same_answer plans contents s statuses.NotPlain one other limits p q = absurd q
+same_answer plans unique command contents statuses.Done statuses.Refused one other limits p q = absurd (not_both command contents one other p q)
+same_answer plans unique command contents statuses.Refused statuses.Done one other limits p q = absurd (not_both command contents other one q p)
+same_answer plans unique command contents statuses.BadWords t one other limits p q = absurd p
+same_answer plans unique command contents statuses.OutOfMemory t one other limits p q = absurd p
+same_answer plans unique command contents statuses.ReadFailed t one other limits p q = absurd p
+same_answer plans unique command contents statuses.WriteFailed t one other limits p q = absurd p
+same_answer plans unique command contents statuses.NotPlain t one other limits p q = absurd p
+same_answer plans unique command contents s statuses.BadWords one other limits p q = absurd q
+same_answer plans unique command contents s statuses.OutOfMemory one other limits p q = absurd q
+same_answer plans unique command contents s statuses.ReadFailed one other limits p q = absurd q
+same_answer plans unique command contents s statuses.WriteFailed one other limits p q = absurd q
+same_answer plans unique command contents s statuses.NotPlain one other limits p q = absurd q
 
-pub one_answer_lem : (plans : HasFlatPlan) (bytes : List ℕ) (s t : Status) (one other : List ℕ) → AnswersWith s bytes one → AnswersWith t bytes other → (s ≡ t) × (one ≡ other)
-one_answer_lem plans bytes s t one other p q =
+pub one_answer_lem : (plans : HasFlatPlan) (unique : PlanIsOne) (command : Command) (bytes : List ℕ) (s t : Status) (one other : List ℕ)
+    → AnswersWith command s bytes one → AnswersWith command t bytes other → (s ≡ t) × (one ≡ other)
+one_answer_lem plans unique command bytes s t one other p q =
     let same : q.contents ≡ p.contents = one_meaning_lem bytes q.contents p.contents q.says p.says in
-    same_answer plans p.contents s t one other p.says.limits p.answer (subst (λ (c : Contents). IsAnswer t c other) same q.answer)
+    same_answer plans unique command p.contents s t one other p.says.limits p.answer (subst (λ (c : Contents). IsAnswer command t c other) same q.answer)

@@ -1,6 +1,6 @@
 -- A whole input that is read is spelled so, and one that is spelled so is read.
-use Rattle.std.proofs.Common.{◌≡◌, ℕ, zero, suc, ◌+◌, ◌^◌, ◌<◌, ◌≤◌, List, [], ◌∷◌, ◌++◌, length, map, Option, Some, None, refl, sym, ap, subst, ◌∙◌, append_assoc, arith, codes}
-use Rattle.std.specs.Prelude.{All, ◌==◌}
+use Rattle.std.proofs.Common.{◌≡◌, ℕ, zero, suc, ◌^◌, ◌<◌, ◌≤◌, List, [], ◌∷◌, ◌++◌, length, map, Option, Some, None, refl, sym, ap, subst, ◌∙◌, arith, codes}
+use Rattle.std.specs.Prelude.{◌==◌}
 use Rattle.std.specs.List.{AllByRecursion}
 use Rattle.std.proofs.lemmas.List.{length-append, length-map}
 use Rattle.std.proofs.lemmas.List.Elements.{recursion_from_All}
@@ -14,7 +14,7 @@ use Rattle.track.specs.Fields.{Row, BeginsWithRow, BeginsWithRows}
 use Rattle.track.specs.PlainText.{one_row, edge_row, home_row, find_row, rows_of, Says}
 use Rattle.track.specs.Reading.{◌>>=◌, word_at, one_at, three_at, edge_at, home_at, find_at, many, all_at, alone, contents_of}
 use Rattle.track.proofs.Spelled.{bind_some, some_is, outer_some, test_some}
-use Rattle.track.proofs.SpelledRows.{three_row, one_at-sound, one_at-whole, three_at-sound, three_at-whole}
+use Rattle.track.proofs.SpelledRows.{one_at-sound, one_at-whole, three_at-sound, three_at-whole}
 use Rattle.track.proofs.ManyLines.{many-line, many-none}
 
 -- ---- lists of rows

@@ -1,5 +1,5 @@
 -- Rows that are read are spelled so, and those that are spelled so are read.
-use Rattle.std.proofs.Common.{◌≡◌, ℕ, ◌^◌, ◌<◌, List, [], ◌∷◌, ◌++◌, Option, Some, None, refl, sym, ap, subst, ◌∙◌, append_assoc}
+use Rattle.std.proofs.Common.{◌≡◌, ℕ, ◌^◌, ◌<◌, List, [], ◌∷◌, ◌++◌, Option, Some, refl, sym, ap, subst, ◌∙◌, append_assoc}
 use Rattle.track.specs.Fields.{Spells, SpellNumbers, Row, BeginsWithRow}
 use Rattle.track.specs.PlainText.{one_row}
 use Rattle.track.specs.Reading.{◌>>=◌, word_at, number_at, end_at, one_at, three_at}

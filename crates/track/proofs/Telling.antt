@@ -1,12 +1,13 @@
 -- From a status to what its number tells.
-use Rattle.std.proofs.Common.{◌≡◌, ℕ, refl, arith, inl, inr}
+use Rattle.std.proofs.Common.{refl, arith, inl, inr}
 use Rattle.track.specs.declared.status.Status.{Status}
+use Rattle.track.specs.declared.word_line.Command.{Command}
 use Rattle.track.specs.declared.status.Status.TheVariants as statuses
 use Rattle.track.specs.Command.{Outside, Ends, Tells, number_of}
 
-pub tells : (status : Status) (before now : Outside) → Ends status before now → Tells (number_of status) before now
-tells statuses.Done before now h = record {
-  report = λ _. h.0;
+pub tells : (command : Command) (status : Status) (before now : Outside) → Ends command status before now → Tells command (number_of status) before now
+tells command statuses.Done before now h = record {
+  result = λ _. h.0;
   refusal = λ e. absurd (omega arith);
   words = λ e. omega arith;
   read_fault = λ e. absurd (omega arith);
@@ -19,8 +20,8 @@ tells statuses.Done before now h = record {
   all_read = λ _. h.1;
   known = inl (omega arith);
 }
-tells statuses.Refused before now h = record {
-  report = λ e. absurd (omega arith);
+tells command statuses.Refused before now h = record {
+  result = λ e. absurd (omega arith);
   refusal = λ _. h.0;
   words = λ e. omega arith;
   read_fault = λ e. absurd (omega arith);
@@ -33,9 +34,9 @@ tells statuses.Refused before now h = record {
   all_read = λ _. h.1;
   known = inl (omega arith);
 }
-tells statuses.BadWords before now h = absurd h
-tells statuses.OutOfMemory before now h = record {
-  report = λ e. absurd (omega arith);
+tells command statuses.BadWords before now h = absurd h
+tells command statuses.OutOfMemory before now h = record {
+  result = λ e. absurd (omega arith);
   refusal = λ e. absurd (omega arith);
   words = λ e. omega arith;
   read_fault = λ e. absurd (omega arith);
@@ -48,8 +49,8 @@ tells statuses.OutOfMemory before now h = record {
   all_read = λ e. elim e [ inl a ↦ absurd (omega arith) | inr b ↦ elim b [ inl a ↦ absurd (omega arith) | inr a ↦ absurd (omega arith) ] ];
   known = inl (omega arith);
 }
-tells statuses.ReadFailed before now h = record {
-  report = λ e. absurd (omega arith);
+tells command statuses.ReadFailed before now h = record {
+  result = λ e. absurd (omega arith);
   refusal = λ e. absurd (omega arith);
   words = λ e. omega arith;
   read_fault = λ _. h.0;
@@ -62,8 +63,8 @@ tells statuses.ReadFailed before now h = record {
   all_read = λ e. elim e [ inl a ↦ absurd (omega arith) | inr b ↦ elim b [ inl a ↦ absurd (omega arith) | inr a ↦ absurd (omega arith) ] ];
   known = inl (omega arith);
 }
-tells statuses.WriteFailed before now h = record {
-  report = λ e. absurd (omega arith);
+tells command statuses.WriteFailed before now h = record {
+  result = λ e. absurd (omega arith);
   refusal = λ e. absurd (omega arith);
   words = λ e. omega arith;
   read_fault = λ e. absurd (omega arith);
@@ -76,8 +77,8 @@ tells statuses.WriteFailed before now h = record {
   all_read = λ _. h.2;
   known = inl (omega arith);
 }
-tells statuses.NotPlain before now h = record {
-  report = λ e. absurd (omega arith);
+tells command statuses.NotPlain before now h = record {
+  result = λ e. absurd (omega arith);
   refusal = λ e. absurd (omega arith);
   words = λ e. omega arith;
   read_fault = λ e. absurd (omega arith);

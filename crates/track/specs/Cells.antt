@@ -1,6 +1,6 @@
 -- What the cells of the directory hold. For each subscriber a presence cell lies at each node, and an entry cell at the
 -- leader of each cluster of each level. These are all words that a cell may hold; finds alone meet few of them.
-use Rattle.std.specs.Prelude.{ℕ, Option, Some, None}
+use Rattle.std.specs.Prelude.{ℕ, Option, None}
 
 -- which cell: the presence of a subscriber at a node, or its entry at a cluster of a level
 pub data Key : Type 0 where

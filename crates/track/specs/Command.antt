@@ -1,19 +1,19 @@
--- How the command `replay` ends: a status, and what it says of the words, of the source and of the sink. `Reports` and
--- `Refuses` go from the bytes to the right text; laws: one_meaning, one_answer.
-use Rattle.std.specs.Prelude.{◌≡◌, ◌≢◌, ◌⊎◌, ℕ, ◌≤◌, List, [], ◌∷◌, Option, map, codes, string_bytes, IfSome, String}
-use Rattle.std.specs.Global.{Global}
+-- How a command ends: a status, and what it says of the words, of the source and of the sink. `AnswersWith` goes from the
+-- bytes to the right text; laws: one_meaning, one_answer.
+use Rattle.std.specs.Prelude.{◌≡◌, ◌≢◌, ◌⊎◌, ℕ, ◌≤◌, List, Option, IfSome}
 use Rattle.outside.specs.Bytes.{append_known, IsAtEnd}
 use Rattle.outside.specs.Calls.{HasFaulted}
 use Rattle.track.specs.declared.fault.ReadError.{ReadError}
 use Rattle.track.specs.declared.fault.ReadError.TheVariants as faults
 use Rattle.track.specs.declared.status.Stop.{Stop}
+use Rattle.track.specs.declared.word_line.Command.{Command}
 use Rattle.track.specs.declared.status.Stop.TheVariants as stops
 use Rattle.track.specs.declared.status.Status.{Status}
 use Rattle.track.specs.declared.status.Status.TheVariants as statuses
-use Rattle.track.specs.Answers.{IsReport, IsRefusal, IsAnswer}
+use Rattle.track.specs.Answers.{IsAnswer}
 use Rattle.track.specs.Contents.{Contents}
 use Rattle.track.specs.PlainText.{Says}
-use Rattle.track.specs.Transfer.{IsRest, IsWrittenPart}
+use Rattle.track.specs.Transfer.{IsWrittenPart}
 
 -- the status of a stop
 abbrev pub status_of : Stop → Status
@@ -28,35 +28,23 @@ stop_of faults.NotPlain = stops.NotPlain
 stop_of faults.OutOfMemory = stops.OutOfMemory
 
 -- the bytes are a plain input, and the text answers it with this status
-pub record AnswersWith (status : Status) (bytes text : List ℕ) : Type 0 where
+pub record AnswersWith (command : Command) (status : Status) (bytes text : List ℕ) : Type 0 where
   pub contents : Contents
   pub says : Says bytes contents
-  pub answer : IsAnswer status contents text
-
--- the bytes are a plain input of a connected network, and the text is the report of its finds
-abbrev pub Reports : List ℕ → List ℕ → Type 0
-Reports bytes text = AnswersWith statuses.Done bytes text
-
--- the bytes are a plain input whose network isn't connected, and the text is the line that says so
-abbrev pub Refuses : List ℕ → List ℕ → Type 0
-Refuses bytes text = AnswersWith statuses.Refused bytes text
+  pub answer : IsAnswer command status contents text
 
 -- the right text was written whole
-pub record IsWritten (status : Status) (bytes : List ℕ) (before now : Option (List ℕ)) : Type 0 where
+pub record IsWritten (command : Command) (status : Status) (bytes : List ℕ) (before now : Option (List ℕ)) : Type 0 where
   pub text : List ℕ
-  pub right : AnswersWith status bytes text
+  pub right : AnswersWith command status bytes text
   pub written : now ≡ append_known before text
 
 -- a front of the right text was written
-pub record IsPartWritten (bytes : List ℕ) (before now : Option (List ℕ)) : Type 0 where
+pub record IsPartWritten (command : Command) (bytes : List ℕ) (before now : Option (List ℕ)) : Type 0 where
   pub status : Status
   pub text : List ℕ
-  pub right : AnswersWith status bytes text
+  pub right : AnswersWith command status bytes text
   pub part : IsWrittenPart text before now
-
--- the words are the one word `replay`
-abbrev pub IsReplay : List (String Global) → Type 0
-IsReplay words = map string_bytes words ≡ codes "replay" ∷ []
 
 -- the bytes are no plain input of at most the greatest length
 abbrev pub IsNoInput : List ℕ → Type 0
@@ -73,18 +61,18 @@ pub record Outside : Type 0 where
 abbrev pub outside : Option (List ℕ) → ℕ → Option (List ℕ) → ℕ → Outside
 outside left read_faults written write_faults = record { left = left; read_faults = read_faults; written = written; write_faults = write_faults }
 
--- what a status says of the outside, before and after, where the words are `replay`
-abbrev pub Ends : Status → Outside → Outside → Type 0
-Ends statuses.Done before now = IfSome before.left (λ bytes. IsWritten statuses.Done bytes before.written now.written)
+-- what a status says of the outside, before and after, where the words are a command's form
+abbrev pub Ends : Command → Status → Outside → Outside → Type 0
+Ends command statuses.Done before now = IfSome before.left (λ bytes. IsWritten command statuses.Done bytes before.written now.written)
     × IsAtEnd now.left × (now.read_faults ≡ before.read_faults) × (now.write_faults ≡ before.write_faults)
-Ends statuses.Refused before now = IfSome before.left (λ bytes. IsWritten statuses.Refused bytes before.written now.written)
+Ends command statuses.Refused before now = IfSome before.left (λ bytes. IsWritten command statuses.Refused bytes before.written now.written)
     × IsAtEnd now.left × (now.read_faults ≡ before.read_faults) × (now.write_faults ≡ before.write_faults)
-Ends statuses.BadWords before now = ⊥
-Ends statuses.OutOfMemory before now = (now.written ≡ before.written) × (now.read_faults ≡ before.read_faults) × (now.write_faults ≡ before.write_faults)
-Ends statuses.ReadFailed before now = HasFaulted before.read_faults now.read_faults × (now.written ≡ before.written) × (now.write_faults ≡ before.write_faults)
-Ends statuses.WriteFailed before now = HasFaulted before.write_faults now.write_faults × IfSome before.left (λ bytes. IsPartWritten bytes before.written now.written)
+Ends command statuses.BadWords before now = ⊥
+Ends command statuses.OutOfMemory before now = (now.written ≡ before.written) × (now.read_faults ≡ before.read_faults) × (now.write_faults ≡ before.write_faults)
+Ends command statuses.ReadFailed before now = HasFaulted before.read_faults now.read_faults × (now.written ≡ before.written) × (now.write_faults ≡ before.write_faults)
+Ends command statuses.WriteFailed before now = HasFaulted before.write_faults now.write_faults × IfSome before.left (λ bytes. IsPartWritten command bytes before.written now.written)
     × IsAtEnd now.left × (now.read_faults ≡ before.read_faults)
-Ends statuses.NotPlain before now = IfSome before.left IsNoInput × (now.written ≡ before.written) × (now.read_faults ≡ before.read_faults) × (now.write_faults ≡ before.write_faults)
+Ends command statuses.NotPlain before now = IfSome before.left IsNoInput × (now.written ≡ before.written) × (now.read_faults ≡ before.read_faults) × (now.write_faults ≡ before.write_faults)
 
 -- the number of a status
 abbrev pub number_of : Status → ℕ
@@ -97,11 +85,11 @@ number_of statuses.WriteFailed = 5
 number_of statuses.NotPlain = 7
 
 -- what a command that reads tells by its number, the words being a form
-pub record Tells (number : ℕ) (before now : Outside) : Type 0 where
-  -- 0: the report of the input was written
-  pub report : number ≡ 0 → IfSome before.left (λ bytes. IsWritten statuses.Done bytes before.written now.written)
+pub record Tells (command : Command) (number : ℕ) (before now : Outside) : Type 0 where
+  -- 0: what the command answers was written
+  pub result : number ≡ 0 → IfSome before.left (λ bytes. IsWritten command statuses.Done bytes before.written now.written)
   -- 1: the line that refuses the network was written
-  pub refusal : number ≡ 1 → IfSome before.left (λ bytes. IsWritten statuses.Refused bytes before.written now.written)
+  pub refusal : number ≡ 1 → IfSome before.left (λ bytes. IsWritten command statuses.Refused bytes before.written now.written)
   -- 2 comes only where the words are no form
   pub words : number ≢ 2
   -- 4: the source faulted in this call, and only then
@@ -110,7 +98,7 @@ pub record Tells (number : ℕ) (before now : Outside) : Type 0 where
   -- 5: the sink faulted in this call, and only then; a front of the right text was written
   pub write_fault : number ≡ 5 → HasFaulted before.write_faults now.write_faults
   pub no_write_fault : number ≢ 5 → now.write_faults ≡ before.write_faults
-  pub part : number ≡ 5 → IfSome before.left (λ bytes. IsPartWritten bytes before.written now.written)
+  pub part : number ≡ 5 → IfSome before.left (λ bytes. IsPartWritten command bytes before.written now.written)
   -- 7: the bytes are no plain input, or too many
   pub not_plain : number ≡ 7 → IfSome before.left IsNoInput
   -- 3, 4 and 7: nothing was written

@@ -1,6 +1,6 @@
 -- What an input says: a network, where its subscribers are at home, and the finds of its callers. `AreInLimits` has
 -- every rule on these numbers that no single line shows. How it is written is told in `PlainText`.
-use Rattle.std.specs.Prelude.{◌≡◌, ℕ, ◌+◌, ◌<◌, ◌≤◌, List, length, All}
+use Rattle.std.specs.Prelude.{ℕ, ◌+◌, ◌<◌, ◌≤◌, List, length, All}
 use Rattle.net_graph.specs.declared.edge.Edge.{Edge}
 use Rattle.net_graph.specs.Network.{IsEdge}
 use Rattle.track.specs.declared.input.Find.{Find}

@@ -3,7 +3,7 @@
 -- reads, level by level, until one has an address; then it chases from that address along the marks that it meets.
 -- The travelled weight grows along: twice the way to a leader whose entry is empty, the way to the one that has an
 -- address and on to it, and each hop of the chase.
-use Rattle.std.specs.Prelude.{◌≡◌, ℕ, zero, suc, ◌+◌, ◌*◌, List, [], ◌∷◌, ◌++◌, Option, Some, None, Bool, true, false, nat_le, max, map, length, if◌then◌else◌}
+use Rattle.std.specs.Prelude.{ℕ, zero, suc, ◌+◌, ◌*◌, List, [], ◌∷◌, ◌++◌, Option, Some, None, Bool, false, nat_le, max, map, length, if◌then◌else◌}
 use Rattle.track.specs.Cells.{Key, Mark, Address, Word, mark_of, address_of}
 use Rattle.track.specs.Cells.Key.{presence, entry}
 use Rattle.track.specs.Cells.Mark.{empty, here, gone, coming}

@@ -1,8 +1,9 @@
--- Finds over the flat plan where nobody moves, as the code makes them: it keeps the least weights from node 0 alone, and
--- one entry for each subscriber. Nothing above stands on this; the laws in proofs/ join it to `Finds`.
-use Rattle.std.specs.Prelude.{◌≡◌, ℕ, ◌+◌, ◌<◌, ◌≤◌, ◌==◌, Bool, true, false, List, Option, Some, None, length, map, flat_map}
-use Rattle.net_graph.specs.Walks.{IsLeastWeight, everywhere}
-use Rattle.net_graph.specs.Trees.{at_node}
+-- Finds over the flat plan where nobody moves, as the code makes them: one entry for each subscriber, at the one cluster. Nothing above stands on this; the laws in proofs/ join it to `Finds`.
+use Rattle.std.specs.Prelude.{◌≡◌, ℕ, ◌+◌, ◌==◌, Bool, true, false, List, Some, None, map, flat_map}
+use Rattle.net_graph.specs.Network.{Network, IsGraphOf}
+use Rattle.region_plan.specs.Kept.{IsKept}
+use Rattle.region_plan.specs.Plan.{PlanData, inside}
+use Rattle.region_plan.specs.Regions as flat_plan
 use Rattle.track.specs.declared.directory.Mark.{Mark}
 use Rattle.track.specs.declared.directory.Mark.TheVariants as marks
 use Rattle.track.specs.declared.input.Find.{Find}
@@ -16,17 +17,16 @@ use Rattle.track.specs.Finds.Found.{at}
 use Rattle.track.specs.Outcome.{home_of, Done, Outcome, done_from, visits_of, outcome}
 use Rattle.track.specs.Plans.{Plan, IsFlat}
 
--- the least weight of a walk from node 0 to this node stands in the list
-pub record HasWeight (contents : Contents) (weights : List (Option ℕ)) (node : ℕ) : Type 0 where
-  pub weight : ℕ
-  pub stands : at_node weights node ≡ Some weight
-  pub least : IsLeastWeight contents.edges everywhere 0 node weight
-  pub bounded : weight ≤ 1073741824
+-- the flat plan that the code has is that of the input's network
+pub record IsPlanFor (contents : Contents) (plan : PlanData) : Type 0 where
+  pub network : Network
+  pub graph : IsGraphOf contents.nodes contents.edges network
+  pub flat : flat_plan.IsFlat network plan
+  pub kept : IsKept plan
 
--- the least weights of walks from node 0 stand in the list, node by node
-pub record AreWeights (contents : Contents) (weights : List (Option ℕ)) : Type 0 where
-  pub count : length weights ≡ contents.nodes
-  pub each : (v : ℕ) → v < contents.nodes → HasWeight contents weights v
+-- the weight of a node from the leader of all nodes
+abbrev pub weight_of : PlanData → ℕ → ℕ
+weight_of plan v = inside plan 0 0 v
 
 -- a presence mark is Here with number 0 where the test says so, and else Empty
 abbrev pub IsHere : Mark → Bool → Type 0
@@ -38,13 +38,10 @@ abbrev pub found_at : Contents → ℕ → ℕ → Find → Bool → Found
 found_at contents a b call true = record { node = call.from; number = 0; level = None; weight = 0; looks = 1 }
 found_at contents a b call false = record { node = home_of contents call.sub; number = 0; level = Some 0; weight = a + b; looks = 3 }
 
--- the find has this answer, its weights standing in the list
-pub record Finds (contents : Contents) (weights : List (Option ℕ)) (call : Find) (found : Found) : Type 0 where
-  pub to_origin : ℕ
-  pub to_home : ℕ
-  pub origin : at_node weights call.from ≡ Some to_origin
-  pub home : at_node weights (home_of contents call.sub) ≡ Some to_home
-  pub answer : found ≡ found_at contents to_origin to_home call (call.from == home_of contents call.sub)
+-- what a find answers over the plan
+abbrev pub found_over : PlanData → Contents → Find → Found
+found_over plan contents call =
+    found_at contents (weight_of plan call.from) (weight_of plan (home_of contents call.sub)) call (call.from == home_of contents call.sub)
 
 -- the answer as a find's next
 abbrev pub result_of : Found → Next

@@ -8,6 +8,7 @@ pub mod Finds
 pub mod Outcome
 pub mod Report
 pub mod FlatFinds
+pub mod Words
 pub mod Answers
 pub mod Transfer
 pub mod Command

@@ -1,16 +1,15 @@
 -- What becomes of an input's finds where nobody moves: each subscriber stands at its home, and every find reads the
 -- cells as they were at the opening. The visits are made caller by caller; a visit's ticket is its place among all.
 -- Laws: finds_stand, that each find names the node where its subscriber stands; one_outcome.
-use Rattle.std.specs.Prelude.{◌≡◌, ℕ, zero, suc, ◌+◌, ◌-◌, ◌==◌, List, [], ◌∷◌, ◌++◌, Option, Some, None, length, filter, flat_map, replicate, slice_index_or, if◌then◌else◌}
+use Rattle.std.specs.Prelude.{ℕ, zero, suc, ◌+◌, ◌-◌, ◌==◌, List, [], ◌∷◌, ◌++◌, Some, None, length, filter, flat_map, replicate, slice_index_or, if◌then◌else◌}
 use Rattle.track.specs.declared.input.Find.{Find}
-use Rattle.track.specs.declared.input.Home.{Home}
 use Rattle.track.specs.Contents.{Contents, subscriber_count}
-use Rattle.track.specs.Cells.{Key, Mark, Address, Word}
+use Rattle.track.specs.Cells.{Key, Word}
 use Rattle.track.specs.Cells.Key.{presence, entry}
 use Rattle.track.specs.Cells.Mark.{empty, here}
 use Rattle.track.specs.Cells.Word.{mark, slot}
 use Rattle.track.specs.Plans.{Plan}
-use Rattle.track.specs.Finds.{Next, Found, find, most_looks}
+use Rattle.track.specs.Finds.{Next, find, most_looks}
 use Rattle.track.specs.Finds.Next.{wants, answers}
 
 -- the node where a subscriber is at home

@@ -1,6 +1,6 @@
 -- The plain form of an input: its rows in order, with nothing else between them. `Says` goes from what an input says to
 -- the bytes that say it, and never reads. Law: one_meaning, that bytes say one input only.
-use Rattle.std.specs.Prelude.{◌≡◌, ℕ, ◌≤◌, List, [], ◌∷◌, ◌++◌, length, map, codes}
+use Rattle.std.specs.Prelude.{ℕ, ◌≤◌, List, [], ◌∷◌, ◌++◌, length, map, codes}
 use Rattle.net_graph.specs.declared.edge.Edge.{Edge}
 use Rattle.track.specs.declared.input.Find.{Find}
 use Rattle.track.specs.declared.input.Home.{Home}

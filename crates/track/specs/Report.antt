@@ -1,7 +1,7 @@
 -- The report's text: a line for each call, the actors of all tickets, and how many visits there were.
-use Rattle.std.specs.Prelude.{◌≡◌, ℕ, zero, suc, ◌+◌, ◌%◌, ◌==◌, ◌||◌, Bool, List, [], ◌∷◌, ◌++◌, Option, Some, None, length, flat_map, codes, if◌then◌else◌}
+use Rattle.std.specs.Prelude.{ℕ, ◌+◌, ◌%◌, ◌==◌, ◌||◌, Bool, List, [], ◌∷◌, ◌++◌, Option, Some, None, length, flat_map, codes, if◌then◌else◌}
 use Rattle.std.specs.Fmt.{decimal}
-use Rattle.track.specs.Finds.{Next, Found, Why}
+use Rattle.track.specs.Finds.{Next, Why}
 use Rattle.track.specs.Finds.Next.{wants, answers}
 use Rattle.track.specs.Finds.Found.{at, again}
 use Rattle.track.specs.Finds.Why.{nothing_at, no_entry, chased}

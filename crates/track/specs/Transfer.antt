@@ -1,5 +1,5 @@
 -- What stands after all bytes of a source were read, and after a text was written to a sink.
-use Rattle.std.specs.Prelude.{◌≡◌, ℕ, ◌<◌, ◌≤◌, List, [], ◌++◌, length, Option, IfSome}
+use Rattle.std.specs.Prelude.{◌≡◌, ℕ, ◌<◌, ◌≤◌, List, ◌++◌, length, Option, IfSome}
 use Rattle.outside.specs.Bytes.{prepend_known, append_known, IsAtEnd}
 use Rattle.outside.specs.Calls.{HasFaulted}
 use Rattle.track.specs.declared.limits.TheConstants.{MAX_BYTES}

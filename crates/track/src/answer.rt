@@ -1,9 +1,9 @@
 // The text that answers an input.
-ghost use Rattle.std.specs.Prelude.{◌≡◌, ◌+◌, IfOk, length, string_bytes};
+ghost use Rattle.std.specs.Prelude.{◌≡◌, IfOk, length};
 ghost use Rattle.net_graph.specs.Network.{IsGraphOf};
-ghost use Rattle.track.specs.Answers.{IsAnswer};
+ghost use Rattle.distances.specs.Table.{AreDistancesOf};
+ghost use Rattle.track.specs.Answers.{IsAnswer, IsCover, IsReport};
 ghost use Rattle.track.specs.Contents.{AreInLimits};
-ghost use Rattle.track.specs.FlatFinds.{AreWeights};
 ghost use Rattle.track.specs.PlainText.{rows_of};
 ghost use Rattle.track.specs.Reading.{view};
 
@@ -11,14 +11,18 @@ use crate::input::Input;
 use crate::outcome::make_outcome;
 use crate::report::{apart, report};
 use crate::status::Status;
-use net_graph::{Graph, GraphFault, Tree, all_allowed_is_everywhere};
+use crate::word_line::Command;
+use distances::Distances;
+use net_graph::{Graph, GraphFault};
+use region_plan::Plan;
+use report_text::plan_text;
 use std::alloc::{AllocError, Global};
 
 // A text, and the status that goes with it.
 #[derive(Debug, Drop)]
 pub(crate) struct Answer {
     pub status: Status,
-    pub text: String,
+    pub text: Vec<u8>,
 }
 
 // How many lines a plain input has.
@@ -29,26 +33,48 @@ fn line_count(input: &Input) -> usize
     4 + input.edges.len() + input.homes.len() + input.finds.len()
 }
 
-// The least weights of walks from node 0.
-fn weights_from_leader(
+// The report of the finds, over the flat plan.
+fn replay(
     alloc: Global,
     graph: &Graph,
+    distances: &Distances,
     input: &Input,
-) -> Result<Vec<Option<u64>>, AllocError>
+) -> Result<Vec<u8>, AllocError>
     requires graph { IsGraphOf input.now.nodes input.now.edges.items graph.now }
+    requires distances { AreDistancesOf graph.now distances.now }
     requires limits { AreInLimits (view input.now) }
-    ensures { IfOk result (λ weights. AreWeights (view input.now) weights.items) }
+    ensures { IfOk result (λ text. IsReport (view input.now) text.items) }
 {
-    all_allowed_is_everywhere();
-    let allowed = vec![in alloc; true; input.nodes as usize]?;
-    let Tree { weight, .. } = graph.tree_from(alloc, &allowed, 0)?;
-    Ok(weight)
+    let plan = Plan::flat(alloc, graph, distances)?;
+    let outcome = make_outcome(alloc, input, &plan)?;
+    let text = report(alloc, &outcome)?;
+    Ok(text.into_bytes())
 }
 
-// The report of an input, or the line that refuses its network.
-pub(crate) fn make_answer(alloc: Global, input: &Input) -> Result<Answer, AllocError>
+// The plan of the network.
+fn cover(
+    alloc: Global,
+    graph: &Graph,
+    distances: &Distances,
+    input: &Input,
+) -> Result<Vec<u8>, AllocError>
+    requires graph { IsGraphOf input.now.nodes input.now.edges.items graph.now }
+    requires distances { AreDistancesOf graph.now distances.now }
+    requires limits { AreInLimits (view input.now) }
+    ensures { IfOk result (λ text. IsCover (view input.now) text.items) }
+{
+    let plan = Plan::build(alloc, graph, distances, input.k)?;
+    plan_text(alloc, &plan)
+}
+
+// What the command answers to the input, or the line that refuses its network.
+pub(crate) fn make_answer(
+    alloc: Global,
+    command: Command,
+    input: &Input,
+) -> Result<Answer, AllocError>
     requires { AreInLimits (view input.now) }
-    ensures { IfOk result (λ answer. IsAnswer answer.status (view input.now) (string_bytes answer.text)) }
+    ensures { IfOk result (λ answer. IsAnswer command answer.status (view input.now) answer.text.items) }
 {
     let graph = match Graph::new(alloc, input.nodes, &input.edges) {
         Ok(graph) => graph,
@@ -56,14 +82,16 @@ pub(crate) fn make_answer(alloc: Global, input: &Input) -> Result<Answer, AllocE
             let text = apart(alloc, line_count(input), node)?;
             return Ok(Answer {
                 status: Status::Refused,
-                text,
+                text: text.into_bytes(),
             });
         }
         Err(GraphFault::OutOfMemory) => return Err(AllocError),
     };
-    let weights = weights_from_leader(alloc, &graph, input)?;
-    let outcome = make_outcome(alloc, input, &weights)?;
-    let text = report(alloc, &outcome)?;
+    let distances = Distances::new(alloc, &graph)?;
+    let text = match command {
+        Command::Cover => cover(alloc, &graph, &distances, input)?,
+        Command::Replay => replay(alloc, &graph, &distances, input)?,
+    };
     Ok(Answer {
         status: Status::Done,
         text,

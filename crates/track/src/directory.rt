@@ -1,12 +1,12 @@
 // The directory over the flat plan: one cluster of all nodes, led by node 0, whose entries tell each subscriber's home.
 ghost use Rattle.std.specs.Prelude.{◌≡◌, ◌<◌, ◌≤◌, ◌==◌, Some, length};
-ghost use Rattle.net_graph.specs.Trees.{at_node};
 ghost use Rattle.track.specs.Contents.{IsFind, AreInLimits};
-ghost use Rattle.track.specs.FlatFinds.{AreWeights, IsHere, Finds};
+ghost use Rattle.track.specs.FlatFinds.{IsPlanFor, IsHere, found_over, weight_of};
 ghost use Rattle.track.specs.Outcome.{home_of};
 ghost use Rattle.track.specs.Reading.{view};
 
 use crate::input::{Find, Input};
+use region_plan::Plan;
 
 // The answer of a find, and how many looks it took.
 #[derive(Clone, Copy, Debug, PartialEq, Eq)]
@@ -56,25 +56,22 @@ fn entry(input: &Input, sub: u32) -> Address
     }
 }
 
-// The least weight of a walk from the leader to a node.
-fn weight(input: &Input, weights: &[Option<u64>], node: u32) -> u64
-    requires weights { AreWeights (view input.now) weights.now }
+// The least weight of a walk from the leader of all nodes to a node.
+fn weight(input: &Input, plan: &Plan, node: u32) -> u64
+    requires plan { IsPlanFor (view input.now) plan.now }
     requires node { node < input.now.nodes }
-    ensures stands { at_node weights.now node ≡ Some result }
+    ensures value { result ≡ weight_of plan.now node }
     ensures bounded { result ≤ 1073741824 }
 {
-    match weights[node as usize] {
-        Some(weight) => weight,
-        None => unreachable!(),
-    }
+    plan.tree_weight(0, 0, node)
 }
 
 // A find: it looks at its origin, climbs to the one entry, and chases from its address.
-pub(crate) fn find(input: &Input, weights: &[Option<u64>], call: Find) -> Found
-    requires weights { AreWeights (view input.now) weights.now }
+pub(crate) fn find(input: &Input, plan: &Plan, call: Find) -> Found
+    requires plan { IsPlanFor (view input.now) plan.now }
     requires limits { AreInLimits (view input.now) }
     requires call { IsFind (view input.now) call }
-    ensures { Finds (view input.now) weights.now call result }
+    ensures { result ≡ found_over plan.now (view input.now) call }
 {
     if let Mark::Here { number } = presence(input, call.from, call.sub) {
         return Found {
@@ -86,7 +83,7 @@ pub(crate) fn find(input: &Input, weights: &[Option<u64>], call: Find) -> Found
         };
     }
     let Address { node, .. } = entry(input, call.sub);
-    let weight = weight(input, weights, call.from) + weight(input, weights, node);
+    let weight = weight(input, plan, call.from) + weight(input, plan, node);
     match presence(input, node, call.sub) {
         Mark::Here { number } => Found {
             node,

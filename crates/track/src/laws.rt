@@ -4,10 +4,12 @@ ghost use Rattle.net_graph.specs.Walks.{IsReached, everywhere};
 ghost use Rattle.track.specs.Command.{AnswersWith};
 ghost use Rattle.track.specs.Contents.{Contents, AreInLimits};
 ghost use Rattle.track.specs.declared.status.Status.{Status};
+ghost use Rattle.track.specs.declared.word_line.Command.{Command};
 ghost use Rattle.track.specs.PlainText.{Says};
 ghost use Rattle.track.specs.Plans.{Plan, IsFlat};
 
 use net_graph::{reached_both_ways, reached_has_a_least_weight};
+use region_plan::plan_is_one;
 
 /// Bytes say one input only.
 pub fn one_meaning()
@@ -24,10 +26,11 @@ pub fn flat_plan_is()
     reached_has_a_least_weight();
 }
 
-/// Bytes have one answer only: one status, and one text.
+/// To a command, bytes have one answer only: one status, and one text.
 pub fn one_answer()
-    ensures { (bytes : List ℕ) (s t : Status) (one other : List ℕ)
-        → AnswersWith s bytes one → AnswersWith t bytes other → (s ≡ t) × (one ≡ other) }
+    ensures { (command : Command) (bytes : List ℕ) (s t : Status) (one other : List ℕ)
+        → AnswersWith command s bytes one → AnswersWith command t bytes other → (s ≡ t) × (one ≡ other) }
 {
     flat_plan_is();
+    plan_is_one();
 }

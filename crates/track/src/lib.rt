@@ -17,6 +17,7 @@ mod status;
 mod tests;
 mod top;
 mod transfer;
+mod word_line;
 
 pub use laws::{flat_plan_is, one_answer, one_meaning};
 pub use limits::{MAX_BYTES, MAX_CALLERS, MAX_CALLS, MAX_EDGES, MAX_K, MAX_NODES, MAX_SUBSCRIBERS};

@@ -1,13 +1,14 @@
 // What becomes of an input's finds over the flat plan, where nobody moves.
 ghost use Rattle.std.specs.Prelude.{◌≡◌, ◌+◌, ◌==◌, ◌++◌, All, IfOk, OnOk, filter, replicate};
 ghost use Rattle.track.specs.Contents.{AreInLimits, IsFind, subscriber_count};
-ghost use Rattle.track.specs.FlatFinds.{AreWeights, AreMade, IsOutcome};
+ghost use Rattle.track.specs.FlatFinds.{IsPlanFor, AreMade, IsOutcome};
 ghost use Rattle.track.specs.Outcome.{by_actor};
 ghost use Rattle.track.specs.Reading.{view};
 
 use crate::directory::{Found, find};
 use crate::input::{Find, Input};
 use net_graph::least_weight_is_one;
+use region_plan::Plan;
 use std::alloc::{AllocError, Global};
 
 // A find with its answer, and the tickets of its first and its last visit.
@@ -65,10 +66,10 @@ fn push_visits(actor: u32, count: u64, order: &mut Vec<u32>) -> Result<(), Alloc
 fn make_all(
     alloc: Global,
     input: &Input,
-    weights: &[Option<u64>],
+    plan: &Plan,
     calls: &[Find],
 ) -> Result<Outcome, AllocError>
-    requires weights { AreWeights (view input.now) weights.now }
+    requires plan { IsPlanFor (view input.now) plan.now }
     requires limits { AreInLimits (view input.now) }
     requires calls { All (IsFind (view input.now)) calls.now }
     ensures { IfOk result (AreMade (view input.now) calls.now) }
@@ -77,7 +78,7 @@ fn make_all(
     let mut done = Vec::with_capacity(alloc, calls.len())?;
     let mut order = Vec::new(alloc);
     for call in calls {
-        let found = find(input, weights, *call);
+        let found = find(input, plan, *call);
         let first = order.len() as u64;
         push_visits(call.caller, found.looks, &mut order)?;
         let last = first + found.looks - 1;
@@ -92,15 +93,11 @@ fn make_all(
 }
 
 // What becomes of an input's finds.
-pub(crate) fn make_outcome(
-    alloc: Global,
-    input: &Input,
-    weights: &[Option<u64>],
-) -> Result<Outcome, AllocError>
-    requires weights { AreWeights (view input.now) weights.now }
+pub(crate) fn make_outcome(alloc: Global, input: &Input, plan: &Plan) -> Result<Outcome, AllocError>
+    requires plan { IsPlanFor (view input.now) plan.now }
     requires limits { AreInLimits (view input.now) }
     ensures { IfOk result (IsOutcome (view input.now)) }
 {
     let calls = calls_by_actor(alloc, input)?;
-    make_all(alloc, input, weights, &calls)
+    make_all(alloc, input, plan, &calls)
 }

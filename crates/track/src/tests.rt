@@ -45,12 +45,12 @@ fn perform(alloc: Global, run: &Run<'_>) -> Result<Ran, Fail>
     })
 }
 
-// A run of `replay` without faults.
-fn replay(alloc: Global, input: &str) -> Result<Ran, Fail> {
+// A run of a word without faults.
+fn answer_to(alloc: Global, word: &str, input: &str) -> Result<Ran, Fail> {
     perform(
         alloc,
         &Run {
-            words: &["replay"],
+            words: &[word],
             input,
             most: ROOM,
             failing_reads: &[],
@@ -63,6 +63,10 @@ const TWO_NODES: &str = "track 1\nnodes 2\nk 2\nedge 0 1 1\nsub 1\ncallers 1\nfi
 
 const TWO_NODES_REPORT: &str =
     "find 1 0 0 at 1 number 0 level 0 weight 1 first 0 last 2\norder 1 1 1\nend 3\n";
+
+// The plan of two nodes joined by one edge, k being 1.
+const TWO_PHASES: &str =
+    "plan nodes 2 k 1 levels 1 degree 2 stretch 56\nlevel 0 radius 1 clusters 2 phases 2\ncluster 0 phase 0 leader 0 depth 1 members 0 1\ncluster 1 phase 1 leader 1 depth 1 members 0 1\nhomes 0 1\nend\n";
 
 #[test]
 fn worked_inputs(rt: HostRuntime) -> Result<(), Fail> {
@@ -96,7 +100,35 @@ fn worked_inputs(rt: HostRuntime) -> Result<(), Fail> {
         ),
     ];
     for (input, status, text) in rows {
-        let ran = replay(rt.alloc(), input)?;
+        let ran = answer_to(rt.alloc(), "replay", input)?;
+        assert_eq!(rt; ran.status, status, "{input}");
+        assert_eq!(rt; ran.written.as_slice(), text.as_bytes(), "{input}");
+    }
+    Ok(())
+}
+
+#[test]
+fn worked_plans(rt: HostRuntime) -> Result<(), Fail> {
+    let rows = [
+        (
+            "track 1\nnodes 2\nk 1\nedge 0 1 1\nsub 0\ncallers 0\n",
+            0,
+            TWO_PHASES,
+        ),
+        (
+            "track 1\nnodes 1\nk 1\nsub 0\ncallers 1\nfind 1 0 0\n",
+            0,
+            "plan nodes 1 k 1 levels 1 degree 1 stretch 40\nlevel 0 radius 1 clusters 1 phases 1\ncluster 0 phase 0 leader 0 depth 0 members 0\nhomes 0\nend\n",
+        ),
+        (
+            "track 1\nnodes 3\nk 2\nedge 0 1 1\nsub 0\ncallers 0\n",
+            1,
+            "refused 6 apart 2\n",
+        ),
+        ("track 1\nnodes 3\nk 0\nsub 0\ncallers 0\n", 7, ""),
+    ];
+    for (input, status, text) in rows {
+        let ran = answer_to(rt.alloc(), "cover", input)?;
         assert_eq!(rt; ran.status, status, "{input}");
         assert_eq!(rt; ran.written.as_slice(), text.as_bytes(), "{input}");
     }
@@ -131,7 +163,7 @@ fn inputs_that_are_not_plain(rt: HostRuntime) -> Result<(), Fail> {
         "track 0000000000000000001\nnodes 2\nk 2\nedge 0 1 1\nsub 1\ncallers 1\n",
     ];
     for input in inputs {
-        let ran = replay(rt.alloc(), input)?;
+        let ran = answer_to(rt.alloc(), "replay", input)?;
         assert_eq!(rt; ran.status, 7, "{input}");
         assert!(rt; ran.written.is_empty(), "{input}");
     }
@@ -140,7 +172,13 @@ fn inputs_that_are_not_plain(rt: HostRuntime) -> Result<(), Fail> {
 
 #[test]
 fn words_of_no_form(rt: HostRuntime) -> Result<(), Fail> {
-    let forms: [&[&str]; 5] = [&[], &["replay", "x"], &["--help"], &["Replay"], &["run"]];
+    let forms: [&[&str]; 5] = [
+        &[],
+        &["replay", "x"],
+        &["cover", "replay"],
+        &["--help"],
+        &["Cover"],
+    ];
     for words in forms {
         let ran = perform(
             rt.alloc(),

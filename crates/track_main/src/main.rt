@@ -10,6 +10,7 @@ use track::command;
 
 // The statuses of a command line that can't be read: a word is no text, or memory runs out.
 const BAD_WORDS: u8 = 2;
+
 const OUT_OF_MEMORY: u8 = 3;
 
 // The words behind the program's name.

@@ -1,12 +1,10 @@
-use Rattle.std.proofs.Common.{◌≡◌, ◌∙◌, sym, arith}
-use Rattle.track.proofs.Spelled.{some_is}
+use Rattle.track.specs.Reading.{view}
+use Rattle.track.proofs.Made.{all_members, weight_light}
+use Rattle.std.proofs.Common.{◌≤◌, sym, subst}
 use Rattle.track.proofs.directory.weight.Goals as goal
 
-pub unreachable-requires : goal.unreachable-requires
-unreachable-requires c = let has = c.requires.weights.each c.args.node c.requires.node in cc (has.stands, c.in-None.is)
+pub tree_weight-requires-clause-member : goal.tree_weight-requires-clause-member
+tree_weight-requires-clause-member c = all_members (view c.args.input.now) c.args.plan.now c.args.node c.requires.plan c.requires.node
 
 pub returns-clause-bounded : goal.returns-clause-bounded
-returns-clause-bounded c =
-    let has = c.requires.weights.each c.args.node c.requires.node in
-    let same : c.in-Some.weight ≡ has.weight = some_is c.in-Some.weight has.weight (sym c.in-Some.is ∙ has.stands) in
-    omega (arith, same, has.bounded)
+returns-clause-bounded c = subst (λ w. w ≤ 1073741824) (sym c.tree_weight.ensures) (weight_light (view c.args.input.now) c.args.plan.now c.args.node c.requires.plan c.requires.node)

@@ -1,12 +1,12 @@
-use Rattle.std.proofs.Common.{◌≡◌, ℕ, ◌+◌, ◌-◌, List, [], ◌∷◌, ◌++◌, length, get_or, drop, vec_len, refl, sym, ap, ◌∙◌, arith, add-one, drop-cons, length-append}
+use Rattle.std.proofs.Common.{◌≡◌, ◌+◌, ◌-◌, [], ◌∷◌, ◌++◌, length, get_or, drop, vec_len, ap, sym, subst, ◌≤◌, arith, add-one, drop-cons, length-append}
 use Rattle.std.specs.Prelude.{replicate}
 use Rattle.std.proofs.lemmas.List.{length-replicate}
 use Rattle.std.proofs.lemmas.Grind.{common_steps}
+use Rattle.track.specs.declared.directory.Found.{Found}
 use Rattle.track.specs.declared.input.Find.{Find}
-use Rattle.track.specs.declared.outcome.Done.{Done}
 use Rattle.track.specs.Outcome.{done_from}
 use Rattle.track.specs.Reading.{view}
-use Rattle.track.proofs.Made.{made_more, made_all, visits_more, one_done, looks_made}
+use Rattle.track.proofs.Made.{made_more, made_all, visits_more, one_done, looks_made, IsDone}
 use Rattle.track.proofs.outcome.make_all.Goals as goal
 
 pub loop-call-preserved : goal.loop-call-preserved
@@ -26,10 +26,10 @@ loop-call-preserved c =
     record {
       so_far = λ plan flat. made_more plan contents c.loop-call.done.items c.push.new.self.items call found c.len-first.result (vec_len c.push_visits.new.order) i calls
           (done_from plan contents 0 calls) here
-          (one_done c.least_weight_is_one.ensures plan contents c.args.weights.now call found flat c.requires.weights c.requires.limits (c.requires.calls i none c.loop-call-test.true) c.find-found.ensures)
+          (subst (λ (f : Found). IsDone plan contents call f) (sym c.find-found.ensures) (one_done c.least_weight_is_one.ensures plan c.args.plan.now contents call flat c.requires.plan c.requires.limits (c.requires.calls i none c.loop-call-test.true)))
           pushed after (rw ticket (c.loop-call.invariant.so_far plan flat));
       visits = visits_more c.loop-call.done.items c.push.new.self.items call found c.len-first.result c.loop-call.order.items c.push_visits.new.order.items
-          (looks_made contents c.args.weights.now call found c.find-found.ensures) pushed visited c.loop-call.invariant.visits;
+          (subst (λ (f : Found). 1 ≤ f.looks) (sym c.find-found.ensures) (looks_made c.args.plan.now contents call)) pushed visited c.loop-call.invariant.visits;
     }
 
 pub returns : goal.returns

@@ -1,4 +1,4 @@
-use Rattle.std.proofs.Common.{◌≡◌, List, ℕ, Result, refl, true, false, sym}
+use Rattle.std.proofs.Common.{◌≡◌, List, ℕ, refl, true, false}
 use Rattle.std.specs.Prelude.{IsErrOf, Err}
 use Rattle.track.specs.declared.fault.ReadError.{ReadError}
 use Rattle.track.specs.declared.fault.ReadError.TheVariants as errors

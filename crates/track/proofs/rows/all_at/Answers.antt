@@ -1,4 +1,4 @@
-use Rattle.std.proofs.Common.{◌≡◌, ◌+◌, ◌-◌, ◌∷◌, ◌++◌, [], List, suc, sym, ap, length, vec_len, arith, Option, Some, None}
+use Rattle.std.proofs.Common.{◌≡◌, ◌+◌, ◌-◌, ◌∷◌, ◌++◌, [], suc, sym, ap, length, vec_len, arith, Some}
 use Rattle.std.proofs.lemmas.Grind.{common_steps}
 use Rattle.track.specs.Reading.{all_at}
 use Rattle.track.proofs.ManyLines.{goes_on, is_done}

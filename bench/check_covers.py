@@ -1,0 +1,93 @@
+#!/usr/bin/env python3
+"""Checks the text that `cover` writes by plain means of its own: on networks of 256 nodes with weights of 1 and of
+1,048,576, for k of 1 to 8. Of each level: the radius and the phases; that every home contains the ball of its node; that
+clusters of one phase are disjoint, and no node lies in more clusters than there are phases; that depths are the greatest least
+weights inside from the leader, within (2k-1) radii; that p^k <= k^k n; of the top level, that every home is whole.
+
+Usage, at the top of the repository: bench/check_covers.py [NODES]        It runs crates/track_main/out/track_main."""
+import heapq
+import subprocess
+import sys
+
+from networks import KINDS, edges, text
+
+OURS = "crates/track_main/out/track_main"
+
+
+def least(neighbours, root, inside=None):
+    """Least weights of walks from the root, through the nodes inside."""
+    weights = {root: 0}
+    waiting = [(0, root)]
+    done = set()
+    while waiting:
+        weight, u = heapq.heappop(waiting)
+        if u in done:
+            continue
+        done.add(u)
+        for v, w in neighbours[u]:
+            if (inside is None or v in inside) and weight + w < weights.get(v, 1 << 60):
+                weights[v] = weight + w
+                heapq.heappush(waiting, (weight + w, v))
+    return weights
+
+
+def check(kind, n, k, weight):
+    es = edges(kind, n, weight)
+    neighbours = [[] for _ in range(n)]
+    for a, b, w in es:
+        neighbours[a].append((b, w))
+        neighbours[b].append((a, w))
+    distance = [least(neighbours, v) for v in range(n)]
+    diameter = max(max(d.values()) for d in distance)
+    done = subprocess.run([OURS, "cover"], input=text(n, k, es).encode(), stdout=subprocess.PIPE, check=True)
+    lines = done.stdout.decode().split("\n")
+    assert lines[-2:] == ["end", ""]
+    head = lines[0].split()
+    levels, degree, stretch = int(head[6]), int(head[8]), int(head[10])
+    assert head[:5] == ["plan", "nodes", str(n), "k", str(k)]
+    top = levels - 1
+    assert 2**top >= diameter and (top == 0 or 2 ** (top - 1) < diameter)
+    at = 1
+    most = 0
+    for i in range(levels):
+        f = lines[at].split()
+        assert f[:4] == ["level", str(i), "radius", str(2**i)]
+        count, phases = int(f[5]), int(f[7])
+        at += 1
+        clusters = []
+        for c in range(count):
+            f = lines[at].split()
+            at += 1
+            assert f[:3] == ["cluster", str(c), "phase"] and f[4] == "leader" and f[6] == "depth" and f[8] == "members"
+            phase, leader, depth, members = int(f[3]), int(f[5]), int(f[7]), list(map(int, f[9:]))
+            assert members == sorted(set(members)) and leader in members and phase < phases
+            weights = least(neighbours, leader, set(members))
+            assert set(weights) == set(members) and max(weights.values()) == depth <= (2 * k - 1) * 2**i
+            clusters.append((phase, set(members)))
+        homes = list(map(int, lines[at].split()[1:]))
+        at += 1
+        assert len(homes) == n and phases**k <= k**k * n
+        for p in range(phases):
+            of_phase = [m for q, m in clusters if q == p]
+            assert of_phase and sum(map(len, of_phase)) == len(set().union(*of_phase))
+        for v in range(n):
+            home = clusters[homes[v]][1]
+            assert all(w in home for w in range(n) if distance[v][w] <= 2**i)
+            assert i < top or len(home) == n
+            read = sum(v in m for _, m in clusters)
+            assert read <= phases
+            most = max(most, read)
+    assert degree == most and stretch == 16 * degree * (2 * k - 1) + 24 * k
+    return levels
+
+
+def main():
+    n = int(sys.argv[1]) if len(sys.argv) > 1 else 256
+    for kind in KINDS:
+        for weight in (1, 1048576):
+            for k in range(1, 9):
+                levels = check(kind, n, k, weight)
+            print(f"{kind} of {n} nodes, weights of {weight}: k of 1 to 8 hold, {levels} levels", flush=True)
+
+
+main()

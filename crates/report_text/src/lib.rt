@@ -1,0 +1,6 @@
+//! Texts of plans, as docs/FORMATS.md tells them.
+#![tactic(auto)]
+
+mod plan;
+
+pub use plan::plan_text;
