@@ -17,6 +17,7 @@ use Rattle.directory.specs.Writes.{Course, Write, mark_at, entry_at, visit_of, n
 use Rattle.directory.specs.Courses.{stop_of, course, visits_of}
 use Rattle.directory.specs.Legal.{IsItinerary, IsLegal, IsShown, coming_to, itinerary_of}
 use Rattle.directory.specs.Standing.{Marking, marking_by, marking_in, markings}
+use Rattle.directory.proofs.HistoryLaws.{own_length}
 use Rattle.directory.proofs.CourseLaws.{joined-same, course-agrees}
 use Rattle.directory.proofs.LegalLaws.{coming_in, AreBegun, begun}
 
@@ -139,15 +140,6 @@ stops-take xs first (suc count) d within =
     let here : drop first xs ≡ get_or xs first d ∷ drop (first + 1) xs = drop_more xs first d (omega arith) in
     let next_one : first + 1 ≡ suc first = omega arith in
     rw (here, next_one) (ap (λ ys. get_or xs first d ∷ ys) (stops-take xs (suc first) count d (omega arith)))
-
--- a front of a list is as long as itself
-take_own : (k : ℕ) (ys : History) → take k ys ≡ take (length (take k ys)) ys
-take_own zero ys = refl
-take_own (suc k) [] = refl
-take_own (suc k) (y ∷ ys) = ap (λ zs. y ∷ zs) (take_own k ys)
-
-own_length : (xs ys : History) (k : ℕ) → xs ≡ take k ys → xs ≡ take (length xs) ys
-own_length xs ys k e = subst (λ (zs : History). zs ≡ take (length zs) ys) (sym e) (take_own k ys)
 
 -- the itinerary that a legal history shows is a front of its itinerary, and all that it has put are writes of that
 pub shown_of_legal : Unpacks → (plan : PlanData) (homes : List ℕ) (sub : ℕ) (history : History) → nodes_of plan ≤ 2 ^ 16 → (legal : IsLegal plan homes sub history) → IsShown plan homes sub history legal.itinerary
