@@ -49,28 +49,32 @@ legal_goes_on plan homes sub history legal more =
 -- the history before all visits is legal
 pub opening_is_legal : (plan : PlanData) (homes : List ℕ) (sub : ℕ) → home_node homes sub < nodes_of plan → IsLegal plan homes sub []
 opening_is_legal plan homes sub begins = record {
-    itinerary = [];
-    sound = record { begins = begins; inside = λ q h. absurd (omega arith); moving = λ q h. absurd (omega arith); few = omega arith };
-    made = 0;
-    writes = refl
-    }
+  itinerary = [];
+  sound = record { begins = begins; inside = λ q h. absurd (omega arith); moving = λ q h. absurd (omega arith); few = omega arith };
+  made = 0;
+  writes = refl;
+}
 
 -- what isn't put for a subscriber keeps a history legal for it
 pub other_is_legal : (plan : PlanData) (homes : List ℕ) (sub : ℕ) (history : History) (visit : Visit) → puts_for sub visit.act ≡ false → IsLegal plan homes sub history → IsLegal plan homes sub (history ++ visit ∷ [])
 other_is_legal plan homes sub history visit other legal = record {
-    itinerary = legal.itinerary; sound = legal.sound; made = legal.made;
-    writes = puts_to-push sub history visit ∙ (ap (λ b. puts_to sub history ++ cond b (visit ∷ []) []) other ∙ (append-nil (puts_to sub history) ∙ legal.writes))
-    }
+  itinerary = legal.itinerary;
+  sound = legal.sound;
+  made = legal.made;
+  writes = puts_to-push sub history visit ∙ (ap (λ b. puts_to sub history ++ cond b (visit ∷ []) []) other ∙ (append-nil (puts_to sub history) ∙ legal.writes));
+}
 
 -- and so does the next visit of an itinerary
 pub next_is_legal : (plan : PlanData) (homes : List ℕ) (sub : ℕ) (history : History) (visit : Visit) (itinerary : List ℕ) → IsItinerary plan (home_node homes sub) itinerary
     → puts_to sub history ≡ take (length (puts_to sub history)) (visits_of plan sub (home_node homes sub) itinerary) → slice_get (visits_of plan sub (home_node homes sub) itinerary) (length (puts_to sub history)) ≡ Some visit
     → puts_for sub visit.act ≡ true → IsLegal plan homes sub (history ++ visit ∷ [])
 next_is_legal plan homes sub history visit itinerary sound so_far next_one put = record {
-    itinerary = itinerary; sound = sound; made = suc (length (puts_to sub history));
-    writes = puts_to-push sub history visit ∙ (ap (λ b. puts_to sub history ++ cond b (visit ∷ []) []) put
-        ∙ (ap (λ xs. xs ++ visit ∷ []) so_far ∙ sym (take-more (visits_of plan sub (home_node homes sub) itinerary) (length (puts_to sub history)) visit next_one)))
-    }
+  itinerary = itinerary;
+  sound = sound;
+  made = suc (length (puts_to sub history));
+  writes = puts_to-push sub history visit ∙ (ap (λ b. puts_to sub history ++ cond b (visit ∷ []) []) put
+      ∙ (ap (λ xs. xs ++ visit ∷ []) so_far ∙ sym (take-more (visits_of plan sub (home_node homes sub) itinerary) (length (puts_to sub history)) visit next_one)));
+}
 
 -- the part of a list that is left out of a front
 take-append : {A : Type 0} (k : ℕ) (xs ys : List A) → take k (xs ++ ys) ≡ take k xs ++ take (k - length xs) ys

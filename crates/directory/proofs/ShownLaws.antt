@@ -4,6 +4,7 @@ use Rattle.std.specs.Prelude.{filter_map, get_or}
 use Rattle.std.specs.List.{cons_option}
 use Rattle.std.proofs.lemmas.Bool.{eq-eqb}
 use Rattle.std.proofs.lemmas.List.{take-map, take-append-drop, length-take-le, drop_more}
+use Rattle.entry_word.specs.Addresses.{IsSmallAddress}
 use Rattle.entry_word.specs.Marks.{mark_word, mark_of, IsSmallMark}
 use Rattle.entry_word.specs.declared.mark.PresenceMark.{PresenceMark}
 use Rattle.entry_word.specs.declared.mark.PresenceMark.TheVariants.{Empty}
@@ -25,12 +26,12 @@ use Rattle.directory.proofs.LegalLaws.{coming_in, AreBegun, begun}
 abbrev pub Unpacks : Type 0
 Unpacks = (mark : PresenceMark) → IsSmallMark mark → mark_of (mark_word mark) ≡ Some mark
 
--- the marks of writes fit into their words
-abbrev IsSmall : Write → Type 0
+-- what is written fits into its word
+abbrev pub IsSmall : Write → Type 0
 IsSmall (mark_at node mark) = IsSmallMark mark
-IsSmall (entry_at level cluster address) = Unit {0}
+IsSmall (entry_at level cluster address) = IsSmallAddress address
 
-AreSmall : List Write → Type 0
+unfoldable pub AreSmall : List Write → Type 0
 AreSmall [] = Unit {0}
 AreSmall (write ∷ later) = IsSmall write × AreSmall later
 
@@ -39,7 +40,7 @@ unfolding AreSmall
 small-append [] ys f g = g
 small-append (x ∷ xs) ys f g = (f.0, small-append xs ys f.1 g)
 
-small-take : (k : ℕ) (xs : List Write) → AreSmall xs → AreSmall (take k xs)
+pub small-take : (k : ℕ) (xs : List Write) → AreSmall xs → AreSmall (take k xs)
 unfolding AreSmall
 small-take zero xs f = tt
 small-take (suc k) [] f = tt
@@ -54,7 +55,7 @@ small-writes : (one : Course) (q : ℕ) → suc q < 2 ^ 32 → one.stop q < 2 ^ 
 unfolding AreSmall writes
 small-writes one q few from to = (
   (few, from),
-  small-append (each_from 0 (levels_renewed one q) (addressing one q)) _ (small-each_from 0 (levels_renewed one q) (addressing one q) (λ level. (tt, tt))) (
+  small-append (each_from 0 (levels_renewed one q) (addressing one q)) _ (small-each_from 0 (levels_renewed one q) (addressing one q) (λ level. ((few, to), tt))) (
     (few, to),
     (
       few,
@@ -84,7 +85,7 @@ small-joined one q (suc n) few stops =
     (small-joined one (suc q) n (omega arith) (λ p h. stops p (omega arith)))
 
 -- the writes of an itinerary fit into their words
-itinerary-small : (plan : PlanData) (start : ℕ) (itinerary : List ℕ) → nodes_of plan ≤ 2 ^ 16 → IsItinerary plan start itinerary → AreSmall (joined (course plan start itinerary) 0 (length itinerary))
+pub itinerary-small : (plan : PlanData) (start : ℕ) (itinerary : List ℕ) → nodes_of plan ≤ 2 ^ 16 → IsItinerary plan start itinerary → AreSmall (joined (course plan start itinerary) 0 (length itinerary))
 itinerary-small plan start itinerary few sound = small-joined (course plan start itinerary) 0 (length itinerary) (omega (arith, sound.few)) stops
   where
     stops : (p : ℕ) → p ≤ 0 + length itinerary → stop_of start itinerary p < 2 ^ 16

@@ -10,6 +10,7 @@ mod legal;
 mod orders;
 mod outcomes;
 mod plans;
+mod states;
 
 pub use cells::{
     cell_of_puts, census_members, number_after, passage_after_visit, same_key_means, standing_after,
@@ -25,3 +26,4 @@ pub use orders::{
 };
 pub use outcomes::{move_is_made, outcome_is_made};
 pub use plans::{line_has_its_plan, matched_plan_is};
+pub use states::{cells_of_legal, read_of_legal};
