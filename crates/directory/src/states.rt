@@ -16,14 +16,23 @@ use entry_word::{address_words, mark_words};
 
 /// After a legal history a cell holds the word of what the writes that are made have left there.
 pub fn cells_of_legal()
-    ensures marks { (plan : PlanData) (homes : List ℕ) (sub : ℕ) (history : History) (legal : IsLegal plan homes sub history) (node : ℕ) → cell plan homes history (Presence node sub) ≡ mark_word (mark_left (home_node homes sub) (take legal.made (joined (course plan (home_node homes sub) legal.itinerary) 0 (length legal.itinerary))) node) }
-    ensures entries { (plan : PlanData) (homes : List ℕ) (sub : ℕ) (history : History) (legal : IsLegal plan homes sub history) (level cluster : ℕ) → cell plan homes history (Entry level cluster sub) ≡ address_word (entry_left plan (home_node homes sub) (take legal.made (joined (course plan (home_node homes sub) legal.itinerary) 0 (length legal.itinerary))) level cluster) }
+    ensures marks { (plan : PlanData) (homes : List ℕ) (sub : ℕ) (history : History) (legal : IsLegal plan homes sub history) (node : ℕ)
+        → cell plan homes history (Presence node sub)
+        ≡ mark_word (mark_left (home_node homes sub) (take legal.made (joined (course plan (home_node homes sub) legal.itinerary) 0 (length legal.itinerary))) node) }
+    ensures entries { (plan : PlanData) (homes : List ℕ) (sub : ℕ) (history : History) (legal : IsLegal plan homes sub history) (level cluster : ℕ)
+        → cell plan homes history (Entry level cluster sub)
+        ≡ address_word (entry_left plan (home_node homes sub) (take legal.made (joined (course plan (home_node homes sub) legal.itinerary) 0 (length legal.itinerary))) level cluster) }
 {}
 
 /// And that is what is read there.
 pub fn read_of_legal()
-    ensures marks { (plan : PlanData) (homes : List ℕ) (sub : ℕ) (history : History) → nodes_of plan ≤ 2 ^ 16 → (legal : IsLegal plan homes sub history) (node : ℕ) → mark_in (cell plan homes history (Presence node sub)) ≡ mark_left (home_node homes sub) (take legal.made (joined (course plan (home_node homes sub) legal.itinerary) 0 (length legal.itinerary))) node }
-    ensures entries { (plan : PlanData) (homes : List ℕ) (sub : ℕ) (history : History) → nodes_of plan ≤ 2 ^ 16 → (legal : IsLegal plan homes sub history) (level cluster : ℕ) → address_in (cell plan homes history (Entry level cluster sub)) ≡ entry_left plan (home_node homes sub) (take legal.made (joined (course plan (home_node homes sub) legal.itinerary) 0 (length legal.itinerary))) level cluster }
+    ensures marks { (plan : PlanData) (homes : List ℕ) (sub : ℕ) (history : History) → nodes_of plan ≤ 2 ^ 16
+        → (legal : IsLegal plan homes sub history) (node : ℕ) → mark_in (cell plan homes history (Presence node sub))
+        ≡ mark_left (home_node homes sub) (take legal.made (joined (course plan (home_node homes sub) legal.itinerary) 0 (length legal.itinerary))) node }
+    ensures entries { (plan : PlanData) (homes : List ℕ) (sub : ℕ) (history : History) → nodes_of plan ≤ 2 ^ 16
+        → (legal : IsLegal plan homes sub history) (level cluster : ℕ)
+        → address_in (cell plan homes history (Entry level cluster sub))
+        ≡ entry_left plan (home_node homes sub) (take legal.made (joined (course plan (home_node homes sub) legal.itinerary) 0 (length legal.itinerary))) level cluster }
 {
     address_words();
     mark_words();
