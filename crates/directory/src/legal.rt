@@ -4,7 +4,7 @@ ghost use Rattle.entry_word.specs.declared.visit.Visit.{Visit};
 ghost use Rattle.directory.specs.Courses.{course, visits_of};
 ghost use Rattle.directory.specs.Histories.{History, puts_for, puts_to};
 ghost use Rattle.directory.specs.Keys.{home_node};
-ghost use Rattle.directory.specs.Legal.{IsItinerary, IsLegal, IsShown};
+ghost use Rattle.directory.specs.Legal.{IsItinerary, IsLegal, IsShown, writes_made};
 ghost use Rattle.region_plan.specs.Plan.{nodes_of, PlanData};
 ghost use Rattle.directory.specs.Standing.{marking_in, markings};
 ghost use Rattle.directory.specs.Writes.{joined};
@@ -24,7 +24,7 @@ pub fn front_is_legal()
 pub fn marks_are_written()
     ensures { (plan : PlanData) (homes : List ℕ) (sub : ℕ) (history : History) → nodes_of plan ≤ 2 ^ 16
         → (legal : IsLegal plan homes sub history) → markings sub history
-        ≡ filter_map marking_in (take legal.made (joined (course plan (home_node homes sub) legal.itinerary) 0 (length legal.itinerary))) }
+        ≡ filter_map marking_in (writes_made legal) }
 {
     mark_words();
 }

@@ -7,7 +7,7 @@ ghost use Rattle.directory.specs.Courses.{course};
 ghost use Rattle.directory.specs.Finds.{address_in, mark_in};
 ghost use Rattle.directory.specs.Histories.{cell, History};
 ghost use Rattle.directory.specs.Keys.{home_node};
-ghost use Rattle.directory.specs.Legal.{IsLegal};
+ghost use Rattle.directory.specs.Legal.{IsLegal, writes_made};
 ghost use Rattle.directory.specs.States.{entry_left, mark_left};
 ghost use Rattle.directory.specs.Writes.{joined};
 ghost use Rattle.region_plan.specs.Plan.{nodes_of, PlanData};
@@ -18,21 +18,21 @@ use entry_word::{address_words, mark_words};
 pub fn cells_of_legal()
     ensures marks { (plan : PlanData) (homes : List ℕ) (sub : ℕ) (history : History) (legal : IsLegal plan homes sub history) (node : ℕ)
         → cell plan homes history (Presence node sub)
-        ≡ mark_word (mark_left (home_node homes sub) (take legal.made (joined (course plan (home_node homes sub) legal.itinerary) 0 (length legal.itinerary))) node) }
+        ≡ mark_word (mark_left (home_node homes sub) (writes_made legal) node) }
     ensures entries { (plan : PlanData) (homes : List ℕ) (sub : ℕ) (history : History) (legal : IsLegal plan homes sub history) (level cluster : ℕ)
         → cell plan homes history (Entry level cluster sub)
-        ≡ address_word (entry_left plan (home_node homes sub) (take legal.made (joined (course plan (home_node homes sub) legal.itinerary) 0 (length legal.itinerary))) level cluster) }
+        ≡ address_word (entry_left plan (home_node homes sub) (writes_made legal) level cluster) }
 {}
 
 /// And that is what is read there.
 pub fn read_of_legal()
     ensures marks { (plan : PlanData) (homes : List ℕ) (sub : ℕ) (history : History) → nodes_of plan ≤ 2 ^ 16
         → (legal : IsLegal plan homes sub history) (node : ℕ) → mark_in (cell plan homes history (Presence node sub))
-        ≡ mark_left (home_node homes sub) (take legal.made (joined (course plan (home_node homes sub) legal.itinerary) 0 (length legal.itinerary))) node }
+        ≡ mark_left (home_node homes sub) (writes_made legal) node }
     ensures entries { (plan : PlanData) (homes : List ℕ) (sub : ℕ) (history : History) → nodes_of plan ≤ 2 ^ 16
         → (legal : IsLegal plan homes sub history) (level cluster : ℕ)
         → address_in (cell plan homes history (Entry level cluster sub))
-        ≡ entry_left plan (home_node homes sub) (take legal.made (joined (course plan (home_node homes sub) legal.itinerary) 0 (length legal.itinerary))) level cluster }
+        ≡ entry_left plan (home_node homes sub) (writes_made legal) level cluster }
 {
     address_words();
     mark_words();
