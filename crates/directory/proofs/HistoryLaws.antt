@@ -46,6 +46,15 @@ take-both (suc m) zero xs = let e : min (suc m) 0 ≡ 0 = omega arith in rw e re
 take-both (suc m) (suc n) [] = let e : min (suc m) (suc n) ≡ suc (min m n) = omega arith in rw e refl
 take-both (suc m) (suc n) (x ∷ xs) = let e : min (suc m) (suc n) ≡ suc (min m n) = omega arith in rw e (ap (λ zs. x ∷ zs) (take-both m n xs))
 
+-- a front of a list is as long as itself
+take_own : (k : ℕ) (ys : History) → take k ys ≡ take (length (take k ys)) ys
+take_own zero ys = refl
+take_own (suc k) [] = refl
+take_own (suc k) (y ∷ ys) = ap (λ zs. y ∷ zs) (take_own k ys)
+
+pub own_length : (xs ys : History) (k : ℕ) → xs ≡ take k ys → xs ≡ take (length xs) ys
+own_length xs ys k e = subst (λ (zs : History). zs ≡ take (length zs) ys) (sym e) (take_own k ys)
+
 -- one more visit
 pub cell-push : (plan : PlanData) (homes : List ℕ) (history : History) (visit : Visit) (key : Key) → cell plan homes (history ++ visit ∷ []) key ≡ after_act key (cell plan homes history key) visit.act
 cell-push plan homes history visit key = fold-append (λ word v. after_act key word v.act) _ history (visit ∷ [])

@@ -1,16 +1,17 @@
 -- Legal histories: their fronts, and the itinerary that they show.
-use Rattle.std.proofs.Common.{◌≡◌, ℕ, zero, suc, ◌-◌, ◌≤◌, min, Bool, true, false, cond, ◌==◌, List, [], ◌∷◌, ◌++◌, Option, Some, None, length, map, take, refl, sym, ap, ◌∙◌, arith}
-use Rattle.std.specs.Prelude.{if◌then◌else◌, filter_map}
-use Rattle.std.proofs.lemmas.List.{take-append-le}
+use Rattle.std.proofs.Common.{◌≡◌, ℕ, zero, suc, ◌-◌, ◌<◌, ◌≤◌, subst, min, Bool, true, false, cond, ◌==◌, List, [], ◌∷◌, ◌++◌, Option, Some, None, length, map, take, refl, sym, ap, ◌∙◌, arith}
+use Rattle.std.specs.Prelude.{if◌then◌else◌, filter_map, slice_get}
+use Rattle.std.proofs.lemmas.List.{append-nil, take-append-le}
 use Rattle.std.proofs.lemmas.List.Elements.{filter_map-append}
 use Rattle.entry_word.specs.declared.mark.PresenceMark.TheVariants.{Empty}
-use Rattle.region_plan.specs.Plan.{PlanData}
+use Rattle.region_plan.specs.Plan.{PlanData, nodes_of}
+use Rattle.entry_word.specs.declared.visit.Visit.{Visit}
 use Rattle.directory.specs.Keys.{home_node}
 use Rattle.directory.specs.Histories.{History, puts_for, puts_to}
 use Rattle.directory.specs.Writes.{Course, Write, mark_at, entry_at, numbers_from, each_from, addressing, commit, confirm, erasing, old_cluster, purging, levels_renewed, writes, joined}
 use Rattle.directory.specs.Courses.{visits_of}
-use Rattle.directory.specs.Legal.{IsLegal, coming_to}
-use Rattle.directory.proofs.HistoryLaws.{filter-front, take-both}
+use Rattle.directory.specs.Legal.{IsItinerary, IsLegal, coming_to}
+use Rattle.directory.proofs.HistoryLaws.{filter-front, own_length, puts_to-push, take-both, take-more}
 use Rattle.directory.proofs.CourseLaws.{more_moves}
 
 -- a front of a legal history is legal
@@ -29,6 +30,51 @@ front_is_legal plan homes sub history t legal =
 pub front_of_itinerary : (plan : PlanData) (sub start : ℕ) (itinerary more : List ℕ) (made : ℕ) → made ≤ length (visits_of plan sub start itinerary)
     → take made (visits_of plan sub start (itinerary ++ more)) ≡ take made (visits_of plan sub start itinerary)
 front_of_itinerary plan sub start itinerary more made within = ap (λ visits. take made visits) (more_moves plan sub start itinerary more) ∙ take-append-le made (visits_of plan sub start itinerary) _ within
+
+-- what is put in a legal history are as many visits of its itinerary, also when it goes on
+pub legal_puts : (plan : PlanData) (homes : List ℕ) (sub : ℕ) (history : History) → (legal : IsLegal plan homes sub history) → puts_to sub history ≡ take (length (puts_to sub history)) (visits_of plan sub (home_node homes sub) legal.itinerary)
+legal_puts plan homes sub history legal = own_length (puts_to sub history) (visits_of plan sub (home_node homes sub) legal.itinerary) legal.made legal.writes
+
+take-short : (k : ℕ) (xs : History) → length (take k xs) ≤ length xs
+take-short zero xs = omega arith
+take-short (suc k) [] = omega arith
+take-short (suc k) (x ∷ xs) = omega (arith, take-short k xs)
+
+pub legal_goes_on : (plan : PlanData) (homes : List ℕ) (sub : ℕ) (history : History) → (legal : IsLegal plan homes sub history) (more : List ℕ)
+    → puts_to sub history ≡ take (length (puts_to sub history)) (visits_of plan sub (home_node homes sub) (legal.itinerary ++ more))
+legal_goes_on plan homes sub history legal more =
+    let short : length (puts_to sub history) ≤ length (visits_of plan sub (home_node homes sub) legal.itinerary) = subst (λ (xs : History). length xs ≤ length (visits_of plan sub (home_node homes sub) legal.itinerary)) (sym (legal_puts plan homes sub history legal)) (take-short (length (puts_to sub history)) (visits_of plan sub (home_node homes sub) legal.itinerary)) in
+    legal_puts plan homes sub history legal ∙ sym (front_of_itinerary plan sub (home_node homes sub) legal.itinerary more (length (puts_to sub history)) short)
+
+-- the history before all visits is legal
+pub opening_is_legal : (plan : PlanData) (homes : List ℕ) (sub : ℕ) → home_node homes sub < nodes_of plan → IsLegal plan homes sub []
+opening_is_legal plan homes sub begins = record {
+  itinerary = [];
+  sound = record { begins = begins; inside = λ q h. absurd (omega arith); moving = λ q h. absurd (omega arith); few = omega arith };
+  made = 0;
+  writes = refl;
+}
+
+-- what isn't put for a subscriber keeps a history legal for it
+pub other_is_legal : (plan : PlanData) (homes : List ℕ) (sub : ℕ) (history : History) (visit : Visit) → puts_for sub visit.act ≡ false → IsLegal plan homes sub history → IsLegal plan homes sub (history ++ visit ∷ [])
+other_is_legal plan homes sub history visit other legal = record {
+  itinerary = legal.itinerary;
+  sound = legal.sound;
+  made = legal.made;
+  writes = puts_to-push sub history visit ∙ (ap (λ b. puts_to sub history ++ cond b (visit ∷ []) []) other ∙ (append-nil (puts_to sub history) ∙ legal.writes));
+}
+
+-- and so does the next visit of an itinerary
+pub next_is_legal : (plan : PlanData) (homes : List ℕ) (sub : ℕ) (history : History) (visit : Visit) (itinerary : List ℕ) → IsItinerary plan (home_node homes sub) itinerary
+    → puts_to sub history ≡ take (length (puts_to sub history)) (visits_of plan sub (home_node homes sub) itinerary) → slice_get (visits_of plan sub (home_node homes sub) itinerary) (length (puts_to sub history)) ≡ Some visit
+    → puts_for sub visit.act ≡ true → IsLegal plan homes sub (history ++ visit ∷ [])
+next_is_legal plan homes sub history visit itinerary sound so_far next_one put = record {
+  itinerary = itinerary;
+  sound = sound;
+  made = suc (length (puts_to sub history));
+  writes = puts_to-push sub history visit ∙ (ap (λ b. puts_to sub history ++ cond b (visit ∷ []) []) put
+      ∙ (ap (λ xs. xs ++ visit ∷ []) so_far ∙ sym (take-more (visits_of plan sub (home_node homes sub) itinerary) (length (puts_to sub history)) visit next_one)));
+}
 
 -- the part of a list that is left out of a front
 take-append : {A : Type 0} (k : ℕ) (xs ys : List A) → take k (xs ++ ys) ≡ take k xs ++ take (k - length xs) ys

@@ -6,6 +6,7 @@ pub mod LegalLaws
 pub mod CellLaws
 pub mod LookLaws
 pub mod ShownLaws
+pub mod StateLaws
 pub mod LineLaws
 pub mod LineWalks
 pub mod LinePlans

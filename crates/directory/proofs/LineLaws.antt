@@ -1,12 +1,9 @@
--- The plan of the line of four is matched: each fact is a test at every number below its bounds, and is computed.
-use Rattle.std.proofs.Common.{◌≡◌, ℕ, zero, suc, ◌+◌, ◌*◌, ◌^◌, ◌<◌, ◌≤◌, Bool, true, false, not, ◌==◌, ◌&&◌, ◌||◌, List, [], ◌∷◌, refl, ap, arith, nat_le, nat_lt, inl, inr}
-use Rattle.std.proofs.lemmas.Bool.{agree_below, agree_below_at, leb-true, ltb-true, eqb-true, le-leb, lt-ltb, ne_eqb, or_cases, and_parts}
+-- The distances of the line of four are a metric: each fact is a test at every number below its bounds, and is computed.
+use Rattle.std.proofs.Common.{◌≡◌, ℕ, ◌+◌, ◌*◌, ◌<◌, Bool, true, false, not, ◌==◌, ◌&&◌, ◌||◌, List, [], ◌∷◌, refl, ap, arith, nat_le, nat_lt, inl, inr}
+use Rattle.std.proofs.lemmas.Bool.{agree_below, agree_below_at, leb-true, ltb-true, eqb-true, ne_eqb, or_cases, and_parts}
 use Rattle.node_set.specs.Ascending.{has}
 use Rattle.distances.specs.Table.{IsMetric, dist}
-use Rattle.region_plan.specs.Plan.{distance, level_at, clusters_of, members_of, home, readers, leader, inside}
-use Rattle.region_plan.specs.Matched.{IsMatched}
-use Rattle.region_plan.specs.Regions.{containing}
-use Rattle.directory.specs.LineOfFour.{line, line_distances}
+use Rattle.directory.specs.LineOfFour.{line_distances}
 
 -- a test at every number below one bound, two and three
 unfoldable pub all1 : (ℕ → Bool) → ℕ → Bool
@@ -35,7 +32,7 @@ pub when : (a b : Bool) → (not a || b) ≡ true → a ≡ true → b ≡ true
 when true b h e = h
 when false b h e = cc
 
-line_metric : IsMetric line_distances
+pub line_metric : IsMetric line_distances
 unfolding all1 all2 all3
 line_metric = record {
   some = leb-true 1 4 refl;
@@ -47,30 +44,6 @@ line_metric = record {
   triangle = λ u v w low high far. leb-true (dist line_distances u w) (dist line_distances u v + dist line_distances v w) (at3 (λ u v w. nat_le (dist line_distances u w) (dist line_distances u v + dist line_distances v w)) 4 4 4 refl u v w low high far);
   bounded = λ u v low high. leb-true (dist line_distances u v) (3 * 1048576) (at2 (λ u v. nat_le (dist line_distances u v) (3 * 1048576)) 4 4 refl u v low high);
 }
-
--- the clusters that a node reads are those that contain it
-line_read : (i v : ℕ) → i < 3 → v < 4 → readers line i v ≡ containing (level_at line i).clusters v
-line_read zero zero low high = refl
-line_read zero (suc zero) low high = refl
-line_read zero (suc (suc zero)) low high = refl
-line_read zero (suc (suc (suc zero))) low high = refl
-line_read zero (suc (suc (suc (suc v)))) low high = absurd (omega arith)
-line_read (suc zero) zero low high = refl
-line_read (suc zero) (suc zero) low high = refl
-line_read (suc zero) (suc (suc zero)) low high = refl
-line_read (suc zero) (suc (suc (suc zero))) low high = refl
-line_read (suc zero) (suc (suc (suc (suc v)))) low high = absurd (omega arith)
-line_read (suc (suc zero)) zero low high = refl
-line_read (suc (suc zero)) (suc zero) low high = refl
-line_read (suc (suc zero)) (suc (suc zero)) low high = refl
-line_read (suc (suc zero)) (suc (suc (suc zero))) low high = refl
-line_read (suc (suc zero)) (suc (suc (suc (suc v)))) low high = absurd (omega arith)
-line_read (suc (suc (suc i))) v low high = absurd (omega arith)
-
--- a level has at most two clusters, and their members are below four
-few_clusters : (i : ℕ) → i < 3 → clusters_of line i ≤ 2
-unfolding all1
-few_clusters i low = leb-true (clusters_of line i) 2 (at1 (λ i. nat_le (clusters_of line i) 2) 3 refl i low)
 
 unfoldable pub below_four : List ℕ → Bool
 below_four [] = true
@@ -85,25 +58,3 @@ members_below v (x ∷ xs) h e =
       | inl same ↦ let is_x : v ≡ x = eqb-true v x same in let low : x < 4 = ltb-true x 4 both.0 in omega arith
       | inr later ↦ members_below v xs both.1 later
     ]
-
-pub line_matched : IsMatched line
-unfolding all1 all2 all3 below_four
-line_matched = record {
-  some = leb-true 1 3 refl;
-  metric = line_metric;
-  first = refl;
-  homes = λ i v low high. ltb-true (home line i v) (clusters_of line i) (at2 (λ i v. nat_lt (home line i v) (clusters_of line i)) 3 4 refl i v low high);
-  held = λ i v low high. at2 (λ i v. has v (members_of line i (home line i v))) 3 4 refl i v low high;
-  read = line_read;
-  met = λ i u v low high far near. when (nat_le (distance line u v) (2 ^ (level_at line i).exponent)) (has (home line i u) (readers line i v))
-      (at3 (λ i u v. not (nat_le (distance line u v) (2 ^ (level_at line i).exponent)) || has (home line i u) (readers line i v)) 3 4 4 refl i u v low high far)
-      (le-leb (distance line u v) (2 ^ (level_at line i).exponent) near);
-  whole = λ u v low high. at2 (λ u v. has u (members_of line 2 (home line 2 v))) 4 4 refl u v low high;
-  within = λ i c v low high inside_it. members_below v (members_of line i c) (at2 (λ i c. below_four (members_of line i c)) 3 2 refl i c low (omega (arith, few_clusters i low))) inside_it;
-  led = λ i c low high. when (nat_lt c (clusters_of line i)) (has (leader line i c) (members_of line i c)) (at2 (λ i c. not (nat_lt c (clusters_of line i)) || has (leader line i c) (members_of line i c)) 3 2 refl i c low (omega (arith, few_clusters i low))) (lt-ltb c (clusters_of line i) high);
-  starts = λ i c low high. eqb-true (inside line i c (leader line i c)) 0 (at2 (λ i c. inside line i c (leader line i c) == 0) 3 2 refl i c low (omega (arith, few_clusters i low)));
-  far = λ i c v low high inside_it.
-      let below : v < 4 = members_below v (members_of line i c) (at2 (λ i c. below_four (members_of line i c)) 3 2 refl i c low (omega (arith, few_clusters i low))) inside_it in
-      leb-true (distance line (leader line i c) v) (inside line i c v) (when (has v (members_of line i c)) (nat_le (distance line (leader line i c) v) (inside line i c v))
-      (at3 (λ i c v. not (has v (members_of line i c)) || nat_le (distance line (leader line i c) v) (inside line i c v)) 3 2 4 refl i c v low (omega (arith, few_clusters i low)) below) inside_it);
-}

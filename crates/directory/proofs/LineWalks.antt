@@ -4,8 +4,9 @@ use Rattle.std.proofs.Common.{◌≡◌, ℕ, zero, suc, ◌+◌, ◌-◌, ◌<�
 use Rattle.std.specs.Prelude.{All}
 use Rattle.std.proofs.lemmas.List.Elements.{All-nil, All-cons, All-contains}
 use Rattle.net_graph.specs.declared.edge.Edge.{Edge}
-use Rattle.net_graph.specs.Walks.{make_edge, Joins, Step, IsWalk, weight_of, IsLeastWeight}
-use Rattle.directory.specs.LineOfFour.{line_edges}
+use Rattle.net_graph.specs.Walks.{make_edge, Joins, Step, IsWalk, weight_of, IsLeastWeight, everywhere}
+use Rattle.net_graph.specs.Network.{IsEdge, IsNetwork}
+use Rattle.directory.specs.LineOfFour.{line_edges, line_network}
 
 -- the ends of an edge are no farther apart than its weight
 record IsNear (edge : Edge) : Type 0 where
@@ -64,3 +65,16 @@ Turns = (edges : List Edge) (inside : ℕ → Bool) (u v w : ℕ) → IsLeastWei
 
 pub least_down : Turns → (inside : ℕ → Bool) (u v : ℕ) → v ≤ u → u ≤ 3 → ((p : ℕ) → v ≤ p → p ≤ u → inside p ≡ true) → IsLeastWeight line_edges inside u v (u - v)
 least_down turns inside u v order low is_inside = turns line_edges inside v u (u - v) (least_up inside v u order low is_inside)
+
+-- the line is a network
+pub line_is_network : IsNetwork line_network
+line_is_network = record {
+  limits = record {
+    positive = omega arith;
+    few = omega arith;
+    edges = All-cons (IsEdge 4) (make_edge 0 1 1) (make_edge 1 2 1 ∷ make_edge 2 3 1 ∷ []) (record { a_below = omega arith; b_below = omega arith; positive = omega arith; light = omega arith })
+        (All-cons (IsEdge 4) (make_edge 1 2 1) (make_edge 2 3 1 ∷ []) (record { a_below = omega arith; b_below = omega arith; positive = omega arith; light = omega arith })
+        (All-cons (IsEdge 4) (make_edge 2 3 1) [] (record { a_below = omega arith; b_below = omega arith; positive = omega arith; light = omega arith }) (All-nil (IsEdge 4))));
+  };
+  connected = λ v low. record { steps = up_from 0 v; walk = up_walk everywhere v 0 v (omega arith) (omega arith) (λ p h g. refl) };
+}

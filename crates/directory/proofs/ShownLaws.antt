@@ -4,6 +4,7 @@ use Rattle.std.specs.Prelude.{filter_map, get_or}
 use Rattle.std.specs.List.{cons_option}
 use Rattle.std.proofs.lemmas.Bool.{eq-eqb}
 use Rattle.std.proofs.lemmas.List.{take-map, take-append-drop, length-take-le, drop_more}
+use Rattle.entry_word.specs.Addresses.{IsSmallAddress}
 use Rattle.entry_word.specs.Marks.{mark_word, mark_of, IsSmallMark}
 use Rattle.entry_word.specs.declared.mark.PresenceMark.{PresenceMark}
 use Rattle.entry_word.specs.declared.mark.PresenceMark.TheVariants.{Empty}
@@ -17,6 +18,7 @@ use Rattle.directory.specs.Writes.{Course, Write, mark_at, entry_at, visit_of, n
 use Rattle.directory.specs.Courses.{stop_of, course, visits_of}
 use Rattle.directory.specs.Legal.{IsItinerary, IsLegal, IsShown, coming_to, itinerary_of}
 use Rattle.directory.specs.Standing.{Marking, marking_by, marking_in, markings}
+use Rattle.directory.proofs.HistoryLaws.{own_length}
 use Rattle.directory.proofs.CourseLaws.{joined-same, course-agrees}
 use Rattle.directory.proofs.LegalLaws.{coming_in, AreBegun, begun}
 
@@ -24,12 +26,12 @@ use Rattle.directory.proofs.LegalLaws.{coming_in, AreBegun, begun}
 abbrev pub Unpacks : Type 0
 Unpacks = (mark : PresenceMark) → IsSmallMark mark → mark_of (mark_word mark) ≡ Some mark
 
--- the marks of writes fit into their words
-abbrev IsSmall : Write → Type 0
+-- what is written fits into its word
+abbrev pub IsSmall : Write → Type 0
 IsSmall (mark_at node mark) = IsSmallMark mark
-IsSmall (entry_at level cluster address) = Unit {0}
+IsSmall (entry_at level cluster address) = IsSmallAddress address
 
-AreSmall : List Write → Type 0
+unfoldable pub AreSmall : List Write → Type 0
 AreSmall [] = Unit {0}
 AreSmall (write ∷ later) = IsSmall write × AreSmall later
 
@@ -38,7 +40,7 @@ unfolding AreSmall
 small-append [] ys f g = g
 small-append (x ∷ xs) ys f g = (f.0, small-append xs ys f.1 g)
 
-small-take : (k : ℕ) (xs : List Write) → AreSmall xs → AreSmall (take k xs)
+pub small-take : (k : ℕ) (xs : List Write) → AreSmall xs → AreSmall (take k xs)
 unfolding AreSmall
 small-take zero xs f = tt
 small-take (suc k) [] f = tt
@@ -53,7 +55,7 @@ small-writes : (one : Course) (q : ℕ) → suc q < 2 ^ 32 → one.stop q < 2 ^ 
 unfolding AreSmall writes
 small-writes one q few from to = (
   (few, from),
-  small-append (each_from 0 (levels_renewed one q) (addressing one q)) _ (small-each_from 0 (levels_renewed one q) (addressing one q) (λ level. (tt, tt))) (
+  small-append (each_from 0 (levels_renewed one q) (addressing one q)) _ (small-each_from 0 (levels_renewed one q) (addressing one q) (λ level. ((few, to), tt))) (
     (few, to),
     (
       few,
@@ -83,7 +85,7 @@ small-joined one q (suc n) few stops =
     (small-joined one (suc q) n (omega arith) (λ p h. stops p (omega arith)))
 
 -- the writes of an itinerary fit into their words
-itinerary-small : (plan : PlanData) (start : ℕ) (itinerary : List ℕ) → nodes_of plan ≤ 2 ^ 16 → IsItinerary plan start itinerary → AreSmall (joined (course plan start itinerary) 0 (length itinerary))
+pub itinerary-small : (plan : PlanData) (start : ℕ) (itinerary : List ℕ) → nodes_of plan ≤ 2 ^ 16 → IsItinerary plan start itinerary → AreSmall (joined (course plan start itinerary) 0 (length itinerary))
 itinerary-small plan start itinerary few sound = small-joined (course plan start itinerary) 0 (length itinerary) (omega (arith, sound.few)) stops
   where
     stops : (p : ℕ) → p ≤ 0 + length itinerary → stop_of start itinerary p < 2 ^ 16
@@ -139,15 +141,6 @@ stops-take xs first (suc count) d within =
     let here : drop first xs ≡ get_or xs first d ∷ drop (first + 1) xs = drop_more xs first d (omega arith) in
     let next_one : first + 1 ≡ suc first = omega arith in
     rw (here, next_one) (ap (λ ys. get_or xs first d ∷ ys) (stops-take xs (suc first) count d (omega arith)))
-
--- a front of a list is as long as itself
-take_own : (k : ℕ) (ys : History) → take k ys ≡ take (length (take k ys)) ys
-take_own zero ys = refl
-take_own (suc k) [] = refl
-take_own (suc k) (y ∷ ys) = ap (λ zs. y ∷ zs) (take_own k ys)
-
-own_length : (xs ys : History) (k : ℕ) → xs ≡ take k ys → xs ≡ take (length xs) ys
-own_length xs ys k e = subst (λ (zs : History). zs ≡ take (length zs) ys) (sym e) (take_own k ys)
 
 -- the itinerary that a legal history shows is a front of its itinerary, and all that it has put are writes of that
 pub shown_of_legal : Unpacks → (plan : PlanData) (homes : List ℕ) (sub : ℕ) (history : History) → nodes_of plan ≤ 2 ^ 16 → (legal : IsLegal plan homes sub history) → IsShown plan homes sub history legal.itinerary

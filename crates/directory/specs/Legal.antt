@@ -8,8 +8,9 @@ use Rattle.entry_word.specs.declared.mark.PresenceMark.TheVariants.{Empty, Here,
 use Rattle.region_plan.specs.Plan.{PlanData, nodes_of}
 use Rattle.directory.specs.Keys.{home_node}
 use Rattle.directory.specs.Histories.{History, puts_to}
-use Rattle.directory.specs.Courses.{stop_of, visits_of}
+use Rattle.directory.specs.Courses.{course, stop_of, visits_of}
 use Rattle.directory.specs.Standing.{markings}
+use Rattle.directory.specs.Writes.{Write, joined}
 
 -- an itinerary from a home node: its nodes are nodes of the plan, each is another than the one before, and its moves can be numbered
 pub record IsItinerary (plan : PlanData) (start : ℕ) (itinerary : List ℕ) : Type 0 where
@@ -24,6 +25,10 @@ pub record IsLegal (plan : PlanData) (homes : List ℕ) (sub : ℕ) (history : H
   pub sound : IsItinerary plan (home_node homes sub) itinerary
   pub made : ℕ
   pub writes : puts_to sub history ≡ take made (visits_of plan sub (home_node homes sub) itinerary)
+
+-- the writes that are made in a legal history
+abbrev pub writes_made : {plan : PlanData} {homes : List ℕ} {sub : ℕ} {history : History} → IsLegal plan homes sub history → List Write
+writes_made {plan} {homes} {sub} legal = take legal.made (joined (course plan (home_node homes sub) legal.itinerary) 0 (length legal.itinerary))
 
 -- the node that a mark at it says its subscriber is coming to
 abbrev pub coming_to : ℕ → PresenceMark → Option ℕ

@@ -2,6 +2,7 @@ pub mod Keys
 pub mod Histories
 pub mod Writes
 pub mod Courses
+pub mod States
 pub mod Standing
 pub mod Legal
 pub mod Finds

@@ -7,26 +7,34 @@ ghost use Rattle.region_plan.specs.Plan.{PlanData};
 
 /// A find has a next look or an answer, and never both.
 pub fn one_of_both()
-    ensures { (plan : PlanData) (sub origin : ℕ) (words : List ℕ) → is_some (look_of (find plan sub origin words)) ≡ is_none (answer_of (find plan sub origin words)) }
+    ensures { (plan : PlanData) (sub origin : ℕ) (words : List ℕ) → is_some (look_of (find plan sub origin words))
+        ≡ is_none (answer_of (find plan sub origin words)) }
 {}
 
 /// More words change no answer.
 pub fn answer_stays()
-    ensures { (plan : PlanData) (sub origin : ℕ) (words more left : List ℕ) (found : Found) → find plan sub origin words ≡ answers found left → find plan sub origin (words ++ more) ≡ answers found (left ++ more) }
+    ensures { (plan : PlanData) (sub origin : ℕ) (words more left : List ℕ) (found : Found)
+        → find plan sub origin words ≡ answers found left → find plan sub origin (words ++ more)
+        ≡ answers found (left ++ more) }
 {}
 
 /// A find makes at most so many looks.
 pub fn few_looks()
-    ensures wanting { (plan : PlanData) (sub origin : ℕ) (words : List ℕ) (key : Key) → find plan sub origin words ≡ wants key → length words < most_looks plan origin }
-    ensures answering { (plan : PlanData) (sub origin : ℕ) (words left : List ℕ) (found : Found) → find plan sub origin words ≡ answers found left → length words ≤ most_looks plan origin + length left }
+    ensures wanting { (plan : PlanData) (sub origin : ℕ) (words : List ℕ) (key : Key) → find plan sub origin words
+        ≡ wants key → length words < most_looks plan origin }
+    ensures answering { (plan : PlanData) (sub origin : ℕ) (words left : List ℕ) (found : Found)
+        → find plan sub origin words ≡ answers found left → length words ≤ most_looks plan origin + length left }
 {}
 
 /// A find looks at cells of its own subscriber alone.
 pub fn own_looks()
-    ensures { (plan : PlanData) (sub origin : ℕ) (words : List ℕ) (key : Key) → find plan sub origin words ≡ wants key → sub_of key ≡ sub }
+    ensures { (plan : PlanData) (sub origin : ℕ) (words : List ℕ) (key : Key) → find plan sub origin words ≡ wants key
+        → sub_of key ≡ sub }
 {}
 
 /// A find answers with its last look, so that it leaves nothing.
 pub fn last_look_answers()
-    ensures { (plan : PlanData) (sub origin : ℕ) (words left : List ℕ) (word : ℕ) (key : Key) (found : Found) → find plan sub origin words ≡ wants key → find plan sub origin (words ++ word ∷ []) ≡ answers found left → left ≡ [] }
+    ensures { (plan : PlanData) (sub origin : ℕ) (words left : List ℕ) (word : ℕ) (key : Key) (found : Found)
+        → find plan sub origin words ≡ wants key → find plan sub origin (words ++ word ∷ []) ≡ answers found left
+        → left ≡ [] }
 {}
