@@ -9,3 +9,4 @@ mod Levels
 mod Matching
 mod Alone
 mod Uniqueness
+mod Checking

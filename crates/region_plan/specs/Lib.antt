@@ -3,3 +3,4 @@ pub mod Regions
 pub mod Matched
 pub mod Measures
 pub mod Kept
+pub mod Examples

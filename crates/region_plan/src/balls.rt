@@ -17,6 +17,7 @@ pub fn top_for(distances: &Distances) -> u32
     ensures few { result ≤ 30 }
     ensures metric { IsMetric distances.now }
 {
+    // The call tells the proof that distances are bounded.
     let _nodes = distances.nodes();
     least_exponent(distances.diameter())
 }

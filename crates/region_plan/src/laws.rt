@@ -7,6 +7,7 @@ ghost use Rattle.region_plan.specs.Plan.{PlanData, nodes_of, distance, home, rea
 ghost use Rattle.region_plan.specs.Regions.{IsFlat, IsPlanOf};
 ghost use Rattle.region_plan.specs.Matched.{IsMatched, IsWithinRadius};
 ghost use Rattle.region_plan.specs.Measures.{degree_of};
+ghost use Rattle.region_plan.specs.Examples.{line_of_four};
 
 use distances::distances_are_one;
 use net_graph::least_weight_is_one;
@@ -42,4 +43,9 @@ pub fn flat_means()
 /// No node reads more clusters of a level than the degree.
 pub fn degree_bounds()
     ensures { (plan : PlanData) (i v : ℕ) → length (readers plan i v) ≤ degree_of plan }
+{}
+
+/// The definition of a matched plan can be met.
+pub fn line_of_four_is_matched()
+    ensures { IsMatched line_of_four }
 {}

@@ -9,7 +9,9 @@ mod level;
 mod plan;
 mod row;
 
-pub use laws::{degree_bounds, flat_is_one, flat_means, plan_is_matched, plan_is_one};
+pub use laws::{
+    degree_bounds, flat_is_one, flat_means, line_of_four_is_matched, plan_is_matched, plan_is_one,
+};
 pub use net_graph::OutOfMemory;
 pub use plan::Plan;
 

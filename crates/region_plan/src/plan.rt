@@ -90,6 +90,7 @@ impl Plan {
         ensures matched { IfOk result IsMatched }
         ensures radius { IfOk result IsWithinRadius }
     {
+        // The call tells the proof that the network is connected and within the limits.
         let _nodes = graph.nodes();
         let top = top_for(distances);
         let mut levels = Vec::with_capacity(alloc, top as usize + 1)?;

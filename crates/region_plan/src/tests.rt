@@ -1,10 +1,10 @@
 // Plans of the line 0 - 1 - 2 - 3 of unit weights, and of two nodes.
-ghost use Rattle.std.specs.Prelude.{◌≡◌, IfOk};
+ghost use Rattle.std.specs.Prelude.{◌≡◌, ◌≤◌, IfOk};
 ghost use Rattle.distances.specs.Table.{AreDistancesOf};
 
 use crate::Plan;
 use distances::Distances;
-use net_graph::{Edge, Graph};
+use net_graph::{Edge, Graph, MAX_WEIGHT};
 use std::alloc::Global;
 use std::process::Abort;
 use std::test::Fail;
@@ -24,7 +24,8 @@ fn line_of_four(alloc: Global) -> Result<(Graph, Distances), Fail>
 }
 
 fn two_nodes(alloc: Global, weight: u64) -> Result<(Graph, Distances), Fail>
-    requires { weight ≡ 1 }
+    requires positive { 1 ≤ weight }
+    requires light { weight ≤ MAX_WEIGHT }
     ensures { IfOk result (λ network. AreDistancesOf network.0 network.1) }
 {
     let graph = Graph::new(alloc, 2, &[edge(0, 1, weight)])?;
@@ -136,6 +137,42 @@ fn the_plan_of_two_nodes(rt: HostRuntime) -> Result<(), Fail> {
     cluster_is(&rt, &plan, 0, 0, 0, 0, 1, &[Some(0), Some(1)]);
     cluster_is(&rt, &plan, 0, 1, 1, 1, 1, &[Some(1), Some(0)]);
     reads(&rt, &plan, 0, 0, &[0, 1]);
+    Ok(())
+}
+
+#[test]
+fn the_plan_of_the_heaviest_edge(rt: HostRuntime) -> Result<(), Fail> {
+    let (graph, distances) = two_nodes(rt.alloc(), MAX_WEIGHT)?;
+    let plan = Plan::build(rt.alloc(), &graph, &distances, 8)?;
+    assert_eq!(rt; plan.levels(), 21);
+    assert_eq!(rt; plan.degree(), 1);
+    assert_eq!(rt; plan.stretch(), 432);
+    level_is(&rt, &plan, 0, 0, 1, 1, 2, &[0, 1]);
+    level_is(&rt, &plan, 19, 19, 262_144, 1, 2, &[0, 1]);
+    level_is(&rt, &plan, 20, 20, 524_288, 1, 1, &[0, 0]);
+    cluster_is(&rt, &plan, 19, 1, 0, 1, 0, &[None, Some(0)]);
+    cluster_is(
+        &rt,
+        &plan,
+        20,
+        0,
+        0,
+        0,
+        MAX_WEIGHT,
+        &[Some(0), Some(MAX_WEIGHT)],
+    );
+    Ok(())
+}
+
+#[test]
+fn the_plan_of_one_node(rt: HostRuntime) -> Result<(), Fail> {
+    let graph = Graph::new(rt.alloc(), 1, &[])?;
+    let distances = Distances::new(rt.alloc(), &graph)?;
+    let plan = Plan::build(rt.alloc(), &graph, &distances, 1)?;
+    assert_eq!(rt; plan.levels(), 1);
+    assert_eq!(rt; plan.degree(), 1);
+    level_is(&rt, &plan, 0, 0, 1, 1, 1, &[0]);
+    cluster_is(&rt, &plan, 0, 0, 0, 0, 0, &[Some(0)]);
     Ok(())
 }
 
