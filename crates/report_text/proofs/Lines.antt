@@ -11,7 +11,7 @@ unfolding clusters_text
 clusters_more n before after total i clusters lt e so_far =
     let here : drop i clusters ≡ get_or clusters i no_cluster ∷ drop (i + 1) clusters = rw add-one (drop-cons clusters i no_cluster lt) in
     let one : before ++ clusters_text n i (drop i clusters) ≡ after ++ clusters_text n (i + 1) (drop (i + 1) clusters) =
-        rw (here, e) (sym (append_assoc before (cluster_line n i (get_or clusters i no_cluster)) (clusters_text n (i + 1) (drop (i + 1) clusters)))) in
+    rw (here, e) (sym (append_assoc before (cluster_line n i (get_or clusters i no_cluster)) (clusters_text n (i + 1) (drop (i + 1) clusters)))) in
     sym one ∙ so_far
 
 pub clusters_all : (n : ℕ) (before total : List ℕ) (i : ℕ) (clusters : List PlanCluster) → length clusters ≤ i → before ++ clusters_text n i (drop i clusters) ≡ total → before ≡ total
@@ -27,7 +27,7 @@ unfolding levels_text
 levels_more n before after total i levels lt e so_far =
     let here : drop i levels ≡ get_or levels i no_level ∷ drop (i + 1) levels = rw add-one (drop-cons levels i no_level lt) in
     let one : before ++ levels_text n i (drop i levels) ≡ after ++ levels_text n (i + 1) (drop (i + 1) levels) =
-        rw (here, e) (sym (append_assoc before (level_text n i (get_or levels i no_level)) (levels_text n (i + 1) (drop (i + 1) levels)))) in
+    rw (here, e) (sym (append_assoc before (level_text n i (get_or levels i no_level)) (levels_text n (i + 1) (drop (i + 1) levels)))) in
     sym one ∙ so_far
 
 pub levels_all : (n : ℕ) (before total : List ℕ) (i : ℕ) (levels : List Level) → length levels ≤ i → before ++ levels_text n i (drop i levels) ≡ total → before ≡ total

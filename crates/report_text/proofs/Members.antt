@@ -35,7 +35,7 @@ pub member_written : (start before after : List ℕ) (v : ℕ) (cluster : PlanCl
 unfolding if_it
 member_written start before after v cluster h e written =
     let more : fields (ascending_members (suc v) cluster) ≡ fields (ascending_members v cluster) ++ field v =
-        members_more v cluster true h ∙ ap (λ t. fields (ascending_members v cluster) ++ t) (append-nil (field v)) in
+    members_more v cluster true h ∙ ap (λ t. fields (ascending_members v cluster) ++ t) (append-nil (field v)) in
     rw (add-one, more, written, e) (append_assoc start (fields (ascending_members v cluster)) (field v))
 
 pub member_left_out : (start before : List ℕ) (v : ℕ) (cluster : PlanCluster) → has v cluster.members ≡ false → before ≡ start ++ fields (ascending_members v cluster)

@@ -13,7 +13,7 @@ ascending_members n cluster = passing (λ v. has v cluster.members) 0 n
 -- the line of a cluster of n nodes, with its number
 abbrev pub cluster_line : ℕ → ℕ → PlanCluster → List ℕ
 cluster_line n c cluster =
-  codes "cluster" then field c then codes " phase" then field cluster.phase then codes " leader" then field cluster.leader then codes " depth" then field cluster.depth
+    codes "cluster" then field c then codes " phase" then field cluster.phase then codes " leader" then field cluster.leader then codes " depth" then field cluster.depth
     then codes " members" then fields (ascending_members n cluster) then 10 ∷ []
 
 -- the lines of clusters, numbered from this one on
@@ -24,7 +24,7 @@ clusters_text n c (cluster ∷ clusters) = cluster_line n c cluster then cluster
 -- the line that begins a level
 abbrev pub level_line : ℕ → Level → List ℕ
 level_line i level =
-  codes "level" then field i then codes " radius" then field (2 ^ level.exponent) then codes " clusters" then field (length level.clusters) then codes " phases" then field level.phases then 10 ∷ []
+    codes "level" then field i then codes " radius" then field (2 ^ level.exponent) then codes " clusters" then field (length level.clusters) then codes " phases" then field level.phases then 10 ∷ []
 
 -- the line of the homes
 abbrev pub homes_line : Level → List ℕ
@@ -42,7 +42,7 @@ levels_text n i (level ∷ levels) = level_text n i level then levels_text n (i 
 -- the line that measures a plan
 abbrev pub plan_line : PlanData → List ℕ
 plan_line plan =
-  codes "plan nodes" then field (nodes_of plan) then codes " k" then field plan.k then codes " levels" then field (levels_of plan) then codes " degree" then field (degree_of plan)
+    codes "plan nodes" then field (nodes_of plan) then codes " k" then field plan.k then codes " levels" then field (levels_of plan) then codes " degree" then field (degree_of plan)
     then codes " stretch" then field (stretch_of plan) then 10 ∷ []
 
 -- the text of a plan

@@ -4,3 +4,6 @@
 mod plan;
 
 pub use plan::plan_text;
+
+#[cfg(test)]
+mod tests;

@@ -31,7 +31,10 @@ fn push_cluster(text: &mut String, plan: &Plan, level: u32, cluster: u32) -> Res
     let phase = plan.phase_of(level, cluster);
     let leader = plan.leader(level, cluster);
     let depth = plan.depth(level, cluster);
-    write!(text, "cluster {cluster} phase {phase} leader {leader} depth {depth} members")?;
+    write!(
+        text,
+        "cluster {cluster} phase {phase} leader {leader} depth {depth} members"
+    )?;
     push_members(text, plan, level, cluster)?;
     text.push_str("\n")?;
     Ok(())
@@ -71,7 +74,10 @@ fn push_level(text: &mut String, plan: &Plan, level: u32) -> Result<(), AllocErr
     let radius = 1u64 << plan.exponent(level);
     let clusters = plan.clusters(level);
     let phases = plan.phases(level);
-    write!(text, "level {level} radius {radius} clusters {clusters} phases {phases}\n")?;
+    write!(
+        text,
+        "level {level} radius {radius} clusters {clusters} phases {phases}\n"
+    )?;
     push_clusters(text, plan, level)?;
     push_homes(text, plan, level)?;
     Ok(())
@@ -98,7 +104,10 @@ pub fn plan_text(alloc: Global, plan: &Plan) -> Result<Vec<u8>, AllocError>
     let levels = plan.levels();
     let degree = plan.degree();
     let stretch = plan.stretch();
-    write!(text, "plan nodes {nodes} k {k} levels {levels} degree {degree} stretch {stretch}\n")?;
+    write!(
+        text,
+        "plan nodes {nodes} k {k} levels {levels} degree {degree} stretch {stretch}\n"
+    )?;
     push_levels(&mut text, plan)?;
     text.push_str("end\n")?;
     Ok(text.into_bytes())

@@ -5,5 +5,5 @@ use Rattle.report_text.proofs.plan.push_clusters.Given as goal
 
 abbrev pub invariant-loop-cluster : goal.invariant-loop-cluster
 invariant-loop-cluster l =
-  string_bytes l.text ++ clusters_text (nodes_of l.plan) l.cluster (drop l.cluster (level_at l.plan l.level).clusters)
+    string_bytes l.text ++ clusters_text (nodes_of l.plan) l.cluster (drop l.cluster (level_at l.plan l.level).clusters)
     ≡ string_bytes l.fn.text ++ clusters_text (nodes_of l.plan) 0 (level_at l.plan l.level).clusters
