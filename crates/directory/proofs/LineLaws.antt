@@ -3,7 +3,7 @@ use Rattle.std.proofs.Common.{◌≡◌, ℕ, ◌+◌, ◌*◌, ◌<◌, Bool, t
 use Rattle.std.proofs.lemmas.Bool.{agree_below, agree_below_at, leb-true, ltb-true, eqb-true, ne_eqb, or_cases, and_parts}
 use Rattle.node_set.specs.Ascending.{has}
 use Rattle.distances.specs.Table.{IsMetric, dist}
-use Rattle.directory.specs.LineOfFour.{line_distances}
+use Rattle.region_plan.specs.Examples.{line_table}
 
 -- a test at every number below one bound, two and three
 unfoldable pub all1 : (ℕ → Bool) → ℕ → Bool
@@ -32,17 +32,17 @@ pub when : (a b : Bool) → (not a || b) ≡ true → a ≡ true → b ≡ true
 when true b h e = h
 when false b h e = cc
 
-pub line_metric : IsMetric line_distances
+pub line_metric : IsMetric line_table
 unfolding all1 all2 all3
 line_metric = record {
   some = leb-true 1 4 refl;
   few = leb-true 4 1024 refl;
   count = refl;
-  zero = λ u low. eqb-true (dist line_distances u u) 0 (at1 (λ u. dist line_distances u u == 0) 4 refl u low);
-  positive = λ u v low high apart. leb-true 1 (dist line_distances u v) (when (not (u == v)) (nat_le 1 (dist line_distances u v)) (at2 (λ u v. not (not (u == v)) || nat_le 1 (dist line_distances u v)) 4 4 refl u v low high) (ap not (ne_eqb u v apart)));
-  turned = λ u v low high. eqb-true (dist line_distances u v) (dist line_distances v u) (at2 (λ u v. dist line_distances u v == dist line_distances v u) 4 4 refl u v low high);
-  triangle = λ u v w low high far. leb-true (dist line_distances u w) (dist line_distances u v + dist line_distances v w) (at3 (λ u v w. nat_le (dist line_distances u w) (dist line_distances u v + dist line_distances v w)) 4 4 4 refl u v w low high far);
-  bounded = λ u v low high. leb-true (dist line_distances u v) (3 * 1048576) (at2 (λ u v. nat_le (dist line_distances u v) (3 * 1048576)) 4 4 refl u v low high);
+  zero = λ u low. eqb-true (dist line_table u u) 0 (at1 (λ u. dist line_table u u == 0) 4 refl u low);
+  positive = λ u v low high apart. leb-true 1 (dist line_table u v) (when (not (u == v)) (nat_le 1 (dist line_table u v)) (at2 (λ u v. not (not (u == v)) || nat_le 1 (dist line_table u v)) 4 4 refl u v low high) (ap not (ne_eqb u v apart)));
+  turned = λ u v low high. eqb-true (dist line_table u v) (dist line_table v u) (at2 (λ u v. dist line_table u v == dist line_table v u) 4 4 refl u v low high);
+  triangle = λ u v w low high far. leb-true (dist line_table u w) (dist line_table u v + dist line_table v w) (at3 (λ u v w. nat_le (dist line_table u w) (dist line_table u v + dist line_table v w)) 4 4 4 refl u v w low high far);
+  bounded = λ u v low high. leb-true (dist line_table u v) (3 * 1048576) (at2 (λ u v. nat_le (dist line_table u v) (3 * 1048576)) 4 4 refl u v low high);
 }
 
 unfoldable pub below_four : List ℕ → Bool

@@ -5,7 +5,8 @@ use Rattle.net_graph.specs.declared.edge.Edge.{Edge}
 use Rattle.net_graph.specs.Network.{Network}
 use Rattle.net_graph.specs.Walks.{make_edge}
 use Rattle.distances.specs.Table.{DistanceTable}
-use Rattle.region_plan.specs.Plan.{PlanCluster, Level, PlanData}
+use Rattle.region_plan.specs.Plan.{Level, PlanData}
+use Rattle.region_plan.specs.Examples.{line_of_four}
 use Rattle.directory.specs.Orders.{FindCall, Scripts}
 
 -- its network
@@ -15,43 +16,9 @@ line_edges = make_edge 0 1 1 ∷ make_edge 1 2 1 ∷ make_edge 2 3 1 ∷ []
 abbrev pub line_network : Network
 line_network = record { nodes = 4; edges = line_edges }
 
--- the distances between the four nodes
-abbrev pub line_distances : DistanceTable
-line_distances = record { nodes = 4; cells = 0 ∷ 1 ∷ 2 ∷ 3 ∷ 1 ∷ 0 ∷ 1 ∷ 2 ∷ 2 ∷ 1 ∷ 0 ∷ 1 ∷ 3 ∷ 2 ∷ 1 ∷ 0 ∷ [] }
-
--- the cluster of all nodes, led by node 0, and the one of the last two, led by node 3
-abbrev pub whole_line : PlanCluster
-whole_line = record { leader = 0; phase = 0; members = 0 ∷ 1 ∷ 2 ∷ 3 ∷ []; weights = 0 ∷ 1 ∷ 2 ∷ 3 ∷ []; depth = 3 }
-
-abbrev pub last_two : PlanCluster
-last_two = record { leader = 3; phase = 1; members = 2 ∷ 3 ∷ []; weights = 1 ∷ 0 ∷ []; depth = 1 }
-
--- its levels: the lowest, and those whose one cluster has all nodes
-abbrev pub lowest_level : Level
-lowest_level =
-    record {
-      exponent = 0;
-      threshold = 1;
-      phases = 2;
-      clusters = whole_line ∷ last_two ∷ [];
-      homes = 0 ∷ 0 ∷ 0 ∷ 1 ∷ [];
-      readers = (0 ∷ []) ∷ (0 ∷ []) ∷ (0 ∷ 1 ∷ []) ∷ (0 ∷ 1 ∷ []) ∷ [];
-    }
-
-abbrev pub whole_level : ℕ → ℕ → Level
-whole_level exponent threshold =
-    record {
-      exponent = exponent;
-      threshold = threshold;
-      phases = 1;
-      clusters = whole_line ∷ [];
-      homes = 0 ∷ 0 ∷ 0 ∷ 0 ∷ [];
-      readers = (0 ∷ []) ∷ (0 ∷ []) ∷ (0 ∷ []) ∷ (0 ∷ []) ∷ [];
-    }
-
 -- its plan
 abbrev pub line : PlanData
-line = record { k = 2; distances = line_distances; levels = lowest_level ∷ whole_level 1 1 ∷ whole_level 2 2 ∷ [] }
+line = line_of_four
 
 -- one subscriber at node 3 that makes these moves, and one caller that makes these finds
 abbrev pub line_scripts : List ℕ → List FindCall → Scripts
