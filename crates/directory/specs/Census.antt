@@ -1,5 +1,5 @@
 -- A census lists who is at a node: the subscribers whose presence cell there says so, by number.
--- Key laws: `census_after` (a put at another node changes no census).
+-- Key law: `census_members` (it lists just those whose presence cell says that they are here).
 use Rattle.std.specs.Prelude.{ℕ, Bool, true, false, List, length}
 use Rattle.node_set.specs.Ascending.{passing}
 use Rattle.entry_word.specs.declared.mark.PresenceMark.{PresenceMark}

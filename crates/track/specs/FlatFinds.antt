@@ -1,4 +1,5 @@
--- Finds over the flat plan where nobody moves, as the code makes them: one entry for each subscriber, at the one cluster. Nothing above stands on this; the laws in proofs/ join it to `Finds`.
+-- Finds over the flat plan where nobody moves, as the code makes them: one entry for each subscriber, at the one cluster.
+-- No public clause speaks of this; the laws in proofs/AtRest join it to the definitions of the directory.
 use Rattle.std.specs.Prelude.{◌≡◌, ℕ, zero, suc, ◌+◌, ◌-◌, ◌==◌, ◌++◌, Bool, true, false, List, [], ◌∷◌, Some, None, map, flat_map, replicate}
 use Rattle.net_graph.specs.Network.{Network, IsGraphOf}
 use Rattle.region_plan.specs.Kept.{IsKept}
