@@ -1,19 +1,11 @@
 -- The report's text: a line for each call, the actors of all tickets, and how many visits there were.
-use Rattle.std.specs.Prelude.{ℕ, ◌+◌, ◌%◌, ◌==◌, ◌||◌, Bool, List, [], ◌∷◌, ◌++◌, Option, Some, None, length, flat_map, codes, if◌then◌else◌}
+use Rattle.std.specs.Prelude.{ℕ, ◌+◌, ◌%◌, ◌==◌, ◌||◌, Bool, List, [], ◌∷◌, Option, Some, None, length, flat_map, codes, if◌then◌else◌}
 use Rattle.std.specs.Fmt.{decimal}
+use Rattle.report_text.specs.Texts.{◌then◌, field}
 use Rattle.directory.specs.Finds.{Why}
 use Rattle.directory.specs.Finds.Why.{nothing_at, no_entry, chased}
 use Rattle.directory.specs.Outcomes.{Done, Outcome}
 use Rattle.directory.specs.Outcomes.Done.{moved, found, failed}
-
-infixr 65 ◌then◌
--- one text after another
-abbrev pub ◌then◌ : List ℕ → List ℕ → List ℕ
-xs then ys = xs ++ ys
-
--- a blank and a number
-abbrev pub field : ℕ → List ℕ
-field n = 32 ∷ decimal n
 
 -- the level, or a dash
 abbrev pub level_text : Option ℕ → List ℕ
