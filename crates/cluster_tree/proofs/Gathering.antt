@@ -4,13 +4,12 @@ use Rattle.std.proofs.lemmas.List.{length_push, get_or_append_left, get_or_push}
 use Rattle.std.proofs.lemmas.Bool.{cases_eq, cases_lt}
 use Rattle.net_graph.specs.Walks.{among}
 use Rattle.net_graph.specs.Trees.{at_node}
-use Rattle.node_set.specs.Nodes.{Nodes, AreNodes}
 use Rattle.node_set.specs.Ascending.{has, passing}
-use Rattle.node_set.proofs.Ascending.{has-passing, passing_over, ascending-passing, same_members, below-has}
+use Rattle.node_set.specs.SetLaws.{has-passing, passing_over, passing_takes, passing_skips}
 use Rattle.cluster_tree.specs.declared.weighing.Weighed.{Weighed}
 use Rattle.cluster_tree.specs.Tree.{weight_beside}
 use Rattle.cluster_tree.specs.Weighing.{AreFlagsBelow, AreWeighedBelow}
-use Rattle.cluster_tree.proofs.Places.{true_or_false, beside_old, beside_new, passing_takes, passing_skips}
+use Rattle.cluster_tree.proofs.Places.{beside_old, beside_new}
 
 pub no_flags : (members : List ℕ) → AreFlagsBelow 0 members []
 no_flags members = record { count = refl; each = λ v below. absurd (omega arith) }
@@ -70,15 +69,3 @@ no_member members weights weighed nodes_are weights_are = record {
   count = ap length weights_are ∙ sym (ap length nodes_are);
   each = λ v below member. absurd (omega arith);
 }
-
--- all members are gathered
-pub all_members : (set : Nodes) → AreNodes set → passing (λ x. has x set.members) 0 set.room ≡ set.members
-all_members set sound =
-    same_members (passing (λ x. has x set.members) 0 set.room) set.members (ascending-passing (λ x. has x set.members) 0 set.room) sound.ascending
-    (λ x. elim (cases_lt x set.room) [
-      | inl below ↦ has-passing (λ y. has y set.members) x 0 set.room (omega arith) (omega arith)
-      | inr past ↦ passing_over (λ y. has y set.members) x 0 set.room (omega arith) ∙ elim (true_or_false (has x set.members)) [
-        | inl member ↦ absurd (omega (arith, below-has set.room x set.members sound.below member))
-        | inr other ↦ sym other
-      ]
-    ])

@@ -5,23 +5,47 @@ use Rattle.std.proofs.lemmas.List.{get_or_default}
 use Rattle.net_graph.specs.Walks.{IsLeastWeight, among}
 use Rattle.net_graph.specs.Network.{Network, IsNetwork}
 use Rattle.net_graph.specs.Trees.{at_node, AreLeastWeights}
-use Rattle.net_graph.proofs.WalkLaws.{walk_widened, least_widened}
+use Rattle.net_graph.specs.WalkLaws.{walk_widened, least_widened}
 use Rattle.node_set.specs.Nodes.{Nodes, AreNodes}
 use Rattle.node_set.specs.Ascending.{has, IsAscending}
-use Rattle.node_set.proofs.Ascending.{below-has}
+use Rattle.node_set.specs.SetLaws.{below-has, all_members}
 use Rattle.cluster_tree.specs.declared.fault.TreeFault.{TreeFault}
 use Rattle.cluster_tree.specs.declared.fault.TreeFault.TheVariants.{Outside, OutOfMemory}
 use Rattle.cluster_tree.specs.declared.weighing.Weighed.{Weighed}
-use Rattle.cluster_tree.specs.Tree.{weight_beside, within, IsTreeOf, IsKept}
+use Rattle.cluster_tree.specs.Tree.{weight_beside, within, IsTreeOf, IsSoundTree}
 use Rattle.cluster_tree.specs.Faults.{IsFirstOutside, IsTreeFault}
 use Rattle.cluster_tree.specs.Weighing.{AreFlagsBelow, AreWeighedBelow, IsFirstMissing, IsMissing}
-use Rattle.cluster_tree.proofs.Places.{has_place, place_of, beside_place, beside_contained}
-use Rattle.cluster_tree.proofs.Gathering.{all_members}
+use Rattle.cluster_tree.specs.PlaceLaws.{has_place, place_of, beside_place}
+use Rattle.cluster_tree.proofs.Places.{beside_contained}
 
 -- an error that is handed on
 pub err_passed : {T E : Type 0} (result : Result T E) (e : E) (P : E → Type 0) → IsErrAnd result (λ x. x ≡ e) → P e → IfErr result P
 err_passed (Ok x) e P h p = tt
 err_passed (Err x) e P h p = subst P (sym h) p
+
+-- weights that stand beside members, and the greatest of them
+pub sound_tree : (leader : ℕ) (members weights : List ℕ) → IsAscending members → length weights ≡ length members
+    → has leader members ≡ true → (depth : ℕ) → All (λ x. x ≤ depth) weights → (0 < length weights → Contains weights depth)
+    → IsSoundTree (record { leader = leader; members = members; weights = weights }) depth
+sound_tree leader members weights ascending count leads depth bound attained =
+    let some = place_of leader members leads in
+    let at = attained (omega (arith, some.1, count)) in
+    let short : at.0 < length members = omega (arith, at.1, count) in
+    record {
+      ascending = ascending;
+      count = count;
+      leads = leads;
+      depth_is = record {
+        greatest = λ v member.
+            let beside = beside_contained v members weights ascending member count in
+            omega (arith, beside.2, bound beside.0 0 beside.1);
+        attained = record {
+          node = get_or members at.0 0;
+          member = has_place members at.0 short;
+          far = beside_place members weights at.0 ascending count short ∙ get_or_default weights at.0 0 depth at.1 ∙ at.2;
+        };
+      };
+    }
 
 module _ (network : Network) (sound : IsNetwork network) (set : Nodes) (nodes : AreNodes set) (room : set.room ≡ network.nodes)
     (leader : ℕ) (leads : has leader set.members ≡ true) (flags : List Bool) (are_flags : AreFlagsBelow set.room set.members flags) where
@@ -65,7 +89,7 @@ module _ (network : Network) (sound : IsNetwork network) (set : Nodes) (nodes : 
     is_fault OutOfMemory missing = tt
 
     module _ (weighed : Weighed) (are_weighed : AreWeighedBelow set.room set.members weights weighed) where
-      members_are : weighed.nodes.items ≡ set.members
+      pub members_are : weighed.nodes.items ≡ set.members
       members_are = are_weighed.nodes ∙ all_members set nodes
 
       pub is_tree : IsTreeOf network set.members leader (record { leader = leader; members = weighed.nodes.items; weights = weighed.weights.items })
@@ -79,26 +103,8 @@ module _ (network : Network) (sound : IsNetwork network) (set : Nodes) (nodes : 
 
       pub is_kept : (depth : ℕ) → All (λ x. x ≤ depth) weighed.weights.items
           → (0 < length weighed.weights.items → Contains weighed.weights.items depth)
-          → IsKept (record { leader = leader; members = weighed.nodes.items; weights = weighed.weights.items }) depth
+          → IsSoundTree (record { leader = leader; members = weighed.nodes.items; weights = weighed.weights.items }) depth
       is_kept depth bound attained =
           let ascending : IsAscending weighed.nodes.items = subst (λ xs. IsAscending xs) (sym members_are) nodes.ascending in
           let leads_here : has leader weighed.nodes.items ≡ true = subst (λ xs. has leader xs ≡ true) (sym members_are) leads in
-          let some = place_of leader weighed.nodes.items leads_here in
-          let at = attained (omega (arith, some.1, are_weighed.count)) in
-          let short : at.0 < length weighed.nodes.items = omega (arith, at.1, are_weighed.count) in
-          record {
-            ascending = ascending;
-            count = are_weighed.count;
-            leads = leads_here;
-            depth_is = record {
-              greatest = λ v member.
-                  let beside = beside_contained v weighed.nodes.items weighed.weights.items ascending member are_weighed.count in
-                  omega (arith, beside.2, bound beside.0 0 beside.1);
-              attained = record {
-                node = get_or weighed.nodes.items at.0 0;
-                member = has_place weighed.nodes.items at.0 short;
-                far = beside_place weighed.nodes.items weighed.weights.items at.0 ascending are_weighed.count short
-                    ∙ get_or_default weighed.weights.items at.0 0 depth at.1 ∙ at.2;
-              };
-            };
-          }
+          sound_tree leader weighed.nodes.items weighed.weights.items ascending are_weighed.count leads_here depth bound attained

@@ -1,3 +1,5 @@
-pub mod Places
-pub mod Gathering
-pub mod Growing
+mod Places
+mod Gathering
+mod Growing
+mod Joining
+mod Unwrapping

@@ -1,61 +1,9 @@
 -- Places in ascending lists, and the weights that stand beside them.
-use Rattle.std.proofs.Common.{◌≡◌, ◌⊎◌, ℕ, zero, suc, ◌+◌, ◌<◌, ◌≤◌, Bool, true, false, cond, ◌||◌, List, [], ◌∷◌, ◌++◌, length, get_or, refl, sym, ◌∙◌, ap, subst, inl, inr, arith, eqb, eq-eqb, ne_eqb, add-zero, add-one, zero-add, Ok, Err}
-use Rattle.std.specs.List.Sorted.{IsBinarySearchResult}
-use Rattle.std.specs.Ordering.{nat_cmp}
-use Rattle.std.proofs.lemmas.List.Sorted.{searched}
-use Rattle.std.proofs.lemmas.List.{append-nil}
-use Rattle.std.proofs.lemmas.Bool.{cases_eq, cases_lt}
-use Rattle.node_set.specs.Ascending.{has, IsBelowAll, IsAscending, passing}
+use Rattle.std.proofs.Common.{◌≡◌, ℕ, ◌<◌, true, false, cond, ◌||◌, List, [], ◌∷◌, ◌++◌, length, get_or, refl, sym, ◌∙◌, ap, subst, inl, inr, arith, eqb, eq-eqb, ne_eqb}
+use Rattle.std.proofs.lemmas.Bool.{cases_eq}
+use Rattle.node_set.specs.Ascending.{has, IsAscending}
 use Rattle.cluster_tree.specs.Tree.{weight_beside}
-
-pub true_or_false : (b : Bool) → (b ≡ true) ⊎ (b ≡ false)
-true_or_false true = inl refl
-true_or_false false = inr refl
-
-or_right : (b c : Bool) → c ≡ true → (b || c) ≡ true
-or_right true c h = refl
-or_right false c h = h
-
-or_left : (b c : Bool) → b ≡ true → (b || c) ≡ true
-or_left true c h = refl
-or_left false c h = let both : false ≡ true = h in cc
-
-pub has_place : (xs : List ℕ) (i : ℕ) → i < length xs → has (get_or xs i 0) xs ≡ true
-has_place [] i below = absurd (omega arith)
-has_place (x ∷ xs) zero below = or_left (eqb x x) (has x xs) (eq-eqb x x refl)
-has_place (x ∷ xs) (suc i) below = or_right (eqb (get_or xs i 0) x) (has (get_or xs i 0) xs) (has_place xs i (omega arith))
-
-pub place_of : (x : ℕ) (xs : List ℕ) → has x xs ≡ true → (k : ℕ) × (k < length xs) × (get_or xs k 0 ≡ x)
-place_of x [] h = let both : false ≡ true = h in cc
-place_of x (y ∷ ys) h = elim (cases_eq x y) [
-  | inl same ↦ (0, omega arith, sym same)
-  | inr other ↦
-      let later = place_of x ys (subst (λ b. (b || has x ys) ≡ true) (ne_eqb x y other) h) in
-      (suc later.0, omega (arith, later.1), later.2)
-]
-
-below_each : (x : ℕ) (xs : List ℕ) (k : ℕ) → IsBelowAll x xs → k < length xs → x < get_or xs k 0
-below_each x [] k below short = absurd (omega arith)
-below_each x (y ∷ ys) zero below short = below.0
-below_each x (y ∷ ys) (suc k) below short = below_each x ys k below.1 (omega arith)
-
-rising : (xs : List ℕ) → IsAscending xs → (i j : ℕ) → i ≤ j → j < length xs → get_or xs i 0 ≤ get_or xs j 0
-rising [] ascending i j order short = absurd (omega arith)
-rising (x ∷ xs) ascending zero zero order short = omega arith
-rising (x ∷ xs) ascending zero (suc j) order short = omega (arith, below_each x xs j ascending.0 (omega arith))
-rising (x ∷ xs) ascending (suc i) zero order short = absurd (omega arith)
-rising (x ∷ xs) ascending (suc i) (suc j) order short = rising xs ascending.1 i j (omega arith) (omega arith)
-
-pub beside_place : (xs ws : List ℕ) (i : ℕ) → IsAscending xs → length ws ≡ length xs → i < length xs
-    → weight_beside (get_or xs i 0) xs ws ≡ get_or ws i 0
-beside_place [] ws i ascending count short = absurd (omega arith)
-beside_place (x ∷ xs) [] i ascending count short = absurd (omega arith)
-beside_place (x ∷ xs) (w ∷ ws) zero ascending count short =
-    ap (λ b. cond b w (weight_beside x xs ws)) (eq-eqb x x refl)
-beside_place (x ∷ xs) (w ∷ ws) (suc i) ascending count short =
-    let above : x < get_or xs i 0 = below_each x xs i ascending.0 (omega arith) in
-    ap (λ b. cond b w (weight_beside (get_or xs i 0) xs ws)) (ne_eqb (get_or xs i 0) x (λ same. omega (arith, same, above)))
-    ∙ beside_place xs ws i ascending.1 (omega arith) (omega arith)
+use Rattle.cluster_tree.specs.PlaceLaws.{or_left, place_of, beside_place}
 
 pub beside_old : (v y w : ℕ) (xs ws : List ℕ) → has v xs ≡ true → length ws ≡ length xs
     → weight_beside v (xs ++ y ∷ []) (ws ++ w ∷ []) ≡ weight_beside v xs ws
@@ -89,47 +37,3 @@ pub beside_contained : (v : ℕ) (xs ws : List ℕ) → IsAscending xs → has v
 beside_contained v xs ws ascending h count =
     let place = place_of v xs h in
     (place.0, omega (arith, place.1), ap (λ x. weight_beside x xs ws) (sym place.2) ∙ beside_place xs ws place.0 ascending count place.1)
-
--- what a search for a member finds
-pub found_place : (xs ws : List ℕ) (v k : ℕ) → IsAscending xs → length ws ≡ length xs
-    → IsBinarySearchResult (λ y. nat_cmp y v) xs (Ok k) → (k < length xs) × (weight_beside v xs ws ≡ get_or ws k 0)
-found_place xs ws v k ascending count result =
-    let at = searched xs v (Ok k) result (rising xs ascending) in
-    (at.0, ap (λ x. weight_beside x xs ws) (sym at.1) ∙ beside_place xs ws k ascending count at.0)
-
-pub always_found : (xs : List ℕ) (v k : ℕ) → IsAscending xs → has v xs ≡ true
-    → IsBinarySearchResult (λ y. nat_cmp y v) xs (Err k) → ⊥
-always_found xs v k ascending member result =
-    let at = searched xs v (Err k) result (rising xs ascending) in
-    let place = place_of v xs member in
-    elim (cases_lt place.0 k) [
-      | inl before ↦ omega (arith, at.1 place.0 before, place.2)
-      | inr after ↦ omega (arith, at.2 place.0 after place.1, place.2)
-    ]
-
--- the numbers that pass a test, and one more
-passing_grows : (test : ℕ → Bool) (u k : ℕ) → passing test u (suc k) ≡ passing test u k ++ cond (test (u + k)) ((u + k) ∷ []) []
-passing_grows test u zero = ap (λ i. cond (test i) (i ∷ []) []) (sym (add-zero u))
-passing_grows test u (suc k) =
-    grown (test u) (passing test (suc u) (suc k)) (passing test (suc u) k)
-    (passing_grows test (suc u) k ∙ ap (λ i. passing test (suc u) k ++ cond (test i) (i ∷ []) []) moved)
-  where
-    moved : suc u + k ≡ u + suc k
-    moved = omega arith
-
-    grown : (b : Bool) (more less : List ℕ) → more ≡ less ++ cond (test (u + suc k)) ((u + suc k) ∷ []) []
-        → cond b (u ∷ more) more ≡ cond b (u ∷ less) less ++ cond (test (u + suc k)) ((u + suc k) ∷ []) []
-    grown true more less is = ap (λ xs. u ∷ xs) is
-    grown false more less is = is
-
-pub passing_takes : (test : ℕ → Bool) (i : ℕ) → test i ≡ true → passing test 0 (i + 1) ≡ passing test 0 i ++ i ∷ []
-passing_takes test i passes =
-    ap (passing test 0) (add-one i) ∙ passing_grows test 0 i
-    ∙ ap (λ j. passing test 0 i ++ cond (test j) (j ∷ []) []) (zero-add i)
-    ∙ ap (λ b. passing test 0 i ++ cond b (i ∷ []) []) passes
-
-pub passing_skips : (test : ℕ → Bool) (i : ℕ) → test i ≡ false → passing test 0 (i + 1) ≡ passing test 0 i
-passing_skips test i fails =
-    ap (passing test 0) (add-one i) ∙ passing_grows test 0 i
-    ∙ ap (λ j. passing test 0 i ++ cond (test j) (j ∷ []) []) (zero-add i)
-    ∙ ap (λ b. passing test 0 i ++ cond b (i ∷ []) []) fails ∙ append-nil (passing test 0 i)

@@ -1,3 +1,5 @@
 pub mod Tree
 pub mod Faults
 pub mod Weighing
+pub mod PlaceLaws
+pub mod Inside

@@ -42,7 +42,7 @@ pub record IsDepth (cluster : WeighedCluster) (w : ℕ) : Type 0 where
   pub attained : IsAttained cluster w
 
 -- what every tree keeps
-pub record IsKept (cluster : WeighedCluster) (depth : ℕ) : Type 0 where
+pub record IsSoundTree (cluster : WeighedCluster) (depth : ℕ) : Type 0 where
   pub ascending : IsAscending cluster.members
   pub count : length cluster.weights ≡ length cluster.members
   pub leads : has cluster.leader cluster.members ≡ true

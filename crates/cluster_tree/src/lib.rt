@@ -2,9 +2,11 @@
 #![tactic(auto)]
 
 mod fault;
+mod inside;
 mod tree;
 mod weighing;
 
 pub use fault::TreeFault;
+pub use inside::inside_weights;
 pub use net_graph::OutOfMemory;
 pub use tree::ClusterTree;

@@ -1,19 +1,19 @@
 //! The tree of a cluster.
 
-ghost use Rattle.std.specs.Prelude.{◌≡◌, ◌<◌, ◌^◌, IfErr, IfOk, IsTrue};
+ghost use Rattle.std.specs.Prelude.{◌≡◌, ◌<◌, ◌≤◌, ◌^◌, IfErr, IfOk, IsTrue};
 ghost use Rattle.node_set.specs.Ascending.{has};
 ghost use Rattle.cluster_tree.specs.Tree.{IsDepth, IsTreeOf, inside_weight};
 ghost use Rattle.cluster_tree.specs.Faults.{IsTreeFault};
 
 use crate::fault::TreeFault;
-use crate::weighing::{flags_of, greatest, weigh};
-use net_graph::Graph;
+use crate::weighing::{flags_of, weigh};
+use net_graph::{Graph, greatest_weight};
 use node_set::NodeSet;
 use std::alloc::Global;
 use std::marker::Model;
 
 /// The least weight, inside a cluster, from its leader to each member.
-#[derive(Clone, Debug, Drop)]
+#[derive(Debug, Drop)]
 pub struct ClusterTree {
     leader: u32,
     members: Vec<u32>,
@@ -22,13 +22,13 @@ pub struct ClusterTree {
 }
 
 impl Model for ClusterTree {
-    ghost use Rattle.cluster_tree.specs.Tree.{IsKept, WeighedCluster};
+    ghost use Rattle.cluster_tree.specs.Tree.{IsSoundTree, WeighedCluster};
 
     ghost Value = { WeighedCluster };
 
     ghost view = { λ t. record { leader = t.leader; members = t.members.items; weights = t.weights.items } };
 
-    ghost invariant = { λ t. IsKept (record { leader = t.leader; members = t.members.items; weights = t.weights.items }) t.depth };
+    ghost invariant = { λ t. IsSoundTree (record { leader = t.leader; members = t.members.items; weights = t.weights.items }) t.depth };
 }
 
 impl ClusterTree {
@@ -48,7 +48,7 @@ impl ClusterTree {
         let flags = flags_of(alloc, members)?;
         let weights = graph.weights_from(alloc, &flags, leader)?;
         let weighed = weigh(alloc, members, &weights)?;
-        let depth = greatest(&weighed.weights);
+        let depth = greatest_weight(&weighed.weights);
         Ok(ClusterTree {
             leader,
             members: weighed.nodes,
@@ -80,35 +80,29 @@ impl ClusterTree {
 #[cfg(test)]
 mod tests {
     use super::*;
-    use net_graph::Edge;
+    use net_graph::{Edge, MAX_NODES};
     use std::test::Fail;
 
-    fn line_of_four(alloc: Global) -> Result<Graph, Fail>
-        ensures { IfOk result (λ graph. graph.nodes ≡ 4) }
+    // A line of `n` nodes, joined by edges of weight 1.
+    fn line_of(alloc: Global, n: u32) -> Result<Graph, Fail>
+        requires some { 1 ≤ n }
+        requires few { n ≤ MAX_NODES }
+        ensures { IfOk result (λ graph. graph.nodes ≡ n) }
     {
-        let edges = [
-            Edge {
-                a: 0,
-                b: 1,
+        let mut edges = Vec::new(alloc);
+        for b in 1..n {
+            edges.push(Edge {
+                a: b - 1,
+                b,
                 weight: 1,
-            },
-            Edge {
-                a: 1,
-                b: 2,
-                weight: 1,
-            },
-            Edge {
-                a: 2,
-                b: 3,
-                weight: 1,
-            },
-        ];
-        Ok(Graph::new(alloc, 4, &edges)?)
+            })?;
+        }
+        Ok(Graph::new(alloc, n, &edges)?)
     }
 
     #[test]
     fn the_end_of_a_line(rt: HostRuntime) -> Result<(), Fail> {
-        let graph = line_of_four(rt.alloc())?;
+        let graph = line_of(rt.alloc(), 4)?;
         let mut members = NodeSet::empty(rt.alloc(), 4)?;
         members.insert(2);
         members.insert(3);
@@ -120,13 +114,26 @@ mod tests {
     }
 
     #[test]
-    fn both_ends_of_a_line(rt: HostRuntime) -> Result<(), Fail> {
-        let graph = line_of_four(rt.alloc())?;
-        let mut members = NodeSet::empty(rt.alloc(), 4)?;
+    fn both_ends_of_a_line_past_two_words(rt: HostRuntime) -> Result<(), Fail> {
+        let graph = line_of(rt.alloc(), 130)?;
+        let mut members = NodeSet::empty(rt.alloc(), 130)?;
         members.insert(0);
-        members.insert(3);
+        members.insert(129);
         let fault = ClusterTree::new(rt.alloc(), &graph, &members, 0).err();
-        assert!(rt; matches!(fault, Some(TreeFault::Outside { node: 3 })));
+        assert!(rt; matches!(fault, Some(TreeFault::Outside { node: 129 })));
+        Ok(())
+    }
+
+    #[test]
+    fn a_line_of_the_most_nodes(rt: HostRuntime) -> Result<(), Fail> {
+        let graph = line_of(rt.alloc(), MAX_NODES)?;
+        let mut members = NodeSet::empty(rt.alloc(), MAX_NODES)?;
+        for v in 0..1023 {
+            members.insert(v);
+        }
+        members.insert(1023);
+        let tree = ClusterTree::new(rt.alloc(), &graph, &members, 1023)?;
+        assert_eq!(rt; tree.depth(), 1023);
         Ok(())
     }
 }

@@ -64,11 +64,3 @@ fn push_member(weighed: &mut Weighed, node: u32, weight: u32) -> Result<(), OutO
     weighed.weights.push(weight)?;
     Ok(())
 }
-
-// The greatest of the numbers, 0 where there is none.
-pub(crate) fn greatest(numbers: &[u32]) -> u32
-    ensures bound { All (λ x. x ≤ result) numbers.now }
-    ensures attained { 0 < length numbers.now → Contains numbers.now result }
-{
-    numbers.iter().copied().max().unwrap_or(0)
-}

@@ -1,7 +1,6 @@
-pub mod Growth
-pub mod Lists
-pub mod Marking
-pub mod Phase
-pub mod Results
-pub mod Steps
-pub mod Whole
+mod Marking
+mod Growth
+mod Phase
+mod Whole
+mod Steps
+mod Results

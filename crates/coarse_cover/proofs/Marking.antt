@@ -1,15 +1,14 @@
 -- The centres that are marked, and what one pass over the marks makes of them.
 use Rattle.std.proofs.Common.{◌≡◌, ◌⊎◌, inl, inr, ℕ, zero, suc, ◌+◌, ◌-◌, ◌<◌, ◌≤◌, Bool, true, false, cond, ◌&&◌, ◌||◌, List, [], ◌∷◌, length, take, drop, ◌++◌, filter, get_or, set, replicate, refl, sym, ◌∙◌, ap, arith, add-one}
-use Rattle.std.proofs.lemmas.Bool.{cases_Bool, cases_lt, cases_eq, false≢true, ne_eqb, eq-eqb}
+use Rattle.std.proofs.lemmas.Bool.{cases_lt, cases_eq, ne_eqb, eq-eqb}
 use Rattle.std.proofs.Math.Seq.{take-append_seam}
 use Rattle.std.proofs.lemmas.List.{get_or_past, get_or-replicate, length-replicate, get_or-set_same, get_or-set_other}
 use Rattle.node_set.specs.Ascending.{has, IsAscending, union, passing}
 use Rattle.node_set.specs.Nodes.{Nodes}
-use Rattle.node_set.proofs.Ascending.{has-passing, passing_over, ascending-passing, same_members, has-union}
-use Rattle.coarse_cover.specs.Coarsening.{ball, union_of}
-use Rattle.coarse_cover.specs.Covers.{sets}
+use Rattle.node_set.specs.SetLaws.{has-passing, passing_over, ascending-passing, same_members, has-union, length-passing-le}
+use Rattle.node_set.specs.Balls.{ball, union_of}
+use Rattle.node_set.specs.FilterLaws.{ascending-filter, has-filter}
 use Rattle.coarse_cover.specs.Progress.{marked}
-use Rattle.coarse_cover.proofs.Lists.{filter_keeps, filter_has, ascending-filter}
 
 pub has-marked : (marks : List Bool) (x : ℕ) → has x (marked marks) ≡ get_or marks x false
 unfolding marked
@@ -26,14 +25,6 @@ ascending-marked marks = ascending-passing (λ v. get_or marks v false) 0 (lengt
 -- an ascending list with the same members is what the marks stand for
 pub marked_is : (marks : List Bool) (xs : List ℕ) → IsAscending xs → ((x : ℕ) → get_or marks x false ≡ has x xs) → marked marks ≡ xs
 marked_is marks xs all same = same_members (marked marks) xs (ascending-marked marks) all (λ x. has-marked marks x ∙ same x)
-
-pub has-filter : (p : ℕ → Bool) (x : ℕ) (xs : List ℕ) → has x (filter p xs) ≡ (has x xs && p x)
-has-filter p x xs = at (has x xs) (p x) refl refl
-  where
-    at : (b c : Bool) → has x xs ≡ b → p x ≡ c → has x (filter p xs) ≡ (b && c)
-    at true true e f = filter_has p x xs e f
-    at true false e f = elim (cases_Bool (has x (filter p xs))) [ inl kept ↦ absurd (false≢true (sym f ∙ (filter_keeps p x xs kept).1)) | inr gone ↦ gone ]
-    at false c e f = elim (cases_Bool (has x (filter p xs))) [ inl kept ↦ absurd (false≢true (sym e ∙ (filter_keeps p x xs kept).0)) | inr gone ↦ gone ]
 
 -- ---- what is still to come from a place on
 
@@ -86,15 +77,6 @@ marked_filter p before after same kept =
 
 -- ---- balls
 
-pub ball_at : (balls : List Nodes) (v : ℕ) (b : Nodes) → v < length balls → b ≡ get_or balls v b → ball (sets balls) v ≡ b.members
-ball_at [] v b h e = absurd (omega arith)
-ball_at (c ∷ cs) zero b h e = ap (λ (n : Nodes). n.members) (sym e)
-ball_at (c ∷ cs) (suc v) b h e = ball_at cs v b (omega arith) e
-
-pub length-sets : (balls : List Nodes) → length (sets balls) ≡ length balls
-length-sets [] = refl
-length-sets (c ∷ cs) = ap suc (length-sets cs)
-
 -- one ball more in the union
 pub union_next : (balls : List (List ℕ)) (v x : ℕ) (vs nodes : List ℕ) →
     (has x (union_of balls vs) || has x (union (ball balls v) nodes)) ≡ (has x (union_of balls (v ∷ vs)) || has x nodes)
@@ -125,17 +107,9 @@ count_more marks i total all h e before = omega (arith, ap length (marked_from_y
 pub count_same : (marks : List Bool) (i total all : ℕ) → i < length marks → get_or marks i false ≡ false → total + length (marked_from marks i) ≡ all → total + length (marked_from marks (i + 1)) ≡ all
 count_same marks i total all h e before = omega (arith, ap length (marked_from_no marks i h e))
 
-passing_few : (p : ℕ → Bool) (v k : ℕ) → length (passing p v k) ≤ k
-passing_few p v zero = omega arith
-passing_few p v (suc k) = at (p v) (passing_few p (suc v) k)
-  where
-    at : (b : Bool) → length (passing p (suc v) k) ≤ k → length (cond b (v ∷ passing p (suc v) k) (passing p (suc v) k)) ≤ suc k
-    at true h = omega arith
-    at false h = omega arith
-
 pub marked_few : (marks : List Bool) → length (marked marks) ≤ length marks
 unfolding marked
-marked_few marks = passing_few (λ v. get_or marks v false) 0 (length marks)
+marked_few marks = length-passing-le (λ v. get_or marks v false) 0 (length marks)
 
 pub absorb_more : (balls : List (List ℕ)) (marks : List Bool) (v : ℕ) (nodes : List ℕ) (x : ℕ) (all : Bool) → v < length marks → get_or marks v false ≡ true →
     (has x (union_of balls (marked_from marks v)) || has x nodes) ≡ all → (has x (union_of balls (marked_from marks (v + 1))) || has x (union (ball balls v) nodes)) ≡ all

@@ -7,18 +7,17 @@ use Rattle.std.proofs.lemmas.List.{get_or_past}
 use Rattle.std.proofs.lemmas.Bool.{cases_lt, false≢true, false_from_ne_true, not-true, and_from, and_parts}
 use Rattle.std.proofs.Math.Nat.{le_trans, pow-le-pow_left, mul-le-mul_left}
 use Rattle.node_set.specs.Ascending.{has, IsBelowAll, share}
-use Rattle.node_set.proofs.Ascending.{share_from, share_gives}
-use Rattle.whole_powers.proofs.Inequalities.{powers_add, zero_pow}
-use Rattle.coarse_cover.specs.Coarsening.{ball, union_of, touches, grown, is_enough, least, Grown, cluster_of, phase, is_homed}
+use Rattle.node_set.specs.SetLaws.{share_from, share_gives}
+use Rattle.whole_powers.specs.Bounds.{PowersAdd}
+use Rattle.whole_powers.specs.PowerLaws.{zero_pow}
+use Rattle.coarse_cover.specs.Coarsening.{is_enough, cluster_of, phase, IsShaped}
 use Rattle.coarse_cover.specs.Progress.{IsReady}
-use Rattle.coarse_cover.proofs.Lists.{filter_keeps, filter_has, filter_twice, filter_halves, filter_fewer, filter_more, some_length, ascending-filter}
-use Rattle.coarse_cover.proofs.Growth.{HoldCentres, union_from, touches_own, grown_waits, grown_leader, grown_picked, growths_few, enough_means, least_passes}
+use Rattle.node_set.specs.Balls.{ball, union_of, touches, growth, least, GrownCluster, is_homed}
+use Rattle.node_set.specs.FilterLaws.{filter_keeps, filter_has, filter_twice, filter_halves, filter_fewer, filter_more, some_length, ascending-filter}
+use Rattle.node_set.specs.BallLaws.{HoldCentres, union_from, touches_own, growth_waits, growth_leader, growth_picked, least_passes}
+use Rattle.coarse_cover.proofs.Growth.{growths_few, enough_means}
 
 -- ---- one cluster
-
--- grown from its leader's ball, fewer than k times, and the union of the balls that it is the home of
-abbrev pub IsShaped : List (List ℕ) → ℕ → Grown → Type 0
-IsShaped balls k c = (c.growths < k) × (c.members ≡ union_of balls c.homed) × (c.first < length balls) × ((waiting : List ℕ) × (has c.first waiting ≡ true) × (c.homed ≡ grown balls waiting c.first c.growths))
 
 -- a ball that touches others is there
 touching_below : (balls : List (List ℕ)) (nodes : List ℕ) (v : ℕ) → touches balls nodes v ≡ true → v < length balls
@@ -33,8 +32,8 @@ touching_below balls nodes v h = elim (cases_lt v (length balls)) [
 abbrev pub apart : List (List ℕ) → List ℕ → List ℕ → List ℕ
 apart balls nodes waiting = filter (λ v. not (touches balls nodes v)) waiting
 
--- what a cluster is to the waiting balls among which it is grown
-pub record IsCluster (balls : List (List ℕ)) (k r : ℕ) (waiting : List ℕ) (c : Grown) : Type 0 where
+-- what a cluster is to the waiting balls among which it is growth
+pub record IsCluster (balls : List (List ℕ)) (k r : ℕ) (waiting : List ℕ) (c : GrownCluster) : Type 0 where
   pub leads : has c.first c.homed ≡ true
   pub waits : (v : ℕ) → has v c.homed ≡ true → has v waiting ≡ true
   pub joined : c.members ≡ union_of balls c.homed
@@ -42,28 +41,28 @@ pub record IsCluster (balls : List (List ℕ)) (k r : ℕ) (waiting : List ℕ) 
   pub few : c.growths < k
   pub enough : length (filter (touches balls c.members) waiting) ^ k ≤ r * length c.homed ^ k
   pub picked : c.homed ≡ filter (λ v. has v c.homed) waiting
-  pub shape : c.homed ≡ grown balls waiting c.first c.growths
+  pub shape : c.homed ≡ growth balls waiting c.first c.growths
 
 pub is_cluster : (balls : List (List ℕ)) (k r a : ℕ) (rest : List ℕ) → 0 < k → length (a ∷ rest) ≤ r → IsBelowAll a rest → HoldCentres balls (a ∷ rest) → IsCluster balls k r (a ∷ rest) (cluster_of balls k r (a ∷ rest) a)
-unfolding cluster_of grown
+unfolding cluster_of growth
 is_cluster balls k r a rest pos fits below hold =
     record {
-      leads = grown_leader balls a rest hold (least (is_enough balls k r (a ∷ rest) a) k);
-      waits = grown_waits balls a rest (least (is_enough balls k r (a ∷ rest) a) k);
+      leads = growth_leader balls a rest hold (least (is_enough balls k r (a ∷ rest) a) k);
+      waits = growth_waits balls a rest (least (is_enough balls k r (a ∷ rest) a) k);
       joined = refl;
-      touching = λ v h. touches_own balls v (grown balls (a ∷ rest) a (least (is_enough balls k r (a ∷ rest) a) k)) h (hold v (grown_waits balls a rest (least (is_enough balls k r (a ∷ rest) a) k) v h));
+      touching = λ v h. touches_own balls v (growth balls (a ∷ rest) a (least (is_enough balls k r (a ∷ rest) a) k)) h (hold v (growth_waits balls a rest (least (is_enough balls k r (a ∷ rest) a) k) v h));
       few = growths_few balls k r a rest pos fits;
       enough = enough_means balls k r a rest (least (is_enough balls k r (a ∷ rest) a) k) (least_passes (is_enough balls k r (a ∷ rest) a) k (growths_few balls k r a rest pos fits));
-      picked = grown_picked balls a rest below (least (is_enough balls k r (a ∷ rest) a) k);
+      picked = growth_picked balls a rest below (least (is_enough balls k r (a ∷ rest) a) k);
       shape = refl;
     }
 
 -- the cluster's own balls, and those that the rest of the phase finds a home for, are apart
-homed_here : (c : Grown) (cs : List Grown) (v : ℕ) → has v c.homed ≡ true → is_homed (c ∷ cs) v ≡ true
+homed_here : (c : GrownCluster) (cs : List GrownCluster) (v : ℕ) → has v c.homed ≡ true → is_homed (c ∷ cs) v ≡ true
 unfolding is_homed
 homed_here c cs v h = rw h refl
 
-homed_later : (c : Grown) (cs : List Grown) (v : ℕ) → is_homed cs v ≡ true → is_homed (c ∷ cs) v ≡ true
+homed_later : (c : GrownCluster) (cs : List GrownCluster) (v : ℕ) → is_homed cs v ≡ true → is_homed (c ∷ cs) v ≡ true
 unfolding is_homed
 homed_later c cs v h = at (has v c.homed)
   where
@@ -71,7 +70,7 @@ homed_later c cs v h = at (has v c.homed)
     at true = refl
     at false = h
 
-homed_cases : (c : Grown) (cs : List Grown) (v : ℕ) → is_homed (c ∷ cs) v ≡ true → (has v c.homed ≡ true) ⊎ (is_homed cs v ≡ true)
+homed_cases : (c : GrownCluster) (cs : List GrownCluster) (v : ℕ) → is_homed (c ∷ cs) v ≡ true → (has v c.homed ≡ true) ⊎ (is_homed cs v ≡ true)
 unfolding is_homed
 homed_cases c cs v h = at (has v c.homed) refl h
   where
@@ -82,7 +81,7 @@ homed_cases c cs v h = at (has v c.homed) refl h
 -- ---- a phase, without its fuel
 
 -- the clusters are those of a phase, one after another
-abbrev pub IsPhase : List (List ℕ) → ℕ → ℕ → List ℕ → List Grown → Type 0
+abbrev pub IsPhase : List (List ℕ) → ℕ → ℕ → List ℕ → List GrownCluster → Type 0
 IsPhase balls k r waiting [] = waiting ≡ []
 IsPhase balls k r waiting (c ∷ cs) = IsCluster balls k r waiting c × IsPhase balls k r (apart balls c.members waiting) cs
 
@@ -98,7 +97,7 @@ pub cluster_ready : (balls : List (List ℕ)) (k r a : ℕ) (rest : List ℕ) �
 cluster_ready balls k r a rest ready = is_cluster balls k r a rest ready.some ready.fits ready.ascending.0 ready.centred
 
 -- a cluster takes its leader at least
-pub apart_fewer : (balls : List (List ℕ)) (k r : ℕ) (waiting : List ℕ) (c : Grown) → IsCluster balls k r waiting c → length (apart balls c.members waiting) < length waiting
+pub apart_fewer : (balls : List (List ℕ)) (k r : ℕ) (waiting : List ℕ) (c : GrownCluster) → IsCluster balls k r waiting c → length (apart balls c.members waiting) < length waiting
 apart_fewer balls k r waiting c is =
     let taken : has c.first (filter (touches balls c.members) waiting) ≡ true = filter_has (touches balls c.members) c.first waiting (is.waits c.first is.leads) (is.touching c.first is.leads) in
     omega (arith, some_length c.first (filter (touches balls c.members) waiting) taken, filter_halves (touches balls c.members) waiting)
@@ -109,7 +108,7 @@ phase_is balls k r zero [] ready enough = refl
 phase_is balls k r zero (a ∷ rest) ready enough = absurd (omega arith)
 phase_is balls k r (suc more) [] ready enough = refl
 phase_is balls k r (suc more) (a ∷ rest) ready enough =
-    let c : Grown = cluster_of balls k r (a ∷ rest) a in
+    let c : GrownCluster = cluster_of balls k r (a ∷ rest) a in
     let is : IsCluster balls k r (a ∷ rest) (cluster_of balls k r (a ∷ rest) a) = cluster_ready balls k r a rest ready in (
       is,
       phase_is balls k r more (apart balls (cluster_of balls k r (a ∷ rest) a).members (a ∷ rest)) (ready_filter balls k r (a ∷ rest) (λ v. not (touches balls (cluster_of balls k r (a ∷ rest) a).members v)) ready)
@@ -117,7 +116,7 @@ phase_is balls k r (suc more) (a ∷ rest) ready enough =
     )
 
 module _ (balls : List (List ℕ)) (k r : ℕ) where
-  pub homed_waits : (waiting : List ℕ) (cs : List Grown) → IsPhase balls k r waiting cs → (v : ℕ) → is_homed cs v ≡ true → has v waiting ≡ true
+  pub homed_waits : (waiting : List ℕ) (cs : List GrownCluster) → IsPhase balls k r waiting cs → (v : ℕ) → is_homed cs v ≡ true → has v waiting ≡ true
   unfolding is_homed
   homed_waits waiting [] is v h = absurd (false≢true h)
   homed_waits waiting (c ∷ cs) is v h =
@@ -127,7 +126,7 @@ module _ (balls : List (List ℕ)) (k r : ℕ) where
       ]
 
   -- the balls of a cluster and those of the later ones are counted apart
-  split_homed : (waiting : List ℕ) (c : Grown) (cs : List Grown) → IsCluster balls k r waiting c →
+  split_homed : (waiting : List ℕ) (c : GrownCluster) (cs : List GrownCluster) → IsCluster balls k r waiting c →
       length c.homed + length (filter (is_homed cs) (apart balls c.members waiting)) ≤ length (filter (is_homed (c ∷ cs)) waiting)
   split_homed waiting c cs is =
       let own : length c.homed ≤ length (filter (λ v. is_homed (c ∷ cs) v && touches balls c.members v) waiting) =
@@ -151,17 +150,17 @@ module _ (balls : List (List ℕ)) (k r : ℕ) where
         ap length (filter_twice (is_homed cs) (λ v. not (touches balls c.members v)) waiting),
       )
 
-  pub phase_size : (waiting : List ℕ) (cs : List Grown) → 0 < k → IsPhase balls k r waiting cs → length waiting ^ k ≤ r * length (filter (is_homed cs) waiting) ^ k
-  phase_size waiting [] pos is = subst (λ (w : List ℕ). length w ^ k ≤ r * length (filter (is_homed []) w) ^ k) (sym is) (omega (arith, zero_pow k pos))
-  phase_size waiting (c ∷ cs) pos is =
+  pub phase_size : PowersAdd → (waiting : List ℕ) (cs : List GrownCluster) → 0 < k → IsPhase balls k r waiting cs → length waiting ^ k ≤ r * length (filter (is_homed cs) waiting) ^ k
+  phase_size adds waiting [] pos is = subst (λ (w : List ℕ). length w ^ k ≤ r * length (filter (is_homed []) w) ^ k) (sym is) (omega (arith, zero_pow k pos))
+  phase_size adds waiting (c ∷ cs) pos is =
       let sums : (length (filter (touches balls c.members) waiting) + length (apart balls c.members waiting)) ^ k ≤ r * (length c.homed + length (filter (is_homed cs) (apart balls c.members waiting))) ^ k =
-      powers_add k r (length (filter (touches balls c.members) waiting)) (length (apart balls c.members waiting)) (length c.homed) (length (filter (is_homed cs) (apart balls c.members waiting))) pos is.0.enough
-      (phase_size (apart balls c.members waiting) cs pos is.1)
+      adds k r (length (filter (touches balls c.members) waiting)) (length (apart balls c.members waiting)) (length c.homed) (length (filter (is_homed cs) (apart balls c.members waiting))) pos is.0.enough
+      (phase_size adds (apart balls c.members waiting) cs pos is.1)
       in
       le_trans (subst (λ (n : ℕ). n ^ k ≤ r * (length c.homed + length (filter (is_homed cs) (apart balls c.members waiting))) ^ k) (filter_halves (touches balls c.members) waiting) sums)
       (mul-le-mul_left r (pow-le-pow_left (split_homed waiting c cs is.0) k))
 
-  pub phase_count : (waiting : List ℕ) (cs : List Grown) → IsPhase balls k r waiting cs → length cs ≤ length (filter (is_homed cs) waiting)
+  pub phase_count : (waiting : List ℕ) (cs : List GrownCluster) → IsPhase balls k r waiting cs → length cs ≤ length (filter (is_homed cs) waiting)
   phase_count waiting [] is = omega arith
   phase_count waiting (c ∷ cs) is =
       omega (arith, split_homed waiting c cs is.0, phase_count (apart balls c.members waiting) cs is.1, some_length c.first c.homed is.0.leads)
@@ -169,36 +168,36 @@ module _ (balls : List (List ℕ)) (k r : ℕ) where
   -- ---- disjoint clusters
 
   -- no later cluster has a node of a set that no waiting ball touches
-  cluster_misses : (nodes waiting : List ℕ) (c : Grown) (x : ℕ) → IsCluster balls k r waiting c → ((v : ℕ) → has v waiting ≡ true → touches balls nodes v ≡ false) → has x nodes ≡ true → has x c.members ≡ false
+  cluster_misses : (nodes waiting : List ℕ) (c : GrownCluster) (x : ℕ) → IsCluster balls k r waiting c → ((v : ℕ) → has v waiting ≡ true → touches balls nodes v ≡ false) → has x nodes ≡ true → has x c.members ≡ false
   cluster_misses nodes waiting c x is none here = false_from_ne_true (has x c.members) (λ there.
       let w : (v : ℕ) × (has v c.homed ≡ true) × (has x (ball balls v) ≡ true) = union_from balls x c.homed (subst (λ (l : List ℕ). has x l ≡ true) is.joined there) in
       false≢true (sym (none w.0 (is.waits w.0 w.1)) ∙ share_from x (ball balls w.0) nodes w.2 here))
 
-  pub later_apart : (nodes waiting : List ℕ) (cs : List Grown) → IsPhase balls k r waiting cs →
-      ((v : ℕ) → has v waiting ≡ true → touches balls nodes v ≡ false) → All (λ (d : Grown). share nodes d.members ≡ false) cs
-  later_apart nodes waiting [] is none = All-nil (λ (d : Grown). share nodes d.members ≡ false)
+  pub later_apart : (nodes waiting : List ℕ) (cs : List GrownCluster) → IsPhase balls k r waiting cs →
+      ((v : ℕ) → has v waiting ≡ true → touches balls nodes v ≡ false) → All (λ (d : GrownCluster). share nodes d.members ≡ false) cs
+  later_apart nodes waiting [] is none = All-nil (λ (d : GrownCluster). share nodes d.members ≡ false)
   later_apart nodes waiting (c ∷ cs) is none =
-      All-cons (λ (d : Grown). share nodes d.members ≡ false) c cs
+      All-cons (λ (d : GrownCluster). share nodes d.members ≡ false) c cs
       (false_from_ne_true (share nodes c.members) (λ both.
       let w : (x : ℕ) × (has x nodes ≡ true) × (has x c.members ≡ true) = share_gives nodes c.members both in
       false≢true (sym (cluster_misses nodes waiting c w.0 is.0 none w.1) ∙ w.2)))
       (later_apart nodes (apart balls c.members waiting) cs is.1 (λ v h. none v (filter_keeps (λ w. not (touches balls c.members w)) v waiting h).0))
 
   -- the later clusters of a phase share no node with an earlier one
-  pub phase_apart : (waiting : List ℕ) (c : Grown) (cs : List Grown) → IsPhase balls k r waiting (c ∷ cs) → All (λ (d : Grown). share c.members d.members ≡ false) cs
+  pub phase_apart : (waiting : List ℕ) (c : GrownCluster) (cs : List GrownCluster) → IsPhase balls k r waiting (c ∷ cs) → All (λ (d : GrownCluster). share c.members d.members ≡ false) cs
   phase_apart waiting c cs is =
       later_apart c.members (apart balls c.members waiting) cs is.1 (λ v h. not-true (touches balls c.members v) (filter_keeps (λ w. not (touches balls c.members w)) v waiting h).1)
 
-  none_has : (nodes : List ℕ) (x : ℕ) (cs : List Grown) → has x nodes ≡ true → All (λ (d : Grown). share nodes d.members ≡ false) cs → count_by (λ c. has x c.members) cs ≡ 0
+  none_has : (nodes : List ℕ) (x : ℕ) (cs : List GrownCluster) → has x nodes ≡ true → All (λ (d : GrownCluster). share nodes d.members ≡ false) cs → count_by (λ c. has x c.members) cs ≡ 0
   none_has nodes x [] here all = refl
   none_has nodes x (d ∷ ds) here all =
-      let gone : has x d.members ≡ false = false_from_ne_true (has x d.members) (λ there. false≢true (sym (All-head (λ (d : Grown). share nodes d.members ≡ false) d ds all) ∙ share_from x nodes d.members here there)) in
-      sum_by-cons (λ (c : Grown). cond (has x c.members) 1 0) d ds ∙ rw (gone, none_has nodes x ds here (All-tail (λ (d : Grown). share nodes d.members ≡ false) d ds all)) refl
+      let gone : has x d.members ≡ false = false_from_ne_true (has x d.members) (λ there. false≢true (sym (All-head (λ (d : GrownCluster). share nodes d.members ≡ false) d ds all) ∙ share_from x nodes d.members here there)) in
+      sum_by-cons (λ (c : GrownCluster). cond (has x c.members) 1 0) d ds ∙ rw (gone, none_has nodes x ds here (All-tail (λ (d : GrownCluster). share nodes d.members ≡ false) d ds all)) refl
 
   -- at most one cluster of a phase has the node x
-  pub phase_once : (waiting : List ℕ) (cs : List Grown) (x : ℕ) → IsPhase balls k r waiting cs → count_by (λ c. has x c.members) cs ≤ 1
+  pub phase_once : (waiting : List ℕ) (cs : List GrownCluster) (x : ℕ) → IsPhase balls k r waiting cs → count_by (λ c. has x c.members) cs ≤ 1
   phase_once waiting [] x is = omega arith
-  phase_once waiting (c ∷ cs) x is = subst (λ (n : ℕ). n ≤ 1) (sym (sum_by-cons (λ (c : Grown). cond (has x c.members) 1 0) c cs)) (at (has x c.members) refl (phase_once (apart balls c.members waiting) cs x is.1))
+  phase_once waiting (c ∷ cs) x is = subst (λ (n : ℕ). n ≤ 1) (sym (sum_by-cons (λ (c : GrownCluster). cond (has x c.members) 1 0) c cs)) (at (has x c.members) refl (phase_once (apart balls c.members waiting) cs x is.1))
     where
       at : (b : Bool) → has x c.members ≡ b → count_by (λ d. has x d.members) cs ≤ 1 → cond b 1 0 + count_by (λ d. has x d.members) cs ≤ 1
       at true e rest = omega (arith, none_has c.members x cs e (phase_apart waiting c cs is))
@@ -206,7 +205,7 @@ module _ (balls : List (List ℕ)) (k r : ℕ) where
 
   -- ---- each cluster is the union of the balls that it is the home of
 
-  pub phase_joined : (waiting : List ℕ) (cs : List Grown) → IsPhase balls k r waiting cs → All (IsShaped balls k) cs
+  pub phase_joined : (waiting : List ℕ) (cs : List GrownCluster) → IsPhase balls k r waiting cs → All (IsShaped balls k) cs
   phase_joined waiting [] is = All-nil (IsShaped balls k)
   phase_joined waiting (c ∷ cs) is =
       All-cons (IsShaped balls k) c cs (is.0.few, is.0.joined, touching_below balls c.members c.first (is.0.touching c.first is.0.leads), (waiting, is.0.waits c.first is.0.leads, is.0.shape)) (phase_joined (apart balls c.members waiting) cs is.1)

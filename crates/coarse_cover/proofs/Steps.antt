@@ -2,18 +2,21 @@
 use Rattle.std.proofs.Common.{◌≡◌, inl, inr, ℕ, zero, suc, ◌+◌, ◌<◌, ◌≤◌, Bool, true, false, cond, not, ◌&&◌, List, [], ◌∷◌, ◌++◌, length, length-append, append_assoc, filter, get_or, map, refl, sym, ◌∙◌, ap, subst, arith}
 use Rattle.std.proofs.Math.Nat.{le_refl}
 use Rattle.std.proofs.lemmas.Bool.{cases_lt, false≢true, not-true, not_from_false, false_from_ne_true, and_right}
-use Rattle.node_set.specs.Ascending.{has, passing}
-use Rattle.node_set.proofs.Ascending.{has-passing, passing_over, ascending-passing}
-use Rattle.coarse_cover.specs.Coarsening.{touches, Grown, cluster_of, phase, phases, is_homed, unhomed, all_clusters, home_of, centres, coarsening}
-use Rattle.coarse_cover.specs.Covers.{listed, shown, AreCentred}
+use Rattle.node_set.specs.Ascending.{has}
+use Rattle.node_set.specs.SetLaws.{has-passing, passing_over, ascending-passing}
+use Rattle.coarse_cover.specs.Coarsening.{cluster_of, phase, phases, without_home, all_clusters, coarsening}
+use Rattle.coarse_cover.specs.Covers.{cluster_list, as_cluster}
 use Rattle.coarse_cover.specs.Progress.{phase_of, phases_of, IsReady, Agrees, IsInPhase, IsBetween, IsAdded, marked}
 use Rattle.coarse_cover.specs.declared.cover.Cluster.{Cluster}
 use Rattle.coarse_cover.specs.declared.cover.Cover.{Cover}
 use Rattle.coarse_cover.specs.declared.phasing.Work.{Work}
-use Rattle.coarse_cover.proofs.Lists.{filter_keeps, filter_has, filter_twice, filter_same}
-use Rattle.coarse_cover.proofs.Marking.{has-filter, has-marked}
+use Rattle.coarse_cover.proofs.Marking.{has-marked}
 use Rattle.coarse_cover.proofs.Phase.{IsCluster, IsPhase, apart, apart_fewer, cluster_ready, ready_filter, phase_is}
+use Rattle.node_set.specs.Balls.{touches, GrownCluster, is_homed, home_of, centres, AreCentred}
+use Rattle.node_set.specs.FilterLaws.{filter_keeps, filter_has, filter_twice, filter_same, has-filter}
 use Rattle.coarse_cover.proofs.Whole.{ArePhases, phases_are, ready_left, phase_fewer, some_clusters, clusters_within, phases_within}
+use Rattle.node_set.specs.BallLaws.{length-centres}
+use Rattle.coarse_cover.specs.CoverLaws.{length-cluster_list}
 
 -- ---- enough fuel is enough
 
@@ -29,7 +32,7 @@ phase_enough balls k r zero n (a ∷ rest) ready h g = absurd (omega arith)
 phase_enough balls k r (suc m) zero (a ∷ rest) ready h g = absurd (omega arith)
 phase_enough balls k r (suc m) (suc n) (a ∷ rest) ready h g =
     let fewer : length (apart balls (cluster_of balls k r (a ∷ rest) a).members (a ∷ rest)) < length (a ∷ rest) = apart_fewer balls k r (a ∷ rest) (cluster_of balls k r (a ∷ rest) a) (cluster_ready balls k r a rest ready) in
-    ap (λ (cs : List Grown). cluster_of balls k r (a ∷ rest) a ∷ cs)
+    ap (λ (cs : List GrownCluster). cluster_of balls k r (a ∷ rest) a ∷ cs)
     (phase_enough balls k r m n (apart balls (cluster_of balls k r (a ∷ rest) a).members (a ∷ rest)) (ready_filter balls k r (a ∷ rest) (λ v. not (touches balls (cluster_of balls k r (a ∷ rest) a).members v)) ready)
     (omega arith) (omega arith))
 
@@ -42,7 +45,7 @@ phase_of_lead : (balls : List (List ℕ)) (k r a : ℕ) (rest : List ℕ) → Is
 unfolding phase_of phase
 phase_of_lead balls k r a rest ready =
     let fewer : length (apart balls (cluster_of balls k r (a ∷ rest) a).members (a ∷ rest)) < length (a ∷ rest) = apart_fewer balls k r (a ∷ rest) (cluster_of balls k r (a ∷ rest) a) (cluster_ready balls k r a rest ready) in
-    ap (λ (cs : List Grown). cluster_of balls k r (a ∷ rest) a ∷ cs)
+    ap (λ (cs : List GrownCluster). cluster_of balls k r (a ∷ rest) a ∷ cs)
     (phase_enough balls k r (length rest) (length (apart balls (cluster_of balls k r (a ∷ rest) a).members (a ∷ rest))) (apart balls (cluster_of balls k r (a ∷ rest) a).members (a ∷ rest))
     (ready_filter balls k r (a ∷ rest) (λ v. not (touches balls (cluster_of balls k r (a ∷ rest) a).members v)) ready) (omega arith) (le_refl (length (apart balls (cluster_of balls k r (a ∷ rest) a).members (a ∷ rest)))))
 
@@ -57,14 +60,14 @@ phases_none balls k zero = refl
 phases_none balls k (suc more) = refl
 
 -- the first phase of the balls v ∷ vs
-first_phase : (balls : List (List ℕ)) (k v : ℕ) (vs : List ℕ) → List Grown
+first_phase : (balls : List (List ℕ)) (k v : ℕ) (vs : List ℕ) → List GrownCluster
 first_phase balls k v vs = phase balls k (length (v ∷ vs)) (length (v ∷ vs)) (v ∷ vs)
 
-first_fewer : (balls : List (List ℕ)) (k v : ℕ) (vs : List ℕ) → IsReady balls k (length (v ∷ vs)) (v ∷ vs) → length (unhomed (first_phase balls k v vs) (v ∷ vs)) < length (v ∷ vs)
+first_fewer : (balls : List (List ℕ)) (k v : ℕ) (vs : List ℕ) → IsReady balls k (length (v ∷ vs)) (v ∷ vs) → length (without_home (first_phase balls k v vs) (v ∷ vs)) < length (v ∷ vs)
 unfolding first_phase
 first_fewer balls k v vs ready =
     let is : IsPhase balls k (length (v ∷ vs)) (v ∷ vs) (phase balls k (length (v ∷ vs)) (length (v ∷ vs)) (v ∷ vs)) = phase_is balls k (length (v ∷ vs)) (length (v ∷ vs)) (v ∷ vs) ready (le_refl (length (v ∷ vs))) in
-    fewer (length (unhomed (phase balls k (length (v ∷ vs)) (length (v ∷ vs)) (v ∷ vs)) (v ∷ vs))) (length (phase balls k (length (v ∷ vs)) (length (v ∷ vs)) (v ∷ vs))) (length (v ∷ vs))
+    fewer (length (without_home (phase balls k (length (v ∷ vs)) (length (v ∷ vs)) (v ∷ vs)) (v ∷ vs))) (length (phase balls k (length (v ∷ vs)) (length (v ∷ vs)) (v ∷ vs))) (length (v ∷ vs))
     (phase_fewer balls k (length (v ∷ vs)) (v ∷ vs) (phase balls k (length (v ∷ vs)) (length (v ∷ vs)) (v ∷ vs)) is) (some_clusters balls k (length (v ∷ vs)) v vs (phase balls k (length (v ∷ vs)) (length (v ∷ vs)) (v ∷ vs)) is)
   where
     fewer : (after taken before : ℕ) → after + taken ≤ before → 0 < taken → after < before
@@ -76,10 +79,10 @@ phases_enough balls k m n [] ready h g = phases_none balls k m ∙ sym (phases_n
 phases_enough balls k zero n (v ∷ vs) ready h g = absurd (omega arith)
 phases_enough balls k (suc m) zero (v ∷ vs) ready h g = absurd (omega arith)
 phases_enough balls k (suc m) (suc n) (v ∷ vs) ready h g =
-    ap (λ (later : List (List Grown)). first_phase balls k v vs ∷ later)
-    (phases_enough balls k m n (unhomed (first_phase balls k v vs) (v ∷ vs)) (ready_left balls k (v ∷ vs) (first_phase balls k v vs) ready)
-    (less (length (unhomed (first_phase balls k v vs) (v ∷ vs))) (length (v ∷ vs)) m (first_fewer balls k v vs ready) h)
-    (less (length (unhomed (first_phase balls k v vs) (v ∷ vs))) (length (v ∷ vs)) n (first_fewer balls k v vs ready) g))
+    ap (λ (later : List (List GrownCluster)). first_phase balls k v vs ∷ later)
+    (phases_enough balls k m n (without_home (first_phase balls k v vs) (v ∷ vs)) (ready_left balls k (v ∷ vs) (first_phase balls k v vs) ready)
+    (less (length (without_home (first_phase balls k v vs) (v ∷ vs))) (length (v ∷ vs)) m (first_fewer balls k v vs ready) h)
+    (less (length (without_home (first_phase balls k v vs) (v ∷ vs))) (length (v ∷ vs)) n (first_fewer balls k v vs ready) g))
   where
     less : (a b c : ℕ) → a < b → b ≤ suc c → a ≤ c
     less a b c h g = omega arith
@@ -89,22 +92,22 @@ unfolding phases_of phases
 phases_of_none balls k = refl
 
 pub phases_of_next : (balls : List (List ℕ)) (k : ℕ) (left : List ℕ) → 0 < length left → IsReady balls k (length left) left →
-    phases_of balls k left ≡ phase_of balls k (length left) left ∷ phases_of balls k (unhomed (phase_of balls k (length left) left) left)
+    phases_of balls k left ≡ phase_of balls k (length left) left ∷ phases_of balls k (without_home (phase_of balls k (length left) left) left)
 unfolding phases_of phase_of phases first_phase
 phases_of_next balls k [] some ready = absurd (omega arith)
 phases_of_next balls k (v ∷ vs) some ready =
-    ap (λ (later : List (List Grown)). first_phase balls k v vs ∷ later)
-    (phases_enough balls k (length vs) (length (unhomed (first_phase balls k v vs) (v ∷ vs))) (unhomed (first_phase balls k v vs) (v ∷ vs)) (ready_left balls k (v ∷ vs) (first_phase balls k v vs) ready)
-    (less (length (unhomed (first_phase balls k v vs) (v ∷ vs))) (length vs) (first_fewer balls k v vs ready)) (le_refl (length (unhomed (first_phase balls k v vs) (v ∷ vs)))))
+    ap (λ (later : List (List GrownCluster)). first_phase balls k v vs ∷ later)
+    (phases_enough balls k (length vs) (length (without_home (first_phase balls k v vs) (v ∷ vs))) (without_home (first_phase balls k v vs) (v ∷ vs)) (ready_left balls k (v ∷ vs) (first_phase balls k v vs) ready)
+    (less (length (without_home (first_phase balls k v vs) (v ∷ vs))) (length vs) (first_fewer balls k v vs ready)) (le_refl (length (without_home (first_phase balls k v vs) (v ∷ vs)))))
   where
     less : (a c : ℕ) → a < suc c → a ≤ c
     less a c h = omega arith
 
 -- ---- one cluster more
 
-pub shown_is : (balls : List (List ℕ)) (k r a n p : ℕ) (waiting : List ℕ) → shown n p (cluster_of balls k r waiting a) ≡ record { first = a; members = record { room = n; members = (cluster_of balls k r waiting a).members }; phase = p }
-unfolding shown cluster_of
-shown_is balls k r a n p waiting = refl
+pub as_cluster_is : (balls : List (List ℕ)) (k r a n p : ℕ) (waiting : List ℕ) → as_cluster n p (cluster_of balls k r waiting a) ≡ record { first = a; members = record { room = n; members = (cluster_of balls k r waiting a).members }; phase = p }
+unfolding as_cluster cluster_of
+as_cluster_is balls k r a n p waiting = refl
 
 pub filter_rest : (t : ℕ → Bool) (xs : List ℕ) → filter (λ v. not (has v (filter t xs))) xs ≡ filter (λ v. not (t v)) xs
 filter_rest t xs = filter_same (λ v. not (has v (filter t xs))) (λ v. not (t v)) xs (λ v h. ap not (has-filter t v xs ∙ ap (λ (b : Bool). b && t v) h))
@@ -115,7 +118,7 @@ ready_shrunk balls k left p ready =
     record { some = all.some; fits = le_refl (length (filter p left)); ascending = all.ascending; centred = all.centred }
 
 -- the balls that the later clusters leave without a home, once those of the first are gone
-unhomed_next : (c : Grown) (cs : List Grown) (left : List ℕ) → unhomed (c ∷ cs) left ≡ unhomed cs (filter (λ v. not (has v c.homed)) left)
+unhomed_next : (c : GrownCluster) (cs : List GrownCluster) (left : List ℕ) → without_home (c ∷ cs) left ≡ without_home cs (filter (λ v. not (has v c.homed)) left)
 unfolding is_homed
 unhomed_next c cs left =
     filter_same (λ v. not (is_homed (c ∷ cs) v)) (λ v. not (has v c.homed) && not (is_homed cs v)) left (λ v h. at (has v c.homed) (is_homed cs v)) ∙
@@ -125,7 +128,7 @@ unhomed_next c cs left =
     at true d = refl
     at false d = refl
 
-unhomed_none : (left : List ℕ) → unhomed [] left ≡ left
+unhomed_none : (left : List ℕ) → without_home [] left ≡ left
 unfolding is_homed
 unhomed_none [] = refl
 unhomed_none (v ∷ vs) = ap (λ (l : List ℕ). v ∷ l) (unhomed_none vs)
@@ -137,25 +140,25 @@ home_step false true old new len more rest f inside next before now = absurd (fa
 home_step false false old new len more rest f inside next before now = omega arith
 
 -- what the steps keep
-agrees_cluster : (n : ℕ) (all later : List (List Grown)) (c : Grown) (cs : List Grown) (left : List ℕ) (before after : List Cluster) (home new_home : List ℕ) (p : ℕ) →
-    Agrees n all ((c ∷ cs) ∷ later) left before home p → ((v : ℕ) → has v c.homed ≡ true → has v left ≡ true) → after ≡ before ++ shown n p c ∷ [] →
+agrees_cluster : (n : ℕ) (all later : List (List GrownCluster)) (c : GrownCluster) (cs : List GrownCluster) (left : List ℕ) (before after : List Cluster) (home new_home : List ℕ) (p : ℕ) →
+    Agrees n all ((c ∷ cs) ∷ later) left before home p → ((v : ℕ) → has v c.homed ≡ true → has v left ≡ true) → after ≡ before ++ as_cluster n p c ∷ [] →
     ((v : ℕ) → v < n → get_or new_home v 0 ≡ cond (has v c.homed) (length before) (get_or home v 0)) →
     Agrees n all (cs ∷ later) (filter (λ v. not (has v c.homed)) left) after new_home p
-unfolding listed all_clusters home_of
+unfolding cluster_list all_clusters home_of
 agrees_cluster n all later c cs left before after home new_home p so_far inside added homed = record {
-  clusters_so_far = rw (added, append_assoc before (shown n p c ∷ []) (map (shown n p) cs ++ listed n (suc p) later)) so_far.clusters_so_far;
+  clusters_so_far = rw (added, append_assoc before (as_cluster n p c ∷ []) (map (as_cluster n p) cs ++ cluster_list n (suc p) later)) so_far.clusters_so_far;
   homes_so_far = λ v h. subst (λ (b : Bool). cond b (length after + home_of (cs ++ all_clusters later) v) (get_or new_home v 0) ≡ home_of (all_clusters all) v) (sym (has-filter (λ w. not (has w c.homed)) v left))
       (home_step (has v left) (has v c.homed) (get_or home v 0) (get_or new_home v 0) (length before) (length after) (home_of (cs ++ all_clusters later) v) (home_of (all_clusters all) v) (inside v)
-      (ap length added ∙ length-append before (shown n p c ∷ [])) (so_far.homes_so_far v h) (homed v h));
+      (ap length added ∙ length-append before (as_cluster n p c ∷ [])) (so_far.homes_so_far v h) (homed v h));
   phases_so_far = so_far.phases_so_far;
 }
 
-agrees_phase : (n : ℕ) (all later : List (List Grown)) (left : List ℕ) (clusters : List Cluster) (home : List ℕ) (p : ℕ) → Agrees n all ([] ∷ later) left clusters home p → Agrees n all later left clusters home (suc p)
-unfolding listed all_clusters
+agrees_phase : (n : ℕ) (all later : List (List GrownCluster)) (left : List ℕ) (clusters : List Cluster) (home : List ℕ) (p : ℕ) → Agrees n all ([] ∷ later) left clusters home p → Agrees n all later left clusters home (suc p)
+unfolding cluster_list all_clusters
 agrees_phase n all later left clusters home p so_far = record { clusters_so_far = so_far.clusters_so_far; homes_so_far = so_far.homes_so_far; phases_so_far = omega (arith, so_far.phases_so_far) }
 
-agrees_as : (n : ℕ) (all later same : List (List Grown)) (left : List ℕ) (clusters : List Cluster) (home : List ℕ) (p : ℕ) → later ≡ same → Agrees n all later left clusters home p → Agrees n all same left clusters home p
-agrees_as n all later same left clusters home p e so_far = subst (λ (l : List (List Grown)). Agrees n all l left clusters home p) e so_far
+agrees_as : (n : ℕ) (all later same : List (List GrownCluster)) (left : List ℕ) (clusters : List Cluster) (home : List ℕ) (p : ℕ) → later ≡ same → Agrees n all later left clusters home p → Agrees n all same left clusters home p
+agrees_as n all later same left clusters home p e so_far = subst (λ (l : List (List GrownCluster)). Agrees n all l left clusters home p) e so_far
 
 -- ---- a phase: its start, its steps, its end
 
@@ -166,7 +169,7 @@ in_phase_start balls k r waiting left clusters home p between some same counted 
       ready = between.left_ready;
       left_ready = between.left_ready;
       waiting_left = λ v h. h;
-      so_far = agrees_as (length balls) (coarsening balls k) (phases_of balls k left) (phase_of balls k (length left) left ∷ phases_of balls k (unhomed (phase_of balls k (length left) left) left)) left clusters home p
+      so_far = agrees_as (length balls) (coarsening balls k) (phases_of balls k left) (phase_of balls k (length left) left ∷ phases_of balls k (without_home (phase_of balls k (length left) left) left)) left clusters home p
           (phases_of_next balls k left some between.left_ready) between.so_far;
     }))
 
@@ -175,8 +178,8 @@ pub in_phase_end : (balls : List (List ℕ)) (k r : ℕ) (waiting left : List �
 in_phase_end balls k r waiting left clusters home p phase none = record {
   left_ready = phase.left_ready;
   so_far = agrees_phase (length balls) (coarsening balls k) (phases_of balls k left) left clusters home p
-      (agrees_as (length balls) (coarsening balls k) (phase_of balls k r waiting ∷ phases_of balls k (unhomed (phase_of balls k r waiting) left)) ([] ∷ phases_of balls k left) left clusters home p
-      (ap (λ (cs : List Grown). cs ∷ phases_of balls k (unhomed cs left)) (ap (phase_of balls k r) none ∙ phase_of_none balls k r) ∙ ap (λ (l : List ℕ). [] ∷ phases_of balls k l) (unhomed_none left)) phase.so_far);
+      (agrees_as (length balls) (coarsening balls k) (phase_of balls k r waiting ∷ phases_of balls k (without_home (phase_of balls k r waiting) left)) ([] ∷ phases_of balls k left) left clusters home p
+      (ap (λ (cs : List GrownCluster). cs ∷ phases_of balls k (without_home cs left)) (ap (phase_of balls k r) none ∙ phase_of_none balls k r) ∙ ap (λ (l : List ℕ). [] ∷ phases_of balls k l) (unhomed_none left)) phase.so_far);
 }
 
 pub cluster_is : (balls : List (List ℕ)) (k r a : ℕ) (waiting rest : List ℕ) → waiting ≡ a ∷ rest → IsReady balls k r waiting → IsCluster balls k r waiting (cluster_of balls k r waiting a)
@@ -211,9 +214,9 @@ in_phase_next balls k r a rest old new before after leads phase added =
           filter_has (λ u. not (has u (cluster_of balls k r (marked old.waiting.items) a).homed)) v (marked old.left.items) (phase.waiting_left v w.0)
           (not_from_false (has v (cluster_of balls k r (marked old.waiting.items) a).homed) (false_from_ne_true (has v (cluster_of balls k r (marked old.waiting.items) a).homed) (λ homed.
           false≢true (sym (not-true (touches balls (cluster_of balls k r (marked old.waiting.items) a).members v) w.1) ∙ is.touching v homed))));
-      so_far = agrees_cluster (length balls) (coarsening balls k) (phases_of balls k (unhomed (phase_of balls k r (apart balls (cluster_of balls k r (marked old.waiting.items) a).members (marked old.waiting.items))) (filter (λ v. not (has v (cluster_of balls k r (marked old.waiting.items) a).homed)) (marked old.left.items)))) (cluster_of balls k r (marked old.waiting.items) a) (phase_of balls k r (apart balls (cluster_of balls k r (marked old.waiting.items) a).members (marked old.waiting.items))) (marked old.left.items) before.clusters.items after.clusters.items before.home.items after.home.items before.phases
-          (agrees_as (length balls) (coarsening balls k) (phase_of balls k r (marked old.waiting.items) ∷ phases_of balls k (unhomed (phase_of balls k r (marked old.waiting.items)) (marked old.left.items))) (((cluster_of balls k r (marked old.waiting.items) a) ∷ (phase_of balls k r (apart balls (cluster_of balls k r (marked old.waiting.items) a).members (marked old.waiting.items)))) ∷ phases_of balls k (unhomed (phase_of balls k r (apart balls (cluster_of balls k r (marked old.waiting.items) a).members (marked old.waiting.items))) (filter (λ v. not (has v (cluster_of balls k r (marked old.waiting.items) a).homed)) (marked old.left.items)))) (marked old.left.items) before.clusters.items before.home.items before.phases
-          (ap (λ (cs : List Grown). cs ∷ phases_of balls k (unhomed cs (marked old.left.items))) (phase_of_next balls k r a (marked old.waiting.items) rest leads phase.ready) ∙
+      so_far = agrees_cluster (length balls) (coarsening balls k) (phases_of balls k (without_home (phase_of balls k r (apart balls (cluster_of balls k r (marked old.waiting.items) a).members (marked old.waiting.items))) (filter (λ v. not (has v (cluster_of balls k r (marked old.waiting.items) a).homed)) (marked old.left.items)))) (cluster_of balls k r (marked old.waiting.items) a) (phase_of balls k r (apart balls (cluster_of balls k r (marked old.waiting.items) a).members (marked old.waiting.items))) (marked old.left.items) before.clusters.items after.clusters.items before.home.items after.home.items before.phases
+          (agrees_as (length balls) (coarsening balls k) (phase_of balls k r (marked old.waiting.items) ∷ phases_of balls k (without_home (phase_of balls k r (marked old.waiting.items)) (marked old.left.items))) (((cluster_of balls k r (marked old.waiting.items) a) ∷ (phase_of balls k r (apart balls (cluster_of balls k r (marked old.waiting.items) a).members (marked old.waiting.items)))) ∷ phases_of balls k (without_home (phase_of balls k r (apart balls (cluster_of balls k r (marked old.waiting.items) a).members (marked old.waiting.items))) (filter (λ v. not (has v (cluster_of balls k r (marked old.waiting.items) a).homed)) (marked old.left.items)))) (marked old.left.items) before.clusters.items before.home.items before.phases
+          (ap (λ (cs : List GrownCluster). cs ∷ phases_of balls k (without_home cs (marked old.left.items))) (phase_of_next balls k r a (marked old.waiting.items) rest leads phase.ready) ∙
           ap (λ (l : List ℕ). ((cluster_of balls k r (marked old.waiting.items) a) ∷ (phase_of balls k r (apart balls (cluster_of balls k r (marked old.waiting.items) a).members (marked old.waiting.items)))) ∷ phases_of balls k l) (unhomed_next (cluster_of balls k r (marked old.waiting.items) a) (phase_of balls k r (apart balls (cluster_of balls k r (marked old.waiting.items) a).members (marked old.waiting.items))) (marked old.left.items))) phase.so_far)
           (λ v h. phase.waiting_left v (is.waits v h)) added.clusters added.homes;
     })
@@ -231,19 +234,12 @@ ready_all balls k some centred = record {
   ];
 }
 
-length-all : (v n : ℕ) → length (passing (λ w. true) v n) ≡ n
-length-all v zero = refl
-length-all v (suc n) = ap suc (length-all (suc v) n)
-
 pub coarsening_is : (balls : List (List ℕ)) (k : ℕ) → phases_of balls k (centres (length balls)) ≡ coarsening balls k
 unfolding phases_of
-coarsening_is balls k = ap (λ (n : ℕ). phases balls k n (centres (length balls))) (length-all 0 (length balls))
+coarsening_is balls k = ap (λ (n : ℕ). phases balls k n (centres (length balls))) (length-centres (length balls))
 
 pub coarsening_phases : (balls : List (List ℕ)) (k : ℕ) → 0 < k → AreCentred balls → ArePhases balls k (centres (length balls)) (coarsening balls k)
-coarsening_phases balls k some centred = phases_are balls k (length balls) (centres (length balls)) (ready_all balls k some centred) (omega (arith, length-all 0 (length balls)))
-
-pub length-centres : (n : ℕ) → length (centres n) ≡ n
-length-centres n = length-all 0 n
+coarsening_phases balls k some centred = phases_are balls k (length balls) (centres (length balls)) (ready_all balls k some centred) (omega (arith, length-centres (length balls)))
 
 pub between_start : (balls : List (List ℕ)) (k : ℕ) (left : List ℕ) (home : List ℕ) → 0 < k → AreCentred balls → left ≡ centres (length balls) → IsBetween balls k left [] home 0
 between_start balls k left home some centred all = rw all (record {
@@ -257,23 +253,14 @@ between_start balls k left home some centred all = rw all (record {
 
 -- ---- bounds on what is done
 
-length-map_shown : (n p : ℕ) (cs : List Grown) → length (map (shown n p) cs) ≡ length cs
-length-map_shown n p [] = refl
-length-map_shown n p (c ∷ cs) = ap suc (length-map_shown n p cs)
-
-pub length-listed : (n p : ℕ) (all : List (List Grown)) → length (listed n p all) ≡ length (all_clusters all)
-unfolding listed all_clusters
-length-listed n p [] = refl
-length-listed n p (cs ∷ later) = omega (arith, length-append (map (shown n p) cs) (listed n (suc p) later), length-append cs (all_clusters later), length-map_shown n p cs, length-listed n (suc p) later)
-
 pub in_phase_numbers : (balls : List (List ℕ)) (k r : ℕ) (waiting left : List ℕ) (clusters : List Cluster) (home : List ℕ) (p : ℕ) → 0 < k → AreCentred balls →
     IsInPhase balls k r waiting left clusters home p → length clusters ≤ length balls
 in_phase_numbers balls k r waiting left clusters home p some centred phase =
     omega (
       arith,
       ap length phase.so_far.clusters_so_far,
-      length-append clusters (listed (length balls) p (phase_of balls k r waiting ∷ phases_of balls k (unhomed (phase_of balls k r waiting) left))),
-      length-listed (length balls) 0 (coarsening balls k),
+      length-append clusters (cluster_list (length balls) p (phase_of balls k r waiting ∷ phases_of balls k (without_home (phase_of balls k r waiting) left))),
+      length-cluster_list (length balls) 0 (coarsening balls k),
       length-centres (length balls),
       clusters_within balls k (centres (length balls)) (coarsening balls k) (coarsening_phases balls k some centred),
     )

@@ -1,3 +1,4 @@
 pub mod Coarsening
 pub mod Covers
+pub mod CoverLaws
 pub mod Progress

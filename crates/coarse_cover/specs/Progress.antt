@@ -2,10 +2,11 @@
 -- Only the private functions of this crate speak of it.
 use Rattle.std.specs.Prelude.{◌≡◌, ℕ, ◌+◌, ◌<◌, ◌≤◌, Bool, true, false, cond, not, List, [], ◌∷◌, ◌++◌, length, get_or, filter}
 use Rattle.node_set.specs.Ascending.{has, IsAscending, passing}
-use Rattle.coarse_cover.specs.Coarsening.{ball, touches, Grown, phase, phases, unhomed, all_clusters, home_of, coarsening}
-use Rattle.coarse_cover.specs.Covers.{listed, shown}
+use Rattle.coarse_cover.specs.Coarsening.{phase, phases, without_home, all_clusters, coarsening}
+use Rattle.coarse_cover.specs.Covers.{cluster_list, as_cluster}
 use Rattle.coarse_cover.specs.declared.cover.Cluster.{Cluster}
 use Rattle.coarse_cover.specs.declared.cover.Cover.{Cover}
+use Rattle.node_set.specs.Balls.{ball, touches, GrownCluster, home_of}
 use Rattle.coarse_cover.specs.declared.phasing.Work.{Work}
 
 -- the centres that are marked
@@ -13,11 +14,11 @@ unfoldable pub marked : List Bool → List ℕ
 marked marks = passing (λ v. get_or marks v false) 0 (length marks)
 
 -- the clusters of a phase, from these waiting balls on
-unfoldable pub phase_of : List (List ℕ) → ℕ → ℕ → List ℕ → List Grown
+unfoldable pub phase_of : List (List ℕ) → ℕ → ℕ → List ℕ → List GrownCluster
 phase_of balls k r waiting = phase balls k r (length waiting) waiting
 
 -- the phases, from these balls on
-unfoldable pub phases_of : List (List ℕ) → ℕ → List ℕ → List (List Grown)
+unfoldable pub phases_of : List (List ℕ) → ℕ → List ℕ → List (List GrownCluster)
 phases_of balls k left = phases balls k (length left) left
 
 -- what a phase begins with
@@ -28,8 +29,8 @@ pub record IsReady (balls : List (List ℕ)) (k r : ℕ) (waiting : List ℕ) : 
   pub centred : (v : ℕ) → has v waiting ≡ true → has v (ball balls v) ≡ true
 
 -- these clusters and homes, made up to phase p, followed by what comes later, are those of all phases
-pub record Agrees (n : ℕ) (all later : List (List Grown)) (left : List ℕ) (clusters : List Cluster) (home : List ℕ) (p : ℕ) : Type 0 where
-  pub clusters_so_far : clusters ++ listed n p later ≡ listed n 0 all
+pub record Agrees (n : ℕ) (all later : List (List GrownCluster)) (left : List ℕ) (clusters : List Cluster) (home : List ℕ) (p : ℕ) : Type 0 where
+  pub clusters_so_far : clusters ++ cluster_list n p later ≡ cluster_list n 0 all
   pub homes_so_far : (v : ℕ) → v < n → cond (has v left) (length clusters + home_of (all_clusters later) v) (get_or home v 0) ≡ home_of (all_clusters all) v
   pub phases_so_far : p + length later ≡ length all
 
@@ -38,7 +39,7 @@ pub record IsInPhase (balls : List (List ℕ)) (k r : ℕ) (waiting left : List 
   pub ready : IsReady balls k r waiting
   pub left_ready : IsReady balls k (length left) left
   pub waiting_left : (v : ℕ) → has v waiting ≡ true → has v left ≡ true
-  pub so_far : Agrees (length balls) (coarsening balls k) (phase_of balls k r waiting ∷ phases_of balls k (unhomed (phase_of balls k r waiting) left)) left clusters home p
+  pub so_far : Agrees (length balls) (coarsening balls k) (phase_of balls k r waiting ∷ phases_of balls k (without_home (phase_of balls k r waiting) left)) left clusters home p
 
 -- between two phases
 pub record IsBetween (balls : List (List ℕ)) (k : ℕ) (left : List ℕ) (clusters : List Cluster) (home : List ℕ) (p : ℕ) : Type 0 where
@@ -53,10 +54,10 @@ pub record IsSized (n : ℕ) (work : Work) : Type 0 where
   pub touched : length work.growth.touched.items ≡ n
 
 -- the cluster c was added: its balls have their home and are left no more, those that touch it wait no more
-pub record IsAdded (n : ℕ) (balls : List (List ℕ)) (c : Grown) (old new : Work) (before after : Cover) : Type 0 where
+pub record IsAdded (n : ℕ) (balls : List (List ℕ)) (c : GrownCluster) (old new : Work) (before after : Cover) : Type 0 where
   pub waiting : marked new.waiting.items ≡ filter (λ v. not (touches balls c.members v)) (marked old.waiting.items)
   pub left : marked new.left.items ≡ filter (λ v. not (has v c.homed)) (marked old.left.items)
-  pub clusters : after.clusters.items ≡ before.clusters.items ++ shown n before.phases c ∷ []
+  pub clusters : after.clusters.items ≡ before.clusters.items ++ as_cluster n before.phases c ∷ []
   pub homes : (v : ℕ) → v < n → get_or after.home.items v 0 ≡ cond (has v c.homed) (length before.clusters.items) (get_or before.home.items v 0)
   pub phases : after.phases ≡ before.phases
   pub sized : IsSized n new

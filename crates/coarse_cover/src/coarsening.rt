@@ -3,13 +3,15 @@ ghost use Rattle.std.specs.Prelude.{◌≡◌, ℕ, ◌-◌, ◌*◌, ◌^◌, �
 ghost use Rattle.node_set.specs.Ascending.{has};
 ghost use Rattle.node_set.specs.Nodes.{Nodes};
 ghost use Rattle.coarse_cover.specs.Coarsening.{coarsening, all_clusters};
-ghost use Rattle.coarse_cover.specs.Covers.{sets, IsCover, AreCentred, AreApart, AreHomes};
+ghost use Rattle.node_set.specs.Balls.{sets, AreCentred, AreHomes};
+ghost use Rattle.coarse_cover.specs.Covers.{IsCover, nodes_of, AreApart};
 
 use crate::cover::Cover;
 use crate::marks::count;
 use crate::phasing::{Work, make_phase};
 use node_set::{NodeSet, OutOfMemory};
 use std::alloc::Global;
+use whole_powers::{one_phase, powers_add};
 
 /// Coarsens balls into clusters, with a trade-off `k` of 1 to 8: a larger `k` makes larger clusters that overlap less.
 ///
@@ -25,7 +27,7 @@ pub fn coarsen(alloc: Global, balls: &[NodeSet], k: u32) -> Result<Cover, OutOfM
 
     // What follows from the definition.
     ensures growths { OnOk result (All (λ c. c.growths ≤ k - 1) (all_clusters (coarsening (sets balls.now) k))) }
-    ensures homes { IfOk result (λ cover. AreHomes (sets balls.now) cover) }
+    ensures homes { IfOk result (λ cover. AreHomes (sets balls.now) (nodes_of cover.clusters.items) cover.home.items) }
     ensures apart { IfOk result (λ cover. AreApart cover.clusters.items) }
     ensures phases { IfOk result (λ cover. cover.phases ^ k ≤ k ^ k * length balls.now) }
     ensures overlap { IfOk result (λ cover. (x : ℕ) → count_by (λ c. has x c.members.members) cover.clusters.items ≤ cover.phases) }
@@ -41,5 +43,7 @@ pub fn coarsen(alloc: Global, balls: &[NodeSet], k: u32) -> Result<Cover, OutOfM
     'phase: while count(&work.left) > 0 {
         make_phase(alloc, balls, k, &mut work, &mut cover)?;
     }
+    powers_add();
+    one_phase();
     Ok(cover)
 }

@@ -1,8 +1,8 @@
 // The growth of one cluster, by one union that grows.
 ghost use Rattle.std.specs.Prelude.{◌≡◌, ℕ, ◌≤◌, ◌<◌, ◌∷◌, List, length, filter, All, IfOk, OnOk};
 ghost use Rattle.node_set.specs.Nodes.{Nodes};
-ghost use Rattle.coarse_cover.specs.Coarsening.{touches, cluster_of};
-ghost use Rattle.coarse_cover.specs.Covers.{sets};
+ghost use Rattle.coarse_cover.specs.Coarsening.{cluster_of};
+ghost use Rattle.node_set.specs.Balls.{touches, sets};
 ghost use Rattle.coarse_cover.specs.Progress.{marked, IsReady};
 
 use crate::marks::{absorb_marked, mark_only, touch};

@@ -10,7 +10,7 @@ mod phasing;
 
 pub use coarsening::coarsen;
 pub use cover::{Cluster, Cover};
-pub use laws::{cluster_shape, growth_means, home_means, least_means, union_means};
+pub use laws::{cluster_shape, home_means};
 
 #[cfg(test)]
 mod tests;

@@ -2,8 +2,7 @@
 ghost use Rattle.std.specs.Prelude.{◌≡◌, ℕ, ◌≤◌, ◌<◌, ◌&&◌, ◌||◌, [], ◌∷◌, not, false, cond, length, get_or, filter, All};
 ghost use Rattle.node_set.specs.Ascending.{has, share, IsAscending};
 ghost use Rattle.node_set.specs.Nodes.{Nodes};
-ghost use Rattle.coarse_cover.specs.Coarsening.{touches, union_of};
-ghost use Rattle.coarse_cover.specs.Covers.{sets};
+ghost use Rattle.node_set.specs.Balls.{touches, union_of, sets};
 ghost use Rattle.coarse_cover.specs.Progress.{marked};
 
 use node_set::NodeSet;

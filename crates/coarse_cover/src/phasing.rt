@@ -1,8 +1,8 @@
 // One phase: clusters are added until no ball waits.
 ghost use Rattle.std.specs.Prelude.{◌≡◌, ℕ, ◌+◌, ◌≤◌, ◌<◌, ◌∷◌, ◌^◌, List, length, All, IfOk, OnOk};
 ghost use Rattle.node_set.specs.Nodes.{Nodes};
-ghost use Rattle.coarse_cover.specs.Coarsening.{cluster_of, centres};
-ghost use Rattle.coarse_cover.specs.Covers.{sets, AreCentred};
+ghost use Rattle.coarse_cover.specs.Coarsening.{cluster_of};
+ghost use Rattle.node_set.specs.Balls.{centres, sets, AreCentred};
 ghost use Rattle.coarse_cover.specs.Progress.{marked, IsReady, IsSized, IsAdded, IsBetween};
 
 use crate::cover::{Cluster, Cover};

@@ -1,6 +1,8 @@
-// The line 0 - 1 - 2 - 3 of unit weights, by its balls of radius 1.
-ghost use Rattle.std.specs.Prelude.{◌≡◌, ◌<◌, [], ◌∷◌, IfOk};
-ghost use Rattle.node_set.specs.Ascending.{inserted};
+// The line 0 - 1 - 2 - 3 of unit weights, by its balls of radius 1; and longer paths.
+ghost use Rattle.std.specs.Prelude.{◌≡◌, ◌<◌, ◌≤◌, [], ◌∷◌, IfOk, All, length, true};
+ghost use Rattle.node_set.specs.Ascending.{has, inserted};
+ghost use Rattle.node_set.specs.Balls.{sets, AreCentred};
+ghost use Rattle.node_set.specs.Nodes.{Nodes};
 
 use crate::{Cover, coarsen};
 use node_set::NodeSet;
@@ -74,5 +76,79 @@ fn the_largest_trade_off(rt: HostRuntime) -> Result<(), Fail> {
     holds(&rt, &cover, 0, 0, 0, [true, true, true, true]);
     assert_eq!(rt; cover.home.as_slice(), [0, 0, 0, 0].as_slice());
     assert_eq!(rt; cover.phases, 1);
+    Ok(())
+}
+
+// The nodes of a path at most `reach` away from `v`.
+fn ball_on_path(alloc: Global, n: u32, v: u32, reach: u32) -> Result<NodeSet, AllocError>
+    requires small { n ≤ 1024 }
+    requires below { v < n }
+    ensures room { IfOk result (λ ball. ball.room ≡ n) }
+    ensures centre { IfOk result (λ ball. has v ball.members ≡ true) }
+{
+    let mut ball = NodeSet::empty(alloc, n)?;
+    for node in v.saturating_sub(reach)..n {
+        if node - v.min(node) <= reach {
+            ball.insert(node);
+        }
+    }
+    ball.insert(v);
+    Ok(ball)
+}
+
+// The balls round all nodes of a path.
+fn balls_on_path(alloc: Global, n: u32, reach: u32) -> Result<Vec<NodeSet>, AllocError>
+    requires { n ≤ 1024 }
+    ensures count { IfOk result (λ balls. length balls.items ≡ n) }
+    ensures rooms { IfOk result (λ balls. All (λ (b : Nodes). b.room ≡ n) balls.items) }
+    ensures centred { IfOk result (λ balls. AreCentred (sets balls.items)) }
+{
+    let mut balls = Vec::with_capacity(alloc, n as usize)?;
+    for v in 0..n {
+        balls.push(ball_on_path(alloc, n, v, reach)?)?;
+    }
+    Ok(balls)
+}
+
+fn cover_of_path(alloc: Global, n: u32, reach: u32, k: u32) -> Result<Cover, AllocError>
+    requires small { n ≤ 1024 }
+    requires low { 0 < k }
+    requires high { k < 9 }
+{
+    let balls = balls_on_path(alloc, n, reach)?;
+    coarsen(alloc, &balls, k)
+}
+
+#[test]
+fn all_trade_offs_past_a_word(rt: HostRuntime) -> Result<(), Fail> {
+    // the trade-off, and how many clusters and phases it makes of 130 balls
+    let rows = [
+        (1, 130, 5),
+        (2, 130, 5),
+        (3, 130, 5),
+        (4, 29, 2),
+        (5, 29, 2),
+        (6, 29, 2),
+        (7, 29, 2),
+        (8, 29, 2),
+    ];
+    for (k, clusters, phases) in rows {
+        assert!(rt; 0 < k && k < 9);
+        let cover = cover_of_path(rt.alloc(), 130, 2, k)?;
+        assert_eq!(rt; cover.clusters.len(), clusters);
+        assert_eq!(rt; cover.phases, phases);
+        assert_eq!(rt; cover.home.len(), 130);
+    }
+    Ok(())
+}
+
+#[test]
+fn as_many_balls_as_there_may_be(rt: HostRuntime) -> Result<(), Fail> {
+    let cover = cover_of_path(rt.alloc(), 1024, 5, 8)?;
+    assert_eq!(rt; cover.clusters.len(), 98);
+    assert_eq!(rt; cover.phases, 2);
+    assert!(rt; cover.home.len() == 1024 && cover.home[1023] == 97);
+    assert!(rt; cover.clusters.len() == 98 && cover.clusters[97].first == 1019);
+    assert_eq!(rt; cover.clusters[0].members.count(), 16);
     Ok(())
 }

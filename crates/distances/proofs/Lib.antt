@@ -1,2 +1,10 @@
-pub mod Filling
-pub mod Balls
+mod Balls
+mod Filling
+mod OneLess
+mod Lengths
+mod Lowered
+mod Writing
+mod FirstTable
+mod Chunks
+mod LeavingOut
+mod TakingBack

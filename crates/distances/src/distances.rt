@@ -1,16 +1,16 @@
 //! The table of all distances.
 
 ghost use Rattle.std.specs.Prelude.{◌≡◌, ◌+◌, ◌*◌, ◌<◌, ◌≤◌, ◌^◌, ◌++◌, ℕ, All, Contains, IfOk, OnOk, length, map};
-ghost use Rattle.distances.specs.Table.{AreDistancesOf, IsDiameter, IsMetric, ball_of, dist};
-ghost use Rattle.distances.specs.Rows.{IsLight, weight_in};
+ghost use Rattle.distances.specs.Table.{AreDistancesOf, IsDiameter, IsMetric, IsRowOf, ball_of, dist};
 
-use net_graph::{Graph, OutOfMemory};
+use crate::elimination::{degrees_of, first_table, leave_out_all, take_back_all};
+use net_graph::{Graph, OutOfMemory, greatest_weight, reached_has_a_least_weight};
 use node_set::NodeSet;
 use std::alloc::Global;
 use std::marker::Model;
 
 /// The distance between each two nodes of a network.
-#[derive(Clone, Debug, Drop)]
+#[derive(Debug, Drop)]
 pub struct Distances {
     nodes: u32,
     table: Vec<u32>,
@@ -19,28 +19,29 @@ pub struct Distances {
 
 impl Model for Distances {
     ghost use Rattle.distances.specs.Table.{DistanceTable, IsDiameter, IsMetric};
-    ghost use Rattle.distances.specs.Kept.{IsKept};
+    ghost use Rattle.distances.specs.Table.{IsSoundTable};
 
     ghost Value = { DistanceTable };
 
     ghost view = { λ d. record { nodes = d.nodes; cells = d.table.items } };
 
-    ghost invariant = { λ d. IsKept (record { nodes = d.nodes; cells = d.table.items }) d.diameter };
+    ghost invariant = { λ d. IsSoundTable (record { nodes = d.nodes; cells = d.table.items }) d.diameter };
 }
 
 impl Distances {
-    /// The distances of a network: one search from each node.
+    /// The distances of a network. Nodes are eliminated one after another, one with the fewest neighbours first: of
+    /// those that are left, each two neighbours of it are joined by the sum of its edges to them. Then the nodes are
+    /// taken back in the opposite order, each over the neighbours that it had.
     pub fn new(alloc: Global, graph: &Graph) -> Result<Self, OutOfMemory>
         ensures { IfOk result (AreDistancesOf graph.now) }
     {
+        reached_has_a_least_weight();
         let nodes = graph.nodes();
-        let allowed = vec![in alloc; true; nodes as usize]?;
-        let mut table = Vec::with_capacity(alloc, nodes as usize * nodes as usize)?;
-        for u in 0..nodes {
-            let weights = graph.weights_from(alloc, &allowed, u)?;
-            push_weights(&mut table, &weights)?;
-        }
-        let diameter = greatest(&table);
+        let mut table = first_table(alloc, graph)?;
+        let mut degrees = degrees_of(alloc, graph)?;
+        let stages = leave_out_all(alloc, &mut table, nodes as usize, &mut degrees)?;
+        take_back_all(alloc, &mut table, nodes as usize, stages)?;
+        let diameter = greatest_weight(&table);
         Ok(Distances {
             nodes,
             table,
@@ -76,6 +77,15 @@ impl Distances {
         u64::from(self.table[u as usize * self.nodes as usize + v as usize])
     }
 
+    /// The distances from `u` to each node, in the order of the nodes.
+    pub fn row(&self, u: u32) -> &[u32]
+        requires { u < self.now.nodes }
+        ensures { IsRowOf self.now u result.now }
+    {
+        let width = self.nodes as usize;
+        &self.table[u as usize * width..(u as usize + 1) * width]
+    }
+
     /// The greatest distance.
     pub fn diameter(&self) -> u64
         ensures { IsDiameter self.now result }
@@ -99,61 +109,39 @@ impl Distances {
     }
 }
 
-// Appends the weights, all of which are there.
-fn push_weights(table: &mut Vec<u32>, weights: &[Option<u64>]) -> Result<(), OutOfMemory>
-    requires { All IsLight weights.now }
-    ensures { OnOk result (table.new.items ≡ table.old.items ++ map weight_in weights.now) }
-{
-    for weight in weights {
-        table.push(weight.unwrap() as u32)?;
-    }
-    Ok(())
-}
-
-// The greatest of the numbers, 0 where there is none.
-fn greatest(numbers: &[u32]) -> u32
-    ensures bound { All (λ x. x ≤ result) numbers.now }
-    ensures attained { 0 < length numbers.now → Contains numbers.now result }
-{
-    numbers.iter().copied().max().unwrap_or(0)
-}
-
 #[cfg(test)]
 mod tests {
     use super::*;
-    use net_graph::Edge;
+    use net_graph::{Edge, MAX_NODES, MAX_WEIGHT};
     use std::test::Fail;
 
-    fn line_of_four(alloc: Global) -> Result<Distances, Fail>
-        ensures { IfOk result (λ distances. distances.nodes ≡ 4) }
+    // The distances on a line of `n` nodes, joined by edges of this weight.
+    fn line_of(alloc: Global, n: u32, weight: u64) -> Result<Distances, Fail>
+        requires some { 1 ≤ n }
+        requires few { n ≤ MAX_NODES }
+        requires positive { 1 ≤ weight }
+        requires light { weight ≤ MAX_WEIGHT }
+        ensures { IfOk result (λ distances. distances.nodes ≡ n) }
     {
-        let edges = [
-            Edge {
-                a: 0,
-                b: 1,
-                weight: 1,
-            },
-            Edge {
-                a: 1,
-                b: 2,
-                weight: 1,
-            },
-            Edge {
-                a: 2,
-                b: 3,
-                weight: 1,
-            },
-        ];
-        let graph = Graph::new(alloc, 4, &edges)?;
+        let mut edges = Vec::new(alloc);
+        for b in 1..n {
+            edges.push(Edge {
+                a: b - 1,
+                b,
+                weight,
+            })?;
+        }
+        let graph = Graph::new(alloc, n, &edges)?;
         Ok(Distances::new(alloc, &graph)?)
     }
 
     #[test]
     fn distances_on_a_line(rt: HostRuntime) -> Result<(), Fail> {
-        let distances = line_of_four(rt.alloc())?;
+        let distances = line_of(rt.alloc(), 4, 1)?;
         assert_eq!(rt; distances.nodes(), 4);
         assert_eq!(rt; distances.between(0, 3), 3);
         assert_eq!(rt; distances.between(2, 1), 1);
+        assert_eq!(rt; distances.row(2), [2, 1, 0, 1].as_slice());
         assert_eq!(rt; distances.diameter(), 3);
         let copy = distances.copy(rt.alloc())?;
         assert_eq!(rt; copy.nodes(), 4);
@@ -162,13 +150,44 @@ mod tests {
         Ok(())
     }
 
+    // Every node is a neighbour of every other one, so whole rows are lowered, sixteen weights at once and one by one.
+    #[test]
+    fn distances_where_all_are_neighbours(rt: HostRuntime) -> Result<(), Fail> {
+        let mut edges = Vec::new(rt.alloc());
+        for b in 1..37 {
+            for a in 0..b {
+                edges.push(Edge {
+                    a,
+                    b,
+                    weight: if a + 1 == b { 1 } else { 10 },
+                })?;
+            }
+        }
+        let graph = Graph::new(rt.alloc(), 37, &edges)?;
+        let distances = Distances::new(rt.alloc(), &graph)?;
+        assert_eq!(rt; distances.nodes(), 37);
+        assert!(rt; distances.nodes() == 37 && distances.between(3, 9) == 6);
+        assert!(rt; distances.nodes() == 37 && distances.between(36, 0) == 10);
+        assert_eq!(rt; distances.diameter(), 10);
+        Ok(())
+    }
+
+    #[test]
+    fn the_greatest_distance_that_there_is(rt: HostRuntime) -> Result<(), Fail> {
+        let distances = line_of(rt.alloc(), MAX_NODES, MAX_WEIGHT)?;
+        assert_eq!(rt; distances.nodes(), 1024);
+        assert_eq!(rt; distances.between(1023, 1), 1_071_644_672);
+        assert_eq!(rt; distances.diameter(), 1_072_693_248);
+        Ok(())
+    }
+
     #[test]
     fn a_ball_on_a_line(rt: HostRuntime) -> Result<(), Fail> {
-        let distances = line_of_four(rt.alloc())?;
-        let ball = distances.ball(rt.alloc(), 1, 1)?;
-        assert_eq!(rt; ball.room(), 4);
-        assert_eq!(rt; ball.count(), 3);
-        assert!(rt; ball.room() == 4 && ball.has(0) && ball.has(1) && ball.has(2) && !ball.has(3));
+        let distances = line_of(rt.alloc(), 130, 5)?;
+        let ball = distances.ball(rt.alloc(), 128, 10)?;
+        assert_eq!(rt; ball.room(), 130);
+        assert_eq!(rt; ball.count(), 4);
+        assert!(rt; ball.room() == 130 && ball.has(126) && ball.has(129) && !ball.has(125));
         Ok(())
     }
 }

@@ -7,7 +7,7 @@ use Rattle.net_graph.specs.declared.edge.Edge.{Edge}
 use Rattle.net_graph.specs.Walks.{IsReached, everywhere, among}
 use Rattle.net_graph.specs.Network.{Network, IsInLimits, IsNetwork, SameWalks, IsGraphOf, IsFirstApart}
 use Rattle.net_graph.specs.Trees.{at_node, AreLeastWeights}
-use Rattle.net_graph.proofs.WalkLaws.{walk_widened, unreached_everywhere}
+use Rattle.net_graph.specs.WalkLaws.{walk_widened, unreached_everywhere}
 
 some_weight : (c : Option ℕ) → (c ≡ None → ⊥) → (w : ℕ) × (c ≡ Some w)
 some_weight None not = absurd (not refl)

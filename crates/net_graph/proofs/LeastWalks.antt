@@ -1,15 +1,14 @@
 -- Where a walk is, a least weight is: whether a walk of a weight is there can be tested, since each edge weighs something.
-use Rattle.std.proofs.Common.{◌≡◌, ℕ, zero, suc, ◌+◌, ◌-◌, ◌<◌, ◌≤◌, Bool, true, false, List, [], ◌∷◌, length, get_or, refl, sym, ap, ◌∙◌, subst, inl, inr, arith, below_more}
-use Rattle.std.specs.Prelude.{All, Any, Contains, ◌==◌, ◌&&◌, ◌||◌, ◌⊎◌, nat_le}
+use Rattle.std.proofs.Common.{◌≡◌, ℕ, zero, suc, ◌+◌, ◌-◌, ◌<◌, ◌≤◌, Bool, true, false, List, [], ◌∷◌, length, refl, sym, subst, inl, inr, arith, below_more}
+use Rattle.std.specs.Prelude.{All, ◌==◌, ◌&&◌, ◌||◌, ◌⊎◌, nat_le}
 use Rattle.std.specs.List.{list_any}
 use Rattle.std.proofs.lemmas.Bool.{eqb-true, eq-eqb, cases_lt}
 use Rattle.std.proofs.lemmas.Bool.Decides.{nat_tests}
-use Rattle.std.proofs.lemmas.List.Elements.{Contains-get_or}
 use Rattle.std.proofs.lemmas.List.Folds.{Any-from_list_any, list_any_at}
 use Rattle.net_graph.specs.declared.edge.Edge.{Edge}
 use Rattle.net_graph.specs.Network.{IsEdge}
 use Rattle.net_graph.specs.Walks.{Joins, make_edge, Step, IsWalk, weight_of, IsWalkWeight, IsLeastWeight, IsReached}
-use Rattle.net_graph.proofs.WalkLaws.{join_edge}
+use Rattle.net_graph.specs.WalkLaws.{join_edge}
 
 -- ---- tests
 

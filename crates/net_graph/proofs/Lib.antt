@@ -1,9 +1,11 @@
-pub mod WalkLaws
-pub mod Rows
-pub mod Cells
-pub mod LayingOut
-pub mod Relaxing
-pub mod Searching
-pub mod Connecting
-pub mod LeastWalks
-pub mod Parenting
+mod Replacing
+mod Rows
+mod Lowering
+mod Chaining
+mod LayingOut
+mod Relaxing
+mod Searching
+mod Connecting
+mod LeastWalks
+mod Parenting
+mod Waits

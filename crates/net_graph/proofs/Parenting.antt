@@ -10,10 +10,10 @@ use Rattle.net_graph.specs.Walks.{Joins, Step, IsWalk, weight_of}
 use Rattle.net_graph.specs.Network.{Network, IsInLimits}
 use Rattle.net_graph.specs.Trees.{at_node, AreLeastWeights, IsParent, AreParents}
 use Rattle.net_graph.specs.Layout.{make_arc, AreArcsOf}
-use Rattle.net_graph.specs.Table.{IsAtMost, lowered}
+use Rattle.net_graph.specs.Least.{IsAtMost, lowered}
 use Rattle.net_graph.specs.Parents.{MakesUp, IsLeastTarget, IsLeastNeighbour, AreLeastNeighbours}
-use Rattle.net_graph.proofs.WalkLaws.{join_turned, join_edge, walk_begins, walk_ends, walk_further}
-use Rattle.net_graph.proofs.Cells.{lowered_light, lowered_keeps, lowered_cause}
+use Rattle.net_graph.specs.WalkLaws.{join_turned, join_edge, walk_begins, walk_ends, walk_further}
+use Rattle.net_graph.proofs.Lowering.{lowered_light, lowered_keeps, lowered_cause}
 
 pub no_target : (weights : List (Option ℕ)) (weight : Option ℕ) → IsLeastTarget [] weights weight None
 no_target weights weight = record {

@@ -1,14 +1,14 @@
 -- The rows of a flat array of arcs, and the edges that they stand for.
-use Rattle.std.proofs.Common.{◌≡◌, ℕ, zero, suc, ◌+◌, ◌-◌, ◌<◌, ◌≤◌, List, [], ◌∷◌, ◌++◌, Option, None, Some, length, get_or, drop, refl, sym, ◌∙◌, ap, subst, inl, inr, arith, map, add-one, append_assoc}
+use Rattle.std.proofs.Common.{◌≡◌, ℕ, zero, suc, ◌+◌, ◌-◌, ◌<◌, ◌≤◌, List, [], ◌∷◌, ◌++◌, length, get_or, drop, refl, sym, ◌∙◌, ap, subst, inl, inr, arith, map}
 use Rattle.std.specs.Prelude.{Contains, All, slice_range}
 use Rattle.std.proofs.lemmas.List.{length-map, length-append, get_or-map, get_or_append_left, get_or_push, get_or_read, take-append-le, drop-append-le, drop_at, take_all, length-drop}
-use Rattle.std.proofs.lemmas.List.Elements.{All-contains, All-take, All-drop, Contains-append_left, Contains-append_right, Contains-append_cases, Contains-get_or, Contains-push}
+use Rattle.std.proofs.lemmas.List.Elements.{All-contains, All-take, All-drop, Contains-append_left, Contains-append_right, Contains-append_cases, Contains-get_or}
 use Rattle.std.proofs.lemmas.Bool.{cases_lt}
 use Rattle.net_graph.specs.declared.edge.Edge.{Edge}
 use Rattle.net_graph.specs.declared.neighbours.Arc.{Arc}
 use Rattle.net_graph.specs.Walks.{Joins, make_edge}
 use Rattle.net_graph.specs.Network.{Network, IsInLimits}
-use Rattle.net_graph.specs.Layout.{make_arc, edge_from, row, edges_from, IsArc, IsLaidOut, AreArcsOf, arc_of_cell, arcs_of_row}
+use Rattle.net_graph.specs.Layout.{make_arc, edge_from, row, edges_from, IsArc, IsLaidOut, AreArcsOf}
 
 edge_of_arc : (k u v w : ℕ) (arc : Arc) → edge_from k arc ≡ make_edge u v w → (k ≡ u) × (arc ≡ make_arc v w)
 edge_of_arc k u v w arc same = (
@@ -87,14 +87,6 @@ row_arcs n starts arcs u laid below = record {
   limits = row_limits n starts arcs u laid.limits;
 }
 
-pub arcs_of_row-nil : (cells : List (Option ℕ)) → arcs_of_row cells 0 ≡ []
-unfolding arcs_of_row
-arcs_of_row-nil cells = refl
-
-pub arcs_of_row-suc : (cells : List (Option ℕ)) (k : ℕ) → arcs_of_row cells (k + 1) ≡ arcs_of_row cells k ++ arc_of_cell k (get_or cells k None)
-unfolding arcs_of_row
-arcs_of_row-suc cells k = rw add-one refl
-
 -- the arcs of a node, as they are read
 pub read_row : (n : ℕ) (starts : List ℕ) (arcs : List Arc) (network : Network) (u first next : ℕ) (list : List Arc)
     → IsLaidOut n starts arcs → record { nodes = n; edges = edges_from starts arcs n } ≡ network → u < network.nodes
@@ -106,43 +98,6 @@ read_row n starts arcs network u first next list laid view below at_first at_nex
     let ends : next ≡ get_or starts (u + 1) 0 = get_or_read starts (u + 1) next (omega (arith, laid.count)) at_next 0 in
     subst (λ (x : Network). AreArcsOf x.nodes x.edges u (slice_range list first next)) view
     (rw (begins, ends, whole) (row_arcs n starts arcs u laid short))
-
-pub row_step : (base items arcs : List Arc) (cells : List (Option ℕ)) (k : ℕ) → items ≡ base ++ arcs_of_row cells k
-    → arcs ≡ items ++ arc_of_cell k (get_or cells k None) → arcs ≡ base ++ arcs_of_row cells (k + 1)
-row_step base items arcs cells k before now =
-    now ∙ ap (λ xs. xs ++ arc_of_cell k (get_or cells k None)) before
-    ∙ append_assoc base (arcs_of_row cells k) (arc_of_cell k (get_or cells k None))
-    ∙ ap (λ xs. base ++ xs) (sym (arcs_of_row-suc cells k))
-
--- the arcs of a row of cells are those of its cells that have a weight
-pub arcs_have_cell : (cells : List (Option ℕ)) (k v w : ℕ) → v < k → get_or cells v None ≡ Some w → Contains (arcs_of_row cells k) (make_arc v w)
-unfolding arcs_of_row
-arcs_have_cell cells zero v w below here = absurd (omega arith)
-arcs_have_cell cells (suc k) v w below here =
-    elim (cases_lt v k) [
-      | inl less ↦ Contains-append_left (arcs_of_row cells k) (arc_of_cell k (get_or cells k None)) (make_arc v w) (arcs_have_cell cells k v w less here)
-      | inr more ↦
-          let same : v ≡ k = omega arith in
-          subst (λ j. Contains (arcs_of_row cells k ++ arc_of_cell j (get_or cells j None)) (make_arc v w)) same
-          (subst (λ c. Contains (arcs_of_row cells k ++ arc_of_cell v c) (make_arc v w)) (sym here)
-          (Contains-push (arcs_of_row cells k) (make_arc v w)))
-    ]
-
-last_arc : (v w k : ℕ) (c : Option ℕ) → Contains (arc_of_cell k c) (make_arc v w) → (v ≡ k) × (c ≡ Some w)
-last_arc v w k None (i, below, here) = absurd (omega arith)
-last_arc v w k (Some x) (zero, below, here) =
-    (sym (ap (λ (arc : Arc). arc.target) here), ap Some (ap (λ (arc : Arc). arc.weight) here))
-last_arc v w k (Some x) (suc i, below, here) = absurd (omega arith)
-
-pub cell_has_arc : (cells : List (Option ℕ)) (k v w : ℕ) → Contains (arcs_of_row cells k) (make_arc v w) → (v < k) × (get_or cells v None ≡ Some w)
-unfolding arcs_of_row
-cell_has_arc cells zero v w (i, below, here) = absurd (omega arith)
-cell_has_arc cells (suc k) v w has =
-    elim (Contains-append_cases (arcs_of_row cells k) (arc_of_cell k (get_or cells k None)) (make_arc v w) has) [
-      | inl before ↦ let r = cell_has_arc cells k v w before in (omega (arith, r.0), r.1)
-      | inr here ↦ let r = last_arc v w k (get_or cells k None) here in
-          (omega (arith, r.0), subst (λ j. get_or cells j None ≡ Some w) (sym r.0) r.1)
-    ]
 
 slice_kept : (xs ys : List Arc) (i j : ℕ) → i ≤ j → j ≤ length xs → slice_range (xs ++ ys) i j ≡ slice_range xs i j
 slice_kept xs ys i j ordered within =

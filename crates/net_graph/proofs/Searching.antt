@@ -1,6 +1,6 @@
 -- The search as a whole: what it keeps, and that least weights are left when no unsettled node has a weight.
-use Rattle.std.proofs.Common.{◌≡◌, ◌≢◌, ◌⊎◌, ℕ, ◌+◌, ◌-◌, ◌*◌, ◌^◌, ◌<◌, ◌≤◌, Bool, true, false, cond, List, [], ◌∷◌, ◌++◌, take, Option, None, Some, length, get_or, set, replicate, sym, ◌∙◌, ap, subst, inl, inr, arith}
-use Rattle.std.specs.Prelude.{Contains, All}
+use Rattle.std.proofs.Common.{◌≡◌, ◌≢◌, ◌⊎◌, ℕ, ◌+◌, ◌-◌, ◌*◌, ◌^◌, ◌<◌, ◌≤◌, Bool, true, false, cond, List, [], ◌∷◌, ◌++◌, take, Option, None, Some, length, get_or, set, replicate, refl, zero, suc, sym, ◌∙◌, ap, subst, inl, inr, arith}
+use Rattle.std.specs.Prelude.{Contains}
 use Rattle.std.specs.List.{count_by}
 use Rattle.std.proofs.lemmas.List.{length-set, get_or-set_same, get_or-set_other, get_or_past, get_or-replicate, length-replicate, take_at}
 use Rattle.std.proofs.lemmas.List.Elements.{All-contains}
@@ -8,16 +8,19 @@ use Rattle.std.proofs.lemmas.List.Sums.{sum_by-set, count_by-le-length}
 use Rattle.std.proofs.lemmas.Bool.{cases_eq, cases_lt}
 use Rattle.net_graph.specs.declared.edge.TheConstants.{MAX_NODES, MAX_WEIGHT}
 use Rattle.net_graph.specs.declared.neighbours.Arc.{Arc}
-use Rattle.net_graph.specs.declared.search.Candidate.{Candidate}
+use Rattle.net_graph.specs.declared.queue.Candidate.{Candidate}
 use Rattle.net_graph.specs.Walks.{Joins, Step, IsWalk, weight_of, IsWalkWeight, among}
 use Rattle.net_graph.specs.Network.{Network}
 use Rattle.net_graph.specs.Trees.{at_node, AreLeastWeights}
 use Rattle.net_graph.specs.Layout.{make_arc, IsArc, AreArcsOf}
-use Rattle.net_graph.specs.Table.{IsAtMost}
-use Rattle.net_graph.specs.Search.{IsLightest, IsLightestBelow, relaxed}
-use Rattle.net_graph.proofs.WalkLaws.{walk_further, walk_begins}
-use Rattle.net_graph.proofs.Cells.{at_most_trans, at_most_some}
-use Rattle.net_graph.proofs.Relaxing.{among_below, true_or_false, IsRelaxed, relaxed_facts}
+use Rattle.net_graph.specs.Least.{IsAtMost}
+use Rattle.net_graph.specs.Queue.{Waiting, make_waiting, AreSettled, IsNext}
+use Rattle.net_graph.specs.Search.{IsRelaxed}
+use Rattle.std.specs.Prelude.{IsPermutation}
+use Rattle.std.proofs.lemmas.List.Sorted.{Contains-permutation, IsPermutation-sym}
+use Rattle.net_graph.specs.WalkLaws.{walk_further, walk_begins}
+use Rattle.net_graph.proofs.Lowering.{at_most_trans, at_most_some}
+use Rattle.net_graph.proofs.Relaxing.{among_below, true_or_false}
 
 -- how many nodes are unsettled
 abbrev pub unsettled_count : List Bool → ℕ
@@ -35,6 +38,18 @@ pub record IsSearch (network : Network) (inside : ℕ → Bool) (root : ℕ) (un
   pub lightest : (u v x y : ℕ) → among unsettled u ≡ false → at_node weights u ≡ Some x → among unsettled v ≡ true → at_node weights v ≡ Some y → x ≤ y
   pub slack : (v w : ℕ) → at_node weights v ≡ Some w → w + unsettled_count unsettled * MAX_WEIGHT ≤ network.nodes * MAX_WEIGHT
   pub bounded : (v w : ℕ) → at_node weights v ≡ Some w → w ≤ (network.nodes - 1) * MAX_WEIGHT
+
+-- the best is an unsettled node with its weight, and no unsettled node weighs less
+pub record IsLightest (unsettled : List Bool) (weights : List (Option ℕ)) (best : Candidate) : Type 0 where
+  pub waits : among unsettled best.node ≡ true
+  pub weighs : at_node weights best.node ≡ Some best.weight
+  pub lightest : (v w : ℕ) → among unsettled v ≡ true → at_node weights v ≡ Some w → best.weight ≤ w
+
+-- each unsettled node that has a weight waits at it, and none waits at less than its weight
+pub record IsQueue (unsettled : List Bool) (weights : List (Option ℕ)) (waiting : List Waiting) : Type 0 where
+  pub below : (w v : ℕ) → Contains waiting (make_waiting w v) → v < length unsettled
+  pub whole : (v w : ℕ) → among unsettled v ≡ true → at_node weights v ≡ Some w → Contains waiting (make_waiting w v)
+  pub light : (w v : ℕ) → Contains waiting (make_waiting w v) → among unsettled v ≡ true → IsAtMost (at_node weights v) w
 
 none_is_not_some : (w : ℕ) → None ≡ Some w → ⊥
 none_is_not_some w h = cc
@@ -119,12 +134,13 @@ count_positive unsettled v waits = omega (arith, count_falls unsettled v waits)
 
 module _ (network : Network) (inside : ℕ → Bool) (root : ℕ) (unsettled : List Bool) (weights : List (Option ℕ))
     (so_far : IsSearch network inside root unsettled weights)
-    (best : Candidate) (lightest : IsLightest (length unsettled) unsettled weights best) where
+    (best : Candidate) (lightest : IsLightest unsettled weights best) where
   pub light_enough : network.nodes ≤ MAX_NODES → best.weight ≤ 2 ^ 40
   light_enough few = omega (arith, so_far.bounded best.node best.weight lightest.weighs)
 
   module _ (arcs : List Arc) (of_node : AreArcsOf network.nodes network.edges best.node arcs)
-      (new : List (Option ℕ)) (r : IsRelaxed arcs best.weight (set unsettled best.node false) weights new) where
+      (new : List (Option ℕ)) (waited waiting : List Waiting)
+      (r : IsRelaxed arcs best.weight (set unsettled best.node false) weights new waited waiting) where
     closed_now : (u v w c : ℕ) → among (set unsettled best.node false) u ≡ false → at_node new u ≡ Some w → inside v ≡ true
         → Joins network.edges u v c → IsAtMost (at_node new v) (w + c)
     closed_now u v w c is_settled here inner joined =
@@ -156,7 +172,7 @@ module _ (network : Network) (inside : ℕ → Bool) (root : ℕ) (unsettled : L
           | inr old ↦ so_far.lightest u best.node x best.weight old before lightest.waits lightest.weighs
         ] in
         elim (r.cause v y there) [
-          | inl old ↦ omega (arith, light, lightest.lightest v y (among_below unsettled v still.1) still.1 old)
+          | inl old ↦ omega (arith, light, lightest.lightest v y still.1 old)
           | inr through ↦ omega (arith, light, through.sum)
         ]
 
@@ -203,27 +219,93 @@ module _ (network : Network) (inside : ℕ → Bool) (root : ℕ) (unsettled : L
           ];
         }
 
+-- the queue's next is the lightest
+module _ (unsettled : List Bool) (weights : List (Option ℕ)) (waiting rest : List Waiting) (queue : IsQueue unsettled weights waiting)
+    (best : Candidate) (next : IsNext unsettled waiting rest best) where
+  pub next_is_lightest : IsLightest unsettled weights best
+  next_is_lightest =
+      let y = at_most_some (at_node weights best.node) best.weight (queue.light best.weight best.node next.there next.waits) in
+      let same : y.0 ≡ best.weight = omega (arith, y.2, next.lightest y.0 best.node (queue.whole best.node y.0 next.waits y.1) next.waits) in
+      record {
+        waits = next.waits;
+        weighs = y.1 ∙ ap Some same;
+        lightest = λ v w v_waits here. next.lightest w v (queue.whole v w v_waits here) v_waits;
+      }
+
+  pub queue_goes_on : (arcs : List Arc) (new : List (Option ℕ)) (after : List Waiting)
+      → IsRelaxed arcs best.weight (set unsettled best.node false) weights new rest after
+      → IsQueue (set unsettled best.node false) new after
+  queue_goes_on arcs new after r = record {
+    below = λ w v has. elim (r.since w v has) [
+      | inl before ↦ omega (arith, length-set unsettled best.node false, queue.below w v (next.fewer w v before))
+      | inr now ↦ now.0
+    ];
+    whole = λ v w waits here. elim (r.joined v w here) [
+      | inl before ↦
+          let still = unsettled_still unsettled best.node v next.below waits in
+          r.wait_on w v (next.kept w v (queue.whole v w still.1 before) still.1 still.0)
+      | inr now ↦ now
+    ];
+    light = λ w v has waits. elim (r.since w v has) [
+      | inl before ↦
+          let still = unsettled_still unsettled best.node v next.below waits in
+          r.falls v w (queue.light w v (next.fewer w v before) still.1)
+      | inr now ↦ now.1
+    ];
+  }
+
+-- the queue at the beginning
+pub queue_begins : (n : ℕ) (allowed : List Bool) (root : ℕ) (waiting : List Waiting) → length allowed ≡ n → among allowed root ≡ true
+    → IsPermutation (make_waiting 0 root ∷ []) waiting
+    → IsQueue allowed (set (replicate n None) root (Some 0)) waiting
+queue_begins n allowed root waiting count at_root pushed = record {
+  below = λ w v has. let r = only w v has in omega (arith, among_below allowed root at_root, r.1);
+  whole = λ v w waits here. let r = only_root n root v w here in
+      subst (λ i. Contains waiting (make_waiting i v)) (sym r.1) (subst (λ i. Contains waiting (make_waiting 0 i)) (sym r.0)
+      (Contains-permutation (make_waiting 0 root ∷ []) waiting (make_waiting 0 root) pushed (0, omega arith, refl)));
+  light = λ w v has waits. let r = only w v has in
+      subst (λ i. IsAtMost (at_node (set (replicate n None) root (Some 0)) i) w) r.1
+      (subst (λ o. IsAtMost o w) (sym (get_or-set_same (replicate n None) root (Some 0) None
+      (omega (arith, length-replicate {A = Option ℕ} n None, among_below allowed root at_root, count)))) (omega arith));
+}
+  where
+    only : (w v : ℕ) → Contains waiting (make_waiting w v) → (0 ≡ w) × (root ≡ v)
+    only w v has = one (Contains-permutation waiting (make_waiting 0 root ∷ []) (make_waiting w v)
+        (IsPermutation-sym (make_waiting 0 root ∷ []) waiting pushed) has)
+      where
+        one : Contains (make_waiting 0 root ∷ []) (make_waiting w v) → (0 ≡ w) × (root ≡ v)
+        one (zero, below, here) = (ap (λ (u : Waiting). u.0.0) here, ap (λ (u : Waiting). u.0.1) here)
+        one (suc k, below, here) = absurd (omega arith)
+
+-- what the search and its queue keep
+pub record IsUnderWay (network : Network) (inside : ℕ → Bool) (root : ℕ) (unsettled : List Bool) (weights : List (Option ℕ))
+    (waiting : List Waiting) : Type 0 where
+  pub found : IsSearch network inside root unsettled weights
+  pub queue : IsQueue unsettled weights waiting
+
 -- one round, on a part of a longer list of weights
 pub search_settles : (network : Network) (inside : ℕ → Bool) (root : ℕ) (unsettled : List Bool) (weights : List (Option ℕ))
-    → IsSearch network inside root unsettled weights
-    → (best : Candidate) → IsLightest (length unsettled) unsettled weights best
+    (waiting remaining after : List Waiting) → IsUnderWay network inside root unsettled weights waiting
+    → (best : Candidate) → IsNext unsettled waiting remaining best
     → (arcs : List Arc) → AreArcsOf network.nodes network.edges best.node arcs
-    → (new rest : List (Option ℕ)) (k : ℕ) → new ≡ relaxed best.weight (set unsettled best.node false) arcs weights → length new ≡ k
-    → IsSearch network inside root (set unsettled best.node false) (take k (new ++ rest))
-search_settles network inside root unsettled weights so_far best lightest arcs of_node new rest k is count =
+    → (new rest : List (Option ℕ)) (k : ℕ)
+    → IsRelaxed arcs best.weight (set unsettled best.node false) weights new remaining after → length new ≡ k
+    → IsUnderWay network inside root (set unsettled best.node false) (take k (new ++ rest)) after
+search_settles network inside root unsettled weights waiting remaining after so_far best next arcs of_node new rest k r count =
     rw (take_at new rest k count)
-    (search_goes_on network inside root unsettled weights so_far best lightest arcs of_node new
-    (subst (λ xs. IsRelaxed arcs best.weight (set unsettled best.node false) weights xs) (sym is)
-    (relaxed_facts arcs best.weight (set unsettled best.node false) weights
-    (subst (λ n. All (IsArc n) arcs) (sym so_far.count) of_node.limits))))
+    (record {
+      found = search_goes_on network inside root unsettled weights so_far.found best
+          (next_is_lightest unsettled weights waiting remaining so_far.queue best next) arcs of_node new remaining after r;
+      queue = queue_goes_on unsettled weights waiting remaining so_far.queue best next arcs new after r;
+    })
 
 -- the end, where no unsettled node has a weight
 module _ (network : Network) (inside : ℕ → Bool) (root : ℕ) (unsettled : List Bool) (weights : List (Option ℕ))
     (so_far : IsSearch network inside root unsettled weights)
-    (none : IsLightestBelow (length unsettled) unsettled weights None) where
+    (waiting : List Waiting) (queue : IsQueue unsettled weights waiting) (none : AreSettled unsettled waiting) where
   weighed_is_settled : (u w : ℕ) → at_node weights u ≡ Some w → among unsettled u ≡ false
   weighed_is_settled u w here = elim (true_or_false (among unsettled u)) [
-    | inl waits ↦ absurd (none u w (among_below unsettled u waits) waits here)
+    | inl waits ↦ absurd (none w u (queue.whole u w waits here) waits)
     | inr gone ↦ gone
   ]
 

@@ -1,6 +1,6 @@
 -- How a network lies in memory: each node's arcs stand in one row of a flat array, and `starts` says where each row
 -- begins. These definitions serve the private type `Neighbours`; clauses of `Graph` see a `Network` alone.
-use Rattle.std.specs.Prelude.{◌≡◌, ℕ, zero, suc, ◌+◌, ◌<◌, ◌≤◌, List, [], ◌∷◌, ◌++◌, Option, None, Some, length, map, Contains, All, slice_index_or, slice_range}
+use Rattle.std.specs.Prelude.{◌≡◌, ℕ, zero, suc, ◌+◌, ◌<◌, ◌≤◌, List, [], ◌++◌, length, map, Contains, All, slice_index_or, slice_range}
 use Rattle.net_graph.specs.declared.edge.Edge.{Edge}
 use Rattle.net_graph.specs.declared.edge.TheConstants.{MAX_NODES, MAX_WEIGHT}
 use Rattle.net_graph.specs.declared.neighbours.Arc.{Arc}
@@ -44,13 +44,3 @@ pub record AreArcsOf (n : ℕ) (edges : List Edge) (u : ℕ) (arcs : List Arc) :
   pub sound : (v w : ℕ) → Contains arcs (make_arc v w) → Joins edges u v w
   pub whole : (v w : ℕ) → Joins edges u v w → Contains arcs (make_arc v w)
   pub limits : All (IsArc n) arcs
-
--- the arc of a cell, if it has a weight
-abbrev pub arc_of_cell : ℕ → Option ℕ → List Arc
-arc_of_cell v None = []
-arc_of_cell v (Some w) = make_arc v w ∷ []
-
--- the arcs of the first k cells of a row of the table
-unfoldable pub arcs_of_row : List (Option ℕ) → ℕ → List Arc
-arcs_of_row row zero = []
-arcs_of_row row (suc k) = arcs_of_row row k ++ arc_of_cell k (slice_index_or row k None)

@@ -2,7 +2,10 @@ pub mod Walks
 pub mod Network
 pub mod Trees
 pub mod Layout
-pub mod Table
+pub mod Least
 pub mod Faults
 pub mod Search
 pub mod Parents
+pub mod WalkLaws
+pub mod Queue
+pub mod Chains

@@ -5,7 +5,7 @@ use Rattle.net_graph.specs.declared.neighbours.Arc.{Arc}
 use Rattle.net_graph.specs.Walks.{Joins}
 use Rattle.net_graph.specs.Trees.{at_node}
 use Rattle.net_graph.specs.Layout.{make_arc}
-use Rattle.net_graph.specs.Table.{IsAtMost}
+use Rattle.net_graph.specs.Least.{IsAtMost}
 
 -- the weight of p and an edge of weight c make up this weight
 pub record MakesUp (weights : List (Option ℕ)) (p c : ℕ) (weight : Option ℕ) : Type 0 where

@@ -1,33 +1,33 @@
--- Steps of the search for least walks, on the list of the weights found so far.
-use Rattle.std.specs.Prelude.{◌≡◌, ℕ, ◌+◌, ◌<◌, ◌≤◌, Bool, true, List, Option, None, Some, fold, nat_lt, if◌then◌else◌}
+-- Steps of the search for least walks, on the list of the weights found so far and on the nodes that wait.
+use Rattle.std.specs.Prelude.{◌≡◌, ◌⊎◌, ℕ, ◌+◌, ◌<◌, Bool, true, false, List, Option, Some, Contains, length}
 use Rattle.net_graph.specs.declared.neighbours.Arc.{Arc}
-use Rattle.net_graph.specs.declared.search.Candidate.{Candidate}
 use Rattle.net_graph.specs.Walks.{among}
 use Rattle.net_graph.specs.Trees.{at_node}
-use Rattle.net_graph.specs.Table.{lowered_at}
+use Rattle.net_graph.specs.Layout.{make_arc}
+use Rattle.net_graph.specs.Least.{IsAtMost}
+use Rattle.net_graph.specs.Queue.{Waiting, make_waiting}
 
--- an unsettled node below i with its weight, and no unsettled node below i weighs less
-pub record IsLightest (i : ℕ) (unsettled : List Bool) (weights : List (Option ℕ)) (best : Candidate) : Type 0 where
-  pub below : best.node < i
-  pub waits : among unsettled best.node ≡ true
-  pub weighs : at_node weights best.node ≡ Some best.weight
-  pub lightest : (v w : ℕ) → v < i → among unsettled v ≡ true → at_node weights v ≡ Some w → best.weight ≤ w
+-- the node has no weight yet, or a greater one
+abbrev pub IsLighter : ℕ → Option ℕ → Type 0
+IsLighter w weight = (x : ℕ) → weight ≡ Some x → w < x
 
--- the lightest unsettled node below i, or none where no unsettled node below i has a weight
-abbrev pub IsLightestBelow : ℕ → List Bool → List (Option ℕ) → Option Candidate → Type 0
-IsLightestBelow i unsettled weights None = (v w : ℕ) → v < i → among unsettled v ≡ true → at_node weights v ≡ Some w → ⊥
-IsLightestBelow i unsettled weights (Some best) = IsLightest i unsettled weights best
+-- a weight that an arc to an unsettled node gave
+pub record IsThrough (arcs : List Arc) (x : ℕ) (unsettled : List Bool) (v w : ℕ) : Type 0 where
+  pub by : ℕ
+  pub arc : Contains arcs (make_arc v by)
+  pub waits : among unsettled v ≡ true
+  pub sum : w ≡ x + by
 
--- the lighter of a candidate and one more node, the candidate where they weigh the same
-abbrev pub lighter_of : Option Candidate → ℕ → Option ℕ → Option Candidate
-lighter_of best v None = best
-lighter_of None v (Some w) = Some (record { node = v; weight = w })
-lighter_of (Some best) v (Some w) = if nat_lt w best.weight then Some (record { node = v; weight = w }) else Some best
-
--- the weights after one arc from a node of weight w is relaxed
-abbrev pub relaxed_by : ℕ → List Bool → List (Option ℕ) → Arc → List (Option ℕ)
-relaxed_by w unsettled weights arc = if among unsettled arc.target then lowered_at arc.target (w + arc.weight) weights else weights
-
--- the weights after each arc from a node of weight w is relaxed
-abbrev pub relaxed : ℕ → List Bool → List Arc → List (Option ℕ) → List (Option ℕ)
-relaxed w unsettled arcs weights = fold (relaxed_by w unsettled) weights arcs
+-- what relaxing the arcs from a node of weight x does to the weights and to the nodes that wait: weights of unsettled
+-- nodes fall to those through the arcs, and a node whose weight fell waits at its new weight
+pub record IsRelaxed (arcs : List Arc) (x : ℕ) (unsettled : List Bool) (old new : List (Option ℕ))
+    (waited waiting : List Waiting) : Type 0 where
+  pub count : length new ≡ length old
+  pub kept : (v : ℕ) → among unsettled v ≡ false → at_node new v ≡ at_node old v
+  pub cause : (v w : ℕ) → at_node new v ≡ Some w → (at_node old v ≡ Some w) ⊎ IsThrough arcs x unsettled v w
+  pub falls : (v w : ℕ) → IsAtMost (at_node old v) w → IsAtMost (at_node new v) w
+  pub reached : (v c : ℕ) → Contains arcs (make_arc v c) → among unsettled v ≡ true → IsAtMost (at_node new v) (x + c)
+  pub wait_on : (w v : ℕ) → Contains waited (make_waiting w v) → Contains waiting (make_waiting w v)
+  pub joined : (v w : ℕ) → at_node new v ≡ Some w → (at_node old v ≡ Some w) ⊎ Contains waiting (make_waiting w v)
+  pub since : (w v : ℕ) → Contains waiting (make_waiting w v)
+      → Contains waited (make_waiting w v) ⊎ ((v < length unsettled) × IsAtMost (at_node new v) w)

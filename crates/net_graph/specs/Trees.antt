@@ -1,8 +1,8 @@
 -- A tree of least walks: the least weight of a walk from the root to each node inside a set, and each node's parent.
-use Rattle.std.specs.Prelude.{◌≡◌, ◌≢◌, ℕ, ◌+◌, ◌-◌, ◌*◌, ◌<◌, ◌≤◌, Bool, List, Option, None, Some, length, slice_index_or}
+use Rattle.std.specs.Prelude.{◌≡◌, ◌≢◌, ℕ, ◌+◌, ◌-◌, ◌*◌, ◌<◌, ◌≤◌, Bool, List, Option, None, Some, length, slice_index, slice_index_or}
 use Rattle.net_graph.specs.declared.edge.Edge.{Edge}
 use Rattle.net_graph.specs.declared.edge.TheConstants.{MAX_WEIGHT}
-use Rattle.net_graph.specs.Walks.{Joins, IsLeastWeight, IsUnreached}
+use Rattle.net_graph.specs.Walks.{Joins, IsLeastWeight, IsUnreached, everywhere}
 use Rattle.net_graph.specs.Network.{Network}
 
 -- what the list holds at a node, none past its end
@@ -15,6 +15,11 @@ pub record AreLeastWeights (network : Network) (inside : ℕ → Bool) (root : �
   pub least : (v w : ℕ) → v < network.nodes → at_node weights v ≡ Some w → IsLeastWeight network.edges inside root v w
   pub unreached : (v : ℕ) → v < network.nodes → at_node weights v ≡ None → IsUnreached network.edges inside root v
   pub bounded : (v w : ℕ) → v < network.nodes → at_node weights v ≡ Some w → w ≤ (network.nodes - 1) * MAX_WEIGHT
+
+-- for each node the least weight of a walk from the root through any nodes
+pub record AreDistancesFrom (network : Network) (root : ℕ) (row : List ℕ) : Type 0 where
+  pub count : length row ≡ network.nodes
+  pub each : (v : ℕ) → v < network.nodes → IsLeastWeight network.edges everywhere root v (slice_index row v)
 
 -- the least weight of an edge that joins u and v
 pub record IsLeastJoin (edges : List Edge) (u v w : ℕ) : Type 0 where

@@ -2,7 +2,7 @@
 
 ghost use Rattle.std.specs.Prelude.{◌≡◌, ◌≢◌, ◌+◌, ◌<◌, ◌≤◌, ◌↔◌, ℕ, Bool, true, List, All, length};
 ghost use Rattle.net_graph.specs.declared.edge.Edge.{Edge};
-ghost use Rattle.net_graph.specs.Network.{IsEdge};
+ghost use Rattle.net_graph.specs.Network.{IsEdge, ReachedHasLeastWeight};
 ghost use Rattle.net_graph.specs.Walks.{Joins, IsLeastWeight, IsUnreached, IsReached, among, everywhere};
 
 /// Two least weights of walks between the same nodes are equal.
@@ -26,13 +26,14 @@ pub fn unreached_turned()
 /// The triangle inequality.
 pub fn least_weights_add_up()
     ensures { (edges : List Edge) (inside : ℕ → Bool) (u v x a b c : ℕ)
-        → IsLeastWeight edges inside u v a → IsLeastWeight edges inside v x b → IsLeastWeight edges inside u x c
-        → c ≤ a + b }
+        → IsLeastWeight edges inside u v a → IsLeastWeight edges inside v x b
+        → IsLeastWeight edges inside u x c → c ≤ a + b }
 {}
 
 /// The least weight from a node inside to itself is 0.
 pub fn least_weight_to_itself()
-    ensures { (edges : List Edge) (inside : ℕ → Bool) (u : ℕ) → inside u ≡ true → IsLeastWeight edges inside u u 0 }
+    ensures { (edges : List Edge) (inside : ℕ → Bool) (u : ℕ) → inside u ≡ true
+        → IsLeastWeight edges inside u u 0 }
 {}
 
 /// A least weight is at most the weight of an edge between the nodes.
@@ -43,8 +44,8 @@ pub fn least_weight_of_a_step()
 
 /// The least weight between different nodes is positive.
 pub fn least_weight_is_positive()
-    ensures { (n : ℕ) (edges : List Edge) (inside : ℕ → Bool) (u v w : ℕ) → All (IsEdge n) edges → u ≢ v
-        → IsLeastWeight edges inside u v w → 1 ≤ w }
+    ensures { (n : ℕ) (edges : List Edge) (inside : ℕ → Bool) (u v w : ℕ)
+        → All (IsEdge n) edges → u ≢ v → IsLeastWeight edges inside u v w → 1 ≤ w }
 {}
 
 /// A node that has a least weight is reached, and one that is unreached has none.
@@ -65,13 +66,13 @@ pub fn all_allowed_is_everywhere()
 
 /// Where a walk leads to a node, one of least weight does.
 pub fn reached_has_a_least_weight()
-    ensures { (n : ℕ) (edges : List Edge) (inside : ℕ → Bool) (u v : ℕ) → All (IsEdge n) edges
-        → IsReached edges inside u v → (w : ℕ) × IsLeastWeight edges inside u v w }
+    ensures { ReachedHasLeastWeight }
 {}
 
 /// Walks lead back, and on from where they end.
 pub fn reached_both_ways()
-    ensures back { (edges : List Edge) (inside : ℕ → Bool) (u v : ℕ) → IsReached edges inside u v → IsReached edges inside v u }
+    ensures back { (edges : List Edge) (inside : ℕ → Bool) (u v : ℕ)
+        → IsReached edges inside u v → IsReached edges inside v u }
     ensures on { (edges : List Edge) (inside : ℕ → Bool) (u v x : ℕ)
         → IsReached edges inside u v → IsReached edges inside v x → IsReached edges inside u x }
 {}

@@ -1,15 +1,19 @@
 //! Weighted networks: a graph by the neighbours of each node, and least walks from a node inside a set of nodes.
 #![tactic(auto)]
 
+mod chains;
+#[cfg(test)]
+mod comparison;
 mod edge;
 mod fault;
 mod graph;
 mod laws;
 mod neighbours;
 mod parents;
+mod queue;
 mod search;
-mod table;
 mod tree;
+mod weights;
 
 pub use edge::{Edge, MAX_NODES, MAX_WEIGHT};
 pub use fault::{GraphFault, OutOfMemory};
@@ -19,4 +23,6 @@ pub use laws::{
     least_weight_is_reached, least_weight_of_a_step, least_weight_to_itself, least_weight_turned,
     least_weights_add_up, reached_both_ways, reached_has_a_least_weight, unreached_turned,
 };
+pub use neighbours::Arc;
 pub use tree::Tree;
+pub use weights::greatest_weight;

@@ -1,19 +1,19 @@
 //! The neighbours of each node, in one flat array.
 
-ghost use Rattle.std.specs.Prelude.{◌≡◌, ◌<◌, ◌≤◌, ◌++◌, IfOk, OnOk, All, length};
-ghost use Rattle.net_graph.specs.Layout.{AreArcsOf, arcs_of_row};
+ghost use Rattle.std.specs.Prelude.{◌≡◌, ◌<◌, ◌≤◌, IfOk, All};
+ghost use Rattle.net_graph.specs.Layout.{AreArcsOf};
 ghost use Rattle.net_graph.specs.Network.{IsEdge, IsInLimits, SameWalks};
 
+use crate::chains::{chains_of, push_chain};
 use crate::edge::{Edge, MAX_NODES};
-use crate::table::least_weights;
 use std::alloc::{AllocError, Global};
 use std::marker::Model;
 
 /// One direction of an edge.
 #[derive(Clone, Copy, Debug, PartialEq, Eq)]
-pub(crate) struct Arc {
-    pub(crate) target: u32,
-    pub(crate) weight: u32,
+pub struct Arc {
+    pub target: u32,
+    pub weight: u32,
 }
 
 /// A network as the arcs of each node: those of node u are at `starts[u]` to `starts[u + 1]`.
@@ -37,7 +37,7 @@ impl Model for Neighbours {
 }
 
 impl Neighbours {
-    // A network of `n` nodes, in which the lightest of edges that join the same nodes counts, and no loop.
+    // A network of `n` nodes with an arc either way for each edge that is no loop.
     pub(crate) fn new(alloc: Global, n: u32, edges: &[Edge]) -> Result<Neighbours, AllocError>
         requires positive { 1 ≤ n }
         requires few { n ≤ MAX_NODES }
@@ -46,13 +46,12 @@ impl Neighbours {
         ensures limits { IfOk result IsInLimits }
         ensures same { IfOk result (λ g. SameWalks edges.now g.edges) }
     {
-        let table = least_weights(alloc, n, edges)?;
-        let width = n as usize;
-        let mut starts = Vec::with_capacity(alloc, width + 1)?;
-        let mut arcs = Vec::new(alloc);
+        let chains = chains_of(alloc, n, edges)?;
+        let mut starts = Vec::with_capacity(alloc, n as usize + 1)?;
+        let mut arcs = Vec::with_capacity(alloc, chains.links.len())?;
         starts.push(0)?;
-        for u in 0..width {
-            push_row(&table[u * width..(u + 1) * width], &mut arcs)?;
+        for u in 0..n {
+            push_chain(&chains, u, &mut arcs)?;
             starts.push(arcs.len())?;
         }
         Ok(Neighbours {
@@ -77,20 +76,4 @@ impl Neighbours {
     {
         &self.arcs[self.starts[node as usize]..self.starts[node as usize + 1]]
     }
-}
-
-// Appends the arcs of a row of the table.
-fn push_row(row: &[Option<u32>], arcs: &mut Vec<Arc>) -> Result<(), AllocError>
-    requires { length row.now ≤ MAX_NODES }
-    ensures { OnOk result (arcs.new.items ≡ arcs.old.items ++ arcs_of_row row.now (length row.now)) }
-{
-    for (target, cell) in row.iter().enumerate() {
-        if let Some(weight) = cell {
-            arcs.push(Arc {
-                target: target as u32,
-                weight: *weight,
-            })?;
-        }
-    }
-    Ok(())
 }

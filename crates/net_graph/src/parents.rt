@@ -2,10 +2,10 @@
 
 ghost use Rattle.std.specs.Prelude.{◌≡◌, ◌↔◌, ◌<◌, ℕ, All, IfOk, IsTrue, length};
 ghost use Rattle.net_graph.specs.Layout.{IsArc};
+ghost use Rattle.net_graph.specs.Least.{lowered};
 ghost use Rattle.net_graph.specs.Parents.{AreLeastNeighbours, IsLeastTarget, MakesUp};
 
 use crate::neighbours::{Arc, Neighbours};
-use crate::table::lower;
 use std::alloc::{AllocError, Global};
 
 // For each node the least neighbour whose weight and edge make up the node's weight.
@@ -15,7 +15,8 @@ pub(crate) fn parents_in(
     weights: &[Option<u64>],
 ) -> Result<Vec<Option<u32>>, AllocError>
     requires { length weights.now ≡ neighbours.now.nodes }
-    ensures { IfOk result (λ parents. AreLeastNeighbours neighbours.now.edges weights.now neighbours.now.nodes parents.items) }
+    ensures { IfOk result (λ p.
+        AreLeastNeighbours neighbours.now.edges weights.now neighbours.now.nodes p.items) }
 {
     let mut parents = Vec::with_capacity(alloc, neighbours.nodes() as usize)?;
     for node in 0..neighbours.nodes() {
@@ -36,6 +37,13 @@ fn least_target(arcs: &[Arc], weights: &[Option<u64>], weight: Option<u64>) -> O
         }
     }
     least
+}
+
+// Lowers a number that may be missing to another.
+fn lower(least: &mut Option<u32>, number: u32)
+    ensures { least.new ≡ lowered least.old number }
+{
+    *least = Some(least.map_or(number, |x| x.min(number)));
 }
 
 // Whether an arc's weight and that of its target make up this weight.

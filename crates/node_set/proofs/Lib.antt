@@ -1,2 +1,2 @@
-pub mod Ascending
-pub mod Words
+mod Blocks
+mod Words

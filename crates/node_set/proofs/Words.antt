@@ -1,18 +1,18 @@
 -- Which numbers the bits of words stand for.
-use Rattle.std.proofs.Common.{◌≡◌, inl, inr, ℕ, zero, suc, ◌+◌, ◌*◌, ◌/◌, ◌%◌, ◌^◌, ◌<◌, ◌≤◌, Bool, true, false, cond, ◌||◌, List, [], length, get_or, set, replicate, max, min, refl, sym, ◌∙◌, ap, subst, arith, w64, add-zero, zero-add, length-set}
+use Rattle.std.proofs.Common.{◌≡◌, inl, inr, ℕ, zero, suc, ◌+◌, ◌*◌, ◌/◌, ◌%◌, ◌^◌, ◌<◌, ◌≤◌, Bool, true, false, IsTrue, ◌↔◌, cond, ◌||◌, List, [], length, get_or, set, replicate, max, refl, sym, ◌∙◌, ap, subst, arith, w64, add-zero, zero-add, length-set}
 use Rattle.std.specs.Prelude.{◌==◌, bit_or, bit_and}
-use Rattle.std.specs.Int.{bit_at, trailing_zeros}
+use Rattle.std.specs.Int.{bit_at}
 use Rattle.std.specs.Int.Count.{ones, ones_step}
 use Rattle.std.proofs.lemmas.Bool.Decides.{nat_tests}
-use Rattle.std.proofs.lemmas.Bool.{cases_lt, cases_eq, cases_Bool, false≢true, eq-eqb, ne_eqb}
+use Rattle.std.proofs.lemmas.Bool.{cases_lt, cases_eq, false≢true, eq-eqb, eqb-true, ne_eqb}
 use Rattle.std.proofs.Math.Nat.{pow-suc}
-use Rattle.std.proofs.lemmas.Nat.{and_le_l}
 use Rattle.std.proofs.lemmas.Grind.{get_or_default_zero}
 use Rattle.std.proofs.lemmas.List.{get_or_past, get_or-replicate, length-replicate, get_or-set_same, get_or-set_other}
-use Rattle.std.proofs.lemmas.Nat.Bits.{bit_at-zero, bit_at-suc, bit_at_lowest, bit_at_or, bit_at_and, bit_at-lt, bit_at_set_same, bit_at_set_other, bit_at-trailing_zeros, shr_and_one}
+use Rattle.std.proofs.lemmas.Nat.Bits.{bit_at-zero, bit_at-suc, bit_at_lowest, bit_at_or, bit_at-lt, bit_at_set_same, bit_at_set_other, shr_and_one}
 use Rattle.node_set.specs.Ascending.{has, IsAscending, inserted, union, share, passing}
+use Rattle.node_set.specs.Lanes.{Meet, AreJoined}
 use Rattle.node_set.specs.Nodes.{AreNodes, AreWords, is_set, set_bits}
-use Rattle.node_set.proofs.Ascending.{passing_over, has-passing, ascending-passing, length-cond, length-passing-add, same_members, has-inserted, has-union, ascending-inserted, ascending-union, below_from_has, share_from, share_gives}
+use Rattle.node_set.specs.SetLaws.{passing_over, length-passing-le, has-passing, ascending-passing, length-cond, length-passing-add, same_members, has-inserted, has-union, ascending-inserted, ascending-union, below_from_has, share_from, share_gives}
 
 -- ---- the numbers of words
 
@@ -101,11 +101,6 @@ words-insert room words v w ok below h e = record {
 bit_either : (a b : ℕ) → a < 2 → b < 2 → max a b == 1 ≡ (b == 1 || a == 1)
 bit_either a b h k = grind (arith, nat_tests)
 
--- the words are those of two sets, joined word by word
-pub record AreJoined (words more both : List ℕ) : Type 0 where
-  pub enough : length both ≡ length words
-  pub joined : (k : ℕ) → k < length words → get_or both k 0 ≡ bit_or (get_or words k 0) (get_or more k 0)
-
 is_set-joined : (words more both : List ℕ) (x : ℕ) → AreJoined words more both → length words ≡ length more → is_set both x ≡ (is_set more x || is_set words x)
 is_set-joined words more both x all same =
     elim (cases_lt (x / 64) (length words)) [
@@ -127,47 +122,34 @@ words-absorb room words more both ok ok_more all = record {
   tail = λ x over. is_set-joined words more both x all (ok.enough ∙ sym ok_more.enough) ∙ rw (ok_more.tail x over, ok.tail x over) refl;
 }
 
-bit_both : (a b : ℕ) → a < 2 → b < 2 → min a b ≡ 1 → (a == 1 ≡ true) × (b == 1 ≡ true)
-bit_both a b h k e = (grind (arith, nat_tests), grind (arith, nat_tests))
-
-bit_neither : (a b : ℕ) → min a b ≡ 0 → a == 1 ≡ true → b == 1 ≡ true → ⊥
-bit_neither a b e h k = grind (arith, nat_tests)
-
-shared_bit : (words more : List ℕ) (k i : ℕ) → k < length words → k < length more → i < 64 → min (bit_at (get_or words k 0) i) (bit_at (get_or more k 0) i) ≡ 1 → share (set_bits words) (set_bits more) ≡ true
-shared_bit words more k i h h_more in_word one =
-    let word : (64 * k + i) / 64 ≡ k = omega arith in
-    let bit : (64 * k + i) % 64 ≡ i = omega arith in
-    let set_in : (bit_at (get_or words k 0) i == 1 ≡ true) × (bit_at (get_or more k 0) i == 1 ≡ true) = bit_both (bit_at (get_or words k 0) i) (bit_at (get_or more k 0) i) (bit_at-lt (get_or words k 0) i) (bit_at-lt (get_or more k 0) i) one in
-    share_from (64 * k + i) (set_bits words) (set_bits more)
-    (has-set_bits words (64 * k + i) ∙ rw (word, bit) set_in.0)
-    (has-set_bits more (64 * k + i) ∙ rw (word, bit) set_in.1)
-
--- a bit that stands in a word of both
-pub share_word : (words more : List ℕ) (k a b : ℕ) → k < length words → k < length more → a ≡ get_or words k a → b ≡ get_or more k b → a < 2 ^ 64 → (bit_and a b ≡ 0 → ⊥) → true ≡ share (set_bits words) (set_bits more)
-share_word words more k a b h h_more e f small some =
-    let less : bit_and a b < 2 ^ 64 = omega (arith, and_le_l a b) in
-    let found : (trailing_zeros w64 (bit_and a b) < 64) × (bit_at (bit_and a b) (trailing_zeros w64 (bit_and a b)) ≡ 1) × ((i : ℕ) → i < trailing_zeros w64 (bit_and a b) → bit_at (bit_and a b) i ≡ 0) =
-    bit_at-trailing_zeros w64 (bit_and a b) (omega arith) less
-    in
-    sym (shared_bit words more k (trailing_zeros w64 (bit_and a b)) h h_more found.0
-    (rw (← bit_at_and (get_or words k 0) (get_or more k 0) (trailing_zeros w64 (bit_and a b)), ← get_or_default_zero words k a h, ← get_or_default_zero more k b h_more, ← e, ← f) found.1))
-
-pub share_none : (words more : List ℕ) → length words ≡ length more → ((k : ℕ) → k < length words → bit_and (get_or words k 0) (get_or more k 0) ≡ 0) → false ≡ share (set_bits words) (set_bits more)
-share_none words more same none = elim (cases_Bool (share (set_bits words) (set_bits more))) [ inl found ↦ absurd (refuted found) | inr e ↦ sym e ]
+-- some number is in both sets just where the words have a bit in common
+pub meet_bits : (words more : List ℕ) (result : Bool) → length words ≡ length more → IsTrue result ↔ Meet words more → result ≡ share (set_bits words) (set_bits more)
+meet_bits words more result same meet = at result (share (set_bits words) (set_bits more)) (λ h. shared (meet.0 h)) (λ h. meet.1 (found (share_gives (set_bits words) (set_bits more) h)))
   where
-    at : (x : ℕ) → is_set words x ≡ true → is_set more x ≡ true → ⊥
-    at x here there =
-        elim (cases_lt (x / 64) (length words)) [
-          | inl below ↦
-              bit_neither (bit_at (get_or words (x / 64) 0) (x % 64)) (bit_at (get_or more (x / 64) 0) (x % 64))
-              (sym (bit_at_and (get_or words (x / 64) 0) (get_or more (x / 64) 0) (x % 64)) ∙ (ap (λ (n : ℕ). bit_at n (x % 64)) (none (x / 64) below) ∙ bit_at-zero (x % 64))) here there
-          | inr over ↦ false≢true (sym (is_set_past words x over) ∙ here)
-        ]
+    at : (b c : Bool) → (IsTrue b → c ≡ true) → (c ≡ true → IsTrue b) → b ≡ c
+    at true c to from = sym (to refl)
+    at false true to from = from refl
+    at false false to from = refl
 
-    refuted : share (set_bits words) (set_bits more) ≡ true → ⊥
-    refuted found =
-        let w : (x : ℕ) × (has x (set_bits words) ≡ true) × (has x (set_bits more) ≡ true) = share_gives (set_bits words) (set_bits more) found in
-        at w.0 (sym (has-set_bits words w.0) ∙ w.1) (sym (has-set_bits more w.0) ∙ w.2)
+    shared : Meet words more → share (set_bits words) (set_bits more) ≡ true
+    shared place =
+        let word : (64 * place.0 + place.1) / 64 ≡ place.0 = omega (arith, place.3) in
+        let bit : (64 * place.0 + place.1) % 64 ≡ place.1 = omega (arith, place.3) in
+        share_from (64 * place.0 + place.1) (set_bits words) (set_bits more)
+        (has-set_bits words (64 * place.0 + place.1) ∙ rw (word, bit, place.4) refl)
+        (has-set_bits more (64 * place.0 + place.1) ∙ rw (word, bit, place.5) refl)
+
+    one : (n : ℕ) → n == 1 ≡ true → n ≡ 1
+    one n e = eqb-true n 1 e
+
+    within : (x : ℕ) → is_set words x ≡ true → x / 64 < length words
+    within x h = elim (cases_lt (x / 64) (length words)) [ inl below ↦ below | inr over ↦ absurd (false≢true (sym (is_set_past words x over) ∙ h)) ]
+
+    found : (x : ℕ) × (has x (set_bits words) ≡ true) × (has x (set_bits more) ≡ true) → Meet words more
+    found w =
+        let here : is_set words w.0 ≡ true = sym (has-set_bits words w.0) ∙ w.1 in
+        let there : is_set more w.0 ≡ true = sym (has-set_bits more w.0) ∙ w.2 in
+        (w.0 / 64, w.0 % 64, within w.0 here, omega arith, one (bit_at (get_or words (w.0 / 64) 0) (w.0 % 64)) here, one (bit_at (get_or more (w.0 / 64) 0) (w.0 % 64)) there)
 
 -- ---- the count
 
@@ -206,13 +188,5 @@ count_word words total k small before =
     in
     ap (λ (n : ℕ). total + n) (sym here) ∙ (ap (λ (n : ℕ). n + length (passing (is_set words) (64 * k) 64)) before ∙ (sym apart ∙ ap (λ (n : ℕ). length (passing (is_set words) 0 n)) (sym next)))
 
-pub count_le : (test : ℕ → Bool) (v k : ℕ) → length (passing test v k) ≤ k
-count_le test v zero = omega arith
-count_le test v (suc k) = omega (arith, length-cond (test v) v (passing test (suc v) k), count_le test (suc v) k, at (test v))
-  where
-    at : (b : Bool) → cond b 1 0 ≤ 1
-    at true = omega arith
-    at false = omega arith
-
 pub count_fits : (words : List ℕ) (total k : ℕ) → k < 16 → get_or words k 0 < 2 ^ 64 → total ≡ length (passing (is_set words) 0 (64 * k)) → total + ones (get_or words k 0) ≤ 1024
-count_fits words total k few small before = omega (arith, count_word words total k small before, count_le (is_set words) 0 (64 * (k + 1)))
+count_fits words total k few small before = omega (arith, count_word words total k small before, length-passing-le (is_set words) 0 (64 * (k + 1)))

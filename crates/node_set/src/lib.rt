@@ -1,12 +1,10 @@
 //! Sets of node numbers of fixed room: bits in words, seen as ascending lists.
 #![tactic(auto)]
 
-mod laws;
+mod lanes;
 mod set;
 
-pub use laws::{
-    ascending_union, below_means, passing_members, share_means, union_members, unique_list,
-};
+pub use lanes::{lanes_absorb, lanes_meet};
 pub use set::{NodeSet, OutOfMemory};
 
 #[cfg(test)]
@@ -40,6 +38,23 @@ mod tests {
         assert!(rt; low.meets(&high) && high.meets(&low));
         assert_eq!(rt; low.count(), 2);
         assert_eq!(rt; high.count(), 1);
+        Ok(())
+    }
+
+    #[test]
+    fn lanes_of_every_length(rt: HostRuntime) -> Result<(), Fail> {
+        for length in [0, 1, 3, 4, 5, 16] {
+            let zeros = vec![in rt.alloc(); 0u64; length]?;
+            let mut last = vec![in rt.alloc(); 0u64; length]?;
+            if length > 0 {
+                last[length - 1] = 1;
+            }
+            assert_eq!(rt; lanes_meet(&last, &last), length > 0);
+            assert!(rt; !lanes_meet(&last, &zeros));
+            let mut both = vec![in rt.alloc(); 0u64; length]?;
+            lanes_absorb(&mut both, &last);
+            assert_eq!(rt; both.as_slice(), last.as_slice());
+        }
         Ok(())
     }
 

@@ -3,6 +3,7 @@ ghost use Rattle.std.specs.Prelude.{◌≡◌, ◌+◌, ◌*◌, ◌≤◌, ◌<
 ghost use Rattle.node_set.specs.Ascending.{has, inserted, union, share};
 ghost use Rattle.node_set.specs.Nodes.{AreNodes};
 
+use crate::lanes::{lanes_absorb, lanes_meet};
 use std::alloc::{AllocError, Global};
 use std::marker::Model;
 
@@ -65,12 +66,7 @@ impl NodeSet {
         requires { self.now.room ≡ other.now.room }
         ensures { result ≡ share self.now.members other.now.members }
     {
-        for i in 0..self.words.len() {
-            if self.words[i] & other.words[i] != 0 {
-                return true;
-            }
-        }
-        false
+        lanes_meet(&self.words, &other.words)
     }
 
     /// Puts each number of `other` into the set.
@@ -78,10 +74,7 @@ impl NodeSet {
         requires { self.old.room ≡ other.now.room }
         ensures { self.new ≡ record { room = self.old.room; members = union other.now.members self.old.members } }
     {
-        let end = self.words.len();
-        for i in 0..end {
-            self.words[i] |= other.words[i];
-        }
+        lanes_absorb(&mut self.words, &other.words);
     }
 
     /// How many numbers are in the set.

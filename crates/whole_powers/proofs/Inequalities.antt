@@ -1,16 +1,17 @@
 -- Bernoulli's inequality, the sum of two bounds on powers, and the number of phases.
-use Rattle.std.proofs.Common.{◌≡◌, ◌⊎◌, inl, inr, ℕ, zero, suc, ◌+◌, ◌-◌, ◌*◌, ◌^◌, ◌<◌, ◌≤◌, List, [], ◌∷◌, length, ap, subst, arith, lit<}
+use Rattle.std.proofs.Common.{◌≡◌, ◌⊎◌, inl, inr, ℕ, zero, suc, ◌+◌, ◌-◌, ◌*◌, ◌^◌, ◌<◌, ◌≤◌, [], ◌∷◌, length, ap, subst, arith}
 use Rattle.std.proofs.lemmas.Nat.{mul-pow}
 use Rattle.std.proofs.lemmas.Bool.{cases_lt}
-use Rattle.std.proofs.Math.Nat.{pow-zero, pow-succ', one-le-pow, pow-le-pow_left, pow-le-pow_right, le_trans, mul-le-mul_left, mul-le-mul_right, mul-lt-mul_of_pos_left, mul-lt-mul_of_pos_right, lt_of_mul-lt-mul_left, lt_of_mul-lt-mul_right}
-use Rattle.whole_powers.specs.Phases.{FallsBy}
+use Rattle.std.proofs.Math.Nat.{pow-zero, pow-succ', one-le-pow, mul-le-mul_left, mul-le-mul_right, mul-lt-mul_of_pos_left, mul-lt-mul_of_pos_right, lt_of_mul-lt-mul_left, lt_of_mul-lt-mul_right}
+use Rattle.whole_powers.specs.PowerLaws.{lt_of_pow, zero_pow}
+use Rattle.whole_powers.specs.Bounds.{BernoulliAbove, BernoulliBelow, PowersAdd, OnePhase, PhasesBound}
 
 -- ---- Bernoulli's inequality
 
 bernoulli_step : (k x p : ℕ) → 1 + k * x ≤ p → 1 + suc k * x ≤ (1 + x) * p
 bernoulli_step k x p h = grind (arith, mul-le-mul_left x h)
 
-pub bernoulli : (k x : ℕ) → 1 + k * x ≤ (1 + x) ^ k
+pub bernoulli : BernoulliAbove
 bernoulli zero x = rw (pow-zero (1 + x)) (omega arith)
 bernoulli (suc k) x = rw (pow-succ' (1 + x) k) (bernoulli_step k x ((1 + x) ^ k) (bernoulli k x))
 
@@ -18,24 +19,11 @@ bernoulli (suc k) x = rw (pow-succ' (1 + x) k) (bernoulli_step k x ((1 + x) ^ k)
 below_step : (k q a b : ℕ) → suc q * a ≤ suc q * b + k * a → suc q * (suc q * a) ≤ suc q * (q * b) + suc k * (suc q * a)
 below_step k q a b h = omega (arith, mul-le-mul_left q h)
 
-pub bernoulli_below : (k q : ℕ) → suc q * suc q ^ k ≤ suc q * q ^ k + k * suc q ^ k
+pub bernoulli_below : BernoulliBelow
 bernoulli_below zero q = rw (pow-zero (suc q), pow-zero q) (omega arith)
 bernoulli_below (suc k) q = rw (pow-succ' (suc q) k, pow-succ' q k) (below_step k q (suc q ^ k) (q ^ k) (bernoulli_below k q))
 
--- ---- powers and order
-
-pub lt_of_pow : (a b k : ℕ) → a ^ k < b ^ k → a < b
-lt_of_pow a b k h = elim (cases_lt a b) [ inl less ↦ less | inr more ↦ absurd (omega (arith, pow-le-pow_left more k)) ]
-
--- within the limits of the test no power is above 2 ^ 80
-pub small_power : (z k : ℕ) → z ≤ 1024 → k ≤ 8 → z ^ k ≤ 1024 ^ 8
-small_power z k h few = le_trans (pow-le-pow_left h k) (pow-le-pow_right (lit< tt) few)
-
 -- ---- two bounds on powers add up
-
-pub zero_pow : (k : ℕ) → 0 < k → ◌≡◌ {A = ℕ} (0 ^ k) 0
-zero_pow zero pos = absurd (omega arith)
-zero_pow (suc k) pos = rw (pow-succ' 0 k) (omega arith)
 
 zero_from_pow : (z k : ℕ) → z ^ k ≤ 0 → z ≡ 0
 zero_from_pow z k h = elim (cases_lt 0 z) [ inl pos ↦ absurd (omega (arith, one-le-pow k z pos)) | inr none ↦ omega arith ]
@@ -68,7 +56,7 @@ none_larger k r z1 z2 y1 y2 pos whole (inr one) (inr two) =
     let sums : r * (y1 + y2) ^ k < 0 ^ k = subst (λ (n : ℕ). r * (y1 + y2) ^ k < n ^ k) none whole in
     omega (arith, zero_pow k pos)
 
-pub powers_add : (k r z1 z2 y1 y2 : ℕ) → 0 < k → z1 ^ k ≤ r * y1 ^ k → z2 ^ k ≤ r * y2 ^ k → (z1 + z2) ^ k ≤ r * (y1 + y2) ^ k
+pub powers_add : PowersAdd
 powers_add k r z1 z2 y1 y2 pos one two =
     elim (cases_lt (r * (y1 + y2) ^ k) ((z1 + z2) ^ k)) [
       | inl whole ↦
@@ -91,7 +79,7 @@ refuted k u m mk qk kk r left e below rest more less pos =
     let d : m * mk ≡ k * mk + u * mk = omega (arith, ap (λ (n : ℕ). n * mk) e) in
     omega arith
 
-pub one_phase : (k r d q : ℕ) → 0 < k → 0 < r → d ≤ r → r ^ k ≤ r * d ^ k → q ^ k ≤ k ^ k * (r - d) → suc q ^ k ≤ k ^ k * r
+pub one_phase : OnePhase
 one_phase k r d q pos some fits large rest =
     elim (cases_lt (k ^ k * r) (suc q ^ k)) [
       | inl more ↦
@@ -111,6 +99,6 @@ one_phase k r d q pos some fits large rest =
     parts : {r d : ℕ} → d ≤ r → (r - d) + d ≡ r
     parts h = omega arith
 
-pub phases_bound : (k n : ℕ) (parts : List ℕ) → 0 < k → FallsBy k n parts → length parts ^ k ≤ k ^ k * n
+pub phases_bound : PhasesBound
 phases_bound k n [] pos falls = omega (arith, zero_pow k pos)
 phases_bound k n (d ∷ ds) pos falls = one_phase k n d (length ds) pos falls.0 falls.1 falls.2 (phases_bound k (n - d) ds pos falls.3)

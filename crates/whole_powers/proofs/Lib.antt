@@ -1,1 +1,1 @@
-pub mod Inequalities
+mod Inequalities

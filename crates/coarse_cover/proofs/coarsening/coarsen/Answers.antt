@@ -1,12 +1,13 @@
 use Rattle.std.proofs.Common.{◌≡◌, ◌≤◌, ◌*◌, ◌^◌, ℕ, List, [], Bool, length, ap, sym, ◌∙◌, subst}
-use Rattle.coarse_cover.specs.Coarsening.{coarsening, centres}
-use Rattle.coarse_cover.specs.Covers.{sets, IsCover}
+use Rattle.coarse_cover.specs.Coarsening.{coarsening}
+use Rattle.coarse_cover.specs.Covers.{IsCover}
 use Rattle.coarse_cover.specs.Progress.{marked, IsBetween}
 use Rattle.coarse_cover.specs.declared.cover.Cluster.{Cluster}
-use Rattle.coarse_cover.proofs.Marking.{length-sets}
 use Rattle.coarse_cover.proofs.Results.{is_cover, growths_bounded, homes_hold, clusters_apart, phases_bounded, overlap, clusters_few, nothing_in}
 use Rattle.coarse_cover.proofs.Steps.{between_start}
 use Rattle.coarse_cover.proofs.coarsening.coarsen.Goals as goal
+use Rattle.node_set.specs.Balls.{centres, sets}
+use Rattle.node_set.specs.BallLaws.{length-sets}
 use Rattle.coarse_cover.proofs.coarsening.coarsen.Goals.{After-drop-work-5}
 
 pub phase-init : goal.phase-init
@@ -42,7 +43,7 @@ returns-clause-apart c = clusters_apart (sets c.args.balls.now) c.args.k (length
 pub returns-clause-phases : goal.returns-clause-phases
 returns-clause-phases c =
     subst (λ (n : ℕ). c.phase.cover.phases ^ c.args.k ≤ c.args.k ^ c.args.k * n) (length-sets c.args.balls.now)
-    (phases_bounded (sets c.args.balls.now) c.args.k (length c.args.balls.now) c.phase.cover c.requires.low c.requires.centred (cover_is c))
+    (phases_bounded c.powers_add.ensures c.one_phase.ensures (sets c.args.balls.now) c.args.k (length c.args.balls.now) c.phase.cover c.requires.low c.requires.centred (cover_is c))
 
 pub returns-clause-overlap : goal.returns-clause-overlap
 returns-clause-overlap c = λ x. overlap (sets c.args.balls.now) c.args.k (length c.args.balls.now) c.phase.cover x c.requires.low c.requires.centred (cover_is c)

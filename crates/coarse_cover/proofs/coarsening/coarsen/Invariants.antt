@@ -1,7 +1,7 @@
 use Rattle.std.proofs.Common.{◌≡◌, ◌-◌, length}
 use Rattle.coarse_cover.specs.Coarsening.{coarsening}
-use Rattle.coarse_cover.specs.Covers.{sets}
 use Rattle.coarse_cover.specs.Progress.{marked, IsSized, IsBetween}
+use Rattle.node_set.specs.Balls.{sets}
 use Rattle.coarse_cover.proofs.coarsening.coarsen.Given as goal
 
 abbrev pub invariant-phase : goal.invariant-phase

@@ -1,11 +1,11 @@
 use Rattle.std.proofs.Common.{◌≡◌, ◌||◌, ◌+◌, Bool, List, ℕ, ap, arith, refl, subst}
 use Rattle.node_set.specs.Ascending.{has, union}
-use Rattle.node_set.proofs.Ascending.{ascending-union}
-use Rattle.coarse_cover.specs.Coarsening.{union_of}
-use Rattle.coarse_cover.specs.Covers.{sets}
+use Rattle.node_set.specs.SetLaws.{ascending-union}
 use Rattle.coarse_cover.specs.Progress.{marked}
-use Rattle.coarse_cover.proofs.Marking.{marked_from, marked_from_start, absorb_more, absorb_same, absorb_end, ball_at}
+use Rattle.coarse_cover.proofs.Marking.{marked_from, marked_from_start, absorb_more, absorb_same, absorb_end}
 use Rattle.coarse_cover.proofs.marks.absorb_marked.Goals as goal
+use Rattle.node_set.specs.Balls.{union_of, sets}
+use Rattle.node_set.specs.BallLaws.{ball_at}
 use Rattle.coarse_cover.proofs.marks.absorb_marked.Goals.{then-marks-v, else-marks-v}
 
 pub loop-v-init : goal.loop-v-init

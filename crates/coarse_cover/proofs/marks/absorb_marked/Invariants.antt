@@ -1,9 +1,8 @@
 use Rattle.std.proofs.Common.{◌≡◌, ℕ, ◌||◌}
 use Rattle.node_set.specs.Ascending.{has, IsAscending}
-use Rattle.coarse_cover.specs.Coarsening.{union_of}
-use Rattle.coarse_cover.specs.Covers.{sets}
 use Rattle.coarse_cover.specs.Progress.{marked}
 use Rattle.coarse_cover.proofs.Marking.{marked_from}
+use Rattle.node_set.specs.Balls.{union_of, sets}
 use Rattle.coarse_cover.proofs.marks.absorb_marked.Given as goal
 
 abbrev pub invariant-loop-v : goal.invariant-loop-v

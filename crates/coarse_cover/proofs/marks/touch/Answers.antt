@@ -1,7 +1,6 @@
 use Rattle.std.proofs.Common.{arith}
-use Rattle.coarse_cover.specs.Coarsening.{touches}
-use Rattle.coarse_cover.specs.Covers.{sets}
 use Rattle.coarse_cover.proofs.Marking.{marked_filter}
+use Rattle.node_set.specs.Balls.{touches, sets}
 use Rattle.coarse_cover.proofs.marks.touch.Goals as goal
 
 pub returns-clause-marks : goal.returns-clause-marks

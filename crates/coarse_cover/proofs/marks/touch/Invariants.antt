@@ -1,6 +1,5 @@
 use Rattle.std.proofs.Common.{◌≡◌, ℕ, ◌<◌, ◌&&◌, false, get_or}
-use Rattle.coarse_cover.specs.Coarsening.{touches}
-use Rattle.coarse_cover.specs.Covers.{sets}
+use Rattle.node_set.specs.Balls.{touches, sets}
 use Rattle.coarse_cover.proofs.marks.touch.Given as goal
 
 abbrev pub invariant-loop-v : goal.invariant-loop-v

@@ -1,12 +1,12 @@
 use Rattle.std.proofs.Common.{◌≡◌, ◌++◌, [], ◌∷◌, ℕ, List, Bool, cond, not, filter, length, take, drop, get_or, ap, arith, refl, sym, ◌∙◌, subst}
 use Rattle.node_set.specs.Ascending.{has}
 use Rattle.node_set.specs.Nodes.{Nodes}
-use Rattle.coarse_cover.specs.Coarsening.{touches, Grown, cluster_of}
-use Rattle.coarse_cover.specs.Covers.{sets}
+use Rattle.coarse_cover.specs.Coarsening.{cluster_of}
 use Rattle.coarse_cover.specs.Progress.{marked}
 use Rattle.coarse_cover.specs.declared.cover.Cluster.{Cluster}
 use Rattle.coarse_cover.proofs.Marking.{written}
-use Rattle.coarse_cover.proofs.Steps.{shown_is, filter_rest}
+use Rattle.coarse_cover.proofs.Steps.{as_cluster_is, filter_rest}
+use Rattle.node_set.specs.Balls.{touches, GrownCluster, sets}
 use Rattle.coarse_cover.proofs.phasing.add_cluster.Goals as goal
 
 abbrev cluster_with : ℕ → Nodes → ℕ → Cluster
@@ -27,7 +27,7 @@ returns c =
     written c.args.cover.now.home.len c.set_homes.new.home c.args.cover.now.home.items home_len c.args.cover.now.home.ok.0
     in
     let number : c.len-number.result ≡ length c.args.cover.now.clusters.items = c.len-number.ensures ∙ c.args.cover.now.clusters.ok.0 in
-    let cluster : List Bool → Grown = λ l. cluster_of (sets c.args.balls.now) c.args.k c.args.r (marked l) c.args.first in
+    let cluster : List Bool → GrownCluster = λ l. cluster_of (sets c.args.balls.now) c.args.k c.args.r (marked l) c.args.first in
     let members : c.in_ok-members.members ≡ record { room = length c.args.balls.now; members = (cluster c.args.work.now.waiting.items).members } =
     subst (λ (l : List Bool). c.in_ok-members.members ≡ record { room = length c.args.balls.now; members = (cluster l).members }) c.deref.ensures.value c.in_ok-members.ensures.members
     in
@@ -47,7 +47,7 @@ returns c =
           ap (λ (l : List ℕ). filter (λ v. not (has v l)) (marked c.args.work.now.left.items)) (ap marked c.deref-2.ensures.value ∙ taken)));
       clusters = c.in_ok-push.ensures.items ∙
           ap (λ (x : Cluster). c.args.cover.now.clusters.items ++ x ∷ [])
-          (ap (λ (m : Nodes). cluster_with c.args.first m c.args.cover.now.phases) members ∙ sym (shown_is (sets c.args.balls.now) c.args.k c.args.r c.args.first (length c.args.balls.now) c.args.cover.now.phases (marked c.args.work.now.waiting.items)));
+          (ap (λ (m : Nodes). cluster_with c.args.first m c.args.cover.now.phases) members ∙ sym (as_cluster_is (sets c.args.balls.now) c.args.k c.args.r c.args.first (length c.args.balls.now) c.args.cover.now.phases (marked c.args.work.now.waiting.items)));
       homes = λ v h. rw home (c.set_homes.ensures v (omega arith) ∙
           (ap (λ (l : List ℕ). cond (has v l) c.len-number.result (get_or c.deref_mut-3.result.now v 0)) (ap marked c.deref-4.ensures.value ∙ taken) ∙
           (ap (λ (n : ℕ). cond (has v (cluster_of (sets c.args.balls.now) c.args.k c.args.r (marked c.args.work.now.waiting.items) c.args.first).homed) n (get_or c.deref_mut-3.result.now v 0)) number ∙

@@ -1,10 +1,11 @@
 use Rattle.std.proofs.Common.{◌≡◌, ◌<◌, ◌≤◌, ℕ, List, [], ◌∷◌, Bool, false, length, get_or, ap, arith, refl, sym, ◌∙◌, subst, add-one, below_more}
-use Rattle.coarse_cover.specs.Coarsening.{Grown, cluster_of}
-use Rattle.coarse_cover.specs.Covers.{sets}
+use Rattle.coarse_cover.specs.Coarsening.{cluster_of}
 use Rattle.coarse_cover.specs.Progress.{marked, IsAdded}
-use Rattle.coarse_cover.proofs.Marking.{marked_few, marked_lead, marked_none, any_default, length-sets}
+use Rattle.coarse_cover.proofs.Marking.{marked_few, marked_lead, marked_none, any_default}
 use Rattle.coarse_cover.proofs.Steps.{in_phase_start, in_phase_next, in_phase_end, in_phase_numbers, in_phase_number, none_next}
 use Rattle.coarse_cover.proofs.phasing.make_phase.Goals as goal
+use Rattle.node_set.specs.Balls.{GrownCluster, sets}
+use Rattle.node_set.specs.BallLaws.{length-sets}
 use Rattle.coarse_cover.proofs.phasing.make_phase.Goals.{then-index+in_ok-add_cluster, else-index}
 
 pub loop-first-init : goal.loop-first-init
@@ -44,7 +45,7 @@ loop-first-preserved c =
           marked_lead c.loop-first.work.waiting.items c.loop-first.first within c.loop-first.invariant.none_before
           (any_default c.loop-first.work.waiting.items c.loop-first.first false c.index.result.now within ∙ (sym c.index.ensures ∙ w.if-index.true))
           in
-          let cluster : Grown = cluster_of (sets c.args.balls.now) c.args.k c.count-r.result (marked c.loop-first.work.waiting.items) c.loop-first.first in
+          let cluster : GrownCluster = cluster_of (sets c.args.balls.now) c.args.k c.count-r.result (marked c.loop-first.work.waiting.items) c.loop-first.first in
           let added : IsAdded (length c.args.balls.now) (sets c.args.balls.now) cluster c.loop-first.work w.add_cluster.new.work c.loop-first.cover w.add_cluster.new.cover = w.in_ok-add_cluster.ensures in
           rw (w.work-is, w.cover-is) (record {
             in_phase = in_phase_next (sets c.args.balls.now) c.args.k c.count-r.result c.loop-first.first leads.0 c.loop-first.work w.add_cluster.new.work c.loop-first.cover w.add_cluster.new.cover leads.1

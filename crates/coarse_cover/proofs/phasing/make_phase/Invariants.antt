@@ -1,6 +1,6 @@
 use Rattle.std.proofs.Common.{◌≡◌, ℕ, ◌<◌, ◌≤◌, false, length, get_or}
-use Rattle.coarse_cover.specs.Covers.{sets}
 use Rattle.coarse_cover.specs.Progress.{marked, IsSized, IsInPhase}
+use Rattle.node_set.specs.Balls.{sets}
 use Rattle.coarse_cover.proofs.phasing.make_phase.Given as goal
 
 abbrev pub invariant-loop-first : goal.invariant-loop-first

@@ -1,4 +1,4 @@
-use Rattle.net_graph.proofs.WalkLaws.{least_everywhere, unreached_everywhere}
+use Rattle.net_graph.specs.WalkLaws.{least_everywhere, unreached_everywhere}
 use Rattle.net_graph.proofs.laws.all_allowed_is_everywhere.Goals as goal
 
 pub returns-clause-least : goal.returns-clause-least

@@ -1,4 +1,4 @@
-use Rattle.net_graph.proofs.WalkLaws.{least_positive}
+use Rattle.net_graph.specs.WalkLaws.{least_positive}
 use Rattle.net_graph.proofs.laws.least_weight_is_positive.Goals as goal
 
 pub returns : goal.returns

@@ -1,5 +1,5 @@
 use Rattle.std.proofs.Common.{◌++◌}
-use Rattle.net_graph.proofs.WalkLaws.{walk_turned, walk-append}
+use Rattle.net_graph.specs.WalkLaws.{walk_turned, walk-append}
 use Rattle.net_graph.proofs.laws.reached_both_ways.Goals as goal
 
 pub returns-clause-back : goal.returns-clause-back

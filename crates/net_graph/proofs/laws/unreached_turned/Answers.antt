@@ -1,4 +1,4 @@
-use Rattle.net_graph.proofs.WalkLaws.{unreached_back}
+use Rattle.net_graph.proofs.Replacing.{unreached_back}
 use Rattle.net_graph.proofs.laws.unreached_turned.Goals as goal
 
 pub returns : goal.returns

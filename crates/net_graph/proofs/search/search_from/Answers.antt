@@ -1,26 +1,52 @@
-use Rattle.std.proofs.Common.{◌≡◌, ◌∙◌, ℕ, None, ap, arith, rules, length, drop, replicate}
+use Rattle.std.proofs.Common.{◌≡◌, ◌∙◌, ℕ, List, None, ◌∷◌, ap, subst, arith, rules, length, drop, replicate}
+use Rattle.std.specs.Prelude.{IsPermutation}
+use Rattle.std.specs.BinaryHeap.{heap_items}
 use Rattle.net_graph.specs.Walks.{among}
-use Rattle.net_graph.proofs.Searching.{search_begins, search_settles, search_ends}
+use Rattle.net_graph.specs.Queue.{Waiting, make_waiting}
+use Rattle.net_graph.proofs.Searching.{search_begins, queue_begins, next_is_lightest, light_enough, search_settles, search_ends}
 use Rattle.net_graph.proofs.search.search_from.Goals as goal
 
 pub loop-lightest-init : goal.loop-lightest-init
 loop-lightest-init c =
     let copied : c.in_ok-unsettled.unsettled.items ≡ c.args.allowed.now = search rules in
     let filled : c.in_ok-weights.weights.items ≡ replicate c.nodes.result None = search rules in
-    let weights : c.in_ok-weights.weights.items ≡ replicate c.args.neighbours.now.nodes None = filled ∙ ap (λ (n : ℕ). replicate n None) c.nodes.ensures.count in
+    let weights : c.in_ok-weights.weights.items ≡ replicate c.args.neighbours.now.nodes None =
+    filled ∙ ap (λ (n : ℕ). replicate n None) c.nodes.ensures.count in
     rw (copied, weights)
-    (search_begins c.args.neighbours.now c.args.allowed.now c.args.root c.nodes.ensures.limits.positive c.requires.count c.requires.root)
+    (record {
+      found = search_begins c.args.neighbours.now c.args.allowed.now c.args.root c.nodes.ensures.limits.positive
+          c.requires.count c.requires.root;
+      queue = queue_begins c.args.neighbours.now.nodes c.args.allowed.now c.args.root (heap_items c.push.new.self.heap)
+          c.requires.count c.requires.root
+          (subst (λ (xs : List Waiting). IsPermutation (make_waiting 0 c.args.root ∷ xs) (heap_items c.push.new.self.heap))
+          c.new-queue.ensures c.in_ok-push.ensures);
+    })
+
+pub next_unsettled-requires : goal.next_unsettled-requires
+next_unsettled-requires c = rw c.deref.ensures.value c.loop-lightest.invariant.queue.below
+
+pub relax-requires-clause-weight : goal.relax-requires-clause-weight
+relax-requires-clause-weight c =
+    light_enough c.args.neighbours.now (among c.args.allowed.now) c.args.root c.loop-lightest.unsettled.items
+    c.loop-lightest.weights.items c.loop-lightest.invariant.found c.in-Some.lightest
+    (next_is_lightest c.loop-lightest.unsettled.items c.loop-lightest.weights.items (heap_items c.loop-lightest.queue.heap)
+    (heap_items c.next_unsettled.new.self.heap) c.loop-lightest.invariant.queue c.in-Some.lightest
+    (rw c.deref.ensures.value at c.in-Some.ensures.next))
+    c.nodes.ensures.limits.few
 
 pub loop-lightest-preserved : goal.loop-lightest-preserved
 loop-lightest-preserved c =
-    search_settles c.args.neighbours.now (among c.args.allowed.now) c.args.root c.loop-lightest.unsettled.items c.loop-lightest.weights.items
-    c.loop-lightest.invariant c.in-Some.lightest
-    (rw (c.deref.ensures.value, c.deref-in-loop-lightest.ensures.value) at c.in-Some.ensures)
-    c.arcs_of.result.now c.arcs_of.ensures c.relax.new.weights (drop (length c.relax.new.weights) c.loop-lightest.weights.items) c.loop-lightest.weights.len
-    (rw (c.deref-in-Some.ensures.value, c.deref_mut.ensures.value) at c.relax.ensures)
+    search_settles c.args.neighbours.now (among c.args.allowed.now) c.args.root c.loop-lightest.unsettled.items
+    c.loop-lightest.weights.items (heap_items c.loop-lightest.queue.heap) (heap_items c.next_unsettled.new.self.heap)
+    (heap_items c.relax.new.queue.heap) c.loop-lightest.invariant c.in-Some.lightest
+    (rw c.deref.ensures.value at c.in-Some.ensures.next)
+    c.arcs_of-arcs.result.now c.arcs_of-arcs.ensures c.relax.new.weights
+    (drop (length c.relax.new.weights) c.loop-lightest.weights.items) c.loop-lightest.weights.len
+    (rw (c.deref-in-Some.ensures.value, c.deref_mut.ensures.value) at c.in_ok-relax.ensures)
     (omega (arith, c.relax.auto.weights, c.deref_mut.ensures.len))
 
 pub returns : goal.returns
 returns c =
-    search_ends c.args.neighbours.now (among c.args.allowed.now) c.args.root c.loop-lightest.unsettled.items c.loop-lightest.weights.items
-    c.loop-lightest.invariant (rw (c.deref.ensures.value, c.deref-in-loop-lightest.ensures.value) at c.in_default.ensures)
+    search_ends c.args.neighbours.now (among c.args.allowed.now) c.args.root c.loop-lightest.unsettled.items
+    c.loop-lightest.weights.items c.loop-lightest.invariant.found (heap_items c.loop-lightest.queue.heap)
+    c.loop-lightest.invariant.queue (rw c.deref.ensures.value at c.in_default.ensures.none)

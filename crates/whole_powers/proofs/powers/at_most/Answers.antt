@@ -1,6 +1,6 @@
 use Rattle.std.proofs.Common.{◌^◌, ◌≤◌, arith}
 use Rattle.std.proofs.Math.Nat.{mul-le-mul_right}
-use Rattle.whole_powers.proofs.Inequalities.{small_power}
+use Rattle.whole_powers.specs.PowerLaws.{small_power}
 use Rattle.whole_powers.proofs.powers.at_most.Goals as goal
 
 pub pow-requires : goal.pow-requires

@@ -1,5 +1,5 @@
 use Rattle.std.proofs.Common.{◌∙◌}
-use Rattle.node_set.proofs.Ascending.{below-has}
+use Rattle.node_set.specs.SetLaws.{below-has}
 use Rattle.cluster_tree.specs.Faults.{IsTreeFault}
 use Rattle.cluster_tree.proofs.Growing.{err_passed, is_fault, is_tree, is_kept}
 use Rattle.cluster_tree.proofs.tree.ClusterTree.new.Goals as goal
@@ -26,9 +26,9 @@ invariant_of-result c =
     c.in_ok-flags.flags.items c.in_ok-flags.ensures.flags c.in_ok-weights.weights.items
     (rw c.deref.ensures.value at c.in_ok-weights.ensures.weights)
     c.in_ok-weighed.weighed (rw c.deref-2.ensures.value at c.in_ok-weighed.ensures.weighed)
-    c.greatest-depth.result
-    (rw c.deref-3.ensures.value at c.greatest-depth.ensures.bound)
-    (rw c.deref-3.ensures.value at c.greatest-depth.ensures.attained)
+    c.greatest_weight-depth.result
+    (rw c.deref-3.ensures.value at c.greatest_weight-depth.ensures.bound)
+    (rw c.deref-3.ensures.value at c.greatest_weight-depth.ensures.attained)
 
 pub returns-clause-tree : goal.returns-clause-tree
 returns-clause-tree c =

@@ -2,7 +2,7 @@ use Rattle.std.proofs.Common.{◌≡◌, ◌∙◌, true, sym, subst, ap, arith}
 use Rattle.std.proofs.lemmas.List.{get_or_read}
 use Rattle.node_set.specs.Ascending.{has}
 use Rattle.cluster_tree.specs.Tree.{WeighedCluster, inside_weight}
-use Rattle.cluster_tree.proofs.Places.{found_place, always_found}
+use Rattle.cluster_tree.specs.PlaceLaws.{found_place, always_found}
 use Rattle.cluster_tree.proofs.tree.ClusterTree.weight_of.Goals as goal
 
 pub unreachable-requires : goal.unreachable-requires

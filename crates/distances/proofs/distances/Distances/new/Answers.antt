@@ -1,32 +1,31 @@
-use Rattle.std.proofs.Common.{◌≡◌, ◌∙◌, ℕ, true, replicate, ap, subst, arith, rules}
-use Rattle.distances.proofs.Filling.{AreRowsOf, all_light, more_rows, kept}
+use Rattle.std.proofs.Common.{ℕ, ◌++◌, List, length, take, drop, subst, sym}
+use Rattle.distances.specs.Table.{IsSoundTable}
+use Rattle.distances.specs.Table.{AreDistancesOf}
+use Rattle.distances.proofs.Filling.{distances, kept}
+use Rattle.distances.proofs.FirstTable.{rows_made}
 use Rattle.distances.proofs.distances.Distances.new.Goals as goal
-
-pub push_weights-requires : goal.push_weights-requires
-push_weights-requires c =
-    let filled : c.in_ok-allowed.allowed.items ≡ replicate c.nodes-nodes.result true = search rules in
-    rw c.deref-in-loop-u.ensures.value
-    (all_light c.args.graph.now c.nodes-nodes.ensures.sound c.in_ok-allowed.allowed.items
-    (filled ∙ ap (λ (n : ℕ). replicate n true) c.nodes-nodes.ensures.count)
-    c.loop-u.u (omega (arith, c.nodes-nodes.ensures.count)) c.in_ok-weights.weights.items
-    (rw c.deref.ensures.value at c.in_ok-weights.ensures.weights))
-
-pub loop-u-preserved : goal.loop-u-preserved
-loop-u-preserved c =
-    let filled : c.in_ok-allowed.allowed.items ≡ replicate c.nodes-nodes.result true = search rules in
-    more_rows c.args.graph.now c.nodes-nodes.ensures.sound c.in_ok-allowed.allowed.items
-    (filled ∙ ap (λ (n : ℕ). replicate n true) c.nodes-nodes.ensures.count)
-    c.loop-u.u (omega (arith, c.nodes-nodes.ensures.count)) c.in_ok-weights.weights.items
-    (rw c.deref.ensures.value at c.in_ok-weights.ensures.weights)
-    c.loop-u.table.items c.push_weights.new.table.items c.loop-u.invariant
-    (rw c.deref-in-loop-u.ensures.value at c.in_ok-push_weights.ensures)
 
 pub invariant_of-result : goal.invariant_of-result
 invariant_of-result c =
-    let done : c.loop-u.u ≡ c.args.graph.now.nodes = omega (arith, c.nodes-nodes.ensures.count) in
-    rw c.nodes-nodes.ensures.count
-    (kept c.args.graph.now c.nodes-nodes.ensures.sound c.loop-u.table.items
-    (subst (λ (u : ℕ). AreRowsOf c.args.graph.now u c.loop-u.table.items) done c.loop-u.invariant)
-    c.greatest-diameter.result
-    (rw c.deref-2.ensures.value at c.greatest-diameter.ensures.bound)
-    (rw c.deref-2.ensures.value at c.greatest-diameter.ensures.attained))
+    let more : List ℕ = drop (length c.take_back_all.new.table) (take c.in_ok-table.table.len
+    (c.leave_out_all.new.table ++ drop (length c.leave_out_all.new.table) c.in_ok-table.table.items)) in
+    let cells : List ℕ = take c.in_ok-table.table.len (c.take_back_all.new.table ++ more) in
+    subst (λ (n : ℕ). IsSoundTable (record { nodes = n; cells = cells }) c.greatest_weight-diameter.result) (sym c.nodes-nodes.ensures.count)
+    (kept c.args.graph.now c.nodes-nodes.ensures.sound cells
+    (rows_made c.reached_has_a_least_weight.ensures c.args.graph.now c.nodes-nodes.ensures.sound c.nodes-nodes.result c.nodes-nodes.ensures.count
+    c.in_ok-table.table.items c.deref_mut.result.now c.in_ok-stages.stages.items c.take_back_all.new.table more c.in_ok-table.table.len
+    c.in_ok-table.ensures c.deref_mut.ensures.value c.deref_mut.ensures.len c.in_ok-stages.ensures.stages c.in_ok-take_back_all.ensures)
+    c.greatest_weight-diameter.result
+    (rw c.deref.ensures.value at c.greatest_weight-diameter.ensures.bound)
+    (rw c.deref.ensures.value at c.greatest_weight-diameter.ensures.attained))
+
+pub returns : goal.returns
+returns c =
+    let more : List ℕ = drop (length c.take_back_all.new.table) (take c.in_ok-table.table.len
+    (c.leave_out_all.new.table ++ drop (length c.leave_out_all.new.table) c.in_ok-table.table.items)) in
+    let cells : List ℕ = take c.in_ok-table.table.len (c.take_back_all.new.table ++ more) in
+    subst (λ (n : ℕ). AreDistancesOf c.args.graph.now (record { nodes = n; cells = cells })) (sym c.nodes-nodes.ensures.count)
+    (distances c.args.graph.now c.nodes-nodes.ensures.sound cells
+    (rows_made c.reached_has_a_least_weight.ensures c.args.graph.now c.nodes-nodes.ensures.sound c.nodes-nodes.result c.nodes-nodes.ensures.count
+    c.in_ok-table.table.items c.deref_mut.result.now c.in_ok-stages.stages.items c.take_back_all.new.table more c.in_ok-table.table.len
+    c.in_ok-table.ensures c.deref_mut.ensures.value c.deref_mut.ensures.len c.in_ok-stages.ensures.stages c.in_ok-take_back_all.ensures))

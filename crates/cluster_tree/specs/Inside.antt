@@ -1,0 +1,48 @@
+-- The weights inside a cluster, written after others in one flat list.
+use Rattle.std.specs.Prelude.{◌≡◌, ◌≢◌, ℕ, ◌+◌, ◌≤◌, true, List, ◌++◌, length, Contains, slice_index}
+use Rattle.net_graph.specs.declared.neighbours.Arc.{Arc}
+use Rattle.net_graph.specs.Layout.{make_arc}
+use Rattle.net_graph.specs.Walks.{Joins}
+use Rattle.net_graph.specs.Network.{Network}
+use Rattle.node_set.specs.Ascending.{has}
+use Rattle.cluster_tree.specs.Tree.{WeighedCluster, IsTreeOf, IsSoundTree}
+
+-- the cluster of these members with these weights
+abbrev pub make_cluster : ℕ → List ℕ → List ℕ → WeighedCluster
+make_cluster leader members weights = record { leader = leader; members = members; weights = weights }
+
+-- the weights inside the cluster from the leader to each member, in the order of the members, stand after the old ones
+pub record IsAppended (network : Network) (members : List ℕ) (leader : ℕ) (old new : List ℕ) : Type 0 where
+  pub weights : List ℕ
+  pub appended : new ≡ old ++ weights
+  pub count : length weights ≡ length members
+  pub tree : IsTreeOf network members leader (make_cluster leader members weights)
+
+-- the weights inside the cluster stand after the old ones, and the greatest of them is the depth
+pub record IsWritten (network : Network) (members : List ℕ) (leader : ℕ) (old new : List ℕ) (depth : ℕ) : Type 0 where
+  pub weights : List ℕ
+  pub appended : new ≡ old ++ weights
+  pub tree : IsTreeOf network members leader (make_cluster leader members weights)
+  pub sound : IsSoundTree (make_cluster leader members weights) depth
+
+-- an arc leads to a member that is nearer by just the arc's weight; the row has the distances from the leader
+pub record HasNearer (members row : List ℕ) (arcs : List Arc) (far : ℕ) : Type 0 where
+  pub node : ℕ
+  pub weight : ℕ
+  pub arc : Contains arcs (make_arc node weight)
+  pub member : has node members ≡ true
+  pub sum : far ≡ slice_index row node + weight
+
+-- an edge joins v to a member that is nearer to the leader by just the edge's weight
+pub record ComesBy (network : Network) (members row : List ℕ) (v : ℕ) : Type 0 where
+  pub node : ℕ
+  pub weight : ℕ
+  pub joined : Joins network.edges v node weight
+  pub positive : 1 ≤ weight
+  pub member : has node members ≡ true
+  pub sum : slice_index row v ≡ slice_index row node + weight
+
+-- the listed members but the leader are joined to nearer members
+abbrev pub AreJoined : Network → List ℕ → List ℕ → ℕ → List ℕ → Type 0
+AreJoined network members listed leader row =
+    (v : ℕ) → Contains listed v → v ≢ leader → ComesBy network members row v

@@ -1,0 +1,227 @@
+//! The weights inside a cluster, for callers that keep those of many clusters in one flat list.
+
+ghost use Rattle.std.specs.Prelude.{◌≡◌, ◌<◌, ◌++◌, All, Contains, IfErr, IfOk, IsTrue, OnOk, length, map, slice_index, true};
+ghost use Rattle.net_graph.specs.Layout.{IsArc};
+ghost use Rattle.net_graph.specs.Trees.{AreDistancesFrom};
+ghost use Rattle.node_set.specs.Ascending.{IsAscending, has};
+ghost use Rattle.node_set.specs.Nodes.{AreNodes};
+ghost use Rattle.cluster_tree.specs.Faults.{IsTreeFault};
+ghost use Rattle.cluster_tree.specs.Inside.{AreJoined, HasNearer, IsAppended, IsWritten};
+
+use crate::fault::TreeFault;
+use crate::weighing::{flags_of, weigh};
+use net_graph::{Arc, Graph, OutOfMemory, greatest_weight};
+use node_set::NodeSet;
+use std::alloc::Global;
+
+/// Appends to `weights` the weight inside a cluster from its leader to each member, in the order of `members`, which are
+/// those of `cluster`, and gives the greatest of them. `row` has the distances from the leader. `Outside` names the least
+/// member that no walk through members alone reaches from the leader. After an error `weights` may end in some weights
+/// of this cluster.
+///
+/// A search is needed only where some member has no arc from a member that is nearer to the leader by just the arc's
+/// weight: else the weights inside are the distances.
+pub fn inside_weights(
+    alloc: Global,
+    graph: &Graph,
+    row: &[u32],
+    cluster: &NodeSet,
+    members: &[u32],
+    leader: u32,
+    weights: &mut Vec<u32>,
+) -> Result<u32, TreeFault>
+    requires room { cluster.now.room ≡ graph.now.nodes }
+    requires members { members.now ≡ cluster.now.members }
+    requires leader { IsTrue (has leader cluster.now.members) }
+    requires row { AreDistancesFrom graph.now leader row.now }
+    ensures written { IfOk result
+        (IsWritten graph.now members.now leader weights.old.items weights.new.items) }
+    ensures fault { IfErr result (IsTreeFault graph.now members.now leader) }
+{
+    let start = weights.len();
+    push_inside(alloc, graph, row, cluster, members, leader, weights)?;
+    Ok(greatest_weight(&weights[start..]))
+}
+
+// Appends the weight of each member: its distance, where the members are joined to nearer ones.
+fn push_inside(
+    alloc: Global,
+    graph: &Graph,
+    row: &[u32],
+    cluster: &NodeSet,
+    members: &[u32],
+    leader: u32,
+    weights: &mut Vec<u32>,
+) -> Result<(), TreeFault>
+    requires room { cluster.now.room ≡ graph.now.nodes }
+    requires members { members.now ≡ cluster.now.members }
+    requires leader { IsTrue (has leader cluster.now.members) }
+    requires row { AreDistancesFrom graph.now leader row.now }
+    ensures appended { OnOk result
+        (IsAppended graph.now members.now leader weights.old.items weights.new.items) }
+    ensures ordered { IsAscending members.now }
+    ensures fault { IfErr result (IsTreeFault graph.now members.now leader) }
+{
+    members_ascend(cluster);
+    if are_joined(graph, row, cluster, members, leader) {
+        push_distances(row, members, weights)?;
+        return Ok(());
+    }
+    push_found(alloc, graph, cluster, leader, weights)
+}
+
+// The members of a set ascend, and lie below its room.
+fn members_ascend(cluster: &NodeSet)
+    ensures { AreNodes cluster.now }
+{
+    cluster.room();
+}
+
+// Whether each member but the leader has an arc from a member that is nearer to the leader by just the arc's weight.
+fn are_joined(graph: &Graph, row: &[u32], cluster: &NodeSet, members: &[u32], leader: u32) -> bool
+    requires room { cluster.now.room ≡ graph.now.nodes }
+    requires members { All (λ v. v < graph.now.nodes) members.now }
+    requires row { length row.now ≡ graph.now.nodes }
+    ensures { result ≡ true →
+        AreJoined graph.now cluster.now.members members.now leader row.now }
+{
+    for member in members {
+        if *member != leader
+            && !has_nearer(graph.arcs_of(*member), row, cluster, row[*member as usize])
+        {
+            return false;
+        }
+    }
+    true
+}
+
+// Whether an arc leads to a member that is nearer by just the arc's weight.
+fn has_nearer(arcs: &[Arc], row: &[u32], cluster: &NodeSet, far: u32) -> bool
+    requires arcs { All (IsArc cluster.now.room) arcs.now }
+    requires row { length row.now ≡ cluster.now.room }
+    ensures { result ≡ true → HasNearer cluster.now.members row.now arcs.now far }
+{
+    for arc in arcs {
+        let through = u64::from(row[arc.target as usize]) + u64::from(arc.weight);
+        if through == u64::from(far) && cluster.has(arc.target) {
+            return true;
+        }
+    }
+    false
+}
+
+// Appends the distance of each member.
+fn push_distances(row: &[u32], members: &[u32], weights: &mut Vec<u32>) -> Result<(), OutOfMemory>
+    requires { All (λ v. v < length row.now) members.now }
+    ensures { OnOk result
+        (weights.new.items ≡ weights.old.items ++ map (slice_index row.now) members.now) }
+{
+    for member in members {
+        weights.push(row[*member as usize])?;
+    }
+    Ok(())
+}
+
+// Appends the weight of each member by a search.
+fn push_found(
+    alloc: Global,
+    graph: &Graph,
+    cluster: &NodeSet,
+    leader: u32,
+    weights: &mut Vec<u32>,
+) -> Result<(), TreeFault>
+    requires room { cluster.now.room ≡ graph.now.nodes }
+    requires leader { IsTrue (has leader cluster.now.members) }
+    ensures found { OnOk result
+        (IsAppended graph.now cluster.now.members leader weights.old.items
+        weights.new.items) }
+    ensures fault { IfErr result (IsTreeFault graph.now cluster.now.members leader) }
+{
+    let flags = flags_of(alloc, cluster)?;
+    let found = graph.weights_from(alloc, &flags, leader)?;
+    let weighed = weigh(alloc, cluster, &found)?;
+    weights.extend_from_slice(&weighed.weights)?;
+    Ok(())
+}
+
+#[cfg(test)]
+mod tests {
+    use super::*;
+    use net_graph::Edge;
+    use std::test::Fail;
+
+    // The distances from a node.
+    fn distances_from(alloc: Global, graph: &Graph, root: u32) -> Result<Vec<u32>, Fail>
+        requires { root < graph.now.nodes }
+        ensures { IfOk result (λ row. AreDistancesFrom graph.now root row.items) }
+    {
+        let allowed = vec![in alloc; true; graph.nodes() as usize]?;
+        let weights = graph.weights_from(alloc, &allowed, root)?;
+        let mut row = Vec::with_capacity(alloc, weights.len())?;
+        for weight in &weights {
+            row.push(weight.unwrap() as u32)?;
+        }
+        Ok(row)
+    }
+
+    // Three nodes in a triangle, of which two are joined best by way of the third.
+    fn triangle(alloc: Global) -> Result<Graph, Fail>
+        ensures { IfOk result (λ graph. graph.nodes ≡ 3) }
+    {
+        let edges = [
+            Edge {
+                a: 0,
+                b: 1,
+                weight: 1,
+            },
+            Edge {
+                a: 1,
+                b: 2,
+                weight: 1,
+            },
+            Edge {
+                a: 0,
+                b: 2,
+                weight: 5,
+            },
+        ];
+        Ok(Graph::new(alloc, 3, &edges)?)
+    }
+
+    #[test]
+    fn distances_inside_all_nodes(rt: HostRuntime) -> Result<(), Fail> {
+        let graph = triangle(rt.alloc())?;
+        let row = distances_from(rt.alloc(), &graph, 0)?;
+        let mut cluster = NodeSet::empty(rt.alloc(), 3)?;
+        cluster.insert(2);
+        cluster.insert(1);
+        cluster.insert(0);
+        let mut weights = Vec::new(rt.alloc());
+        let depth = inside_weights(
+            rt.alloc(),
+            &graph,
+            &row,
+            &cluster,
+            &[0, 1, 2],
+            0,
+            &mut weights,
+        )?;
+        assert_eq!(rt; weights.as_slice(), [0, 1, 2].as_slice());
+        assert_eq!(rt; depth, 2);
+        Ok(())
+    }
+
+    #[test]
+    fn a_detour_inside_a_pair(rt: HostRuntime) -> Result<(), Fail> {
+        let graph = triangle(rt.alloc())?;
+        let row = distances_from(rt.alloc(), &graph, 0)?;
+        let mut cluster = NodeSet::empty(rt.alloc(), 3)?;
+        cluster.insert(2);
+        cluster.insert(0);
+        let mut weights = vec![in rt.alloc(); 7; 1]?;
+        let depth = inside_weights(rt.alloc(), &graph, &row, &cluster, &[0, 2], 0, &mut weights)?;
+        assert_eq!(rt; weights.as_slice(), [7, 0, 5].as_slice());
+        assert_eq!(rt; depth, 5);
+        Ok(())
+    }
+}

@@ -1,0 +1,79 @@
+-- Leaving a node out keeps what the lengths between the other nodes are made of.
+use Rattle.std.proofs.Common.{◌≡◌, ◌≢◌, ℕ, ◌+◌, ◌<◌, ◌≤◌, min, List, sym, subst, inl, inr, arith}
+use Rattle.std.specs.Prelude.{Contains}
+use Rattle.std.proofs.lemmas.Bool.{cases_eq}
+use Rattle.distances.specs.declared.elimination.Near.{Near}
+use Rattle.distances.specs.declared.elimination.TheConstants.{FAR}
+use Rattle.distances.specs.Stages.{AreLengths, GoesOn, KeepsLengths, IsStage, make_near}
+
+module _ (n : ℕ) (d : ℕ → ℕ → ℕ) (lengths : AreLengths n d) (old new : ℕ → Type 0) (v : ℕ)
+    (within : (x : ℕ) → old x → x < n) (v_old : old v)
+    (fewer : (x : ℕ) → new x → old x × (x ≢ v)) (rest : (x : ℕ) → old x → x ≢ v → new x)
+    (c e : ℕ → ℕ → ℕ) (keeps : KeepsLengths old c d) where
+  module _ (lowered : (a b : ℕ) → new a → new b → e a b ≡ min (c a b) (c v a + c v b)) where
+    around : (a b y : ℕ) → new a → new b → old y → y ≢ v → c a v + d v b ≤ d a b → c v y + d y b ≤ d v b → GoesOn new e d a b
+    around a b y a_new b_new y_old other first second =
+        let a_old = fewer a a_new in
+        let turned : c a v ≡ c v a = keeps.turned a v a_old.0 v_old in
+        elim (cases_eq y a) [
+          | inl same ↦
+              let here : c v a + d a b ≤ d v b = subst (λ i. c v i + d i b ≤ d v b) same second in
+              let some : 1 ≤ d a v = lengths.positive a v (within a a_old.0) (within v v_old) a_old.1 in
+              let sound : d a v ≤ c a v = keeps.sound a v a_old.0 v_old in
+              absurd (omega arith)
+          | inr apart ↦
+              let y_new : new y = rest y y_old other in
+              let low : e a y ≡ min (c a y) (c v a + c v y) = lowered a y a_new y_new in
+              record { next = y; is_left = y_new; other = apart; short = omega arith }
+        ]
+
+    pub left_out : KeepsLengths new e d
+    left_out = record {
+      sound = λ a b a_new b_new.
+          let a_old = fewer a a_new in
+          let b_old = fewer b b_new in
+          omega (
+            arith,
+            lowered a b a_new b_new,
+            keeps.sound a b a_old.0 b_old.0,
+            keeps.sound v a v_old a_old.0,
+            keeps.sound v b v_old b_old.0,
+            lengths.triangle a v b (within a a_old.0) (within v v_old) (within b b_old.0),
+            lengths.turned a v (within a a_old.0) (within v v_old),
+          );
+      turned = λ a b a_new b_new.
+          omega (arith, lowered a b a_new b_new, lowered b a b_new a_new, keeps.turned a b (fewer a a_new).0 (fewer b b_new).0);
+      goes_on = λ a b a_new b_new apart.
+          let a_old = fewer a a_new in
+          let b_old = fewer b b_new in
+          let g = keeps.goes_on a b a_old.0 b_old.0 apart in
+          elim (cases_eq g.next v) [
+            | inl same ↦
+                let h = keeps.goes_on v b v_old b_old.0 (λ is. b_old.1 (sym is)) in
+                around a b h.next a_new b_new h.is_left h.other (subst (λ i. c a i + d i b ≤ d a b) same g.short) h.short
+            | inr other ↦
+                let next_new : new g.next = rest g.next g.is_left other in
+                record { next = g.next; is_left = next_new; other = g.other; short = omega (arith, lowered a g.next a_new next_new, g.short) }
+          ];
+    }
+
+  -- the near nodes are those that are left and have a weight
+  module _ (near : List Near)
+      (sound : (x w : ℕ) → Contains near (make_near x w) → new x × (w ≡ c v x) × (w < FAR))
+      (whole : (x : ℕ) → new x → c v x < FAR → Contains near (make_near x (c v x))) where
+    pub stage : IsStage new d v near
+    stage = record {
+      sound = λ x w is_near.
+          let s = sound x w is_near in
+          (s.0, omega (arith, s.1, keeps.sound v x v_old (fewer x s.0).0), s.2);
+      leads_on = λ b b_new.
+          let b_old = fewer b b_new in
+          let g = keeps.goes_on v b v_old b_old.0 (λ is. b_old.1 (sym is)) in
+          record {
+            node = g.next;
+            weight = c v g.next;
+            is_near = whole g.next (rest g.next g.is_left g.other)
+                (omega (arith, g.short, lengths.light v b (within v v_old) (within b b_old.0)));
+            short = g.short;
+          };
+    }

@@ -1,0 +1,84 @@
+-- All distances by leaving out one node after another. `c` are the weights in a table, `d` the lengths of least walks, and
+-- `left` says which nodes are left.
+use Rattle.std.specs.Prelude.{◌≡◌, ◌≢◌, ◌⊎◌, ℕ, ◌+◌, ◌*◌, ◌<◌, ◌≤◌, List, [], ◌∷◌, ◌++◌, All, Contains, length}
+use Rattle.distances.specs.declared.elimination.Near.{Near}
+use Rattle.distances.specs.declared.elimination.Stage.{Stage}
+use Rattle.distances.specs.declared.elimination.TheConstants.{FAR}
+use Rattle.net_graph.specs.Walks.{IsLeastWeight, Joins, everywhere}
+use Rattle.net_graph.specs.Network.{Network}
+use Rattle.distances.specs.Lowering.{IsWithin, cell}
+
+-- d are the least weights of walks between the nodes of the network
+abbrev pub AreLeast : Network → (ℕ → ℕ → ℕ) → Type 0
+AreLeast network d = (u v : ℕ) → u < network.nodes → v < network.nodes → IsLeastWeight network.edges everywhere u v (d u v)
+
+-- lengths between the nodes below n
+pub record AreLengths (n : ℕ) (d : ℕ → ℕ → ℕ) : Type 0 where
+  pub zero : (u : ℕ) → u < n → d u u ≡ 0
+  pub positive : (u v : ℕ) → u < n → v < n → u ≢ v → 1 ≤ d u v
+  pub turned : (u v : ℕ) → u < n → v < n → d u v ≡ d v u
+  pub triangle : (u v x : ℕ) → u < n → v < n → x < n → d u x ≤ d u v + d v x
+  pub light : (u v : ℕ) → u < n → v < n → d u v < FAR
+
+-- from a on the way to b, a node that is left comes next
+pub record GoesOn (left : ℕ → Type 0) (c d : ℕ → ℕ → ℕ) (a b : ℕ) : Type 0 where
+  pub next : ℕ
+  pub is_left : left next
+  pub other : next ≢ a
+  pub short : c a next + d next b ≤ d a b
+
+-- the weights between the nodes that are left make up the lengths between them
+pub record KeepsLengths (left : ℕ → Type 0) (c d : ℕ → ℕ → ℕ) : Type 0 where
+  pub sound : (a b : ℕ) → left a → left b → d a b ≤ c a b
+  pub turned : (a b : ℕ) → left a → left b → c a b ≡ c b a
+  pub goes_on : (a b : ℕ) → left a → left b → a ≢ b → GoesOn left c d a b
+
+abbrev pub make_near : ℕ → ℕ → Near
+make_near x w = record { node = x; weight = w }
+
+-- a near node is on a least walk to b
+pub record LeadsOn (d : ℕ → ℕ → ℕ) (near : List Near) (v b : ℕ) : Type 0 where
+  pub node : ℕ
+  pub weight : ℕ
+  pub is_near : Contains near (make_near node weight)
+  pub short : weight + d node b ≤ d v b
+
+-- the nodes near v when it was left out make up the lengths from v to the nodes that were left then
+pub record IsStage (left : ℕ → Type 0) (d : ℕ → ℕ → ℕ) (v : ℕ) (near : List Near) : Type 0 where
+  pub sound : (x w : ℕ) → Contains near (make_near x w) → left x × (d v x ≤ w) × (w < FAR)
+  pub leads_on : (b : ℕ) → left b → LeadsOn d near v b
+
+-- the stage's nodes are nodes below n, and its weights are no more than FAR
+pub record IsStageWithin (n : ℕ) (stage : Stage) : Type 0 where
+  pub node : stage.node < n
+  pub near : All (IsWithin n) stage.near.items
+
+-- a node that no stage left out
+abbrev pub IsFresh : ℕ → List Stage → ℕ → Type 0
+IsFresh n stages x = (x < n) × All (λ (s : Stage). s.node ≢ x) stages
+
+-- each stage holds of the nodes that were left after it
+pub data AreStages (n : ℕ) (d : ℕ → ℕ → ℕ) : List Stage → Type 0 where
+  none : AreStages n d []
+  more : (earlier : List Stage) (stage : Stage) (stages : List Stage) → stages ≡ earlier ++ stage ∷ [] → AreStages n d earlier
+      → IsStage (IsFresh n stages) d stage.node stage.near.items → AreStages n d stages
+
+-- the stages by which all nodes were left out of a table
+pub record AreAllStages (n : ℕ) (first : List ℕ) (stages : List Stage) : Type 0 where
+  pub within : All (IsStageWithin n) stages
+  pub all : (x : ℕ) → IsFresh n stages x → ⊥
+  pub holds : (d : ℕ → ℕ → ℕ) → AreLengths n d → KeepsLengths (λ x. x < n) (cell n first) d → AreStages n d stages
+
+-- the table has the lengths of which the stages hold
+pub record IsFilled (n : ℕ) (stages : List Stage) (table : List ℕ) : Type 0 where
+  pub count : length table ≡ n * n
+  pub each : (d : ℕ → ℕ → ℕ) → AreLengths n d → AreStages n d stages → ((x : ℕ) → IsFresh n stages x → ⊥)
+      → (a b : ℕ) → a < n → b < n → cell n table a b ≡ d a b
+
+-- the table has the least weights of edges, FAR where there is none
+pub record IsFirstTable (network : Network) (table : List ℕ) : Type 0 where
+  pub count : length table ≡ network.nodes * network.nodes
+  pub light : All (λ w. w ≤ FAR) table
+  pub sound : (u v : ℕ) → u < network.nodes → v < network.nodes
+      → (cell network.nodes table u v ≡ FAR) ⊎ Joins network.edges u v (cell network.nodes table u v)
+  pub whole : (u v w : ℕ) → u < network.nodes → v < network.nodes → Joins network.edges u v w → cell network.nodes table u v ≤ w

@@ -1,0 +1,100 @@
+-- Which nodes wait, as the queue goes on.
+use Rattle.std.proofs.Common.{◌≡◌, ◌⊎◌, ℕ, zero, suc, ◌<◌, ◌≤◌, Bool, true, false, List, [], ◌∷◌, length, refl, sym, ◌∙◌, ap, subst, inl, inr, arith, cond, lt-ltb}
+use Rattle.std.specs.Prelude.{Contains, IsPermutation, nat_lt, ◌==◌}
+use Rattle.std.specs.declared.cmp.Ordering.TheVariants.{Less, Equal, Greater}
+use Rattle.std.specs.BinaryHeap.{IsUpperBound}
+use Rattle.std.proofs.lemmas.List.Sorted.{Contains-permutation, IsPermutation-sym}
+use Rattle.net_graph.specs.declared.queue.Candidate.{Candidate}
+use Rattle.std.specs.Ordering.{is_lt, nat_cmp, ordering_then}
+use Rattle.std.specs.declared.cmp.Ordering.{Ordering}
+use Rattle.std.proofs.lemmas.Bool.{cases_lt}
+use Rattle.net_graph.specs.Walks.{among}
+use Rattle.net_graph.specs.Queue.{Waiting, make_waiting, lighter_first, AreSettled, IsNext}
+
+-- the unsettled nodes wait still, and no new ones
+pub record StillWait (unsettled : List Bool) (old now : List Waiting) : Type 0 where
+  pub kept : (w v : ℕ) → Contains old (make_waiting w v) → among unsettled v ≡ true → Contains now (make_waiting w v)
+  pub fewer : (w v : ℕ) → Contains now (make_waiting w v) → Contains old (make_waiting w v)
+
+pub all_wait : (unsettled : List Bool) (old : List Waiting) → StillWait unsettled old old
+all_wait unsettled old = record { kept = λ w v has waits. has; fewer = λ w v has. has }
+
+first_or_later : (x y : Waiting) (xs : List Waiting) → Contains (y ∷ xs) x → (y ≡ x) ⊎ Contains xs x
+first_or_later x y xs (zero, below, here) = inl here
+first_or_later x y xs (suc k, below, here) = inr (k, omega arith, here)
+
+later : (x y : Waiting) (xs : List Waiting) → Contains xs x → Contains (y ∷ xs) x
+later x y xs (k, below, here) = (suc k, omega arith, here)
+
+first : (x : Waiting) (xs : List Waiting) → Contains (x ∷ xs) x
+first x xs = (zero, omega arith, refl)
+
+no_less : (a b : ℕ) (o : Ordering) → is_lt (ordering_then (nat_cmp b a) o) ≡ false → a ≤ b
+no_less a b o h = elim (cases_lt b a) [
+  | inl less ↦ absurd (
+      let lt : nat_lt b a ≡ true = lt-ltb b a less in
+      let both : true ≡ false = subst (λ t. is_lt (ordering_then (cond t Less (cond (b == a) Equal Greater)) o) ≡ false) lt h in cc)
+  | inr more ↦ more
+]
+
+-- nothing is lighter than the greatest of a queue
+no_lighter : (x : Waiting) (xs : List Waiting) → IsUpperBound lighter_first x xs → (y : Waiting) → Contains xs y → x.0.0 ≤ y.0.0
+no_lighter x [] bound y has = absurd (omega (arith, has.1))
+no_lighter x (z ∷ zs) bound y has = elim (first_or_later y z zs has) [
+  | inl is ↦ subst (λ (u : Waiting). x.0.0 ≤ u.0.0) is (no_less x.0.0 z.0.0 (nat_cmp z.0.1 x.0.1) bound.0)
+  | inr after ↦ no_lighter x zs bound.1 y after
+]
+
+module _ (unsettled : List Bool) (old now rest : List Waiting) (so_far : StillWait unsettled old now) (weight node : ℕ)
+    (taken : IsPermutation now (make_waiting weight node ∷ rest)) where
+  taken_or_rest : (w v : ℕ) → Contains now (make_waiting w v) → (node ≡ v) ⊎ Contains rest (make_waiting w v)
+  taken_or_rest w v has = elim (first_or_later (make_waiting w v) (make_waiting weight node) rest
+      (Contains-permutation now (make_waiting weight node ∷ rest) (make_waiting w v) taken has)) [
+        | inl is ↦ inl (ap (λ (u : Waiting). u.0.1) is)
+        | inr there ↦ inr there
+      ]
+
+  back : (x : Waiting) → Contains (make_waiting weight node ∷ rest) x → Contains now x
+  back x has =
+      Contains-permutation (make_waiting weight node ∷ rest) now x
+      (IsPermutation-sym now (make_waiting weight node ∷ rest) taken) has
+
+  rest_fewer : (w v : ℕ) → Contains rest (make_waiting w v) → Contains old (make_waiting w v)
+  rest_fewer w v has = so_far.fewer w v (back (make_waiting w v) (later (make_waiting w v) (make_waiting weight node) rest has))
+
+  pub taken_waited : Contains old (make_waiting weight node)
+  taken_waited = so_far.fewer weight node (back (make_waiting weight node) (first (make_waiting weight node) rest))
+
+  -- a settled node goes
+  pub settled_goes : among unsettled node ≡ false → StillWait unsettled old rest
+  settled_goes gone = record {
+    kept = λ w v has waits. elim (taken_or_rest w v (so_far.kept w v has waits)) [
+      | inl same ↦ absurd (let both : true ≡ false = sym waits ∙ sym (ap (among unsettled) same) ∙ gone in cc)
+      | inr there ↦ there
+    ];
+    fewer = rest_fewer;
+  }
+
+  -- an unsettled node is the next
+  pub next_is : (best : Candidate) → best.node ≡ node → best.weight ≡ weight → node < length unsettled
+      → among unsettled node ≡ true → IsUpperBound lighter_first (make_waiting weight node) now
+      → IsNext unsettled old rest best
+  next_is best node_is weight_is below waits bound = record {
+    below = omega (arith, node_is);
+    waits = ap (among unsettled) node_is ∙ waits;
+    there = subst (λ i. Contains old (make_waiting i best.node)) (sym weight_is)
+        (subst (λ i. Contains old (make_waiting weight i)) (sym node_is) taken_waited);
+    lightest = λ w v has v_waits.
+        let light : weight ≤ w = no_lighter (make_waiting weight node) now bound (make_waiting w v) (so_far.kept w v has v_waits) in
+        omega (arith, weight_is);
+    kept = λ w v has v_waits other. elim (taken_or_rest w v (so_far.kept w v has v_waits)) [
+      | inl same ↦ absurd (other (sym same ∙ sym node_is))
+      | inr there ↦ there
+    ];
+    fewer = rest_fewer;
+  }
+
+-- none is left that waits
+pub none_waits : (unsettled : List Bool) (old now : List Waiting) → StillWait unsettled old now → length now ≡ 0
+    → AreSettled unsettled old
+none_waits unsettled old now so_far none w v has waits = absurd (omega (arith, (so_far.kept w v has waits).1))

@@ -1,0 +1,12 @@
+-- Numbers that may be missing.
+use Rattle.std.specs.Prelude.{ℕ, ◌≤◌, Option, None, Some, min}
+
+-- there is a number, and it is at most this
+abbrev pub IsAtMost : Option ℕ → ℕ → Type 0
+IsAtMost None w = ⊥
+IsAtMost (Some x) w = x ≤ w
+
+-- the lesser of a number that may be missing and another
+abbrev pub lowered : Option ℕ → ℕ → Option ℕ
+lowered None w = Some w
+lowered (Some x) w = Some (min x w)

@@ -1,0 +1,24 @@
+//! Lists of weights.
+
+ghost use Rattle.std.specs.Prelude.{◌<◌, ◌≤◌, All, Contains, length};
+
+/// The greatest of the weights, 0 where there is none.
+pub fn greatest_weight(weights: &[u32]) -> u32
+    ensures bound { All (λ x. x ≤ result) weights.now }
+    ensures attained { 0 < length weights.now → Contains weights.now result }
+{
+    weights.iter().copied().max().unwrap_or(0)
+}
+
+#[cfg(test)]
+mod tests {
+    use super::*;
+    use std::test::Fail;
+
+    #[test]
+    fn the_greatest_of_three(rt: HostRuntime) -> Result<(), Fail> {
+        assert_eq!(rt; greatest_weight(&[2, 5, 3]), 5);
+        assert_eq!(rt; greatest_weight(&[]), 0);
+        Ok(())
+    }
+}
