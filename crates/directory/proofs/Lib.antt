@@ -1,16 +1,14 @@
-pub mod Computed
-pub mod HistoryLaws
-pub mod FindLaws
-pub mod CourseLaws
-pub mod LegalLaws
-pub mod CellLaws
-pub mod LookLaws
-pub mod ShownLaws
-pub mod StateLaws
-pub mod LineLaws
-pub mod LineWalks
-pub mod LinePlans
-pub mod OrderLaws
-pub mod MadeLaws
-pub mod PlaceLaws
-pub mod RestLaws
+mod StepLaws
+mod FindLaws
+mod HistoryLaws
+mod OneProof
+mod LevelLaws
+mod OrderLaws
+mod CellLaws
+mod StateLaws
+mod TicketLaws
+mod MadeLaws
+mod StandingLaws
+mod RestLaws
+mod AmidLaws
+mod GrowthLaws

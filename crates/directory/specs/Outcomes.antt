@@ -1,60 +1,67 @@
--- What becomes of the calls of all actors under an order: for each move its number, nodes and weight, with the tickets of
--- its first visit, its commit and its last visit; for each find its answer, with the tickets of its first look and its
--- last; and whose visit each ticket was.
--- Key laws: `outcome_is_made` (each find of an outcome is a find in its history), and the worked examples over the line of four nodes, computed.
-use Rattle.std.specs.Prelude.{ℕ, suc, ◌+◌, ◌-◌, List, [], ◌∷◌, ◌++◌, map, length, drop, Option, flat_map, slice_index, ◌≡◌, slice_get, Some, option_map}
-use Rattle.region_plan.specs.Plan.{PlanData, distance}
-use Rattle.directory.specs.Keys.{home_node}
-use Rattle.directory.specs.Histories.{History, tickets, words_read}
-use Rattle.directory.specs.Writes.{Course, coming, commit, visit_of, writes, joined, levels_renewed, numbers_from}
-use Rattle.directory.specs.Courses.{course}
-use Rattle.directory.specs.Finds.{Why, Found, at, again, Next, wants, answers, find}
-use Rattle.directory.specs.Looks.{IsFoundBetween}
-use Rattle.directory.specs.Orders.{FindCall, Scripts, moves_of, finds_of, history_of}
+-- What becomes of the calls of all actors under an order: of each move, switch and find one line
+-- with its tickets, by actor and in the order of its script; and whose visit each ticket was.
+-- Key laws: `lines_are_made` (each line is tied to its visits), and `worked_rows`, computed.
+use Rattle.std.specs.Prelude.{◌≡◌, ◌≤◌, ℕ, suc, true, false, List, [], ◌∷◌, ◌++◌, map, length, take, drop, flat_map, slice_get, slice_index, Some}
+use Rattle.node_set.specs.Ascending.{IsAscending}
+use Rattle.directory.specs.Settings.{Setting, subs, start}
+use Rattle.directory.specs.Histories.{History, tickets}
+use Rattle.directory.specs.Courses.{Step, move_to, switch_off, switch_on, Move, Course, course_at, last_stop, next_move, after_step, after_steps}
+use Rattle.directory.specs.Writes.{numbers_from, step_writes, visit_of}
+use Rattle.directory.specs.Finds.{FindCall}
+use Rattle.directory.specs.Looks.{first_of, last_of, IsFind}
+use Rattle.directory.specs.Orders.{Scripts, steps_of, finds_of, Answer, caller_in, history_of}
+use Rattle.directory.specs.declared.answers.Found.{Found}
+use Rattle.directory.specs.declared.answers.Found.TheVariants.{At, Off as OffAt, Again}
+use Rattle.directory.specs.declared.answers.Done.{Done}
+use Rattle.directory.specs.declared.answers.Done.TheVariants.{Moved, Switched, Found as FoundBy, Off as OffBy, Again as AgainBy}
 
--- what became of a call
-pub data Done : Type 0 where
-  moved : (actor number from to weight first commit last : ℕ) → Done
-  found : (actor from sub node number : ℕ) (level : Option ℕ) (weight first last : ℕ) → Done
-  failed : (actor from sub : ℕ) (why : Why) (weight first last : ℕ) → Done
+-- what became of a move, whose visits have these tickets: the commit comes after a Coming and the
+-- new addresses
+abbrev pub move_line : ℕ → Move → List ℕ → Done
+move_line sub move seen =
+    Moved sub move.number move.from move.to move.weight
+    (first_of seen) (slice_index seen (suc (suc move.renewed))) (last_of seen)
 
--- the place of the first write of move q + 1 among all writes of its subscriber, and how far on its commit and its last write are
-abbrev pub first_place : Course → ℕ → ℕ
-first_place course q = length (joined course 0 q)
+-- what became of a step that came next in a course, whose visits have these tickets
+abbrev pub step_line : Setting → ℕ → Course → Step → List ℕ → Done
+step_line setting sub course (move_to node) seen =
+    move_line sub (next_move setting course node) seen
+step_line setting sub course switch_off seen =
+    Switched sub true (last_stop course) (length course.moves) (first_of seen)
+step_line setting sub course switch_on seen =
+    Switched sub false (last_stop course) (length course.moves) (first_of seen)
 
-abbrev pub commit_place : Course → ℕ → ℕ
-commit_place course q = first_place course q + 1 + levels_renewed course q
+-- what became of steps that came next in a course, whose visits have these tickets
+unfoldable pub step_lines : Setting → ℕ → Course → List Step → List ℕ → List Done
+step_lines setting sub course [] seen = []
+step_lines setting sub course (step ∷ steps) seen =
+    step_line setting sub course step (take (length (step_writes setting course step)) seen)
+    ∷ step_lines setting sub (after_step setting course step) steps
+    (drop (length (step_writes setting course step)) seen)
 
-abbrev pub last_place : Course → ℕ → ℕ
-last_place course q = first_place course q + length (writes course q) - 1
+abbrev pub sub_lines : Setting → Scripts → History → ℕ → List Done
+sub_lines setting scripts history sub =
+    step_lines setting sub (course_at (start setting sub)) (steps_of scripts sub)
+    (tickets sub history)
 
--- what became of move q + 1, whose subscriber made its visits at these tickets
-abbrev pub done_move : PlanData → Course → ℕ → List ℕ → ℕ → Done
-done_move plan course sub seen q =
-    moved sub (suc q) (course.stop q) (course.stop (suc q)) (distance plan (course.stop q) (course.stop (suc q)))
-    (slice_index seen (first_place course q)) (slice_index seen (commit_place course q)) (slice_index seen (last_place course q))
+-- what became of a find, with the tickets of its first look and its last
+abbrev pub found_line : ℕ → FindCall → Found → ℕ → ℕ → Done
+found_line caller call (At node number level weight) first last =
+    FoundBy caller call.from call.sub node number level weight first last
+found_line caller call (OffAt node number level weight) first last =
+    OffBy caller call.from call.sub node number level weight first last
+found_line caller call (Again why weight) first last =
+    AgainBy caller call.from call.sub why weight first last
 
--- what became of a subscriber's moves
-abbrev pub done_moves : PlanData → Scripts → History → ℕ → List Done
-done_moves plan scripts history sub =
-    map (done_move plan (course plan (home_node scripts.homes sub) (moves_of scripts sub)) sub (tickets sub history)) (numbers_from 0 (length (moves_of scripts sub)))
+abbrev pub answer_line : ℕ → List ℕ → Answer → Done
+answer_line caller seen answer =
+    found_line caller answer.call answer.found (slice_index seen answer.first)
+    (slice_index seen answer.last)
 
--- what became of a find that answered, with its first ticket and its last
-abbrev pub done_find : ℕ → FindCall → ℕ → ℕ → Found → Done
-done_find caller call first last (at node number level weight) = found caller call.from call.sub node number level weight first last
-done_find caller call first last (again why weight) = failed caller call.from call.sub why weight first last
-
--- a find that answers is done, and the finds after it go on with what it left
-abbrev pub after_answer : ℕ → FindCall → List ℕ → ℕ → (List ℕ → ℕ → List Done) → Next → List Done
-after_answer caller call seen count go (wants key) = []
-after_answer caller call seen count go (answers f left) =
-    done_find caller call (slice_index seen 0) (slice_index seen (count - length left - 1)) f ∷ go left (count - length left)
-
--- what became of these finds of a caller, which read these words at these tickets
-unfoldable pub done_finds : PlanData → ℕ → List FindCall → List ℕ → List ℕ → List Done
-done_finds plan caller [] seen words = []
-done_finds plan caller (call ∷ calls) seen words =
-    after_answer caller call seen (length words) (λ left used. done_finds plan caller calls (drop used seen) left) (find plan call.sub call.from words)
+abbrev pub caller_lines : Setting → Scripts → History → ℕ → List Done
+caller_lines setting scripts history caller =
+    map (answer_line caller (tickets caller history))
+    (caller_in setting scripts history caller).answers
 
 -- what became of all calls, and whose visit each ticket was
 pub record Outcome : Type 0 where
@@ -62,27 +69,66 @@ pub record Outcome : Type 0 where
   pub order : List ℕ
 
 -- what became of the calls by a history in which all scripts are done
-abbrev pub outcome_in : PlanData → Scripts → History → Outcome
-outcome_in plan scripts history =
+abbrev pub outcome_in : Setting → Scripts → History → Outcome
+outcome_in setting scripts history =
     record {
-      calls = flat_map (done_moves plan scripts history) (numbers_from 0 (length scripts.homes))
-          ++ flat_map (λ caller. done_finds plan caller (finds_of scripts caller) (tickets caller history) (words_read plan scripts.homes caller history))
-          (numbers_from (length scripts.homes) (length scripts.finds));
+      calls = flat_map (sub_lines setting scripts history) (numbers_from 0 (subs setting))
+          ++ flat_map (caller_lines setting scripts history)
+          (numbers_from (subs setting) (length scripts.finds));
       order = map (λ visit. visit.actor) history;
     }
 
 -- what becomes of the calls under an order
-abbrev pub outcome_of : PlanData → Scripts → List ℕ → Outcome
-outcome_of plan scripts order = outcome_in plan scripts (history_of plan scripts order)
+abbrev pub outcome_of : Setting → Scripts → List ℕ → Outcome
+outcome_of setting scripts order = outcome_in setting scripts (history_of setting scripts order)
 
--- at the three tickets of move q + 1 stand its first write, its commit and its last write
-pub record IsMoveMade (history : History) (sub : ℕ) (course : Course) (q : ℕ) (seen : List ℕ) : Type 0 where
-  pub begins : slice_get history (slice_index seen (first_place course q)) ≡ Some (visit_of sub (coming course q))
-  pub commits : slice_get history (slice_index seen (commit_place course q)) ≡ Some (visit_of sub (commit course q))
-  pub ends : slice_get history (slice_index seen (last_place course q)) ≡ option_map (visit_of sub) (slice_get (writes course q) (length (writes course q) - 1))
+-- a line of a subscriber tells a step of its script: the visits with these ascending tickets are
+-- all visits of that step, when the steps before it were made
+pub record IsStepLine (setting : Setting) (scripts : Scripts) (history : History) (sub : ℕ)
+    (line : Done) : Type 0 where
+  pub before : List Step
+  pub step : Step
+  pub later : List Step
+  pub seen : List ℕ
+  pub script : steps_of scripts sub ≡ before ++ step ∷ later
+  pub ascending : IsAscending seen
+  pub made : map (slice_get history) seen
+      ≡ map (λ write. Some (visit_of sub write))
+      (step_writes setting (after_steps setting (course_at (start setting sub)) before) step)
+  pub tells : line
+      ≡ step_line setting sub (after_steps setting (course_at (start setting sub)) before) step seen
 
--- what became of a find is told by its looks in the history; of a move nothing is said here
-abbrev pub IsMade : PlanData → List ℕ → History → Done → Type 0
-IsMade plan homes history (moved actor q from to weight first commit last) = Unit {0}
-IsMade plan homes history (found actor from sub node q level weight first last) = IsFoundBetween plan homes history actor sub from (at node q level weight) first last
-IsMade plan homes history (failed actor from sub why weight first last) = IsFoundBetween plan homes history actor sub from (again why weight) first last
+-- a line of a caller tells a find of its script: the visits with these tickets are all its looks
+pub record IsFindLine (setting : Setting) (scripts : Scripts) (history : History) (caller : ℕ)
+    (call : FindCall) (line : Done) : Type 0 where
+  pub before : List FindCall
+  pub later : List FindCall
+  pub found : Found
+  pub seen : List ℕ
+  pub script : finds_of setting scripts caller ≡ before ++ call ∷ later
+  pub find : IsFind setting history caller call found seen
+  pub tells : line ≡ found_line caller call found (first_of seen) (last_of seen)
+
+-- a line is tied to its visits
+abbrev pub IsMade : Setting → Scripts → History → Done → Type 0
+IsMade setting scripts history (Moved actor number from to weight first commit last) =
+    IsStepLine setting scripts history actor
+    (Moved actor number from to weight first commit last)
+IsMade setting scripts history (Switched actor off node number ticket) =
+    IsStepLine setting scripts history actor (Switched actor off node number ticket)
+IsMade setting scripts history (FoundBy actor from sub node number level weight first last) =
+    IsFindLine setting scripts history actor (record { from = from; sub = sub })
+    (FoundBy actor from sub node number level weight first last)
+IsMade setting scripts history (OffBy actor from sub node number level weight first last) =
+    IsFindLine setting scripts history actor (record { from = from; sub = sub })
+    (OffBy actor from sub node number level weight first last)
+IsMade setting scripts history (AgainBy actor from sub why weight first last) =
+    IsFindLine setting scripts history actor (record { from = from; sub = sub })
+    (AgainBy actor from sub why weight first last)
+
+-- each answer of a caller is looked for after the one before: its looks are later visits
+unfoldable pub FollowEachOther : ℕ → List Answer → Type 0
+FollowEachOther place [] = Unit {0}
+FollowEachOther place (answer ∷ later) =
+    (place ≤ answer.first) × (answer.first ≤ answer.last)
+    × FollowEachOther (suc answer.last) later

@@ -1,40 +1,55 @@
-//! Laws of finds: what a find wants, what it answers, and how many looks it makes.
-ghost use Rattle.std.specs.Prelude.{◌≡◌, ◌+◌, ◌<◌, ◌≤◌, ℕ, List, [], ◌∷◌, ◌++◌, length, is_none, is_some};
+//! Laws of finds.
+ghost use Rattle.std.specs.Prelude.{List, Option, Some, fold, length, ℕ, ◌++◌, ◌+◌, ◌<◌, ◌≡◌, ◌≤◌};
+ghost use Rattle.directory.specs.Finds.{FindCall, Reader, Stage, after_word, chases, climb, ended, key_of, looks_left};
+ghost use Rattle.directory.specs.Histories.{History, tickets};
+ghost use Rattle.directory.specs.Looks.{AreLooks};
+ghost use Rattle.directory.specs.Parts.{AreNothing, LeadOn, climb_weight};
+ghost use Rattle.directory.specs.Settings.{Setting};
+ghost use Rattle.directory.specs.declared.answers.Found.{Found};
 ghost use Rattle.entry_word.specs.declared.visit.Key.{Key};
-ghost use Rattle.directory.specs.Finds.{answer_of, answers, find, Found, look_of, most_looks, Next, wants};
-ghost use Rattle.directory.specs.Keys.{sub_of};
-ghost use Rattle.region_plan.specs.Plan.{PlanData};
-
-/// A find has a next look or an answer, and never both.
-pub fn one_of_both()
-    ensures { (plan : PlanData) (sub origin : ℕ) (words : List ℕ) → is_some (look_of (find plan sub origin words))
-        ≡ is_none (answer_of (find plan sub origin words)) }
-{}
 
 /// More words change no answer.
-pub fn answer_stays()
-    ensures { (plan : PlanData) (sub origin : ℕ) (words more left : List ℕ) (found : Found)
-        → find plan sub origin words ≡ answers found left → find plan sub origin (words ++ more)
-        ≡ answers found (left ++ more) }
+pub fn ended_stays()
+    ensures { (setting : Setting) (call : FindCall) (found : Found) (words : List ℕ)
+        → fold (after_word setting call) (ended found) words ≡ ended found }
 {}
 
-/// A find makes at most so many looks.
-pub fn few_looks()
-    ensures wanting { (plan : PlanData) (sub origin : ℕ) (words : List ℕ) (key : Key) → find plan sub origin words
-        ≡ wants key → length words < most_looks plan origin }
-    ensures answering { (plan : PlanData) (sub origin : ℕ) (words left : List ℕ) (found : Found)
-        → find plan sub origin words ≡ answers found left → length words ≤ most_looks plan origin + length left }
+/// Each look of a find leaves fewer.
+pub fn looks_fall()
+    ensures { (setting : Setting) (call : FindCall) (stage : Stage) (word : ℕ) (key : Key)
+        → key_of call stage ≡ Some key
+        → looks_left setting call (after_word setting call stage word)
+        < looks_left setting call stage }
 {}
 
-/// A find looks at cells of its own subscriber alone.
-pub fn own_looks()
-    ensures { (plan : PlanData) (sub origin : ℕ) (words : List ℕ) (key : Key) → find plan sub origin words ≡ wants key
-        → sub_of key ≡ sub }
+/// So no find is longer than its most looks.
+pub fn finds_are_short()
+    ensures { (setting : Setting) (history : History) (actor : ℕ) (call : FindCall) (earliest : ℕ)
+        (stage : Stage) (tickets : List ℕ)
+        → AreLooks setting history actor call earliest stage tickets
+        → length tickets ≤ looks_left setting call stage }
 {}
 
-/// A find answers with its last look, so that it leaves nothing.
-pub fn last_look_answers()
-    ensures { (plan : PlanData) (sub origin : ℕ) (words left : List ℕ) (word : ℕ) (key : Key) (found : Found)
-        → find plan sub origin words ≡ wants key → find plan sub origin (words ++ word ∷ []) ≡ answers found left
-        → left ≡ [] }
+/// The climb and the chase of a find: looks that find nothing, and looks that lead on.
+pub fn parts_of_find()
+    ensures climb { (setting : Setting) (call : FindCall) (known : Option ℕ) (weight : ℕ)
+        (passed later : List Reader) (words : List ℕ) → length words ≡ length passed
+        → AreNothing words
+        → fold (after_word setting call) (climb known weight (passed ++ later)) words
+        ≡ climb known (weight + climb_weight setting call passed) later }
+    ensures chase { (setting : Setting) (call : FindCall) (known last_known level : Option ℕ)
+        (weight way hops node last : ℕ) (words : List ℕ)
+        → LeadOn setting known node words last_known last way
+        → fold (after_word setting call) (chases (record {
+          known = known;
+          level = level;
+          weight = weight;
+          hops_left = length words + hops;
+        }) node) words
+        ≡ chases (record {
+          known = last_known;
+          level = level;
+          weight = weight + way;
+          hops_left = hops;
+        }) last }
 {}

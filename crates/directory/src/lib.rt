@@ -1,29 +1,33 @@
-//! The directory: what it is, and the laws of its definitions. Each public function is a law, and does nothing.
+//! The directory: what it is, and the laws of its definitions. Each public function but the types' own is a law, and does
+//! nothing.
 #![tactic(auto)]
 
-mod cells;
+mod answers;
 mod courses;
-mod examples;
 mod finds;
 mod histories;
 mod legal;
 mod orders;
 mod outcomes;
-mod plans;
+mod standing;
 mod states;
 
-pub use cells::{
-    cell_of_puts, census_members, number_after, passage_after_visit, same_key_means, standing_after,
+pub use answers::{Done, Found, Why};
+pub use courses::{
+    base_after, levels_after_move, moves_are_short, moves_that_may_come, writes_joined,
 };
-pub use courses::{base_of_course, more_moves};
-pub use examples::{find_examples, meeting_examples, move_examples};
-pub use finds::{answer_stays, few_looks, last_look_answers, one_of_both, own_looks};
-pub use histories::{cell_after, own_after, tickets_tell_visits};
-pub use legal::{front_is_legal, itinerary_is_shown, legal_step_by_step, marks_are_written};
+pub use finds::{ended_stays, finds_are_short, looks_fall, parts_of_find};
+pub use histories::{
+    cell_after, cell_of_puts, histories_begin, own_after, same_key_means, tickets_tell,
+};
+pub use legal::{
+    front_is_legal, legal_is_amid, legal_is_one, legal_next, next_is_decided, script_is_legal,
+    steps_begin_at_rest,
+};
 pub use orders::{
     all_scripts_done, each_visit_is_next, every_order_is_legal, idle_turns, next_is_own,
-    order_of_history, scripts_in_order,
+    order_of_history, rest_keeps_opening, scripts_in_order, turns_are_few,
 };
-pub use outcomes::{move_is_made, outcome_is_made, rest_is_opening};
-pub use plans::{line_has_its_plan, matched_plan_is};
-pub use states::{cells_of_legal, read_of_legal};
+pub use outcomes::{lines_are_made, lines_grow};
+pub use standing::{census_members, commits_after, commits_are_moves, last_commit_tells};
+pub use states::{cells_of_legal, read_of_legal, told_by_writes, writes_are_small};

@@ -1,7 +1,7 @@
--- The words of entries. An entry cell holds nothing, as kind 0, or an address, as kind 1: where its subscriber went with
--- one of its moves.
+-- The words of entries. An entry cell holds nothing, as kind 0, or an address, as kind 1: where
+-- its subscriber went with one of its moves.
 -- Key laws: `address_words` (an entry comes back from its word, and a word from its entry).
-use Rattle.std.specs.Prelude.{ℕ, zero, suc, ◌/◌, ◌%◌, ◌^◌, ◌<◌, ◌==◌, ◌&&◌, cond, Option, Some, None}
+use Rattle.std.specs.Prelude.{◌≡◌, ℕ, zero, suc, ◌/◌, ◌%◌, ◌^◌, ◌<◌, ◌==◌, ◌&&◌, cond, Option, Some, None, unwrap_or}
 use Rattle.entry_word.specs.Parts.{joined}
 use Rattle.entry_word.specs.declared.address.Address.{Address}
 
@@ -20,7 +20,17 @@ address_from (suc (suc more)) number node = None
 abbrev pub address_of : ℕ → Option (Option Address)
 address_of word = address_from (word / 2 ^ 48) (word / 2 ^ 16 % 2 ^ 32) (word % 2 ^ 16)
 
+-- the entry that a word is read as: a word of no entry is read as nothing
+abbrev pub address_in : ℕ → Option Address
+address_in word = unwrap_or (address_of word) None
+
 -- the parts of an entry fit into its word
 abbrev pub IsSmallAddress : Option Address → Type 0
 IsSmallAddress None = Unit {0}
 IsSmallAddress (Some address) = (address.number < 2 ^ 32) × (address.node < 2 ^ 16)
+
+-- an entry whose parts fit comes back from its word
+abbrev pub EntriesUnpack : Type 0
+EntriesUnpack =
+    (address : Option Address) → IsSmallAddress address
+    → address_of (address_word address) ≡ Some address

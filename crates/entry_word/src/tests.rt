@@ -15,6 +15,14 @@ fn the_table_of_marks(rt: HostRuntime) -> Result<(), Fail> {
     assert_eq!(rt; unpack_mark(0x0001_0000_0000_0000), Some(here));
     assert_eq!(rt; unpack_mark(0x0002_0000_0001_0002), Some(gone));
     assert_eq!(rt; unpack_mark(0x0003_0000_0001_0003), Some(coming));
+    assert_eq!(rt;
+        pack_mark(PresenceMark::Off { number: 0 }),
+        0x0004_0000_0000_0000
+    );
+    assert_eq!(rt;
+        unpack_mark(0x0004_0000_0000_0000),
+        Some(PresenceMark::Off { number: 0 })
+    );
     Ok(())
 }
 
@@ -33,7 +41,8 @@ fn words_of_no_mark(rt: HostRuntime) -> Result<(), Fail> {
     assert_eq!(rt; unpack_mark(1), None);
     assert_eq!(rt; unpack_mark(0x0000_0000_0001_0000), None);
     assert_eq!(rt; unpack_mark(0x0001_0000_0000_0001), None);
-    assert_eq!(rt; unpack_mark(0x0004_0000_0000_0000), None);
+    assert_eq!(rt; unpack_mark(0x0004_0000_0000_0001), None);
+    assert_eq!(rt; unpack_mark(0x0005_0000_0000_0000), None);
     assert_eq!(rt; unpack_mark(u64::MAX), None);
     assert_eq!(rt; unpack_address(1), None);
     assert_eq!(rt; unpack_address(0x0002_0000_0001_0002), None);

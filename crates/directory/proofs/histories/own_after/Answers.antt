@@ -1,14 +1,16 @@
+use Rattle.directory.specs.StepLaws.{own-push, puts-push}
+use Rattle.directory.proofs.HistoryLaws.{words-push}
+use Rattle.directory.proofs.TicketLaws.{tickets-push}
 use Rattle.directory.proofs.histories.own_after.Goals as goal
-use Rattle.directory.proofs.HistoryLaws.{own-push, puts_to-push, words_read-push, length-tickets_from}
 
 pub returns-clause-visits : goal.returns-clause-visits
 returns-clause-visits c = own-push
 
 pub returns-clause-puts : goal.returns-clause-puts
-returns-clause-puts c = puts_to-push
+returns-clause-puts c = puts-push
 
 pub returns-clause-words : goal.returns-clause-words
-returns-clause-words c = words_read-push
+returns-clause-words c = words-push
 
 pub returns-clause-tickets : goal.returns-clause-tickets
-returns-clause-tickets c = λ actor history. length-tickets_from actor 0 history
+returns-clause-tickets c = tickets-push

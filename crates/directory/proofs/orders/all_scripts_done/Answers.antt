@@ -1,6 +1,5 @@
+use Rattle.directory.proofs.OrderLaws.{all-done, history-longer}
 use Rattle.directory.proofs.orders.all_scripts_done.Goals as goal
-use Rattle.directory.proofs.OrderLaws.{all-done}
-use Rattle.directory.proofs.OrderLaws.{history-longer}
 
 pub returns-clause-done : goal.returns-clause-done
 returns-clause-done c = all-done

@@ -1,7 +1,5 @@
+use Rattle.directory.proofs.OrderLaws.{played-of_history, played-of_play, played-push}
 use Rattle.directory.proofs.orders.each_visit_is_next.Goals as goal
-use Rattle.directory.proofs.OrderLaws.{played-of_history}
-use Rattle.directory.proofs.OrderLaws.{played-of_play}
-use Rattle.directory.proofs.OrderLaws.{played-push}
 
 pub returns-clause-order : goal.returns-clause-order
 returns-clause-order c = played-of_history

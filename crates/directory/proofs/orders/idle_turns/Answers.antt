@@ -1,5 +1,5 @@
+use Rattle.directory.proofs.OrderLaws.{after_turns-done}
 use Rattle.directory.proofs.orders.idle_turns.Goals as goal
-use Rattle.directory.proofs.OrderLaws.{play-done}
 
 pub returns : goal.returns
-returns c = play-done
+returns c = after_turns-done

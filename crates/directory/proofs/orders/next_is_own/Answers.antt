@@ -1,5 +1,5 @@
-use Rattle.directory.proofs.orders.next_is_own.Goals as goal
 use Rattle.directory.proofs.OrderLaws.{next-actor}
+use Rattle.directory.proofs.orders.next_is_own.Goals as goal
 
 pub returns : goal.returns
 returns c = next-actor

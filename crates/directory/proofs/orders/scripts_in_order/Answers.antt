@@ -1,6 +1,5 @@
+use Rattle.directory.proofs.OrderLaws.{played-own, played-puts}
 use Rattle.directory.proofs.orders.scripts_in_order.Goals as goal
-use Rattle.directory.proofs.OrderLaws.{played-own}
-use Rattle.directory.proofs.OrderLaws.{played-puts}
 
 pub returns-clause-script : goal.returns-clause-script
 returns-clause-script c = played-own

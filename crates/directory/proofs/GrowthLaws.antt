@@ -1,0 +1,178 @@
+-- What a turn adds: to a history, to the lines of a subscriber and to those of a caller.
+use Rattle.std.proofs.Common.{◌≡◌, ℕ, zero, suc, ◌-◌, ◌<◌, ◌≤◌, List, [], ◌∷◌, ◌++◌, Option, Some, None, length, map, take, drop, refl, sym, ap, ◌∙◌, arith, inl, inr, ◌⊎◌, length-append}
+use Rattle.std.specs.Prelude.{slice_index, replicate, option_map, option_to_list, All}
+use Rattle.std.proofs.lemmas.Bool.{eq-eqb}
+use Rattle.std.proofs.lemmas.Bool.Decides.{nat_tests}
+use Rattle.std.proofs.lemmas.List.{append-nil, take_all, take-append-le, drop-append-le, length-drop, map-append, get_or_append_left, get_or_push}
+use Rattle.std.proofs.lemmas.List.Elements.{All-cons, All-nil, All-head, All-tail}
+use Rattle.directory.specs.Settings.{Setting}
+use Rattle.directory.specs.Histories.{History, cell, tickets, words_read}
+use Rattle.directory.specs.Courses.{after_step}
+use Rattle.directory.specs.Writes.{step_writes, writes}
+use Rattle.directory.specs.Finds.{Stage, after_word, answer_of}
+use Rattle.directory.specs.Looks.{look_by}
+use Rattle.directory.specs.Orders.{Scripts, finds_of, Answer, Caller, with_stage, caller_in, after_turns, most_turns, IsDone}
+use Rattle.directory.specs.Outcomes.{step_line, step_lines, found_line, answer_line}
+use Rattle.directory.specs.declared.answers.Found.{Found}
+use Rattle.directory.specs.Statements.{TurnsEndAlike, StepLinesGrow, CallersRead, CallerLinesGrow, CallersKept, CallersCount}
+use Rattle.directory.proofs.HistoryLaws.{words-push}
+use Rattle.directory.proofs.TicketLaws.{tickets-push}
+use Rattle.directory.proofs.OrderLaws.{after_turns-append, after_turns-done, caller-push, done-after}
+use Rattle.directory.proofs.MadeLaws.{IsAnswered, IsUnderWay, under_way}
+
+-- turns of one actor, in two parts
+replicate-split : {A : Type 0} (few many : ℕ) (x : A) → few ≤ many
+    → replicate many x ≡ replicate few x ++ replicate (many - few) x
+replicate-split zero many x h = let e : many - 0 ≡ many = omega arith in sym (ap (λ k. replicate k x) e)
+replicate-split (suc few) zero x h = absurd (omega arith)
+replicate-split (suc few) (suc many) x h =
+    let e : suc many - suc few ≡ many - few = omega arith in
+    rw e (ap (λ xs. x ∷ xs) (replicate-split few many x (omega arith)))
+
+all_same : {A : Type 0} (P : A → Type 0) (k : ℕ) (x : A) → P x → All P (replicate k x)
+all_same P zero x p = All-nil P
+all_same P (suc k) x p = All-cons P x (replicate k x) p (all_same P k x p)
+
+-- more turns of an actor that is done
+more_turns : (setting : Setting) (scripts : Scripts) (history : History) (actor few many : ℕ) → few ≤ many
+    → IsDone setting scripts (after_turns setting scripts history (replicate few actor)) actor
+    → after_turns setting scripts history (replicate many actor)
+    ≡ after_turns setting scripts history (replicate few actor)
+more_turns setting scripts history actor few many h done =
+    ap (after_turns setting scripts history) (replicate-split few many actor h)
+    ∙ (after_turns-append setting scripts history (replicate few actor) (replicate (many - few) actor)
+    ∙ after_turns-done setting scripts (after_turns setting scripts history (replicate few actor))
+    (replicate (many - few) actor)
+    (all_same (IsDone setting scripts (after_turns setting scripts history (replicate few actor)))
+    (many - few) actor done))
+
+pub turns-end : TurnsEndAlike
+turns-end setting scripts history actor k played done =
+    elim (cases k (most_turns setting scripts actor)) as (λ _. after_turns setting scripts history (replicate k actor)
+    ≡ after_turns setting scripts history (replicate (most_turns setting scripts actor) actor)) [
+      | inl low ↦ sym (more_turns setting scripts history actor k (most_turns setting scripts actor)
+          (omega arith) done)
+      | inr high ↦ more_turns setting scripts history actor (most_turns setting scripts actor) k high
+          (done-after setting scripts actor history played)
+    ]
+  where
+    cases : (a b : ℕ) → (a < b) ⊎ (b ≤ a)
+    cases a b = grind (arith, nat_tests)
+
+-- the lines of a subscriber
+pub step_lines-push : StepLinesGrow
+unfolding step_lines writes
+step_lines-push setting sub course [] step seen more count size =
+    let none : seen ≡ [] = no_length seen count in
+    rw (none, take_all (length (step_writes setting course step)) more (omega (arith, size))) refl
+  where
+    no_length : (xs : List ℕ) → length xs ≡ 0 → xs ≡ []
+    no_length [] h = refl
+    no_length (x ∷ xs) h = absurd (omega arith)
+step_lines-push setting sub course (one ∷ done) step seen more count size =
+    rw (
+      front,
+      back,
+    )
+    (ap (λ lines. step_line setting sub course one (take size_one seen) ∷ lines)
+    (step_lines-push setting sub (after_step setting course one) done step (drop size_one seen) more
+    (omega (
+      arith,
+      count,
+      length-drop size_one seen,
+      length-append (step_writes setting course one) (writes setting (after_step setting course one) done),
+    )) size))
+  where
+    size_one : ℕ
+    size_one = length (step_writes setting course one)
+
+    within : size_one ≤ length seen
+    within = omega (
+      arith,
+      count,
+      length-append (step_writes setting course one) (writes setting (after_step setting course one) done),
+    )
+
+    front : take size_one (seen ++ more) ≡ take size_one seen
+    front = take-append-le size_one seen more within
+
+    back : drop size_one (seen ++ more) ≡ drop size_one seen ++ more
+    back = drop-append-le size_one seen more within
+
+-- a caller
+pub callers-kept : CallersKept
+callers-kept setting scripts history actor visit apart = (
+  rw (words-push setting actor history visit, apart, append-nil) refl,
+  rw (tickets-push actor history visit, apart, append-nil) refl,
+)
+
+pub callers-read : CallersRead
+callers-read setting scripts history actor key =
+    rw (words-push setting actor history (look_by actor key), eq-eqb actor actor refl)
+    (caller-push setting (finds_of setting scripts actor) (words_read setting actor history)
+    (cell setting history key))
+
+pub callers-count : CallersCount
+callers-count setting scripts history actor high played =
+    let far = under_way setting scripts history actor high played in (far.count, far.low)
+
+-- the lines of answers with one ticket more
+lines-more : (setting : Setting) (history : History) (actor : ℕ) (seen : List ℕ) (ticket : ℕ) (answers : List Answer)
+    → All (IsAnswered setting history actor seen) answers
+    → map (answer_line actor (seen ++ ticket ∷ [])) answers ≡ map (answer_line actor seen) answers
+lines-more setting history actor seen ticket [] all = refl
+lines-more setting history actor seen ticket (answer ∷ answers) all =
+    let one : IsAnswered setting history actor seen answer =
+    All-head (IsAnswered setting history actor seen) answer answers all in
+    rw (
+      get_or_append_left seen (ticket ∷ []) 0 answer.first (omega (arith, one.order, one.within)),
+      get_or_append_left seen (ticket ∷ []) 0 answer.last (omega (arith, one.within)),
+      lines-more setting history actor seen ticket answers
+          (All-tail (IsAnswered setting history actor seen) answer answers all),
+    ) refl
+
+pub caller_lines-push : CallerLinesGrow
+caller_lines-push setting scripts history actor key call later high played same =
+    rw (
+      callers-read setting scripts history actor key,
+      tickets-push actor history (look_by actor key),
+      eq-eqb actor actor refl,
+      same,
+    )
+    (at_answer (answer_of stage))
+  where
+    caller : Caller
+    caller = caller_in setting scripts history actor
+
+    stage : Stage
+    stage = after_word setting call caller.stage (cell setting history key)
+
+    seen : List ℕ
+    seen = tickets actor history
+
+    far : IsUnderWay setting history actor (finds_of setting scripts actor) (tickets actor history) (length history)
+        (caller_in setting scripts history actor)
+    far = under_way setting scripts history actor high played
+
+    at_end : slice_index (seen ++ length history ∷ []) (length seen) ≡ length history
+    at_end = get_or_push seen (length history) 0 (length seen) refl
+
+    at_answer : (o : Option Found)
+        → map (answer_line actor (seen ++ length history ∷ [])) (with_stage caller call later stage o).answers
+        ≡ map (answer_line actor seen) caller.answers
+        ++ option_to_list (option_map (λ (found : Found). found_line actor call found
+        (slice_index (seen ++ length history ∷ []) caller.first) (length history)) o)
+    at_answer None = lines-more setting history actor seen (length history) caller.answers far.done
+        ∙ sym (append-nil _)
+    at_answer (Some found) =
+        rw (
+          map-append (answer_line actor (seen ++ length history ∷ [])) caller.answers (record {
+            call = call;
+            found = found;
+            first = caller.first;
+            last = caller.next;
+          } ∷ []),
+          lines-more setting history actor seen (length history) caller.answers far.done,
+          far.count,
+          at_end,
+        ) refl

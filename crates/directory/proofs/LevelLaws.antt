@@ -1,0 +1,211 @@
+-- What a move does to the levels: those that it renews have its node and have gathered nothing, the others go on.
+use Rattle.std.proofs.Common.{◌≡◌, ℕ, zero, suc, ◌+◌, ◌≤◌, Bool, true, false, cond, List, [], ◌∷◌, ◌++◌, length, map, drop, fold, refl, ap, ◌∙◌, arith, length-append}
+use Rattle.std.specs.Prelude.{◌==◌, ◌&&◌, not, None, nat_le, sum_by, get_or}
+use Rattle.std.proofs.lemmas.List.Sums.{sum_by-append}
+use Rattle.std.proofs.lemmas.List.{length-map}
+use Rattle.node_set.specs.Ascending.{has, passing}
+use Rattle.entry_word.specs.declared.mark.PresenceMark.TheVariants.{Empty, Here, Gone}
+use Rattle.directory.specs.Settings.{Setting}
+use Rattle.directory.specs.Writes.{mark_at, entry_at, numbers_from, new_address, old_home, erasing, purging, trail, step_writes, most_writes}
+use Rattle.directory.specs.Courses.{highest, Step, move_to, switch_off, switch_on, Move, Course, course_at, stop, base, address_node, gathered, next_move, after_step, after_steps}
+use Rattle.directory.proofs.HistoryLaws.{base-after}
+
+-- moves are numbered one after another
+unfoldable pub AreNumbered : ℕ → List Move → Type 0
+AreNumbered n [] = Unit {0}
+AreNumbered n (move ∷ later) = (move.number ≡ suc n) × AreNumbered (suc n) later
+
+numbered-append : (n : ℕ) (moves : List Move) (move : Move) → move.number ≡ suc (n + length moves)
+    → AreNumbered n moves → AreNumbered n (moves ++ move ∷ [])
+unfolding AreNumbered
+numbered-append n [] move h f = (h ∙ (let e : suc (n + 0) ≡ suc n = omega arith in e), tt)
+numbered-append n (first ∷ later) move h f = (
+  f.0,
+  numbered-append (suc n) later move
+      (h ∙ (let e : suc (n + suc (length later)) ≡ suc (suc n + length later) = omega arith in e)) f.1,
+)
+
+numbered-steps : (setting : Setting) (course : Course) (steps : List Step) → AreNumbered 0 course.moves
+    → AreNumbered 0 (after_steps setting course steps).moves
+numbered-steps setting course [] f = f
+numbered-steps setting course (move_to node ∷ steps) f = numbered-steps setting
+    (after_step setting course (move_to node)) steps (numbered-append 0 course.moves (next_move setting course node)
+    (let e : suc (length course.moves) ≡ suc (0 + length course.moves) = omega arith in e) f)
+numbered-steps setting course (switch_off ∷ steps) f = numbered-steps setting
+    (after_step setting course switch_off) steps f
+numbered-steps setting course (switch_on ∷ steps) f = numbered-steps setting
+    (after_step setting course switch_on) steps f
+
+base-low : (level n low : ℕ) (moves : List Move) → low ≤ n → AreNumbered n moves
+    → fold (λ last (m : Move). cond (nat_le level m.renewed) m.number last) low moves ≤ n + length moves
+unfolding AreNumbered
+base-low level n low [] h f = omega (arith, h)
+base-low level n low (move ∷ later) h f =
+    let step : fold (λ last (m : Move). cond (nat_le level m.renewed) m.number last)
+    (cond (nat_le level move.renewed) move.number low) later ≤ suc n + length later =
+    base-low level (suc n) (cond (nat_le level move.renewed) move.number low) later
+    (at_test (nat_le level move.renewed)) f.1 in omega (arith, step)
+  where
+    at_test : (b : Bool) → cond b move.number low ≤ suc n
+    at_test true = omega (arith, f.0)
+    at_test false = omega (arith, h)
+
+drop-short : (k : ℕ) (xs : List Move) (x : Move) → k ≤ length xs → drop k (xs ++ x ∷ []) ≡ drop k xs ++ x ∷ []
+drop-short zero xs x h = refl
+drop-short (suc k) [] x h = absurd (omega arith)
+drop-short (suc k) (y ∷ xs) x h = drop-short k xs x (omega arith)
+
+drop-past : (k : ℕ) (xs : List Move) (x : Move) → k ≡ suc (length xs) → drop k (xs ++ x ∷ []) ≡ []
+drop-past zero xs x h = absurd (omega arith)
+drop-past (suc zero) [] x h = refl
+drop-past (suc (suc k)) [] x h = absurd (omega arith)
+drop-past (suc k) (y ∷ xs) x h = drop-past k xs x (omega arith)
+
+stop-kept : (k node : ℕ) (xs : List Move) (x : Move) → k ≤ length xs
+    → get_or (node ∷ map (λ (m : Move). m.to) (xs ++ x ∷ [])) k 0 ≡ get_or (node ∷ map (λ (m : Move). m.to) xs) k 0
+stop-kept zero node xs x h = refl
+stop-kept (suc k) node [] x h = absurd (omega arith)
+stop-kept (suc k) node (y ∷ xs) x h = stop-kept k y.to xs x (omega arith)
+
+stop-last : (k node : ℕ) (xs : List Move) (x : Move) → k ≡ suc (length xs)
+    → get_or (node ∷ map (λ (m : Move). m.to) (xs ++ x ∷ [])) k 0 ≡ x.to
+stop-last zero node xs x h = absurd (omega arith)
+stop-last (suc zero) node [] x h = refl
+stop-last (suc (suc k)) node [] x h = absurd (omega arith)
+stop-last (suc k) node (y ∷ xs) x h = stop-last k y.to xs x (omega arith)
+
+-- what a move does to a level
+pub gathered-after : (setting : Setting) (course : Course) (node level : ℕ) → AreNumbered 0 course.moves
+    → gathered (after_step setting course (move_to node)) level
+    ≡ cond (nat_le level (next_move setting course node).renewed) 0
+    (gathered course level + setting.distance (fold (λ n (m : Move). m.to) course.start course.moves) node)
+gathered-after setting course node level numbered = ap
+    (λ b. sum_by (λ (m : Move). m.weight) (drop b (course.moves ++ move ∷ []))) (base-after level course.moves move)
+    ∙ at_test (nat_le level move.renewed)
+  where
+    move : Move
+    move = next_move setting course node
+
+    low : base level course.moves ≤ length course.moves
+    low = let e : base level course.moves ≤ 0 + length course.moves = base-low level 0 0 course.moves
+        (omega arith) numbered in omega (arith, e)
+
+    at_test : (b : Bool) → sum_by (λ (m : Move). m.weight)
+        (drop (cond b move.number (base level course.moves)) (course.moves ++ move ∷ []))
+        ≡ cond b 0 (gathered course level + move.weight)
+    at_test true = ap (sum_by (λ (m : Move). m.weight)) (drop-past move.number course.moves move refl)
+    at_test false =
+        ap (sum_by (λ (m : Move). m.weight)) (drop-short (base level course.moves) course.moves move low)
+        ∙ (sum_by-append (λ (m : Move). m.weight) (drop (base level course.moves) course.moves) (move ∷ [])
+        ∙ ap (λ w. gathered course level + w) (let e : 0 + move.weight ≡ move.weight = omega arith in e))
+
+pub address-after : (setting : Setting) (course : Course) (node level : ℕ) → AreNumbered 0 course.moves
+    → address_node (after_step setting course (move_to node)) level
+    ≡ cond (nat_le level (next_move setting course node).renewed) node (address_node course level)
+address-after setting course node level numbered = ap (stop (after_step setting course (move_to node)))
+    (base-after level course.moves move) ∙ at_test (nat_le level move.renewed)
+  where
+    move : Move
+    move = next_move setting course node
+
+    low : base level course.moves ≤ length course.moves
+    low = let e : base level course.moves ≤ 0 + length course.moves = base-low level 0 0 course.moves
+        (omega arith) numbered in omega (arith, e)
+
+    at_test : (b : Bool) → stop (after_step setting course (move_to node))
+        (cond b move.number (base level course.moves)) ≡ cond b node (address_node course level)
+    at_test true = stop-last move.number course.start course.moves move refl
+    at_test false = stop-kept (base level course.moves) course.start course.moves move low
+
+-- the same of a course that steps lead to
+abbrev pub course_of : Setting → ℕ → List Step → Course
+course_of setting node steps = after_steps setting (course_at node) steps
+
+pub gathered_by_move : (setting : Setting) (first : ℕ) (steps : List Step) (node level : ℕ)
+    → gathered (after_step setting (course_of setting first steps) (move_to node)) level
+    ≡ cond (nat_le level (next_move setting (course_of setting first steps) node).renewed) 0
+    (gathered (course_of setting first steps) level + setting.distance
+    (fold (λ n (m : Move). m.to) (course_of setting first steps).start (course_of setting first steps).moves)
+    node)
+unfolding AreNumbered
+gathered_by_move setting first steps node level = gathered-after setting (course_of setting first steps) node level
+    (numbered-steps setting (course_at first) steps tt)
+
+pub address_by_move : (setting : Setting) (first : ℕ) (steps : List Step) (node level : ℕ)
+    → address_node (after_step setting (course_of setting first steps) (move_to node)) level
+    ≡ cond (nat_le level (next_move setting (course_of setting first steps) node).renewed) node
+    (address_node (course_of setting first steps) level)
+unfolding AreNumbered
+address_by_move setting first steps node level = address-after setting (course_of setting first steps) node level
+    (numbered-steps setting (course_at first) steps tt)
+
+-- no move has more writes than the most
+passing-short : (test : ℕ → Bool) (v k : ℕ) → length (passing test v k) ≤ k
+passing-short test v zero = omega arith
+passing-short test v (suc k) = at_test (test v) (passing-short test (suc v) k)
+  where
+    at_test : (b : Bool) → length (passing test (suc v) k) ≤ k
+        → length (cond b (v ∷ passing test (suc v) k) (passing test (suc v) k)) ≤ suc k
+    at_test true h = omega (arith, h)
+    at_test false h = omega (arith, h)
+
+highest-low : (test : ℕ → Bool) (limit : ℕ) → highest test (suc limit) ≤ limit
+unfolding highest
+highest-low test zero = at_test (test zero)
+  where
+    at_test : (b : Bool) → cond b 0 0 ≤ 0
+    at_test true = omega arith
+    at_test false = omega arith
+highest-low test (suc limit) = at_test (test (suc limit)) (highest-low test limit)
+  where
+    at_test : (b : Bool) → highest test (suc limit) ≤ limit
+        → cond b (suc limit) (highest test (suc limit)) ≤ suc limit
+    at_test true h = omega arith
+    at_test false h = omega (arith, h)
+
+purging-short : (setting : Setting) (course : Course) (move : Move)
+    → length (purging setting course move) ≤ setting.nodes
+purging-short setting course move = at_test (move.renewed == setting.top)
+  where
+    kept : ℕ → Bool
+    kept node = has node (trail setting course move) && not (node == move.to)
+
+    at_test : (b : Bool) → length (cond b (map (λ node. mark_at node Empty) (passing kept 0 setting.nodes)) []) ≤
+        setting.nodes
+    at_test true = omega (
+      arith,
+      length-map (passing kept 0 setting.nodes) (λ node. mark_at node Empty),
+      passing-short kept 0 setting.nodes,
+    )
+    at_test false = omega arith
+
+pub move-short : (setting : Setting) (course : Course) (node : ℕ)
+    → length (step_writes setting course (move_to node)) ≤ most_writes setting
+move-short setting course node =
+    let move : Move = next_move setting course node in
+    let low : move.renewed ≤ setting.top = highest-low _ setting.top in
+    let one : length (map (new_address setting move) (numbers_from 0 (suc move.renewed))) ≤ suc move.renewed =
+    omega (
+      arith,
+      length-map (numbers_from 0 (suc move.renewed)) (new_address setting move),
+      passing-short (λ p. true) 0 (suc move.renewed),
+    ) in
+    let two : length (erasing setting course move) ≤ suc move.renewed =
+    omega (
+      arith,
+      length-map (passing (λ level. not (old_home setting course level == setting.home level move.to)) 0
+          (suc move.renewed)) (λ level. entry_at level (old_home setting course level) None),
+      passing-short (λ level. not (old_home setting course level == setting.home level move.to)) 0
+          (suc move.renewed),
+    ) in
+    let three : length (purging setting course move) ≤ setting.nodes = purging-short setting course move in
+    let ends : length (erasing setting course move ++ purging setting course move)
+    ≡ length (erasing setting course move) + length (purging setting course move) = length-append
+    (erasing setting course move) (purging setting course move) in
+    let all : length (step_writes setting course (move_to node))
+    ≡ suc (length (map (new_address setting move) (numbers_from 0 (suc move.renewed))) + suc
+    (suc (length (erasing setting course move ++ purging setting course move)))) =
+    ap suc (length-append (map (new_address setting move) (numbers_from 0 (suc move.renewed)))
+    (mark_at move.from (Gone move.number move.to) ∷
+    (mark_at move.to (Here move.number) ∷ (erasing setting course move ++ purging setting course move)))) in
+    omega (arith, low, one, two, three, ends, all)

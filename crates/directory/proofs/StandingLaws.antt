@@ -1,0 +1,268 @@
+-- Where a subscriber stands: the commits of a legal history are the first moves of its course, so it stands at a stop.
+use Rattle.std.proofs.Common.{◌≡◌, ℕ, zero, suc, ◌-◌, ◌≤◌, Bool, true, false, cond, ◌==◌, List, [], ◌∷◌, ◌++◌, Some, None, length, map, take, fold, refl, sym, ap, ◌∙◌, subst, arith, append_assoc, length-append}
+use Rattle.std.specs.Prelude.{slice_index, filter_map}
+use Rattle.std.specs.List.{cons_option}
+use Rattle.std.proofs.lemmas.List.{append-nil, length-take-le, length-map}
+use Rattle.std.proofs.lemmas.List.Elements.{filter_map-append}
+use Rattle.entry_word.specs.declared.mark.PresenceMark.TheVariants.{Empty, Here, Gone, Coming}
+use Rattle.directory.specs.Settings.{Setting, start}
+use Rattle.directory.specs.Histories.{puts_to}
+use Rattle.directory.specs.Courses.{Step, move_to, switch_off, switch_on, Move, Course, course_at, next_move, after_step, after_steps}
+use Rattle.directory.specs.Writes.{Write, mark_at, entry_at, numbers_from, new_address, erasing, purging, move_writes, step_writes, writes}
+use Rattle.directory.specs.Puts.{steps_in, course_in}
+use Rattle.directory.specs.Standing.{Commit, commit_by, commits, number}
+use Rattle.directory.specs.States.{write_commit}
+use Rattle.directory.proofs.StateLaws.{commits-told}
+use Rattle.entry_word.specs.Marks.{MarksUnpack}
+use Rattle.directory.specs.Statements.{CommitsAreMoves, StandsAtStop}
+use Rattle.directory.specs.StepLaws.{take-append}
+
+-- the moves that steps add to a course
+unfoldable pub added : Setting → Course → List Step → List Move
+added setting course [] = []
+added setting course (move_to node ∷ steps) = next_move setting course node ∷ added setting
+    (after_step setting course (move_to node)) steps
+added setting course (switch_off ∷ steps) = added setting (after_step setting course switch_off) steps
+added setting course (switch_on ∷ steps) = added setting (after_step setting course switch_on) steps
+
+pub moves-added : (setting : Setting) (course : Course) (steps : List Step)
+    → (after_steps setting course steps).moves ≡ course.moves ++ added setting course steps
+unfolding added
+moves-added setting course [] = sym (append-nil course.moves)
+moves-added setting course (move_to node ∷ steps) =
+    moves-added setting (after_step setting course (move_to node)) steps
+    ∙ append_assoc course.moves (next_move setting course node ∷ [])
+    (added setting (after_step setting course (move_to node)) steps)
+moves-added setting course (switch_off ∷ steps) = moves-added setting (after_step setting course switch_off) steps
+moves-added setting course (switch_on ∷ steps) = moves-added setting (after_step setting course switch_on) steps
+
+pub start-kept : (setting : Setting) (course : Course) (steps : List Step)
+    → (after_steps setting course steps).start ≡ course.start
+start-kept setting course [] = refl
+start-kept setting course (move_to node ∷ steps) = start-kept setting (after_step setting course (move_to node)) steps
+start-kept setting course (switch_off ∷ steps) = start-kept setting (after_step setting course switch_off) steps
+start-kept setting course (switch_on ∷ steps) = start-kept setting (after_step setting course switch_on) steps
+
+-- writes that are no commits
+unfoldable NoCommits : List Write → Type 0
+NoCommits [] = Unit {0}
+NoCommits (write ∷ later) = (write_commit write ≡ None) × NoCommits later
+
+no-append : (xs ys : List Write) → NoCommits xs → NoCommits ys → NoCommits (xs ++ ys)
+unfolding NoCommits
+no-append [] ys f g = g
+no-append (x ∷ xs) ys f g = (f.0, no-append xs ys f.1 g)
+
+no-map : (h : ℕ → Write) → ((i : ℕ) → write_commit (h i) ≡ None) → (xs : List ℕ) → NoCommits (map h xs)
+unfolding NoCommits
+no-map h f [] = tt
+no-map h f (x ∷ xs) = (f x, no-map h f xs)
+
+no-take : (k : ℕ) (xs : List Write) → NoCommits xs → NoCommits (take k xs)
+unfolding NoCommits
+no-take zero xs f = tt
+no-take (suc k) [] f = tt
+no-take (suc k) (x ∷ xs) f = (f.0, no-take k xs f.1)
+
+none-listed : (xs : List Write) → NoCommits xs → filter_map write_commit xs ≡ []
+unfolding NoCommits
+none-listed [] f = refl
+none-listed (x ∷ xs) f = ap (λ o. cons_option o (filter_map write_commit xs)) f.0 ∙ none-listed xs f.1
+
+-- whether a front of this length goes past a place
+is_past : ℕ → ℕ → Bool
+is_past place zero = false
+is_past zero (suc k) = true
+is_past (suc place) (suc k) = is_past place k
+
+not-past : (place k : ℕ) → is_past place k ≡ false → k ≤ place
+unfolding is_past
+not-past place zero h = omega arith
+not-past zero (suc k) h = cc
+not-past (suc place) (suc k) h = omega (arith, not-past place k h)
+
+-- a front of a list with one commit has it or not
+one-listed : (xs : List Write) (y : Write) (zs : List Write) (commit : Commit) (k : ℕ) → NoCommits xs → NoCommits zs
+    → write_commit y ≡ Some commit
+    → filter_map write_commit (take k (xs ++ y ∷ zs)) ≡ cond (is_past (length xs) k) (commit ∷ []) []
+unfolding NoCommits is_past
+one-listed [] y zs commit zero f g h = refl
+one-listed [] y zs commit (suc k) f g h = ap (λ o. cons_option o (filter_map write_commit (take k zs))) h
+    ∙ ap (λ cs. commit ∷ cs) (none-listed (take k zs) (no-take k zs g))
+one-listed (x ∷ xs) y zs commit zero f g h = refl
+one-listed (x ∷ xs) y zs commit (suc k) f g h = ap (λ o. cons_option o
+    (filter_map write_commit (take k (xs ++ y ∷ zs)))) f.0 ∙ one-listed xs y zs commit k f.1 g h
+
+no-purges : (setting : Setting) (course : Course) (move : Move) → NoCommits (purging setting course move)
+unfolding NoCommits
+no-purges setting course move = at_test (move.renewed == setting.top) _
+  where
+    at_test : (b : Bool) (nodes : List ℕ) → NoCommits (cond b (map (λ node. mark_at node Empty) nodes) [])
+    at_test true nodes = no-map (λ node. mark_at node Empty) (λ i. refl) nodes
+    at_test false nodes = tt
+
+move-listed : (setting : Setting) (course : Course) (move : Move) (k : ℕ)
+    → filter_map write_commit (take k (move_writes setting course move))
+    ≡ cond (is_past (suc (length (map (new_address setting move) (numbers_from 0 (suc move.renewed))))) k)
+    (commit_by move ∷ []) []
+unfolding NoCommits is_past
+move-listed setting course move k =
+    one-listed (mark_at move.to (Coming move.number move.from) ∷ map (new_address setting move)
+    (numbers_from 0 (suc move.renewed))) (mark_at move.from (Gone move.number move.to))
+    (mark_at move.to (Here move.number) ∷ (erasing setting course move ++ purging setting course move))
+    (commit_by move) k
+    (refl, no-map (new_address setting move) (λ i. refl) (numbers_from 0 (suc move.renewed))) (
+      refl,
+      no-append (erasing setting course move) (purging setting course move)
+          (no-map (λ level. entry_at level _ None) (λ i. refl) _) (no-purges setting course move),
+    ) refl
+
+-- the first visits of steps commit to the first moves that they add
+record AreCommitted (setting : Setting) (course : Course) (steps : List Step) (k : ℕ) : Type 0 where
+  count : ℕ
+  few : count ≤ length (added setting course steps)
+  listed : filter_map write_commit (take k (writes setting course steps))
+      ≡ map commit_by (take count (added setting course steps))
+
+nothing-taken : (k : ℕ) → take {A = Write} k [] ≡ []
+nothing-taken zero = refl
+nothing-taken (suc k) = refl
+
+parted : (setting : Setting) (course : Course) (step : Step) (steps : List Step) (k : ℕ)
+    → filter_map write_commit (take k (step_writes setting course step ++ writes setting
+    (after_step setting course step) steps))
+    ≡ filter_map write_commit (take k (step_writes setting course step)) ++ filter_map write_commit
+    (take (k - length (step_writes setting course step)) (writes setting (after_step setting course step) steps))
+parted setting course step steps k =
+    ap (filter_map write_commit) (take-append k (step_writes setting course step)
+    (writes setting (after_step setting course step) steps))
+    ∙ filter_map-append write_commit (take k (step_writes setting course step))
+    (take (k - length (step_writes setting course step)) (writes setting (after_step setting course step) steps))
+
+committed : (setting : Setting) (course : Course) (steps : List Step) (k : ℕ) → AreCommitted setting course steps k
+unfolding added writes NoCommits
+committed setting course [] k = record {
+  count = 0;
+  few = omega arith;
+  listed = ap (filter_map write_commit)
+      (nothing-taken k);
+}
+committed setting course (switch_off ∷ steps) k = switched
+    (committed setting (after_step setting course switch_off) steps (k - 1))
+  where
+    switched : AreCommitted setting (after_step setting course switch_off) steps (k - 1)
+        → AreCommitted setting course (switch_off ∷ steps) k
+    switched later = record {
+      count = later.count;
+      few = later.few;
+      listed = parted setting course switch_off steps k
+          ∙ (ap (λ cs. cs ++ filter_map write_commit (take (k - 1)
+          (writes setting (after_step setting course switch_off) steps)))
+          (none-listed (take k (step_writes setting course switch_off)) (no-take k _ (refl, tt))) ∙ later.listed);
+    }
+committed setting course (switch_on ∷ steps) k = switched
+    (committed setting (after_step setting course switch_on) steps (k - 1))
+  where
+    switched : AreCommitted setting (after_step setting course switch_on) steps (k - 1)
+        → AreCommitted setting course (switch_on ∷ steps) k
+    switched later = record {
+      count = later.count;
+      few = later.few;
+      listed = parted setting course switch_on steps k
+          ∙ (ap (λ cs. cs ++ filter_map write_commit (take (k - 1)
+          (writes setting (after_step setting course switch_on) steps)))
+          (none-listed (take k (step_writes setting course switch_on)) (no-take k _ (refl, tt))) ∙ later.listed);
+    }
+committed setting course (move_to node ∷ steps) k = moved
+    (committed setting (after_step setting course (move_to node)) steps (k - length mine))
+    (is_past (suc (length addresses)) k) refl
+  where
+    its_move : Move
+    its_move = next_move setting course node
+
+    mine : List Write
+    mine = step_writes setting course (move_to node)
+
+    addresses : List Write
+    addresses = map (new_address setting its_move) (numbers_from 0 (suc its_move.renewed))
+
+    longer : suc (suc (length addresses)) ≤ length mine
+    longer = omega (
+      arith,
+      length-append addresses (mark_at its_move.from (Gone its_move.number its_move.to) ∷
+          (mark_at its_move.to (Here its_move.number) ∷ (erasing setting course its_move ++ purging setting course
+          its_move))),
+    )
+
+    moved : AreCommitted setting (after_step setting course (move_to node)) steps (k - length mine) → (b : Bool)
+        → is_past (suc (length addresses)) k ≡ b → AreCommitted setting course (move_to node ∷ steps) k
+    moved later true e = record {
+      count = suc later.count;
+      few = omega (arith, later.few);
+      listed = parted setting course (move_to node) steps k
+          ∙ (ap (λ cs. cs ++ filter_map write_commit (take (k - length mine)
+          (writes setting (after_step setting course (move_to node)) steps)))
+          (move-listed setting course its_move k ∙ ap (λ b. cond b (commit_by its_move ∷ []) []) e)
+          ∙ ap (λ cs. commit_by its_move ∷ cs) later.listed);
+    }
+    moved later false e = record {
+      count = 0;
+      few = omega arith;
+      listed = parted setting course (move_to node) steps k
+          ∙ (ap (λ cs. cs ++ filter_map write_commit (take (k - length mine)
+          (writes setting (after_step setting course (move_to node)) steps)))
+          (move-listed setting course its_move k ∙ ap (λ b. cond b (commit_by its_move ∷ []) []) e)
+          ∙ ap (λ n. filter_map write_commit (take n (writes setting
+          (after_step setting course (move_to node)) steps))) none_more);
+    }
+      where
+        early : k ≤ suc (length addresses)
+        early = not-past (suc (length addresses)) k e
+
+        none_more : k - length mine ≡ 0
+        none_more = omega (arith, early, longer)
+
+-- the commits of a legal history are the first moves of its course
+pub commits-are_moves : MarksUnpack → CommitsAreMoves
+commits-are_moves unpacks setting sub history low legal = at_committed
+    (committed setting (course_at (start setting sub)) (steps_in (puts_to sub history))
+    (length (puts_to sub history)))
+  where
+    moves : List Move
+    moves = added setting (course_at (start setting sub)) (steps_in (puts_to sub history))
+
+    same : (course_in setting sub (puts_to sub history)).moves ≡ moves
+    same = moves-added setting (course_at (start setting sub)) (steps_in (puts_to sub history))
+
+    at_committed : AreCommitted setting (course_at (start setting sub)) (steps_in (puts_to sub history))
+        (length (puts_to sub history))
+        → (number sub history ≤ length (course_in setting sub (puts_to sub history)).moves)
+        × (commits sub history ≡ map commit_by (take (number sub history)
+        (course_in setting sub (puts_to sub history)).moves))
+    at_committed made =
+        let listed : commits sub history ≡ map commit_by
+        (take made.count moves) = commits-told unpacks setting sub history low legal ∙ made.listed in
+        let count : number sub history ≡ made.count = ap length listed
+        ∙ (length-map (take made.count moves) commit_by ∙ length-take-le made.count moves made.few) in (
+          subst (λ (ms : List Move). number sub history ≤ length ms) (sym same) (omega (arith, count, made.few)),
+          listed ∙ (ap (λ n. map commit_by (take n moves)) (sym count)
+              ∙ ap (λ ms. map commit_by (take (number sub history) ms)) (sym same)),
+        )
+
+-- the node after the first moves of a list
+last-stop : (start count : ℕ) (moves : List Move) → count ≤ length moves
+    → fold (λ node (commit : Commit). commit.to) start (map commit_by (take count moves))
+    ≡ slice_index (start ∷ map (λ (move : Move). move.to) moves) count
+last-stop start zero moves few = refl
+last-stop start (suc count) [] few = absurd (omega arith)
+last-stop start (suc count) (move ∷ moves) few = last-stop move.to count moves (omega arith)
+
+-- so a subscriber stands at a stop of its course
+pub standing-is_stop : MarksUnpack → StandsAtStop
+standing-is_stop unpacks setting sub history low legal =
+    let made = commits-are_moves unpacks setting sub history low legal in
+    let course : Course = course_in setting sub (puts_to sub history) in
+    ap (fold (λ node (commit : Commit). commit.to) (start setting sub)) made.1
+    ∙ (last-stop (start setting sub) (number sub history) course.moves made.0
+    ∙ ap (λ node. slice_index (node ∷ map (λ (move : Move). move.to) course.moves) (number sub history))
+    (sym (start-kept setting (course_at (start setting sub)) (steps_in (puts_to sub history)))))

@@ -1,0 +1,347 @@
+-- Steps: more of them add writes at the end, puts show which were begun, and a front of legal puts is legal.
+use Rattle.std.proofs.Common.{◌≡◌, ℕ, zero, suc, ◌+◌, ◌-◌, ◌<◌, ◌≤◌, ◌^◌, Bool, true, false, cond, List, [], ◌∷◌, ◌++◌, Some, None, length, map, take, fold, refl, sym, ap, ◌∙◌, subst, arith, length-append, ◌==◌}
+use Rattle.std.specs.Prelude.{slice_get, unwrap_or}
+use Rattle.std.specs.List.{cons_option}
+use Rattle.std.proofs.lemmas.List.{take-append-le, take_all}
+use Rattle.std.proofs.lemmas.List.Sums.{fold-append}
+use Rattle.entry_word.specs.Marks.{mark_word, mark_in, says_off, IsSmallMark, MarksUnpack}
+use Rattle.entry_word.specs.declared.mark.PresenceMark.{PresenceMark}
+use Rattle.entry_word.specs.declared.mark.PresenceMark.TheVariants.{Empty, Here, Gone, Coming, Off}
+use Rattle.entry_word.specs.declared.visit.Visit.{Visit}
+use Rattle.directory.specs.Settings.{Setting, start}
+use Rattle.directory.specs.Histories.{IsFront}
+use Rattle.directory.specs.Courses.{Step, move_to, switch_off, switch_on, Move, Course, course_at, last_stop, next_move, after_step, after_steps, MayStep, MaySteps}
+use Rattle.directory.specs.Writes.{Write, mark_at, visit_of, numbers_from, new_address, erasing, purging, step_writes, writes, visits}
+use Rattle.directory.specs.Puts.{node_put, mark_put, mark_step, steps_from, steps_in, course_in}
+use Rattle.directory.specs.Legal.{IsScript, ArePuts}
+use Rattle.directory.specs.Statements.{FrontsAreLegal, ScriptsAreLegal, DueIsLegal, BeginningIsLegal, NextIsDecided}
+use Rattle.directory.specs.StepLaws.{steps-append, take-append, visits-append, visits_in}
+
+pub map-append : {A B : Type 0} (f : A → B) (xs ys : List A) → map f (xs ++ ys) ≡ map f xs ++ map f ys
+map-append f [] ys = refl
+map-append f (x ∷ xs) ys = ap (λ zs. f x ∷ zs) (map-append f xs ys)
+
+pub read_back : MarksUnpack → (mark : PresenceMark) → IsSmallMark mark → mark_in (mark_word mark) ≡ mark
+read_back unpacks mark small = ap (λ o. unwrap_or o Empty) (unpacks mark small)
+
+-- a put that begins no step, when no Off was put before it, and is none itself
+abbrev IsPlain : Visit → Type 0
+IsPlain visit = (mark_step false (node_put visit.act) (mark_put visit.act) ≡ None)
+    × (says_off (mark_put visit.act) ≡ false)
+
+unfoldable ArePlain : List Visit → Type 0
+ArePlain [] = Unit {0}
+ArePlain (visit ∷ later) = IsPlain visit × ArePlain later
+
+plain-append : (xs ys : List Visit) → ArePlain xs → ArePlain ys → ArePlain (xs ++ ys)
+unfolding ArePlain
+plain-append [] ys f g = g
+plain-append (x ∷ xs) ys f g = (f.0, plain-append xs ys f.1 g)
+
+plain-take : (k : ℕ) (xs : List Visit) → ArePlain xs → ArePlain (take k xs)
+unfolding ArePlain
+plain-take zero xs f = tt
+plain-take (suc k) [] f = tt
+plain-take (suc k) (x ∷ xs) f = (f.0, plain-take k xs f.1)
+
+plain-map : (sub : ℕ) (h : ℕ → Write) → ((i : ℕ) → IsPlain (visit_of sub (h i))) → (xs : List ℕ)
+    → ArePlain (map (visit_of sub) (map h xs))
+unfolding ArePlain
+plain-map sub h f [] = tt
+plain-map sub h f (x ∷ xs) = (f x, plain-map sub h f xs)
+
+-- plain puts show no step
+plain-skipped : (xs ys : List Visit) → ArePlain xs → steps_from false (xs ++ ys) ≡ steps_from false ys
+unfolding ArePlain steps_from
+plain-skipped [] ys f = refl
+plain-skipped (x ∷ xs) ys f =
+    ap (λ o. cons_option o (steps_from (says_off (mark_put x.act)) (xs ++ ys))) f.0.0
+    ∙ (ap (λ b. steps_from b (xs ++ ys)) f.0.1 ∙ plain-skipped xs ys f.1)
+
+plain-mark : MarksUnpack → (sub node : ℕ) (mark : PresenceMark) → IsSmallMark mark → mark_step false node mark ≡ None
+    → says_off mark ≡ false → IsPlain (visit_of sub (mark_at node mark))
+plain-mark unpacks sub node mark small none on = (
+  ap (mark_step false node) (read_back unpacks mark small)
+      ∙ none,
+  ap says_off (read_back unpacks mark small) ∙ on,
+)
+
+-- what a move puts after its Coming
+abbrev after_coming : Setting → Course → Move → List Write
+after_coming setting course move =
+    map (new_address setting move) (numbers_from 0 (suc move.renewed))
+    ++ (mark_at move.from (Gone move.number move.to)
+    ∷ (mark_at move.to (Here move.number)
+    ∷ (erasing setting course move ++ purging setting course move)))
+
+plain-purging : (setting : Setting) (sub : ℕ) (course : Course) (move : Move)
+    → ArePlain (map (visit_of sub) (purging setting course move))
+unfolding ArePlain
+plain-purging setting sub course move = at_test (move.renewed == setting.top) _
+  where
+    at_test : (b : Bool) (nodes : List ℕ) → ArePlain (map (visit_of sub)
+        (cond b (map (λ node. mark_at node Empty) nodes) []))
+    at_test true nodes = plain-map sub (λ node. mark_at node Empty) (λ i. (refl, refl)) nodes
+    at_test false nodes = tt
+
+plain-after : MarksUnpack → (setting : Setting) (sub : ℕ) (course : Course) (move : Move) → move.number < 2 ^ 32
+    → move.to < 2 ^ 16
+    → ArePlain (map (visit_of sub) (after_coming setting course move))
+unfolding ArePlain
+plain-after unpacks setting sub course move few low =
+    subst ArePlain (sym (map-append (visit_of sub) (map (new_address setting move)
+    (numbers_from 0 (suc move.renewed))) last_writes))
+    (plain-append (map (visit_of sub) (map (new_address setting move) (numbers_from 0 (suc move.renewed))))
+    (map (visit_of sub) last_writes)
+    (plain-map sub (new_address setting move) (λ i. (refl, refl)) (numbers_from 0 (suc move.renewed))) last_plain)
+  where
+    last_writes : List Write
+    last_writes = mark_at move.from (Gone move.number move.to) ∷
+        (mark_at move.to (Here move.number) ∷ (erasing setting course move ++ purging setting course move))
+
+    ends_plain : ArePlain (map (visit_of sub) (erasing setting course move ++ purging setting course move))
+    ends_plain =
+        subst ArePlain (sym (map-append (visit_of sub) (erasing setting course move) (purging setting course move)))
+        (plain-append (map (visit_of sub) (erasing setting course move))
+        (map (visit_of sub) (purging setting course move))
+        (plain-map sub _ (λ i. (refl, refl)) _) (plain-purging setting sub course move))
+
+    last_plain : ArePlain (map (visit_of sub) last_writes)
+    last_plain = (
+      plain-mark unpacks sub move.from (Gone move.number move.to) (few, low) refl refl,
+      (plain-mark unpacks sub move.to (Here move.number) few refl refl, ends_plain),
+    )
+
+-- the steps that the first k visits of some steps begin: they show just these, and are visits of these
+pub record AreBegun (setting : Setting) (sub : ℕ) (course : Course) (steps : List Step) (k : ℕ) : Type 0 where
+  pub count : ℕ
+  pub few : count ≤ length steps
+  pub shown : steps_from course.is_off (take k (visits_in setting sub course steps)) ≡ take count steps
+  pub enough : take k (visits_in setting sub course steps) ≡ take k (visits_in setting sub course (take count steps))
+
+-- what is known of a course
+pub record IsCourse (setting : Setting) (course : Course) : Type 0 where
+  pub low : setting.nodes ≤ 2 ^ 16
+  pub inside : last_stop course < setting.nodes
+  pub few : length course.moves < 2 ^ 32
+
+place-after : (course : Course) (move : Move) → fold (λ node (m : Move). m.to) course.start
+    (course.moves ++ move ∷ []) ≡ move.to
+place-after course move = fold-append (λ node (m : Move). m.to) course.start course.moves (move ∷ [])
+
+pub course-after : (setting : Setting) (course : Course) (step : Step) → IsCourse setting course
+    → MayStep setting course step → IsCourse setting (after_step setting course step)
+course-after setting course (move_to node) sound may =
+    let there : fold (λ n (m : Move). m.to) course.start (course.moves ++ next_move setting course node ∷ [])
+    ≡ node = place-after course (next_move setting course node) in
+    let more : length (course.moves ++ next_move setting course node ∷ [])
+    ≡ length course.moves + 1 = length-append course.moves (next_move setting course node ∷ []) in
+    record {
+      low = sound.low;
+      inside = subst (λ p. p < setting.nodes) (sym there) may.inside;
+      few = omega (arith, more, may.few);
+    }
+course-after setting course switch_off sound may = record { low = sound.low; inside = sound.inside; few = sound.few }
+course-after setting course switch_on sound may = record { low = sound.low; inside = sound.inside; few = sound.few }
+
+nothing-taken : (k : ℕ) → take {A = Visit} k [] ≡ []
+nothing-taken zero = refl
+nothing-taken (suc k) = refl
+
+-- the first visits of a step, with others after them when it is done
+pub one-begun : MarksUnpack → (setting : Setting) (sub : ℕ) (course : Course) (step : Step) (k : ℕ)
+    (later : List Visit) → IsCourse setting course → MayStep setting course step
+    → steps_from course.is_off (take (suc k) (map (visit_of sub) (step_writes setting course step)) ++ later)
+    ≡ step ∷ steps_from (after_step setting course step).is_off later
+unfolding steps_from
+one-begun unpacks setting sub course (move_to node) k later sound may =
+    let few : suc (length course.moves) < 2 ^ 32 = may.few in
+    let from : last_stop course < 2 ^ 16 = omega (arith, sound.low, sound.inside) in
+    let low : node < 2 ^ 16 = omega (arith, sound.low, may.inside) in
+    let read : mark_in (mark_word (Coming (suc (length course.moves)) (last_stop course)))
+    ≡ Coming (suc (length course.moves)) (last_stop course) =
+    read_back unpacks (Coming (suc (length course.moves)) (last_stop course)) (few, from) in
+    let rest : List Visit = map (visit_of sub) (after_coming setting course (next_move setting course node)) in
+    ap (λ m. cons_option (mark_step course.is_off node m) (steps_from (says_off m) (take k rest ++ later))) read
+    ∙ ap (λ xs. move_to node ∷ xs) (plain-skipped (take k rest) later
+    (plain-take k rest (plain-after unpacks setting sub course (next_move setting course node) few low))
+    ∙ ap (λ b. steps_from b later) (sym may.is_on))
+one-begun unpacks setting sub course switch_off k later sound may =
+    ap (λ vs. steps_from course.is_off (visit_of sub (mark_at (last_stop course) (Off (length course.moves))) ∷
+    (vs ++ later))) (nothing-taken k)
+    ∙ ap (λ m. cons_option (mark_step course.is_off (last_stop course) m) (steps_from (says_off m) later))
+    (read_back unpacks (Off (length course.moves)) sound.few)
+one-begun unpacks setting sub course switch_on k later sound may =
+    ap (λ vs. steps_from course.is_off (visit_of sub (mark_at (last_stop course) (Here (length course.moves))) ∷
+    (vs ++ later))) (nothing-taken k)
+    ∙ (ap (λ m. cons_option (mark_step course.is_off (last_stop course) m) (steps_from (says_off m) later))
+    (read_back unpacks (Here (length course.moves)) sound.few)
+    ∙ ap (λ b. cons_option (mark_step b (last_stop course) (Here (length course.moves))) (steps_from false later))
+    may)
+
+pub begun : MarksUnpack → (setting : Setting) (sub : ℕ) (course : Course) (steps : List Step) (k : ℕ)
+    → IsCourse setting course → MaySteps setting course steps → AreBegun setting sub course steps k
+unfolding writes steps_from MaySteps
+begun unpacks setting sub course [] zero sound may = record
+    { count = 0; few = omega arith; shown = refl; enough = refl }
+begun unpacks setting sub course [] (suc k) sound may = record
+    { count = 0; few = omega arith; shown = refl; enough = refl }
+begun unpacks setting sub course (step ∷ steps) zero sound may = record
+    { count = 0; few = omega arith; shown = refl; enough = refl }
+begun unpacks setting sub course (step ∷ steps) (suc k) sound may =
+    more (begun unpacks setting sub (after_step setting course step) steps (suc k - length mine)
+    (course-after setting course step sound may.0) may.1)
+  where
+    mine : List Visit
+    mine = map (visit_of sub) (step_writes setting course step)
+
+    parted : (xs : List Step) → take (suc k) (visits_in setting sub course (step ∷ xs))
+        ≡ take (suc k) mine ++ take (suc k - length mine) (visits_in setting sub (after_step setting course step) xs)
+    parted xs = ap (take (suc k)) (map-append (visit_of sub) (step_writes setting course step)
+        (writes setting (after_step setting course step) xs))
+        ∙ take-append (suc k) mine (visits_in setting sub (after_step setting course step) xs)
+
+    more : AreBegun setting sub (after_step setting course step) steps (suc k - length mine)
+        → AreBegun setting sub course (step ∷ steps) (suc k)
+    more later = record {
+      count = suc later.count;
+      few = omega (arith, later.few);
+      shown = ap (steps_from course.is_off) (parted steps)
+          ∙ (one-begun unpacks setting sub course step k
+          (take (suc k - length mine) (visits_in setting sub (after_step setting course step) steps)) sound may.0
+          ∙ ap (λ xs. step ∷ xs) later.shown);
+      enough = parted steps ∙ (ap (λ vs. take (suc k) mine ++ vs) later.enough
+          ∙ sym (parted (take later.count steps)));
+    }
+
+-- the first steps of some that may come may come
+may-take : (setting : Setting) (course : Course) (steps : List Step) (count : ℕ) → MaySteps setting course steps
+    → MaySteps setting course (take count steps)
+unfolding MaySteps
+may-take setting course steps zero may = tt
+may-take setting course [] (suc count) may = tt
+may-take setting course (step ∷ steps) (suc count) may =
+    (may.0, may-take setting (after_step setting course step) steps count may.1)
+
+-- a front has as many as it has
+own_length : {A : Type 0} (xs ys : List A) (n : ℕ) → xs ≡ take n ys → xs ≡ take (length xs) ys
+own_length {A = A} xs ys n same = subst (λ (zs : List A). zs ≡ take (length zs) ys) (sym same) (itself n ys)
+  where
+    itself : (n : ℕ) (ys : List A) → take n ys ≡ take (length (take n ys)) ys
+    itself zero ys = refl
+    itself (suc n) [] = refl
+    itself (suc n) (y ∷ ys) = ap (λ zs. y ∷ zs) (itself n ys)
+
+take-both : {A : Type 0} (m n : ℕ) (xs : List A) → m ≤ n → take m (take n xs) ≡ take m xs
+take-both zero n xs h = refl
+take-both (suc m) zero xs h = absurd (omega arith)
+take-both (suc m) (suc n) [] h = refl
+take-both (suc m) (suc n) (x ∷ xs) h = ap (λ zs. x ∷ zs) (take-both m n xs (omega arith))
+
+-- the first visits of steps that a subscriber may make are legal
+pub script-legal : MarksUnpack → ScriptsAreLegal
+script-legal unpacks setting sub steps k low script =
+    at_begun (begun unpacks setting sub (course_at (start setting sub)) steps k
+    (record { low = low; inside = script.begins; few = omega arith }) script.allowed)
+  where
+    at_begun : AreBegun setting sub (course_at (start setting sub)) steps k
+        → ArePuts setting sub (take k (visits setting sub steps))
+    at_begun first = record {
+      script = record {
+        known = script.known;
+        begins = script.begins;
+        allowed = subst (MaySteps setting (course_at (start setting sub))) (sym first.shown)
+            (may-take setting (course_at (start setting sub)) steps first.count script.allowed);
+      };
+      front = subst (λ xs. IsFront (take k (visits setting sub steps)) (visits setting sub xs)) (sym first.shown)
+          (own_length (take k (visits setting sub steps))
+          (visits setting sub (take first.count steps)) k first.enough);
+    }
+
+-- a front of legal puts is legal
+pub front-legal : MarksUnpack → FrontsAreLegal
+front-legal unpacks setting sub puts k low within legal =
+    subst (ArePuts setting sub) (sym (ap (take k) legal.front
+    ∙ take-both k (length puts) (visits setting sub (steps_in puts)) within))
+    (script-legal unpacks setting sub (steps_in puts) k low legal.script)
+
+-- the next of a longer front
+next-of-front : (xs ys zs : List Visit) (visit : Visit)
+    → xs ++ visit ∷ [] ≡ take (length (xs ++ visit ∷ [])) (ys ++ zs) → length xs < length ys
+    → slice_get ys (length xs) ≡ Some visit
+next-of-front [] [] zs visit h few = absurd (omega arith)
+next-of-front [] (y ∷ ys) zs visit h few = cc
+next-of-front (x ∷ xs) [] zs visit h few = absurd (omega arith)
+next-of-front (x ∷ xs) (y ∷ ys) zs visit h few =
+    let tails : xs ++ visit ∷ [] ≡ take (length (xs ++ visit ∷ []))
+    (ys ++ zs) = cc in next-of-front xs ys zs visit tails (omega arith)
+
+-- while a step isn't done, the puts so far decide on the next one
+pub next-decided : NextIsDecided
+next-decided setting sub puts visit left legal =
+    let longer : visits setting sub (steps_in (puts ++ visit ∷ [])) ≡ visits setting sub (steps_in puts) ++ _ =
+    ap (visits setting sub) (steps-append false puts (visit ∷ []))
+    ∙ visits-append setting sub (course_at (start setting sub)) (steps_in puts) _ in
+    next-of-front puts (visits setting sub (steps_in puts)) _ visit
+    (legal.front ∙ ap (take (length (puts ++ visit ∷ []))) longer) left
+
+pub one-more : (xs : List Visit) (k : ℕ) (x : Visit) → slice_get xs k ≡ Some x → take k xs ++ x ∷ [] ≡ take (suc k) xs
+one-more [] k x h = cc
+one-more (y ∷ ys) zero x h = let e : y ≡ x = cc in ap (λ z. z ∷ []) (sym e)
+one-more (y ∷ ys) (suc k) x h = ap (λ zs. y ∷ zs) (one-more ys k x h)
+
+-- the next put of the step under way keeps puts legal
+pub due-legal : MarksUnpack → DueIsLegal
+due-legal unpacks setting sub puts visit low legal due =
+    subst (ArePuts setting sub) (sym (ap (λ xs. xs ++ visit ∷ []) legal.front
+    ∙ one-more (visits setting sub (steps_in puts)) (length puts) visit due))
+    (script-legal unpacks setting sub (steps_in puts) (suc (length puts)) low legal.script)
+
+may-append : (setting : Setting) (course : Course) (xs ys : List Step) → MaySteps setting course xs
+    → MaySteps setting (after_steps setting course xs) ys → MaySteps setting course (xs ++ ys)
+unfolding MaySteps
+may-append setting course [] ys f g = g
+may-append setting course (x ∷ xs) ys f g = (f.0, may-append setting (after_step setting course x) xs ys f.1 g)
+
+-- and so does the first put of a further step, where no step is under way
+pub begin-legal : MarksUnpack → BeginningIsLegal
+unfolding MaySteps
+begin-legal unpacks setting sub puts step visit low legal rest may first =
+    subst (ArePuts setting sub) (sym same) (script-legal unpacks setting sub (steps_in puts ++ step ∷ [])
+    (suc (length puts)) low longer)
+  where
+    longer : IsScript setting sub (steps_in puts ++ step ∷ [])
+    longer = record {
+      known = legal.script.known;
+      begins = legal.script.begins;
+      allowed = may-append setting (course_at (start setting sub)) (steps_in puts) (step ∷ []) legal.script.allowed
+          (may, tt);
+    }
+
+    whole : (xs : List Visit) (n : ℕ) → n ≡ length xs → take n xs ≡ xs
+    whole xs n e = take_all n xs (omega (arith, e))
+
+    at_end : (xs ys : List Visit) (x : Visit) → slice_get ys 0 ≡ Some x → slice_get (xs ++ ys) (length xs) ≡ Some x
+    at_end [] ys x h = h
+    at_end (y ∷ xs) ys x h = at_end xs ys x h
+
+    joined : visits setting sub (steps_in puts ++ step ∷ [])
+        ≡ visits setting sub (steps_in puts) ++ visits_in setting sub (course_in setting sub puts) (step ∷ [])
+    joined = visits-append setting sub (course_at (start setting sub)) (steps_in puts) (step ∷ [])
+
+    same : puts ++ visit ∷ [] ≡ take (suc (length puts)) (visits setting sub (steps_in puts ++ step ∷ []))
+    same =
+        let all : puts ≡ visits setting sub (steps_in puts) = legal.front
+        ∙ whole (visits setting sub (steps_in puts)) (length puts) rest in
+        let front : puts ≡ take (length puts) (visits setting sub (steps_in puts ++ step ∷ [])) =
+        legal.front ∙ (sym (take-append-le (length puts) (visits setting sub (steps_in puts))
+        (visits_in setting sub (course_in setting sub puts) (step ∷ [])) (omega (arith, rest)))
+        ∙ ap (take (length puts)) (sym joined)) in
+        let due : slice_get (visits setting sub (steps_in puts ++ step ∷ [])) (length puts) ≡ Some visit =
+        ap (λ xs. slice_get xs (length puts)) joined ∙ (ap
+        (λ n. slice_get (visits setting sub (steps_in puts) ++ visits_in setting sub (course_in setting sub puts)
+        (step ∷ [])) n) rest
+        ∙ at_end (visits setting sub (steps_in puts)) (visits_in setting sub (course_in setting sub puts) (step ∷ []))
+        visit first) in
+        ap (λ xs. xs ++ visit ∷ []) front ∙ one-more (visits setting sub (steps_in puts ++ step ∷ []))
+        (length puts) visit due

@@ -1,0 +1,116 @@
+-- Tickets: which visits they are of, and that they ascend.
+use Rattle.std.proofs.Common.{◌≡◌, ℕ, zero, suc, ◌+◌, ◌<◌, Bool, true, false, cond, ◌==◌, List, [], ◌∷◌, ◌++◌, Some, length, map, take, drop, refl, sym, ap, ◌∙◌, subst, arith, append_assoc}
+use Rattle.std.specs.Prelude.{slice_get}
+use Rattle.std.proofs.lemmas.List.{length_push}
+use Rattle.node_set.specs.Ascending.{IsBelowAll, IsAscending}
+use Rattle.entry_word.specs.declared.visit.Visit.{Visit}
+use Rattle.directory.specs.Histories.{History, own, tickets_from, tickets}
+
+pub get-after : (seen : History) (visit : Visit) (later : History)
+    → slice_get (seen ++ visit ∷ later) (length seen) ≡ Some visit
+get-after [] visit later = refl
+get-after (v ∷ seen) visit later = get-after seen visit later
+
+-- the visits with an actor's tickets are its own
+tell_from : (actor : ℕ) (seen later history : History) → seen ++ later ≡ history
+    → map (slice_get history) (tickets_from actor (length seen) later) ≡ map Some (own actor later)
+unfolding tickets_from
+tell_from actor seen [] history whole = refl
+tell_from actor seen (visit ∷ later) history whole =
+    at_test (visit.actor == actor) (subst (λ n. map (slice_get history) (tickets_from actor n later)
+    ≡ map Some (own actor later)) count
+    (tell_from actor (seen ++ visit ∷ []) later history (append_assoc seen (visit ∷ []) later ∙ whole)))
+  where
+    count : length (seen ++ visit ∷ []) ≡ suc (length seen)
+    count = omega (arith, length_push seen visit)
+
+    here : slice_get history (length seen) ≡ Some visit
+    here = ap (λ h. slice_get h (length seen)) (sym whole) ∙ get-after seen visit later
+
+    at_test : (b : Bool) → map (slice_get history) (tickets_from actor (suc (length seen)) later)
+        ≡ map Some (own actor later)
+        → map (slice_get history) (cond b (length seen ∷ tickets_from actor (suc (length seen)) later)
+        (tickets_from actor (suc (length seen)) later))
+        ≡ map Some (cond b (visit ∷ own actor later) (own actor later))
+    at_test true h = rw here (ap (λ vs. Some visit ∷ vs) h)
+    at_test false h = h
+
+pub tickets-tell : (actor : ℕ) (history : History) → map (slice_get history) (tickets actor history)
+    ≡ map Some (own actor history)
+tickets-tell actor history = tell_from actor [] history history refl
+
+-- they ascend
+pub below_more : (x y : ℕ) (xs : List ℕ) → x < y → IsBelowAll y xs → IsBelowAll x xs
+below_more x y [] h f = tt
+below_more x y (z ∷ zs) h f = (omega (arith, h, f.0), below_more x y zs h f.1)
+
+ascend_from : (actor ticket : ℕ) (history : History) → IsBelowAll ticket (tickets_from actor (suc ticket) history)
+    × IsAscending (tickets_from actor ticket history)
+unfolding tickets_from
+ascend_from actor ticket [] = (tt, tt)
+ascend_from actor ticket (visit ∷ later) = at_test (visit.actor == actor) (ascend_from actor ticket later)
+    (ascend_from actor (suc ticket) later)
+  where
+    rest : ℕ → List ℕ
+    rest n = tickets_from actor n later
+
+    at_test : (b : Bool) → IsBelowAll ticket (rest (suc ticket)) × IsAscending (rest ticket)
+        → IsBelowAll (suc ticket) (rest (suc (suc ticket))) × IsAscending (rest (suc ticket))
+        → IsBelowAll ticket (cond b (suc ticket ∷ rest (suc (suc ticket))) (rest (suc (suc ticket))))
+        × IsAscending (cond b (ticket ∷ rest (suc ticket)) (rest (suc ticket)))
+    at_test true one two = (
+      (
+        omega arith,
+        below_more ticket (suc ticket) (rest (suc (suc ticket)))
+            (omega arith) two.0,
+      ),
+      (one.0, two.1),
+    )
+    at_test false one two = (below_more ticket (suc ticket) (rest (suc (suc ticket))) (omega arith) two.0, two.1)
+
+pub tickets-ascend : (actor : ℕ) (history : History) → IsAscending (tickets actor history)
+tickets-ascend actor history = (ascend_from actor 0 history).1
+
+-- parts of an ascending list
+pub below_take : (x n : ℕ) (xs : List ℕ) → IsBelowAll x xs → IsBelowAll x (take n xs)
+below_take x zero xs f = tt
+below_take x (suc n) [] f = tt
+below_take x (suc n) (y ∷ ys) f = (f.0, below_take x n ys f.1)
+
+pub ascending_take : (n : ℕ) (xs : List ℕ) → IsAscending xs → IsAscending (take n xs)
+ascending_take zero xs f = tt
+ascending_take (suc n) [] f = tt
+ascending_take (suc n) (x ∷ xs) f = (below_take x n xs f.0, ascending_take n xs f.1)
+
+pub ascending_drop : (n : ℕ) (xs : List ℕ) → IsAscending xs → IsAscending (drop n xs)
+ascending_drop zero xs f = f
+ascending_drop (suc n) [] f = tt
+ascending_drop (suc n) (x ∷ xs) f = ascending_drop n xs f.1
+
+-- one more visit
+push_from : (actor ticket : ℕ) (history : History) (visit : Visit)
+    → tickets_from actor ticket (history ++ visit ∷ [])
+    ≡ tickets_from actor ticket history ++ cond (visit.actor == actor) ((ticket + length history) ∷ []) []
+unfolding tickets_from
+push_from actor ticket [] visit = ap (λ n. cond (visit.actor == actor) (n ∷ []) [])
+    (let e : ticket ≡ ticket + 0 = omega arith in e)
+push_from actor ticket (first ∷ later) visit =
+    at_test (first.actor == actor) (push_from actor (suc ticket) later visit
+    ∙ ap (λ n. tickets_from actor (suc ticket) later ++ cond (visit.actor == actor) (n ∷ []) [])
+    (let e : suc ticket + length later ≡ ticket + suc (length later) = omega arith in e))
+  where
+    at_test : (b : Bool) → tickets_from actor (suc ticket) (later ++ visit ∷ [])
+        ≡ tickets_from actor (suc ticket) later ++ cond (visit.actor == actor) ((ticket + suc (length later)) ∷ []) []
+        → cond b (ticket ∷ tickets_from actor (suc ticket) (later ++ visit ∷ []))
+        (tickets_from actor (suc ticket) (later ++ visit ∷ []))
+        ≡ cond b (ticket ∷ tickets_from actor (suc ticket) later) (tickets_from actor (suc ticket) later) ++ cond
+        (visit.actor == actor) ((ticket + suc (length later)) ∷ []) []
+    at_test true h = ap (λ ts. ticket ∷ ts) h
+    at_test false h = h
+
+pub tickets-push : (actor : ℕ) (history : History) (visit : Visit)
+    → tickets actor (history ++ visit ∷ []) ≡ tickets actor history ++ cond (visit.actor == actor)
+    (length history ∷ []) []
+tickets-push actor history visit = push_from actor 0 history visit
+    ∙ ap (λ n. tickets actor history ++ cond (visit.actor == actor) (n ∷ []) [])
+    (let e : 0 + length history ≡ length history = omega arith in e)

@@ -1,0 +1,5 @@
+use Rattle.directory.proofs.CellLaws.{cell-of_puts}
+use Rattle.directory.proofs.histories.cell_of_puts.Goals as goal
+
+pub returns : goal.returns
+returns c = cell-of_puts

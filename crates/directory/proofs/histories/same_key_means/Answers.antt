@@ -1,0 +1,5 @@
+use Rattle.directory.proofs.CellLaws.{same_key-means}
+use Rattle.directory.proofs.histories.same_key_means.Goals as goal
+
+pub returns : goal.returns
+returns c = same_key-means

@@ -1,0 +1,5 @@
+use Rattle.directory.proofs.AmidLaws.{begins-at_rest}
+use Rattle.directory.proofs.legal.steps_begin_at_rest.Goals as goal
+
+pub returns : goal.returns
+returns c = begins-at_rest c.mark_words.ensures.unpacked

@@ -1,0 +1,105 @@
+-- Short laws of lists of steps, writes and puts, one more at the end: what the crates above take for
+-- granted.
+-- Key laws: `writes-append` (more steps only add writes at the end), `steps-append` (more puts show
+-- more steps), `by_fronts` (what holds of no visits and with each that comes next holds of all).
+use Rattle.std.proofs.Common.{◌≡◌, ℕ, zero, suc, ◌-◌, ◌<◌, ◌≤◌, Bool, cond, ◌==◌, List, [], ◌∷◌, ◌++◌, Option, Some, None, length, map, take, fold, refl, sym, ap, ◌∙◌, subst, arith, append_assoc}
+use Rattle.std.specs.Prelude.{slice_get}
+use Rattle.std.specs.List.{cons_option}
+use Rattle.std.proofs.lemmas.List.{map-append, take_all}
+use Rattle.std.proofs.lemmas.List.Elements.{filter-append}
+use Rattle.entry_word.specs.Marks.{says_off}
+use Rattle.entry_word.specs.declared.visit.Visit.{Visit}
+use Rattle.directory.specs.Settings.{Setting}
+use Rattle.directory.specs.Histories.{History, is_put_for, own, puts_to}
+use Rattle.directory.specs.Courses.{Step, Course, after_step, after_steps}
+use Rattle.directory.specs.Writes.{visit_of, step_writes, writes}
+use Rattle.directory.specs.Puts.{node_put, mark_put, mark_step, steps_from}
+
+-- the part of a list that is left out of a front
+pub take-append : {A : Type 0} (k : ℕ) (xs ys : List A)
+    → take k (xs ++ ys) ≡ take k xs ++ take (k - length xs) ys
+take-append zero xs ys = let e : 0 - length xs ≡ 0 = omega arith in rw e refl
+take-append (suc k) [] ys = let e : suc k - 0 ≡ suc k = omega arith in rw e refl
+take-append (suc k) (x ∷ xs) ys = let e : suc k - suc (length xs)
+    ≡ k - length xs = omega arith in rw e (ap (λ zs. x ∷ zs) (take-append k xs ys))
+
+-- more steps only add writes at the end
+pub writes-append : (setting : Setting) (course : Course) (xs ys : List Step)
+    → writes setting course (xs ++ ys) ≡ writes setting course xs ++ writes setting
+    (after_steps setting course xs) ys
+unfolding writes
+writes-append setting course [] ys = refl
+writes-append setting course (x ∷ xs) ys =
+    ap (λ ws. step_writes setting course x ++ ws)
+    (writes-append setting (after_step setting course x) xs ys)
+    ∙ sym (append_assoc (step_writes setting course x)
+    (writes setting (after_step setting course x) xs)
+    (writes setting (after_steps setting (after_step setting course x) xs) ys))
+
+-- the visits of steps that come next in a course
+abbrev pub visits_in : Setting → ℕ → Course → List Step → List Visit
+visits_in setting sub course steps = map (visit_of sub) (writes setting course steps)
+
+pub visits-append : (setting : Setting) (sub : ℕ) (course : Course) (xs ys : List Step)
+    → visits_in setting sub course (xs ++ ys)
+    ≡ visits_in setting sub course xs ++ visits_in setting sub
+    (after_steps setting course xs) ys
+visits-append setting sub course xs ys =
+    ap (map (visit_of sub)) (writes-append setting course xs ys)
+    ∙ map-append (visit_of sub) (writes setting course xs)
+    (writes setting (after_steps setting course xs) ys)
+
+-- more puts show more steps
+pub steps-append : (off : Bool) (xs ys : List Visit) → steps_from off (xs ++ ys)
+    ≡ steps_from off xs ++ steps_from (fold (λ o (visit : Visit). says_off (mark_put visit.act))
+    off xs) ys
+unfolding steps_from
+steps-append off [] ys = refl
+steps-append off (x ∷ xs) ys = at_step (mark_step off (node_put x.act) (mark_put x.act)) _ _ _
+    (steps-append (says_off (mark_put x.act)) xs ys)
+  where
+    at_step : (o : Option Step) (us vs ws : List Step) → us ≡ vs ++ ws
+        → cons_option o us ≡ cons_option o vs ++ ws
+    at_step None us vs ws h = h
+    at_step (Some step) us vs ws h = ap (λ zs. step ∷ zs) h
+
+-- one more visit of a list, at its place
+pub take-more : {A : Type 0} (xs : List A) (t : ℕ) (x : A) → slice_get xs t ≡ Some x
+    → take (suc t) xs ≡ take t xs ++ x ∷ []
+take-more [] t x h = cc
+take-more (y ∷ ys) zero x h = let e : y ≡ x = cc in ap (λ z. z ∷ []) e
+take-more (y ∷ ys) (suc t) x h = ap (λ zs. y ∷ zs) (take-more ys t x h)
+
+pub slice_get-within : {A : Type 0} (xs : List A) (t : ℕ) → t < length xs → (x : A)
+    × (slice_get xs t ≡ Some x)
+slice_get-within [] t h = absurd (omega arith)
+slice_get-within (y ∷ ys) zero h = (y, refl)
+slice_get-within (y ∷ ys) (suc t) h = slice_get-within ys t (omega arith)
+
+-- what holds of no visits and with each visit that comes next holds of the whole history
+by_fronts_from : {A : Type 0} (P : List A → Type 0) (xs : List A) → P []
+    → ((t : ℕ) (x : A) → slice_get xs t ≡ Some x → P (take t xs) → P (take t xs ++ x ∷ []))
+    → (t : ℕ) → t ≤ length xs
+    → P (take t xs)
+by_fronts_from P xs none more zero within = none
+by_fronts_from P xs none more (suc t) within =
+    let found = slice_get-within xs t (omega arith) in
+    subst P (sym (take-more xs t found.0 found.1)) (more t found.0 found.1
+    (by_fronts_from P xs none more t (omega arith)))
+
+pub by_fronts : {A : Type 0} (P : List A → Type 0) (xs : List A) → P []
+    → ((t : ℕ) (x : A) → slice_get xs t ≡ Some x → P (take t xs) → P (take t xs ++ x ∷ [])) → P xs
+by_fronts P xs none more = subst P (take_all (length xs) xs (omega arith))
+    (by_fronts_from P xs none more (length xs) (omega arith))
+
+-- one more visit
+pub own-push : (actor : ℕ) (history : History) (visit : Visit)
+    → own actor (history ++ visit ∷ []) ≡ own actor history ++ cond (visit.actor == actor)
+    (visit ∷ []) []
+own-push actor history visit = filter-append (λ (v : Visit). v.actor == actor) history (visit ∷ [])
+
+pub puts-push : (sub : ℕ) (history : History) (visit : Visit)
+    → puts_to sub (history ++ visit ∷ []) ≡ puts_to sub history ++ cond (is_put_for sub visit.act)
+    (visit ∷ []) []
+puts-push sub history visit = filter-append (λ (v : Visit). is_put_for sub v.act) history
+    (visit ∷ [])
