@@ -1,0 +1,295 @@
+-- What isn't a visit of a move changes nothing that leads a find: a switch turns a Here into an Off, or back, where the subscriber rests.
+use Rattle.std.proofs.Common.{◌≡◌, ℕ, zero, suc, ◌<◌, ◌≤◌, ◌^◌, Bool, true, false, cond, not, ◌==◌, ◌&&◌, ◌||◌, List, [], ◌∷◌, ◌++◌, Option, Some, None, length, map, take, fold, refl, sym, ap, ◌∙◌, subst, arith}
+use Rattle.std.specs.Prelude.{filter_map, slice_get}
+use Rattle.std.specs.List.{cons_option}
+use Rattle.std.proofs.lemmas.Bool.{and_parts, eqb-true, eq-eqb}
+use Rattle.std.proofs.lemmas.List.{append-nil, length-map, take_all}
+use Rattle.std.proofs.lemmas.List.Sums.{fold-append}
+use Rattle.entry_word.specs.Marks.{mark_in, says_here, says_off}
+use Rattle.entry_word.specs.Addresses.{address_in}
+use Rattle.entry_word.specs.declared.mark.PresenceMark.{PresenceMark}
+use Rattle.entry_word.specs.declared.mark.PresenceMark.TheVariants.{Empty, Here, Gone, Coming, Off}
+use Rattle.entry_word.specs.declared.visit.Key.{Key}
+use Rattle.entry_word.specs.declared.visit.Key.TheVariants.{Presence, Entry}
+use Rattle.entry_word.specs.declared.visit.Act.{Act}
+use Rattle.entry_word.specs.declared.visit.Act.TheVariants.{Look, Put, Census}
+use Rattle.entry_word.specs.declared.visit.Visit.{Visit}
+use Rattle.directory.specs.Settings.{Setting, start}
+use Rattle.directory.specs.Keys.{key_sub}
+use Rattle.directory.specs.Histories.{cell, History, is_put_for, puts_to, word_after}
+use Rattle.directory.specs.Courses.{Course, course_at, last_stop, Step, switch_off, switch_on}
+use Rattle.directory.specs.Writes.{visit_of, visits, writes, step_writes, mark_at}
+use Rattle.directory.specs.Puts.{course_in, ends_off, is_of_move, mark_put, mark_step, node_put, steps_from, steps_in}
+use Rattle.directory.specs.Legal.{ArePuts, IsLegal}
+use Rattle.directory.specs.Standing.{Commit, commit_of, commits, number, standing}
+use Rattle.directory.specs.States.{mark_left, writes_made}
+use Rattle.directory.specs.Parts.{known_after, lead}
+use Rattle.directory.specs.StepLaws.{puts-push, steps-append, visits_in, visits-append}
+use Rattle.directory.specs.Statements.{CellsOfPuts, MarksAreLeft, StepsBeginAtRest}
+use Rattle.trail_laws.specs.Trail.{answers, entry_seen, IsLed, mark_seen}
+use Rattle.trail_laws.proofs.Links.{stop-inside}
+use Rattle.trail_laws.proofs.ClosedMarks.{since_top, there, trail_mark}
+use Rattle.trail_laws.proofs.Views.{rest-marks_of, sound-script}
+use Rattle.trail_laws.proofs.Passing.{commits-append}
+
+-- two marks lead and answer alike
+abbrev pub AreAlike : PresenceMark → PresenceMark → Type 0
+AreAlike one other = (known : Option ℕ) → (lead known one ≡ lead known other)
+    × (answers known one ≡ answers known other) × (known_after known one ≡ known_after known other)
+
+pub alike-same : (one other : PresenceMark) → one ≡ other → AreAlike one other
+alike-same one other e known = (ap (lead known) e, ap (answers known) e, ap (known_after known) e)
+
+-- two histories lead a find alike
+pub record IsAlike (setting : Setting) (sub : ℕ) (one other : History) : Type 0 where
+  pub marks : (v : ℕ) → AreAlike (mark_seen setting sub one v) (mark_seen setting sub other v)
+  pub entries : (level cluster : ℕ) → entry_seen setting sub other level cluster
+      ≡ entry_seen setting sub one level cluster
+  pub stands : standing setting sub other ≡ standing setting sub one
+  pub count : number sub other ≡ number sub one
+
+-- what isn't put for the subscriber
+pub alike-other : CellsOfPuts → (setting : Setting) (sub : ℕ) (history : History) (visit : Visit)
+    → is_put_for sub visit.act ≡ false → IsAlike setting sub history (history ++ visit ∷ [])
+alike-other cells setting sub history visit other = record {
+  marks = λ v. alike-same (mark_seen setting sub history v) (mark_seen setting sub (history ++ visit ∷ []) v)
+      (ap mark_in (sym (kept (Presence v sub) refl)));
+  entries = λ level cluster. ap address_in (kept (Entry level cluster sub) refl);
+  stands = ap (λ puts. fold (λ n (c : Commit). c.to) (start setting sub)
+      (filter_map (λ (v : Visit). commit_of (node_put v.act) (mark_put v.act)) puts)) same;
+  count = ap (λ puts. length (filter_map (λ (v : Visit). commit_of (node_put v.act) (mark_put v.act)) puts)) same;
+}
+  where
+    same : puts_to sub (history ++ visit ∷ []) ≡ puts_to sub history
+    same = puts-push sub history visit ∙ (ap (λ b. puts_to sub history ++ cond b (visit ∷ []) []) other
+        ∙ append-nil (puts_to sub history))
+
+    kept : (key : Key) → key_sub key ≡ sub → cell setting (history ++ visit ∷ []) key ≡ cell setting history key
+    kept key e = cells setting (history ++ visit ∷ []) key
+        ∙ (ap (λ puts. cell setting puts key) (ap (λ s. puts_to s (history ++ visit ∷ [])) e
+        ∙ (same ∙ ap (λ s. puts_to s history) (sym e))) ∙ sym (cells setting history key))
+
+-- what a switch puts
+pub record IsSwitching (sub : ℕ) (history : History) (visit : Visit) : Type 0 where
+  pub node : ℕ
+  pub word : ℕ
+  pub step : Step
+  pub is_put : visit.act ≡ Put (Presence node sub) word
+  pub answers_all : (known : Option ℕ) → (lead known (mark_in word) ≡ None) × (answers known (mark_in word) ≡ true)
+      × (known_after known (mark_in word) ≡ known)
+  pub begins : mark_step (ends_off (puts_to sub history)) (node_put visit.act) (mark_put visit.act) ≡ Some step
+  pub is_switch_step : (setting : Setting) (course : Course) → (mark : PresenceMark)
+      × (step_writes setting course step ≡ mark_at (last_stop course) mark ∷ [])
+  pub no_commit : commit_of (node_put visit.act) (mark_put visit.act) ≡ None
+
+false-and : (b : Bool) → (b && false) ≡ false
+false-and true = refl
+false-and false = refl
+
+pub switching : (sub : ℕ) (history : History) (visit : Visit) → is_put_for sub visit.act ≡ true
+    → is_of_move sub history visit.act ≡ false → IsSwitching sub history visit
+switching sub history visit put quiet = at_act visit.act refl put is_switching
+  where
+    is_switching : (says_off (mark_put visit.act) || (ends_off (puts_to sub history) && says_here
+        (mark_put visit.act))) ≡ true
+    is_switching = of_both (is_put_for sub visit.act) _ put quiet
+      where
+        of_both : (p x : Bool) → p ≡ true → (p && not (p && x)) ≡ false → x ≡ true
+        of_both true true h g = refl
+        of_both true false h g = cc
+        of_both false x h g = cc
+
+    at_act : (act : Act) → visit.act ≡ act → is_put_for sub act ≡ true
+        → (says_off (mark_put act) || (ends_off (puts_to sub history) && says_here (mark_put act))) ≡ true
+        → IsSwitching sub history visit
+    at_act (Look key) e p x = cc
+    at_act (Census node) e p x = cc
+    at_act (Put (Entry level cluster s) word) e p x = let none : (ends_off (puts_to sub history) && false)
+        ≡ true = x in let clash : false ≡ true = sym (false-and (ends_off (puts_to sub history))) ∙ none in cc
+    at_act (Put (Presence node s) word) e p x = at_mark (mark_in word) refl x
+      where
+        its : visit.act ≡ Put (Presence node sub) word
+        its = e ∙ ap (λ t. Put (Presence node t) word) (eqb-true s sub p)
+
+        mark_is : mark_put visit.act ≡ mark_in word
+        mark_is = ap mark_put e
+
+        at_mark : (mark : PresenceMark) → mark_in word ≡ mark
+            → (says_off mark || (ends_off (puts_to sub history) && says_here mark)) ≡ true
+            → IsSwitching sub history visit
+        at_mark Empty m y = let clash : false ≡ true = sym (false-and (ends_off (puts_to sub history))) ∙ y in cc
+        at_mark (Gone q to) m y = let clash : false ≡ true = sym (false-and (ends_off (puts_to sub history)))
+            ∙ y in cc
+        at_mark (Coming q from) m y = let clash : false ≡ true = sym (false-and (ends_off (puts_to sub history)))
+            ∙ y in cc
+        at_mark (Off q) m y = record {
+          node = node;
+          word = word;
+          step = switch_off;
+          is_put = its;
+          answers_all = λ known. (ap (lead known) m, ap (answers known) m, ap (known_after known) m);
+          begins = ap (mark_step (ends_off (puts_to sub history)) (node_put visit.act)) (mark_is ∙ m);
+          is_switch_step = λ setting course. (Off (length course.moves), refl);
+          no_commit = ap (commit_of (node_put visit.act)) (mark_is ∙ m);
+        }
+        at_mark (Here q) m y = record {
+          node = node;
+          word = word;
+          step = switch_on;
+          is_put = its;
+          answers_all = λ known. (ap (lead known) m, ap (answers known) m, ap (known_after known) m);
+          begins = ap (mark_step (ends_off (puts_to sub history)) (node_put visit.act)) (mark_is ∙ m)
+              ∙ ap (λ b. mark_step b (node_put visit.act) (Here q)) was_off;
+          is_switch_step = λ setting course. (Here (length course.moves), refl);
+          no_commit = ap (commit_of (node_put visit.act)) (mark_is ∙ m);
+        }
+          where
+            was_off : ends_off (puts_to sub history) ≡ true
+            was_off = (and_parts (ends_off (puts_to sub history)) true y).0
+
+get-next : (xs ys zs : List Visit) (visit : Visit) → xs ++ visit ∷ [] ≡ take (length (xs ++ visit ∷ [])) (ys ++ zs)
+    → length xs ≡ length ys → slice_get zs 0 ≡ Some visit
+get-next [] [] zs visit h same = at_first zs h
+  where
+    at_first : (zs : List Visit) → visit ∷ [] ≡ take 1 zs → slice_get zs 0 ≡ Some visit
+    at_first [] g = cc
+    at_first (z ∷ zs) g = cc
+get-next [] (y ∷ ys) zs visit h same = absurd (omega (arith, same))
+get-next (x ∷ xs) [] zs visit h same = absurd (omega (arith, same))
+get-next (x ∷ xs) (y ∷ ys) zs visit h same =
+    let tails : xs ++ visit ∷ [] ≡ take (length (xs ++ visit ∷ [])) (ys ++ zs) = cc in get-next xs ys zs visit tails
+    (omega (arith, same))
+
+-- a switch is put where the subscriber rests
+pub alike-switch : MarksAreLeft → StepsBeginAtRest → (setting : Setting) (sub : ℕ) (history : History) (visit : Visit)
+    → setting.nodes ≤ 2 ^ 16 → IsLegal setting sub history → IsLegal setting sub (history ++ visit ∷ [])
+    → is_put_for sub visit.act ≡ true → IsSwitching sub history visit
+    → IsAlike setting sub history (history ++ visit ∷ [])
+unfolding steps_from writes
+alike-switch marks_left rests setting sub history visit low legal legal_more put switch = record {
+  marks = λ v. at_node v (v == switch.node) refl;
+  entries = λ level cluster. ap address_in (after (Entry level cluster sub));
+  stands = ap (fold (λ n (c : Commit). c.to) (start setting sub)) same_commits;
+  count = ap length same_commits;
+}
+  where
+    puts : List Visit
+    puts = puts_to sub history
+
+    more_puts : puts_to sub (history ++ visit ∷ []) ≡ puts ++ visit ∷ []
+    more_puts = puts-push sub history visit ∙ ap (λ b. puts ++ cond b (visit ∷ []) []) put
+
+    legal_puts : ArePuts setting sub (puts ++ visit ∷ [])
+    legal_puts = subst (ArePuts setting sub) more_puts legal_more
+
+    done : length puts ≡ length (visits setting sub (steps_in puts))
+    done = rests setting sub puts visit switch.step low legal legal_puts switch.begins
+
+    course : Course
+    course = course_in setting sub puts
+
+    longer : steps_in (puts ++ visit ∷ []) ≡ steps_in puts ++ switch.step ∷ []
+    longer = steps-append false puts (visit ∷ []) ∙ ap (λ o. steps_in puts ++ cons_option o []) switch.begins
+
+    due : slice_get (visits_in setting sub course (switch.step ∷ [])) 0 ≡ Some visit
+    due = get-next puts (visits setting sub (steps_in puts)) (visits_in setting sub course (switch.step ∷ [])) visit
+        (legal_puts.front ∙ ap (take (length (puts ++ visit ∷ [])))
+        (ap (visits setting sub) longer ∙ visits-append setting sub (course_at (start setting sub))
+        (steps_in puts) (switch.step ∷ []))) done
+
+    at_stop : switch.node ≡ last_stop course
+    at_stop =
+        let its = switch.is_switch_step setting course in
+        let written : slice_get (map (visit_of sub) (mark_at (last_stop course) its.0 ∷ [])) 0
+        ≡ Some visit = sym (ap (λ ws. slice_get (map (visit_of sub) (ws ++ [])) 0) its.1) ∙ due in
+        let same : visit_of sub (mark_at (last_stop course) its.0) ≡ visit = cc in
+        sym (ap node_put switch.is_put) ∙ sym (ap (λ (v : Visit). node_put v.act) same)
+
+    all_made : writes_made setting sub puts ≡ writes setting (course_at (start setting sub)) (steps_in puts)
+    all_made = take_all (length puts) (writes setting (course_at (start setting sub)) (steps_in puts))
+        (omega (
+          arith,
+          done,
+          length-map (writes setting (course_at (start setting sub)) (steps_in puts))
+              (visit_of sub),
+        ))
+
+    inside : last_stop course < setting.nodes
+    inside = stop-inside setting course (sound-script setting sub (steps_in puts) legal.script)
+
+    there_now : mark_seen setting sub history (last_stop course) ≡ there course
+    there_now = marks_left setting sub history low legal (last_stop course)
+        ∙ (ap (λ ws. mark_left setting sub ws (last_stop course)) all_made
+        ∙ (rest-marks_of setting sub (steps_in puts) (last_stop course) legal.script inside
+        ∙ ap (λ b. cond b (there course) (trail_mark (since_top setting course) (last_stop course) Empty))
+        (eq-eqb (last_stop course) (last_stop course) refl)))
+
+    answered : (known : Option ℕ) → (lead known (there course) ≡ None) × (answers known (there course) ≡ true)
+        × (known_after known (there course) ≡ known)
+    answered known = at_state course.is_off
+      where
+        at_state : (b : Bool) → (lead known (cond b (Off (length course.moves)) (Here (length course.moves))) ≡ None)
+            × (answers known (cond b (Off (length course.moves)) (Here (length course.moves))) ≡ true)
+            × (known_after known (cond b (Off (length course.moves)) (Here (length course.moves))) ≡ known)
+        at_state true = (refl, refl, refl)
+        at_state false = (refl, refl, refl)
+
+    after : (key : Key) → cell setting (history ++ visit ∷ []) key
+        ≡ word_after key (cell setting history key) (Put (Presence switch.node sub) switch.word)
+    after key = fold-append (λ w (v : Visit). word_after key w v.act) _ history (visit ∷ [])
+        ∙ ap (word_after key (cell setting history key)) switch.is_put
+
+    at_node : (v : ℕ) (b : Bool) → (v == switch.node) ≡ b
+        → AreAlike (mark_seen setting sub history v) (mark_seen setting sub (history ++ visit ∷ []) v)
+    at_node v false e known = alike-same (mark_seen setting sub history v)
+        (mark_seen setting sub (history ++ visit ∷ []) v)
+        (sym (ap mark_in (after (Presence v sub) ∙ ap (λ b. cond (b && sub == sub) switch.word
+        (cell setting history (Presence v sub))) e))) known
+    at_node v true e known =
+        let before_it : mark_seen setting sub history v
+        ≡ there course = ap (mark_seen setting sub history) (eqb-true v switch.node e ∙ at_stop) ∙ there_now in
+        let after_it : mark_seen setting sub (history ++ visit ∷ []) v ≡ mark_in switch.word =
+        ap mark_in (after (Presence v sub) ∙ (ap (λ b. cond (b && sub == sub) switch.word
+        (cell setting history (Presence v sub))) e
+        ∙ ap (λ b. cond b switch.word (cell setting history (Presence v sub))) (eq-eqb sub sub refl))) in (
+          ap (lead known) before_it ∙ ((answered known).0
+              ∙ (sym (switch.answers_all known).0 ∙ sym (ap (lead known) after_it))),
+          ap (answers known) before_it ∙ ((answered known).1
+              ∙ (sym (switch.answers_all known).1 ∙ sym (ap (answers known) after_it))),
+          ap (known_after known) before_it ∙ ((answered known).2
+              ∙ (sym (switch.answers_all known).2 ∙ sym (ap (known_after known) after_it))),
+        )
+
+    same_commits : commits sub (history ++ visit ∷ []) ≡ commits sub history
+    same_commits = commits-append sub history (visit ∷ [])
+        ∙ (ap (λ b. commits sub history ++ filter_map (λ (v : Visit). commit_of (node_put v.act) (mark_put v.act))
+        (cond b (visit ∷ []) [])) put
+        ∙ (ap (λ o. commits sub history ++ cons_option o []) switch.no_commit ∙ append-nil (commits sub history)))
+
+-- so it is for each visit that is none of a move
+pub alike-step : CellsOfPuts → MarksAreLeft → StepsBeginAtRest
+    → (setting : Setting) (sub : ℕ) (history : History) (visit : Visit) → setting.nodes ≤ 2 ^ 16
+    → IsLegal setting sub history → IsLegal setting sub (history ++ visit ∷ [])
+    → is_of_move sub history visit.act ≡ false → IsAlike setting sub history (history ++ visit ∷ [])
+alike-step cells marks_left rests setting sub history visit low legal legal_more quiet = at_put
+    (is_put_for sub visit.act) refl
+  where
+    at_put : (b : Bool) → is_put_for sub visit.act ≡ b → IsAlike setting sub history (history ++ visit ∷ [])
+    at_put false e = alike-other cells setting sub history visit e
+    at_put true e = alike-switch marks_left rests setting sub history visit low legal legal_more e
+        (switching sub history visit e quiet)
+
+-- what is led alike arrives alike
+pub led-alike : (setting : Setting) (marks others : ℕ → PresenceMark) → ((v : ℕ) → AreAlike (marks v) (others v))
+    → (known : Option ℕ) (node last hops way : ℕ) → IsLed setting marks known node last hops way
+    → IsLed setting others known node last hops way
+unfolding IsLed
+led-alike setting marks others alike known node last zero way led = (led.0, sym (alike node known).1 ∙ led.1, led.2)
+led-alike setting marks others alike known node last (suc hops) way led = (
+  led.0,
+  led.1,
+  sym (alike node known).0 ∙ led.2,
+  led.3,
+  subst (λ k. IsLed setting others k led.0 last hops led.1) (alike node known).2
+      (led-alike setting marks others alike (known_after known (marks node)) led.0 last hops led.1 led.4),
+)

@@ -1,0 +1,143 @@
+-- The entries of a subscriber in closed form: at rest after a course, and in each phase of the move that comes next.
+use Rattle.std.proofs.Common.{◌≡◌, ℕ, suc, Bool, true, false, cond, not, ◌==◌, ◌&&◌, ◌||◌, List, [], ◌∷◌, ◌++◌, Option, Some, None, length, map, fold, refl, sym, ap, ◌∙◌, arith}
+use Rattle.std.specs.Prelude.{nat_le, slice_index}
+use Rattle.std.proofs.lemmas.Bool.{eqb-true, eq-eqb}
+use Rattle.std.proofs.lemmas.List.{get_or_append_left, get_or_at, length-map, map-append}
+use Rattle.std.proofs.lemmas.List.Sums.{fold-append}
+use Rattle.node_set.specs.Ascending.{has}
+use Rattle.entry_word.specs.declared.mark.PresenceMark.TheVariants.{Empty}
+use Rattle.entry_word.specs.declared.address.Address.{Address}
+use Rattle.directory.specs.Settings.{Setting}
+use Rattle.directory.specs.Courses.{Move, Course, stop, base, address_node}
+use Rattle.directory.specs.Writes.{Write, mark_at, entry_at, old_home}
+use Rattle.directory.specs.States.{entry_after}
+use Rattle.trail_laws.proofs.Links.{IsSound, base-low}
+use Rattle.trail_laws.proofs.ClosedMarks.{IsNext, with_move, base-with}
+
+-- the entry at a cluster of a level at rest, and in each phase of a move
+abbrev pub rest_entry : Setting → Course → ℕ → ℕ → Option Address
+rest_entry setting course level cluster =
+    cond (cluster == setting.home level (address_node course level))
+    (Some (record { number = base level course.moves; node = address_node course level })) None
+
+abbrev pub new_entry : Move → Option Address
+new_entry move = Some (record { number = move.number; node = move.to })
+
+abbrev pub entry_written : Setting → Course → Move → List ℕ → ℕ → ℕ → Option Address
+entry_written setting course move written level cluster =
+    cond (has level written && cluster == setting.home level move.to) (new_entry move)
+    (rest_entry setting course level cluster)
+
+abbrev pub entry_erased : Setting → Course → Move → List ℕ → List ℕ → ℕ → ℕ → Option Address
+entry_erased setting course move written erased level cluster =
+    cond (has level erased && cluster == old_home setting course level) None
+    (entry_written setting course move written level cluster)
+
+-- what writes do to an entry
+abbrev pub entered : ℕ → ℕ → Option Address → List Write → Option Address
+entered level cluster entry ws = fold (entry_after level cluster) entry ws
+
+pub entered-append : (level cluster : ℕ) (entry : Option Address) (xs ys : List Write)
+    → entered level cluster entry (xs ++ ys) ≡ entered level cluster (entered level cluster entry xs) ys
+entered-append level cluster entry xs ys = fold-append (entry_after level cluster) entry xs ys
+
+pub entered-purges : (level cluster : ℕ) (entry : Option Address) (nodes : List ℕ)
+    → entered level cluster entry (map (λ node. mark_at node Empty) nodes) ≡ entry
+entered-purges level cluster entry [] = refl
+entered-purges level cluster entry (node ∷ nodes) = entered-purges level cluster entry nodes
+
+-- one address at a cluster of each level
+pub entered-levels : (at : ℕ → ℕ) (new : Option Address) (level cluster : ℕ) (entry : Option Address)
+    (levels : List ℕ)
+    → entered level cluster entry (map (λ l. entry_at l (at l) new) levels)
+    ≡ cond (has level levels && cluster == at level) new entry
+entered-levels at new level cluster entry [] = refl
+entered-levels at new level cluster entry (l ∷ levels) =
+    entered-levels at new level cluster (cond (level == l && cluster == at l) new entry) levels
+    ∙ at_test (level == l) refl
+  where
+    twice : (h k : Bool) → cond (h && k) new (cond k new entry) ≡ cond k new entry
+    twice true true = refl
+    twice true false = refl
+    twice false k = refl
+
+    at_test : (b : Bool) → (level == l) ≡ b → cond (has level levels && cluster == at level) new
+        (cond (b && cluster == at l) new entry) ≡ cond ((b || has level levels) && cluster == at level) new entry
+    at_test true e =
+        let same : level ≡ l = eqb-true level l e in
+        ap (λ n. cond (has level levels && cluster == at level) new (cond (cluster == at n) new entry)) (sym same)
+        ∙ twice (has level levels) (cluster == at level)
+    at_test false e = refl
+
+-- the address of a level after a move
+pub address-with : (setting : Setting) (course : Course) (move : Move) (level : ℕ) → IsSound setting course
+    → IsNext setting course move
+    → address_node (with_move course move) level ≡ cond (nat_le level move.renewed) move.to
+    (address_node course level)
+address-with setting course move level sound next = ap (stop (with_move course move)) (base-with level course move)
+    ∙ at_test (nat_le level move.renewed)
+  where
+    stops : List ℕ
+    stops = course.start ∷ map (λ (m : Move). m.to) course.moves
+
+    longer : course.start ∷ map (λ (m : Move). m.to) (course.moves ++ move ∷ []) ≡ stops ++ move.to ∷ []
+    longer = ap (λ xs. course.start ∷ xs) (map-append (λ (m : Move). m.to) course.moves (move ∷ []))
+
+    count : length stops ≡ suc (length course.moves)
+    count = omega (arith, length-map course.moves (λ (m : Move). m.to))
+
+    at_test : (b : Bool) → stop (with_move course move) (cond b move.number (base level course.moves))
+        ≡ cond b move.to (address_node course level)
+    at_test true = ap (λ xs. slice_index xs move.number) longer
+        ∙ get_or_at stops move.to [] 0 move.number (omega (arith, next.number, count))
+    at_test false =
+        let same : slice_index (stops ++ move.to ∷ []) (base level course.moves)
+        ≡ slice_index stops (base level course.moves) =
+        get_or_append_left stops (move.to ∷ []) 0 (base level course.moves)
+        (omega (arith, count, base-low setting course level sound)) in
+        ap (λ xs. slice_index xs (base level course.moves)) longer ∙ same
+
+-- when a move has made all its writes its subscriber rests again
+pub entries-rest : (setting : Setting) (course : Course) (move : Move) (written erased : List ℕ) (level cluster : ℕ)
+    → IsSound setting course → IsNext setting course move
+    → has level written ≡ nat_le level move.renewed → has level erased
+    ≡ (nat_le level move.renewed && not (old_home setting course level == setting.home level move.to))
+    → entry_erased setting course move written erased level cluster
+    ≡ rest_entry setting (with_move course move) level cluster
+entries-rest setting course move written erased level cluster sound next all gone =
+    rw (all, gone, address-with setting course move level sound next, base-with level course move)
+    (at_test (nat_le level move.renewed))
+  where
+    old : ℕ
+    old = old_home setting course level
+
+    new : ℕ
+    new = setting.home level move.to
+
+    its : Option Address
+    its = Some (record { number = base level course.moves; node = address_node course level })
+
+    renewed : (x y z : Bool) → (x ≡ true → y ≡ z) → (y ≡ true → z ≡ true → x ≡ true)
+        → cond (not x && y) None (cond z (new_entry move) (cond y its None)) ≡ cond z (new_entry move) None
+    renewed true true true f g = refl
+    renewed true true false f g = let e : true ≡ false = f refl in cc
+    renewed true false true f g = let e : false ≡ true = f refl in cc
+    renewed true false false f g = refl
+    renewed false true true f g = let e : false ≡ true = g refl refl in cc
+    renewed false true false f g = refl
+    renewed false false true f g = refl
+    renewed false false false f g = refl
+
+    at_test : (b : Bool)
+        → cond ((b && not (old == new)) && cluster == old) None
+        (cond (b && cluster == new) (new_entry move) (cond (cluster == old) its None))
+        ≡ cond (cluster == setting.home level (cond b move.to (address_node course level)))
+        (Some (record {
+          number = cond b move.number (base level course.moves);
+          node = cond b move.to
+              (address_node course level);
+        })) None
+    at_test true = renewed (old == new) (cluster == old) (cluster == new)
+        (λ e. ap (λ n. cluster == n) (eqb-true old new e))
+        (λ e f. eq-eqb old new (sym (eqb-true cluster old e) ∙ eqb-true cluster new f))
+    at_test false = refl

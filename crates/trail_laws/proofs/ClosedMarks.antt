@@ -1,0 +1,229 @@
+-- The marks of a subscriber in closed form: at rest after a course, and in each phase of the move that comes next.
+use Rattle.std.proofs.Common.{◌≡◌, ◌≢◌, ℕ, suc, ◌<◌, ◌≤◌, Bool, true, false, cond, not, ◌==◌, ◌&&◌, ◌||◌, List, [], ◌∷◌, ◌++◌, length, map, drop, fold, refl, sym, ap, ◌∙◌, arith, length-append}
+use Rattle.std.specs.Prelude.{if◌then◌else◌, nat_le, Option}
+use Rattle.std.proofs.lemmas.Bool.{eqb-true}
+use Rattle.std.proofs.lemmas.Bool.Decides.{nat_tests}
+use Rattle.std.proofs.lemmas.List.{drop-append-le, map-append}
+use Rattle.std.proofs.Math.ListN.{drop_of_length-le}
+use Rattle.std.proofs.lemmas.List.Sums.{fold-append}
+use Rattle.node_set.specs.Ascending.{has}
+use Rattle.entry_word.specs.declared.mark.PresenceMark.{PresenceMark}
+use Rattle.entry_word.specs.declared.mark.PresenceMark.TheVariants.{Empty, Here, Gone, Coming, Off}
+use Rattle.entry_word.specs.declared.address.Address.{Address}
+use Rattle.directory.specs.Settings.{Setting}
+use Rattle.directory.specs.Courses.{Move, Course, last_stop, base, next_move, MayMove}
+use Rattle.directory.specs.Writes.{Write, mark_at, entry_at, trail}
+use Rattle.directory.specs.States.{mark_after}
+use Rattle.trail_laws.proofs.Links.{IsSound, base-low, renewed-low}
+
+-- the marks that moves leave behind: at each node the last leaving
+unfoldable pub trail_mark : List Move → ℕ → PresenceMark → PresenceMark
+trail_mark [] v mark = mark
+trail_mark (move ∷ later) v mark = trail_mark later v (if v == move.from then Gone move.number move.to else mark)
+
+-- the moves since the top level was renewed
+abbrev pub since_top : Setting → Course → List Move
+since_top setting course = drop (base setting.top course.moves) course.moves
+
+-- the mark of one who is there
+abbrev pub there : Course → PresenceMark
+there course = cond course.is_off (Off (length course.moves)) (Here (length course.moves))
+
+-- the mark at a node at rest
+abbrev pub rest_mark : Setting → Course → ℕ → PresenceMark
+rest_mark setting course v = cond (v == last_stop course) (there course)
+    (trail_mark (since_top setting course) v Empty)
+
+-- and in each phase of a move
+abbrev pub mark_coming : Setting → Course → Move → ℕ → PresenceMark
+mark_coming setting course move v = cond (v == move.to) (Coming move.number move.from) (rest_mark setting course v)
+
+abbrev pub mark_passing : Setting → Course → Move → ℕ → PresenceMark
+mark_passing setting course move v = cond (v == move.from) (Gone move.number move.to)
+    (mark_coming setting course move v)
+
+abbrev pub mark_erasing : Setting → Course → Move → List ℕ → ℕ → PresenceMark
+mark_erasing setting course move purged v =
+    cond (has v purged) Empty (cond (v == move.to) (Here move.number) (mark_passing setting course move v))
+
+-- what writes do to the mark at a node
+abbrev pub marked : ℕ → PresenceMark → List Write → PresenceMark
+marked v mark ws = fold (mark_after v) mark ws
+
+pub marked-entries : (v : ℕ) (mark : PresenceMark) (cluster : ℕ → ℕ) (address : ℕ → Option Address) (levels : List ℕ)
+    → marked v mark (map (λ level. entry_at level (cluster level) (address level)) levels) ≡ mark
+marked-entries v mark cluster address [] = refl
+marked-entries v mark cluster address (level ∷ levels) = marked-entries v mark cluster address levels
+
+pub marked-purges : (v : ℕ) (mark : PresenceMark) (nodes : List ℕ)
+    → marked v mark (map (λ node. mark_at node Empty) nodes) ≡ cond (has v nodes) Empty mark
+marked-purges v mark [] = refl
+marked-purges v mark (node ∷ nodes) = marked-purges v (cond (v == node) Empty mark) nodes
+    ∙ at_test (v == node) (has v nodes)
+  where
+    at_test : (a b : Bool) → cond b Empty (cond a Empty mark) ≡ cond (a || b) Empty mark
+    at_test true true = refl
+    at_test true false = refl
+    at_test false true = refl
+    at_test false false = refl
+
+pub marked-append : (v : ℕ) (mark : PresenceMark) (xs ys : List Write)
+    → marked v mark (xs ++ ys) ≡ marked v (marked v mark xs) ys
+marked-append v mark xs ys = fold-append (mark_after v) mark xs ys
+
+-- the trail with one more move
+pub trail_mark-push : (moves : List Move) (move : Move) (v : ℕ) (mark : PresenceMark)
+    → trail_mark (moves ++ move ∷ []) v mark ≡ cond (v == move.from) (Gone move.number move.to)
+    (trail_mark moves v mark)
+unfolding trail_mark
+trail_mark-push [] move v mark = refl
+trail_mark-push (first ∷ later) move v mark = trail_mark-push later move v
+    (cond (v == first.from) (Gone first.number first.to) mark)
+
+-- at a node that no move left there is no mark
+pub trail_mark-none : (moves : List Move) (v : ℕ) (mark : PresenceMark)
+    → has v (map (λ (move : Move). move.from) moves) ≡ false → trail_mark moves v mark ≡ mark
+unfolding trail_mark
+trail_mark-none [] v mark h = refl
+trail_mark-none (move ∷ later) v mark h = at_test (v == move.from) h (λ m g. trail_mark-none later v m g)
+  where
+    at_test : (b : Bool) → (b || has v (map (λ (m : Move). m.from) later)) ≡ false
+        → ((m : PresenceMark) → has v (map (λ (x : Move). x.from) later) ≡ false → trail_mark later v m ≡ m)
+        → trail_mark later v (cond b (Gone move.number move.to) mark) ≡ mark
+    at_test true h more = cc
+    at_test false h more = more mark h
+
+-- a move that comes next
+pub record IsNext (setting : Setting) (course : Course) (move : Move) : Type 0 where
+  pub number : move.number ≡ suc (length course.moves)
+  pub from : move.from ≡ last_stop course
+  pub weight : move.weight ≡ setting.distance move.from move.to
+  pub renewed : move.renewed ≤ setting.top
+  pub inside : move.to < setting.nodes
+  pub moving : move.to ≢ move.from
+  pub is_on : course.is_off ≡ false
+
+pub is-next : (setting : Setting) (course : Course) (node : ℕ) → MayMove setting course node
+    → IsNext setting course (next_move setting course node)
+is-next setting course node may = record {
+  number = refl;
+  from = refl;
+  weight = refl;
+  renewed = renewed-low setting course node;
+  inside = may.inside;
+  moving = may.moving;
+  is_on = may.is_on;
+}
+
+pub has-append : (v : ℕ) (xs ys : List ℕ) → has v (xs ++ ys) ≡ (has v xs || has v ys)
+has-append v [] ys = refl
+has-append v (x ∷ xs) ys = at_test (v == x) (has-append v xs ys)
+  where
+    at_test : (b : Bool) → has v (xs ++ ys) ≡ (has v xs || has v ys)
+        → (b || has v (xs ++ ys)) ≡ ((b || has v xs) || has v ys)
+    at_test true h = refl
+    at_test false h = h
+
+-- the course after a move
+abbrev pub with_move : Course → Move → Course
+with_move course move = record course { moves = course.moves ++ move ∷ [] }
+
+pub stop-with : (course : Course) (move : Move) → last_stop (with_move course move) ≡ move.to
+stop-with course move = fold-append (λ node (m : Move). m.to) course.start course.moves (move ∷ [])
+
+count-with : (course : Course) (move : Move) → length (with_move course move).moves ≡ suc (length course.moves)
+count-with course move = omega (arith, length-append course.moves (move ∷ []))
+
+pub base-with : (level : ℕ) (course : Course) (move : Move)
+    → base level (with_move course move).moves ≡ cond (nat_le level move.renewed) move.number
+    (base level course.moves)
+base-with level course move = fold-append (λ last (m : Move). if nat_le level m.renewed then m.number else last) 0
+    course.moves (move ∷ [])
+
+there-with : (setting : Setting) (course : Course) (move : Move) → IsNext setting course move
+    → there (with_move course move) ≡ Here move.number
+there-with setting course move next =
+    ap (λ b. cond b (Off (length (with_move course move).moves)) (Here (length (with_move course move).moves)))
+    next.is_on ∙ ap (λ n. Here n) (count-with course move ∙ sym next.number)
+
+pub trail-has : (setting : Setting) (course : Course) (move : Move) (v : ℕ) → IsSound setting course
+    → has v (trail setting course move) ≡ (has v (map (λ (m : Move). m.from) (since_top setting course)) ||
+    (v == move.from || false))
+trail-has setting course move v sound =
+    ap (λ ms. has v (map (λ (m : Move). m.from) ms)) (drop-append-le (base setting.top course.moves) course.moves
+    (move ∷ []) (base-low setting course setting.top sound))
+    ∙ (ap (has v) (map-append (λ (m : Move). m.from) (since_top setting course) (move ∷ []))
+    ∙ has-append v (map (λ (m : Move). m.from) (since_top setting course)) (move.from ∷ []))
+
+-- a renewal of the top level leaves the new node alone
+purged-rest : (a b f : Bool) (here gone coming its mark : PresenceMark) → (f ≡ false → mark ≡ Empty)
+    → cond ((f || (b || false)) && not a) Empty (cond a here (cond b gone (cond a coming (cond b its mark))))
+    ≡ cond a here Empty
+purged-rest true true f here gone coming its mark h = at_f f
+  where
+    at_f : (f : Bool) → cond ((f || true) && false) Empty here ≡ here
+    at_f true = refl
+    at_f false = refl
+purged-rest true false true here gone coming its mark h = refl
+purged-rest true false false here gone coming its mark h = refl
+purged-rest false true true here gone coming its mark h = refl
+purged-rest false true false here gone coming its mark h = refl
+purged-rest false false true here gone coming its mark h = refl
+purged-rest false false false here gone coming its mark h = h refl
+
+-- another move adds the node that it left to the trail
+added-rest : (a b : Bool) (here gone coming its mark : PresenceMark)
+    → cond a here (cond b gone (cond a coming (cond b its mark))) ≡ cond a here (cond b gone mark)
+added-rest true b here gone coming its mark = refl
+added-rest false true here gone coming its mark = refl
+added-rest false false here gone coming its mark = refl
+
+-- when a move has made all its writes its subscriber rests again
+pub marks-rest : (setting : Setting) (course : Course) (move : Move) (purged : List ℕ) (v : ℕ)
+    → IsSound setting course → IsNext setting course move
+    → ((move.renewed == setting.top) ≡ true → has v purged
+    ≡ (has v (trail setting course move) && not (v == move.to)))
+    → ((move.renewed == setting.top) ≡ false → has v purged ≡ false)
+    → mark_erasing setting course move purged v ≡ rest_mark setting (with_move course move) v
+unfolding trail_mark
+marks-rest setting course move purged v sound next whole none =
+    rw (stop-with course move, there-with setting course move next, sym next.from)
+    (at_top (move.renewed == setting.top) refl)
+  where
+    since : List Move
+    since = since_top setting course
+
+    at_top : (b : Bool) → (move.renewed == setting.top) ≡ b
+        → cond (has v purged) Empty (cond (v == move.to) (Here move.number)
+        (cond (v == move.from) (Gone move.number move.to)
+        (cond (v == move.to) (Coming move.number move.from)
+        (cond (v == move.from) (there course) (trail_mark since v Empty)))))
+        ≡ cond (v == move.to) (Here move.number) (trail_mark (since_top setting (with_move course move)) v Empty)
+    at_top true e =
+        let same : move.renewed ≡ setting.top = eqb-true move.renewed setting.top e in
+        let top : nat_le setting.top move.renewed ≡ true = grind (arith, nat_tests, same) in
+        let none_since : since_top setting (with_move course move)
+        ≡ [] = drop_of_length-le (with_move course move).moves
+        {i = base setting.top (with_move course move).moves}
+        (omega (
+          arith,
+          base-with setting.top course move
+              ∙ ap (λ b. cond b move.number (base setting.top course.moves)) top,
+          next.number,
+          count-with course move,
+        ))
+        in
+        rw (none_since, whole e, trail-has setting course move v sound)
+        (purged-rest (v == move.to) (v == move.from) (has v (map (λ (m : Move). m.from) since)) (Here move.number)
+        (Gone move.number move.to) (Coming move.number move.from) (there course) (trail_mark since v Empty)
+        (trail_mark-none since v Empty) ∙ ap (cond (v == move.to) (Here move.number)) refl)
+    at_top false e =
+        let low : nat_le setting.top move.renewed ≡ false = grind (arith, nat_tests, next.renewed, e) in
+        let one_since : since_top setting (with_move course move) ≡ since ++ move ∷ [] =
+        ap (λ n. drop n (course.moves ++ move ∷ [])) (base-with setting.top course move
+        ∙ ap (λ b. cond b move.number (base setting.top course.moves)) low)
+        ∙ drop-append-le (base setting.top course.moves) course.moves (move ∷ [])
+        (base-low setting course setting.top sound) in
+        rw (one_since, none e, trail_mark-push since move v Empty)
+        (added-rest (v == move.to) (v == move.from) (Here move.number) (Gone move.number move.to)
+        (Coming move.number move.from) (there course) (trail_mark since v Empty))

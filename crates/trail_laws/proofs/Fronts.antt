@@ -1,0 +1,64 @@
+-- The fronts of what a move writes: by phases.
+use Rattle.std.proofs.Common.{◌≡◌, ◌⊎◌, inl, inr, ℕ, zero, suc, ◌-◌, ◌<◌, ◌≤◌, List, [], ◌∷◌, ◌++◌, length, take, refl, ap, ◌∙◌, arith}
+use Rattle.std.proofs.lemmas.Bool.Decides.{nat_tests}
+use Rattle.std.proofs.lemmas.List.{take_all, take-append-le}
+use Rattle.directory.specs.Writes.{Write}
+
+-- a front of a Coming, the addresses, a Gone and a Here, the erasures and the purges
+pub data IsFrontOf (coming gone here : Write) (addresses erasures purges front : List Write) : Type 0 where
+  nothing_made : (same : front ≡ []) → IsFrontOf coming gone here addresses erasures purges front
+  is_coming : (j : ℕ) (few : j ≤ length addresses) (same : front ≡ coming ∷ take j addresses)
+      → IsFrontOf coming gone here addresses erasures purges front
+  is_passing : (same : front ≡ coming ∷ (addresses ++ gone ∷ []))
+      → IsFrontOf coming gone here addresses erasures purges front
+  is_erasing : (e p : ℕ) (in_order : (p ≡ 0) ⊎ (take e erasures ≡ erasures))
+      (same : front ≡ coming ∷ (addresses ++ (gone ∷ (here ∷ (take e erasures ++ take p purges)))))
+      → IsFrontOf coming gone here addresses erasures purges front
+
+pub take-append : {A : Type 0} (k : ℕ) (xs ys : List A) → take k (xs ++ ys) ≡ take k xs ++ take (k - length xs) ys
+take-append zero xs ys = let e : 0 - length xs ≡ 0 = omega arith in rw e refl
+take-append (suc k) [] ys = let e : suc k - 0 ≡ suc k = omega arith in rw e refl
+take-append (suc k) (x ∷ xs) ys = let e : suc k - suc (length xs)
+    ≡ k - length xs = omega arith in rw e (ap (λ zs. x ∷ zs) (take-append k xs ys))
+
+cases_le : (a b : ℕ) → (a ≤ b) ⊎ (b < a)
+cases_le a b = grind (arith, nat_tests)
+
+ends : (coming gone here : Write) (addresses erasures purges : List Write) (d : ℕ)
+    → IsFrontOf coming gone here addresses erasures purges
+    (coming ∷ (addresses ++ take (suc d) (gone ∷ (here ∷ (erasures ++ purges)))))
+ends coming gone here addresses erasures purges zero = is_passing refl
+ends coming gone here addresses erasures purges (suc f) = at_cases (cases_le f (length erasures))
+  where
+    parted : take f (erasures ++ purges) ≡ take f erasures ++ take (f - length erasures) purges
+    parted = take-append f erasures purges
+
+    whole : coming ∷ (addresses ++ take (suc (suc f)) (gone ∷ (here ∷ (erasures ++ purges))))
+        ≡ coming ∷ (addresses ++ (gone ∷ (here ∷ (take f erasures ++ take (f - length erasures) purges))))
+    whole = ap (λ ws. coming ∷ (addresses ++ (gone ∷ (here ∷ ws)))) parted
+
+    at_cases : (f ≤ length erasures) ⊎ (length erasures < f)
+        → IsFrontOf coming gone here addresses erasures purges
+        (coming ∷ (addresses ++ take (suc (suc f)) (gone ∷ (here ∷ (erasures ++ purges)))))
+    at_cases (inl low) = is_erasing f (f - length erasures) (inl (omega (arith, low))) whole
+    at_cases (inr high) = is_erasing f (f - length erasures) (inr (take_all f erasures (omega (arith, high)))) whole
+
+pub fronts : (coming gone here : Write) (addresses erasures purges : List Write) (k : ℕ)
+    → IsFrontOf coming gone here addresses erasures purges
+    (take k (coming ∷ (addresses ++ (gone ∷ (here ∷ (erasures ++ purges))))))
+fronts coming gone here addresses erasures purges zero = nothing_made refl
+fronts coming gone here addresses erasures purges (suc k) = at_cases (cases_le k (length addresses))
+  where
+    later : List Write
+    later = gone ∷ (here ∷ (erasures ++ purges))
+
+    at_cases : (k ≤ length addresses) ⊎ (length addresses < k)
+        → IsFrontOf coming gone here addresses erasures purges (coming ∷ take k (addresses ++ later))
+    at_cases (inl low) = is_coming k low (ap (λ ws. coming ∷ ws) (take-append-le k addresses later low))
+    at_cases (inr high) =
+        let far : take k (addresses ++ later) ≡ addresses ++ take (suc (k - length addresses - 1)) later =
+        take-append k addresses later ∙ (ap (λ ws. ws ++ take (k - length addresses) later)
+        (take_all k addresses (omega (arith, high)))
+        ∙ ap (λ n. addresses ++ take n later) (let e : k - length addresses
+        ≡ suc (k - length addresses - 1) = omega (arith, high) in e)) in
+        rw far (ends coming gone here addresses erasures purges (k - length addresses - 1))

@@ -1,0 +1,135 @@
+-- The laws of marks and addresses after every legal history.
+use Rattle.std.proofs.Common.{◌≡◌, ◌≢◌, ℕ, zero, suc, ◌≤◌, ◌^◌, true, false, ◌∷◌, map, Option, Some, None, refl, sym, ap, ◌∙◌}
+use Rattle.std.specs.Prelude.{slice_index}
+use Rattle.entry_word.specs.declared.mark.PresenceMark.{PresenceMark}
+use Rattle.entry_word.specs.declared.mark.PresenceMark.TheVariants.{Empty, Here, Gone, Coming, Off}
+use Rattle.entry_word.specs.declared.address.Address.{Address}
+use Rattle.directory.specs.Settings.{Setting, start}
+use Rattle.directory.specs.Histories.{History, puts_to}
+use Rattle.directory.specs.Courses.{Move, stop}
+use Rattle.directory.specs.Puts.{course_in}
+use Rattle.directory.specs.Legal.{IsLegal}
+use Rattle.directory.specs.Standing.{commits, off, standing}
+use Rattle.directory.specs.Statements.{CommitsAreTold, EntriesAreLeft, LegalIsAmid, MarksAreLeft, OffIsTold}
+use Rattle.trail_laws.specs.Trail.{AddressesLead, ComingsLead, EntriesTell, entry_seen, EntryTells, IsLed, mark_seen, MarksTell, MarkTells, OneComing, TopHasEntry}
+use Rattle.directory.specs.Courses.{course_at}
+use Rattle.directory.specs.Puts.{steps_in}
+use Rattle.directory.specs.Parts.{lead}
+use Rattle.trail_laws.specs.Trail.{answers}
+use Rattle.trail_laws.proofs.Links.{start-kept}
+use Rattle.trail_laws.proofs.Views.{legal-view, View}
+use Rattle.trail_laws.proofs.Tells.{mark-is, MarkIs}
+use Rattle.trail_laws.proofs.Addresses.{entry-placed, IsPlaced}
+use Rattle.trail_laws.proofs.Comings.{coming-leads_on, coming-one, top-has}
+
+-- what is taken from the laws of the directory
+pub record Laws : Type 0 where
+  pub amid : LegalIsAmid
+  pub marks : MarksAreLeft
+  pub entries : EntriesAreLeft
+  pub told : CommitsAreTold
+  pub off_told : OffIsTold
+
+unfoldable pub HistoryView : Setting → ℕ → History → Type 0
+HistoryView setting sub history =
+    View setting (start setting sub) (mark_seen setting sub history) (entry_seen setting sub history)
+    (commits sub history) (off sub history) (course_in setting sub (puts_to sub history)).moves
+
+pub view : Laws → (setting : Setting) (sub : ℕ) (history : History) → setting.nodes ≤ 2 ^ 16
+    → IsLegal setting sub history → HistoryView setting sub history
+unfolding HistoryView
+view laws setting sub history low legal = legal-view laws.amid laws.marks laws.entries laws.told laws.off_told setting
+    sub history low legal
+
+pub marks-tell : Laws → MarksTell
+unfolding HistoryView
+marks-tell laws setting sub history low legal node inside =
+    told (mark_seen setting sub history node) (mark-is setting (start setting sub) (mark_seen setting sub history)
+    (entry_seen setting sub history) (commits sub history) (off sub history)
+    (course_in setting sub (puts_to sub history)).moves node inside (view laws setting sub history low legal))
+  where
+    told : (mark : PresenceMark) → MarkIs setting.nodes (start setting sub) (mark_seen setting sub history)
+        (commits sub history) (off sub history) (course_in setting sub (puts_to sub history)).moves node mark
+        → MarkTells setting sub history node mark
+    told Empty h = tt
+    told (Here p) h = h
+    told (Off p) h = h
+    told (Gone p to) h = h
+    told (Coming p from) h = h
+
+pub one-coming : Laws → OneComing
+unfolding HistoryView
+one-coming laws setting sub history low legal one other p q u v one_in other_in first second =
+    let its = view laws setting sub history low legal in
+    coming-one setting (start setting sub) (mark_seen setting sub history) (entry_seen setting sub history)
+    (commits sub history) (off sub history) (course_in setting sub (puts_to sub history)).moves one p u one_in its
+    first
+    ∙ sym (coming-one setting (start setting sub) (mark_seen setting sub history) (entry_seen setting sub history)
+    (commits sub history) (off sub history) (course_in setting sub (puts_to sub history)).moves other q v other_in
+    its second)
+
+pub placed : Laws → (setting : Setting) (sub : ℕ) (history : History) → setting.nodes ≤ 2 ^ 16
+    → IsLegal setting sub history → (level cluster : ℕ) (address : Address) → level ≤ setting.top
+    → entry_seen setting sub history level cluster ≡ Some address
+    → IsPlaced setting (start setting sub) (mark_seen setting sub history) (commits sub history)
+    (course_in setting sub (puts_to sub history)).moves level cluster address
+unfolding HistoryView
+placed laws setting sub history low legal level cluster address below is_some =
+    entry-placed setting (start setting sub) (mark_seen setting sub history) (entry_seen setting sub history)
+    (commits sub history) (off sub history) (course_in setting sub (puts_to sub history)).moves level cluster
+    address below (view laws setting sub history low legal) is_some
+
+not_empty : (setting : Setting) (marks : ℕ → PresenceMark) (node last hops way : ℕ)
+    → IsLed setting marks None node last hops way → marks node ≢ Empty
+unfolding IsLed
+not_empty setting marks node last zero way led empty = let clash : false ≡ true = sym (ap (answers None) empty)
+    ∙ led.1 in cc
+not_empty setting marks node last (suc hops) way led empty = let clash : None
+    ≡ Some led.0 = sym (ap (lead None) empty) ∙ led.2 in cc
+
+pub addresses-lead : Laws → AddressesLead
+addresses-lead laws setting sub history low legal level cluster address known below is_some knows =
+    let there = (placed laws setting sub history low legal level cluster address below is_some).leads known knows
+    in (there.hops, there.way, there.few, there.led)
+
+pub entries-tell : Laws → EntriesTell
+entries-tell laws setting sub history low legal level cluster below = told
+    (entry_seen setting sub history level cluster) refl
+  where
+    told : (entry : Option Address) → entry_seen setting sub history level cluster ≡ entry
+        → EntryTells setting sub history level cluster entry
+    told None e = tt
+    told (Some address) e =
+        let there = placed laws setting sub history low legal level cluster address below e in
+        let led = there.leads None tt in (
+          there.inside,
+          there.home_is,
+          there.few,
+          there.is_stop
+              ∙ same_stop address.number,
+          not_empty setting (mark_seen setting sub history) address.node
+              (standing setting sub history) led.hops led.way led.led,
+        )
+      where
+        same_stop : (n : ℕ) → slice_index (start setting sub ∷ map (λ (m : Move). m.to)
+            (course_in setting sub (puts_to sub history)).moves) n
+            ≡ stop (course_in setting sub (puts_to sub history)) n
+        same_stop n = ap (λ f. slice_index (f ∷ map (λ (m : Move). m.to)
+            (course_in setting sub (puts_to sub history)).moves) n)
+            (sym (start-kept setting (course_at (start setting sub)) (steps_in (puts_to sub history))))
+
+pub top-has_entry : Laws → TopHasEntry
+unfolding HistoryView
+top-has_entry laws setting sub history low legal =
+    top-has setting (start setting sub) (mark_seen setting sub history) (entry_seen setting sub history)
+    (commits sub history) (off sub history) (course_in setting sub (puts_to sub history)).moves
+    (view laws setting sub history low legal)
+
+pub comings-lead : Laws → ComingsLead
+unfolding HistoryView
+comings-lead laws setting sub history low legal node p from known inside comes knows =
+    let there = coming-leads_on setting (start setting sub) (mark_seen setting sub history)
+    (entry_seen setting sub history) (commits sub history) (off sub history)
+    (course_in setting sub (puts_to sub history)).moves node p from known inside
+    (view laws setting sub history low legal) comes in
+    (there.2.hops, there.2.way, there.2.few, there.2.led)

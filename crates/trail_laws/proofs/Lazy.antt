@@ -1,0 +1,122 @@
+-- After each move of a course each level has gathered less than its threshold.
+use Rattle.std.proofs.Common.{◌≡◌, ◌⊎◌, inl, inr, ℕ, zero, suc, ◌+◌, ◌-◌, ◌<◌, ◌≤◌, Bool, true, false, cond, List, [], ◌∷◌, ◌++◌, length, take, refl, sym, ap, ◌∙◌, subst, arith, length-append}
+use Rattle.std.specs.Prelude.{nat_le, sum_by}
+use Rattle.std.proofs.lemmas.Bool.Decides.{nat_tests}
+use Rattle.std.proofs.lemmas.List.{append-nil, take_all}
+use Rattle.std.proofs.Math.ListN.{drop_of_length-le}
+use Rattle.directory.specs.Settings.{levels, Setting, start}
+use Rattle.directory.specs.Histories.{History, puts_to}
+use Rattle.directory.specs.Courses.{after_step, after_steps, base, Course, course_at, gathered, highest, MaySteps, Move, move_to, next_move, Step, switch_off, switch_on}
+use Rattle.directory.specs.Legal.{IsLegal}
+use Rattle.directory.specs.Puts.{course_in}
+use Rattle.directory.specs.StepLaws.{take-append}
+use Rattle.trail_laws.proofs.Links.{AreLinked, IsSound, base-low, sound-step}
+use Rattle.trail_laws.proofs.ClosedMarks.{base-with}
+use Rattle.trail_laws.proofs.Chases.{weight_from}
+use Rattle.trail_laws.proofs.Prices.{AreLazy, weight-push}
+
+-- above the highest level that passes a test no level passes it
+highest-above : (test : ℕ → Bool) (limit level : ℕ) → highest test limit < level → level < limit → test level ≡ false
+unfolding highest
+highest-above test zero level above below = absurd (omega arith)
+highest-above test (suc limit) level above below = at_test (test limit) refl above
+    (λ h g. highest-above test limit level h g)
+  where
+    cases : (a b : ℕ) → a < suc b → (a ≡ b) ⊎ (a < b)
+    cases a b h = grind (arith, nat_tests)
+
+    at_test : (b : Bool) → test limit ≡ b → cond b limit (highest test limit) < level
+        → (highest test limit < level → level < limit → test level ≡ false) → test level ≡ false
+    at_test true e h more = absurd (omega arith)
+    at_test false e h more = at_place (cases level limit below)
+      where
+        at_place : (level ≡ limit) ⊎ (level < limit) → test level ≡ false
+        at_place (inl same) = ap test same ∙ e
+        at_place (inr low) = more h low
+
+-- one more move
+lazy-push : (setting : Setting) (moves : List Move) (move : Move) → AreLazy setting moves
+    → ((level : ℕ) → level ≤ setting.top
+    → weight_from (moves ++ move ∷ []) (base level (moves ++ move ∷ [])) < setting.threshold level)
+    → AreLazy setting (moves ++ move ∷ [])
+lazy-push setting moves move lazy whole k level low below = at_place (cases k (length moves))
+  where
+    cases : (a b : ℕ) → (a ≤ b) ⊎ (b < a)
+    cases a b = grind (arith, nat_tests)
+
+    front : k ≤ length moves → take k (moves ++ move ∷ []) ≡ take k moves
+    front h =
+        take-append k moves (move ∷ [])
+        ∙ (let e : k - length moves ≡ 0 = omega (arith, h) in
+        ap (λ n. take k moves ++ take n (move ∷ [])) e ∙ append-nil (take k moves))
+
+    at_place : (k ≤ length moves) ⊎ (length moves < k)
+        → weight_from (take k (moves ++ move ∷ [])) (base level (take k (moves ++ move ∷ []))) < setting.threshold level
+    at_place (inl h) = subst (λ (ms : List Move). weight_from ms (base level ms) < setting.threshold level)
+        (sym (front h)) (lazy k level h below)
+    at_place (inr h) = subst (λ (ms : List Move). weight_from ms (base level ms) < setting.threshold level)
+        (sym (take_all k (moves ++ move ∷ []) (omega (arith, h, length-append moves (move ∷ []))))) (whole level below)
+
+-- a move renews each level that reaches its threshold
+lazy-whole_move : (setting : Setting) (course : Course) (node level : ℕ) → IsSound setting course
+    → ((i : ℕ) → i ≤ setting.top → 1 ≤ setting.threshold i) → level ≤ setting.top
+    → weight_from (course.moves ++ next_move setting course node ∷ [])
+    (base level (course.moves ++ next_move setting course node ∷ [])) < setting.threshold level
+lazy-whole_move setting course node level sound some below =
+    subst (λ b. weight_from (course.moves ++ move ∷ []) b < setting.threshold level)
+    (sym (base-with level course move)) (at_test (nat_le level move.renewed) refl)
+  where
+    move : Move
+    move = next_move setting course node
+
+    test : ℕ → Bool
+    test l = nat_le (setting.threshold l) (gathered course l + move.weight)
+
+    at_test : (b : Bool) → nat_le level move.renewed ≡ b
+        → weight_from (course.moves ++ move ∷ []) (cond b move.number (base level course.moves))
+        < setting.threshold level
+    at_test true e =
+        let nothing : weight_from (course.moves ++ move ∷ []) (suc (length course.moves)) ≡ 0 =
+        ap (sum_by (λ (m : Move). m.weight)) (drop_of_length-le (course.moves ++ move ∷ [])
+        {i = suc (length course.moves)} (omega (arith, length-append course.moves (move ∷ [])))) in
+        omega (arith, some level below, nothing)
+    at_test false e =
+        let high : move.renewed < level = grind (arith, nat_tests, e) in
+        let failed : nat_le (setting.threshold level) (gathered course level + move.weight) ≡ false =
+        highest-above test (levels setting) level high (omega (arith, below)) in
+        let less : gathered course level + move.weight < setting.threshold level = grind (arith, nat_tests, failed) in
+        omega (
+          arith,
+          less,
+          weight-push course.moves move (base level course.moves) (base-low setting course level sound),
+        )
+
+lazy-step : (setting : Setting) (course : Course) (step : Step) → IsSound setting course
+    → ((i : ℕ) → i ≤ setting.top → 1 ≤ setting.threshold i) → AreLazy setting course.moves
+    → AreLazy setting (after_step setting course step).moves
+lazy-step setting course (move_to node) sound some lazy = lazy-push setting course.moves
+    (next_move setting course node) lazy (λ level below. lazy-whole_move setting course node level sound some below)
+lazy-step setting course switch_off sound some lazy = lazy
+lazy-step setting course switch_on sound some lazy = lazy
+
+lazy-steps : (setting : Setting) (course : Course) (steps : List Step) → IsSound setting course
+    → MaySteps setting course steps → ((i : ℕ) → i ≤ setting.top → 1 ≤ setting.threshold i)
+    → AreLazy setting course.moves → AreLazy setting (after_steps setting course steps).moves
+unfolding MaySteps
+lazy-steps setting course [] sound may some lazy = lazy
+lazy-steps setting course (step ∷ steps) sound may some lazy =
+    lazy-steps setting (after_step setting course step) steps (sound-step setting course step sound may.0) may.1 some
+    (lazy-step setting course step sound some lazy)
+
+lazy-none : (setting : Setting) → ((i : ℕ) → i ≤ setting.top → 1 ≤ setting.threshold i) → AreLazy setting []
+lazy-none setting some zero level low below = some level below
+lazy-none setting some (suc k) level low below = some level below
+
+-- so it is after the puts of a legal history
+pub legal-lazy : (setting : Setting) (sub : ℕ) (history : History)
+    → ((i : ℕ) → i ≤ setting.top → 1 ≤ setting.threshold i) → IsLegal setting sub history
+    → AreLazy setting (course_in setting sub (puts_to sub history)).moves
+unfolding AreLinked
+legal-lazy setting sub history some legal =
+    lazy-steps setting (course_at (start setting sub)) _ (record { begins = legal.script.begins; linked = tt })
+    legal.script.allowed some (lazy-none setting some)

@@ -1,0 +1,337 @@
+-- Where the marks lead from the nodes of a course, in each phase.
+use Rattle.std.proofs.Common.{◌≡◌, ◌≢◌, ℕ, zero, suc, ◌+◌, ◌-◌, ◌*◌, ◌<◌, ◌≤◌, Bool, true, false, cond, ◌==◌, List, [], ◌∷◌, ◌++◌, Option, length, map, drop, fold, refl, sym, ap, ◌∙◌, subst, arith, length-append}
+use Rattle.std.specs.Prelude.{if◌then◌else◌, nat_le, slice_index, sum_by}
+use Rattle.std.proofs.lemmas.Bool.{eq-eqb, ne_eqb}
+use Rattle.std.proofs.lemmas.Bool.Decides.{nat_tests}
+use Rattle.std.proofs.lemmas.List.{drop-append-le, get_or_append_left, length-drop, length-map, map-append}
+use Rattle.std.proofs.lemmas.List.Sums.{fold-append}
+use Rattle.entry_word.specs.declared.mark.PresenceMark.{PresenceMark}
+use Rattle.entry_word.specs.declared.mark.PresenceMark.TheVariants.{Empty, Here, Gone, Coming, Off}
+use Rattle.directory.specs.Settings.{Setting}
+use Rattle.directory.specs.Courses.{Move, Course, base, last_stop}
+use Rattle.trail_laws.specs.Trail.{answers, KnowsAtMost}
+use Rattle.trail_laws.proofs.Links.{AreLinked, IsSound, base-low, linked-push, stop-inside}
+use Rattle.trail_laws.proofs.ClosedMarks.{IsNext, rest_mark, mark_coming, mark_passing, mark_erasing, since_top, there, trail_mark, trail_mark-push}
+use Rattle.trail_laws.proofs.Chases.{above, Arrival, back-leads, coming-exits, Exits, leads, longer, passing-exits, passing-leads, rest-exits, stop_at, stops-inside, weight_from}
+use Rattle.trail_laws.proofs.Tells.{linked-drop, stop-drop}
+
+-- the end of linked moves
+pub stop-end : (from : ℕ) (moves : List Move) → stop_at from moves (length moves)
+    ≡ fold (λ node (m : Move). m.to) from moves
+stop-end from [] = refl
+stop-end from (m ∷ later) = stop-end m.to later
+
+drop-count : (moves : List Move) (b : ℕ) → b ≤ length moves → b + length (drop b moves) ≡ length moves
+drop-count moves b low = omega (arith, length-drop b moves, low)
+
+nothing-dropped : {A : Type 0} (n : ℕ) → drop {A = A} n [] ≡ []
+nothing-dropped zero = refl
+nothing-dropped (suc n) = refl
+
+drop-more : (b i : ℕ) (xs : List Move) → drop i (drop b xs) ≡ drop (b + i) xs
+drop-more zero i xs = let e : 0 + i ≡ i = omega arith in rw e refl
+drop-more (suc b) i [] = nothing-dropped i ∙ sym (nothing-dropped (suc b + i))
+drop-more (suc b) i (x ∷ xs) = let e : suc b + i ≡ suc (b + i) = omega arith in rw e (drop-more b i xs)
+
+-- the last renewal of a lower level is no earlier than that of the top level
+base-order : (setting : Setting) (level low high from number : ℕ) (moves : List Move) → level ≤ setting.top
+    → AreLinked setting from number moves → high ≤ low → low ≤ number → high ≤ number
+    → fold (λ l (m : Move). if nat_le setting.top m.renewed then m.number else l) high moves ≤ fold
+    (λ l (m : Move). if nat_le level m.renewed then m.number else l) low moves
+unfolding AreLinked
+base-order setting level low high from number [] below linked order l h = order
+base-order setting level low high from number (m ∷ later) below (f0, f1, f2, f3, f4, f5, f6, f7) order l h =
+    at_tests (nat_le setting.top m.renewed) (nat_le level m.renewed) refl refl
+    (λ x y a b c. base-order setting level x y m.to (suc number) later below f7 a b c)
+  where
+    at_tests : (s t : Bool) → nat_le setting.top m.renewed ≡ s → nat_le level m.renewed ≡ t
+        → ((x y : ℕ) → y ≤ x → x ≤ suc number → y ≤ suc number
+        → fold (λ k (n : Move). if nat_le setting.top n.renewed then n.number else k) y later ≤ fold
+        (λ k (n : Move). if nat_le level n.renewed then n.number else k) x later)
+        → fold (λ k (n : Move). if nat_le setting.top n.renewed then n.number else k)
+        (cond s m.number high) later ≤ fold (λ k (n : Move). if nat_le level n.renewed then n.number else k)
+        (cond t m.number low) later
+    at_tests true true e f more = more m.number m.number (omega arith) (omega (arith, f0)) (omega (arith, f0))
+    at_tests true false e f more = absurd (grind (arith, nat_tests, below))
+    at_tests false true e f more = more m.number high (omega (arith, f0, h)) (omega (arith, f0)) (omega (arith, h))
+    at_tests false false e f more = more low high order (omega (arith, l)) (omega (arith, h))
+
+pub base-top : (setting : Setting) (course : Course) (level : ℕ) → IsSound setting course → level ≤ setting.top
+    → base setting.top course.moves ≤ base level course.moves
+base-top setting course level sound below = base-order setting level 0 0 course.start 0 course.moves below
+    sound.linked (omega arith) (omega arith) (omega arith)
+
+-- ---- the trail of a course, from where it was purged last
+abbrev pub low_of : Setting → Course → ℕ
+low_of setting course = base setting.top course.moves
+
+abbrev pub first_of : Setting → Course → ℕ
+first_of setting course = stop_at course.start course.moves (low_of setting course)
+
+pub trail-linked : (setting : Setting) (course : Course) → IsSound setting course
+    → AreLinked setting (first_of setting course) (low_of setting course) (since_top setting course)
+trail-linked setting course sound =
+    let e : 0 + low_of setting course ≡ low_of setting course = omega arith in
+    subst (λ n. AreLinked setting (first_of setting course) n (since_top setting course)) e
+    (linked-drop setting course.start 0 course.moves (low_of setting course) sound.linked
+    (base-low setting course setting.top sound))
+
+trail-stops : (setting : Setting) (course : Course) (i : ℕ) → IsSound setting course
+    → stop_at (first_of setting course) (since_top setting course) i
+    ≡ stop_at course.start course.moves (low_of setting course + i)
+trail-stops setting course i sound = stop-drop course.start course.moves (low_of setting course) i
+    (base-low setting course setting.top sound)
+
+trail-count : (setting : Setting) (course : Course) → IsSound setting course
+    → low_of setting course + length (since_top setting course) ≡ length course.moves
+trail-count setting course sound = drop-count course.moves (low_of setting course)
+    (base-low setting course setting.top sound)
+
+pub trail-ends : (setting : Setting) (course : Course) → IsSound setting course
+    → stop_at (first_of setting course) (since_top setting course) (length (since_top setting course))
+    ≡ last_stop course
+trail-ends setting course sound =
+    trail-stops setting course (length (since_top setting course)) sound
+    ∙ (ap (stop_at course.start course.moves) (trail-count setting course sound)
+    ∙ stop-end course.start course.moves)
+
+pub trail-begins : (setting : Setting) (course : Course) → IsSound setting course
+    → first_of setting course < setting.nodes
+trail-begins setting course sound = stops-inside setting course.start 0 course.moves
+    (low_of setting course) sound.linked sound.begins (base-low setting course setting.top sound)
+
+-- from a stop the marks lead on, whatever the exits
+pub stop-leads : (setting : Setting) (course : Course) (marks : ℕ → PresenceMark) (last most more_hops more_way : ℕ)
+    → IsSound setting course → length course.moves ≤ most
+    → Exits setting marks (first_of setting course) (low_of setting course) last
+    (since_top setting course) most more_hops more_way
+    → (q v : ℕ) (known : Option ℕ) → low_of setting course ≤ q → q ≤ length course.moves → v < setting.nodes
+    → stop_at course.start course.moves q ≡ v → KnowsAtMost most known
+    → Arrival setting marks known v last (more_hops + above setting marks q) (weight_from course.moves q + more_way)
+stop-leads setting course marks last most more_hops more_way sound all exits q v known from_low to_end inside is_stop
+    knows =
+    subst (λ n. Arrival setting marks known v last (more_hops + above setting marks n)
+    (weight_from course.moves q + more_way)) placed
+    (subst (λ w. Arrival setting marks known v last (more_hops + above setting marks
+    (low_of setting course + (q - low_of setting course))) (w + more_way)) weights
+    (leads setting marks (first_of setting course) (low_of setting course) last
+    (since_top setting course) most more_hops more_way (trail-linked setting course sound)
+    (omega (arith, trail-count setting course sound, all)) exits
+    (length (since_top setting course)) (q - low_of setting course) v known (omega arith)
+    (omega (arith, trail-count setting course sound, to_end, from_low)) inside
+    (trail-stops setting course (q - low_of setting course) sound
+    ∙ (ap (stop_at course.start course.moves) placed ∙ is_stop)) knows))
+  where
+    placed : low_of setting course + (q - low_of setting course) ≡ q
+    placed = omega (arith, from_low)
+
+    weights : weight_from (since_top setting course) (q - low_of setting course) ≡ weight_from course.moves q
+    weights = ap (sum_by (λ (m : Move). m.weight)) (drop-more (low_of setting course)
+        (q - low_of setting course) course.moves ∙ ap (λ n. drop n course.moves) placed)
+
+-- ---- at rest
+answered-there : (course : Course) (known : Option ℕ) → answers known (there course) ≡ true
+answered-there course known = at_state course.is_off
+  where
+    at_state : (b : Bool) → answers known (cond b (Off (length course.moves)) (Here (length course.moves))) ≡ true
+    at_state true = refl
+    at_state false = refl
+
+rest-there : (setting : Setting) (course : Course) → rest_mark setting course (last_stop course) ≡ there course
+rest-there setting course = ap (λ b. cond b (there course)
+    (trail_mark (since_top setting course) (last_stop course) Empty))
+    (eq-eqb (last_stop course) (last_stop course) refl)
+
+rest-other : (setting : Setting) (course : Course) (v : ℕ) → v ≢ last_stop course
+    → rest_mark setting course v ≡ trail_mark (since_top setting course) v Empty
+rest-other setting course v other = ap (λ b. cond b (there course) (trail_mark (since_top setting course) v Empty))
+    (ne_eqb v (last_stop course) other)
+
+pub rest-leads : (setting : Setting) (course : Course) (marks : ℕ → PresenceMark) → IsSound setting course
+    → ((v : ℕ) → v < setting.nodes → marks v ≡ rest_mark setting course v)
+    → (q v : ℕ) (known : Option ℕ) → low_of setting course ≤ q → q ≤ length course.moves → v < setting.nodes
+    → stop_at course.start course.moves q ≡ v → KnowsAtMost (length course.moves) known
+    → Arrival setting marks known v (last_stop course) (above setting marks q) (weight_from course.moves q)
+rest-leads setting course marks sound marks_are q v known from_low to_end inside is_stop knows =
+    longer setting marks known v (last_stop course) (0 + above setting marks q) (above setting marks q)
+    (weight_from course.moves q + 0) (weight_from course.moves q) (omega arith) (λ metric. omega arith)
+    (stop-leads setting course marks (last_stop course) (length course.moves) 0 0 sound (omega arith)
+    (rest-exits setting marks (first_of setting course) (low_of setting course) (last_stop course)
+    (since_top setting course) (length course.moves) (trail-ends setting course sound)
+    (λ k. ap (answers k) (marks_are (last_stop course) (stop-inside setting course sound) ∙ rest-there setting course)
+    ∙ answered-there course k)
+    (λ w low other. marks_are w low ∙ rest-other setting course w other))
+    q v known from_low to_end inside is_stop knows)
+
+-- ---- before the commit
+module _ (setting : Setting) (course : Course) (move : Move) (marks : ℕ → PresenceMark)
+    (sound : IsSound setting course) (next : IsNext setting course move)
+    (marks_are : (v : ℕ) → v < setting.nodes → marks v ≡ mark_coming setting course move v) where
+  pub coming-there : (k : Option ℕ) → answers k (marks (last_stop course)) ≡ true
+  coming-there k = ap (answers k)
+      (marks_are (last_stop course) (stop-inside setting course sound)
+      ∙ (ap (λ b. cond b (Coming move.number move.from) (rest_mark setting course (last_stop course)))
+      (ne_eqb (last_stop course) move.to (λ e. next.moving (sym e ∙ sym next.from)))
+      ∙ rest-there setting course)) ∙ answered-there course k
+
+  pub coming-at_to : marks move.to ≡ Coming move.number (last_stop course)
+  coming-at_to = marks_are move.to next.inside
+      ∙ (ap (λ b. cond b (Coming move.number move.from) (rest_mark setting course move.to))
+      (eq-eqb move.to move.to refl) ∙ ap (λ n. Coming move.number n) next.from)
+
+  pub coming-leads : (q v : ℕ) (known : Option ℕ) → low_of setting course ≤ q → q ≤ length course.moves
+      → v < setting.nodes → stop_at course.start course.moves q ≡ v → KnowsAtMost (length course.moves) known
+      → Arrival setting marks known v (last_stop course) (1 + above setting marks q) (weight_from course.moves q + 0)
+  coming-leads =
+      stop-leads setting course marks (last_stop course) (length course.moves) 1 0 sound (omega arith)
+      (coming-exits setting marks (first_of setting course) (low_of setting course) (last_stop course)
+      (since_top setting course) (length course.moves) move.number move.to (trail-linked setting course sound)
+      (trail-begins setting course sound)
+      (trail-ends setting course sound) (omega (arith, next.number)) coming-at_to coming-there
+      (λ w low other off_to. marks_are w low ∙ (ap (λ b. cond b (Coming move.number move.from)
+      (rest_mark setting course w)) (ne_eqb w move.to off_to) ∙ rest-other setting course w other)))
+
+  -- from the new node one hop leads back
+  pub coming-back : (known : Option ℕ) → KnowsAtMost (length course.moves) known
+      → Arrival setting marks known move.to (last_stop course) 1 (setting.distance move.to (last_stop course) + 0)
+  coming-back known knows = back-leads setting marks (last_stop course)
+      (length course.moves) move.number move.to known (omega (arith, next.number)) knows coming-at_to coming-there
+
+-- ---- between commit and confirm
+module _ (setting : Setting) (course : Course) (move : Move) (marks : ℕ → PresenceMark)
+    (sound : IsSound setting course) (next : IsNext setting course move)
+    (marks_are : (v : ℕ) → v < setting.nodes → marks v ≡ mark_passing setting course move v) where
+  from-inside : move.from < setting.nodes
+  from-inside = subst (λ n. n < setting.nodes) (sym next.from) (stop-inside setting course sound)
+
+  pub passing-gone : marks move.from ≡ Gone move.number move.to
+  passing-gone = marks_are move.from from-inside ∙ ap (λ b. cond b (Gone move.number move.to)
+      (mark_coming setting course move move.from)) (eq-eqb move.from move.from refl)
+
+  pub passing-at_to : marks move.to ≡ Coming move.number move.from
+  passing-at_to = marks_are move.to next.inside
+      ∙ (ap (λ b. cond b (Gone move.number move.to) (mark_coming setting course move move.to))
+      (ne_eqb move.to move.from next.moving)
+      ∙ ap (λ b. cond b (Coming move.number move.from) (rest_mark setting course move.to))
+      (eq-eqb move.to move.to refl))
+
+  pub passage-leads : (q v : ℕ) (known : Option ℕ) → low_of setting course ≤ q → q ≤ length course.moves
+      → v < setting.nodes → stop_at course.start course.moves q ≡ v → KnowsAtMost (suc (length course.moves)) known
+      → Arrival setting marks known v move.to (1 + above setting marks q)
+      (weight_from course.moves q + 2 * setting.distance move.from move.to)
+  passage-leads =
+      stop-leads setting course marks move.to (suc (length course.moves)) 1
+      (2 * setting.distance move.from move.to) sound (omega arith)
+      (passing-exits setting marks (first_of setting course) (low_of setting course) move.from
+      (since_top setting course) (suc (length course.moves)) move.number move.to
+      (trail-ends setting course sound ∙ sym next.from)
+      (omega (arith, trail-count setting course sound, next.number)) from-inside next.inside passing-gone
+      passing-at_to
+      (λ w low off_from off_to. marks_are w low
+      ∙ (ap (λ b. cond b (Gone move.number move.to) (mark_coming setting course move w)) (ne_eqb w move.from off_from)
+      ∙ (ap (λ b. cond b (Coming move.number move.from) (rest_mark setting course w)) (ne_eqb w move.to off_to)
+      ∙ rest-other setting course w (λ e. off_from (e ∙ sym next.from))))))
+
+  -- from the new node at most there and back
+  pub passage-new : (known : Option ℕ) → Arrival setting marks known move.to move.to 2
+      (setting.distance move.to move.from + (setting.distance move.from move.to + 0))
+  passage-new known = passing-leads setting marks move.from move.number move.to known passing-gone passing-at_to
+
+-- ---- after the confirm
+with-linked : (setting : Setting) (course : Course) (move : Move) → IsSound setting course
+    → IsNext setting course move → AreLinked setting (first_of setting course) (low_of setting course)
+    (since_top setting course ++ move ∷ [])
+with-linked setting course move sound next =
+    linked-push setting (first_of setting course) (low_of setting course) (since_top setting course) move
+    (omega (arith, next.number, trail-count setting course sound))
+    (next.from ∙ (sym (trail-ends setting course sound)
+    ∙ stop-end (first_of setting course) (since_top setting course)))
+    (subst (λ n. n < setting.nodes) (sym next.from) (stop-inside setting course sound)) next.inside next.moving
+    next.renewed next.weight (trail-linked setting course sound)
+
+module _ (setting : Setting) (course : Course) (move : Move) (marks : ℕ → PresenceMark)
+    (sound : IsSound setting course) (next : IsNext setting course move)
+    (marks_are : (v : ℕ) → v < setting.nodes → marks v ≡ mark_erasing setting course move [] v) where
+  moves : List Move
+  moves = since_top setting course ++ move ∷ []
+
+  pub clearing-here : marks move.to ≡ Here move.number
+  clearing-here = marks_are move.to next.inside ∙ ap (λ b. cond b (Here move.number)
+      (mark_passing setting course move move.to)) (eq-eqb move.to move.to refl)
+
+  others : (v : ℕ) → v < setting.nodes → v ≢ move.to → marks v
+      ≡ trail_mark (since_top setting course ++ move ∷ []) v Empty
+  others v low off_to = marks_are v low
+      ∙ (ap (λ b. cond b (Here move.number) (mark_passing setting course move v)) (ne_eqb v move.to off_to)
+      ∙ (at_from (v == move.from) refl ∙ sym (trail_mark-push (since_top setting course) move v Empty)))
+    where
+      at_from : (b : Bool) → (v == move.from) ≡ b → cond b (Gone move.number move.to)
+          (mark_coming setting course move v) ≡ cond b (Gone move.number move.to)
+          (trail_mark (since_top setting course) v Empty)
+      at_from true e = refl
+      at_from false e = ap (λ b. cond b (Coming move.number move.from) (rest_mark setting course v))
+          (ne_eqb v move.to off_to)
+          ∙ rest-other setting course v (λ same. let clash : (v == move.from)
+          ≡ true = eq-eqb v move.from (same ∙ sym next.from) in cc)
+
+  -- from a stop of the course, and from the new node
+  pub clearing-leads : (q v : ℕ) (known : Option ℕ) → low_of setting course ≤ q → q ≤ suc (length course.moves)
+      → v < setting.nodes → stop_at course.start (course.moves ++ move ∷ []) q ≡ v
+      → KnowsAtMost (suc (length course.moves)) known
+      → Arrival setting marks known v move.to (above setting marks q) (weight_from (course.moves ++ move ∷ []) q)
+  clearing-leads q v known from_low to_end inside is_stop knows =
+      subst (λ n. Arrival setting marks known v move.to (above setting marks n)
+      (weight_from (course.moves ++ move ∷ []) q)) placed
+      (longer setting marks known v move.to (0 + above setting marks
+      (low_of setting course + (q - low_of setting course)))
+      (above setting marks (low_of setting course + (q - low_of setting course)))
+      (weight_from (since_top setting course ++ move ∷ []) (q - low_of setting course) + 0)
+      (weight_from (course.moves ++ move ∷ []) q) (omega arith) (λ metric. omega (arith, weights))
+      (leads setting marks (first_of setting course) (low_of setting course) move.to
+      (since_top setting course ++ move ∷ []) (suc (length course.moves)) 0 0
+      (with-linked setting course move sound next) (omega (arith, counted, trail-count setting course sound))
+      (rest-exits setting marks (first_of setting course) (low_of setting course) move.to
+      (since_top setting course ++ move ∷ []) (suc (length course.moves)) ends
+      (λ k. ap (answers k) clearing-here) others)
+      (suc (length (since_top setting course))) (q - low_of setting course) v known (omega (arith, counted))
+      (omega (arith, counted, trail-count setting course sound, to_end, from_low)) inside is_place knows))
+    where
+      placed : low_of setting course + (q - low_of setting course) ≡ q
+      placed = omega (arith, from_low)
+
+      counted : length (since_top setting course ++ move ∷ []) ≡ suc (length (since_top setting course))
+      counted = omega (arith, length-append (since_top setting course) (move ∷ []))
+
+      same : since_top setting course ++ move ∷ [] ≡ drop (low_of setting course) (course.moves ++ move ∷ [])
+      same = sym (drop-append-le (low_of setting course) course.moves (move ∷ [])
+          (base-low setting course setting.top sound))
+
+      first_same : first_of setting course ≡ stop_at course.start (course.moves ++ move ∷ []) (low_of setting course)
+      first_same = sym (ap (λ xs. slice_index (course.start ∷ xs) (low_of setting course))
+          (map-append (λ (m : Move). m.to) course.moves (move ∷ []))
+          ∙ get_or_append_left (course.start ∷ map (λ (m : Move). m.to) course.moves) (move.to ∷ []) 0
+          (low_of setting course) (omega (
+            arith,
+            length-map course.moves (λ (m : Move). m.to),
+            base-low setting course setting.top sound,
+          )))
+
+      is_place : stop_at (first_of setting course) (since_top setting course ++ move ∷ []) (q - low_of setting course)
+          ≡ v
+      is_place = ap (λ n. stop_at n (since_top setting course ++ move ∷ []) (q - low_of setting course)) first_same
+          ∙ (ap (λ ms. stop_at (stop_at course.start (course.moves ++ move ∷ []) (low_of setting course)) ms
+          (q - low_of setting course)) same
+          ∙ (stop-drop course.start (course.moves ++ move ∷ []) (low_of setting course) (q - low_of setting course)
+          (omega (arith, length-append course.moves (move ∷ []), base-low setting course setting.top sound))
+          ∙ (ap (stop_at course.start (course.moves ++ move ∷ [])) placed ∙ is_stop)))
+
+      weights : weight_from (since_top setting course ++ move ∷ []) (q - low_of setting course)
+          ≡ weight_from (course.moves ++ move ∷ []) q
+      weights = ap (λ ms. weight_from ms (q - low_of setting course)) same
+          ∙ ap (sum_by (λ (m : Move). m.weight)) (drop-more (low_of setting course) (q - low_of setting course)
+          (course.moves ++ move ∷ []) ∙ ap (λ n. drop n (course.moves ++ move ∷ [])) placed)
+
+      ends : stop_at (first_of setting course) (since_top setting course ++ move ∷ [])
+          (length (since_top setting course ++ move ∷ [])) ≡ move.to
+      ends = stop-end (first_of setting course) (since_top setting course ++ move ∷ [])
+          ∙ fold-append (λ n (m : Move). m.to) (first_of setting course) (since_top setting course) (move ∷ [])

@@ -1,0 +1,122 @@
+-- The moves of a course are linked: each begins where the one before ended, and is numbered after it.
+use Rattle.std.proofs.Common.{◌≡◌, ◌≢◌, ℕ, zero, suc, ◌+◌, ◌<◌, ◌≤◌, Bool, true, false, cond, List, [], ◌∷◌, ◌++◌, length, fold, refl, ◌∙◌, arith}
+use Rattle.std.specs.Prelude.{nat_le, if◌then◌else◌}
+use Rattle.directory.specs.Settings.{Setting}
+use Rattle.directory.specs.Courses.{highest, Step, move_to, switch_off, switch_on, Move, Course, last_stop, base, next_move, after_step, after_steps, MayStep, MaySteps}
+
+-- moves after this node and this number
+unfoldable pub AreLinked : Setting → ℕ → ℕ → List Move → Type 0
+AreLinked setting from number [] = Unit {0}
+AreLinked setting from number (move ∷ later) =
+    (move.number ≡ suc number) × (move.from ≡ from) × (move.from < setting.nodes) × (move.to < setting.nodes)
+    × (move.to ≢ move.from)
+    × (move.renewed ≤ setting.top) × (move.weight ≡ setting.distance move.from move.to)
+    × AreLinked setting move.to (suc number) later
+
+-- what is known of a course that was begun at a node of the network
+pub record IsSound (setting : Setting) (course : Course) : Type 0 where
+  pub begins : course.start < setting.nodes
+  pub linked : AreLinked setting course.start 0 course.moves
+
+pub last_of : ℕ → List Move → ℕ
+last_of from moves = fold (λ node (move : Move). move.to) from moves
+
+pub linked-push : (setting : Setting) (from number : ℕ) (moves : List Move) (move : Move)
+    → move.number ≡ suc (number + length moves) → move.from ≡ fold (λ node (m : Move). m.to) from moves
+    → move.from < setting.nodes → move.to < setting.nodes → move.to ≢ move.from → move.renewed ≤ setting.top
+    → move.weight ≡ setting.distance move.from move.to → AreLinked setting from number moves
+    → AreLinked setting from number (moves ++ move ∷ [])
+unfolding AreLinked
+linked-push setting from number [] move h g a b c d w linked =
+    (h ∙ (let e : suc (number + 0) ≡ suc number = omega arith in e), g, a, b, c, d, w, tt)
+linked-push setting from number (first ∷ later) move h g a b c d w (f0, f1, f2, f3, f4, f5, f6, f7) = (
+  f0,
+  f1,
+  f2,
+  f3,
+  f4,
+  f5,
+  f6,
+  linked-push setting first.to (suc number) later move
+      (h ∙ (let e : suc (number + suc (length later)) ≡ suc (suc number + length later) = omega arith in e)) g a b c
+      d w f7,
+)
+
+highest-below : (test : ℕ → Bool) (limit : ℕ) → highest test (suc limit) ≤ limit
+unfolding highest
+highest-below test zero = at_test (test 0)
+  where
+    at_test : (b : Bool) → cond b 0 0 ≤ 0
+    at_test true = omega arith
+    at_test false = omega arith
+highest-below test (suc limit) = at_test (test (suc limit)) (highest-below test limit)
+  where
+    at_test : (b : Bool) → highest test (suc limit) ≤ limit
+        → cond b (suc limit) (highest test (suc limit)) ≤ suc limit
+    at_test true h = omega arith
+    at_test false h = omega (arith, h)
+
+last-inside : (setting : Setting) (from number : ℕ) (moves : List Move) → from < setting.nodes
+    → AreLinked setting from number moves → fold (λ node (m : Move). m.to) from moves < setting.nodes
+unfolding AreLinked
+last-inside setting from number [] h linked = h
+last-inside setting from number (move ∷ later) h (f0, f1, f2, f3, f4, f5, f6, f7) = last-inside setting move.to
+    (suc number) later f3 f7
+
+-- a subscriber stands at a node of the network
+pub stop-inside : (setting : Setting) (course : Course) → IsSound setting course → last_stop course < setting.nodes
+stop-inside setting course sound = last-inside setting course.start 0 course.moves sound.begins sound.linked
+
+pub renewed-low : (setting : Setting) (course : Course) (node : ℕ)
+    → (next_move setting course node).renewed ≤ setting.top
+renewed-low setting course node = highest-below _ setting.top
+
+pub sound-step : (setting : Setting) (course : Course) (step : Step) → IsSound setting course
+    → MayStep setting course step → IsSound setting (after_step setting course step)
+sound-step setting course (move_to node) sound may = record {
+  begins = sound.begins;
+  linked = linked-push setting course.start 0 course.moves (next_move setting course node)
+      (let e : suc (length course.moves) ≡ suc (0 + length course.moves) = omega arith in e) refl
+      (stop-inside setting course sound) may.inside may.moving (renewed-low setting course node) refl sound.linked;
+}
+sound-step setting course switch_off sound may = record { begins = sound.begins; linked = sound.linked }
+sound-step setting course switch_on sound may = record { begins = sound.begins; linked = sound.linked }
+
+pub sound-steps : (setting : Setting) (course : Course) (steps : List Step) → IsSound setting course
+    → MaySteps setting course steps → IsSound setting (after_steps setting course steps)
+unfolding MaySteps
+sound-steps setting course [] sound may = sound
+sound-steps setting course (step ∷ steps) sound may = sound-steps setting (after_step setting course step) steps
+    (sound-step setting course step sound may.0) may.1
+
+-- the last renewal of a level is one of the moves, or none
+base-from : (level last from number : ℕ) (setting : Setting) (moves : List Move) → last ≤ number
+    → AreLinked setting from number moves
+    → fold (λ l (move : Move). if nat_le level move.renewed then move.number else l) last moves ≤ number + length
+    moves
+unfolding AreLinked
+base-from level last from number setting [] low linked = omega (arith, low)
+base-from level last from number setting (move ∷ later) low (f0, f1, f2, f3, f4, f5, f6, f7) =
+    at_test (nat_le level move.renewed) (λ l h. base-from level l move.to (suc number) setting later h f7)
+  where
+    at_test : (b : Bool) → ((l : ℕ) → l ≤ suc number → fold
+        (λ k (m : Move). if nat_le level m.renewed then m.number else k) l later ≤ suc number + length later)
+        → fold (λ l (m : Move). if nat_le level m.renewed then m.number else l)
+        (cond b move.number last) later ≤ number + suc (length later)
+    at_test true more = omega (arith, more move.number (omega (arith, f0)))
+    at_test false more = omega (arith, more last (omega (arith, low)))
+
+pub base-low : (setting : Setting) (course : Course) (level : ℕ) → IsSound setting course
+    → base level course.moves ≤ length course.moves
+base-low setting course level sound = omega (
+  arith,
+  base-from level 0 course.start 0 setting course.moves
+      (omega arith) sound.linked,
+)
+
+pub start-kept : (setting : Setting) (course : Course) (steps : List Step)
+    → (after_steps setting course steps).start ≡ course.start
+start-kept setting course [] = refl
+start-kept setting course (move_to node ∷ steps) = start-kept setting (after_step setting course (move_to node)) steps
+start-kept setting course (switch_off ∷ steps) = start-kept setting (after_step setting course switch_off) steps
+start-kept setting course (switch_on ∷ steps) = start-kept setting (after_step setting course switch_on) steps

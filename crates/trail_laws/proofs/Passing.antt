@@ -1,0 +1,82 @@
+-- What a legal history is at its fronts: they are legal, numbers only grow, and a look changes nothing.
+use Rattle.std.proofs.Common.{◌≡◌, ℕ, zero, suc, ◌+◌, ◌-◌, ◌≤◌, ◌^◌, Bool, true, false, cond, List, [], ◌∷◌, ◌++◌, Some, length, take, filter, refl, sym, ap, ◌∙◌, subst, arith, length-append}
+use Rattle.std.specs.Prelude.{filter_map, slice_get}
+use Rattle.std.proofs.lemmas.List.{append-nil, length-take}
+use Rattle.std.proofs.lemmas.List.Elements.{filter-append, filter_map-append}
+use Rattle.entry_word.specs.declared.visit.Key.{Key}
+use Rattle.entry_word.specs.declared.visit.Visit.{Visit}
+use Rattle.directory.specs.Settings.{Setting}
+use Rattle.directory.specs.Histories.{before, History, is_put_for, puts_to, through}
+use Rattle.directory.specs.Puts.{mark_put, node_put}
+use Rattle.directory.specs.Legal.{ArePuts, IsLegal}
+use Rattle.directory.specs.Looks.{look_by}
+use Rattle.directory.specs.Standing.{commit_of, commits, number}
+use Rattle.directory.specs.StepLaws.{puts-push, take-more}
+use Rattle.directory.specs.Statements.{FrontsAreLegal}
+
+filter-front : (p : Visit → Bool) (t : ℕ) (xs : List Visit)
+    → filter p (take t xs) ≡ take (length (filter p (take t xs))) (filter p xs)
+filter-front p zero xs = refl
+filter-front p (suc t) [] = refl
+filter-front p (suc t) (x ∷ xs) = at_test (p x) (filter-front p t xs)
+  where
+    at_test : (b : Bool) → filter p (take t xs) ≡ take (length (filter p (take t xs))) (filter p xs)
+        → cond b (x ∷ filter p (take t xs)) (filter p (take t xs))
+        ≡ take (length (cond b (x ∷ filter p (take t xs)) (filter p (take t xs))))
+        (cond b (x ∷ filter p xs) (filter p xs))
+    at_test true h = ap (λ zs. x ∷ zs) h
+    at_test false h = h
+
+-- a front of a legal history is legal
+pub front-legal : FrontsAreLegal → (setting : Setting) (sub : ℕ) (history : History) (t : ℕ) → setting.nodes ≤ 2 ^ 16
+    → IsLegal setting sub history → IsLegal setting sub (take t history)
+front-legal fronts setting sub history t low legal =
+    let same : puts_to sub (take t history) ≡ take (length (puts_to sub (take t history)))
+    (puts_to sub history) = filter-front (λ (v : Visit). is_put_for sub v.act) t history in
+    subst (ArePuts setting sub) (sym same)
+    (fronts setting sub (puts_to sub history) (length (puts_to sub (take t history))) low
+    (omega (arith, ap length same, length-take (length (puts_to sub (take t history))) (puts_to sub history)))
+    legal)
+
+-- more visits only add commits
+pub commits-append : (sub : ℕ) (xs ys : History) → commits sub (xs ++ ys) ≡ commits sub xs ++ commits sub ys
+commits-append sub xs ys =
+    ap (filter_map (λ (v : Visit). commit_of (node_put v.act) (mark_put v.act)))
+    (filter-append (λ (v : Visit). is_put_for sub v.act) xs ys)
+    ∙ filter_map-append (λ (v : Visit). commit_of (node_put v.act) (mark_put v.act)) (puts_to sub xs) (puts_to sub ys)
+
+take-further : (k t : ℕ) (xs : History) → (rest : History) × (take (k + t) xs ≡ take t xs ++ rest)
+take-further k zero xs = (take (k + 0) xs, refl)
+take-further k (suc t) [] = ([], at_length (k + suc t))
+  where
+    at_length : (n : ℕ) → take {A = Visit} n [] ≡ []
+    at_length zero = refl
+    at_length (suc n) = refl
+take-further k (suc t) (x ∷ xs) =
+    let more = take-further k t xs in
+    let e : k + suc t ≡ suc (k + t) = omega arith in (more.0, rw e (ap (λ zs. x ∷ zs) more.1))
+
+pub number-grows : (sub t u : ℕ) (history : History) → t ≤ u
+    → number sub (take t history) ≤ number sub (take u history)
+number-grows sub t u history h =
+    let more = take-further (u - t) t history in
+    let e : (u - t) + t ≡ u = omega arith in
+    let longer : commits sub (take u history) ≡ commits sub (take t history) ++ commits sub more.0 = ap
+    (λ n. commits sub (take n history)) (sym e) ∙ (ap (commits sub) more.1
+    ∙ commits-append sub (take t history) more.0) in
+    omega (arith, ap length longer, length-append (commits sub (take t history)) (commits sub more.0))
+
+-- after a look all is as before
+pub through-look : (actor : ℕ) (key : Key) (t : ℕ) (history : History)
+    → slice_get history t ≡ Some (look_by actor key) → through t history ≡ before t history ++ look_by actor key ∷ []
+through-look actor key t history h = take-more history t (look_by actor key) h
+
+pub puts-look : (sub actor : ℕ) (key : Key) (history : History)
+    → puts_to sub (history ++ look_by actor key ∷ []) ≡ puts_to sub history
+puts-look sub actor key history = puts-push sub history (look_by actor key) ∙ append-nil (puts_to sub history)
+
+pub through-puts : (sub actor : ℕ) (key : Key) (t : ℕ) (history : History)
+    → slice_get history t ≡ Some (look_by actor key) → puts_to sub (through t history)
+    ≡ puts_to sub (before t history)
+through-puts sub actor key t history h = ap (puts_to sub) (through-look actor key t history h)
+    ∙ puts-look sub actor key (before t history)

@@ -1,0 +1,179 @@
+-- What the ways along the marks weigh: no level has gathered its threshold, so that the trail from its address is short.
+use Rattle.std.proofs.Common.{◌≡◌, ℕ, ◌+◌, ◌*◌, ◌<◌, ◌≤◌, List, [], ◌∷◌, ◌++◌, length, map, take, drop, refl, sym, ap, ◌∙◌, subst, arith, length-append}
+use Rattle.std.specs.Prelude.{sum_by}
+use Rattle.std.proofs.lemmas.List.{drop-append-le, length-map}
+use Rattle.std.proofs.lemmas.List.Sums.{sum_by_push}
+use Rattle.entry_word.specs.declared.mark.PresenceMark.{PresenceMark}
+use Rattle.entry_word.specs.declared.mark.PresenceMark.TheVariants.{Coming}
+use Rattle.directory.specs.Settings.{Setting}
+use Rattle.directory.specs.Courses.{Move, Course, address_node, base, last_stop}
+use Rattle.directory.specs.Standing.{commit_by}
+use Rattle.trail_laws.specs.Trail.{IsMetric}
+use Rattle.trail_laws.proofs.Links.{IsSound, base-low, stop-inside}
+use Rattle.trail_laws.proofs.ClosedMarks.{IsNext, mark_passing}
+use Rattle.trail_laws.proofs.Chases.{stops-inside, way-short, weight_from}
+use Rattle.trail_laws.proofs.Tells.{next-stands, rest-stands, stands}
+use Rattle.trail_laws.proofs.Leads.{passing-at_to, stop-end}
+
+-- after each of these moves each level has gathered less than its threshold
+abbrev pub AreLazy : Setting → List Move → Type 0
+AreLazy setting moves =
+    (k level : ℕ) → k ≤ length moves → level ≤ setting.top
+    → weight_from (take k moves) (base level (take k moves)) < setting.threshold level
+
+-- a passage that is open weighs at most so much
+abbrev pub IsOpenAtMost : Setting → (ℕ → PresenceMark) → ℕ → ℕ → ℕ → Type 0
+IsOpenAtMost setting marks last number pass =
+    (p u : ℕ) → marks last ≡ Coming p u → p ≡ number → setting.distance u last ≤ pass
+
+-- the way from the node of an address of a level is short
+abbrev pub IsPriced : Setting → (ℕ → PresenceMark) → ℕ → ℕ → List Move → ℕ → ℕ → ℕ → Type 0
+IsPriced setting marks last number moves level node most_way =
+    (pass : ℕ) → IsMetric setting → AreLazy setting moves → IsOpenAtMost setting marks last number pass
+    → most_way + 2 ≤ 2 * setting.threshold level + setting.distance node last + 2 * pass
+
+take-left : (xs ys : List Move) → take (length xs) (xs ++ ys) ≡ xs
+take-left [] ys = refl
+take-left (x ∷ xs) ys = ap (λ zs. x ∷ zs) (take-left xs ys)
+
+take-whole : (xs : List Move) → take (length xs) xs ≡ xs
+take-whole [] = refl
+take-whole (x ∷ xs) = ap (λ zs. x ∷ zs) (take-whole xs)
+
+pub lazy-whole : (setting : Setting) (moves : List Move) (level : ℕ) → level ≤ setting.top → AreLazy setting moves
+    → weight_from moves (base level moves) < setting.threshold level
+lazy-whole setting moves level below lazy =
+    subst (λ (ms : List Move). weight_from ms (base level ms) < setting.threshold level) (take-whole moves)
+    (lazy (length moves) level (omega arith) below)
+
+pub lazy-front : (setting : Setting) (xs ys : List Move) (level : ℕ) → level ≤ setting.top
+    → AreLazy setting (xs ++ ys) → weight_from xs (base level xs) < setting.threshold level
+lazy-front setting xs ys level below lazy =
+    subst (λ (ms : List Move). weight_from ms (base level ms) < setting.threshold level) (take-left xs ys)
+    (lazy (length xs) level (omega (arith, length-append xs ys)) below)
+
+pub weight-push : (moves : List Move) (move : Move) (b : ℕ) → b ≤ length moves
+    → weight_from (moves ++ move ∷ []) b ≡ weight_from moves b + move.weight
+weight-push moves move b low = ap (sum_by (λ (m : Move). m.weight)) (drop-append-le b moves (move ∷ []) low)
+    ∙ sum_by_push (λ (m : Move). m.weight) (drop b moves) move
+
+-- how far the address of a level is from the last stop
+pub address-near : (setting : Setting) (course : Course) (level : ℕ) → IsSound setting course → IsMetric setting
+    → setting.distance (address_node course level) (last_stop course) ≤ weight_from course.moves
+    (base level course.moves)
+address-near setting course level sound metric =
+    subst (λ n. setting.distance (address_node course level) n ≤ weight_from course.moves (base level course.moves))
+    (stop-end course.start course.moves)
+    (way-short setting course.start 0 course.moves (base level course.moves) sound.linked sound.begins metric
+    (base-low setting course level sound))
+
+pub address-inside : (setting : Setting) (course : Course) (level : ℕ) → IsSound setting course
+    → address_node course level < setting.nodes
+address-inside setting course level sound = stops-inside setting course.start 0 course.moves
+    (base level course.moves) sound.linked sound.begins (base-low setting course level sound)
+
+pub price-rest : (setting : Setting) (marks : ℕ → PresenceMark) (course : Course) (level last number : ℕ)
+    → level ≤ setting.top
+    → IsPriced setting marks last number course.moves level (address_node course level)
+    (weight_from course.moves (base level course.moves))
+price-rest setting marks course level last number below pass metric lazy opens = omega (
+  arith,
+  lazy-whole setting course.moves level below lazy,
+)
+
+pub price-coming : (setting : Setting) (marks : ℕ → PresenceMark) (course : Course) (move : Move)
+    (level last number : ℕ) → level ≤ setting.top
+    → IsPriced setting marks last number (course.moves ++ move ∷ []) level (address_node course level)
+    (weight_from course.moves (base level course.moves) + 0)
+price-coming setting marks course move level last number below pass metric lazy opens = omega (
+  arith,
+  lazy-front setting course.moves (move ∷ []) level below lazy,
+)
+
+pub price-coming_new : (setting : Setting) (from : ℕ) (marks : ℕ → PresenceMark) (course : Course) (move : Move)
+    (level number : ℕ) → course.start ≡ from → level ≤ setting.top
+    → IsPriced setting marks (stands from (map commit_by course.moves)) number (course.moves ++ move ∷ []) level move.to
+    (setting.distance move.to (last_stop course) + 0)
+price-coming_new setting from marks course move level number begins below pass metric lazy opens = omega (
+  arith,
+  lazy-front setting course.moves (move ∷ []) level below lazy,
+  ap (setting.distance move.to) (rest-stands course from begins),
+)
+
+-- the passage that a move opens
+passing-pass : (setting : Setting) (from : ℕ) (marks : ℕ → PresenceMark) (course : Course) (move : Move) (pass : ℕ)
+    → IsSound setting course → IsNext setting course move → course.start ≡ from
+    → ((v : ℕ) → v < setting.nodes → marks v ≡ mark_passing setting course move v)
+    → IsOpenAtMost setting marks (stands from (map commit_by (course.moves ++ move ∷ [])))
+    (length (map commit_by (course.moves ++ move ∷ []))) pass
+    → setting.distance move.from move.to ≤ pass
+passing-pass setting from marks course move pass sound next begins marks_are opens =
+    subst (λ n. setting.distance move.from n ≤ pass) stood
+    (opens move.number move.from (ap marks stood ∙ passing-at_to setting course move marks sound next marks_are)
+    (omega (
+      arith,
+      next.number,
+      length-append course.moves (move ∷ []),
+      length-map (course.moves ++ move ∷ []) commit_by,
+    )))
+  where
+    stood : stands from (map commit_by (course.moves ++ move ∷ [])) ≡ move.to
+    stood = next-stands setting course move from next begins
+
+pub price-passing : (setting : Setting) (from : ℕ) (marks : ℕ → PresenceMark) (course : Course) (move : Move)
+    (level : ℕ) → IsSound setting course → IsNext setting course move → course.start ≡ from → level ≤ setting.top
+    → ((v : ℕ) → v < setting.nodes → marks v ≡ mark_passing setting course move v)
+    → IsPriced setting marks (stands from (map commit_by (course.moves ++ move ∷ [])))
+    (length (map commit_by (course.moves ++ move ∷ []))) (course.moves ++ move ∷ []) level (address_node course level)
+    (weight_from course.moves (base level course.moves) + 2 * setting.distance move.from move.to)
+price-passing setting from marks course move level sound next begins below marks_are pass metric lazy opens = omega (
+  arith,
+  lazy-front setting course.moves (move ∷ []) level below lazy,
+  passing-pass setting from marks course move pass sound next begins marks_are opens,
+)
+
+pub price-passing_new : (setting : Setting) (from : ℕ) (marks : ℕ → PresenceMark) (course : Course) (move : Move)
+    (level : ℕ) → IsSound setting course → IsNext setting course move → course.start ≡ from → level ≤ setting.top
+    → ((v : ℕ) → v < setting.nodes → marks v ≡ mark_passing setting course move v)
+    → IsPriced setting marks (stands from (map commit_by (course.moves ++ move ∷ [])))
+    (length (map commit_by (course.moves ++ move ∷ []))) (course.moves ++ move ∷ []) level move.to
+    (setting.distance move.to move.from + (setting.distance move.from move.to + 0))
+price-passing_new setting from marks course move level sound next begins below marks_are pass metric lazy opens = omega (
+  arith,
+  lazy-front setting course.moves (move ∷ []) level below lazy,
+  passing-pass setting from marks course move pass sound next begins marks_are opens,
+  metric.both_ways move.to move.from next.inside
+      (subst (λ n. n < setting.nodes) (sym next.from) (stop-inside setting course sound)),
+)
+
+pub price-new : (setting : Setting) (marks : ℕ → PresenceMark) (course : Course) (move : Move)
+    (level last number : ℕ) → level ≤ setting.top
+    → IsPriced setting marks last number (course.moves ++ move ∷ []) level move.to 0
+price-new setting marks course move level last number below pass metric lazy opens = omega (
+  arith,
+  lazy-front setting course.moves (move ∷ []) level below lazy,
+)
+
+pub price-clearing : (setting : Setting) (from : ℕ) (marks : ℕ → PresenceMark) (course : Course) (move : Move)
+    (level number : ℕ) → IsSound setting course → IsNext setting course move → course.start ≡ from
+    → level ≤ setting.top
+    → IsPriced setting marks (stands from (map commit_by (course.moves ++ move ∷ []))) number
+    (course.moves ++ move ∷ []) level (address_node course level)
+    (weight_from (course.moves ++ move ∷ []) (base level course.moves))
+price-clearing setting from marks course move level number sound next begins below pass metric lazy opens = omega (
+  arith,
+  lazy-front setting course.moves (move ∷ []) level below lazy,
+  weight-push course.moves move (base level course.moves) (base-low setting course level sound),
+  next.weight,
+  metric.detour move.from (address_node course level) move.to from_inside old_inside next.inside,
+  metric.both_ways move.from (address_node course level) from_inside old_inside,
+  ap (setting.distance (address_node course level)) next.from,
+  address-near setting course level sound metric,
+  ap (setting.distance (address_node course level)) (next-stands setting course move from next begins),
+)
+  where
+    from_inside : move.from < setting.nodes
+    from_inside = subst (λ n. n < setting.nodes) (sym next.from) (stop-inside setting course sound)
+
+    old_inside : address_node course level < setting.nodes
+    old_inside = address-inside setting course level sound

@@ -1,0 +1,596 @@
+-- A quiet find has its answer: what it stands on stays while no visit of a move is made.
+use Rattle.std.proofs.Common.{◌≡◌, ◌≢◌, ◌⊎◌, inl, inr, ℕ, zero, suc, ◌+◌, ◌-◌, ◌*◌, ◌<◌, ◌≤◌, ◌^◌, Bool, true, false, cond, ◌==◌, ◌||◌, List, [], ◌∷◌, ◌++◌, Option, Some, None, length, map, fold, refl, sym, ap, ◌∙◌, subst, arith}
+use Rattle.std.specs.Prelude.{All, flat_map, is_some, slice_get}
+use Rattle.std.proofs.lemmas.Bool.{eqb-true}
+use Rattle.std.proofs.lemmas.Bool.Decides.{nat_tests}
+use Rattle.std.proofs.lemmas.List.Elements.{All-head, All-tail}
+use Rattle.std.proofs.lemmas.Option.{slice_get_within}
+use Rattle.node_set.specs.Ascending.{has}
+use Rattle.entry_word.specs.Marks.{mark_in}
+use Rattle.entry_word.specs.Addresses.{address_in}
+use Rattle.entry_word.specs.declared.address.Address.{Address}
+use Rattle.entry_word.specs.declared.mark.PresenceMark.{PresenceMark}
+use Rattle.entry_word.specs.declared.mark.PresenceMark.TheVariants.{Empty, Here, Gone, Coming, Off}
+use Rattle.entry_word.specs.declared.visit.Key.{Key}
+use Rattle.entry_word.specs.declared.visit.Key.TheVariants.{Presence, Entry}
+use Rattle.entry_word.specs.declared.visit.Visit.{Visit}
+use Rattle.directory.specs.Settings.{levels, Setting}
+use Rattle.directory.specs.Histories.{before, cell, History, words_at}
+use Rattle.directory.specs.Writes.{numbers_from}
+use Rattle.directory.specs.Legal.{IsLegal}
+use Rattle.directory.specs.Finds.{after_entry, after_mark, after_origin, after_word, all_readers, at_origin, Chase, chases, climb, climbs, ended, find, FindCall, hop, is_known, key_of, known_with, Reader, Stage, way_in, weight_of}
+use Rattle.directory.specs.Looks.{AreLooks, first_of, IsFind, IsQuiet, last_of, look_by, moves_at, moves_by}
+use Rattle.directory.specs.Parts.{known_after, lead}
+use Rattle.directory.specs.Standing.{number, standing}
+use Rattle.directory.specs.StepLaws.{slice_get-within, take-more}
+use Rattle.directory.specs.Statements.{CellsOfPuts, FrontsAreLegal, MarksAreLeft, StepsBeginAtRest}
+use Rattle.directory.specs.declared.answers.Found.{Found}
+use Rattle.directory.specs.declared.answers.Found.TheVariants.{At, Again}
+use Rattle.trail_laws.specs.Trail.{AddressesLead, answers, ComingsLead, entry_seen, IsLed, KnowsAtMost, mark_seen, MarksTell, MarkTells, TopHasEntry}
+use Rattle.trail_laws.specs.Answers.{AgainHasItsCause, IsAnswered, QuietFindsAnswer, ReadsTop}
+use Rattle.trail_laws.specs.Within.{Affords, AffordsAddress, Begins, EntryAsks, IsAtMost, QuietFindsStayWithin}
+use Rattle.trail_laws.proofs.Passing.{front-legal}
+use Rattle.trail_laws.proofs.Right.{gone-known, last-more, Low, read-one, readers-low}
+use Rattle.trail_laws.proofs.Alike.{alike-step, IsAlike, led-alike}
+
+-- what makes a find sure of an answer within what is allowed, at a stage
+abbrev pub IsSure : Setting → ℕ → History → FindCall → (ℕ → Type 0) → Stage → Type 0
+IsSure setting sub seen call Within at_origin = Unit {0}
+IsSure setting sub seen call Within (climbs known weight reader later) =
+    KnowsAtMost (number sub seen) known × Affords setting sub seen call Within weight (reader ∷ later)
+IsSure setting sub seen call Within (chases chase node) =
+    (hops : ℕ) × (way : ℕ) × (hops ≤ chase.hops_left)
+    × IsLed setting (mark_seen setting sub seen) chase.known node (standing setting sub seen) hops way
+    × Within (chase.weight + way)
+IsSure setting sub seen call Within (ended found) = IsAnswered found × Within (weight_of found)
+
+-- ---- it stays
+address-alike : (setting : Setting) (sub : ℕ) (one other : History) (call : FindCall) (Within : ℕ → Type 0)
+    → IsAlike setting sub one other → (weight : ℕ) (reader : Reader) (address : Address)
+    → AffordsAddress setting sub one call Within weight reader address
+    → AffordsAddress setting sub other call Within weight reader address
+address-alike setting sub one other call Within alike weight reader address h known knows =
+    let led = h known (subst (λ n. KnowsAtMost n known) alike.count knows) in (
+      led.0,
+      led.1,
+      led.2,
+      subst (λ n. IsLed setting (mark_seen setting sub other) known address.node n led.0 led.1) (sym alike.stands)
+          (led-alike setting (mark_seen setting sub one) (mark_seen setting sub other) alike.marks known address.node
+          (standing setting sub one) led.0 led.1 led.3),
+      led.4,
+    )
+
+entry-alike : (old new : Option Address) (on other_on : Type 0) (there other_there : Address → Type 0) → new ≡ old
+    → (on → other_on) → ((a : Address) → there a → other_there a) → EntryAsks old on there
+    → EntryAsks new other_on other_there
+entry-alike None None on other_on there other_there same f g h = f h
+entry-alike None (Some b) on other_on there other_there same f g h = cc
+entry-alike (Some a) None on other_on there other_there same f g h = cc
+entry-alike (Some a) (Some b) on other_on there other_there same f g h =
+    let is_one : a ≡ b = cc in subst (λ (x : Address). other_there x) is_one (g a h)
+
+affords-alike : (setting : Setting) (sub : ℕ) (one other : History) (call : FindCall) (Within : ℕ → Type 0)
+    → IsAlike setting sub one other → (weight : ℕ) (readers : List Reader)
+    → Affords setting sub one call Within weight readers → Affords setting sub other call Within weight readers
+unfolding Affords
+affords-alike setting sub one other call Within alike weight [] h = h
+affords-alike setting sub one other call Within alike weight (reader ∷ later) h =
+    entry-alike (entry_seen setting sub one reader.level reader.cluster)
+    (entry_seen setting sub other reader.level reader.cluster) _ _ _ _ (alike.entries reader.level reader.cluster)
+    (affords-alike setting sub one other call Within alike (weight + 2 * way_in setting call reader) later)
+    (λ a. address-alike setting sub one other call Within alike weight reader a) h
+
+pub sure-alike : (setting : Setting) (sub : ℕ) (one other : History) (call : FindCall) (Within : ℕ → Type 0)
+    → IsAlike setting sub one other → (stage : Stage) → IsSure setting sub one call Within stage
+    → IsSure setting sub other call Within stage
+sure-alike setting sub one other call Within alike at_origin sure = tt
+sure-alike setting sub one other call Within alike (climbs known weight reader later) sure = (
+  subst (λ n. KnowsAtMost n known) (sym alike.count) sure.0,
+  affords-alike setting sub one other call Within alike weight (reader ∷ later) sure.1,
+)
+sure-alike setting sub one other call Within alike (chases chase node) sure = (
+  sure.0,
+  sure.1,
+  sure.2,
+  subst (λ n. IsLed setting (mark_seen setting sub other) chase.known node n sure.0 sure.1) (sym alike.stands)
+      (led-alike setting (mark_seen setting sub one) (mark_seen setting sub other) alike.marks chase.known node
+      (standing setting sub one) sure.0 sure.1 sure.3),
+  sure.4,
+)
+sure-alike setting sub one other call Within alike (ended found) sure = sure
+
+-- what is used of the laws
+pub record Used : Type 0 where
+  pub cells : CellsOfPuts
+  pub marks_left : MarksAreLeft
+  pub rests : StepsBeginAtRest
+  pub fronts : FrontsAreLegal
+  pub marks : MarksTell
+  pub addresses : AddressesLead
+  pub comings : ComingsLead
+  pub top : TopHasEntry
+
+-- one ticket on, where it is no visit of a move
+pub sure-next : Used → (setting : Setting) (sub : ℕ) (history : History) (call : FindCall) (Within : ℕ → Type 0)
+    (t : ℕ)
+    (stage : Stage) → setting.nodes ≤ 2 ^ 16 → IsLegal setting sub history → t < length history
+    → moves_at sub history t ≡ false → IsSure setting sub (before t history) call Within stage
+    → IsSure setting sub (before (suc t) history) call Within stage
+sure-next used setting sub history call Within t stage low legal within quiet sure =
+    at_visit (slice_get-within history t within)
+  where
+    at_visit : (visit : Visit) × (slice_get history t ≡ Some visit)
+        → IsSure setting sub (before (suc t) history) call Within stage
+    at_visit (visit, found) =
+        let more : before (suc t) history ≡ before t history ++ visit ∷ [] = take-more history t visit found in
+        subst (λ h. IsSure setting sub h call Within stage) (sym more)
+        (sure-alike setting sub (before t history) (before t history ++ visit ∷ []) call Within
+        (alike-step used.cells used.marks_left used.rests setting sub (before t history) visit low
+        (front-legal used.fronts setting sub history t low legal)
+        (subst (IsLegal setting sub) more (front-legal used.fronts setting sub history (suc t) low legal))
+        (sym (ap (λ o. moves_by sub (before t history) o) found) ∙ quiet)) stage sure)
+
+-- and so it is up to a later ticket
+pub sure-until : Used → (setting : Setting) (sub : ℕ) (history : History) (call : FindCall) (Within : ℕ → Type 0)
+    (k t : ℕ) (stage : Stage) → setting.nodes ≤ 2 ^ 16 → IsLegal setting sub history → k + t ≤ length history
+    → ((u : ℕ) → t ≤ u → u < k + t → moves_at sub history u ≡ false)
+    → IsSure setting sub (before t history) call Within stage
+    → IsSure setting sub (before (k + t) history) call Within stage
+sure-until used setting sub history call Within zero t stage low legal within quiet sure =
+    let e : 0 + t ≡ t = omega arith in rw e sure
+sure-until used setting sub history call Within (suc k) t stage low legal within quiet sure =
+    let e : suc k + t ≡ suc (k + t) = omega arith in
+    rw e (sure-next used setting sub history call Within (k + t) stage low legal (omega arith)
+    (quiet (k + t) (omega arith) (omega arith))
+    (sure-until used setting sub history call Within k t stage low legal (omega arith)
+    (λ u h g. quiet u h (omega arith)) sure))
+
+-- ---- one look
+climb-sure : (setting : Setting) (sub : ℕ) (seen : History) (call : FindCall) (Within : ℕ → Type 0) (known : Option ℕ)
+    (weight : ℕ) (readers : List Reader) → KnowsAtMost (number sub seen) known
+    → Affords setting sub seen call Within weight readers
+    → IsSure setting sub seen call Within (climb known weight readers)
+unfolding Affords
+climb-sure setting sub seen call Within known weight [] knows some = absurd some
+climb-sure setting sub seen call Within known weight (reader ∷ later) knows some = (knows, some)
+
+origin-sure : (setting : Setting) (seen : History) (call : FindCall) (Within : ℕ → Type 0) (mark : PresenceMark)
+    → Begins setting seen call Within → mark_seen setting call.sub seen call.from ≡ mark
+    → MarkTells setting call.sub seen call.from mark
+    → IsSure setting call.sub seen call Within (after_origin setting call mark)
+origin-sure setting seen call Within Empty begins same tells =
+    climb-sure setting call.sub seen call Within None 0 (all_readers setting call.from) tt
+    (begins.climbing (λ p from e. other (sym same ∙ e)) (λ p e. here (sym same ∙ e)) (λ p e. off (sym same ∙ e)))
+  where
+    other : {p from : ℕ} → Empty ≡ Coming p from → ⊥
+    other e = cc
+
+    here : {p : ℕ} → Empty ≡ Here p → ⊥
+    here e = cc
+
+    off : {p : ℕ} → Empty ≡ Off p → ⊥
+    off e = cc
+origin-sure setting seen call Within (Here q) begins same tells = (tt, begins.here)
+origin-sure setting seen call Within (Off q) begins same tells = (tt, begins.here)
+origin-sure setting seen call Within (Gone q to) begins same tells =
+    climb-sure setting call.sub seen call Within (Some q) 0 (all_readers setting call.from)
+    (gone-known setting call.sub seen call.from q to tells)
+    (begins.climbing (λ p from e. other (sym same ∙ e)) (λ p e. here (sym same ∙ e)) (λ p e. off (sym same ∙ e)))
+  where
+    other : {p from : ℕ} → Gone q to ≡ Coming p from → ⊥
+    other e = cc
+
+    here : {p : ℕ} → Gone q to ≡ Here p → ⊥
+    here e = cc
+
+    off : {p : ℕ} → Gone q to ≡ Off p → ⊥
+    off e = cc
+origin-sure setting seen call Within (Coming q from) begins same tells =
+    let there = begins.chasing q from same in
+    (there.0, there.1, omega (arith, there.2), there.3, there.4)
+
+entry-sure : (setting : Setting) (seen : History) (call : FindCall) (Within : ℕ → Type 0) (known : Option ℕ)
+    (weight : ℕ) (reader : Reader) (later : List Reader) (entry : Option Address)
+    → KnowsAtMost (number call.sub seen) known
+    → EntryAsks entry (Affords setting call.sub seen call Within (weight + 2 * way_in setting call reader) later)
+    (λ address. AffordsAddress setting call.sub seen call Within weight reader address)
+    → IsSure setting call.sub seen call Within (after_entry setting call known weight reader later entry)
+entry-sure setting seen call Within known weight reader later None knows some =
+    climb-sure setting call.sub seen call Within known (weight + 2 * way_in setting call reader) later knows some
+entry-sure setting seen call Within known weight reader later (Some address) knows some =
+    let there = some known knows in
+    (there.0, there.1, omega (arith, there.2), there.3, there.4)
+
+-- a hop along what leads
+hop-sure : (setting : Setting) (sub : ℕ) (seen : History) (call : FindCall) (Within : ℕ → Type 0)
+    (known level : Option ℕ) (weight hops_left node to hops way : ℕ) → suc hops ≤ hops_left
+    → IsLed setting (mark_seen setting sub seen) known to (standing setting sub seen) hops way
+    → Within (weight + setting.distance node to + way)
+    → IsSure setting sub seen call Within (hop setting known level weight hops_left node to)
+hop-sure setting sub seen call Within known level weight zero node to hops way few led allowed = absurd (omega arith)
+hop-sure setting sub seen call Within known level weight (suc more) node to hops way few led allowed =
+    (hops, way, omega arith, led, allowed)
+
+mark-sure : (setting : Setting) (sub : ℕ) (seen : History) (call : FindCall) (Within : ℕ → Type 0) (chase : Chase)
+    (node : ℕ) (mark : PresenceMark) → mark_seen setting sub seen node ≡ mark → (hops way : ℕ)
+    → hops ≤ chase.hops_left
+    → IsLed setting (mark_seen setting sub seen) chase.known node (standing setting sub seen) hops way
+    → Within (chase.weight + way) → IsSure setting sub seen call Within (after_mark setting chase node mark)
+unfolding IsLed
+mark-sure setting sub seen call Within chase node Empty same zero way few led allowed =
+    let clash : false ≡ true = sym (ap (answers chase.known) same) ∙ led.1 in cc
+mark-sure setting sub seen call Within chase node (Here q) same zero way few led allowed =
+    (tt, subst Within (let e : chase.weight + way ≡ chase.weight = omega (arith, led.2) in e) allowed)
+mark-sure setting sub seen call Within chase node (Off q) same zero way few led allowed =
+    (tt, subst Within (let e : chase.weight + way ≡ chase.weight = omega (arith, led.2) in e) allowed)
+mark-sure setting sub seen call Within chase node (Gone q to) same zero way few led allowed =
+    let clash : false ≡ true = sym (ap (answers chase.known) same) ∙ led.1 in cc
+mark-sure setting sub seen call Within chase node (Coming q from) same zero way few led allowed =
+    subst (λ b. IsSure setting sub seen call Within
+    (cond b (ended (At node q chase.level chase.weight))
+    (hop setting chase.known chase.level chase.weight chase.hops_left node from)))
+    (sym (sym (ap (answers chase.known) same) ∙ led.1))
+    (tt, subst Within (let e : chase.weight + way ≡ chase.weight = omega (arith, led.2) in e) allowed)
+mark-sure setting sub seen call Within chase node Empty same (suc hops) way few led allowed =
+    let clash : None ≡ Some led.0 = sym (ap (lead chase.known) same) ∙ led.2 in cc
+mark-sure setting sub seen call Within chase node (Here q) same (suc hops) way few led allowed =
+    let clash : None ≡ Some led.0 = sym (ap (lead chase.known) same) ∙ led.2 in cc
+mark-sure setting sub seen call Within chase node (Off q) same (suc hops) way few led allowed =
+    let clash : None ≡ Some led.0 = sym (ap (lead chase.known) same) ∙ led.2 in cc
+mark-sure setting sub seen call Within chase node (Gone q to) same (suc hops) way few led allowed =
+    let at_to : Some to ≡ Some led.0 = sym (ap (lead chase.known) same) ∙ led.2 in
+    let is_to : led.0 ≡ to = cc in
+    hop-sure setting sub seen call Within (known_with q chase.known) chase.level chase.weight chase.hops_left node to
+    hops
+    led.1 few
+    (subst (λ n. IsLed setting (mark_seen setting sub seen) (known_with q chase.known) n
+    (standing setting sub seen) hops
+    led.1) is_to
+    (subst (λ k. IsLed setting (mark_seen setting sub seen) k led.0 (standing setting sub seen) hops led.1)
+    (ap (known_after chase.known) same) led.4))
+    (subst (λ n. Within (chase.weight + setting.distance node n + led.1)) is_to
+    (subst Within (let e : chase.weight + way ≡ chase.weight + setting.distance node led.0 + led.1 = omega
+    (arith, led.3)
+    in e) allowed))
+mark-sure setting sub seen call Within chase node (Coming q from) same (suc hops) way few led allowed =
+    at_known (is_known q chase.known) refl
+  where
+    at_known : (b : Bool) → is_known q chase.known ≡ b
+        → IsSure setting sub seen call Within
+        (cond b (ended (At node q chase.level chase.weight))
+        (hop setting chase.known chase.level chase.weight chase.hops_left node from))
+    at_known true e =
+        let clash : None ≡ Some led.0 =
+        sym (ap (lead chase.known) same ∙ ap (λ b. cond b None (Some from)) e) ∙ led.2 in cc
+    at_known false e =
+        let at_from : Some from ≡ Some led.0 =
+        sym (ap (lead chase.known) same ∙ ap (λ b. cond b None (Some from)) e) ∙ led.2 in
+        let is_from : led.0 ≡ from = cc in
+        hop-sure setting sub seen call Within chase.known chase.level chase.weight chase.hops_left node from hops
+        led.1 few
+        (subst (λ n. IsLed setting (mark_seen setting sub seen) chase.known n (standing setting sub seen) hops led.1)
+        is_from
+        (subst (λ k. IsLed setting (mark_seen setting sub seen) k led.0 (standing setting sub seen) hops led.1)
+        (ap (known_after chase.known) same) led.4))
+        (subst (λ n. Within (chase.weight + setting.distance node n + led.1)) is_from
+        (subst Within (let e2 : chase.weight + way ≡ chase.weight + setting.distance node led.0 + led.1 =
+        omega (arith, led.3) in e2) allowed))
+
+pub look-sure : Used → (setting : Setting) (seen : History) (call : FindCall) (Within : ℕ → Type 0) (stage : Stage)
+    (key : Key) → (stage ≡ at_origin → Begins setting seen call Within) → setting.nodes ≤ 2 ^ 16
+    → call.from < setting.nodes → IsLegal setting call.sub seen → IsSure setting call.sub seen call Within stage
+    → key_of call stage ≡ Some key
+    → IsSure setting call.sub seen call Within (after_word setting call stage (cell setting seen key))
+unfolding Affords
+look-sure used setting seen call Within at_origin key begins low inside legal sure wanted =
+    let e : Presence call.from call.sub ≡ key = cc in
+    subst (λ (k : Key). IsSure setting call.sub seen call Within
+    (after_origin setting call (mark_in (cell setting seen k)))) e
+    (origin-sure setting seen call Within (mark_seen setting call.sub seen call.from) (begins refl) refl
+    (used.marks setting call.sub seen low legal call.from inside))
+look-sure used setting seen call Within (climbs known weight reader later) key begins low inside legal sure wanted =
+    let e : Entry reader.level reader.cluster call.sub ≡ key = cc in
+    subst (λ (k : Key). IsSure setting call.sub seen call Within
+    (after_entry setting call known weight reader later (address_in (cell setting seen k)))) e
+    (entry-sure setting seen call Within known weight reader later
+    (entry_seen setting call.sub seen reader.level reader.cluster) sure.0 sure.1)
+look-sure used setting seen call Within (chases chase node) key begins low inside legal sure wanted =
+    let e : Presence node call.sub ≡ key = cc in
+    subst (λ (k : Key). IsSure setting call.sub seen call Within
+    (after_mark setting chase node (mark_in (cell setting seen k)))) e
+    (mark-sure setting call.sub seen call Within chase node (mark_seen setting call.sub seen node) refl sure.0 sure.1
+    sure.2 sure.3 sure.4)
+look-sure used setting seen call Within (ended found) key begins low inside legal sure wanted = cc
+
+-- ---- all looks
+-- the last look comes no earlier than the first
+pub last-late : (setting : Setting) (history : History) (actor : ℕ) (call : FindCall) (earliest : ℕ) (stage : Stage)
+    (t : ℕ)
+    (later : List ℕ) → AreLooks setting history actor call earliest stage (t ∷ later) → t ≤ last_of (t ∷ later)
+unfolding AreLooks
+last-late setting history actor call earliest stage t [] looks = omega arith
+last-late setting history actor call earliest stage t (u ∷ later) (first, (key, wanted, is_look, rest)) =
+    rw (last-more t u later)
+    (omega (
+      arith,
+      rest.0,
+      last-late setting history actor call (suc t)
+          (after_word setting call stage (cell setting (before t history) key)) u later rest,
+    ))
+
+-- after a look the stage is no more the first
+IsBegun : Stage → Type 0
+IsBegun at_origin = ⊥
+IsBegun (climbs known weight reader later) = Unit {0}
+IsBegun (chases chase node) = Unit {0}
+IsBegun (ended found) = Unit {0}
+
+climb-begun : (known : Option ℕ) (weight : ℕ) (readers : List Reader) → IsBegun (climb known weight readers)
+unfolding IsBegun
+climb-begun known weight [] = tt
+climb-begun known weight (reader ∷ later) = tt
+
+hop-begun : (setting : Setting) (known level : Option ℕ) (weight hops_left node to : ℕ)
+    → IsBegun (hop setting known level weight hops_left node to)
+unfolding IsBegun
+hop-begun setting known level weight zero node to = tt
+hop-begun setting known level weight (suc more) node to = tt
+
+mark-begun : (setting : Setting) (chase : Chase) (node : ℕ) (mark : PresenceMark)
+    → IsBegun (after_mark setting chase node mark)
+unfolding IsBegun
+mark-begun setting chase node Empty = tt
+mark-begun setting chase node (Here q) = tt
+mark-begun setting chase node (Off q) = tt
+mark-begun setting chase node (Gone q to) =
+    hop-begun setting (known_with q chase.known) chase.level chase.weight chase.hops_left node to
+mark-begun setting chase node (Coming q from) = at_known (is_known q chase.known)
+  where
+    at_known : (b : Bool) → IsBegun
+        (cond b (ended (At node q chase.level chase.weight))
+        (hop setting chase.known chase.level chase.weight chase.hops_left node from))
+    at_known true = tt
+    at_known false = hop-begun setting chase.known chase.level chase.weight chase.hops_left node from
+
+origin-begun : (setting : Setting) (call : FindCall) (mark : PresenceMark) → IsBegun (after_origin setting call mark)
+unfolding IsBegun
+origin-begun setting call Empty = climb-begun None 0 (all_readers setting call.from)
+origin-begun setting call (Here q) = tt
+origin-begun setting call (Off q) = tt
+origin-begun setting call (Gone q to) = climb-begun (Some q) 0 (all_readers setting call.from)
+origin-begun setting call (Coming q from) = tt
+
+entry-begun : (setting : Setting) (call : FindCall) (known : Option ℕ) (weight : ℕ) (reader : Reader)
+    (later : List Reader)
+    (entry : Option Address) → IsBegun (after_entry setting call known weight reader later entry)
+unfolding IsBegun
+entry-begun setting call known weight reader later None = climb-begun known
+    (weight + 2 * way_in setting call reader) later
+entry-begun setting call known weight reader later (Some address) = tt
+
+word-begun : (setting : Setting) (call : FindCall) (stage : Stage) (word : ℕ)
+    → IsBegun (after_word setting call stage word)
+unfolding IsBegun
+word-begun setting call at_origin word = origin-begun setting call (mark_in word)
+word-begun setting call (climbs known weight reader later) word =
+    entry-begun setting call known weight reader later (address_in word)
+word-begun setting call (chases chase node) word = mark-begun setting chase node (mark_in word)
+word-begun setting call (ended found) word = tt
+
+begun : (setting : Setting) (call : FindCall) (stage : Stage) (word : ℕ)
+    → after_word setting call stage word ≡ at_origin
+    → ⊥
+unfolding IsBegun
+begun setting call stage word e = subst IsBegun e (word-begun setting call stage word)
+
+sure-looks : Used → (setting : Setting) (history : History) (actor : ℕ) (call : FindCall) (Within : ℕ → Type 0)
+    (found : Found) → setting.nodes ≤ 2 ^ 16 → call.from < setting.nodes → IsLegal setting call.sub history
+    → (later : List ℕ) (t : ℕ) (stage : Stage) → (stage ≡ at_origin → ⊥)
+    → IsSure setting call.sub (before t history) call Within stage
+    → AreLooks setting history actor call (suc t) stage later
+    → ((u : ℕ) → t ≤ u → u ≤ last_of (t ∷ later) → moves_at call.sub history u ≡ false)
+    → fold (after_word setting call) stage (flat_map (words_at setting history) later) ≡ ended found
+    → IsAnswered found × Within (weight_of found)
+unfolding AreLooks
+sure-looks used setting history actor call Within found low inside legal [] t stage is_begun sure looks quiet ends =
+    subst (IsSure setting call.sub (before t history) call Within) ends sure
+sure-looks used setting history actor call Within found low inside legal (u ∷ later) t stage is_begun sure
+    (first, (key, wanted, is_look, rest)) quiet ends =
+    sure-looks used setting history actor call Within found low inside legal later u
+    (after_word setting call stage (cell setting (before u history) key))
+    (begun setting call stage (cell setting (before u history) key))
+    (look-sure used setting (before u history) call Within stage key (λ e. absurd (is_begun e)) low inside
+    (front-legal used.fronts setting call.sub history u low legal) waited wanted) rest
+    (λ x h g. quiet x (omega (arith, first, h)) (omega (arith, g, last-more t u later)))
+    (sym (read-one setting history actor u key call stage later is_look) ∙ ends)
+  where
+    late : u ≤ last_of (u ∷ later)
+    late = last-late setting history actor call (suc t) stage u later (first, (key, wanted, is_look, rest))
+
+    waited : IsSure setting call.sub (before u history) call Within stage
+    waited = let e : (u - t) + t ≡ u = omega (arith, first) in
+        subst (λ n. IsSure setting call.sub (before n history) call Within stage) e
+        (sure-until used setting call.sub history call Within (u - t) t stage low legal
+        (omega (arith, first, slice_get_within history u (look_by actor key) is_look))
+        (λ x h g. quiet x h (omega (arith, first, g, late, last-more t u later))) sure)
+
+-- a quiet find whose beginning is sure has an answer within what is allowed
+pub quiet-within : Used → (setting : Setting) (history : History) (actor : ℕ) (call : FindCall) (Within : ℕ → Type 0)
+    (found : Found) (tickets : List ℕ) → setting.nodes ≤ 2 ^ 16 → call.from < setting.nodes
+    → IsLegal setting call.sub history → Begins setting (before (first_of tickets) history) call Within
+    → IsFind setting history actor call found tickets
+    → IsQuiet history call.sub (first_of tickets) (last_of tickets) → IsAnswered found × Within (weight_of found)
+unfolding AreLooks
+quiet-within used setting history actor call Within found [] low inside legal begins find quiet =
+    let clash : at_origin ≡ ended found = find.answer in cc
+quiet-within used setting history actor call Within found (t ∷ later) low inside legal begins find quiet =
+    at_looks find.looks
+  where
+    at_looks : AreLooks setting history actor call 0 at_origin (t ∷ later) → IsAnswered found
+        × Within (weight_of found)
+    at_looks (first, (key, wanted, is_look, rest)) =
+        sure-looks used setting history actor call Within found low inside legal later t
+        (after_word setting call at_origin (cell setting (before t history) key))
+        (begun setting call at_origin (cell setting (before t history) key))
+        (look-sure used setting (before t history) call Within at_origin key (λ e. begins) low inside
+        (front-legal used.fronts setting call.sub history t low legal) tt wanted) rest quiet
+        (sym (read-one setting history actor t key call at_origin later is_look) ∙ find.answer)
+
+-- ---- without a bound: the home at the top level has an address that the origin reads
+abbrev pub HasReader : Setting → ℕ → History → List Reader → Type 0
+HasReader setting sub seen [] = ⊥
+HasReader setting sub seen (reader ∷ later) =
+    (is_some (entry_seen setting sub seen reader.level reader.cluster) ≡ true) ⊎ HasReader setting sub seen later
+
+abbrev pub Anything : ℕ → Type 0
+Anything weight = Unit {0}
+
+-- the readers of a node have an address: that of the home at the top level
+at-level : (setting : Setting) (sub : ℕ) (seen : History) (level cluster : ℕ) (clusters : List ℕ) (rest : List Reader)
+    → has cluster clusters ≡ true → is_some (entry_seen setting sub seen level cluster) ≡ true
+    → HasReader setting sub seen (map (λ c. record { level = level; cluster = c }) clusters ++ rest)
+at-level setting sub seen level cluster [] rest h some = cc
+at-level setting sub seen level cluster (c ∷ clusters) rest h some = at_test (cluster == c) refl h
+    (λ g. at-level setting sub seen level cluster clusters rest g some)
+  where
+    at_test : (b : Bool) → (cluster == c) ≡ b → (b || has cluster clusters) ≡ true
+        → (has cluster clusters ≡ true → HasReader setting sub seen
+        (map (λ x. record { level = level; cluster = x }) clusters ++ rest))
+        → HasReader setting sub seen (record { level = level; cluster = c } ∷
+        (map (λ x. record { level = level; cluster = x }) clusters ++ rest))
+    at_test true e g more = inl (ap (λ x. is_some (entry_seen setting sub seen level x)) (sym (eqb-true cluster c e))
+        ∙ some)
+    at_test false e g more = inr (more g)
+
+passed : (setting : Setting) (sub : ℕ) (seen : History) (xs ys : List Reader) → HasReader setting sub seen ys
+    → HasReader setting sub seen (xs ++ ys)
+passed setting sub seen [] ys h = h
+passed setting sub seen (x ∷ xs) ys h = inr (passed setting sub seen xs ys h)
+
+from-level : (setting : Setting) (sub node : ℕ) (seen : History) (cluster first count : ℕ) → first ≤ setting.top
+    → setting.top < first + count → has cluster (setting.readers setting.top node) ≡ true
+    → is_some (entry_seen setting sub seen setting.top cluster) ≡ true
+    → HasReader setting sub seen (flat_map (λ level. map (λ c. record { level = level; cluster = c })
+    (setting.readers level node)) (numbers_from first count))
+from-level setting sub node seen cluster first zero low high h some = absurd (omega arith)
+from-level setting sub node seen cluster first (suc count) low high h some = at_place (cases first setting.top)
+    (λ less. from-level setting sub node seen cluster (suc first) count less (omega arith) h some)
+  where
+    cases : (a b : ℕ) → (a ≡ b) ⊎ (a ≢ b)
+    cases a b = grind (arith, nat_tests)
+
+    at_place : (first ≡ setting.top) ⊎ (first ≢ setting.top)
+        → (suc first ≤ setting.top → HasReader setting sub seen
+        (flat_map (λ level. map (λ c. record { level = level; cluster = c }) (setting.readers level node))
+        (numbers_from (suc first) count)))
+        → HasReader setting sub seen (map (λ c. record { level = first; cluster = c })
+        (setting.readers first node) ++ flat_map (λ level. map (λ c. record { level = level; cluster = c })
+        (setting.readers level node)) (numbers_from (suc first) count))
+    at_place (inl e) more = at-level setting sub seen first cluster (setting.readers first node) _
+        (ap (λ l. has cluster (setting.readers l node)) e ∙ h)
+        (ap (λ l. is_some (entry_seen setting sub seen l cluster)) e ∙ some)
+    at_place (inr other) more = passed setting sub seen
+        (map (λ c. record { level = first; cluster = c }) (setting.readers first node)) _
+        (more (let less : first < setting.top = grind (arith, nat_tests, other, low) in omega (arith, less)))
+
+pub readers-have : Used → (setting : Setting) (sub node : ℕ) (seen : History) → setting.nodes ≤ 2 ^ 16
+    → ReadsTop setting → node < setting.nodes → IsLegal setting sub seen
+    → HasReader setting sub seen (all_readers setting node)
+readers-have used setting sub node seen low reads inside legal =
+    let there = used.top setting sub seen low legal in
+    from-level setting sub node seen (setting.home setting.top there.0) 0 (levels setting) (omega arith) (omega arith)
+    (reads there.0 node there.2 inside) (ap is_some there.3)
+
+affords-any : Used → (setting : Setting) (seen : History) (call : FindCall) (weight : ℕ) (readers : List Reader)
+    → setting.nodes ≤ 2 ^ 16 → IsLegal setting call.sub seen → All (Low setting) readers
+    → HasReader setting call.sub seen readers → Affords setting call.sub seen call Anything weight readers
+unfolding Affords
+affords-any used setting seen call weight [] low legal all some = absurd some
+affords-any used setting seen call weight (reader ∷ later) low legal all some =
+    at_entry (entry_seen setting call.sub seen reader.level reader.cluster) refl some
+    (λ h. affords-any used setting seen call (weight + 2 * way_in setting call reader) later low legal
+    (All-tail (Low setting) reader later all) h)
+  where
+    at_entry : (entry : Option Address) → entry_seen setting call.sub seen reader.level reader.cluster ≡ entry
+        → (is_some (entry_seen setting call.sub seen reader.level reader.cluster) ≡ true)
+        ⊎ HasReader setting call.sub seen later
+        → (HasReader setting call.sub seen later
+        → Affords setting call.sub seen call Anything (weight + 2 * way_in setting call reader) later)
+        → EntryAsks entry (Affords setting call.sub seen call Anything
+        (weight + 2 * way_in setting call reader) later)
+        (λ address. AffordsAddress setting call.sub seen call Anything weight reader address)
+    at_entry None e (inl h) more = let clash : false ≡ true = sym (ap is_some e) ∙ h in cc
+    at_entry None e (inr h) more = more h
+    at_entry (Some address) e h more = λ known knows.
+        let there = used.addresses setting call.sub seen low legal reader.level reader.cluster address known
+        (All-head (Low setting) reader later all) e knows in
+        (there.0, there.1, there.2, there.3, tt)
+
+pub quiet-answers : Used → QuietFindsAnswer
+quiet-answers used setting history actor call found tickets low reads inside legal find quiet =
+    (quiet-within used setting history actor call Anything found tickets low inside legal begins find quiet).0
+  where
+    seen : History
+    seen = before (first_of tickets) history
+
+    legal_seen : IsLegal setting call.sub (before (first_of tickets) history)
+    legal_seen = front-legal used.fronts setting call.sub history (first_of tickets) low legal
+
+    begins : Begins setting (before (first_of tickets) history) call Anything
+    begins = record {
+      here = tt;
+      climbing = λ c h o. affords-any used setting (before (first_of tickets) history) call 0
+          (all_readers setting call.from)
+          low legal_seen (readers-low setting call.from)
+          (readers-have used setting call.sub call.from
+          (before (first_of tickets) history) low reads inside legal_seen);
+      chasing = λ p from e.
+          let there = used.comings setting call.sub (before (first_of tickets) history) low legal_seen call.from p
+          from None
+          inside e tt in
+          (there.0, there.1, there.2, there.3, tt);
+    }
+
+-- either all tickets of a range are quiet, or one isn't
+either-quiet : (sub : ℕ) (history : History) (first count : ℕ)
+    → ((u : ℕ) → first ≤ u → u < first + count → moves_at sub history u ≡ false)
+    ⊎ ((ticket : ℕ) × (first ≤ ticket) × (ticket < first + count) × (moves_at sub history ticket ≡ true))
+either-quiet sub history first zero = inl (λ u h g. absurd (omega arith))
+either-quiet sub history first (suc count) = at_more (moves_at sub history (first + count)) refl
+    (either-quiet sub history first count)
+  where
+    at_more : (b : Bool) → moves_at sub history (first + count) ≡ b
+        → ((u : ℕ) → first ≤ u → u < first + count → moves_at sub history u ≡ false)
+        ⊎ ((ticket : ℕ) × (first ≤ ticket) × (ticket < first + count) × (moves_at sub history ticket ≡ true))
+        → ((u : ℕ) → first ≤ u → u < first + suc count → moves_at sub history u ≡ false)
+        ⊎ ((ticket : ℕ) × (first ≤ ticket) × (ticket < first + suc count) × (moves_at sub history ticket ≡ true))
+    at_more b e (inr found) = inr (found.0, found.1, omega (arith, found.2), found.3)
+    at_more true e (inl all) = inr (first + count, omega arith, omega arith, e)
+    at_more false e (inl all) = inl (λ u h g. at_place u h (cases u (first + count)) g)
+      where
+        cases : (a b : ℕ) → (a < b) ⊎ (b ≤ a)
+        cases a b = grind (arith, nat_tests)
+
+        at_place : (u : ℕ) → first ≤ u → (u < first + count) ⊎ (first + count ≤ u) → u < first + suc count
+            → moves_at sub history u ≡ false
+        at_place u h (inl low) g = all u h low
+        at_place u h (inr high) g = let same : u ≡ first + count = omega arith in ap (moves_at sub history) same ∙ e
+
+pub again-cause : Used → AgainHasItsCause
+again-cause used setting history actor call why weight tickets low reads inside legal find =
+    at_either (either-quiet call.sub history (first_of tickets) (suc (last_of tickets) - first_of tickets))
+  where
+    at_either : ((u : ℕ) → first_of tickets ≤ u → u < first_of tickets + (suc (last_of tickets) - first_of tickets)
+        → moves_at call.sub history u ≡ false)
+        ⊎ ((ticket : ℕ) × (first_of tickets ≤ ticket) × (ticket < first_of tickets +
+        (suc (last_of tickets) - first_of tickets)) × (moves_at call.sub history ticket ≡ true))
+        → (ticket : ℕ) × (first_of tickets ≤ ticket) × (ticket ≤ last_of tickets)
+        × (moves_at call.sub history ticket ≡ true)
+    at_either (inl all) = absurd (quiet-answers used setting history actor call
+        (Again why weight) tickets low reads inside legal find (λ u h g. all u h (omega arith)))
+    at_either (inr found) = (found.0, found.1, omega (arith, found.1, found.2), found.3)
+
+-- a quiet find whose beginning is sure of a bound stays within it
+pub quiet-stays : Used → QuietFindsStayWithin
+quiet-stays used setting history actor call found tickets most low inside legal begins find quiet =
+    quiet-within used setting history actor call (IsAtMost most) found tickets low inside legal begins find quiet

@@ -1,0 +1,121 @@
+-- How far the marks lead in each phase, and what rest is.
+use Rattle.std.proofs.Common.{◌≡◌, ◌≢◌, ℕ, ◌<◌, ◌≤◌, Bool, true, false, cond, Some, length, map, refl, sym, ap, ◌∙◌, arith}
+use Rattle.std.specs.Prelude.{filter_map}
+use Rattle.std.proofs.lemmas.Bool.{eq-eqb}
+use Rattle.std.proofs.lemmas.List.{length-drop, length-map, take_all}
+use Rattle.entry_word.specs.declared.address.Address.{Address}
+use Rattle.entry_word.specs.declared.mark.PresenceMark.TheVariants.{Empty, Here, Coming, Off}
+use Rattle.directory.specs.Settings.{start}
+use Rattle.directory.specs.Histories.{puts_to}
+use Rattle.directory.specs.Courses.{Course, course_at, last_stop}
+use Rattle.directory.specs.Writes.{visit_of, visits, writes}
+use Rattle.directory.specs.Puts.{course_in, steps_in}
+use Rattle.directory.specs.Standing.{commit_by, commits, number, standing}
+use Rattle.directory.specs.States.{entry_left, mark_left, write_commit, writes_made}
+use Rattle.trail_laws.specs.Trail.{entry_seen, mark_seen}
+use Rattle.trail_laws.specs.Phases.{AddressesLeadByPhase, IsCurrent, RestIsSettled}
+use Rattle.trail_laws.proofs.Links.{AreLinked, start-kept, stop-inside}
+use Rattle.trail_laws.proofs.ClosedMarks.{since_top, there, trail_mark}
+use Rattle.trail_laws.proofs.ClosedEntries.{entered, rest_entry}
+use Rattle.trail_laws.proofs.Views.{commits-steps, entries-steps, opens-entries, rest-marks_of, sound-script}
+use Rattle.trail_laws.proofs.Tells.{rest-stands, stands}
+use Rattle.trail_laws.proofs.Holders.{IsOld, rest-some}
+use Rattle.trail_laws.proofs.Laws.{Laws, placed}
+use Rattle.trail_laws.proofs.Lazy.{legal-lazy}
+
+pub addresses-by_phase : Laws → AddressesLeadByPhase
+addresses-by_phase laws setting sub history low metric some legal level cluster address known below is_some knows =
+    let its = placed laws setting sub history low legal level cluster address below is_some in
+    let there = its.leads known knows in
+    let lazy = legal-lazy setting sub history some legal in (
+      there.hops,
+      there.way,
+      there.few,
+      there.led,
+      record {
+        before_old = λ all old. omega (arith, there.short metric, its.fine.before_old metric lazy all old);
+        before_new = λ all new. omega (arith, there.short metric, its.fine.before_new metric lazy all new);
+        passing = λ from comes. omega (arith, there.short metric, its.fine.passing metric lazy from comes);
+        settled = λ is. omega (arith, there.short metric, its.fine.settled metric lazy is.0 is.1);
+        current = λ is same. omega (arith, there.short metric, its.fine.current metric lazy is.0 is.1 same);
+      },
+    )
+
+not-coming : (course : Course) (p u : ℕ) → there course ≡ Coming p u → ⊥
+not-coming course p u h = at_state course.is_off h
+  where
+    at_state : (b : Bool) → cond b (Off (length course.moves)) (Here (length course.moves)) ≡ Coming p u → ⊥
+    at_state true g = cc
+    at_state false g = cc
+
+pub rest-settled : Laws → RestIsSettled
+unfolding AreLinked IsOld
+rest-settled laws setting sub history low legal rest = ((all, other), current)
+  where
+    done : length (visits setting sub (steps_in (puts_to sub history))) ≤ length (puts_to sub history)
+    done = omega (
+      arith,
+      length-drop (length (puts_to sub history)) (visits setting sub (steps_in (puts_to sub history))),
+      ap length rest,
+    )
+
+    all_made : writes_made setting sub (puts_to sub history)
+        ≡ writes setting (course_at (start setting sub)) (steps_in (puts_to sub history))
+    all_made = take_all (length (puts_to sub history))
+        (writes setting (course_at (start setting sub)) (steps_in (puts_to sub history)))
+        (omega (
+          arith,
+          done,
+          length-map (writes setting (course_at (start setting sub)) (steps_in (puts_to sub history))) (visit_of sub),
+        ))
+
+    told : commits sub history ≡ map commit_by (course_in setting sub (puts_to sub history)).moves
+    told = laws.told setting sub history low legal ∙ (ap (filter_map write_commit) all_made
+        ∙ commits-steps setting (course_at (start setting sub)) (steps_in (puts_to sub history)))
+
+    all : length (course_in setting sub (puts_to sub history)).moves ≡ number sub history
+    all = omega (
+      arith,
+      ap length told,
+      length-map (course_in setting sub (puts_to sub history)).moves commit_by,
+    )
+
+    stood : standing setting sub history ≡ last_stop (course_in setting sub (puts_to sub history))
+    stood = ap (stands (start setting sub)) told ∙ rest-stands (course_in setting sub (puts_to sub history))
+        (start setting sub) (start-kept setting (course_at (start setting sub)) (steps_in (puts_to sub history)))
+
+    inside : last_stop (course_in setting sub (puts_to sub history)) < setting.nodes
+    inside = stop-inside setting (course_in setting sub (puts_to sub history))
+        (sound-script setting sub (steps_in (puts_to sub history)) legal.script)
+
+    its_mark : mark_seen setting sub history (last_stop (course_in setting sub (puts_to sub history)))
+        ≡ there (course_in setting sub (puts_to sub history))
+    its_mark = laws.marks setting sub history low legal (last_stop (course_in setting sub (puts_to sub history)))
+        ∙ (ap (λ ws. mark_left setting sub ws (last_stop (course_in setting sub (puts_to sub history)))) all_made
+        ∙ (rest-marks_of setting sub (steps_in (puts_to sub history))
+        (last_stop (course_in setting sub (puts_to sub history))) legal.script inside
+        ∙ ap (λ b. cond b (there (course_in setting sub (puts_to sub history)))
+        (trail_mark (since_top setting (course_in setting sub (puts_to sub history)))
+        (last_stop (course_in setting sub (puts_to sub history))) Empty))
+        (eq-eqb (last_stop (course_in setting sub (puts_to sub history)))
+        (last_stop (course_in setting sub (puts_to sub history))) refl)))
+
+    other : (from : ℕ) → mark_seen setting sub history (standing setting sub history) ≢ Coming (number sub history) from
+    other from comes = not-coming (course_in setting sub (puts_to sub history)) (number sub history) from
+        (sym its_mark ∙ (ap (mark_seen setting sub history) (sym stood) ∙ comes))
+
+    current : (level cluster : ℕ) (address : Address) → level ≤ setting.top
+        → entry_seen setting sub history level cluster ≡ Some address → IsCurrent setting sub history level address
+    current level cluster address below is_some =
+        ap (λ (a : Address). a.number) (rest-some setting (course_in setting sub (puts_to sub history)) level cluster
+        address (sym its_entry ∙ is_some)).0
+      where
+        its_entry : entry_seen setting sub history level cluster
+            ≡ rest_entry setting (course_in setting sub (puts_to sub history)) level cluster
+        its_entry = laws.entries setting sub history low legal level cluster
+            ∙ (ap (λ ws. entry_left setting sub ws level cluster) all_made
+            ∙ (ap (λ e. entered level cluster e
+            (writes setting (course_at (start setting sub)) (steps_in (puts_to sub history))))
+            (opens-entries setting sub level cluster legal.script.known below)
+            ∙ entries-steps setting (course_at (start setting sub)) (steps_in (puts_to sub history)) level cluster
+            (record { begins = legal.script.begins; linked = tt }) legal.script.allowed))

@@ -1,0 +1,326 @@
+-- The answers of finds are right: what is known grows with the commits, and the mark that answers says where the subscriber stands.
+use Rattle.std.proofs.Common.{◌≡◌, ◌⊎◌, inl, inr, ℕ, zero, suc, ◌+◌, ◌-◌, ◌*◌, ◌<◌, ◌≤◌, ◌^◌, Bool, true, false, cond, List, [], ◌∷◌, ◌++◌, Option, Some, None, length, map, fold, refl, sym, ap, ◌∙◌, subst, arith}
+use Rattle.std.specs.Prelude.{All, filter_map, flat_map, slice_get, slice_index}
+use Rattle.std.proofs.lemmas.Bool.Decides.{nat_tests}
+use Rattle.std.proofs.lemmas.List.Elements.{All-append, All-cons, All-head, All-nil, All-tail}
+use Rattle.std.proofs.lemmas.Option.{slice_get_within}
+use Rattle.entry_word.specs.Marks.{mark_in}
+use Rattle.entry_word.specs.Addresses.{address_in}
+use Rattle.entry_word.specs.declared.address.Address.{Address}
+use Rattle.entry_word.specs.declared.mark.PresenceMark.{PresenceMark}
+use Rattle.entry_word.specs.declared.mark.PresenceMark.TheVariants.{Empty, Here, Gone, Coming, Off}
+use Rattle.entry_word.specs.declared.visit.Key.{Key}
+use Rattle.entry_word.specs.declared.visit.Key.TheVariants.{Presence, Entry}
+use Rattle.directory.specs.Settings.{levels, Setting, start}
+use Rattle.directory.specs.Histories.{before, cell, History, through, words_at, words_by}
+use Rattle.directory.specs.Writes.{numbers_from}
+use Rattle.directory.specs.Legal.{IsLegal}
+use Rattle.directory.specs.Finds.{after_entry, after_mark, after_origin, after_word, all_readers, at_origin, Chase, chases, climb, climbs, ended, find, FindCall, hop, is_known, key_of, known_with, Reader, Stage, way_in}
+use Rattle.directory.specs.Looks.{AreLooks, last_of, look_by}
+use Rattle.entry_word.specs.declared.visit.Visit.{Visit}
+use Rattle.directory.specs.Puts.{ends_off, mark_put, node_put}
+use Rattle.directory.specs.Standing.{Commit, commit_of, commits, number, off, standing}
+use Rattle.directory.specs.Statements.{FrontsAreLegal}
+use Rattle.directory.specs.declared.answers.Found.{Found}
+use Rattle.directory.specs.declared.answers.Found.TheVariants.{At, Off as OffAt, Again}
+use Rattle.trail_laws.specs.Trail.{entry_seen, EntryTells, EntriesTell, KnowsAtMost, mark_seen, MarksTell, MarkTells}
+use Rattle.trail_laws.specs.Answers.{AnswersAreRight, HasNumber, IsRight, NumbersNeverFall}
+use Rattle.trail_laws.proofs.Passing.{front-legal, number-grows, through-puts}
+
+-- a stage that isn't the end
+abbrev pub IsUnderWay : Stage → Type 0
+IsUnderWay at_origin = Unit {0}
+IsUnderWay (climbs known weight reader later) = Unit {0}
+IsUnderWay (chases chase node) = Unit {0}
+IsUnderWay (ended found) = ⊥
+
+-- what a find knows at a stage is at most the number, and its readers are of levels of the plan
+abbrev pub Low : Setting → Reader → Type 0
+Low setting reader = reader.level ≤ setting.top
+
+abbrev pub IsSafe : Setting → ℕ → Stage → Type 0
+IsSafe setting most at_origin = Unit {0}
+IsSafe setting most (climbs known weight reader later) = KnowsAtMost most known × All (Low setting) (reader ∷ later)
+IsSafe setting most (chases chase node) = KnowsAtMost most chase.known × (node < setting.nodes)
+IsSafe setting most (ended found) = Unit {0}
+
+pub knows-more : (most more : ℕ) (known : Option ℕ) → most ≤ more → KnowsAtMost most known → KnowsAtMost more known
+knows-more most more None h k = tt
+knows-more most more (Some n) h k = omega (arith, k)
+
+pub safe-later : (setting : Setting) (most more : ℕ) (stage : Stage) → most ≤ more → IsSafe setting most stage
+    → IsSafe setting more stage
+safe-later setting most more at_origin h safe = tt
+safe-later setting most more (climbs known weight reader later) h safe = (knows-more most more known h safe.0, safe.1)
+safe-later setting most more (chases chase node) h safe = (knows-more most more chase.known h safe.0, safe.1)
+safe-later setting most more (ended found) h safe = tt
+
+-- what holds of an answer told at a history
+abbrev pub RightAt : Setting → ℕ → History → Found → Type 0
+RightAt setting sub seen (At node q level weight) = (node ≡ standing setting sub seen) × (q ≡ number sub seen)
+    × (off sub seen ≡ false)
+RightAt setting sub seen (OffAt node q level weight) = (node ≡ standing setting sub seen) × (q ≡ number sub seen)
+    × (off sub seen ≡ true)
+RightAt setting sub seen (Again why weight) = Unit {0}
+
+-- a stage after a look: safe, and right where it is the end
+abbrev pub IsGood : Setting → ℕ → History → Stage → Type 0
+IsGood setting sub seen at_origin = Unit {0}
+IsGood setting sub seen (climbs known weight reader later) = IsSafe setting (number sub seen)
+    (climbs known weight reader later)
+IsGood setting sub seen (chases chase node) = IsSafe setting (number sub seen) (chases chase node)
+IsGood setting sub seen (ended found) = RightAt setting sub seen found
+
+low-readers : (setting : Setting) (node first count : ℕ) → first + count ≤ levels setting
+    → All (Low setting) (flat_map (λ level. map (λ cluster. record { level = level; cluster = cluster })
+    (setting.readers level node)) (numbers_from first count))
+low-readers setting node first zero h = All-nil (Low setting)
+low-readers setting node first (suc count) h =
+    All-append (Low setting) (map (λ cluster. record { level = first; cluster = cluster })
+    (setting.readers first node)) _ (of_level (setting.readers first node))
+    (low-readers setting node (suc first) count (omega arith))
+  where
+    of_level : (clusters : List ℕ) → All (Low setting)
+        (map (λ cluster. record { level = first; cluster = cluster }) clusters)
+    of_level [] = All-nil (Low setting)
+    of_level (cluster ∷ clusters) = All-cons (Low setting) (record { level = first; cluster = cluster }) _
+        (omega arith) (of_level clusters)
+
+pub readers-low : (setting : Setting) (node : ℕ) → All (Low setting) (all_readers setting node)
+readers-low setting node = low-readers setting node 0 (levels setting) (omega arith)
+
+climb-good : (setting : Setting) (sub : ℕ) (seen : History) (known : Option ℕ) (weight : ℕ) (readers : List Reader)
+    → KnowsAtMost (number sub seen) known → All (Low setting) readers
+    → IsGood setting sub seen (climb known weight readers)
+climb-good setting sub seen known weight [] knows all = tt
+climb-good setting sub seen known weight (reader ∷ later) knows all = (knows, all)
+
+-- a Gone is committed
+pub gone-known : (setting : Setting) (sub : ℕ) (seen : History) (node p to : ℕ)
+    → MarkTells setting sub seen node (Gone p to) → p ≤ number sub seen
+gone-known setting sub seen node p to tells = omega (
+  arith,
+  tells.0,
+  slice_get_within (commits sub seen) (p - 1) _ tells.1,
+)
+
+origin-good : (setting : Setting) (seen : History) (call : FindCall) (mark : PresenceMark)
+    → MarkTells setting call.sub seen call.from mark → IsGood setting call.sub seen (after_origin setting call mark)
+origin-good setting seen call Empty tells = climb-good setting call.sub seen None 0 (all_readers setting call.from) tt
+    (readers-low setting call.from)
+origin-good setting seen call (Here q) tells = tells
+origin-good setting seen call (Off q) tells = tells
+origin-good setting seen call (Gone q to) tells = climb-good setting call.sub seen (Some q) 0
+    (all_readers setting call.from) (gone-known setting call.sub seen call.from q to tells)
+    (readers-low setting call.from)
+origin-good setting seen call (Coming q from) tells = (tt, tells.1)
+
+entry-good : (setting : Setting) (seen : History) (call : FindCall) (known : Option ℕ) (weight : ℕ) (reader : Reader)
+    (later : List Reader) (entry : Option Address) → KnowsAtMost (number call.sub seen) known
+    → All (Low setting) (reader ∷ later)
+    → EntryTells setting call.sub seen reader.level reader.cluster entry
+    → IsGood setting call.sub seen (after_entry setting call known weight reader later entry)
+entry-good setting seen call known weight reader later None knows all tells = climb-good setting call.sub seen known
+    (weight + 2 * way_in setting call reader) later knows (All-tail (Low setting) reader later all)
+entry-good setting seen call known weight reader later (Some address) knows all tells = (knows, tells.0)
+
+hop-good : (setting : Setting) (sub : ℕ) (seen : History) (known level : Option ℕ) (weight hops_left node to : ℕ)
+    → KnowsAtMost (number sub seen) known → to < setting.nodes
+    → IsGood setting sub seen (hop setting known level weight hops_left node to)
+hop-good setting sub seen known level weight zero node to knows inside = tt
+hop-good setting sub seen known level weight (suc more) node to knows inside = (knows, inside)
+
+pub knows-with : (most p : ℕ) (known : Option ℕ) → KnowsAtMost most known → p ≤ most
+    → KnowsAtMost most (known_with p known)
+knows-with most p None knows low = low
+knows-with most p (Some k) knows low = omega (arith, knows)
+
+known-low : (most p : ℕ) (known : Option ℕ) → KnowsAtMost most known → is_known p known ≡ true → p ≤ most
+known-low most p None knows h = cc
+known-low most p (Some k) knows h = let low : p ≤ k = grind (arith, nat_tests, h) in omega (arith, knows, low)
+
+mark-good : (setting : Setting) (sub : ℕ) (seen : History) (chase : Chase) (node : ℕ) (mark : PresenceMark)
+    → KnowsAtMost (number sub seen) chase.known → MarkTells setting sub seen node mark
+    → IsGood setting sub seen (after_mark setting chase node mark)
+mark-good setting sub seen chase node Empty knows tells = tt
+mark-good setting sub seen chase node (Here q) knows tells = tells
+mark-good setting sub seen chase node (Off q) knows tells = tells
+mark-good setting sub seen chase node (Gone q to) knows tells =
+    hop-good setting sub seen (known_with q chase.known) chase.level chase.weight chase.hops_left node to
+    (knows-with (number sub seen) q chase.known knows (gone-known setting sub seen node q to tells)) tells.2
+mark-good setting sub seen chase node (Coming q from) knows tells = at_known (is_known q chase.known) refl
+  where
+    at_known : (b : Bool) → is_known q chase.known ≡ b
+        → IsGood setting sub seen (cond b (ended (At node q chase.level chase.weight))
+        (hop setting chase.known chase.level chase.weight chase.hops_left node from))
+    at_known true e = committed tells.3
+      where
+        committed : ((q ≡ suc (number sub seen)) × (from ≡ standing setting sub seen))
+            ⊎ ((q ≡ number sub seen) × (node ≡ standing setting sub seen)
+            × (mark_seen setting sub seen from ≡ Gone q node))
+            → RightAt setting sub seen (At node q chase.level chase.weight)
+        committed (inl early) = absurd (omega (arith, early.0, known-low (number sub seen) q chase.known knows e))
+        committed (inr late) = (late.1, late.0, tells.2)
+    at_known false e = hop-good setting sub seen chase.known chase.level chase.weight chase.hops_left node from knows
+        tells.1
+
+-- one look
+pub look-good : MarksTell → EntriesTell → (setting : Setting) (seen : History) (call : FindCall) (stage : Stage)
+    (key : Key) → setting.nodes ≤ 2 ^ 16 → call.from < setting.nodes → IsLegal setting call.sub seen
+    → IsSafe setting (number call.sub seen) stage → key_of call stage ≡ Some key
+    → IsGood setting call.sub seen (after_word setting call stage (cell setting seen key))
+look-good marks entries setting seen call at_origin key low inside legal safe wanted =
+    let e : Presence call.from call.sub ≡ key = cc in
+    subst (λ (k : Key). IsGood setting call.sub seen (after_origin setting call (mark_in (cell setting seen k)))) e
+    (origin-good setting seen call (mark_seen setting call.sub seen call.from)
+    (marks setting call.sub seen low legal call.from inside))
+look-good marks entries setting seen call (climbs known weight reader later) key low inside legal safe wanted =
+    let e : Entry reader.level reader.cluster call.sub ≡ key = cc in
+    subst (λ (k : Key). IsGood setting call.sub seen (after_entry setting call known weight reader later
+    (address_in (cell setting seen k)))) e
+    (entry-good setting seen call known weight reader later
+    (entry_seen setting call.sub seen reader.level reader.cluster) safe.0 safe.1
+    (entries setting call.sub seen low legal reader.level reader.cluster
+    (All-head (Low setting) reader later safe.1)))
+look-good marks entries setting seen call (chases chase node) key low inside legal safe wanted =
+    let e : Presence node call.sub ≡ key = cc in
+    subst (λ (k : Key). IsGood setting call.sub seen (after_mark setting chase node (mark_in (cell setting seen k))))
+    e
+    (mark-good setting call.sub seen chase node (mark_seen setting call.sub seen node) safe.0
+    (marks setting call.sub seen low legal node safe.1))
+look-good marks entries setting seen call (ended found) key low inside legal safe wanted = cc
+
+-- what is right before a look is right through it
+pub commits-through : (sub actor t : ℕ) (key : Key) (history : History)
+    → slice_get history t ≡ Some (look_by actor key) → commits sub (through t history)
+    ≡ commits sub (before t history)
+commits-through sub actor t key history h = ap (filter_map
+    (λ (v : Visit). commit_of (node_put v.act) (mark_put v.act))) (through-puts sub actor key t history h)
+
+right-through : (setting : Setting) (history : History) (sub actor t : ℕ) (key : Key) (found : Found)
+    → slice_get history t ≡ Some (look_by actor key) → RightAt setting sub (before t history) found
+    → IsRight setting history sub found t
+right-through setting history sub actor t key (At node q level weight) h right = (
+  right.0 ∙ sym (ap (fold (λ n (c : Commit). c.to) (start setting sub)) (commits-through sub actor t key history h)),
+  right.1 ∙ sym (ap length (commits-through sub actor t key history h)),
+  ap ends_off (through-puts sub actor key t history h) ∙ right.2,
+)
+right-through setting history sub actor t key (OffAt node q level weight) h right = (
+  right.0 ∙ sym (ap (fold (λ n (c : Commit). c.to) (start setting sub)) (commits-through sub actor t key history h)),
+  right.1 ∙ sym (ap length (commits-through sub actor t key history h)),
+  ap ends_off (through-puts sub actor key t history h) ∙ right.2,
+)
+right-through setting history sub actor t key (Again why weight) h right = tt
+
+pub last-more : (t u : ℕ) (later : List ℕ) → last_of (t ∷ u ∷ later) ≡ last_of (u ∷ later)
+last-more t u later = ap (λ n. slice_index (t ∷ u ∷ later) n)
+    (let e : length (t ∷ u ∷ later) - 1 ≡ suc (length later) = omega arith in e)
+    ∙ sym (ap (λ n. slice_index (u ∷ later) n) (let e : length (u ∷ later) - 1 ≡ length later = omega arith in e))
+
+pub read-one : (setting : Setting) (history : History) (actor t : ℕ) (key : Key) (call : FindCall) (stage : Stage)
+    (later : List ℕ) → slice_get history t ≡ Some (look_by actor key)
+    → fold (after_word setting call) stage (flat_map (words_at setting history) (t ∷ later))
+    ≡ fold (after_word setting call) (after_word setting call stage (cell setting (before t history) key))
+    (flat_map (words_at setting history) later)
+read-one setting history actor t key call stage later h = ap
+    (λ o. fold (after_word setting call) stage (words_by setting (before t history) o ++ flat_map
+    (words_at setting history) later)) h
+
+-- the looks of a find end with a right answer
+right-looks : MarksTell → EntriesTell → FrontsAreLegal
+    → (setting : Setting) (history : History) (actor : ℕ) (call : FindCall) (found : Found) → setting.nodes ≤ 2 ^ 16
+    → call.from < setting.nodes → IsLegal setting call.sub history
+    → (tickets : List ℕ) (earliest : ℕ) (stage : Stage) → IsUnderWay stage
+    → IsSafe setting (number call.sub (before earliest history)) stage
+    → AreLooks setting history actor call earliest stage tickets
+    → fold (after_word setting call) stage (flat_map (words_at setting history) tickets) ≡ ended found
+    → IsRight setting history call.sub found (last_of tickets)
+unfolding AreLooks
+right-looks marks entries fronts setting history actor call found low inside legal [] earliest stage open_stage safe
+    looks ends = absurd (subst IsUnderWay ends open_stage)
+right-looks marks entries fronts setting history actor call found low inside legal
+    (t ∷ later) earliest stage open_stage safe (first, (key, wanted, is_look, rest)) ends =
+    at_next (after_word setting call stage (cell setting (before t history) key)) refl
+    (look-good marks entries setting (before t history) call stage key low inside
+    (front-legal fronts setting call.sub history t low legal)
+    (safe-later setting (number call.sub (before earliest history)) (number call.sub (before t history)) stage
+    (number-grows call.sub earliest t history first) safe) wanted)
+    rest (sym (read-one setting history actor t key call stage later is_look) ∙ ends)
+    (λ s o g a e. right-looks marks entries fronts setting history actor call found low inside legal later
+    (suc t) s o g a e)
+  where
+    seen_later : number call.sub (before t history) ≤ number call.sub (before (suc t) history)
+    seen_later = number-grows call.sub t (suc t) history (omega arith)
+
+    Further : Type 0
+    Further = (s : Stage) → IsUnderWay s → IsSafe setting (number call.sub (before (suc t) history)) s
+        → AreLooks setting history actor call (suc t) s later
+        → fold (after_word setting call) s (flat_map (words_at setting history) later) ≡ ended found
+        → IsRight setting history call.sub found (last_of later)
+
+    longer : (s : Stage) → IsUnderWay s → (ts : List ℕ)
+        → fold (after_word setting call) s (flat_map (words_at setting history) ts) ≡ ended found
+        → IsRight setting history call.sub found (last_of ts)
+        → IsRight setting history call.sub found (last_of (t ∷ ts))
+    longer s o [] e right = absurd (subst IsUnderWay e o)
+    longer s o (u ∷ ts) e right = subst (IsRight setting history call.sub found) (sym (last-more t u ts)) right
+
+    over : (f : Found) (ts : List ℕ) → AreLooks setting history actor call (suc t) (ended f) ts
+        → fold (after_word setting call) (ended f) (flat_map (words_at setting history) ts) ≡ ended found
+        → RightAt setting call.sub (before t history) f → IsRight setting history call.sub found (last_of (t ∷ ts))
+    over f [] a e right = let same : f ≡ found = cc in subst
+        (λ (g : Found). IsRight setting history call.sub g t) same
+        (right-through setting history call.sub actor t key f is_look right)
+    over f (u ∷ ts) (h, (k, w, l, r)) e right = cc
+
+    at_next : (s : Stage) → after_word setting call stage (cell setting (before t history) key) ≡ s
+        → IsGood setting call.sub (before t history) (after_word setting call stage
+        (cell setting (before t history) key))
+        → AreLooks setting history actor call (suc t) (after_word setting call stage
+        (cell setting (before t history) key)) later
+        → fold (after_word setting call) (after_word setting call stage (cell setting (before t history) key))
+        (flat_map (words_at setting history) later) ≡ ended found → Further
+        → IsRight setting history call.sub found (last_of (t ∷ later))
+    at_next s same good looks e more = at_stage s
+        (subst (IsGood setting call.sub (before t history)) same good)
+        (subst (λ x. AreLooks setting history actor call (suc t) x later) same looks)
+        (subst (λ x. fold (after_word setting call) x (flat_map (words_at setting history) later) ≡ ended found) same
+        e)
+      where
+        at_stage : (s : Stage) → IsGood setting call.sub (before t history) s
+            → AreLooks setting history actor call (suc t) s later
+            → fold (after_word setting call) s (flat_map (words_at setting history) later) ≡ ended found
+            → IsRight setting history call.sub found (last_of (t ∷ later))
+        at_stage at_origin g a e = longer at_origin tt later e (more at_origin tt tt a e)
+        at_stage (climbs known weight reader rest) g a e = longer (climbs known weight reader rest) tt later e
+            (more (climbs known weight reader rest) tt
+            (safe-later setting _ _ (climbs known weight reader rest) seen_later g) a e)
+        at_stage (chases chase node) g a e = longer (chases chase node) tt later e
+            (more (chases chase node) tt (safe-later setting _ _ (chases chase node) seen_later g) a e)
+        at_stage (ended f) g a e = over f later a e g
+
+pub answers-right : MarksTell → EntriesTell → FrontsAreLegal → AnswersAreRight
+answers-right marks entries fronts setting history actor call found tickets low inside legal find =
+    right-looks marks entries fronts setting history actor call found low inside legal tickets 0 at_origin tt tt
+    find.looks find.answer
+
+-- so numbers never fall
+number-of : (setting : Setting) (history : History) (sub : ℕ) (found : Found) (last p : ℕ)
+    → IsRight setting history sub found last → HasNumber found p → p ≡ number sub (through last history)
+number-of setting history sub (At node q level weight) last p right has = sym has ∙ right.1
+number-of setting history sub (OffAt node q level weight) last p right has = sym has ∙ right.1
+number-of setting history sub (Again why weight) last p right has = absurd has
+
+pub never-fall : MarksTell → EntriesTell → FrontsAreLegal → NumbersNeverFall
+never-fall marks entries fronts setting history actor other sub from other_from p q found other_found tickets
+    other_tickets low inside other_inside legal one two has other_has order =
+    omega (
+      arith,
+      number-of setting history sub found (last_of tickets) p
+          (answers-right marks entries fronts setting history actor
+          (record { from = from; sub = sub }) found tickets low inside legal one) has,
+      number-of setting history sub other_found (last_of other_tickets) q
+          (answers-right marks entries fronts setting history other
+          (record { from = other_from; sub = sub }) other_found other_tickets low other_inside legal two) other_has,
+      number-grows sub (suc (last_of tickets)) (suc (last_of other_tickets)) history (omega arith),
+    )

@@ -1,0 +1,180 @@
+-- The lines of outcomes are right, since each is made by the looks of a find.
+use Rattle.std.proofs.Common.{◌≡◌, ℕ, zero, suc, ◌-◌, ◌<◌, ◌≤◌, ◌^◌, List, [], ◌∷◌, ◌++◌, sym, subst, arith}
+use Rattle.std.specs.Prelude.{All, Some, slice_get, slice_index_or}
+use Rattle.std.proofs.lemmas.List.Elements.{All-head, All-tail, All-nil, All-cons}
+use Rattle.directory.specs.Settings.{Setting, subs}
+use Rattle.directory.specs.Histories.{History}
+use Rattle.directory.specs.Legal.{IsLegal}
+use Rattle.directory.specs.Finds.{FindCall}
+use Rattle.directory.specs.Looks.{first_of, last_of, IsFind}
+use Rattle.directory.specs.Orders.{AreValid, IsFindCall, Scripts, finds_of, history_of}
+use Rattle.directory.specs.Outcomes.{IsMade, found_line, outcome_of}
+use Rattle.directory.specs.Statements.{LinesAreMade, OrdersAreDone, OrdersArePlayed, PlayedIsLegal}
+use Rattle.directory.specs.declared.answers.Done.{Done}
+use Rattle.directory.specs.declared.answers.Done.TheVariants.{Moved, Switched, Found as FoundBy, Off as OffBy, Again as AgainBy}
+use Rattle.directory.specs.declared.answers.Found.{Found}
+use Rattle.directory.specs.declared.answers.Found.TheVariants.{At, Off as OffAt, Again}
+use Rattle.trail_laws.specs.Answers.{AgainHasItsCause, AnswersAreRight, HasNumber, NumbersNeverFall, ReadsTop}
+use Rattle.trail_laws.specs.Lines.{IsRightLine, NumbersRise, OutcomesAreRight, TellsNumber}
+
+-- what holds of all lists of a table holds of each, and of none
+each_list : {A : Type 0} (P : A → Type 0) (rows : List (List A)) (i : ℕ) → All (λ row. All P row) rows
+    → All P (slice_index_or rows i [])
+each_list P [] i all = All-nil P
+each_list P (row ∷ rows) zero all = All-head (λ r. All P r) row rows all
+each_list P (row ∷ rows) (suc i) all = each_list P rows i (All-tail (λ r. All P r) row rows all)
+
+-- and of the one in the middle
+of_middle : {A : Type 0} (P : A → Type 0) (xs : List A) (x : A) (ys : List A) → All P (xs ++ x ∷ ys) → P x
+of_middle P [] x ys all = All-head P x ys all
+of_middle P (y ∷ xs) x ys all = of_middle P xs x ys (All-tail P y (xs ++ x ∷ ys) all)
+
+-- the call of a line is one that a valid script has
+valid_call : (setting : Setting) (scripts : Scripts) (actor : ℕ) (before : List FindCall) (call : FindCall)
+    (later : List FindCall) → AreValid setting scripts → finds_of setting scripts actor ≡ before ++ call ∷ later
+    → IsFindCall setting call
+valid_call setting scripts actor before call later valid script =
+    of_middle (IsFindCall setting) before call later
+    (subst (All (IsFindCall setting)) script
+    (each_list (IsFindCall setting) scripts.finds (actor - subs setting) valid.finds))
+
+-- the line of a find is right
+right_line : AnswersAreRight → AgainHasItsCause → (setting : Setting) (history : History) (actor : ℕ)
+    (call : FindCall) (found : Found) (seen : List ℕ) (line : Done) → setting.nodes ≤ 2 ^ 16 → ReadsTop setting
+    → IsFindCall setting call → IsLegal setting call.sub history → IsFind setting history actor call found seen
+    → line ≡ found_line actor call found (first_of seen) (last_of seen) → IsRightLine setting history line
+right_line right cause setting history actor call (At node n level weight) seen line low reads is legal find tells =
+    subst (IsRightLine setting history) (sym tells)
+    (right setting history actor call (At node n level weight) seen low is.inside legal find)
+right_line right cause setting history actor call (OffAt node n level weight) seen line low reads is legal find tells
+    =
+    subst (IsRightLine setting history) (sym tells)
+    (right setting history actor call (OffAt node n level weight) seen low is.inside legal find)
+right_line right cause setting history actor call (Again why weight) seen line low reads is legal find tells =
+    subst (IsRightLine setting history) (sym tells)
+    (cause setting history actor call why weight seen low reads is.inside legal find)
+
+-- so each line of an outcome is
+made_right : AnswersAreRight → AgainHasItsCause → (setting : Setting) (scripts : Scripts) (history : History)
+    → setting.nodes ≤ 2 ^ 16 → ReadsTop setting → AreValid setting scripts
+    → ((sub : ℕ) → sub < subs setting → IsLegal setting sub history) → (line : Done)
+    → IsMade setting scripts history line → IsRightLine setting history line
+made_right right cause setting scripts history low reads valid legal
+    (Moved actor n from to weight first commit last) h
+    = tt
+made_right right cause setting scripts history low reads valid legal (Switched actor is_off node n ticket) h = tt
+made_right right cause setting scripts history low reads valid legal
+    (FoundBy actor from sub node n level weight first last) h =
+    let is : IsFindCall setting (record { from = from; sub = sub }) =
+    valid_call setting scripts actor h.before _ h.later valid h.script in
+    right_line right cause setting history actor (record { from = from; sub = sub }) h.found h.seen _ low reads is
+    (legal sub is.known) h.find h.tells
+made_right right cause setting scripts history low reads valid legal
+    (OffBy actor from sub node n level weight first last) h =
+    let is : IsFindCall setting (record { from = from; sub = sub }) =
+    valid_call setting scripts actor h.before _ h.later valid h.script in
+    right_line right cause setting history actor (record { from = from; sub = sub }) h.found h.seen _ low reads is
+    (legal sub is.known) h.find h.tells
+made_right right cause setting scripts history low reads valid legal
+    (AgainBy actor from sub why weight first last) h =
+    let is : IsFindCall setting (record { from = from; sub = sub }) =
+    valid_call setting scripts actor h.before _ h.later valid h.script in
+    right_line right cause setting history actor (record { from = from; sub = sub }) h.found h.seen _ low reads is
+    (legal sub is.known) h.find h.tells
+
+all_right : {A : Type 0} (P Q : A → Type 0) (xs : List A) → ((x : A) → P x → Q x) → All P xs → All Q xs
+all_right P Q [] more all = All-nil Q
+all_right P Q (x ∷ xs) more all = All-cons Q x xs (more x (All-head P x xs all))
+    (all_right P Q xs more (All-tail P x xs all))
+
+pub outcomes-right : AnswersAreRight → AgainHasItsCause → OrdersArePlayed → OrdersAreDone → PlayedIsLegal
+    → LinesAreMade → OutcomesAreRight
+outcomes-right right cause played done legal made setting scripts order low reads valid =
+    all_right (IsMade setting scripts (history_of setting scripts order))
+    (IsRightLine setting (history_of setting scripts order)) (outcome_of setting scripts order).calls
+    (made_right right cause setting scripts (history_of setting scripts order) low reads valid
+    (λ sub below. legal setting scripts (history_of setting scripts order) sub low valid below
+    (played setting scripts order)))
+    (made setting scripts (history_of setting scripts order) (played setting scripts order)
+    (done setting scripts order))
+
+-- a find whose answer has a number
+record Numbered (setting : Setting) (history : History) (sub p ticket : ℕ) : Type 0 where
+  pub actor : ℕ
+  pub from : ℕ
+  pub found : Found
+  pub seen : List ℕ
+  pub is : IsFindCall setting (record { from = from; sub = sub })
+  pub find : IsFind setting history actor (record { from = from; sub = sub }) found seen
+  pub number : HasNumber found p
+  pub last : last_of seen ≡ ticket
+
+-- a line that tells a number is made by such a find
+told_by : (setting : Setting) (history : History) (actor from : ℕ) (found : Found) (seen : List ℕ) (line : Done)
+    (sub s p ticket : ℕ) → IsFindCall setting (record { from = from; sub = sub })
+    → IsFind setting history actor (record { from = from; sub = sub }) found seen
+    → line ≡ found_line actor (record { from = from; sub = sub }) found (first_of seen) (last_of seen)
+    → TellsNumber line s p ticket → Numbered setting history s p ticket
+told_by setting history actor from (At node n level weight) seen line sub s p ticket is find tells told =
+    let told_there : (sub ≡ s) × (n ≡ p) × (last_of seen ≡ ticket) =
+    subst (λ (l : Done). TellsNumber l s p ticket) tells told in
+    subst (λ (x : ℕ). Numbered setting history x p ticket) told_there.0 (record {
+      actor = actor;
+      from = from;
+      found = At node n level weight;
+      seen = seen;
+      is = is;
+      find = find;
+      number = told_there.1;
+      last = told_there.2;
+    })
+told_by setting history actor from (OffAt node n level weight) seen line sub s p ticket is find tells told =
+    let told_there : (sub ≡ s) × (n ≡ p) × (last_of seen ≡ ticket) =
+    subst (λ (l : Done). TellsNumber l s p ticket) tells told in
+    subst (λ (x : ℕ). Numbered setting history x p ticket) told_there.0 (record {
+      actor = actor;
+      from = from;
+      found = OffAt node n level weight;
+      seen = seen;
+      is = is;
+      find = find;
+      number = told_there.1;
+      last = told_there.2;
+    })
+told_by setting history actor from (Again why weight) seen line sub s p ticket is find tells told =
+    absurd (subst (λ (l : Done). TellsNumber l s p ticket) tells told)
+
+numbered : (setting : Setting) (scripts : Scripts) (history : History) → AreValid setting scripts → (line : Done)
+    (s p ticket : ℕ) → IsMade setting scripts history line → TellsNumber line s p ticket
+    → Numbered setting history s p ticket
+numbered setting scripts history valid (Moved actor n from to weight first commit last) s p ticket h told = absurd told
+numbered setting scripts history valid (Switched actor is_off node n at) s p ticket h told = absurd told
+numbered setting scripts history valid (FoundBy actor from sub node n level weight first last) s p ticket h told =
+    told_by setting history actor from h.found h.seen _ sub s p ticket
+    (valid_call setting scripts actor h.before (record { from = from; sub = sub }) h.later valid h.script) h.find
+    h.tells told
+numbered setting scripts history valid (OffBy actor from sub node n level weight first last) s p ticket h told =
+    told_by setting history actor from h.found h.seen _ sub s p ticket
+    (valid_call setting scripts actor h.before (record { from = from; sub = sub }) h.later valid h.script) h.find
+    h.tells told
+numbered setting scripts history valid (AgainBy actor from sub why weight first last) s p ticket h told = absurd told
+
+at_place : {A : Type 0} (P : A → Type 0) (xs : List A) (i : ℕ) (x : A) → All P xs → slice_get xs i ≡ Some x → P x
+at_place P [] i x all e = cc
+at_place P (y ∷ xs) zero x all e = let same : y ≡ x = cc in subst P same (All-head P y xs all)
+at_place P (y ∷ xs) (suc i) x all e = at_place P xs i x (All-tail P y xs all) e
+
+pub numbers-rise : NumbersNeverFall → OrdersArePlayed → OrdersAreDone → PlayedIsLegal → LinesAreMade → NumbersRise
+numbers-rise fall played done legal made setting scripts order low valid i j one other at_one at_other sub p q earlier
+    later told_one told_other before =
+    let history : History = history_of setting scripts order in
+    let all : All (IsMade setting scripts history) (outcome_of setting scripts order).calls =
+    made setting scripts history (played setting scripts order) (done setting scripts order) in
+    let a : Numbered setting history sub p earlier = numbered setting scripts history valid one sub p earlier
+    (at_place (IsMade setting scripts history) (outcome_of setting scripts order).calls i one all at_one) told_one in
+    let b : Numbered setting history sub q later = numbered setting scripts history valid other sub q later
+    (at_place (IsMade setting scripts history) (outcome_of setting scripts order).calls j other all at_other)
+    told_other in
+    fall setting history a.actor b.actor sub a.from b.from p q a.found b.found a.seen b.seen low a.is.inside b.is.inside
+    (legal setting scripts history sub low valid a.is.known (played setting scripts order)) a.find b.find a.number
+    b.number (omega (arith, a.last, b.last, before))

@@ -1,0 +1,112 @@
+-- The laws of near levels and of short ways after every legal history.
+use Rattle.std.proofs.Common.{◌≡◌, ◌⊎◌, inl, inr, ℕ, suc, ◌+◌, ◌*◌, ◌<◌, ◌≤◌, Bool, List, [], ◌∷◌, ◌++◌, Option, None, map, sym, ap, ◌∙◌, subst, arith}
+use Rattle.entry_word.specs.declared.address.Address.{Address}
+use Rattle.entry_word.specs.declared.mark.PresenceMark.{PresenceMark}
+use Rattle.entry_word.specs.declared.mark.PresenceMark.TheVariants.{Gone, Coming}
+use Rattle.directory.specs.Settings.{Setting, start}
+use Rattle.directory.specs.Histories.{puts_to}
+use Rattle.directory.specs.Courses.{Move}
+use Rattle.directory.specs.Puts.{course_in}
+use Rattle.directory.specs.Standing.{Commit, commit_by, commits, number, off, standing}
+use Rattle.trail_laws.specs.Trail.{entry_seen, mark_seen, MarksTell, MarkTells}
+use Rattle.trail_laws.specs.Ways.{AddressesLeadShortly, ComingsLeadShortly, LevelsStayNear, PassagesAreOpen, StandsInside}
+use Rattle.trail_laws.proofs.Links.{stop-inside}
+use Rattle.trail_laws.proofs.Tells.{next-stands, rest-stands, stands}
+use Rattle.trail_laws.proofs.Views.{clearing, coming, passage as is_passage, Phase, phase_commits, View}
+use Rattle.trail_laws.proofs.Comings.{coming-leads_on}
+use Rattle.trail_laws.proofs.Laws.{HistoryView, Laws, placed, view}
+use Rattle.trail_laws.proofs.Lazy.{legal-lazy}
+use Rattle.trail_laws.proofs.Nearby.{level-has}
+use Rattle.trail_laws.proofs.Passages.{coming-opens, PassageLaws}
+
+-- a subscriber stands at a node of the network
+view-inside : (setting : Setting) (from : ℕ) (marks : ℕ → PresenceMark) (entries : ℕ → ℕ → Option Address)
+    (commits : List Commit) (off : Bool) (moves : List Move) → View setting from marks entries commits off moves
+    → stands from commits < setting.nodes
+view-inside setting from marks entries commits off moves (inl h) =
+    subst (λ n. n < setting.nodes) (sym (ap (stands from) h.commits_are ∙ rest-stands h.course from h.begins))
+    (stop-inside setting h.course h.sound)
+view-inside setting from marks entries commits off moves (inr h) = at_phase h.phase h.commits_are
+  where
+    after : commits ≡ map commit_by (h.course.moves ++ h.move ∷ []) → stands from commits < setting.nodes
+    after c = subst (λ n. n < setting.nodes)
+        (sym (ap (stands from) c ∙ next-stands setting h.course h.move from h.next h.begins)) h.next.inside
+
+    at_phase : (phase : Phase) → commits ≡ phase_commits h.course h.move phase → stands from commits < setting.nodes
+    at_phase (coming written) c =
+        subst (λ n. n < setting.nodes) (sym (ap (stands from) c ∙ rest-stands h.course from h.begins))
+        (stop-inside setting h.course h.sound)
+    at_phase is_passage c = after c
+    at_phase (clearing erased purged) c = after c
+
+pub stands-inside : Laws → StandsInside
+unfolding HistoryView
+stands-inside laws setting sub history low legal =
+    view-inside setting (start setting sub) (mark_seen setting sub history) (entry_seen setting sub history)
+    (commits sub history) (off sub history) (course_in setting sub (puts_to sub history)).moves
+    (view laws setting sub history low legal)
+
+pub levels-near : Laws → LevelsStayNear
+unfolding HistoryView
+levels-near laws setting sub history low metric some legal level below =
+    level-has setting (start setting sub) (mark_seen setting sub history) (entry_seen setting sub history)
+    (commits sub history) (off sub history) (course_in setting sub (puts_to sub history)).moves level metric below
+    (legal-lazy setting sub history some legal) (view laws setting sub history low legal)
+
+pub passages-open : PassageLaws → PassagesAreOpen
+passages-open laws setting sub history low legal node p from inside comes reached =
+    coming-opens laws setting sub history node p from low inside legal comes reached
+
+pub addresses-short : Laws → AddressesLeadShortly
+addresses-short laws setting sub history low metric some legal level cluster address known pass below is_some knows opens =
+    let its = placed laws setting sub history low legal level cluster address below is_some in
+    let there = its.leads known knows in (
+      there.hops,
+      there.way,
+      there.few,
+      there.led,
+      omega (
+        arith,
+        there.short metric,
+        its.price pass metric (legal-lazy setting sub history some legal) opens,
+      ),
+    )
+
+pub comings-short : Laws → MarksTell → ComingsLeadShortly
+unfolding HistoryView
+comings-short laws marks setting sub history low metric legal node p u pass inside comes opens =
+    let there = coming-leads_on setting (start setting sub) (mark_seen setting sub history)
+    (entry_seen setting sub history) (commits sub history) (off sub history)
+    (course_in setting sub (puts_to sub history)).moves node p u None inside
+    (view laws setting sub history low legal) comes in (
+      there.2.hops,
+      there.2.way,
+      there.2.few,
+      there.2.led,
+      at_cases tells.3 there.2.way (omega (arith, there.2.short metric, there.1)),
+    )
+  where
+    tells : MarkTells setting sub history node (Coming p u)
+    tells = subst (MarkTells setting sub history node) comes (marks setting sub history low legal node inside)
+
+    at_cases : (((p ≡ suc (number sub history)) × (u ≡ standing setting sub history))
+        ⊎ ((p ≡ number sub history) × (node ≡ standing setting sub history)
+        × (mark_seen setting sub history u ≡ Gone p node)))
+        → (way : ℕ) → way ≤ setting.distance u (standing setting sub history)
+        → setting.distance node u + way ≤ setting.distance node (standing setting sub history)
+        + 2 * pass
+    at_cases (inl before) way short = omega (
+      arith,
+      short,
+      ap (setting.distance node) before.1,
+      ap (λ n. setting.distance n (standing setting sub history)) before.1,
+      metric.none (standing setting sub history) (stands-inside laws setting sub history low legal),
+    )
+    at_cases (inr after) way short = omega (
+      arith,
+      short,
+      ap (setting.distance u) (sym after.1),
+      metric.both_ways node u inside tells.1,
+      ap (setting.distance u) after.1,
+      opens p u (ap (mark_seen setting sub history) (sym after.1) ∙ comes) after.0,
+    )

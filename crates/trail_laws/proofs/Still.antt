@@ -1,0 +1,146 @@
+-- While a find is quiet its subscriber stands still, and what passage is open stays so.
+use Rattle.std.proofs.Common.{◌≡◌, ℕ, zero, suc, ◌+◌, ◌-◌, ◌<◌, ◌≤◌, ◌^◌, Bool, true, false, cond, List, [], ◌∷◌, ◌++◌, Some, length, drop, refl, sym, ap, ◌∙◌, subst, arith}
+use Rattle.std.specs.Prelude.{slice_get}
+use Rattle.std.proofs.lemmas.List.{append-nil}
+use Rattle.std.proofs.lemmas.Option.{slice_get_within}
+use Rattle.std.proofs.Math.ListN.{drop_of_length-le}
+use Rattle.entry_word.specs.Marks.{mark_in}
+use Rattle.entry_word.specs.declared.mark.PresenceMark.TheVariants.{Coming}
+use Rattle.entry_word.specs.declared.visit.Key.TheVariants.{Presence}
+use Rattle.entry_word.specs.declared.visit.Visit.{Visit}
+use Rattle.directory.specs.Settings.{Setting}
+use Rattle.directory.specs.Histories.{before, cell, History, is_put_for, puts_to, through}
+use Rattle.directory.specs.Finds.{after_word, at_origin, ended, FindCall, Stage}
+use Rattle.directory.specs.Legal.{ArePuts, IsLegal}
+use Rattle.directory.specs.Looks.{AreLooks, last_of, look_by, moves_at, moves_by}
+use Rattle.directory.specs.Puts.{is_of_move, steps_in}
+use Rattle.directory.specs.Standing.{number, passage, standing}
+use Rattle.directory.specs.StepLaws.{puts-push, slice_get-within, take-more}
+use Rattle.directory.specs.Writes.{visits}
+use Rattle.trail_laws.specs.Trail.{mark_seen}
+use Rattle.trail_laws.specs.Phases.{RestIsSettled}
+use Rattle.trail_laws.specs.Ways.{IsOpenAtMost, PassagesAreOpen, StandsInside}
+use Rattle.trail_laws.specs.Within.{QuietFindsStandStill}
+use Rattle.trail_laws.proofs.Alike.{alike-step, IsSwitching, switching}
+use Rattle.trail_laws.proofs.Passing.{front-legal}
+use Rattle.trail_laws.proofs.Quiet.{last-late, Used}
+use Rattle.trail_laws.proofs.Right.{last-more}
+
+-- what is as it was at another history
+record IsStill (setting : Setting) (sub : ℕ) (one other : History) : Type 0 where
+  stands : standing setting sub other ≡ standing setting sub one
+  count : number sub other ≡ number sub one
+  open_too : (p u : ℕ) → mark_seen setting sub one (standing setting sub one) ≡ Coming p u → p ≡ number sub one
+      → mark_seen setting sub other (standing setting sub one) ≡ Coming p u
+
+still-step : Used → RestIsSettled → (setting : Setting) (sub : ℕ) (one history : History) (visit : Visit)
+    → setting.nodes ≤ 2 ^ 16 → IsLegal setting sub history → IsLegal setting sub (history ++ visit ∷ [])
+    → is_of_move sub history visit.act ≡ false → IsStill setting sub one history
+    → IsStill setting sub one (history ++ visit ∷ [])
+still-step used rested setting sub one history visit low legal legal_more quiet still =
+    let alike = alike-step used.cells used.marks_left used.rests setting sub history visit low legal legal_more quiet in
+    record {
+      stands = alike.stands ∙ still.stands;
+      count = alike.count ∙ still.count;
+      open_too = λ p u comes same. at_put (is_put_for sub visit.act) refl p u (still.open_too p u comes same)
+          (same ∙ sym still.count);
+    }
+  where
+    at_put : (b : Bool) → is_put_for sub visit.act ≡ b → (p u : ℕ)
+        → mark_seen setting sub history (standing setting sub one) ≡ Coming p u → p ≡ number sub history
+        → mark_seen setting sub (history ++ visit ∷ []) (standing setting sub one) ≡ Coming p u
+    at_put false e p u comes same = ap mark_in kept ∙ comes
+      where
+        as_before : puts_to sub (history ++ visit ∷ []) ≡ puts_to sub history
+        as_before = puts-push sub history visit ∙ (ap (λ b. puts_to sub history ++ cond b (visit ∷ []) []) e
+            ∙ append-nil (puts_to sub history))
+
+        kept : cell setting (history ++ visit ∷ []) (Presence (standing setting sub one) sub)
+            ≡ cell setting history (Presence (standing setting sub one) sub)
+        kept = used.cells setting (history ++ visit ∷ []) (Presence (standing setting sub one) sub)
+            ∙ (ap (λ puts. cell setting puts (Presence (standing setting sub one) sub)) as_before
+            ∙ sym (used.cells setting history (Presence (standing setting sub one) sub)))
+    at_put true e p u comes same = absurd ((rested setting sub history low legal at_rest).0.1 u
+        (ap (mark_seen setting sub history) still.stands ∙ (comes ∙ ap (λ n. Coming n u) same)))
+      where
+        switch : IsSwitching sub history visit
+        switch = switching sub history visit e quiet
+
+        legal_puts : ArePuts setting sub (puts_to sub history ++ visit ∷ [])
+        legal_puts = subst (ArePuts setting sub)
+            (puts-push sub history visit ∙ ap (λ b. puts_to sub history ++ cond b (visit ∷ []) []) e) legal_more
+
+        done : length (puts_to sub history) ≡ length (visits setting sub (steps_in (puts_to sub history)))
+        done = used.rests setting sub (puts_to sub history) visit switch.step low legal legal_puts switch.begins
+
+        at_rest : drop (length (puts_to sub history)) (visits setting sub (steps_in (puts_to sub history))) ≡ []
+        at_rest = drop_of_length-le (visits setting sub (steps_in (puts_to sub history)))
+            {i = length (puts_to sub history)} (omega (arith, done))
+
+still-until : Used → RestIsSettled → (setting : Setting) (sub : ℕ) (history : History) (k t : ℕ)
+    → setting.nodes ≤ 2 ^ 16 → IsLegal setting sub history → k + t ≤ length history
+    → ((u : ℕ) → t ≤ u → u < k + t → moves_at sub history u ≡ false)
+    → IsStill setting sub (before t history) (before (k + t) history)
+still-until used rested setting sub history zero t low legal within quiet =
+    let e : 0 + t ≡ t = omega arith in
+    rw e (record { stands = refl; count = refl; open_too = λ p u comes same. comes })
+still-until used rested setting sub history (suc k) t low legal within quiet =
+    at_visit (slice_get-within history (k + t) (omega (arith, within)))
+    (still-until used rested setting sub history k t low legal (omega (arith, within))
+    (λ u h g. quiet u h (omega (arith, g))))
+  where
+    at_visit : (visit : Visit) × (slice_get history (k + t) ≡ Some visit)
+        → IsStill setting sub (before t history) (before (k + t) history)
+        → IsStill setting sub (before t history) (before (suc k + t) history)
+    at_visit (visit, found) still =
+        let more : before (suc (k + t)) history ≡ before (k + t) history ++ visit ∷ [] = take-more history (k + t) visit found in
+        let e : suc k + t ≡ suc (k + t) = omega arith in
+        subst (λ h. IsStill setting sub (before t history) h) (sym (ap (λ n. before n history) e ∙ more))
+        (still-step used rested setting sub (before t history) (before (k + t) history) visit low
+        (front-legal used.fronts setting sub history (k + t) low legal)
+        (subst (IsLegal setting sub) more (front-legal used.fronts setting sub history (suc (k + t)) low legal))
+        (sym (ap (λ o. moves_by sub (before (k + t) history) o) found) ∙ quiet (k + t) (omega arith) (omega arith)) still)
+
+-- the last look of a find is a visit of the history
+last-inside : (setting : Setting) (history : History) (actor : ℕ) (call : FindCall) (earliest : ℕ) (stage : Stage) (t : ℕ)
+    (later : List ℕ) → AreLooks setting history actor call earliest stage (t ∷ later)
+    → last_of (t ∷ later) < length history
+unfolding AreLooks
+last-inside setting history actor call earliest stage t [] (first, (key, wanted, is_look, rest)) =
+    slice_get_within history t (look_by actor key) is_look
+last-inside setting history actor call earliest stage t (u ∷ later) (first, (key, wanted, is_look, rest)) =
+    rw (last-more t u later) (last-inside setting history actor call (suc t)
+    (after_word setting call stage (cell setting (before t history) key)) u later rest)
+
+pub stand-still : Used → RestIsSettled → PassagesAreOpen → StandsInside → QuietFindsStandStill
+stand-still used rested opens inside setting history actor call found [] low legal find quiet =
+    let clash : at_origin ≡ ended found = find.answer in cc
+stand-still used rested opens inside setting history actor call found (t ∷ later) low legal find quiet =
+    (still.stands, opened)
+  where
+    late : t ≤ last_of (t ∷ later)
+    late = last-late setting history actor call 0 at_origin t later find.looks
+
+    ends : last_of (t ∷ later) < length history
+    ends = last-inside setting history actor call 0 at_origin t later find.looks
+
+    count : (suc (last_of (t ∷ later)) - t) + t ≡ suc (last_of (t ∷ later))
+    count = omega (arith, late)
+
+    still : IsStill setting call.sub (before t history) (through (last_of (t ∷ later)) history)
+    still = subst (λ n. IsStill setting call.sub (before t history) (before n history)) count
+        (still-until used rested setting call.sub history (suc (last_of (t ∷ later)) - t) t low legal
+        (omega (arith, ends, count)) (λ u h g. quiet u h (omega (arith, g, count))))
+
+    legal_last : IsLegal setting call.sub (through (last_of (t ∷ later)) history)
+    legal_last = front-legal used.fronts setting call.sub history (suc (last_of (t ∷ later))) low legal
+
+    opened : IsOpenAtMost setting call.sub (before t history)
+        (passage setting call.sub (through (last_of (t ∷ later)) history))
+    opened p u comes same = omega (
+      arith,
+      opens setting call.sub (through (last_of (t ∷ later)) history) low legal_last
+          (standing setting call.sub (before t history)) p u
+          (inside setting call.sub (before t history) low (front-legal used.fronts setting call.sub history t low legal))
+          (still.open_too p u comes same) (same ∙ sym still.count),
+    )

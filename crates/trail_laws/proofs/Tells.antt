@@ -1,0 +1,298 @@
+-- What marks tell.
+use Rattle.std.proofs.Common.{◌≡◌, ◌⊎◌, inl, inr, ℕ, zero, suc, ◌+◌, ◌-◌, ◌<◌, ◌≤◌, Bool, true, false, cond, ◌==◌, List, [], ◌∷◌, ◌++◌, Option, Some, length, map, drop, fold, refl, sym, ap, ◌∙◌, subst, arith, length-append}
+use Rattle.std.specs.Prelude.{slice_get}
+use Rattle.std.proofs.lemmas.Bool.{eqb-true, eq-eqb}
+use Rattle.std.proofs.lemmas.List.{append-nil, length-map, map-append}
+use Rattle.std.proofs.lemmas.List.Sums.{fold-append}
+use Rattle.node_set.specs.Ascending.{has}
+use Rattle.entry_word.specs.declared.mark.PresenceMark.{PresenceMark}
+use Rattle.entry_word.specs.declared.mark.PresenceMark.TheVariants.{Empty, Here, Gone, Coming, Off}
+use Rattle.entry_word.specs.declared.address.Address.{Address}
+use Rattle.directory.specs.Settings.{Setting}
+use Rattle.directory.specs.Courses.{Move, Course, base, last_stop}
+use Rattle.directory.specs.Standing.{Commit, commit_by}
+use Rattle.trail_laws.proofs.Links.{AreLinked, IsSound, base-low, stop-inside}
+use Rattle.trail_laws.proofs.ClosedMarks.{IsNext, rest_mark, mark_coming, mark_passing, mark_erasing, since_top, there, trail_mark}
+use Rattle.trail_laws.proofs.Views.{IsPhase, Phase, View, clearing, coming, passage, phase_commits, phase_mark}
+use Rattle.trail_laws.proofs.Chases.{IsLeft, last-left, stop_at}
+
+-- where commits say that a subscriber stands
+abbrev pub stands : ℕ → List Commit → ℕ
+stands from commits = fold (λ node (commit : Commit). commit.to) from commits
+
+pub stands-moves : (from : ℕ) (moves : List Move) → stands from (map commit_by moves)
+    ≡ fold (λ node (move : Move). move.to) from moves
+stands-moves from [] = refl
+stands-moves from (move ∷ moves) = stands-moves move.to moves
+
+-- what a mark tells, of what the view has
+abbrev pub MarkIs : ℕ → ℕ → (ℕ → PresenceMark) → List Commit → Bool → List Move → ℕ → PresenceMark → Type 0
+MarkIs nodes from marks commits off moves node Empty = Unit {0}
+MarkIs nodes from marks commits off moves node (Here p) = (node ≡ stands from commits) × (p ≡ length commits)
+    × (off ≡ false)
+MarkIs nodes from marks commits off moves node (Off p) = (node ≡ stands from commits) × (p ≡ length commits)
+    × (off ≡ true)
+MarkIs nodes from marks commits off moves node (Gone p to) = (1 ≤ p)
+    × (slice_get commits (p - 1) ≡ Some (record { number = p; from = node; to = to })) × (to < nodes)
+MarkIs nodes from marks commits off moves node (Coming p u) =
+    (p ≡ length moves) × (u < nodes) × (off ≡ false) × (((p ≡ suc (length commits)) × (u ≡ stands from commits))
+    ⊎ ((p ≡ length commits) × (node ≡ stands from commits) × (marks u ≡ Gone p node)))
+
+-- a mark of the trail is none, or the Gone of a move
+slice_get-drop : (moves : List Move) (b i : ℕ) → slice_get (drop b moves) i ≡ slice_get moves (b + i)
+slice_get-drop moves zero i = let e : 0 + i ≡ i = omega arith in rw e refl
+slice_get-drop [] (suc b) i = refl
+slice_get-drop (m ∷ moves) (suc b) i = let e : suc b + i
+    ≡ suc (b + i) = omega arith in rw e (slice_get-drop moves b i)
+
+slice_get-map : (moves : List Move) (i : ℕ) (move : Move) → slice_get moves i ≡ Some move
+    → slice_get (map commit_by moves) i ≡ Some (commit_by move)
+slice_get-map [] i move h = cc
+slice_get-map (m ∷ moves) zero move h = let e : m ≡ move = cc in ap (λ (x : Move). Some (commit_by x)) e
+slice_get-map (m ∷ moves) (suc i) move h = slice_get-map moves i move h
+
+slice_get-left : (xs ys : List Commit) (i : ℕ) (c : Commit) → slice_get xs i ≡ Some c
+    → slice_get (xs ++ ys) i ≡ Some c
+slice_get-left [] ys i c h = cc
+slice_get-left (x ∷ xs) ys zero c h = h
+slice_get-left (x ∷ xs) ys (suc i) c h = slice_get-left xs ys i c h
+
+pub linked-drop : (setting : Setting) (from number : ℕ) (moves : List Move) (b : ℕ)
+    → AreLinked setting from number moves → b ≤ length moves
+    → AreLinked setting (stop_at from moves b) (number + b) (drop b moves)
+unfolding AreLinked
+linked-drop setting from number moves zero linked low = let e : number + 0 ≡ number = omega arith in rw e linked
+linked-drop setting from number [] (suc b) linked low = absurd (omega arith)
+linked-drop setting from number (m ∷ later) (suc b) (f0, f1, f2, f3, f4, f5, f6, f7) low =
+    let e : number + suc b ≡ suc number + b = omega arith in rw e
+    (linked-drop setting m.to (suc number) later b f7 (omega arith))
+
+pub stop-drop : (from : ℕ) (moves : List Move) (b i : ℕ) → b ≤ length moves
+    → stop_at (stop_at from moves b) (drop b moves) i ≡ stop_at from moves (b + i)
+stop-drop from moves zero i low = let e : 0 + i ≡ i = omega arith in rw e refl
+stop-drop from [] (suc b) i low = absurd (omega arith)
+stop-drop from (m ∷ later) (suc b) i low = let e : suc b + i
+    ≡ suc (b + i) = omega arith in rw e (stop-drop m.to later b i (omega arith))
+
+-- the Gone of a move at the node that it left
+gone-is : (from : ℕ) (marks : ℕ → PresenceMark) (off : Bool) (all : List Move) (setting : Setting) (course : Course)
+    (node : ℕ) (mark : PresenceMark) (more : List Commit) → IsSound setting course
+    → trail_mark (since_top setting course) node Empty ≡ mark
+    → MarkIs setting.nodes from marks (map commit_by course.moves ++ more) off all node mark
+gone-is from marks off all setting course node mark more sound same =
+    at_left (last-left setting (stop_at course.start course.moves low) (0 + low) (since_top setting course) node Empty
+    (linked-drop setting course.start 0 course.moves low sound.linked
+    (base-low setting course setting.top sound)))
+  where
+    low : ℕ
+    low = base setting.top course.moves
+
+    at_left : ((trail_mark (since_top setting course) node Empty ≡ Empty)
+        × ((i : ℕ) → i < length (since_top setting course)
+        → stop_at (stop_at course.start course.moves low) (since_top setting course) i ≡ node → ⊥))
+        ⊎ IsLeft setting (stop_at course.start course.moves low) (0 + low) (since_top setting course) node
+        (trail_mark (since_top setting course) node Empty)
+        → MarkIs setting.nodes from marks (map commit_by course.moves ++ more) off all node mark
+    at_left (inl none) = subst (MarkIs setting.nodes from marks (map commit_by course.moves ++ more) off all node)
+        (sym none.0 ∙ same) tt
+    at_left (inr left) = subst (MarkIs setting.nodes from marks (map commit_by course.moves ++ more) off all node)
+        (sym left.mark_is ∙ same) (omega (arith, left.its_number), listed, left.inside)
+      where
+        listed : slice_get (map commit_by course.moves ++ more) (left.move.number - 1)
+            ≡ Some (record { number = left.move.number; from = node; to = left.move.to })
+        listed = ap (slice_get (map commit_by course.moves ++ more))
+            (let e : left.move.number - 1 ≡ low + left.place = omega (arith, left.its_number) in e)
+            ∙ (slice_get-left (map commit_by course.moves) more (low + left.place) (commit_by left.move)
+            (slice_get-map course.moves (low + left.place) left.move
+            (sym (slice_get-drop course.moves low left.place) ∙ left.is_move))
+            ∙ ap (λ f. Some (record { number = left.move.number; from = f; to = left.move.to })) left.its_from)
+
+bool-cases : (b : Bool) → (b ≡ true) ⊎ (b ≡ false)
+bool-cases true = inl refl
+bool-cases false = inr refl
+
+-- at rest
+rest-is : (from : ℕ) (marks : ℕ → PresenceMark) (all : List Move) (setting : Setting) (course : Course) (node : ℕ)
+    → IsSound setting course → course.start ≡ from
+    → MarkIs setting.nodes from marks (map commit_by course.moves) course.is_off all node
+    (rest_mark setting course node)
+rest-is from marks all setting course node sound begins = at_place (node == last_stop course) refl
+  where
+    stands_there : stands from (map commit_by course.moves) ≡ last_stop course
+    stands_there = stands-moves from course.moves ∙ ap (λ f. fold (λ n (m : Move). m.to) f course.moves) (sym begins)
+
+    count : length (map commit_by course.moves) ≡ length course.moves
+    count = length-map course.moves commit_by
+
+    at_state : (b : Bool) → course.is_off ≡ b → node ≡ last_stop course
+        → MarkIs setting.nodes from marks (map commit_by course.moves) course.is_off all node
+        (cond b (Off (length course.moves)) (Here (length course.moves)))
+    at_state true e same = (same ∙ sym stands_there, sym count, e)
+    at_state false e same = (same ∙ sym stands_there, sym count, e)
+
+    at_place : (b : Bool) → (node == last_stop course) ≡ b
+        → MarkIs setting.nodes from marks (map commit_by course.moves) course.is_off all node
+        (cond b (there course) (trail_mark (since_top setting course) node Empty))
+    at_place true e = at_state course.is_off refl (eqb-true node (last_stop course) e)
+    at_place false e = subst (λ (cs : List Commit). MarkIs setting.nodes from marks cs course.is_off all node
+        (trail_mark (since_top setting course) node Empty)) (append-nil (map commit_by course.moves))
+        (gone-is from marks course.is_off all setting course node
+        (trail_mark (since_top setting course) node Empty) [] sound refl)
+
+-- what holds of the marks at rest while the subscriber is on
+pub next-stands : (setting : Setting) (course : Course) (move : Move) (from : ℕ) → IsNext setting course move
+    → course.start ≡ from → stands from (map commit_by (course.moves ++ move ∷ [])) ≡ move.to
+next-stands setting course move from next begins = stands-moves from (course.moves ++ move ∷ [])
+    ∙ fold-append (λ n (m : Move). m.to) from course.moves (move ∷ [])
+
+pub rest-stands : (course : Course) (from : ℕ) → course.start ≡ from
+    → stands from (map commit_by course.moves) ≡ last_stop course
+rest-stands course from begins = stands-moves from course.moves
+    ∙ ap (λ f. fold (λ n (m : Move). m.to) f course.moves) (sym begins)
+
+counted : (course : Course) (move : Move) → length (course.moves ++ move ∷ []) ≡ suc (length course.moves)
+counted course move = omega (arith, length-append course.moves (move ∷ []))
+
+-- the Gone of the move itself
+own-gone : (setting : Setting) (course : Course) (move : Move) → IsNext setting course move
+    → slice_get (map commit_by (course.moves ++ move ∷ [])) (move.number - 1) ≡ Some (commit_by move)
+own-gone setting course move next = ap (slice_get (map commit_by (course.moves ++ move ∷ [])))
+    (let e : move.number - 1 ≡ length course.moves = omega (arith, next.number) in e) ∙ at_end course.moves
+  where
+    at_end : (xs : List Move) → slice_get (map commit_by (xs ++ move ∷ [])) (length xs) ≡ Some (commit_by move)
+    at_end [] = refl
+    at_end (x ∷ xs) = at_end xs
+
+-- each phase of a move
+coming-is : (setting : Setting) (from : ℕ) (marks : ℕ → PresenceMark) (course : Course) (move : Move) (node : ℕ)
+    → IsSound setting course → IsNext setting course move → course.start ≡ from
+    → MarkIs setting.nodes from marks (map commit_by course.moves) false (course.moves ++ move ∷ []) node
+    (mark_coming setting course move node)
+coming-is setting from marks course move node sound next begins = at_to (node == move.to) refl
+  where
+    at_to : (b : Bool) → (node == move.to) ≡ b → MarkIs setting.nodes from marks (map commit_by course.moves) false
+        (course.moves ++ move ∷ []) node (cond b (Coming move.number move.from) (rest_mark setting course node))
+    at_to true e = (
+      next.number ∙ sym (counted course move),
+      subst (λ n. n < setting.nodes) (sym next.from) (stop-inside setting course sound),
+      refl,
+      inl (
+        next.number ∙ ap suc (sym (length-map course.moves commit_by)),
+        next.from
+            ∙ sym (rest-stands course from begins),
+      ),
+    )
+    at_to false e = subst (λ b. MarkIs setting.nodes from marks (map commit_by course.moves) b
+        (course.moves ++ move ∷ []) node (rest_mark setting course node)) next.is_on
+        (rest-is from marks (course.moves ++ move ∷ []) setting course node sound begins)
+
+-- the marks of the trail, when the subscriber has left it
+trail-is : (setting : Setting) (from : ℕ) (marks : ℕ → PresenceMark) (course : Course) (move : Move) (node : ℕ)
+    → IsSound setting course → IsNext setting course move → (node == move.from) ≡ false
+    → MarkIs setting.nodes from marks (map commit_by (course.moves ++ move ∷ [])) false
+    (course.moves ++ move ∷ []) node (rest_mark setting course node)
+trail-is setting from marks course move node sound next other =
+    subst (λ m. MarkIs setting.nodes from marks (map commit_by (course.moves ++ move ∷ [])) false
+    (course.moves ++ move ∷ []) node m)
+    (sym (ap (λ b. cond b (there course) (trail_mark (since_top setting course) node Empty))
+    (ap (λ n. node == n) (sym next.from) ∙ other)))
+    (subst (λ (cs : List Commit). MarkIs setting.nodes from marks cs false (course.moves ++ move ∷ []) node
+    (trail_mark (since_top setting course) node Empty)) (sym (map-append commit_by course.moves (move ∷ [])))
+    (gone-is from marks false (course.moves ++ move ∷ []) setting course node
+    (trail_mark (since_top setting course) node Empty) (commit_by move ∷ []) sound refl))
+
+left-is : (setting : Setting) (from : ℕ) (marks : ℕ → PresenceMark) (course : Course) (move : Move) (node : ℕ)
+    → IsNext setting course move → (node == move.from) ≡ true
+    → MarkIs setting.nodes from marks (map commit_by (course.moves ++ move ∷ [])) false
+    (course.moves ++ move ∷ []) node (Gone move.number move.to)
+left-is setting from marks course move node next e = (
+  omega (arith, next.number),
+  own-gone setting course move next
+      ∙ ap (λ f. Some (record { number = move.number; from = f; to = move.to })) (sym (eqb-true node move.from e)),
+  next.inside,
+)
+
+passing-is : (setting : Setting) (from : ℕ) (marks : ℕ → PresenceMark) (course : Course) (move : Move) (node : ℕ)
+    → IsSound setting course → IsNext setting course move → course.start ≡ from
+    → marks move.from ≡ Gone move.number move.to
+    → MarkIs setting.nodes from marks (map commit_by (course.moves ++ move ∷ [])) false
+    (course.moves ++ move ∷ []) node (mark_passing setting course move node)
+passing-is setting from marks course move node sound next begins gone = at_from (node == move.from) refl
+  where
+    at_from : (b : Bool) → (node == move.from) ≡ b → MarkIs setting.nodes from marks
+        (map commit_by (course.moves ++ move ∷ [])) false (course.moves ++ move ∷ []) node
+        (cond b (Gone move.number move.to) (mark_coming setting course move node))
+    at_from true e = left-is setting from marks course move node next e
+    at_from false e = at_to (node == move.to) refl
+      where
+        at_to : (b : Bool) → (node == move.to) ≡ b → MarkIs setting.nodes from marks
+            (map commit_by (course.moves ++ move ∷ [])) false (course.moves ++ move ∷ []) node
+            (cond b (Coming move.number move.from) (rest_mark setting course node))
+        at_to true t = (
+          next.number ∙ sym (counted course move),
+          subst (λ n. n < setting.nodes) (sym next.from) (stop-inside setting course sound),
+          refl,
+          inr (
+            next.number ∙ (sym (counted course move) ∙ sym (length-map (course.moves ++ move ∷ []) commit_by)),
+            eqb-true node move.to t ∙ sym (next-stands setting course move from next begins),
+            gone ∙ ap (λ n. Gone move.number n) (sym (eqb-true node move.to t)),
+          ),
+        )
+        at_to false t = trail-is setting from marks course move node sound next e
+
+clearing-is : (setting : Setting) (from : ℕ) (marks : ℕ → PresenceMark) (course : Course) (move : Move)
+    (purged : List ℕ) (node : ℕ) → IsSound setting course → IsNext setting course move → course.start ≡ from
+    → MarkIs setting.nodes from marks (map commit_by (course.moves ++ move ∷ [])) false
+    (course.moves ++ move ∷ []) node (mark_erasing setting course move purged node)
+clearing-is setting from marks course move purged node sound next begins = at_purged (has node purged)
+  where
+    Goal : PresenceMark → Type 0
+    Goal m = MarkIs setting.nodes from marks (map commit_by (course.moves ++ move ∷ [])) false
+        (course.moves ++ move ∷ []) node m
+
+    at_from : (b t : Bool) → (node == move.from) ≡ b → t ≡ false
+        → Goal (cond b (Gone move.number move.to) (cond t (Coming move.number move.from)
+        (rest_mark setting course node)))
+    at_from true t e off = left-is setting from marks course move node next e
+    at_from false true e off = cc
+    at_from false false e off = trail-is setting from marks course move node sound next e
+
+    at_to : (b : Bool) → (node == move.to) ≡ b → Goal (cond b (Here move.number)
+        (mark_passing setting course move node))
+    at_to true t = (
+      eqb-true node move.to t ∙ sym (next-stands setting course move from next begins),
+      next.number
+          ∙ (sym (counted course move) ∙ sym (length-map (course.moves ++ move ∷ []) commit_by)),
+      refl,
+    )
+    at_to false t = at_from (node == move.from) (node == move.to) refl t
+
+    at_purged : (b : Bool) → Goal (cond b Empty (cond (node == move.to) (Here move.number)
+        (mark_passing setting course move node)))
+    at_purged true = tt
+    at_purged false = at_to (node == move.to) refl
+
+-- so a mark of a view tells it
+pub mark-is : (setting : Setting) (from : ℕ) (marks : ℕ → PresenceMark) (entries : ℕ → ℕ → Option Address)
+    (commits : List Commit) (off : Bool) (moves : List Move) (node : ℕ) → node < setting.nodes
+    → View setting from marks entries commits off moves
+    → MarkIs setting.nodes from marks commits off moves node (marks node)
+mark-is setting from marks entries commits off moves node low (inl h) =
+    rw (h.marks_are node low, h.commits_are, h.off_is)
+    (rest-is from marks moves setting h.course node h.sound h.begins)
+mark-is setting from marks entries commits off moves node low (inr h) = at_phase h.phase h.is_phase
+    (h.marks_are node low) h.commits_are (h.marks_are h.move.from
+    (subst (λ n. n < setting.nodes) (sym h.next.from) (stop-inside setting h.course h.sound)))
+  where
+    at_phase : (phase : Phase) → IsPhase setting h.course h.move phase
+        → marks node ≡ phase_mark setting h.course h.move phase node → commits ≡ phase_commits h.course h.move phase
+        → marks h.move.from ≡ phase_mark setting h.course h.move phase h.move.from
+        → MarkIs setting.nodes from marks commits off moves node (marks node)
+    at_phase (coming written) p m c f = rw (m, c, h.off_is, h.moves_are)
+        (coming-is setting from marks h.course h.move node h.sound h.next h.begins)
+    at_phase passage p m c f = rw (m, c, h.off_is, h.moves_are)
+        (passing-is setting from marks h.course h.move node h.sound h.next h.begins
+        (f ∙ ap (λ b. cond b (Gone h.move.number h.move.to) (mark_coming setting h.course h.move h.move.from))
+        (eq-eqb h.move.from h.move.from refl)))
+    at_phase (clearing erased purged) p m c f = rw (m, c, h.off_is, h.moves_are)
+        (clearing-is setting from marks h.course h.move purged node h.sound h.next h.begins)

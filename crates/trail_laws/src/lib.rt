@@ -1,0 +1,17 @@
+//! The laws of the trail: what the marks and the addresses of a subscriber tell after every legal history, whoever made it,
+//! where they lead and how far, and what finds answer. Each public function is a law, and does nothing.
+#![tactic(auto)]
+
+mod answers;
+mod marks;
+mod outcomes;
+mod ways;
+
+pub use answers::{again_has_its_cause, answers_are_right, numbers_never_fall};
+pub use marks::{entries_tell, marks_lead, marks_tell};
+pub use outcomes::outcomes_are_right;
+pub use ways::{
+    front_of_history_is_legal, levels_stay_near, marks_lead_by_phase, marks_lead_shortly,
+    passage_is_open, phases_cover, quiet_finds_stand_still, quiet_finds_stay_within,
+    rest_is_settled,
+};
