@@ -9,18 +9,19 @@ use Rattle.net_graph.specs.Network.{Network}
 use Rattle.net_graph.specs.Walks.{IsLeastWeight}
 use Rattle.node_set.specs.Ascending.{has, IsAscending}
 use Rattle.distances.specs.Table.{DistanceTable, AreDistancesOf}
-use Rattle.coarse_cover.specs.Coarsening.{Grown, cluster_of, phase, phases, unhomed}
-use Rattle.coarse_cover.specs.Covers.{listed, shown}
+use Rattle.coarse_cover.specs.Coarsening.{cluster_of, phase, phases, without_home}
+use Rattle.coarse_cover.specs.Covers.{cluster_list, as_cluster}
 use Rattle.coarse_cover.specs.declared.cover.Cluster.{Cluster}
-use Rattle.coarse_cover.proofs.Growth.{ascending-union_of}
 use Rattle.cluster_tree.specs.Tree.{WeighedCluster, IsDepth, weight_beside, within, inside_weight}
-use Rattle.cluster_tree.proofs.Places.{has_place, beside_place}
+use Rattle.cluster_tree.specs.PlaceLaws.{has_place, beside_place}
 use Rattle.region_plan.specs.Plan.{PlanCluster, Level, PlanData, level_at, levels_of, top_of, no_level}
+use Rattle.node_set.specs.Balls.{GrownCluster}
+use Rattle.node_set.specs.BallLaws.{ascending-union_of}
 use Rattle.region_plan.specs.Regions.{IsTop, IsClusterOf, AreClustersOf, IsLevelOf, IsPlanOf, regions_of, readers_of, weighed}
 
 -- ---- the clusters of a coarsening have ascending members
 
-abbrev Ascends : Grown → Type 0
+abbrev Ascends : GrownCluster → Type 0
 Ascends c = IsAscending c.members
 
 abbrev Rises : Cluster → Type 0
@@ -41,18 +42,18 @@ phases_ascend balls k (suc more) [] = All-nil (All Ascends)
 phases_ascend balls k (suc more) (v ∷ vs) =
     let n = length (v ∷ vs) in
     let clusters = phase balls k n n (v ∷ vs) in
-    All-cons (All Ascends) clusters (phases balls k more (unhomed clusters (v ∷ vs))) (phase_ascends balls k n n (v ∷ vs)) (phases_ascend balls k more (unhomed clusters (v ∷ vs)))
+    All-cons (All Ascends) clusters (phases balls k more (without_home clusters (v ∷ vs))) (phase_ascends balls k n n (v ∷ vs)) (phases_ascend balls k more (without_home clusters (v ∷ vs)))
 
-shown_rise : (n p : ℕ) (cs : List Grown) → All Ascends cs → All Rises (map (shown n p) cs)
-unfolding shown
+shown_rise : (n p : ℕ) (cs : List GrownCluster) → All Ascends cs → All Rises (map (as_cluster n p) cs)
+unfolding as_cluster
 shown_rise n p [] all = All-nil Rises
-shown_rise n p (c ∷ cs) all = All-cons Rises (shown n p c) (map (shown n p) cs) (All-head Ascends c cs all) (shown_rise n p cs (All-tail Ascends c cs all))
+shown_rise n p (c ∷ cs) all = All-cons Rises (as_cluster n p c) (map (as_cluster n p) cs) (All-head Ascends c cs all) (shown_rise n p cs (All-tail Ascends c cs all))
 
-listed_rise : (n p : ℕ) (all : List (List Grown)) → All (All Ascends) all → All Rises (listed n p all)
-unfolding listed
+listed_rise : (n p : ℕ) (all : List (List GrownCluster)) → All (All Ascends) all → All Rises (cluster_list n p all)
+unfolding cluster_list
 listed_rise n p [] h = All-nil Rises
 listed_rise n p (cs ∷ later) h =
-    All-append Rises (map (shown n p) cs) (listed n (suc p) later) (shown_rise n p cs (All-head (All Ascends) cs later h)) (listed_rise n (suc p) later (All-tail (All Ascends) cs later h))
+    All-append Rises (map (as_cluster n p) cs) (cluster_list n (suc p) later) (shown_rise n p cs (All-head (All Ascends) cs later h)) (listed_rise n (suc p) later (All-tail (All Ascends) cs later h))
 
 -- ---- one cluster
 
@@ -105,8 +106,8 @@ same_clusters one_weight network (c ∷ cs) (d ∷ ds) (e ∷ es) all p q =
 
 same_level : (one_weight : LeastIsOne) (network : Network) (table : DistanceTable) (k i : ℕ) (one two : Level) → IsLevelOf network table k i one → IsLevelOf network table k i two → one ≡ two
 same_level one_weight network table k i one two p q =
-    let rise : All Rises (listed table.nodes 0 (regions_of table k i)) = listed_rise table.nodes 0 (regions_of table k i) (phases_ascend _ k _ _) in
-    let clusters : one.clusters ≡ two.clusters = same_clusters one_weight network (listed table.nodes 0 (regions_of table k i)) one.clusters two.clusters rise p.clusters q.clusters in
+    let rise : All Rises (cluster_list table.nodes 0 (regions_of table k i)) = listed_rise table.nodes 0 (regions_of table k i) (phases_ascend _ k _ _) in
+    let clusters : one.clusters ≡ two.clusters = same_clusters one_weight network (cluster_list table.nodes 0 (regions_of table k i)) one.clusters two.clusters rise p.clusters q.clusters in
     let exponent : one.exponent ≡ two.exponent = p.exponent ∙ sym q.exponent in
     let threshold : one.threshold ≡ two.threshold = p.threshold ∙ sym q.threshold in
     let phases_are : one.phases ≡ two.phases = p.phases ∙ sym q.phases in
@@ -132,8 +133,9 @@ pub one_plan : (one_table : TableIsOne) (one_weight : LeastIsOne) (network : Net
 one_plan one_table one_weight network k one two p q =
     let a : one.distances ≡ two.distances = tables in
     let b : one.k ≡ two.k = trade_off in
+    let r : one.reach ≡ two.reach = p.reach ∙ sym q.reach in
     let c : one.levels ≡ two.levels = levels in
-    let parts : ◌≡◌ {A = PlanData} (record { k = one.k; distances = one.distances; levels = one.levels }) (record { k = two.k; distances = two.distances; levels = two.levels }) = cc in
+    let parts : ◌≡◌ {A = PlanData} (record { k = one.k; reach = one.reach; distances = one.distances; levels = one.levels }) (record { k = two.k; reach = two.reach; distances = two.distances; levels = two.levels }) = cc in
     parts
   where
     tables : one.distances ≡ two.distances

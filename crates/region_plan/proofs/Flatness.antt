@@ -1,14 +1,15 @@
 -- The flat plan is matched.
-use Rattle.std.proofs.Common.{◌≡◌, ℕ, ◌^◌, ◌<◌, ◌≤◌, true, cond, List, [], ◌∷◌, get_or, refl, sym, ◌∙◌, ap, subst, arith}
+use Rattle.std.proofs.Common.{◌≡◌, ℕ, ◌^◌, ◌<◌, ◌≤◌, true, cond, List, [], ◌∷◌, get_or, refl, sym, ◌∙◌, ap, subst, arith, ◌*◌}
 use Rattle.node_set.specs.Ascending.{has, passing}
 use Rattle.distances.specs.Table.{dist, IsMetric}
 use Rattle.net_graph.specs.Network.{Network}
-use Rattle.coarse_cover.specs.Coarsening.{centres}
 use Rattle.cluster_tree.specs.Tree.{weight_beside}
 use Rattle.region_plan.specs.Plan.{PlanData, nodes_of, levels_of, top_of, distance, level_at, cluster_in, cluster_at, clusters_of, members_of, home, readers, leader, inside}
 use Rattle.region_plan.specs.Regions.{containing, IsFlat}
-use Rattle.region_plan.specs.Matched.{IsMatched}
-use Rattle.region_plan.proofs.Lists.{made_at, beside_map, has_centre, below_centre}
+use Rattle.region_plan.specs.Matched.{IsMatched, IsWithinReach}
+use Rattle.node_set.specs.Balls.{centres}
+use Rattle.node_set.specs.BallLaws.{has_centre, below_centre, get_or-map_centres}
+use Rattle.region_plan.proofs.Lists.{beside_map}
 
 module _ (network : Network) (plan : PlanData) (flat : IsFlat network plan) where
   pub flat_member : (v : ℕ) → v < nodes_of plan → has v (members_of plan 0 0) ≡ true
@@ -18,10 +19,10 @@ module _ (network : Network) (plan : PlanData) (flat : IsFlat network plan) wher
   flat_below v h = below_centre (nodes_of plan) v (ap (has v) (sym flat.level.whole.members) ∙ h)
 
   pub flat_home : (v : ℕ) → v < nodes_of plan → home plan 0 v ≡ 0
-  flat_home v h = ap (λ (xs : List ℕ). get_or xs v 0) flat.level.homes ∙ made_at (λ u. 0) (nodes_of plan) v 0 h
+  flat_home v h = ap (λ (xs : List ℕ). get_or xs v 0) flat.level.homes ∙ get_or-map_centres (λ u. 0) (nodes_of plan) v 0 h
 
   pub flat_readers : (v : ℕ) → v < nodes_of plan → readers plan 0 v ≡ 0 ∷ []
-  flat_readers v h = ap (λ (xs : List (List ℕ)). get_or xs v []) flat.level.readers ∙ made_at (λ u. 0 ∷ []) (nodes_of plan) v [] h
+  flat_readers v h = ap (λ (xs : List (List ℕ)). get_or xs v []) flat.level.readers ∙ get_or-map_centres (λ u. 0 ∷ []) (nodes_of plan) v [] h
 
   pub flat_leader : leader plan 0 0 ≡ 0
   flat_leader = flat.level.whole.leader
@@ -72,3 +73,11 @@ module _ (network : Network) (plan : PlanData) (flat : IsFlat network plan) wher
         (only_cluster (λ d. has v (members_of plan 0 d) ≡ true → distance plan (leader plan 0 d) v ≤ inside plan 0 d v)
         (λ h. subst (λ u. distance plan u v ≤ inside plan 0 0 v) (sym flat_leader) (omega (arith, flat_inside v (flat_below v h)))) c) i;
   }
+
+  pub flat_reached : IsWithinReach plan
+  flat_reached i c v = only_level (λ j. c < clusters_of plan j → has v (members_of plan j c) ≡ true → inside plan j c v ≤ plan.reach * 2 ^ (level_at plan j).exponent)
+      (only_cluster (λ d. has v (members_of plan 0 d) ≡ true → inside plan 0 d v ≤ plan.reach * 2 ^ (level_at plan 0).exponent)
+      (λ h.
+      let below : v < nodes_of plan = flat_below v h in
+      subst (λ r. inside plan 0 0 v ≤ r * 2 ^ (level_at plan 0).exponent) (sym flat.reach)
+      (omega (arith, flat_inside v below, flat.level.exponent.greatest.greatest 0 v (omega arith) below, flat.level.exponent.enough))) c) i

@@ -1,21 +1,21 @@
 -- A level as it is built, and the plan of all levels.
-use Rattle.std.proofs.Common.{◌≡◌, ℕ, ◌+◌, ◌-◌, ◌^◌, ◌<◌, ◌≤◌, List, [], ◌∷◌, ◌++◌, length, map, get_or, refl, sym, ◌∙◌, ap, subst, inl, inr, arith}
+use Rattle.std.proofs.Common.{◌≡◌, ℕ, ◌+◌, ◌-◌, ◌^◌, ◌<◌, ◌≤◌, List, [], ◌∷◌, ◌++◌, length, map, get_or, refl, sym, ◌∙◌, ap, subst, inl, inr, arith, ◌*◌}
 use Rattle.std.specs.Prelude.{All}
 use Rattle.std.proofs.lemmas.Bool.{cases_lt}
 use Rattle.std.proofs.lemmas.List.{get_or_append_left, get_or_push}
 use Rattle.net_graph.specs.Network.{Network, IsNetwork}
 use Rattle.node_set.specs.Nodes.{Nodes}
 use Rattle.distances.specs.Table.{DistanceTable, AreDistancesOf, IsMetric, ball_of}
-use Rattle.coarse_cover.specs.Coarsening.{coarsening, all_clusters, home_of, centres}
-use Rattle.coarse_cover.specs.Covers.{sets, AreCentred, IsCover}
+use Rattle.coarse_cover.specs.Coarsening.{coarsening, all_clusters, ClustersAreShaped}
+use Rattle.coarse_cover.specs.Covers.{IsCover}
 use Rattle.coarse_cover.specs.declared.cover.Cluster.{Cluster}
 use Rattle.coarse_cover.specs.declared.cover.Cover.{Cover}
-use Rattle.coarse_cover.proofs.Marking.{length-sets}
 use Rattle.region_plan.specs.Plan.{PlanCluster, Level, PlanData, level_in, no_level}
 use Rattle.region_plan.specs.Regions.{balls_of, regions_of, readers_of, threshold_of, IsTop, AreClustersOf, IsLevelOf, IsPlanOf}
 use Rattle.region_plan.specs.Kept.{IsSpanned, IsSized, level_of}
-use Rattle.region_plan.proofs.Lists.{length-made}
 use Rattle.region_plan.proofs.Spanning.{centred, listed_spanned}
+use Rattle.node_set.specs.Balls.{home_of, centres, sets, AreCentred}
+use Rattle.node_set.specs.BallLaws.{length-sets, length-map_centres}
 use Rattle.region_plan.proofs.Making.{clusters_count, level_sized}
 
 module _ (network : Network) (table : DistanceTable) (metric : IsMetric table) (least : AreDistancesOf network table) (sound : IsNetwork network) (k i : ℕ) (low : 1 ≤ k)
@@ -25,7 +25,7 @@ module _ (network : Network) (table : DistanceTable) (metric : IsMetric table) (
   sets_are = ap sets value ∙ are ∙ ap (λ r. map (λ v. ball_of table v r) (centres table.nodes)) radius_is
 
   count : length now ≡ table.nodes
-  count = sym (length-sets now) ∙ ap length sets_are ∙ length-made (λ v. ball_of table v (2 ^ i)) table.nodes
+  count = sym (length-sets now) ∙ ap length sets_are ∙ length-map_centres (λ v. ball_of table v (2 ^ i)) table.nodes
 
   pub balls_few : length now ≤ 1024
   balls_few = omega (arith, count, metric.few)
@@ -40,11 +40,11 @@ module _ (network : Network) (table : DistanceTable) (metric : IsMetric table) (
     cover_is : IsCover table.nodes (regions_of table k i) cover
     cover_is = subst (λ (n : ℕ). IsCover n (regions_of table k i) cover) count (subst (λ (bs : List (List ℕ)). IsCover (length now) (coarsening bs k) cover) sets_are exact)
 
-    pub cover_spanned : All (IsSpanned network) cover.clusters.items
-    cover_spanned = subst (λ (cs : List Cluster). All (IsSpanned network) cs) (sym cover_is.clusters) (listed_spanned network table metric least sound k i low)
+    pub cover_spanned : ClustersAreShaped → All (IsSpanned network) cover.clusters.items
+    cover_spanned law = subst (λ (cs : List Cluster). All (IsSpanned network) cs) (sym cover_is.clusters) (listed_spanned network table metric least sound k i low law)
 
     pub homes_count : length cover.home.items ≡ table.nodes
-    homes_count = ap length cover_is.homes ∙ length-made (home_of (all_clusters (regions_of table k i))) table.nodes
+    homes_count = ap length cover_is.homes ∙ length-map_centres (home_of (all_clusters (regions_of table k i))) table.nodes
 
     module _ (rows : List PlanCluster) (rows_are : AreClustersOf network cover.clusters.items rows) (few : length cover.clusters.items ≤ length now) where
       pub rows_few : length rows ≤ table.nodes
@@ -78,16 +78,17 @@ more_levels network table k i old new level count each is now j below = elim (ca
       (subst (λ (l : Level). IsLevelOf network table k i l) (sym (ap (λ (ls : List Level). get_or ls i no_level) now ∙ get_or_push old level no_level i count)) is)
 ]
 
-abbrev plan_with : ℕ → List Level → DistanceTable → PlanData
-plan_with k levels t = record { k = k; distances = t; levels = levels }
+abbrev plan_with : ℕ → ℕ → List Level → DistanceTable → PlanData
+plan_with k reach levels t = record { k = k; reach = reach; distances = t; levels = levels }
 
-pub plan_built : (network : Network) (table copy : DistanceTable) (k top : ℕ) (levels : List Level) (plan : PlanData) → AreDistancesOf network table → copy ≡ table
-    → plan ≡ record { k = k; distances = copy; levels = levels } → length levels ≡ top + 1 → IsTop table top
+pub plan_built : (network : Network) (table copy : DistanceTable) (k reach top : ℕ) (levels : List Level) (plan : PlanData) → AreDistancesOf network table → copy ≡ table
+    → reach ≡ 2 * k - 1 → plan ≡ record { k = k; reach = reach; distances = copy; levels = levels } → length levels ≡ top + 1 → IsTop table top
     → ((j : ℕ) → j < top + 1 → IsLevelOf network table k j (level_in levels j)) → IsPlanOf network k plan
-plan_built network table copy k top levels plan least same is count top_is each =
-    subst (λ (p : PlanData). IsPlanOf network k p) (sym (is ∙ ap (plan_with k levels) same)) (record {
+plan_built network table copy k reach top levels plan least same reach_is is count top_is each =
+    subst (λ (p : PlanData). IsPlanOf network k p) (sym (is ∙ ap (plan_with k reach levels) same)) (record {
       distances = least;
       trade_off = refl;
+      reach = reach_is;
       some = omega (arith, count);
       top = subst (λ (t : ℕ). IsTop table t) last top_is;
       each = λ j h. each j (omega (arith, count));

@@ -9,4 +9,8 @@ mod Levels
 mod Matching
 mod Alone
 mod Uniqueness
-mod Checking
+mod LineWalks
+mod LineLaws
+mod LinePlans
+mod Counting
+mod Exponents

@@ -2,24 +2,24 @@
 use Rattle.std.proofs.Common.{◌≡◌, ℕ, zero, suc, ◌+◌, ◌-◌, ◌<◌, ◌≤◌, Bool, true, false, cond, List, [], ◌∷◌, ◌++◌, length, map, take, drop, replicate, get_or, refl, sym, ◌∙◌, ap, subst, inl, inr, arith}
 use Rattle.std.specs.Prelude.{All, Contains, nat_le, slice_range}
 use Rattle.std.proofs.lemmas.Bool.{cases_lt, le-leb}
-use Rattle.std.proofs.lemmas.List.{append_assoc, map_push, length-append, length-drop, length-map, length-replicate, length_push, get_or_append_left, get_or_push, get_or_default, take_all, take-append-le, drop-append-le, drop_all}
-use Rattle.net_graph.specs.Walks.{IsLeastWeight}
+use Rattle.std.proofs.lemmas.List.{append_assoc, map_push, length-append, length-drop, length-replicate, length_push, get_or_append_left, get_or_push, get_or_default, take_all, take-append-le, drop-append-le, drop_all}
 use Rattle.net_graph.specs.Network.{Network}
 use Rattle.node_set.specs.Ascending.{has, passing}
 use Rattle.node_set.specs.Nodes.{Nodes, AreNodes}
-use Rattle.node_set.proofs.Ascending.{ascending-passing, below-has, below_from_has}
-use Rattle.distances.specs.Table.{DistanceTable, dist, ball_of, IsMetric, IsDiameter}
-use Rattle.distances.proofs.Balls.{ball_members}
-use Rattle.coarse_cover.specs.Coarsening.{centres}
-use Rattle.coarse_cover.specs.Covers.{sets}
+use Rattle.node_set.specs.SetLaws.{ascending-passing, below_from_has, passing_takes, passing_skips, passing_same}
+use Rattle.distances.specs.Table.{DistanceTable, IsRowOf, dist, ball_of, IsMetric, IsDiameter}
+use Rattle.distances.specs.TableLaws.{ball_members}
 use Rattle.coarse_cover.specs.declared.cover.Cluster.{Cluster}
-use Rattle.cluster_tree.specs.Tree.{WeighedCluster, weight_beside, inside_weight, within, IsTreeOf, IsDepth}
-use Rattle.cluster_tree.proofs.Places.{passing_takes, passing_skips}
+use Rattle.std.proofs.lemmas.Grind.{same_number_lists}
+use Rattle.cluster_tree.specs.Inside.{IsWritten, make_cluster}
+use Rattle.cluster_tree.specs.Tree.{weight_beside, IsTreeOf}
 use Rattle.region_plan.specs.Plan.{PlanCluster, Level, cluster_in}
 use Rattle.region_plan.specs.Regions.{containing, readers_of, IsTop, IsWhole, IsFlatLevel, IsClusterOf, AreClustersOf}
-use Rattle.region_plan.specs.Kept.{AreRows, IsRow, IsSized, weights_among, level_of}
+use Rattle.region_plan.specs.Kept.{AreRows, IsSized, level_of}
 use Rattle.region_plan.proofs.Rows.{length-containing}
-use Rattle.region_plan.proofs.Lists.{made_at, made_more, map_same, passing_same, length-made, beside_map, has_centre}
+use Rattle.node_set.specs.Balls.{centres, sets}
+use Rattle.node_set.specs.BallLaws.{has_centre, length-centres, length-map_centres, get_or-map_centres}
+use Rattle.region_plan.proofs.Lists.{made_more, map_same, beside_map}
 
 -- ---- the clusters that contain a node
 
@@ -62,7 +62,7 @@ range_new xs ys a b from to =
     ∙ take_all (b - a) ys (omega (arith, length-append xs ys))
 
 module _ (n : ℕ) (clusters : List PlanCluster) (starts readers starts_new readers_new : List ℕ) (end : ℕ) (rows : AreRows n clusters starts readers)
-    (ends : get_or starts n 0 ≡ length readers) (grown : readers_new ≡ readers ++ containing clusters n) (end_is : end ≡ length readers_new)
+    (ends : get_or starts n 0 ≡ length readers) (growth : readers_new ≡ readers ++ containing clusters n) (end_is : end ≡ length readers_new)
     (pushed : starts_new ≡ starts ++ end ∷ []) where
   old_start : (v : ℕ) → v ≤ n → get_or starts_new v 0 ≡ get_or starts v 0
   old_start v h = ap (λ (xs : List ℕ). get_or xs v 0) pushed ∙ get_or_append_left starts (end ∷ []) 0 v (omega (arith, rows.count))
@@ -71,7 +71,7 @@ module _ (n : ℕ) (clusters : List PlanCluster) (starts readers starts_new read
   new_start = ap (λ (xs : List ℕ). get_or xs (n + 1) 0) pushed ∙ get_or_push starts end 0 (n + 1) rows.count ∙ end_is
 
   longer : length readers_new ≡ length readers + length (containing clusters n)
-  longer = ap length grown ∙ length-append readers (containing clusters n)
+  longer = ap length growth ∙ length-append readers (containing clusters n)
 
   pub more_rows : AreRows (n + 1) clusters starts_new readers_new
   more_rows = record {
@@ -85,11 +85,11 @@ module _ (n : ℕ) (clusters : List PlanCluster) (starts readers starts_new read
       | inr more ↦ let same : n + 1 ≡ v = omega arith in subst (λ i. get_or starts_new i 0 ≤ length readers_new) same (omega (arith, new_start))
     ];
     each = λ v h. elim (cases_lt v n) [
-      | inl less ↦ rw (old_start v (omega arith), old_start (v + 1) (omega arith), grown)
+      | inl less ↦ rw (old_start v (omega arith), old_start (v + 1) (omega arith), growth)
           (range_old readers (containing clusters n) (get_or starts v 0) (get_or starts (v + 1) 0) (rows.order v less) (rows.within (v + 1) (omega arith)) ∙ rows.each v less)
       | inr more ↦ let same : n ≡ v = omega arith in subst (λ i. slice_range readers_new (get_or starts_new i 0) (get_or starts_new (i + 1) 0) ≡ containing clusters i) same
-          (rw (old_start n (omega arith), new_start) (ap (λ (xs : List ℕ). slice_range xs (get_or starts n 0) (length readers_new)) grown
-          ∙ range_new readers (containing clusters n) (get_or starts n 0) (length readers_new) ends (ap length grown)))
+          (rw (old_start n (omega arith), new_start) (ap (λ (xs : List ℕ). slice_range xs (get_or starts n 0) (length readers_new)) growth
+          ∙ range_new readers (containing clusters n) (get_or starts n 0) (length readers_new) ends (ap length growth)))
     ];
   }
 
@@ -111,38 +111,42 @@ whole_ball : (table : DistanceTable) (v radius : ℕ) → v < table.nodes → Is
 whole_ball table v radius below diameter =
     passing_same (λ w. nat_le (dist table v w) radius) (λ x. true) 0 table.nodes (λ u low high. le-leb (dist table v u) radius (diameter.greatest v u below (omega arith)))
 
-module _ (table : DistanceTable) (metric : IsMetric table) (radius : ℕ) (diameter : IsDiameter table radius) (cells : List ℕ) (depth : ℕ) (ball : Nodes)
-    (members : ball.members ≡ ball_of table 0 radius) (filled : cells ≡ map (λ u. dist table 0 u) (centres table.nodes))
+module _ (table : DistanceTable) (metric : IsMetric table) (radius : ℕ) (diameter : IsDiameter table radius) (cells : List ℕ) (depth : ℕ) (nodes : List ℕ)
+    (members : nodes ≡ ball_of table 0 radius) (row : IsRowOf table 0 cells)
     (bound : All (λ x. x ≤ depth) cells) (attained : 0 < length cells → Contains cells depth) where
-  all : ball.members ≡ centres table.nodes
+  all : nodes ≡ centres table.nodes
   all = members ∙ whole_ball table 0 radius metric.some diameter
 
-  cell : (v : ℕ) → v < table.nodes → get_or cells v 0 ≡ dist table 0 v
-  cell v h = ap (λ (xs : List ℕ). get_or xs v 0) filled ∙ made_at (λ u. dist table 0 u) table.nodes v 0 h
+  filled : cells ≡ map (λ u. dist table 0 u) (centres table.nodes)
+  filled = same_number_lists cells (map (λ u. dist table 0 u) (centres table.nodes)) (row.count ∙ sym (length-map_centres (λ u. dist table 0 u) table.nodes))
+      (λ v h. row.each v (omega (arith, row.count)) ∙ sym (get_or-map_centres (λ u. dist table 0 u) table.nodes v 0 (omega (arith, row.count))))
 
-  count : length cells ≡ table.nodes
-  count = ap length filled ∙ length-made (λ u. dist table 0 u) table.nodes
-
-  whole_cluster : PlanCluster
-  whole_cluster = record { leader = 0; phase = 0; members = ball.members; weights = weights_among cells ball.members; depth = depth }
-
-  below : (v : ℕ) → has v ball.members ≡ true → v < table.nodes
+  below : (v : ℕ) → has v nodes ≡ true → v < table.nodes
   below v h = ((ball_members table 0 radius v).0 (ap (has v) (sym members) ∙ h)).0
 
-  pub whole_is : IsWhole table (record { leader = 0; phase = 0; members = ball.members; weights = weights_among cells ball.members; depth = depth })
+  beside : (v : ℕ) → has v nodes ≡ true → weight_beside v nodes cells ≡ dist table 0 v
+  beside v h =
+      ap (λ xs. weight_beside v xs cells) all ∙ ap (λ ws. weight_beside v (centres table.nodes) ws) filled
+      ∙ beside_map (λ u. dist table 0 u) v (centres table.nodes) (has_centre table.nodes v (below v h))
+
+  pub whole_is : IsWhole table (record { leader = 0; phase = 0; members = nodes; weights = cells; depth = depth })
   whole_is = record {
     leader = refl;
     phase = refl;
     members = all;
-    weights = ap (λ xs. map (λ v. get_or cells v 0) xs) all ∙ map_same (λ v. get_or cells v 0) (λ v. dist table 0 v) table.nodes cell;
+    weights = filled;
     depth = record {
-      greatest = λ v h. rw (beside_map (λ x. get_or cells x 0) v ball.members h) (bound v 0 (omega (arith, count, below v h)));
+      greatest = λ v h. rw (beside v h, ← row.each v (below v h)) (bound v 0 (omega (arith, row.count, below v h)));
       attained =
-          let at = attained (omega (arith, count, metric.some)) in
-          let member : has at.0 ball.members ≡ true = ap (has at.0) all ∙ has_centre table.nodes at.0 (omega (arith, at.1, count)) in
-          record { node = at.0; member = member; far = beside_map (λ x. get_or cells x 0) at.0 ball.members member ∙ get_or_default cells at.0 0 depth at.1 ∙ at.2 };
+          let at = attained (omega (arith, row.count, metric.some)) in
+          let short : at.0 < table.nodes = omega (arith, at.1, row.count) in
+          let member : has at.0 nodes ≡ true = ap (has at.0) all ∙ has_centre table.nodes at.0 short in
+          record { node = at.0; member = member; far = beside at.0 member ∙ sym (row.each at.0 short) ∙ get_or_default cells at.0 0 depth at.1 ∙ at.2 };
     };
   }
+
+  pub whole_count : length cells ≡ length nodes
+  whole_count = row.count ∙ sym (ap length all ∙ length-centres table.nodes)
 
 -- ---- the flat level and the flat plan
 
@@ -168,43 +172,26 @@ flat_level_is table top clusters homes row level top_is one whole zeros is =
     replicated n = replicated_from 0 n
 
 pub longer_by : (clusters : List PlanCluster) (v : ℕ) (old new : List ℕ) → new ≡ old ++ containing clusters v → length new ≤ length old + length clusters
-longer_by clusters v old new grown = omega (arith, ap length grown, length-append old (containing clusters v), length-containing clusters v)
+longer_by clusters v old new growth = omega (arith, ap length growth, length-append old (containing clusters v), length-containing clusters v)
 
 pub level_sized : (n exponent threshold phases : ℕ) (clusters : List PlanCluster) (homes : List ℕ) (level : Level) → level ≡ level_of exponent threshold phases clusters homes
     → length homes ≡ n → length clusters ≤ n → exponent ≤ 30 → IsSized n level
 level_sized n exponent threshold phases clusters homes level is nodes few light =
-    subst (λ (l : Level). IsSized n l) (sym is) (record { homes = nodes; readers = length-made (containing clusters) (length homes) ∙ nodes; clusters = few; exponent = light })
+    subst (λ (l : Level). IsSized n l) (sym is) (record { homes = nodes; readers = length-map_centres (containing clusters) (length homes) ∙ nodes; clusters = few; exponent = light })
 
 -- ---- a cluster of a cover, as a row
 
-module _ (network : Network) (made : Cluster) (cells : List ℕ) (tree : WeighedCluster) (depth : ℕ) (row : IsRow made.members cells)
-    (each : (v : ℕ) → v < made.members.room → has v made.members.members ≡ true → get_or cells v 0 ≡ inside_weight tree v)
-    (tree_is : IsTreeOf network made.members.members made.first tree) (depth_is : IsDepth tree depth) where
-  same_weight : (v : ℕ) → has v made.members.members ≡ true → weight_beside v made.members.members (weights_among cells made.members.members) ≡ inside_weight tree v
-  same_weight v h = beside_map (λ x. get_or cells x 0) v made.members.members h ∙ each v (below-has made.members.room v made.members.members row.sound.below h) h
-
-  in_tree : (v : ℕ) → has v made.members.members ≡ true → has v tree.members ≡ true
-  in_tree v h = ap (has v) tree_is.members_are ∙ h
-
-  pub row_is : IsClusterOf network made (record { leader = made.first; phase = made.phase; members = made.members.members; weights = weights_among cells made.members.members; depth = depth })
-  row_is = record {
-    leader = refl;
-    phase = refl;
-    members = refl;
-    tree = record {
-      leader_is = refl;
-      members_are = refl;
-      each = λ v h. subst (λ w. IsLeastWeight network.edges (within made.members.members) made.first v w) (sym (same_weight v h)) (tree_is.each v h);
-    };
-    count = length-map made.members.members (λ v. get_or cells v 0);
-    depth = record {
-      greatest = λ v h. subst (λ w. w ≤ depth) (sym (same_weight v h)) (depth_is.greatest v (in_tree v h));
-      attained =
-          let at = depth_is.attained in
-          let member : has at.node made.members.members ≡ true = ap (has at.node) (sym tree_is.members_are) ∙ at.member in
-          record { node = at.node; member = member; far = same_weight at.node member ∙ at.far };
-    };
-  }
+pub row_is : (network : Network) (made : Cluster) (nodes new : List ℕ) (depth : ℕ) → nodes ≡ made.members.members → IsWritten network nodes made.first [] new depth
+    → IsClusterOf network made (record { leader = made.first; phase = made.phase; members = nodes; weights = new; depth = depth })
+row_is network made nodes new depth listed is =
+    subst (λ ws. IsClusterOf network made (record { leader = made.first; phase = made.phase; members = nodes; weights = ws; depth = depth })) (sym is.appended) (record {
+      leader = refl;
+      phase = refl;
+      members = listed;
+      tree = subst (λ xs. IsTreeOf network xs made.first (make_cluster made.first nodes is.weights)) listed is.tree;
+      count = is.sound.count;
+      depth = is.sound.depth_is;
+    })
 
 pub more_clusters : (network : Network) (made : List Cluster) (rows : List PlanCluster) (c : Cluster) (d : PlanCluster) → AreClustersOf network made rows → IsClusterOf network c d
     → AreClustersOf network (made ++ c ∷ []) (rows ++ d ∷ [])

@@ -3,35 +3,35 @@ use Rattle.std.proofs.Common.{◌≡◌, ℕ, ◌-◌, ◌*◌, ◌^◌, ◌<◌
 use Rattle.std.proofs.lemmas.List.{get_or-map}
 use Rattle.net_graph.specs.Walks.{IsLeastWeight, weight_of, everywhere}
 use Rattle.net_graph.specs.Network.{Network, IsNetwork}
-use Rattle.net_graph.proofs.WalkLaws.{walk_widened}
+use Rattle.net_graph.specs.WalkLaws.{walk_widened}
 use Rattle.node_set.specs.Ascending.{has}
-use Rattle.node_set.proofs.Ascending.{has-passing}
+use Rattle.node_set.specs.SetLaws.{has-passing}
 use Rattle.distances.specs.Table.{IsMetric, dist, ball_of}
-use Rattle.coarse_cover.specs.Coarsening.{Grown, ball, all_clusters, home_of}
-use Rattle.coarse_cover.specs.Covers.{listed}
+use Rattle.coarse_cover.specs.Coarsening.{all_clusters, ClustersAreShaped, HomesAreFound}
+use Rattle.coarse_cover.specs.Covers.{cluster_list}
 use Rattle.coarse_cover.specs.declared.cover.Cluster.{Cluster}
-use Rattle.coarse_cover.proofs.Growth.{union_has}
-use Rattle.coarse_cover.proofs.Results.{clusters_shaped, home_is_within, home_is_home, listed_nodes}
-use Rattle.coarse_cover.proofs.Steps.{length-listed}
+use Rattle.coarse_cover.specs.CoverLaws.{cluster_list_nodes, length-cluster_list}
 use Rattle.cluster_tree.specs.Tree.{within}
 use Rattle.region_plan.specs.Plan.{PlanData, nodes_of, levels_of, top_of, distance, level_at, no_cluster, cluster_in, cluster_at, clusters_of, members_of, home, readers, leader, inside}
 use Rattle.region_plan.specs.Regions.{balls_of, regions_of, containing, IsClusterOf, IsLevelOf, IsPlanOf}
-use Rattle.region_plan.specs.Matched.{IsMatched, IsWithinRadius}
-use Rattle.region_plan.proofs.Lists.{made_at, length-made}
+use Rattle.region_plan.specs.Matched.{IsMatched, IsWithinReach, BoundsFinds}
 use Rattle.region_plan.proofs.Reaching.{to_ball}
 use Rattle.region_plan.proofs.Spanning.{IsClose, centred, listed_close}
+use Rattle.node_set.specs.Balls.{GrownCluster, ball, home_of}
+use Rattle.node_set.specs.BallLaws.{union_has, length-map_centres, get_or-map_centres}
 use Rattle.region_plan.proofs.Making.{clusters_count, clusters_at}
+use Rattle.region_plan.proofs.Measuring.{degree_bounds}
 
 abbrev no_made : Cluster
 no_made = record { first = 0; members = record { room = 0; members = [] }; phase = 0 }
 
-abbrev no_grown : Grown
+abbrev no_grown : GrownCluster
 no_grown = record { first = 0; growths = 0; homed = []; members = [] }
 
-module _ (network : Network) (sound : IsNetwork network) (k : ℕ) (low : 1 ≤ k) (plan : PlanData) (metric : IsMetric plan.distances) (is : IsPlanOf network k plan) where
+module _ (shape : ClustersAreShaped) (found : HomesAreFound) (network : Network) (sound : IsNetwork network) (k : ℕ) (low : 1 ≤ k) (plan : PlanData) (metric : IsMetric plan.distances) (is : IsPlanOf network k plan) where
   module _ (i : ℕ) (below : i < levels_of plan) where
     abbrev made : List Cluster
-    made = listed (nodes_of plan) 0 (regions_of plan.distances k i)
+    made = cluster_list (nodes_of plan) 0 (regions_of plan.distances k i)
 
     level : IsLevelOf network plan.distances k i (level_at plan i)
     level = is.each i below
@@ -43,7 +43,7 @@ module _ (network : Network) (sound : IsNetwork network) (k : ℕ) (low : 1 ≤ 
     cluster_is c h = clusters_at network made (level_at plan i).clusters level.clusters c no_made no_cluster (omega (arith, as_many))
 
     close : (c : ℕ) → c < clusters_of plan i → IsClose network ((2 * k - 1) * 2 ^ i) (get_or made c no_made)
-    close c h = listed_close network plan.distances metric is.distances sound k i low c no_made (omega (arith, as_many))
+    close c h = listed_close network plan.distances metric is.distances sound k i low shape c no_made (omega (arith, as_many))
 
     made_member : (c v : ℕ) → c < clusters_of plan i → has v (members_of plan i c) ≡ true → has v (get_or made c no_made).members.members ≡ true
     made_member c v h member = ap (has v) (sym (cluster_is c h).members) ∙ member
@@ -84,17 +84,17 @@ module _ (network : Network) (sound : IsNetwork network) (k : ℕ) (low : 1 ≤ 
 
     -- ---- homes
 
-    abbrev groups : List Grown
+    abbrev groups : List GrownCluster
     groups = all_clusters (regions_of plan.distances k i)
 
     groups_count : length groups ≡ clusters_of plan i
-    groups_count = sym (length-listed (nodes_of plan) 0 (regions_of plan.distances k i)) ∙ as_many
+    groups_count = sym (length-cluster_list (nodes_of plan) 0 (regions_of plan.distances k i)) ∙ as_many
 
     home_is : (v : ℕ) → v < nodes_of plan → home plan i v ≡ home_of groups v
-    home_is v h = ap (λ (xs : List ℕ). get_or xs v 0) level.homes ∙ made_at (home_of groups) (nodes_of plan) v 0 h
+    home_is v h = ap (λ (xs : List ℕ). get_or xs v 0) level.homes ∙ get_or-map_centres (home_of groups) (nodes_of plan) v 0 h
 
     ball_below : (v : ℕ) → v < nodes_of plan → v < length (balls_of plan.distances i)
-    ball_below v h = omega (arith, length-made (λ u. ball_of plan.distances u (2 ^ i)) (nodes_of plan))
+    ball_below v h = omega (arith, length-map_centres (λ u. ball_of plan.distances u (2 ^ i)) (nodes_of plan))
 
     pub home_below : (v : ℕ) → v < nodes_of plan → home plan i v < clusters_of plan i
     home_below v h =
@@ -102,23 +102,23 @@ module _ (network : Network) (sound : IsNetwork network) (k : ℕ) (low : 1 ≤ 
           arith,
           home_is v h,
           groups_count,
-          home_is_within (balls_of plan.distances i) k v low (centred network plan.distances metric is.distances sound k i low) (ball_below v h),
+          (found (balls_of plan.distances i) k v no_grown low (centred network plan.distances metric is.distances sound k i low) (ball_below v h)).0,
         )
 
     group_members : (c : ℕ) → c < length groups → (get_or made c no_made).members.members ≡ (get_or groups c no_grown).members
     group_members c h =
         sym (get_or-map (λ (d : Cluster). d.members.members) made c no_made [] (omega (arith, groups_count, as_many)))
-        ∙ ap (λ (xs : List (List ℕ)). get_or xs c []) (listed_nodes (nodes_of plan) 0 (regions_of plan.distances k i))
-        ∙ get_or-map (λ (g : Grown). g.members) groups c no_grown [] h
+        ∙ ap (λ (xs : List (List ℕ)). get_or xs c []) (cluster_list_nodes (nodes_of plan) 0 (regions_of plan.distances k i))
+        ∙ get_or-map (λ (g : GrownCluster). g.members) groups c no_grown [] h
 
     in_home : (v x : ℕ) → v < nodes_of plan → has x (ball (balls_of plan.distances i) v) ≡ true → has x (members_of plan i (home plan i v)) ≡ true
     in_home v x h member =
         let c : ℕ = home_of groups v in
         let is_within : c < length groups =
-        home_is_within (balls_of plan.distances i) k v low (centred network plan.distances metric is.distances sound k i low) (ball_below v h)
+        (found (balls_of plan.distances i) k v no_grown low (centred network plan.distances metric is.distances sound k i low) (ball_below v h)).0
         in
-        let homed = home_is_home (balls_of plan.distances i) k v low (centred network plan.distances metric is.distances sound k i low) (ball_below v h) no_grown in
-        let shaped = clusters_shaped (balls_of plan.distances i) k low (centred network plan.distances metric is.distances sound k i low) c no_grown is_within in
+        let homed = (found (balls_of plan.distances i) k v no_grown low (centred network plan.distances metric is.distances sound k i low) (ball_below v h)).1 in
+        let shaped = shape (balls_of plan.distances i) k low (centred network plan.distances metric is.distances sound k i low) c no_grown is_within in
         subst (λ d. has x (members_of plan i d) ≡ true) (sym (home_is v h))
         (ap (has x) ((cluster_is c (omega (arith, groups_count))).members ∙ group_members c is_within ∙ shaped.1)
         ∙ union_has (balls_of plan.distances i) x v (get_or groups c no_grown).homed homed member)
@@ -128,7 +128,7 @@ module _ (network : Network) (sound : IsNetwork network) (k : ℕ) (low : 1 ≤ 
         in_home u v hu (to_ball network plan.distances metric is.distances sound.limits.edges (2 ^ i) (balls_of plan.distances i) refl u v hu hv near)
 
     pub reads : (v : ℕ) → v < nodes_of plan → readers plan i v ≡ containing (level_at plan i).clusters v
-    reads v h = ap (λ (xs : List (List ℕ)). get_or xs v []) level.readers ∙ made_at (containing (level_at plan i).clusters) (nodes_of plan) v [] h
+    reads v h = ap (λ (xs : List (List ℕ)). get_or xs v []) level.readers ∙ get_or-map_centres (containing (level_at plan i).clusters) (nodes_of plan) v [] h
 
     pub own_home : (v : ℕ) → v < nodes_of plan → has v (members_of plan i (home plan i v)) ≡ true
     own_home v h = near_home v v h h (omega (arith, metric.zero v h))
@@ -143,7 +143,7 @@ module _ (network : Network) (sound : IsNetwork network) (k : ℕ) (low : 1 ≤ 
     all_home u v hu hv last =
         near_home v u hv hu (subst (λ e. distance plan v u ≤ 2 ^ e) (sym last) (omega (arith, is.top.greatest.greatest v u hv hu, is.top.enough)))
 
-  pub plan_matched : IsMatched plan
+  plan_matched : IsMatched plan
   plan_matched =
       let last : top_of plan < levels_of plan = omega (arith, is.some) in
       record {
@@ -161,5 +161,15 @@ module _ (network : Network) (sound : IsNetwork network) (k : ℕ) (low : 1 ≤ 
         far = λ i c v h. inside_far i h c v;
       }
 
-  pub plan_near : IsWithinRadius plan
-  plan_near i c v h hc member = subst (λ j. inside plan i c v ≤ (2 * j - 1) * 2 ^ i) (sym is.trade_off) (inside_near i h c v hc member)
+  plan_near : IsWithinReach plan
+  plan_near i c v h hc member =
+      subst (λ j. inside plan i c v ≤ j * 2 ^ (level_at plan i).exponent) (sym is.reach) (subst (λ e. inside plan i c v ≤ (2 * k - 1) * 2 ^ e) (sym (is.each i h).exponent) (inside_near i h c v hc member))
+
+  pub plan_bounds : BoundsFinds plan
+  plan_bounds = record {
+    matched = plan_matched;
+    exponents = λ i h. (is.each i h).exponent;
+    thresholds = λ i h. (is.each i h).threshold;
+    reached = plan_near;
+    read = λ i v. degree_bounds plan i v;
+  }

@@ -6,15 +6,15 @@ use Rattle.std.proofs.lemmas.List.{get_or_past}
 use Rattle.net_graph.specs.declared.edge.Edge.{Edge}
 use Rattle.net_graph.specs.Walks.{Joins, Step, IsWalk, weight_of, everywhere}
 use Rattle.net_graph.specs.Network.{Network, IsEdge}
-use Rattle.net_graph.proofs.WalkLaws.{IsNoHeavier, join_edge, walk-append, weight_of-append, walk_turned, walk_widened}
+use Rattle.net_graph.specs.WalkLaws.{IsNoHeavier, join_edge, walk-append, weight_of-append, walk_turned, walk_widened}
 use Rattle.node_set.specs.Ascending.{has}
-use Rattle.node_set.proofs.Ascending.{share_gives}
+use Rattle.node_set.specs.SetLaws.{share_gives}
 use Rattle.distances.specs.Table.{DistanceTable, AreDistancesOf, IsMetric, dist, ball_of}
-use Rattle.distances.proofs.Balls.{ball_members}
-use Rattle.coarse_cover.specs.Coarsening.{ball, union_of, grown, centres}
-use Rattle.coarse_cover.proofs.Growth.{union_has, union_from, union_more, touches_own, next_means, grown_first}
+use Rattle.distances.specs.TableLaws.{ball_members}
+use Rattle.node_set.specs.BallLaws.{next_growth_means, length-map_centres, get_or-map_centres}
 use Rattle.cluster_tree.specs.Tree.{within}
-use Rattle.region_plan.proofs.Lists.{made_at, length-made}
+use Rattle.node_set.specs.Balls.{ball, union_of, growth, centres}
+use Rattle.node_set.specs.BallLaws.{union_has, union_from, union_more, touches_own, growth_first}
 
 -- ---- walks that aren't heavier
 
@@ -70,10 +70,10 @@ module _ (network : Network) (table : DistanceTable) (metric : IsMetric table) (
 
   module _ (r : ℕ) (balls : List (List ℕ)) (are : balls ≡ map (λ v. ball_of table v r) (centres table.nodes)) where
     count : length balls ≡ table.nodes
-    count = ap length are ∙ length-made (λ v. ball_of table v r) table.nodes
+    count = ap length are ∙ length-map_centres (λ v. ball_of table v r) table.nodes
 
     ball_is : (v : ℕ) → v < table.nodes → ball balls v ≡ ball_of table v r
-    ball_is v h = ap (λ (bs : List (List ℕ)). get_or bs v []) are ∙ made_at (λ u. ball_of table u r) table.nodes v [] h
+    ball_is v h = ap (λ (bs : List (List ℕ)). get_or bs v []) are ∙ get_or-map_centres (λ u. ball_of table u r) table.nodes v [] h
 
     pub in_ball : (v x : ℕ) → has x (ball balls v) ≡ true → (v < table.nodes) × (x < table.nodes) × (dist table v x ≤ r)
     in_ball v x h = elim (cases_lt v table.nodes) [
@@ -97,56 +97,56 @@ module _ (network : Network) (table : DistanceTable) (metric : IsMetric table) (
           cases_or true h = inl refl
           cases_or false h = inr h
 
-      taken : (j v : ℕ) → has v (grown balls waiting a j) ≡ true → (v < table.nodes) × (has v waiting ≡ true)
+      taken : (j v : ℕ) → has v (growth balls waiting a j) ≡ true → (v < table.nodes) × (has v waiting ≡ true)
       taken zero v h =
-          let same : a ≡ v = only v (ap (has v) (sym (grown_first balls waiting a)) ∙ h) in
+          let same : a ≡ v = only v (ap (has v) (sym (growth_first balls waiting a)) ∙ h) in
           subst (λ u. (u < table.nodes) × (has u waiting ≡ true)) same (below, waits)
       taken (suc j) v h =
-          let both = (next_means balls waiting a j v).0 h in
-          let shared = share_gives (ball balls v) (union_of balls (grown balls waiting a j)) both.1 in
+          let both = (next_growth_means balls waiting a j v).0 h in
+          let shared = share_gives (ball balls v) (union_of balls (growth balls waiting a j)) both.1 in
           ((in_ball v shared.0 shared.1).0, both.0)
 
-      grows : (j v : ℕ) → has v (grown balls waiting a j) ≡ true → has v (grown balls waiting a (suc j)) ≡ true
+      grows : (j v : ℕ) → has v (growth balls waiting a j) ≡ true → has v (growth balls waiting a (suc j)) ≡ true
       grows j v h =
           let both = taken j v h in
-          (next_means balls waiting a j v).1 (both.1, touches_own balls v (grown balls waiting a j) h (own_ball v both.0))
+          (next_growth_means balls waiting a j v).1 (both.1, touches_own balls v (growth balls waiting a j) h (own_ball v both.0))
 
-      pub grown_leads : (j : ℕ) → has a (grown balls waiting a j) ≡ true
-      grown_leads zero = ap (has a) (grown_first balls waiting a) ∙ ap (λ b. b || false) (eq-eqb a a refl)
-      grown_leads (suc j) = grows j a (grown_leads j)
+      pub growth_leads : (j : ℕ) → has a (growth balls waiting a j) ≡ true
+      growth_leads zero = ap (has a) (growth_first balls waiting a) ∙ ap (λ b. b || false) (eq-eqb a a refl)
+      growth_leads (suc j) = grows j a (growth_leads j)
 
       -- within a union, a ball of it
-      near_in : (j v x : ℕ) → has v (grown balls waiting a j) ≡ true → has x (ball balls v) ≡ true
-          → IsNoHeavier network.edges (within (union_of balls (grown balls waiting a j))) v x r
+      near_in : (j v x : ℕ) → has v (growth balls waiting a j) ≡ true → has x (ball balls v) ≡ true
+          → IsNoHeavier network.edges (within (union_of balls (growth balls waiting a j))) v x r
       near_in j v x h member =
           let inside = in_ball v x member in
-          near_centre (within (union_of balls (grown balls waiting a j))) v r x inside.0 inside.1 inside.2
-          (λ y hy far. union_has balls y v (grown balls waiting a j) h (to_ball v y inside.0 hy far))
+          near_centre (within (union_of balls (growth balls waiting a j))) v r x inside.0 inside.1 inside.2
+          (λ y hy far. union_has balls y v (growth balls waiting a j) h (to_ball v y inside.0 hy far))
 
       -- each node of a union is near the leader, inside the union
-      pub near_leader : (j x : ℕ) → has x (union_of balls (grown balls waiting a j)) ≡ true
-          → IsNoHeavier network.edges (within (union_of balls (grown balls waiting a j))) a x ((2 * j + 1) * r)
+      pub near_leader : (j x : ℕ) → has x (union_of balls (growth balls waiting a j)) ≡ true
+          → IsNoHeavier network.edges (within (union_of balls (growth balls waiting a j))) a x ((2 * j + 1) * r)
       near_leader zero x h =
-          let from = union_from balls x (grown balls waiting a 0) h in
-          let same : a ≡ from.0 = only from.0 (ap (has from.0) (sym (grown_first balls waiting a)) ∙ from.1) in
-          near_more network.edges (within (union_of balls (grown balls waiting a 0))) a x r ((2 * 0 + 1) * r) (omega arith)
-          (subst (λ v. IsNoHeavier network.edges (within (union_of balls (grown balls waiting a 0))) v x r) (sym same) (near_in 0 from.0 x from.1 from.2))
+          let from = union_from balls x (growth balls waiting a 0) h in
+          let same : a ≡ from.0 = only from.0 (ap (has from.0) (sym (growth_first balls waiting a)) ∙ from.1) in
+          near_more network.edges (within (union_of balls (growth balls waiting a 0))) a x r ((2 * 0 + 1) * r) (omega arith)
+          (subst (λ v. IsNoHeavier network.edges (within (union_of balls (growth balls waiting a 0))) v x r) (sym same) (near_in 0 from.0 x from.1 from.2))
       near_leader (suc j) x h =
-          let from = union_from balls x (grown balls waiting a (suc j)) h in
-          let both = (next_means balls waiting a j from.0).0 from.1 in
-          let shared = share_gives (ball balls from.0) (union_of balls (grown balls waiting a j)) both.1 in
+          let from = union_from balls x (growth balls waiting a (suc j)) h in
+          let both = (next_growth_means balls waiting a j from.0).0 from.1 in
+          let shared = share_gives (ball balls from.0) (union_of balls (growth balls waiting a j)) both.1 in
           let before = near_leader j shared.0 shared.2 in
-          let wider : IsNoHeavier network.edges (within (union_of balls (grown balls waiting a (suc j)))) a shared.0 ((2 * j + 1) * r) = record {
+          let wider : IsNoHeavier network.edges (within (union_of balls (growth balls waiting a (suc j)))) a shared.0 ((2 * j + 1) * r) = record {
             steps = before.steps;
-            walk = walk_widened network.nodes network.edges (within (union_of balls (grown balls waiting a j))) (within (union_of balls (grown balls waiting a (suc j)))) limits
-                (λ y hy inside. union_more balls y (grown balls waiting a j) (grown balls waiting a (suc j)) (grows j) inside)
+            walk = walk_widened network.nodes network.edges (within (union_of balls (growth balls waiting a j))) (within (union_of balls (growth balls waiting a (suc j)))) limits
+                (λ y hy inside. union_more balls y (growth balls waiting a j) (growth balls waiting a (suc j)) (grows j) inside)
                 a before.steps shared.0 (omega (arith, least.nodes)) before.walk;
             light = before.light;
           } in
-          near_more network.edges (within (union_of balls (grown balls waiting a (suc j)))) a x ((2 * j + 1) * r + (r + r)) ((2 * suc j + 1) * r) (more j r)
-          (near_on network.edges (within (union_of balls (grown balls waiting a (suc j)))) a shared.0 x ((2 * j + 1) * r) (r + r) wider
-          (near_on network.edges (within (union_of balls (grown balls waiting a (suc j)))) shared.0 from.0 x r r
-          (near_back network.edges (within (union_of balls (grown balls waiting a (suc j)))) from.0 shared.0 r (near_in (suc j) from.0 shared.0 from.1 shared.1))
+          near_more network.edges (within (union_of balls (growth balls waiting a (suc j)))) a x ((2 * j + 1) * r + (r + r)) ((2 * suc j + 1) * r) (more j r)
+          (near_on network.edges (within (union_of balls (growth balls waiting a (suc j)))) a shared.0 x ((2 * j + 1) * r) (r + r) wider
+          (near_on network.edges (within (union_of balls (growth balls waiting a (suc j)))) shared.0 from.0 x r r
+          (near_back network.edges (within (union_of balls (growth balls waiting a (suc j)))) from.0 shared.0 r (near_in (suc j) from.0 shared.0 from.1 shared.1))
           (near_in (suc j) from.0 x from.1 from.2)))
         where
           more : (j r : ℕ) → (2 * j + 1) * r + (r + r) ≤ (2 * suc j + 1) * r

@@ -1,41 +1,32 @@
 -- A cluster's row, and a level's readers, as they are read.
-use Rattle.std.proofs.Common.{◌≡◌, ℕ, ◌+◌, ◌<◌, ◌≤◌, true, List, [], length, get_or, sym, ◌∙◌, ap, subst, inl, inr, arith}
+use Rattle.std.proofs.Common.{◌≡◌, ℕ, ◌+◌, ◌<◌, ◌≤◌, List, [], length, get_or, sym, ◌∙◌, ap, subst, inl, inr, arith}
 use Rattle.std.specs.Prelude.{nat_lt, slice_range}
-use Rattle.std.proofs.lemmas.Bool.{le-ltb}
+use Rattle.std.proofs.lemmas.Bool.{le-ltb, cases_Bool}
 use Rattle.std.proofs.lemmas.List.{get_or_read}
 use Rattle.node_set.specs.Ascending.{has}
 use Rattle.node_set.specs.Nodes.{Nodes, AreNodes}
-use Rattle.node_set.proofs.Ascending.{below-has}
-use Rattle.cluster_tree.specs.Tree.{weight_beside}
+use Rattle.node_set.specs.SetLaws.{below-has, length-passing-le}
 use Rattle.region_plan.specs.Plan.{PlanCluster, Level, cluster_in, readers_in}
 use Rattle.region_plan.specs.Regions.{containing}
-use Rattle.region_plan.specs.Kept.{IsRow, AreRows, weights_among, level_of}
-use Rattle.region_plan.proofs.Lists.{true_or_false, made_at, beside_map, length-made, length-passing}
+use Rattle.region_plan.specs.Kept.{AreRows, level_of}
+use Rattle.node_set.specs.BallLaws.{get_or-map_centres, length-map_centres}
 
 -- what is not below the room is no member
 pub no_member : (set : Nodes) (v room : ℕ) → AreNodes set → room ≡ set.room → room ≤ v → nat_lt v room ≡ has v set.members
-no_member set v room sound is past = le-ltb v room past ∙ elim (true_or_false (has v set.members)) [
+no_member set v room sound is past = le-ltb v room past ∙ elim (cases_Bool (has v set.members)) [
   | inl member ↦
       let below : v < set.room = below-has set.room v set.members sound.below member in
       absurd (omega (arith, below, is, past))
   | inr other ↦ sym other
 ]
 
-pub member_short : (set : Nodes) (cells : List ℕ) (v : ℕ) → IsRow set cells → has v set.members ≡ true → v < length cells
-member_short set cells v row member = omega (arith, row.count, below-has set.room v set.members row.sound.below member)
-
-pub member_weight : (set : Nodes) (cells : List ℕ) (v w : ℕ) → IsRow set cells → has v set.members ≡ true → w ≡ get_or cells v w
-    → w ≡ weight_beside v set.members (weights_among cells set.members)
-member_weight set cells v w row member is =
-    get_or_read cells v w (member_short set cells v row member) is 0 ∙ sym (beside_map (λ x. get_or cells x 0) v set.members member)
-
 pub readers_count : (exponent threshold phases : ℕ) (clusters : List PlanCluster) (homes : List ℕ) (level : Level)
     → level_of exponent threshold phases clusters homes ≡ level → length level.readers ≡ length level.homes
 readers_count exponent threshold phases clusters homes level is =
-    subst (λ (l : Level). length l.readers ≡ length l.homes) is (length-made (containing clusters) (length homes))
+    subst (λ (l : Level). length l.readers ≡ length l.homes) is (length-map_centres (containing clusters) (length homes))
 
 pub length-containing : (clusters : List PlanCluster) (v : ℕ) → length (containing clusters v) ≤ length clusters
-length-containing clusters v = length-passing (λ c. has v (cluster_in clusters c).members) 0 (length clusters)
+length-containing clusters v = length-passing-le (λ c. has v (cluster_in clusters c).members) 0 (length clusters)
 
 module _ (exponent threshold phases : ℕ) (clusters : List PlanCluster) (homes starts readers : List ℕ) (level : Level) (v first next : ℕ) (list : List ℕ)
     (rows : AreRows (length homes) clusters starts readers) (view : level_of exponent threshold phases clusters homes ≡ level) (below : v < length level.homes)
@@ -50,7 +41,7 @@ module _ (exponent threshold phases : ℕ) (clusters : List PlanCluster) (homes 
       rw (begins, ends, whole) (rows.each v short)
 
   pub read_row : slice_range list first next ≡ readers_in level v
-  read_row = row_is ∙ sym (made_at (containing clusters) (length homes) v [] short) ∙ ap (λ (l : Level). readers_in l v) view
+  read_row = row_is ∙ sym (get_or-map_centres (containing clusters) (length homes) v [] short) ∙ ap (λ (l : Level). readers_in l v) view
 
   pub row_short : length (slice_range list first next) ≤ length level.clusters
   row_short = subst (λ (l : Level). length (slice_range list first next) ≤ length l.clusters) view

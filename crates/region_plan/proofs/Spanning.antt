@@ -5,20 +5,18 @@ use Rattle.std.proofs.Math.Nat.{mul-le-mul_right}
 use Rattle.std.proofs.lemmas.List.{length-append, get_or_append_left, get_or-append-add}
 use Rattle.std.proofs.lemmas.List.Elements.{All-nil, All-append, All-map}
 use Rattle.net_graph.specs.Network.{Network, IsNetwork}
-use Rattle.net_graph.proofs.WalkLaws.{IsNoHeavier}
+use Rattle.net_graph.specs.WalkLaws.{IsNoHeavier}
 use Rattle.node_set.specs.Ascending.{has}
 use Rattle.distances.specs.Table.{DistanceTable, AreDistancesOf, IsMetric, ball_of}
-use Rattle.coarse_cover.specs.Coarsening.{Grown, union_of, grown, all_clusters}
-use Rattle.coarse_cover.specs.Covers.{listed, shown, AreCentred}
+use Rattle.coarse_cover.specs.Coarsening.{all_clusters, IsShaped, ClustersAreShaped}
+use Rattle.coarse_cover.specs.Covers.{cluster_list, as_cluster}
 use Rattle.coarse_cover.specs.declared.cover.Cluster.{Cluster}
-use Rattle.coarse_cover.proofs.Growth.{union_has, union_from}
-use Rattle.coarse_cover.proofs.Phase.{IsShaped}
-use Rattle.coarse_cover.proofs.Results.{clusters_shaped}
 use Rattle.cluster_tree.specs.Tree.{within}
 use Rattle.region_plan.specs.Regions.{balls_of, regions_of}
 use Rattle.region_plan.specs.Kept.{IsSpanned}
-use Rattle.region_plan.proofs.Lists.{length-made}
-use Rattle.region_plan.proofs.Reaching.{near_more, in_ball, own_ball, near_leader, grown_leads}
+use Rattle.node_set.specs.Balls.{GrownCluster, union_of, growth, AreCentred}
+use Rattle.node_set.specs.BallLaws.{union_has, union_from, length-map_centres}
+use Rattle.region_plan.proofs.Reaching.{near_more, in_ball, own_ball, near_leader, growth_leads}
 
 -- ---- what holds of each part of a list
 
@@ -28,14 +26,14 @@ All-left P xs ys all k d below = subst P (get_or_append_left xs ys d k below) (a
 All-right : {X : Type 0} (P : X → Type 0) (xs ys : List X) → All P (xs ++ ys) → All P ys
 All-right P xs ys all k d below = subst P (get_or-append-add xs ys k d) (all (length xs + k) d (omega (arith, length-append xs ys)))
 
-pub listed_each : (P : Cluster → Type 0) (Q : Grown → Type 0) (n : ℕ) → ((p : ℕ) (c : Grown) → Q c → P (shown n p c))
-    → (p : ℕ) (all : List (List Grown)) → All Q (all_clusters all) → All P (listed n p all)
-unfolding listed all_clusters
-listed_each P Q n each p [] all = All-nil P
-listed_each P Q n each p (cs ∷ later) all =
-    All-append P (map (shown n p) cs) (listed n (suc p) later)
-    (All-map P (shown n p) cs (λ k d h. each p (get_or cs k d) (All-left Q cs (all_clusters later) all k d h)))
-    (listed_each P Q n each (suc p) later (All-right Q cs (all_clusters later) all))
+pub for_each_listed : (P : Cluster → Type 0) (Q : GrownCluster → Type 0) (n : ℕ) → ((p : ℕ) (c : GrownCluster) → Q c → P (as_cluster n p c))
+    → (p : ℕ) (all : List (List GrownCluster)) → All Q (all_clusters all) → All P (cluster_list n p all)
+unfolding cluster_list all_clusters
+for_each_listed P Q n each p [] all = All-nil P
+for_each_listed P Q n each p (cs ∷ later) all =
+    All-append P (map (as_cluster n p) cs) (cluster_list n (suc p) later)
+    (All-map P (as_cluster n p) cs (λ k d h. each p (get_or cs k d) (All-left Q cs (all_clusters later) all k d h)))
+    (for_each_listed P Q n each (suc p) later (All-right Q cs (all_clusters later) all))
 
 -- a cluster of a cover whose members are near the centre that leads it, inside the cluster
 pub record IsClose (network : Network) (radius : ℕ) (c : Cluster) : Type 0 where
@@ -53,23 +51,23 @@ close_spans network radius c close = record {
 
 module _ (network : Network) (table : DistanceTable) (metric : IsMetric table) (least : AreDistancesOf network table) (sound : IsNetwork network) (k i : ℕ) (low : 1 ≤ k) where
   pub centred : AreCentred (balls_of table i)
-  centred v h = own_ball network table metric least sound.limits.edges (2 ^ i) (balls_of table i) refl v (omega (arith, length-made (λ u. ball_of table u (2 ^ i)) table.nodes))
+  centred v h = own_ball network table metric least sound.limits.edges (2 ^ i) (balls_of table i) refl v (omega (arith, length-map_centres (λ u. ball_of table u (2 ^ i)) table.nodes))
 
-  shape_close : (p : ℕ) (c : Grown) → IsShaped (balls_of table i) k c → IsClose network ((2 * k - 1) * 2 ^ i) (shown table.nodes p c)
-  unfolding shown
+  shape_close : (p : ℕ) (c : GrownCluster) → IsShaped (balls_of table i) k c → IsClose network ((2 * k - 1) * 2 ^ i) (as_cluster table.nodes p c)
+  unfolding as_cluster
   shape_close p c shaped =
       let waiting : List ℕ = shaped.3.0 in
-      let below : c.first < table.nodes = omega (arith, shaped.2, length-made (λ u. ball_of table u (2 ^ i)) table.nodes) in
-      let is : c.members ≡ union_of (balls_of table i) (grown (balls_of table i) waiting c.first c.growths) =
+      let below : c.first < table.nodes = omega (arith, shaped.2, length-map_centres (λ u. ball_of table u (2 ^ i)) table.nodes) in
+      let is : c.members ≡ union_of (balls_of table i) (growth (balls_of table i) waiting c.first c.growths) =
       shaped.1 ∙ ap (union_of (balls_of table i)) shaped.3.2
       in
       record {
         room = least.nodes;
-        leads = ap (has c.first) is ∙ union_has (balls_of table i) c.first c.first (grown (balls_of table i) waiting c.first c.growths)
-            (grown_leads network table metric least sound.limits.edges (2 ^ i) (balls_of table i) refl waiting c.first below shaped.3.1 c.growths)
+        leads = ap (has c.first) is ∙ union_has (balls_of table i) c.first c.first (growth (balls_of table i) waiting c.first c.growths)
+            (growth_leads network table metric least sound.limits.edges (2 ^ i) (balls_of table i) refl waiting c.first below shaped.3.1 c.growths)
             (own_ball network table metric least sound.limits.edges (2 ^ i) (balls_of table i) refl c.first below);
         below = λ v h.
-            let from = union_from (balls_of table i) v (grown (balls_of table i) waiting c.first c.growths) (ap (has v) (sym is) ∙ h) in
+            let from = union_from (balls_of table i) v (growth (balls_of table i) waiting c.first c.growths) (ap (has v) (sym is) ∙ h) in
             let inside = in_ball network table metric least sound.limits.edges (2 ^ i) (balls_of table i) refl from.0 v from.2 in
             omega (arith, inside.1, least.nodes);
         near = λ v h.
@@ -81,10 +79,10 @@ module _ (network : Network) (table : DistanceTable) (metric : IsMetric table) (
       enough : (j k r : ℕ) → j < k → (2 * j + 1) * r ≤ (2 * k - 1) * r
       enough j k r h = mul-le-mul_right r (omega arith)
 
-  pub listed_close : All (IsClose network ((2 * k - 1) * 2 ^ i)) (listed table.nodes 0 (regions_of table k i))
-  listed_close =
-      listed_each (IsClose network ((2 * k - 1) * 2 ^ i)) (IsShaped (balls_of table i) k) table.nodes shape_close 0 (regions_of table k i)
-      (clusters_shaped (balls_of table i) k low centred)
+  pub listed_close : ClustersAreShaped → All (IsClose network ((2 * k - 1) * 2 ^ i)) (cluster_list table.nodes 0 (regions_of table k i))
+  listed_close law =
+      for_each_listed (IsClose network ((2 * k - 1) * 2 ^ i)) (IsShaped (balls_of table i) k) table.nodes shape_close 0 (regions_of table k i)
+      (law (balls_of table i) k low centred)
 
-  pub listed_spanned : All (IsSpanned network) (listed table.nodes 0 (regions_of table k i))
-  listed_spanned j d h = close_spans network ((2 * k - 1) * 2 ^ i) (get_or (listed table.nodes 0 (regions_of table k i)) j d) (listed_close j d h)
+  pub listed_spanned : ClustersAreShaped → All (IsSpanned network) (cluster_list table.nodes 0 (regions_of table k i))
+  listed_spanned law j d h = close_spans network ((2 * k - 1) * 2 ^ i) (get_or (cluster_list table.nodes 0 (regions_of table k i)) j d) (listed_close law j d h)

@@ -4,7 +4,7 @@ use Rattle.std.proofs.lemmas.Bool.{cases_lt}
 use Rattle.std.proofs.lemmas.List.{get_or_default, same_lists}
 use Rattle.net_graph.specs.Network.{Network}
 use Rattle.distances.specs.Table.{DistanceTable}
-use Rattle.distances.proofs.Filling.{one_table}
+use Rattle.distances.specs.TableLaws.{one_table}
 use Rattle.cluster_tree.specs.Tree.{WeighedCluster, IsDepth}
 use Rattle.region_plan.specs.Plan.{PlanCluster, Level, PlanData, level_at, no_level, cluster_in, no_cluster}
 use Rattle.region_plan.specs.Regions.{weighed, IsTop, IsWhole, IsFlatLevel, IsFlat}
@@ -31,12 +31,12 @@ same_level x y exponent threshold phases clusters homes readers =
     ∙ ap (λ hs. make_level y.exponent y.threshold y.phases y.clusters hs x.readers) homes
     ∙ ap (λ rs. make_level y.exponent y.threshold y.phases y.clusters y.homes rs) readers
 
-abbrev make_plan : ℕ → DistanceTable → List Level → PlanData
-make_plan k table levels = record { k = k; distances = table; levels = levels }
+abbrev make_plan : ℕ → ℕ → DistanceTable → List Level → PlanData
+make_plan k reach table levels = record { k = k; reach = reach; distances = table; levels = levels }
 
-same_plan : (one two : PlanData) → one.k ≡ two.k → one.distances ≡ two.distances → one.levels ≡ two.levels → one ≡ two
-same_plan one two k distances levels =
-    ap (λ n. make_plan n one.distances one.levels) k ∙ ap (λ t. make_plan two.k t one.levels) distances ∙ ap (λ ls. make_plan two.k two.distances ls) levels
+same_plan : (one two : PlanData) → one.k ≡ two.k → one.reach ≡ two.reach → one.distances ≡ two.distances → one.levels ≡ two.levels → one ≡ two
+same_plan one two k reach distances levels =
+    ap (λ n. make_plan n one.reach one.distances one.levels) k ∙ ap (λ n. make_plan two.k n one.distances one.levels) reach ∙ ap (λ t. make_plan two.k two.reach t one.levels) distances ∙ ap (λ ls. make_plan two.k two.reach two.distances ls) levels
 
 -- ---- the greatest is one
 
@@ -89,7 +89,7 @@ flat_levels_are_one table x y one two =
     (one.homes ∙ sym two.homes) (one.readers ∙ sym two.readers)
 
 pub flat_is_one : (network : Network) (one two : PlanData) → IsFlat network one → IsFlat network two → one ≡ two
-flat_is_one network one two p q = same_plan one two (p.trade_off ∙ sym q.trade_off) tables levels
+flat_is_one network one two p q = same_plan one two (p.trade_off ∙ sym q.trade_off) (p.reach ∙ sym q.reach) tables levels
   where
     tables : one.distances ≡ two.distances
     tables = one_table network one.distances two.distances p.distances q.distances

@@ -1,9 +1,21 @@
--- The plan of the line of four nodes, 0 - 1 - 2 - 3 with weights of 1, with the trade-off 2.
--- Key law: `line_of_four_is_matched`, so the definition of a matched plan can be met.
-use Rattle.std.specs.Prelude.{ℕ, [], ◌∷◌}
+-- The line of four nodes, 0 - 1 - 2 - 3 with weights of 1, and its plan with the trade-off 2: three levels, of which the lowest
+-- has two clusters.
+-- Key law: `line_has_its_plan` (it is the plan of its network, and bounds its finds, so that what is said of such plans is said
+-- of some).
+use Rattle.std.specs.Prelude.{ℕ, List, [], ◌∷◌}
+use Rattle.net_graph.specs.declared.edge.Edge.{Edge}
+use Rattle.net_graph.specs.Network.{Network}
+use Rattle.net_graph.specs.Walks.{make_edge}
 use Rattle.distances.specs.Table.{DistanceTable}
 use Rattle.region_plan.specs.Plan.{PlanCluster, Level, PlanData}
 use Rattle.region_plan.specs.Regions.{readers_of}
+
+-- its network
+abbrev pub line_edges : List Edge
+line_edges = make_edge 0 1 1 ∷ make_edge 1 2 1 ∷ make_edge 2 3 1 ∷ []
+
+abbrev pub line_network : Network
+line_network = record { nodes = 4; edges = line_edges }
 
 -- the distances on the line
 abbrev pub line_table : DistanceTable
@@ -28,4 +40,4 @@ line_level exponent threshold =
 
 -- the plan
 abbrev pub line_of_four : PlanData
-line_of_four = record { k = 2; distances = line_table; levels = line_level_0 ∷ line_level 1 1 ∷ line_level 2 2 ∷ [] }
+line_of_four = record { k = 2; reach = 3; distances = line_table; levels = line_level_0 ∷ line_level 1 1 ∷ line_level 2 2 ∷ [] }

@@ -1,12 +1,12 @@
 -- What every plan keeps: its sizes.
-use Rattle.std.specs.Prelude.{◌≡◌, ℕ, true, ◌+◌, ◌≤◌, ◌<◌, List, All, length, map, slice_index, slice_range}
+use Rattle.std.specs.Prelude.{◌≡◌, ℕ, Bool, true, false, ◌+◌, ◌*◌, ◌^◌, ◌≤◌, ◌<◌, List, All, length, get_or, slice_index, slice_range}
 use Rattle.net_graph.specs.Network.{Network}
 use Rattle.net_graph.specs.Walks.{IsReached}
 use Rattle.node_set.specs.Nodes.{Nodes, AreNodes}
 use Rattle.node_set.specs.Ascending.{has}
 use Rattle.coarse_cover.specs.declared.cover.Cluster.{Cluster}
 use Rattle.cluster_tree.specs.Tree.{within}
-use Rattle.distances.specs.Table.{IsMetric}
+use Rattle.distances.specs.Table.{DistanceTable, IsMetric, dist}
 use Rattle.region_plan.specs.Plan.{PlanCluster, PlanData, Level, nodes_of, levels_of}
 use Rattle.region_plan.specs.Regions.{containing, readers_of}
 use Rattle.region_plan.specs.Measures.{degree_of}
@@ -24,17 +24,15 @@ pub record IsKept (plan : PlanData) : Type 0 where
   pub few : levels_of plan ≤ 31
   pub low : 1 ≤ plan.k
   pub high : plan.k ≤ 8
+  pub near : plan.reach ≤ 17
   pub metric : IsMetric plan.distances
   pub levels : All (IsSized (nodes_of plan)) plan.levels
 
--- the weights of the members, from a list of weights that has one for each node
-abbrev pub weights_among : List ℕ → List ℕ → List ℕ
-weights_among cells members = map (λ v. slice_index cells v) members
-
--- a set of members, and a list of weights that has one for each number below its room
-pub record IsRow (members : Nodes) (cells : List ℕ) : Type 0 where
+-- the nodes of a set, listed, and a weight for each
+pub record IsRow (members : Nodes) (nodes weights : List ℕ) : Type 0 where
   pub sound : AreNodes members
-  pub count : length cells ≡ members.room
+  pub listed : nodes ≡ members.members
+  pub count : length weights ≡ length nodes
 
 -- the readers of n nodes lie one after another, and the starts say where those of each node begin and end
 pub record AreRows (n : ℕ) (clusters : List PlanCluster) (starts readers : List ℕ) : Type 0 where
@@ -59,3 +57,26 @@ pub record IsSpanned (network : Network) (cluster : Cluster) : Type 0 where
   pub room : cluster.members.room ≡ network.nodes
   pub leads : has cluster.first cluster.members.members ≡ true
   pub reached : (v : ℕ) → has v cluster.members.members ≡ true → IsReached network.edges (within cluster.members.members) cluster.first v
+
+-- the same level with another exponent and threshold
+abbrev pub level_with : ℕ → ℕ → Level → Level
+level_with exponent threshold level =
+    record {
+      exponent = exponent;
+      threshold = threshold;
+      phases = level.phases;
+      clusters = level.clusters;
+      homes = level.homes;
+      readers = level.readers;
+    }
+
+-- the distance has the mark of the exponent whose power of two just reaches it
+pub record IsMarked (marks : List Bool) (distance : ℕ) : Type 0 where
+  pub exponent : ℕ
+  pub marked : get_or marks exponent false ≡ true
+  pub reached : distance ≤ 2 ^ exponent
+  pub just : 0 < distance → 2 ^ exponent < 2 * distance
+
+-- so have the distances from the first so many nodes
+abbrev pub AreMarked : DistanceTable → List Bool → ℕ → Type 0
+AreMarked table marks rows = (u v : ℕ) → u < rows → v < table.nodes → IsMarked marks (dist table u v)

@@ -4,3 +4,4 @@ pub mod Matched
 pub mod Measures
 pub mod Kept
 pub mod Examples
+pub mod Settings

@@ -1,11 +1,14 @@
--- A matched plan: at each level the home of a node is read by every node within the level's radius.
--- Key laws: `Plan::build` and `Plan::flat` give matched plans, by their clauses `matched`; `Plan::build` gives clusters
--- within their radius, by its clause `radius`.
-use Rattle.std.specs.Prelude.{◌≡◌, ℕ, ◌-◌, ◌*◌, ◌^◌, ◌<◌, ◌≤◌, true}
+-- A matched plan: at each level the home of a node is read by every node within the level's radius. And what the bound on the
+-- weight of finds asks of a plan beside that.
+-- Key laws: `Plan::build` gives plans that bound their finds, by its clause `bounding`, and `plan_is_bounding` says the same of every
+-- plan of a network; `Plan::flat` gives matched plans whose clusters are within their reach, by its clauses `matched` and `reached`.
+use Rattle.std.specs.Prelude.{◌≡◌, ℕ, ◌*◌, ◌^◌, ◌<◌, ◌≤◌, true, length}
 use Rattle.node_set.specs.Ascending.{has}
 use Rattle.distances.specs.Table.{IsMetric}
 use Rattle.region_plan.specs.Plan.{PlanData, nodes_of, levels_of, top_of, distance, level_at, clusters_of, members_of, home, readers, leader, inside, threshold}
-use Rattle.region_plan.specs.Regions.{containing}
+use Rattle.region_plan.specs.Regions.{containing, threshold_of, IsPlanOf}
+use Rattle.region_plan.specs.Measures.{degree_of}
+use Rattle.net_graph.specs.Network.{Network, IsNetwork}
 
 -- each home contains its node, each node reads just the clusters that contain it, and those within a level's radius read
 -- the home; a cluster has its leader, and no walk inside it is shorter than the distance
@@ -25,7 +28,22 @@ pub record IsMatched (plan : PlanData) : Type 0 where
   pub far : (i c v : ℕ) → i < levels_of plan → c < clusters_of plan i → has v (members_of plan i c) ≡ true
       → distance plan (leader plan i c) v ≤ inside plan i c v
 
--- at level i each member is within 2k-1 radii of its leader, inside the cluster
-abbrev pub IsWithinRadius : PlanData → Type 0
-IsWithinRadius plan = (i c v : ℕ) → i < levels_of plan → c < clusters_of plan i → has v (members_of plan i c) ≡ true
-    → inside plan i c v ≤ (2 * plan.k - 1) * 2 ^ i
+-- each member is within the plan's reach of its leader, inside the cluster: so many radii of the level
+abbrev pub IsWithinReach : PlanData → Type 0
+IsWithinReach plan = (i c v : ℕ) → i < levels_of plan → c < clusters_of plan i → has v (members_of plan i c) ≡ true
+    → inside plan i c v ≤ plan.reach * 2 ^ (level_at plan i).exponent
+
+-- what bounds the weight of a find by its distance: the plan is matched, its levels are the powers of two from 1 on, a level above
+-- the lowest is renewed after half of its radius, clusters are within their reach, and no node reads more clusters of a level
+-- than the degree
+pub record BoundsFinds (plan : PlanData) : Type 0 where
+  pub matched : IsMatched plan
+  pub exponents : (i : ℕ) → i < levels_of plan → (level_at plan i).exponent ≡ i
+  pub thresholds : (i : ℕ) → i < levels_of plan → threshold plan i ≡ threshold_of i
+  pub reached : IsWithinReach plan
+  pub read : (i v : ℕ) → length (readers plan i v) ≤ degree_of plan
+
+-- the plans of networks are such plans
+abbrev pub PlansBoundFinds : Type 0
+PlansBoundFinds = (network : Network) (k : ℕ) (plan : PlanData) → IsNetwork network → 1 ≤ k → IsMetric plan.distances
+    → IsPlanOf network k plan → BoundsFinds plan

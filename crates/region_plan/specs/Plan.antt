@@ -23,9 +23,11 @@ pub record Level : Type 0 where
   pub homes : List ℕ
   pub readers : List (List ℕ)
 
--- a plan: the distances of its network, and its levels from 0 on
+-- a plan: its trade-off; its reach, which says how many radii of its level a member may be from its leader; the distances of
+-- its network; and its levels from 0 on
 pub record PlanData : Type 0 where
   pub k : ℕ
+  pub reach : ℕ
   pub distances : DistanceTable
   pub levels : List Level
 

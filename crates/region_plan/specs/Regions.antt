@@ -1,14 +1,15 @@
 -- The plan of a network, level by level: level i coarsens the balls of radius 2^i; and the flat plan, one cluster of all nodes.
 -- Key laws: `Plan::build` gives the plan of its network and k, `Plan::flat` gives the flat plan, and `plan_is_one` says
 -- that a network and k have one plan.
-use Rattle.std.specs.Prelude.{◌≡◌, ℕ, zero, suc, ◌^◌, ◌<◌, ◌≤◌, List, [], ◌∷◌, length, map}
+use Rattle.std.specs.Prelude.{◌≡◌, ℕ, zero, suc, ◌-◌, ◌*◌, ◌^◌, ◌<◌, ◌≤◌, List, [], ◌∷◌, length, map}
 use Rattle.net_graph.specs.Network.{Network}
 use Rattle.node_set.specs.Ascending.{has, passing}
 use Rattle.distances.specs.Table.{DistanceTable, AreDistancesOf, IsDiameter, ball_of, dist}
-use Rattle.coarse_cover.specs.Coarsening.{Grown, coarsening, all_clusters, centres, home_of}
-use Rattle.coarse_cover.specs.Covers.{listed}
+use Rattle.coarse_cover.specs.Coarsening.{coarsening, all_clusters}
+use Rattle.coarse_cover.specs.Covers.{cluster_list}
 use Rattle.coarse_cover.specs.declared.cover.Cluster.{Cluster}
 use Rattle.cluster_tree.specs.Tree.{WeighedCluster, IsTreeOf, IsDepth}
+use Rattle.node_set.specs.Balls.{GrownCluster, centres, home_of}
 use Rattle.region_plan.specs.Plan.{PlanCluster, Level, PlanData, cluster_in, level_at, levels_of, top_of}
 
 -- the top level: the least whose power of two reaches the diameter
@@ -28,7 +29,7 @@ abbrev pub balls_of : DistanceTable → ℕ → List (List ℕ)
 balls_of table i = map (λ v. ball_of table v (2 ^ i)) (centres table.nodes)
 
 -- the coarsening of a level, phase by phase
-abbrev pub regions_of : DistanceTable → ℕ → ℕ → List (List Grown)
+abbrev pub regions_of : DistanceTable → ℕ → ℕ → List (List GrownCluster)
 regions_of table k i = coarsening (balls_of table i) k
 
 -- the ascending numbers of the clusters that contain v
@@ -64,7 +65,7 @@ pub record IsLevelOf (network : Network) (table : DistanceTable) (k i : ℕ) (le
   pub exponent : level.exponent ≡ i
   pub threshold : level.threshold ≡ threshold_of i
   pub phases : level.phases ≡ length (regions_of table k i)
-  pub clusters : AreClustersOf network (listed table.nodes 0 (regions_of table k i)) level.clusters
+  pub clusters : AreClustersOf network (cluster_list table.nodes 0 (regions_of table k i)) level.clusters
   pub homes : level.homes ≡ map (home_of (all_clusters (regions_of table k i))) (centres table.nodes)
   pub readers : level.readers ≡ readers_of table.nodes level.clusters
 
@@ -72,6 +73,7 @@ pub record IsLevelOf (network : Network) (table : DistanceTable) (k i : ℕ) (le
 pub record IsPlanOf (network : Network) (k : ℕ) (plan : PlanData) : Type 0 where
   pub distances : AreDistancesOf network plan.distances
   pub trade_off : plan.k ≡ k
+  pub reach : plan.reach ≡ 2 * k - 1
   pub some : 1 ≤ levels_of plan
   pub top : IsTop plan.distances (top_of plan)
   pub each : (i : ℕ) → i < levels_of plan → IsLevelOf network plan.distances k i (level_at plan i)
@@ -98,5 +100,6 @@ pub record IsFlatLevel (table : DistanceTable) (level : Level) : Type 0 where
 pub record IsFlat (network : Network) (plan : PlanData) : Type 0 where
   pub distances : AreDistancesOf network plan.distances
   pub trade_off : plan.k ≡ 1
+  pub reach : plan.reach ≡ 1
   pub one : levels_of plan ≡ 1
   pub level : IsFlatLevel plan.distances (level_at plan 0)

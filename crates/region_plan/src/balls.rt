@@ -1,9 +1,8 @@
 // The levels' exponents, and the balls of a level.
 ghost use Rattle.std.specs.Prelude.{◌≡◌, ℕ, ◌<◌, ◌≤◌, ◌^◌, All, IfOk, map};
 ghost use Rattle.node_set.specs.Nodes.{Nodes};
-ghost use Rattle.coarse_cover.specs.Coarsening.{centres};
-ghost use Rattle.coarse_cover.specs.Covers.{sets};
 ghost use Rattle.distances.specs.Table.{IsMetric, ball_of};
+ghost use Rattle.node_set.specs.Balls.{centres, sets};
 ghost use Rattle.region_plan.specs.Regions.{IsTop};
 
 use distances::Distances;

@@ -1,16 +1,20 @@
 //! Laws of plans, for the proofs of callers: each function does nothing, and its clauses are laws.
 
-ghost use Rattle.std.specs.Prelude.{◌≡◌, ◌<◌, ◌≤◌, ℕ, [], ◌∷◌, length};
+ghost use Rattle.std.specs.Prelude.{◌≡◌, ◌+◌, ◌*◌, ◌<◌, ◌≤◌, ℕ, List, [], ◌∷◌, length, sum_by};
 ghost use Rattle.net_graph.specs.Network.{Network, IsNetwork};
 ghost use Rattle.distances.specs.Table.{IsMetric};
-ghost use Rattle.region_plan.specs.Plan.{PlanData, nodes_of, distance, home, readers, leader, inside};
+ghost use Rattle.region_plan.specs.Plan.{PlanData, nodes_of, levels_of, readers_in, distance, home, readers, leader, inside};
 ghost use Rattle.region_plan.specs.Regions.{IsFlat, IsPlanOf};
-ghost use Rattle.region_plan.specs.Matched.{IsMatched, IsWithinRadius};
+ghost use Rattle.region_plan.specs.Matched.{IsMatched, IsWithinReach, PlansBoundFinds, BoundsFinds};
 ghost use Rattle.region_plan.specs.Measures.{degree_of};
-ghost use Rattle.region_plan.specs.Examples.{line_of_four};
+ghost use Rattle.region_plan.specs.Settings.{setting_of};
+ghost use Rattle.directory.specs.Finds.{most_looks};
+ghost use Rattle.directory.specs.Writes.{most_writes};
+ghost use Rattle.region_plan.specs.Examples.{line_network, line_of_four};
 
+use coarse_cover::{cluster_shape, home_means};
 use distances::distances_are_one;
-use net_graph::least_weight_is_one;
+use net_graph::{least_weight_is_one, least_weight_turned};
 
 /// A network and a trade-off have one plan.
 pub fn plan_is_one()
@@ -20,11 +24,13 @@ pub fn plan_is_one()
     least_weight_is_one();
 }
 
-/// The plan of a network is matched, and its clusters are within their radius.
-pub fn plan_is_matched()
-    ensures matched { (network : Network) (k : ℕ) (plan : PlanData) → IsNetwork network → 1 ≤ k → IsMetric plan.distances → IsPlanOf network k plan → IsMatched plan }
-    ensures radius { (network : Network) (k : ℕ) (plan : PlanData) → IsNetwork network → 1 ≤ k → IsMetric plan.distances → IsPlanOf network k plan → IsWithinRadius plan }
-{}
+/// The plan of a network is matched, and has what bounds the weight of finds.
+pub fn plan_is_bounding()
+    ensures { PlansBoundFinds }
+{
+    cluster_shape();
+    home_means();
+}
 
 /// A network has one flat plan.
 pub fn flat_is_one()
@@ -38,6 +44,15 @@ pub fn flat_means()
     ensures leader { (network : Network) (plan : PlanData) → IsFlat network plan → leader plan 0 0 ≡ 0 }
     ensures inside { (network : Network) (plan : PlanData) (v : ℕ) → IsFlat network plan → v < nodes_of plan → inside plan 0 0 v ≡ distance plan 0 v }
     ensures matched { (network : Network) (plan : PlanData) → IsFlat network plan → IsMetric plan.distances → IsMatched plan }
+    ensures reached { (network : Network) (plan : PlanData) → IsFlat network plan → IsWithinReach plan }
+{}
+
+/// The most looks of a find and the most writes of a move, from the plan's own data.
+pub fn plan_counts()
+    ensures looks { (plan : PlanData) (starts : List ℕ) (v : ℕ) → 1 ≤ levels_of plan
+        → most_looks (setting_of plan starts) v ≡ 1 + sum_by (λ level. length (readers_in level v)) plan.levels + nodes_of plan + 3 }
+    ensures writes { (plan : PlanData) (starts : List ℕ) → 1 ≤ levels_of plan
+        → most_writes (setting_of plan starts) ≡ 3 + 2 * levels_of plan + nodes_of plan }
 {}
 
 /// No node reads more clusters of a level than the degree.
@@ -45,7 +60,11 @@ pub fn degree_bounds()
     ensures { (plan : PlanData) (i v : ℕ) → length (readers plan i v) ≤ degree_of plan }
 {}
 
-/// The definition of a matched plan can be met.
-pub fn line_of_four_is_matched()
-    ensures { IsMatched line_of_four }
-{}
+/// The plan of the line of four is the plan of its network with the trade-off 2, and bounds its finds.
+pub fn line_has_its_plan()
+    ensures plan { IsPlanOf line_network 2 line_of_four }
+    ensures bounding { BoundsFinds line_of_four }
+{
+    least_weight_turned();
+    plan_is_bounding();
+}

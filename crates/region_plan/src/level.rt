@@ -3,7 +3,7 @@ ghost use Rattle.std.specs.Prelude.{◌≡◌, ◌+◌, ◌*◌, ◌<◌, ◌≤
 ghost use Rattle.region_plan.specs.Plan.{readers_in};
 ghost use Rattle.region_plan.specs.Regions.{containing};
 ghost use Rattle.region_plan.specs.Measures.{degree_in};
-ghost use Rattle.region_plan.specs.Kept.{level_of};
+ghost use Rattle.region_plan.specs.Kept.{level_of, level_with};
 
 use crate::row::ClusterRow;
 use net_graph::OutOfMemory;
@@ -71,6 +71,30 @@ impl LevelTable {
             homes,
             starts,
             readers,
+        })
+    }
+
+    // The same level with another exponent and threshold, in memory of its own.
+    pub fn copy_with(
+        &self,
+        alloc: Global,
+        exponent: u32,
+        threshold: u64,
+    ) -> Result<LevelTable, OutOfMemory>
+        ensures { IfOk result (λ level. level ≡ level_with exponent threshold self.now) }
+    {
+        let mut clusters = Vec::with_capacity(alloc, self.clusters.len())?;
+        for cluster in &self.clusters {
+            clusters.push(cluster.copy(alloc)?)?;
+        }
+        Ok(LevelTable {
+            exponent,
+            threshold,
+            phases: self.phases,
+            clusters,
+            homes: self.homes.to_vec(alloc)?,
+            starts: self.starts.to_vec(alloc)?,
+            readers: self.readers.to_vec(alloc)?,
         })
     }
 

@@ -8,9 +8,11 @@ mod laws;
 mod level;
 mod plan;
 mod row;
+mod spread;
 
 pub use laws::{
-    degree_bounds, flat_is_one, flat_means, line_of_four_is_matched, plan_is_matched, plan_is_one,
+    degree_bounds, flat_is_one, flat_means, line_has_its_plan, plan_counts, plan_is_bounding,
+    plan_is_one,
 };
 pub use net_graph::OutOfMemory;
 pub use plan::Plan;

@@ -1,19 +1,24 @@
 //! The plan of a network.
 
-ghost use Rattle.std.specs.Prelude.{◌≡◌, ◌<◌, ◌≤◌, IfOk, IsTrue, length, slice_index_or};
+ghost use Rattle.std.specs.Prelude.{◌≡◌, ◌<◌, ◌≤◌, ℕ, List, IfOk, IsTrue, length, slice_index_or};
 ghost use Rattle.node_set.specs.Ascending.{has};
 ghost use Rattle.distances.specs.Table.{AreDistancesOf};
 ghost use Rattle.region_plan.specs.Plan.{level_at, levels_of, nodes_of, clusters_of, cluster_at, members_of, inside};
 ghost use Rattle.region_plan.specs.Plan.{home as home_in, readers as readers_at, leader as leader_in, threshold as threshold_at};
 ghost use Rattle.region_plan.specs.Regions.{IsFlat, IsPlanOf};
-ghost use Rattle.region_plan.specs.Matched.{IsMatched, IsWithinRadius};
-ghost use Rattle.region_plan.specs.Measures.{degree_of, stretch_of, most_looks_of, most_writes_of};
+ghost use Rattle.region_plan.specs.Matched.{IsMatched, IsWithinReach, BoundsFinds};
+ghost use Rattle.region_plan.specs.Measures.{degree_of, stretch_of};
+ghost use Rattle.region_plan.specs.Settings.{setting_of};
+ghost use Rattle.directory.specs.Finds.{most_looks};
+ghost use Rattle.directory.specs.Writes.{most_writes};
 ghost use Rattle.region_plan.specs.Kept.{IsKept};
 
 use crate::balls::top_for;
-use crate::building::build_level;
+use crate::building::next_level;
 use crate::flat::flat_level;
 use crate::level::LevelTable;
+use crate::spread::exponents_in_use;
+use coarse_cover::{cluster_shape, home_means};
 use distances::Distances;
 use net_graph::{Graph, OutOfMemory};
 use std::alloc::Global;
@@ -26,6 +31,7 @@ use std::marker::Model;
 #[derive(Drop)]
 pub struct Plan {
     k: u32,
+    reach: u32,
     degree: u32,
     distances: Distances,
     levels: Vec<LevelTable>,
@@ -38,9 +44,9 @@ impl Model for Plan {
 
     ghost Value = { PlanData };
 
-    ghost view = { λ p. record { k = p.k; distances = p.distances; levels = p.levels.items } };
+    ghost view = { λ p. record { k = p.k; reach = p.reach; distances = p.distances; levels = p.levels.items } };
 
-    ghost invariant = { λ p. IsPlanKept (record { k = p.k; distances = p.distances; levels = p.levels.items }) p.degree };
+    ghost invariant = { λ p. IsPlanKept (record { k = p.k; reach = p.reach; distances = p.distances; levels = p.levels.items }) p.degree };
 }
 
 impl Plan {
@@ -51,16 +57,17 @@ impl Plan {
         ensures plan { IfOk result (IsFlat graph.now) }
         ensures copy { IfOk result (λ plan. plan.distances ≡ distances.now) }
         ensures matched { IfOk result IsMatched }
+        ensures reached { IfOk result IsWithinReach }
     {
         let mut levels = Vec::with_capacity(alloc, 1)?;
         levels.push(flat_level(alloc, distances)?)?;
-        Ok(Plan::of_levels(1, distances.copy(alloc)?, levels))
+        Ok(Plan::of_levels(1, 1, distances.copy(alloc)?, levels))
     }
 
     // The plan of these levels.
-    fn of_levels(k: u32, distances: Distances, levels: Vec<LevelTable>) -> Plan
-        requires { IsKept (record { k = k; distances = distances; levels = levels.items }) }
-        ensures { result ≡ record { k = k; distances = distances; levels = levels.items } }
+    fn of_levels(k: u32, reach: u32, distances: Distances, levels: Vec<LevelTable>) -> Plan
+        requires { IsKept (record { k = k; reach = reach; distances = distances; levels = levels.items }) }
+        ensures { result ≡ record { k = k; reach = reach; distances = distances; levels = levels.items } }
     {
         let mut degree = 0;
         for level in &levels {
@@ -68,6 +75,7 @@ impl Plan {
         }
         Plan {
             k,
+            reach,
             degree,
             distances,
             levels,
@@ -87,17 +95,20 @@ impl Plan {
         requires high { k ≤ 8 }
         ensures plan { IfOk result (IsPlanOf graph.now k) }
         ensures copy { IfOk result (λ plan. plan.distances ≡ distances.now) }
-        ensures matched { IfOk result IsMatched }
-        ensures radius { IfOk result IsWithinRadius }
+        ensures bounding { IfOk result BoundsFinds }
     {
-        // The call tells the proof that the network is connected and within the limits.
+        // The calls tell the proof that the network is connected and within the limits, and what covers keep.
         let _nodes = graph.nodes();
+        cluster_shape();
+        home_means();
         let top = top_for(distances);
         let mut levels = Vec::with_capacity(alloc, top as usize + 1)?;
+        let in_use = exponents_in_use(alloc, distances)?;
         for i in 0..top + 1 {
-            levels.push(build_level(alloc, graph, distances, k, i)?)?;
+            let level = next_level(alloc, graph, distances, k, i, &in_use, &levels)?;
+            levels.push(level)?;
         }
-        Ok(Plan::of_levels(k, distances.copy(alloc)?, levels))
+        Ok(Plan::of_levels(k, 2 * k - 1, distances.copy(alloc)?, levels))
     }
 
     /// How many nodes there are.
@@ -230,13 +241,13 @@ impl Plan {
     pub fn stretch(&self) -> u64
         ensures { result ≡ stretch_of self.now }
     {
-        16 * u64::from(self.degree) * (2 * u64::from(self.k) - 1) + 24 * u64::from(self.k)
+        16 * u64::from(self.degree) * u64::from(self.reach) + 12 * u64::from(self.reach) + 12
     }
 
     /// The most looks of a find from a node.
     pub fn most_looks(&self, from: u32) -> u64
         requires { from < nodes_of self.now }
-        ensures { result ≡ most_looks_of self.now from }
+        ensures { (starts : List ℕ) → result ≡ most_looks (setting_of self.now starts) from }
     {
         let mut read = 0;
         for level in &self.levels {
@@ -247,7 +258,7 @@ impl Plan {
 
     /// The most writes of a move.
     pub fn most_writes(&self) -> u64
-        ensures { result ≡ most_writes_of self.now }
+        ensures { (starts : List ℕ) → result ≡ most_writes (setting_of self.now starts) }
     {
         3 + 2 * u64::from(self.levels()) + u64::from(self.nodes())
     }

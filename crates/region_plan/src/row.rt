@@ -1,50 +1,62 @@
-// A cluster of a plan, with a weight for each node of the network.
-ghost use Rattle.std.specs.Prelude.{◌≡◌, ◌<◌, ◌≤◌, All, Contains, IfOk, IsTrue, length, slice_index, true, ℕ};
+// A cluster of a plan: its members ascending, and a weight beside each.
+ghost use Rattle.std.specs.Prelude.{◌≡◌, ◌<◌, ◌≤◌, All, IfOk, IsTrue, length, map, slice_index};
 ghost use Rattle.node_set.specs.Ascending.{has};
-ghost use Rattle.cluster_tree.specs.Tree.{IsTreeOf, inside_weight, weight_beside};
-ghost use Rattle.region_plan.specs.Kept.{IsRow, IsSpanned};
+ghost use Rattle.node_set.specs.Nodes.{AreNodes};
+ghost use Rattle.node_set.specs.Balls.{centres};
+ghost use Rattle.net_graph.specs.Trees.{AreDistancesFrom};
+ghost use Rattle.cluster_tree.specs.Tree.{weight_beside};
+ghost use Rattle.cluster_tree.specs.Inside.{IsWritten};
+ghost use Rattle.distances.specs.Table.{AreDistancesOf};
+ghost use Rattle.region_plan.specs.Kept.{IsSpanned};
 ghost use Rattle.region_plan.specs.Regions.{AreClustersOf, IsClusterOf, IsWhole};
 
-use cluster_tree::{ClusterTree, TreeFault};
+use cluster_tree::{TreeFault, inside_weights};
 use coarse_cover::Cluster;
 use distances::Distances;
-use net_graph::{Graph, OutOfMemory};
+use net_graph::{Graph, OutOfMemory, greatest_weight};
 use node_set::NodeSet;
 use std::alloc::{AllocError, Global};
 use std::marker::Model;
 
-// A cluster: its members, and for each node below their room the least weight inside the cluster from the leader, 0
-// where the node isn't a member.
+// A cluster: the set of its members, these in ascending order, and beside each the least weight inside the cluster from
+// the leader.
 #[derive(Drop)]
 pub struct ClusterRow {
     leader: u32,
     phase: u32,
-    depth: u64,
+    depth: u32,
     members: NodeSet,
+    nodes: Vec<u32>,
     weights: Vec<u32>,
 }
 
 impl Model for ClusterRow {
     ghost use Rattle.region_plan.specs.Plan.{PlanCluster};
-    ghost use Rattle.region_plan.specs.Kept.{IsRow, weights_among};
+    ghost use Rattle.region_plan.specs.Kept.{IsRow};
 
     ghost Value = { PlanCluster };
 
     ghost view = { λ r. record {
       leader = r.leader;
       phase = r.phase;
-      members = r.members.members;
-      weights = weights_among r.weights.items r.members.members;
+      members = r.nodes.items;
+      weights = r.weights.items;
       depth = r.depth;
     } };
 
-    ghost invariant = { λ r. IsRow r.members r.weights.items };
+    ghost invariant = { λ r. IsRow r.members r.nodes.items r.weights.items };
 }
 
 impl ClusterRow {
     // A cluster of a cover, weighed inside it from the centre that leads it.
-    pub fn new(alloc: Global, graph: &Graph, cluster: Cluster) -> Result<ClusterRow, OutOfMemory>
-        requires { IsSpanned graph.now cluster }
+    pub fn new(
+        alloc: Global,
+        graph: &Graph,
+        distances: &Distances,
+        cluster: Cluster,
+    ) -> Result<ClusterRow, OutOfMemory>
+        requires belongs { AreDistancesOf graph.now distances.now }
+        requires spanned { IsSpanned graph.now cluster }
         ensures { IfOk result (IsClusterOf graph.now cluster) }
     {
         let Cluster {
@@ -52,13 +64,16 @@ impl ClusterRow {
             members,
             phase,
         } = cluster;
-        let tree = spanning_tree(alloc, graph, &members, first)?;
-        let weights = weights_of(alloc, &members, &tree)?;
+        let nodes = nodes_of(alloc, &members)?;
+        let mut weights = Vec::with_capacity(alloc, nodes.len())?;
+        let row = distances.row(first);
+        let depth = weigh_members(alloc, graph, row, &members, &nodes, first, &mut weights)?;
         Ok(ClusterRow {
             leader: first,
             phase,
-            depth: tree.depth(),
+            depth,
             members,
+            nodes,
             weights,
         })
     }
@@ -67,17 +82,35 @@ impl ClusterRow {
     pub fn whole(alloc: Global, distances: &Distances) -> Result<ClusterRow, OutOfMemory>
         ensures { IfOk result (IsWhole distances.now) }
     {
-        let nodes = distances.nodes();
-        let mut weights = Vec::with_capacity(alloc, nodes as usize)?;
-        for v in 0..nodes {
-            weights.push(distances.between(0, v) as u32)?;
-        }
+        // The call tells the proof that distances are a metric.
+        let _nodes = distances.nodes();
+        let members = distances.ball(alloc, 0, distances.diameter())?;
+        let nodes = nodes_of(alloc, &members)?;
+        let weights = distances.row(0).to_vec(alloc)?;
+        let depth = greatest_weight(&weights);
         Ok(ClusterRow {
             leader: 0,
             phase: 0,
-            depth: u64::from(greatest(&weights)),
-            members: distances.ball(alloc, 0, distances.diameter())?,
+            depth,
+            members,
+            nodes,
             weights,
+        })
+    }
+
+    // A copy in memory of its own.
+    pub fn copy(&self, alloc: Global) -> Result<ClusterRow, OutOfMemory>
+        ensures { IfOk result (λ copy. copy ≡ self.now) }
+    {
+        let mut members = NodeSet::empty(alloc, self.members.room())?;
+        members.absorb(&self.members);
+        Ok(ClusterRow {
+            leader: self.leader,
+            phase: self.phase,
+            depth: self.depth,
+            members,
+            nodes: self.nodes.to_vec(alloc)?,
+            weights: self.weights.to_vec(alloc)?,
         })
     }
 
@@ -96,7 +129,13 @@ impl ClusterRow {
     pub fn depth(&self) -> u64
         ensures { result ≡ self.now.depth }
     {
-        self.depth
+        u64::from(self.depth)
+    }
+
+    pub fn nodes(&self) -> &[u32]
+        ensures { result.now ≡ self.now.members }
+    {
+        &self.nodes
     }
 
     pub fn member(&self, v: u32) -> bool
@@ -109,50 +148,47 @@ impl ClusterRow {
         requires { IsTrue (has v self.now.members) }
         ensures { result ≡ weight_beside v self.now.members self.now.weights }
     {
-        u64::from(self.weights[v as usize])
+        match self.nodes.binary_search(&v) {
+            Ok(place) => u64::from(self.weights[place]),
+            Err(_) => unreachable!(),
+        }
     }
 }
 
-// The tree of members that walks among them reach from the leader.
-fn spanning_tree(
+// The members of a set, in ascending order.
+fn nodes_of(alloc: Global, set: &NodeSet) -> Result<Vec<u32>, OutOfMemory>
+    ensures nodes { IfOk result (λ nodes. nodes.items ≡ set.now.members) }
+    ensures sound { IfOk result (λ nodes. AreNodes set.now) }
+{
+    let mut nodes = Vec::with_capacity(alloc, set.count() as usize)?;
+    for v in 0..set.room() {
+        if set.has(v) {
+            nodes.push(v)?;
+        }
+    }
+    Ok(nodes)
+}
+
+// Writes the least weight inside a cluster from its leader to each member, and gives the greatest. Walks among the
+// members reach them all.
+fn weigh_members(
     alloc: Global,
     graph: &Graph,
+    row: &[u32],
     members: &NodeSet,
+    nodes: &[u32],
     leader: u32,
-) -> Result<ClusterTree, OutOfMemory>
+    weights: &mut Vec<u32>,
+) -> Result<u32, OutOfMemory>
+    requires row { AreDistancesFrom graph.now leader row.now }
+    requires nodes { nodes.now ≡ members.now.members }
     requires spanned { IsSpanned graph.now (record { first = leader; members = members.now; phase = 0 }) }
-    ensures { IfOk result (IsTreeOf graph.now members.now.members leader) }
+    ensures { IfOk result (IsWritten graph.now nodes.now leader weights.old.items weights.new.items) }
 {
-    match ClusterTree::new(alloc, graph, members, leader) {
-        Ok(tree) => Ok(tree),
+    match inside_weights(alloc, graph, row, members, nodes, leader, weights) {
+        Ok(depth) => Ok(depth),
         Err(TreeFault::OutOfMemory) => Err(AllocError),
         Err(TreeFault::Outside { .. }) => unreachable!(),
-    }
-}
-
-// For each node its weight in the tree, 0 where it isn't a member.
-fn weights_of(alloc: Global, members: &NodeSet, tree: &ClusterTree) -> Result<Vec<u32>, OutOfMemory>
-    requires { tree.now.members ≡ members.now.members }
-    ensures row { IfOk result (λ weights. IsRow members.now weights.items) }
-    ensures each { IfOk result (λ weights. (v : ℕ) → v < members.now.room → has v members.now.members ≡ true → slice_index weights.items v ≡ inside_weight tree.now v) }
-{
-    let mut weights = Vec::with_capacity(alloc, members.room() as usize)?;
-    for v in 0..members.room() {
-        weights.push(weight_in(members, tree, v))?;
-    }
-    Ok(weights)
-}
-
-// The weight of a node in the tree, 0 where it isn't a member.
-fn weight_in(members: &NodeSet, tree: &ClusterTree, v: u32) -> u32
-    requires same { tree.now.members ≡ members.now.members }
-    requires below { v < members.now.room }
-    ensures { has v members.now.members ≡ true → result ≡ inside_weight tree.now v }
-{
-    if members.has(v) {
-        tree.weight_of(v) as u32
-    } else {
-        0
     }
 }
 
@@ -160,22 +196,16 @@ fn weight_in(members: &NodeSet, tree: &ClusterTree, v: u32) -> u32
 pub fn rows_of(
     alloc: Global,
     graph: &Graph,
+    distances: &Distances,
     clusters: Vec<Cluster>,
 ) -> Result<Vec<ClusterRow>, OutOfMemory>
-    requires { All (IsSpanned graph.now) clusters.items }
+    requires belongs { AreDistancesOf graph.now distances.now }
+    requires spanned { All (IsSpanned graph.now) clusters.items }
     ensures { IfOk result (λ rows. AreClustersOf graph.now clusters.items rows.items) }
 {
     let mut rows = Vec::with_capacity(alloc, clusters.len())?;
     for cluster in clusters {
-        rows.push(ClusterRow::new(alloc, graph, cluster)?)?;
+        rows.push(ClusterRow::new(alloc, graph, distances, cluster)?)?;
     }
     Ok(rows)
-}
-
-// The greatest of the numbers, 0 where there is none.
-fn greatest(numbers: &[u32]) -> u32
-    ensures bound { All (λ x. x ≤ result) numbers.now }
-    ensures attained { 0 < length numbers.now → Contains numbers.now result }
-{
-    numbers.iter().copied().max().unwrap_or(0)
 }

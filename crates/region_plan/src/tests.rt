@@ -4,7 +4,7 @@ ghost use Rattle.distances.specs.Table.{AreDistancesOf};
 
 use crate::Plan;
 use distances::Distances;
-use net_graph::{Edge, Graph, MAX_WEIGHT};
+use net_graph::{Edge, Graph, MAX_NODES, MAX_WEIGHT};
 use std::alloc::Global;
 use std::process::Abort;
 use std::test::Fail;
@@ -199,5 +199,76 @@ fn the_flat_plan_of_a_line(rt: HostRuntime) -> Result<(), Fail> {
     assert_eq!(rt; plan.nodes(), 4);
     assert_eq!(rt; plan.most_looks(1), 9);
     assert_eq!(rt; plan.most_writes(), 9);
+    Ok(())
+}
+
+// A path of `n` nodes, joined by edges of this weight.
+fn path_of(alloc: Global, n: u32, weight: u64) -> Result<(Graph, Distances), Fail>
+    requires some { 1 ≤ n }
+    requires few { n ≤ MAX_NODES }
+    requires positive { 1 ≤ weight }
+    requires light { weight ≤ MAX_WEIGHT }
+    ensures { IfOk result (λ network. AreDistancesOf network.0 network.1) }
+{
+    let mut edges = Vec::new(alloc);
+    for b in 1..n {
+        edges.push(edge(b - 1, b, weight))?;
+    }
+    let graph = Graph::new(alloc, n, &edges)?;
+    let distances = Distances::new(alloc, &graph)?;
+    Ok((graph, distances))
+}
+
+#[test]
+fn all_trade_offs_on_a_path(rt: HostRuntime) -> Result<(), Fail> {
+    let (graph, distances) = path_of(rt.alloc(), 130, 1)?;
+    // the trade-off, the degree, and how many clusters level 2 has
+    let rows = [
+        (1, 130, 130),
+        (2, 9, 130),
+        (3, 5, 17),
+        (4, 3, 17),
+        (5, 3, 17),
+        (6, 2, 16),
+        (7, 2, 16),
+        (8, 2, 11),
+    ];
+    for (k, degree, clusters) in rows {
+        assert!(rt; 1 <= k && k <= 8);
+        let plan = Plan::build(rt.alloc(), &graph, &distances, k)?;
+        assert_eq!(rt; plan.levels(), 9);
+        assert_eq!(rt; plan.degree(), degree);
+        assert_eq!(rt; plan.levels() == 9 && plan.clusters(2) == clusters, true);
+    }
+    Ok(())
+}
+
+#[test]
+fn a_path_of_the_heaviest_edges(rt: HostRuntime) -> Result<(), Fail> {
+    let (graph, distances) = path_of(rt.alloc(), 256, MAX_WEIGHT)?;
+    let plan = Plan::build(rt.alloc(), &graph, &distances, 2)?;
+    assert_eq!(rt; plan.levels(), 29);
+    assert_eq!(rt; plan.degree(), 9);
+    assert_eq!(rt; plan.stretch(), 480);
+    assert!(rt; plan.levels() == 29 && plan.nodes() == 256);
+    assert_eq!(rt; plan.clusters(19), 256);
+    assert_eq!(rt; plan.clusters(23), 17);
+    assert_eq!(rt; plan.home(19, 255), 255);
+    assert_eq!(rt; plan.home(22, 255), 115);
+    assert_eq!(rt; plan.exponent(28), 28);
+    assert!(rt; plan.clusters(28) == 1);
+    assert_eq!(rt; plan.depth(28, 0), 255 * MAX_WEIGHT);
+    Ok(())
+}
+
+#[test]
+fn as_many_nodes_as_there_may_be(rt: HostRuntime) -> Result<(), Fail> {
+    let (graph, distances) = path_of(rt.alloc(), MAX_NODES, 1)?;
+    let plan = Plan::build(rt.alloc(), &graph, &distances, 8)?;
+    assert_eq!(rt; plan.levels(), 11);
+    assert_eq!(rt; plan.nodes(), 1024);
+    let flat = Plan::flat(rt.alloc(), &graph, &distances)?;
+    assert!(rt; flat.levels() == 1 && flat.clusters(0) == 1);
+    assert_eq!(rt; flat.depth(0, 0), 1023);
     Ok(())
 }

@@ -1,9 +1,8 @@
 use Rattle.std.proofs.Common.{◌≡◌, map}
 use Rattle.std.specs.Prelude.{All}
 use Rattle.node_set.specs.Nodes.{Nodes}
-use Rattle.coarse_cover.specs.Coarsening.{centres}
-use Rattle.coarse_cover.specs.Covers.{sets}
 use Rattle.distances.specs.Table.{ball_of}
+use Rattle.node_set.specs.Balls.{centres, sets}
 use Rattle.region_plan.proofs.balls.balls_of_radius.Given as goal
 
 abbrev pub invariant-loop-v : goal.invariant-loop-v

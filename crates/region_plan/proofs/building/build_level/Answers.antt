@@ -17,10 +17,10 @@ coarsen-requires-clause-centred c =
     balls_centred c.args.graph.now c.args.distances.now c.requires.metric c.requires.belongs c.requires.network c.args.k c.args.i c.requires.low c.two_to.result c.two_to.ensures
     c.in_ok-balls.balls.items c.deref.result.now c.deref.ensures.value c.in_ok-balls.ensures.balls
 
-pub rows_of-requires : goal.rows_of-requires
-rows_of-requires c =
+pub rows_of-requires-clause-spanned : goal.rows_of-requires-clause-spanned
+rows_of-requires-clause-spanned c =
     cover_spanned c.args.graph.now c.args.distances.now c.requires.metric c.requires.belongs c.requires.network c.args.k c.args.i c.requires.low c.two_to.result c.two_to.ensures
-    c.in_ok-balls.balls.items c.deref.result.now c.deref.ensures.value c.in_ok-balls.ensures.balls c.in_ok-clusters.field-0 c.in_ok-clusters.ensures.exact
+    c.in_ok-balls.balls.items c.deref.result.now c.deref.ensures.value c.in_ok-balls.ensures.balls c.in_ok-clusters.field-0 c.in_ok-clusters.ensures.exact c.cluster_shape.ensures
 
 pub new-requires-clause-nodes : goal.new-requires-clause-nodes
 new-requires-clause-nodes c =

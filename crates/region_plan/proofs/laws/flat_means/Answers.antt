@@ -1,4 +1,4 @@
-use Rattle.region_plan.proofs.Flatness.{flat_home, flat_readers, flat_leader, flat_inside, flat_matched}
+use Rattle.region_plan.proofs.Flatness.{flat_home, flat_readers, flat_leader, flat_inside, flat_matched, flat_reached}
 use Rattle.region_plan.proofs.laws.flat_means.Goals as goal
 
 pub returns-clause-home : goal.returns-clause-home
@@ -15,3 +15,6 @@ returns-clause-inside c = λ network plan v flat below. flat_inside network plan
 
 pub returns-clause-matched : goal.returns-clause-matched
 returns-clause-matched c = λ network plan flat metric. flat_matched network plan flat metric
+
+pub returns-clause-reached : goal.returns-clause-reached
+returns-clause-reached c = λ network plan flat. flat_reached network plan flat

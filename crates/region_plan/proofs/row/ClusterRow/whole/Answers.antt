@@ -1,33 +1,34 @@
-use Rattle.std.proofs.Common.{◌≡◌, ℕ, length, map, ◌∙◌, sym, ap, subst, arith}
-use Rattle.coarse_cover.specs.Coarsening.{centres}
-use Rattle.distances.specs.Table.{dist}
-use Rattle.region_plan.specs.Regions.{IsWhole}
-use Rattle.region_plan.specs.Kept.{weights_among}
-use Rattle.region_plan.proofs.Lists.{made_more, length-made}
-use Rattle.region_plan.proofs.Making.{whole_is, ball_sound}
+use Rattle.std.proofs.Common.{◌≡◌, ◌<◌, ◌≤◌, ◌∙◌, ℕ, List, length, sym, subst}
+use Rattle.std.specs.Prelude.{All, Contains}
+use Rattle.distances.specs.Table.{IsRowOf, ball_of}
+use Rattle.region_plan.proofs.Making.{whole_is, whole_count}
 use Rattle.region_plan.proofs.row.ClusterRow.whole.Goals as goal
+use Rattle.region_plan.proofs.row.ClusterRow.whole.Goals.{After-greatest_weight-depth}
 
-pub loop-v-preserved : goal.loop-v-preserved
-loop-v-preserved c =
-    made_more (λ u. dist c.args.distances.now 0 u) c.loop-v.v c.loop-v.weights.items c.push.new.self.items c.between.result
-    c.loop-v.invariant c.between.ensures c.in_ok-push.ensures.items
+cells_are : (c : After-greatest_weight-depth) → c.row.result.now ≡ c.in_ok-weights.weights.items
+cells_are c = sym (c.in_ok-weights.ensures.items_if_clones_equal (λ y e same. same))
+
+row_is : (c : After-greatest_weight-depth) → IsRowOf c.args.distances.now 0 c.in_ok-weights.weights.items
+row_is c = subst (λ (xs : List ℕ). IsRowOf c.args.distances.now 0 xs) (cells_are c) c.row.ensures
+
+bound : (c : After-greatest_weight-depth) → All (λ x. x ≤ c.greatest_weight-depth.result) c.in_ok-weights.weights.items
+bound c = subst (λ (xs : List ℕ). All (λ x. x ≤ c.greatest_weight-depth.result) xs) c.deref.ensures.value c.greatest_weight-depth.ensures.bound
+
+attained : (c : After-greatest_weight-depth) → 0 < length c.in_ok-weights.weights.items → Contains c.in_ok-weights.weights.items c.greatest_weight-depth.result
+attained c = subst (λ (xs : List ℕ). 0 < length xs → Contains xs c.greatest_weight-depth.result) c.deref.ensures.value c.greatest_weight-depth.ensures.attained
+
+listed : (c : After-greatest_weight-depth) → c.in_ok-nodes.nodes.items ≡ ball_of c.args.distances.now 0 c.diameter.result
+listed c = c.in_ok-nodes.ensures.nodes ∙ c.in_ok-members.ensures.members
 
 pub invariant_of-result : goal.invariant_of-result
-invariant_of-result c =
-    let done : c.loop-v.v ≡ c.args.distances.now.nodes = omega (arith, c.nodes-nodes.ensures.count) in
-    record {
-      sound = ball_sound c.args.distances.now 0 c.diameter.result c.in_ok-ball.field-0 c.nodes-nodes.ensures.metric c.in_ok-ball.ensures.room c.in_ok-ball.ensures.members;
-      count = ap length c.loop-v.invariant ∙ length-made (λ u. dist c.args.distances.now 0 u) c.loop-v.v ∙ done ∙ sym c.in_ok-ball.ensures.room;
-    }
+invariant_of-result c = record {
+  sound = c.in_ok-nodes.ensures.sound;
+  listed = c.in_ok-nodes.ensures.nodes;
+  count = whole_count c.args.distances.now c.nodes-nodes.ensures.metric c.diameter.result c.diameter.ensures c.in_ok-weights.weights.items c.greatest_weight-depth.result
+      c.in_ok-nodes.nodes.items (listed c) (row_is c) (bound c) (attained c);
+}
 
 pub returns : goal.returns
 returns c =
-    let done : c.loop-v.v ≡ c.args.distances.now.nodes = omega (arith, c.nodes-nodes.ensures.count) in
-    let filled : c.loop-v.weights.items ≡ map (λ u. dist c.args.distances.now 0 u) (centres c.args.distances.now.nodes) =
-    subst (λ (n : ℕ). c.loop-v.weights.items ≡ map (λ u. dist c.args.distances.now 0 u) (centres n)) done c.loop-v.invariant
-    in
-    subst (λ (d : ℕ). IsWhole c.args.distances.now (record { leader = 0; phase = 0; members = c.in_ok-ball.field-0.members; weights = weights_among c.loop-v.weights.items c.in_ok-ball.field-0.members; depth = d }))
-    (sym c.from.ensures)
-    (whole_is c.args.distances.now c.nodes-nodes.ensures.metric c.diameter.result c.diameter.ensures c.loop-v.weights.items c.greatest.result c.in_ok-ball.field-0
-    c.in_ok-ball.ensures.members filled
-    (rw c.deref.ensures.value at c.greatest.ensures.bound) (rw c.deref.ensures.value at c.greatest.ensures.attained))
+    whole_is c.args.distances.now c.nodes-nodes.ensures.metric c.diameter.result c.diameter.ensures c.in_ok-weights.weights.items c.greatest_weight-depth.result
+    c.in_ok-nodes.nodes.items (listed c) (row_is c) (bound c) (attained c)
