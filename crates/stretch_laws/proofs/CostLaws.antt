@@ -1,0 +1,233 @@
+-- What a find pays beyond the reading, in each phase of a move.
+use Rattle.std.proofs.Common.{◌≡◌, ◌⊎◌, inl, inr, ℕ, zero, suc, ◌+◌, ◌*◌, ◌<◌, ◌≤◌, ◌^◌, true, List, [], ◌∷◌, Some, length, map, refl, ap, ◌∙◌, subst, arith}
+use Rattle.std.specs.Prelude.{flat_map, sum_by}
+use Rattle.std.proofs.Math.Nat.{mul-le-mul_right}
+use Rattle.std.proofs.lemmas.List.Sums.{sum_by-append, sum_by-cons}
+use Rattle.node_set.specs.Ascending.{has}
+use Rattle.entry_word.specs.declared.address.Address.{Address}
+use Rattle.directory.specs.Settings.{Setting}
+use Rattle.directory.specs.Histories.{History}
+use Rattle.directory.specs.Finds.{FindCall, Reader, way_in}
+use Rattle.directory.specs.Standing.{number, standing}
+use Rattle.directory.specs.Writes.{numbers_from}
+use Rattle.trail_laws.specs.Phases.{AddressesLeadByPhase, IsShortByPhase, RestIsSettled}
+use Rattle.trail_laws.specs.Trail.{EntriesTell, EntryTells}
+use Rattle.trail_laws.specs.Ways.{LevelsStayNear, PassagesAreOpen, StandsInside}
+use Rattle.stretch_laws.specs.Costs.{AfterConfirm, AtRest, ClimbsEndEarly, Costs, CurrentAfterConfirm, InPassage, IsMet, NewBeforeCommit, OldBeforeCommit, ReadingIsBounded}
+use Rattle.stretch_laws.specs.Tracking.{IsTracking, radius}
+use Rattle.stretch_laws.proofs.Climbs.{head-has, one-more, tail-has}
+use Rattle.stretch_laws.proofs.Heights.{Ends, ends, scaled-next}
+
+-- what is used of the laws
+pub record CostUsed : Type 0 where
+  pub entries : EntriesTell
+  pub ways : AddressesLeadByPhase
+  pub inside : StandsInside
+
+-- how far an address is from the leader that has it, and from where the subscriber stands
+pub record IsReached (setting : Setting) (width : ℕ) (sub : ℕ) (history : History) (from level cluster : ℕ)
+    (address : Address) : Type 0 where
+  pub from_leader : setting.distance (setting.leader level cluster) address.node ≤ width * radius level
+  pub to_standing : setting.distance address.node (standing setting sub history)
+      ≤ 2 * (width * radius level) + setting.distance from (standing setting sub history)
+
+reached : CostUsed → (setting : Setting) (width most_readers sub : ℕ) (history : History) (from level cluster : ℕ)
+    (address : Address) → IsMet setting width most_readers sub history from level cluster address
+    → IsReached setting width sub history from level cluster address
+reached used setting width most_readers sub history from level cluster address met = record {
+  from_leader = omega (arith, far, wide);
+  to_standing = omega (
+    arith,
+    far,
+    wide,
+    met.tracking.far level cluster from met.low met.inside met.read,
+    met.tracking.wide level cluster from met.low met.inside met.read,
+    met.tracking.metric.detour address.node from (standing setting sub history) tells.0 met.inside
+        (used.inside setting sub history met.few met.legal),
+    met.tracking.metric.detour address.node (setting.leader level cluster) from tells.0 leads met.inside,
+    met.tracking.metric.both_ways address.node (setting.leader level cluster) tells.0 leads,
+  );
+}
+  where
+    tells : EntryTells setting sub history level cluster (Some address)
+    tells = subst (EntryTells setting sub history level cluster) met.held
+        (used.entries setting sub history met.few met.legal level cluster met.low)
+
+    its_reads : has cluster (setting.readers level address.node) ≡ true
+    its_reads = ap (λ n. has n (setting.readers level address.node)) tells.1
+        ∙ met.tracking.read level address.node address.node met.low tells.0 tells.0
+        (omega (arith, met.tracking.metric.none address.node tells.0))
+
+    leads : setting.leader level cluster < setting.nodes
+    leads = met.tracking.led level cluster from met.low met.inside met.read
+
+    far : setting.distance (setting.leader level cluster) address.node ≤ setting.inside level cluster address.node
+    far = met.tracking.far level cluster address.node met.low tells.0 its_reads
+
+    wide : setting.inside level cluster address.node ≤ width * radius level
+    wide = met.tracking.wide level cluster address.node met.low tells.0 its_reads
+
+-- where the way is short enough in its phase, the cost is within a bound
+costs : CostUsed → (setting : Setting) (width most_readers sub : ℕ) (history : History) (from level cluster : ℕ)
+    (address : Address) (most : ℕ) → IsMet setting width most_readers sub history from level cluster address
+    → ((way : ℕ) → IsShortByPhase setting sub history level address way
+    → setting.distance (setting.leader level cluster) address.node + way ≤ most)
+    → Costs setting sub history level cluster address most
+costs used setting width most_readers sub history from level cluster address most met short known knows =
+    let led = used.ways setting sub history met.few met.tracking.metric met.tracking.gathers met.legal level cluster address
+    known met.low met.held knows in
+    (led.0, led.1, led.2, led.3, short led.1 led.4)
+
+pub old-before : CostUsed → OldBeforeCommit
+old-before used setting width most_readers sub history from level cluster address met before old =
+    costs used setting width most_readers sub history from level cluster address _ met (λ way is. omega (
+      arith,
+      is.before_old before old,
+      (reached used setting width most_readers sub history from level cluster address met).from_leader,
+      met.tracking.halves level met.low,
+    ))
+
+pub new-before : CostUsed → NewBeforeCommit
+new-before used setting width most_readers sub history from level cluster address met before new =
+    costs used setting width most_readers sub history from level cluster address _ met (λ way is. omega (
+      arith,
+      is.before_new before new,
+      (reached used setting width most_readers sub history from level cluster address met).from_leader,
+      (reached used setting width most_readers sub history from level cluster address met).to_standing,
+    ))
+
+pub in-passage : CostUsed → PassagesAreOpen → InPassage
+in-passage used opens setting width most_readers sub history from level cluster address left met passing =
+    costs used setting width most_readers sub history from level cluster address _ met (λ way is. omega (
+      arith,
+      is.passing left passing,
+      (reached used setting width most_readers sub history from level cluster address met).from_leader,
+      met.tracking.halves level met.low,
+      opens setting sub history met.few met.legal (standing setting sub history) (number sub history) left
+          (used.inside setting sub history met.few met.legal) passing refl,
+    ))
+
+pub after-confirm : CostUsed → AfterConfirm
+after-confirm used setting width most_readers sub history from level cluster address met settled =
+    costs used setting width most_readers sub history from level cluster address _ met (λ way is. omega (
+      arith,
+      is.settled settled,
+      (reached used setting width most_readers sub history from level cluster address met).from_leader,
+      (reached used setting width most_readers sub history from level cluster address met).to_standing,
+      met.tracking.halves level met.low,
+    ))
+
+pub current-after : CostUsed → CurrentAfterConfirm
+current-after used setting width most_readers sub history from level cluster address met settled current =
+    costs used setting width most_readers sub history from level cluster address _ met (λ way is. omega (
+      arith,
+      is.current settled current,
+      (reached used setting width most_readers sub history from level cluster address met).from_leader,
+      met.tracking.halves level met.low,
+    ))
+
+pub at-rest : CostUsed → RestIsSettled → AtRest
+at-rest used rests setting width most_readers sub history from level cluster address met rest =
+    let its = rests setting sub history met.few met.legal rest in
+    current-after used setting width most_readers sub history from level cluster address met its.0
+    (its.1 level cluster address met.low met.held)
+
+-- ---- the climb
+pub ends-early : LevelsStayNear → StandsInside → ClimbsEndEarly
+ends-early levels inside setting width most_readers sub history from few tracking from_inside legal other =
+    at_end (ends setting (setting.distance from (standing setting sub history)) tracking.halves
+    (tracking.apart from (standing setting sub history) from_inside (inside setting sub history few legal) other))
+  where
+    at_reach : (level node : ℕ) → level ≤ setting.top → node < setting.nodes
+        → setting.distance node (standing setting sub history) < setting.threshold level
+        → (level ≡ setting.top)
+        ⊎ (setting.distance from (standing setting sub history) + setting.threshold level ≤ radius level + 1)
+        → has (setting.home level node) (setting.readers level from) ≡ true
+    at_reach level node low at_node near (inl is_top) =
+        ap (λ n. has (setting.home n node) (setting.readers n from)) is_top ∙ tracking.whole node from at_node from_inside
+    at_reach level node low at_node near (inr reaches) = tracking.read level node from low at_node from_inside
+        (omega (
+          arith,
+          near,
+          reaches,
+          tracking.metric.detour node (standing setting sub history) from at_node (inside setting sub history few legal)
+              from_inside,
+          tracking.metric.both_ways (standing setting sub history) from (inside setting sub history few legal) from_inside,
+        ))
+
+    at_end : Ends setting (setting.distance from (standing setting sub history))
+        → (level : ℕ) × (cluster : ℕ) × (address : Address)
+        × (radius level < 4 * setting.distance from (standing setting sub history))
+        × IsMet setting width most_readers sub history from level cluster address
+    at_end end =
+        let its = levels setting sub history few tracking.metric tracking.gathers legal end.level end.low in (
+          end.level,
+          setting.home end.level its.0,
+          its.1,
+          end.small,
+          record {
+            few = few;
+            tracking = tracking;
+            legal = legal;
+            inside = from_inside;
+            low = end.low;
+            read = at_reach end.level its.0 end.low its.2 its.3 end.reaches;
+            held = its.4;
+          },
+        )
+
+-- the reading of a level
+row-weight : (setting : Setting) (call : FindCall) (level r : ℕ) (cs : List ℕ)
+    → ((c : ℕ) → has c cs ≡ true → setting.inside level c call.from ≤ r)
+    → sum_by (λ (reader : Reader). 2 * way_in setting call reader)
+    (map (λ c. record { level = level; cluster = c }) cs) ≤ 2 * (length cs * r)
+row-weight setting call level r [] near = omega arith
+row-weight setting call level r (c ∷ cs) near = omega (
+  arith,
+  sum_by-cons (λ (reader : Reader). 2 * way_in setting call reader) (record { level = level; cluster = c })
+      (map (λ x. record { level = level; cluster = x }) cs),
+  row-weight setting call level r cs (λ x h. near x (tail-has x c cs h)),
+  near c (head-has c cs),
+  one-more (length cs) r,
+)
+
+rows-weight : (setting : Setting) (width readers : ℕ) (call : FindCall) → IsTracking setting width readers
+    → call.from < setting.nodes → (count level : ℕ) → count + level ≤ suc setting.top
+    → sum_by (λ (reader : Reader). 2 * way_in setting call reader)
+    (flat_map (λ i. map (λ c. record { level = i; cluster = c }) (setting.readers i call.from)) (numbers_from level count))
+    + 2 * (readers * (width * 2 ^ level)) ≤ 2 * (readers * (width * 2 ^ (count + level)))
+rows-weight setting width readers call tracking inside zero level high =
+    let e : 0 + level ≡ level = omega arith in rw e (omega arith)
+rows-weight setting width readers call tracking inside (suc count) level high = omega (
+  arith,
+  sum_by-append (λ (reader : Reader). 2 * way_in setting call reader)
+      (map (λ c. record { level = level; cluster = c }) (setting.readers level call.from))
+      (flat_map (λ i. map (λ c. record { level = i; cluster = c }) (setting.readers i call.from))
+      (numbers_from (suc level) count)),
+  row-weight setting call level (width * 2 ^ level) (setting.readers level call.from)
+      (λ c h. tracking.wide level c call.from (omega (arith, high)) inside h),
+  mul-le-mul_right (width * 2 ^ level) (tracking.few level call.from (omega (arith, high)) inside),
+  rows-weight setting width readers call tracking inside count (suc level) (omega (arith, high)),
+  ap (λ n. readers * (width * 2 ^ n)) (let e : count + suc level ≡ suc count + level = omega arith in e),
+  next,
+)
+  where
+    turned : (a b : ℕ) → a * (2 * b) ≡ 2 * (a * b)
+    turned a b = grind arith
+
+    next : readers * (width * 2 ^ suc level) ≡ 2 * (readers * (width * 2 ^ level))
+    next = ap (λ n. readers * n) (scaled-next width level) ∙ turned readers (width * 2 ^ level)
+
+pub reading-bounded : ReadingIsBounded
+reading-bounded setting width readers call last tracking inside low = omega (
+  arith,
+  rows-weight setting width readers call tracking inside (suc last) 0 (omega (arith, low)),
+  ap (λ n. readers * (width * 2 ^ n)) (let e : suc last + 0 ≡ suc last = omega arith in e),
+  next,
+)
+  where
+    turned : (a b : ℕ) → a * (2 * b) ≡ 2 * (a * b)
+    turned a b = grind arith
+
+    next : readers * (width * 2 ^ suc last) ≡ 2 * (readers * (width * 2 ^ last))
+    next = ap (λ n. readers * n) (scaled-next width last) ∙ turned readers (width * 2 ^ last)

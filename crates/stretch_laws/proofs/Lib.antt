@@ -1,0 +1,7 @@
+mod Heights
+mod Climbs
+mod Near
+mod PlanLaws
+mod CostLaws
+mod Nearer
+mod NearLines

@@ -1,0 +1,5 @@
+pub mod Tracking
+pub mod Costs
+pub mod Plans
+pub mod Examples
+pub mod Lines
