@@ -1,0 +1,133 @@
+-- Courses: what one step more makes of the visits, the place, the levels and the trail.
+use Rattle.std.proofs.Common.{◌≡◌, ℕ, suc, ◌≤◌, Bool, true, false, cond, List, [], ◌∷◌, ◌++◌, length, map, drop, refl, sym, ap, ◌∙◌, subst, arith, append_assoc, length-append}
+use Rattle.std.specs.Prelude.{nat_le, ◌==◌, ◌||◌}
+use Rattle.std.proofs.lemmas.List.{append-nil, map-append, drop-append-le, drop_at}
+use Rattle.std.proofs.lemmas.List.Sums.{fold-append}
+use Rattle.node_set.specs.Ascending.{has}
+use Rattle.directory.specs.Settings.{Setting, start}
+use Rattle.directory.specs.Courses.{Step, move_to, switch_off, switch_on, Move, Course, course_at, last_stop, base, next_move, after_step, after_steps}
+use Rattle.directory.specs.Writes.{visit_of, visits, step_writes, writes, trail}
+use Rattle.handset.specs.Stands.{course_of}
+
+-- one step more
+pub course-more : (setting : Setting) (sub : ℕ) (steps : List Step) (step : Step)
+    → course_of setting sub (steps ++ step ∷ []) ≡ after_step setting (course_of setting sub steps) step
+course-more setting sub steps step = fold-append (after_step setting) (course_at (start setting sub)) steps
+    (step ∷ [])
+
+writes-more : (setting : Setting) (course : Course) (steps : List Step) (step : Step)
+    → writes setting course (steps ++ step ∷ []) ≡ writes setting course steps ++ step_writes setting
+    (after_steps setting course steps) step
+unfolding writes
+writes-more setting course [] step = append-nil (step_writes setting course step)
+writes-more setting course (first ∷ steps) step =
+    ap (λ ws. step_writes setting course first ++ ws) (writes-more setting (after_step setting course first) steps
+    step)
+    ∙ sym (append_assoc (step_writes setting course first) (writes setting (after_step setting course first) steps)
+    (step_writes setting (after_steps setting (after_step setting course first) steps) step))
+
+pub visits-more : (setting : Setting) (sub : ℕ) (steps : List Step) (step : Step)
+    → visits setting sub (steps ++ step ∷ []) ≡ visits setting sub steps ++ map (visit_of sub) (step_writes setting
+    (course_of setting sub steps) step)
+visits-more setting sub steps step =
+    ap (map (visit_of sub)) (writes-more setting (course_at (start setting sub)) steps step)
+    ∙ map-append (visit_of sub) (writes setting (course_at (start setting sub)) steps) (step_writes setting
+    (course_of setting sub steps) step)
+
+-- where a move goes
+pub place-after : (setting : Setting) (course : Course) (node : ℕ) → last_stop (after_step setting course
+    (move_to node)) ≡ node
+place-after setting course node = fold-append (λ n (m : Move). m.to) course.start course.moves
+    (next_move setting course node ∷ [])
+
+pub base-more : (level : ℕ) (moves : List Move) (move : Move) → base level (moves ++ move ∷ [])
+    ≡ cond (nat_le level move.renewed) move.number (base level moves)
+base-more level moves move = fold-append (λ last (m : Move). cond (nat_le level m.renewed) m.number last) 0 moves
+    (move ∷ [])
+
+-- a level was renewed by a move of the course, if by any
+base-small : (setting : Setting) (course : Course) (steps : List Step) (level : ℕ)
+    → base level course.moves ≤ length course.moves
+    → base level (after_steps setting course steps).moves ≤ length (after_steps setting course steps).moves
+base-small setting course [] level h = h
+base-small setting course (move_to node ∷ steps) level h =
+    base-small setting (after_step setting course (move_to node)) steps level (subst (λ b. b ≤ length
+    (course.moves ++ move ∷ [])) (sym (base-more level course.moves move)) (at_test (nat_le level move.renewed)))
+  where
+    move : Move
+    move = next_move setting course node
+
+    at_test : (b : Bool) → cond b move.number (base level course.moves) ≤ length (course.moves ++ move ∷ [])
+    at_test true = omega (arith, length-append course.moves (move ∷ []))
+    at_test false = omega (arith, h, length-append course.moves (move ∷ []))
+base-small setting course (switch_off ∷ steps) level h = base-small setting
+    (after_step setting course switch_off) steps level h
+base-small setting course (switch_on ∷ steps) level h = base-small setting
+    (after_step setting course switch_on) steps level h
+
+pub base-within : (setting : Setting) (sub : ℕ) (steps : List Step) (level : ℕ)
+    → base level (course_of setting sub steps).moves ≤ length (course_of setting sub steps).moves
+base-within setting sub steps level = base-small setting (course_at (start setting sub)) steps level (omega arith)
+
+-- what is in a list with one number more at its end
+has-last : (xs : List ℕ) (x y : ℕ) → has x (xs ++ y ∷ []) ≡ (has x xs || x == y)
+has-last [] x y = at_test (x == y)
+  where
+    at_test : (b : Bool) → (b || false) ≡ b
+    at_test true = refl
+    at_test false = refl
+has-last (z ∷ xs) x y = ap (λ b. x == z || b) (has-last xs x y) ∙ at_test (x == z)
+  where
+    at_test : (b : Bool) → (b || (has x xs || x == y)) ≡ ((b || has x xs) || x == y)
+    at_test true = refl
+    at_test false = refl
+
+-- the trail after a move
+pub trail-after : (setting : Setting) (sub : ℕ) (steps : List Step) (to after node : ℕ) (renews : Bool)
+    → nat_le setting.top (next_move setting (course_of setting sub steps) to).renewed ≡ renews
+    → has node (trail setting (after_step setting (course_of setting sub steps) (move_to to)) (next_move setting
+    (after_step setting (course_of setting sub steps) (move_to to)) after))
+    ≡ (cond renews false (has node (trail setting (course_of setting sub steps) (next_move setting
+    (course_of setting sub steps) to))) || node == to)
+trail-after setting sub steps to after node renews same =
+    ap (λ b. has node (map (λ (m : Move). m.from) (drop b ((course.moves ++ move ∷ []) ++ later ∷ []))))
+    (base-more setting.top course.moves move)
+    ∙ (ap (λ b. has node (map (λ (m : Move). m.from) (drop (cond b move.number (base setting.top course.moves))
+    ((course.moves ++ move ∷ []) ++ later ∷ [])))) same
+    ∙ at_test renews)
+  where
+    course : Course
+    course = course_of setting sub steps
+
+    move : Move
+    move = next_move setting course to
+
+    later : Move
+    later = next_move setting (after_step setting course (move_to to)) after
+
+    count : length (course.moves ++ move ∷ []) ≡ suc (length course.moves)
+    count = omega (arith, length-append course.moves (move ∷ []))
+
+    ended : (b : Bool) → (b || false) ≡ b
+    ended true = refl
+    ended false = refl
+
+    at_test : (b : Bool) → has node (map (λ (m : Move). m.from) (drop (cond b move.number
+        (base setting.top course.moves)) ((course.moves ++ move ∷ []) ++ later ∷ [])))
+        ≡ (cond b false (has node (trail setting course move)) || node == to)
+    at_test true =
+        ap (λ ms. has node (map (λ (m : Move). m.from) ms)) (drop_at (course.moves ++ move ∷ []) (later ∷ []) (suc
+        (length course.moves)) count)
+        ∙ (ended (node == later.from) ∙ ap (λ n. node == n) (place-after setting course to))
+    at_test false =
+        let low : base setting.top course.moves ≤ length (course.moves ++ move ∷ []) = omega (
+          arith,
+          count,
+          base-within setting sub steps setting.top,
+        ) in
+        ap (λ ms. has node (map (λ (m : Move). m.from) ms)) (drop-append-le (base setting.top course.moves)
+        (course.moves ++ move ∷ []) (later ∷ []) low)
+        ∙ (ap (has node) (map-append (λ (m : Move). m.from) (drop (base setting.top course.moves)
+        (course.moves ++ move ∷ [])) (later ∷ []))
+        ∙ (has-last (trail setting course move) node later.from
+        ∙ ap (λ n. has node (trail setting course move) || node == n) (place-after setting course to)))

@@ -1,0 +1,259 @@
+-- A handset goes with its plan after each of its writes.
+use Rattle.std.proofs.Common.{◌≡◌, ℕ, suc, ◌+◌, ◌*◌, ◌-◌, ◌^◌, ◌<◌, ◌≤◌, Bool, true, false, cond, List, [], ◌++◌, Option, Some, None, length, drop, replicate, refl, sym, ap, ◌∙◌, subst, arith, length-append}
+use Rattle.std.specs.Prelude.{get_or, nat_le, nat_lt, slice_set, ◌&&◌}
+use Rattle.std.proofs.lemmas.Bool.Decides.{nat_tests}
+use Rattle.std.proofs.lemmas.List.{length-map, length-set, length-drop, length-replicate, get_or_append_left, get_or-replicate, get_or-append_right, get_or-drop}
+use Rattle.directory.specs.Courses.{Move}
+use Rattle.directory.specs.Writes.{numbers_from}
+use Rattle.region_plan.specs.Plan.{PlanData, nodes_of, levels_of, distance}
+use Rattle.region_plan.specs.Kept.{IsKept}
+use Rattle.region_plan.specs.Settings.{setting_of}
+use Rattle.handset.specs.declared.stage.Stage.{Stage}
+use Rattle.handset.specs.declared.stage.Stage.TheVariants.{Resting, Coming, Renewing, Committing, Confirming, Erasing, Purging, Switching}
+use Rattle.handset.specs.Kept.{HandsetData, GoesWith, begun_at}
+use Rattle.handset.specs.Progress.{first_passing, is_old, is_passed, purging_at, purging_from, erasing_at, erasing_from, settled, gone_on}
+use Rattle.handset.specs.Beginning.{gathered_then, gathered_after, is_rest, journey_to, begun}
+use Rattle.handset.proofs.Lists.{first-inside, highest-low, numbers-from-zero, numbers-count}
+
+-- a stage behind the confirm, or rest
+abbrev pub IsLate : ℕ → Move → Stage → Type 0
+IsLate nodes move Resting = Unit {0}
+IsLate nodes move Coming = ⊥
+IsLate nodes move (Renewing level) = ⊥
+IsLate nodes move Committing = ⊥
+IsLate nodes move Confirming = ⊥
+IsLate nodes move (Erasing level) = level ≤ move.renewed
+IsLate nodes move (Purging node) = node < nodes
+IsLate nodes move (Switching off) = ⊥
+
+late-purging : (nodes : ℕ) (handset : HandsetData) (node : ℕ) (o : Option ℕ)
+    → first_passing (is_passed handset) node (nodes - node) ≡ o → IsLate nodes handset.last (purging_at o)
+late-purging nodes handset node None h = tt
+late-purging nodes handset node (Some x) h = let inside : (node ≤ x) × (x < node + (nodes - node)) =
+    first-inside _ _ _ _ h in omega (arith, inside.0, inside.1)
+
+pub purging-is-late : (plan : PlanData) (handset : HandsetData) (node : ℕ) → IsLate (nodes_of plan) handset.last
+    (purging_from (setting_of plan []) handset node)
+purging-is-late plan handset node = late-purging (nodes_of plan) handset node _ refl
+
+late-ending : (plan : PlanData) (handset : HandsetData) (b : Bool) → IsLate (nodes_of plan) handset.last (cond b
+    (purging_from (setting_of plan []) handset 0) Resting)
+late-ending plan handset true = purging-is-late plan handset 0
+late-ending plan handset false = tt
+
+late-erasing : (plan : PlanData) (handset : HandsetData) (level : ℕ) (o : Option ℕ)
+    → first_passing (is_old (setting_of plan []) handset) level (suc handset.last.renewed - level) ≡ o
+    → IsLate (nodes_of plan) handset.last (erasing_at (setting_of plan []) handset o)
+late-erasing plan handset level None h = late-ending plan handset _
+late-erasing plan handset level (Some x) h = let inside : (level ≤ x)
+    × (x < level + (suc handset.last.renewed - level)) = first-inside _ _ _ _ h in omega (arith, inside.0, inside.1)
+
+pub erasing-is-late : (plan : PlanData) (handset : HandsetData) (level : ℕ) → IsLate (nodes_of plan) handset.last
+    (erasing_from (setting_of plan []) handset level)
+erasing-is-late plan handset level = late-erasing plan handset level _ refl
+
+-- the addresses after a move
+pub readdressed : (xs : List ℕ) (renewed to level : ℕ) → level < length xs
+    → get_or (replicate (suc renewed) to ++ drop (suc renewed) xs) level 0 ≡ cond (nat_lt renewed level)
+    (get_or xs level 0) to
+readdressed xs renewed to level h = at_test (nat_lt renewed level) refl
+  where
+    at_test : (b : Bool) → nat_lt renewed level ≡ b → get_or (replicate (suc renewed) to ++ drop
+        (suc renewed) xs) level 0 ≡ cond b (get_or xs level 0) to
+    at_test true test =
+        let low : suc renewed ≤ level = grind (arith, nat_tests) in
+        let e : suc renewed + (level - suc renewed) ≡ level = omega arith in
+        get_or-append_right (replicate (suc renewed) to) (drop (suc renewed) xs) (suc renewed) level 0
+        (length-replicate (suc renewed) to) low
+        ∙ (get_or-drop (suc renewed) xs (level - suc renewed) 0 ∙ ap (λ n. get_or xs n 0) e)
+    at_test false test =
+        let low : level < suc renewed = grind (arith, nat_tests) in
+        let small : level < length (replicate (suc renewed) to) = omega (arith, length-replicate (suc renewed) to) in
+        get_or_append_left (replicate (suc renewed) to) (drop (suc renewed) xs) 0 level small
+        ∙ get_or-replicate (suc renewed) level to 0 low
+
+trail-length : (b : Bool) (trail : List Bool) (to : ℕ) → length (slice_set (cond b (replicate
+    (length trail) false) trail) to true) ≡ length trail
+trail-length true trail to = length-set (replicate (length trail) false) to true
+    ∙ length-replicate (length trail) false
+trail-length false trail to = length-set trail to true
+
+pub goes-settled : (plan : PlanData) (handset : HandsetData) → GoesWith plan handset → handset.last.number
+    ≡ handset.number → GoesWith plan (settled (setting_of plan []) handset)
+goes-settled plan handset goes done = record {
+  addresses = omega (
+    arith,
+    length-append (replicate (suc handset.last.renewed) handset.last.to) (drop
+        (suc handset.last.renewed) handset.addresses),
+    length-replicate (suc handset.last.renewed) handset.last.to,
+    length-drop (suc handset.last.renewed) handset.addresses,
+    goes.addresses,
+    goes.renewed,
+  );
+  gathered = goes.gathered;
+  trail = trail-length _ handset.trail handset.last.to ∙ goes.trail;
+  place = goes.place;
+  from = goes.from;
+  to = goes.to;
+  renewed = goes.renewed;
+  inside = λ level h. subst (λ n. n < nodes_of plan) (sym (readdressed handset.addresses handset.last.renewed
+      handset.last.to level (omega (arith, h, goes.addresses)))) (at_test level h
+      (nat_lt handset.last.renewed level));
+  light = goes.light;
+  counted = done;
+  numbered = goes.numbered;
+  stage = tt;
+}
+  where
+    at_test : (level : ℕ) → level < levels_of plan → (b : Bool)
+        → cond b (get_or handset.addresses level 0) handset.last.to < nodes_of plan
+    at_test level h true = goes.inside level h
+    at_test level h false = goes.to
+
+pub goes-on : (plan : PlanData) (handset : HandsetData) (next : Stage) → GoesWith plan handset
+    → handset.last.number ≡ handset.number → IsLate (nodes_of plan) handset.last next
+    → GoesWith plan (gone_on (setting_of plan []) handset next)
+goes-on plan handset Resting goes done late = goes-settled plan handset goes done
+goes-on plan handset Coming goes done late = absurd late
+goes-on plan handset (Renewing level) goes done late = absurd late
+goes-on plan handset Committing goes done late = absurd late
+goes-on plan handset Confirming goes done late = absurd late
+goes-on plan handset (Erasing level) goes done late =
+    record {
+      addresses = goes.addresses;
+      gathered = goes.gathered;
+      trail = goes.trail;
+      place = goes.place;
+      from = goes.from;
+      to = goes.to;
+      renewed = goes.renewed;
+      inside = goes.inside;
+      light = goes.light;
+      counted = done;
+      numbered = goes.numbered;
+      stage = late;
+    }
+goes-on plan handset (Purging node) goes done late =
+    record {
+      addresses = goes.addresses;
+      gathered = goes.gathered;
+      trail = goes.trail;
+      place = goes.place;
+      from = goes.from;
+      to = goes.to;
+      renewed = goes.renewed;
+      inside = goes.inside;
+      light = goes.light;
+      counted = done;
+      numbered = goes.numbered;
+      stage = late;
+    }
+goes-on plan handset (Switching off) goes done late = absurd late
+
+-- a handset that goes on from a stage behind the commit
+abbrev pub IsCommitted : Stage → Type 0
+IsCommitted Resting = ⊥
+IsCommitted Coming = ⊥
+IsCommitted (Renewing level) = ⊥
+IsCommitted Committing = ⊥
+IsCommitted Confirming = Unit {0}
+IsCommitted (Erasing level) = Unit {0}
+IsCommitted (Purging node) = Unit {0}
+IsCommitted (Switching off) = ⊥
+
+counted-at : (stage : Stage) (last number : ℕ) → IsCommitted stage → last ≡ begun_at stage number → last ≡ number
+counted-at Resting last number committed same = absurd committed
+counted-at Coming last number committed same = absurd committed
+counted-at (Renewing level) last number committed same = absurd committed
+counted-at Committing last number committed same = absurd committed
+counted-at Confirming last number committed same = same
+counted-at (Erasing level) last number committed same = same
+counted-at (Purging node) last number committed same = same
+counted-at (Switching off) last number committed same = absurd committed
+
+pub goes-next : (plan : PlanData) (handset after : HandsetData) (stage next : Stage) → GoesWith plan handset
+    → handset.stage ≡ stage → IsCommitted stage
+    → IsLate (nodes_of plan) handset.last next → after ≡ gone_on (setting_of plan []) handset next
+    → GoesWith plan after
+goes-next plan handset after stage next goes at committed late same =
+    subst (GoesWith plan) (sym same)
+    (goes-on plan handset next goes (counted-at stage handset.last.number handset.number committed (goes.counted
+    ∙ ap (λ s. begun_at s handset.number) at)) late)
+
+pub purging-by-count : (plan : PlanData) (handset : HandsetData) (node count : ℕ) → count ≡ nodes_of plan
+    → IsLate (nodes_of plan) handset.last (purging_at (first_passing (is_passed handset) node (count - node)))
+purging-by-count plan handset node count same =
+    subst (λ n. IsLate (nodes_of plan) handset.last (purging_at (first_passing (is_passed handset) node
+    (n - node)))) (sym same) (purging-is-late plan handset node)
+
+-- what the levels have gathered stays light
+pub light-after : (xs ys : List ℕ) (levels n more renewed weight : ℕ) → length xs ≡ levels → ((level : ℕ)
+    → level < levels → get_or xs level 0 ≤ n * 2 ^ 30)
+    → weight ≤ 2 ^ 30 → more ≡ n + 1 → ys ≡ gathered_after xs renewed weight → (level : ℕ) → level < levels
+    → get_or ys level 0 ≤ more * 2 ^ 30
+light-after xs ys levels n more renewed weight count light small next same level h =
+    let one : get_or ys level 0 ≡ gathered_then (get_or xs level 0) renewed weight level =
+    ap (λ zs. get_or zs level 0) same ∙ numbers-from-zero (λ k. gathered_then (get_or xs k 0) renewed weight k)
+    (length xs) level (omega (arith, h, count)) in
+    subst (λ w. w ≤ more * 2 ^ 30) (sym one) (at_test (nat_le level renewed))
+  where
+    at_test : (b : Bool) → cond b 0 (get_or xs level 0 + weight) ≤ more * 2 ^ 30
+    at_test true = omega arith
+    at_test false = omega (arith, light level h, small, next)
+
+-- a handset that begins a move goes with its plan
+light-weight : (plan : PlanData) (u v : ℕ) → IsKept plan → (setting_of plan []).distance u v ≤ 2 ^ 30
+light-weight plan u v kept = at_tests (nat_lt u (nodes_of plan)) (nat_lt v (nodes_of plan)) refl refl
+  where
+    at_tests : (a b : Bool) → nat_lt u (nodes_of plan) ≡ a → nat_lt v (nodes_of plan) ≡ b
+        → cond (a && b) (distance plan u v) 0 ≤ 2 ^ 30
+    at_tests true true h l =
+        let inside : u < nodes_of plan = grind (arith, nat_tests) in
+        let other : v < nodes_of plan = grind (arith, nat_tests) in
+        omega (arith, kept.metric.bounded u v inside other, kept.metric.few)
+    at_tests true false h l = omega arith
+    at_tests false true h l = omega arith
+    at_tests false false h l = omega arith
+
+pub goes-begun : (plan : PlanData) (handset : HandsetData) (to : ℕ) → IsKept plan → GoesWith plan handset
+    → to < nodes_of plan → handset.stage ≡ Resting
+    → suc handset.number < 2 ^ 32 → GoesWith plan (begun (setting_of plan []) handset to)
+goes-begun plan handset to kept goes inside rests few =
+    let done : handset.last.number ≡ handset.number = goes.counted ∙ ap (λ s. begun_at s handset.number) rests in
+    record {
+      addresses = goes.addresses;
+      gathered = length-map (numbers_from 0 (length handset.gathered)) (λ k. gathered_then
+          (get_or handset.gathered k 0) move.renewed move.weight k) ∙ (numbers-count 0 (length handset.gathered)
+          ∙ goes.gathered);
+      trail = goes.trail;
+      place = goes.place;
+      from = goes.place;
+      to = inside;
+      renewed = omega (
+        arith,
+        kept.some,
+        highest-low (λ level. nat_le ((setting_of plan []).threshold level)
+            (get_or handset.gathered level 0 + move.weight)) (levels_of plan - 1),
+      );
+      inside = goes.inside;
+      light = light-after handset.gathered _ (levels_of plan) handset.number
+          (suc handset.number) move.renewed move.weight goes.gathered
+          (λ level h. subst (λ n. get_or handset.gathered level 0 ≤ n * 2 ^ 30) done (goes.light level h))
+          (light-weight plan handset.place to kept) (omega arith) refl;
+      counted = refl;
+      numbered = few;
+      stage = tt;
+    }
+  where
+    move : Move
+    move = journey_to (setting_of plan []) handset to
+
+pub resting-means : (stage : Stage) → is_rest stage ≡ true → stage ≡ Resting
+resting-means Resting h = refl
+resting-means Coming h = cc
+resting-means (Renewing level) h = cc
+resting-means Committing h = cc
+resting-means Confirming h = cc
+resting-means (Erasing level) h = cc
+resting-means (Purging node) h = cc
+resting-means (Switching off) h = cc

@@ -1,0 +1,6 @@
+mod Lists
+mod Going
+mod CourseLaws
+mod Writing
+mod Showing
+mod Standing

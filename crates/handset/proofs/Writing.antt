@@ -1,0 +1,137 @@
+-- What a handset has left to write: at the beginning of a step all its writes, and after each write the rest.
+use Rattle.std.proofs.Common.{◌≡◌, ℕ, suc, ◌+◌, ◌-◌, ◌<◌, ◌≤◌, Bool, true, false, cond, List, [], ◌∷◌, ◌++◌, Option, Some, None, map, refl, sym, ap, ◌∙◌, arith}
+use Rattle.std.specs.Prelude.{get_or, nat_lt, not, ◌==◌, ◌&&◌}
+use Rattle.std.proofs.lemmas.Bool.Decides.{nat_tests}
+use Rattle.node_set.specs.Ascending.{has, passing}
+use Rattle.entry_word.specs.declared.mark.PresenceMark.TheVariants.{Empty, Gone, Here, Coming as ComingMark}
+use Rattle.directory.specs.Settings.{Setting, levels}
+use Rattle.directory.specs.Courses.{Course, address_node}
+use Rattle.directory.specs.Writes.{Write, mark_at, entry_at, new_address, numbers_from, old_home, erasing, purging, trail, move_writes}
+use Rattle.handset.specs.declared.stage.Stage.TheVariants.{Resting, Coming, Renewing, Committing}
+use Rattle.handset.specs.Kept.{HandsetData}
+use Rattle.handset.specs.Progress.{erasure, is_old, is_passed, purge_from, erase_from, commit, renew_from, left_at, first_passing, purging_at, purging_from, erasing_at, erasing_from}
+use Rattle.handset.proofs.Lists.{first-inside, passing-none, passing-some, map-passing-same}
+
+-- the purge
+purge-left : (setting : Setting) (handset : HandsetData) (node : ℕ) (o : Option ℕ)
+    → first_passing (is_passed handset) node (setting.nodes - node) ≡ o
+    → map (λ x. mark_at x Empty) (passing (is_passed handset) node (setting.nodes - node))
+    ≡ left_at setting handset (purging_at o)
+purge-left setting handset node None h = ap (map (λ x. mark_at x Empty)) (passing-none (is_passed handset) node
+    (setting.nodes - node) h)
+purge-left setting handset node (Some x) h =
+    let inside : (node ≤ x) × (x < node + (setting.nodes - node)) = first-inside (is_passed handset) node
+    (setting.nodes - node) x h in
+    let e : node + (setting.nodes - node) - suc x ≡ setting.nodes - suc x = omega (arith, inside.0, inside.1) in
+    ap (map (λ y. mark_at y Empty)) (passing-some (is_passed handset) node (setting.nodes - node) x h
+    ∙ ap (λ n. x ∷ passing (is_passed handset) (suc x) n) e)
+
+pub purging-left : (setting : Setting) (handset : HandsetData) (node : ℕ)
+    → map (λ x. mark_at x Empty) (passing (is_passed handset) node (setting.nodes - node))
+    ≡ left_at setting handset (purging_from setting handset node)
+purging-left setting handset node = purge-left setting handset node _ refl
+
+ending-left : (setting : Setting) (handset : HandsetData) (b : Bool)
+    → cond b (map (λ x. mark_at x Empty) (passing (is_passed handset) 0 (setting.nodes - 0))) []
+    ≡ left_at setting handset (cond b (purging_from setting handset 0) Resting)
+ending-left setting handset true = purging-left setting handset 0
+ending-left setting handset false = refl
+
+-- the erasures
+erase-left : (setting : Setting) (handset : HandsetData) (level : ℕ) (o : Option ℕ)
+    → first_passing (is_old setting handset) level (suc handset.last.renewed - level) ≡ o
+    → erase_from setting handset level ≡ left_at setting handset (erasing_at setting handset o)
+erase-left setting handset level None h =
+    ap (λ xs. map (erasure setting handset) xs ++ purge_from setting handset 0) (passing-none
+    (is_old setting handset) level (suc handset.last.renewed - level) h)
+    ∙ ending-left setting handset (handset.last.renewed == setting.top)
+erase-left setting handset level (Some x) h =
+    let inside : (level ≤ x) × (x < level + (suc handset.last.renewed - level)) =
+    first-inside (is_old setting handset) level (suc handset.last.renewed - level) x h in
+    let e : level + (suc handset.last.renewed - level) - suc x ≡ suc handset.last.renewed - suc x = omega (
+      arith,
+      inside.0,
+      inside.1,
+    ) in
+    ap (λ xs. map (erasure setting handset) xs ++ purge_from setting handset 0)
+    (passing-some (is_old setting handset) level (suc handset.last.renewed - level) x h
+    ∙ ap (λ n. x ∷ passing (is_old setting handset) (suc x) n) e)
+
+pub erasing-left : (setting : Setting) (handset : HandsetData) (level : ℕ) → erase_from setting handset level
+    ≡ left_at setting handset (erasing_from setting handset level)
+erasing-left setting handset level = erase-left setting handset level _ refl
+
+-- the new addresses
+pub renewing-left : (setting : Setting) (handset : HandsetData) (level : ℕ)
+    → renew_from setting handset (suc level) ≡ left_at setting handset (cond (nat_lt level handset.last.renewed)
+    (Renewing (suc level)) Committing)
+renewing-left setting handset level = at_test (nat_lt level handset.last.renewed) refl
+  where
+    at_test : (b : Bool) → nat_lt level handset.last.renewed ≡ b → renew_from setting handset (suc level)
+        ≡ left_at setting handset (cond b (Renewing (suc level)) Committing)
+    at_test true test =
+        let below : level < handset.last.renewed = grind (arith, nat_tests) in
+        let e : suc handset.last.renewed - suc level ≡ suc (suc handset.last.renewed - suc (suc level)) =
+        omega arith in
+        ap (λ n. map (new_address setting handset.last) (numbers_from (suc level) n) ++ commit setting handset) e
+    at_test false test =
+        let over : handset.last.renewed ≤ level = grind (arith, nat_tests) in
+        let e : suc handset.last.renewed - suc level ≡ 0 = omega arith in
+        ap (λ n. map (new_address setting handset.last) (numbers_from (suc level) n) ++ commit setting handset) e
+
+pub renewing-first : (setting : Setting) (handset : HandsetData) → renew_from setting handset 0
+    ≡ left_at setting handset (Renewing 0)
+renewing-first setting handset =
+    let e : suc handset.last.renewed - 0 ≡ suc (suc handset.last.renewed - suc 0) = omega arith in
+    ap (λ n. map (new_address setting handset.last) (numbers_from 0 n) ++ commit setting handset) e
+
+-- all writes of a move, where the handset keeps the addresses and the trail of the course
+pub coming-left : (setting : Setting) (course : Course) (handset : HandsetData) → handset.last.renewed ≤ setting.top
+    → ((level : ℕ) → level < levels setting → get_or handset.addresses level 0 ≡ address_node course level)
+    → ((node : ℕ) → node < setting.nodes → get_or handset.trail node false
+    ≡ has node (trail setting course handset.last))
+    → move_writes setting course handset.last ≡ left_at setting handset Coming
+coming-left setting course handset low addresses trails =
+    ap (λ n. mark_at handset.last.to (ComingMark handset.last.number handset.last.from) ∷ (map
+    (new_address setting handset.last) (numbers_from 0 n) ++ commit_with (erasing setting course handset.last ++
+    purging setting course handset.last))) none_less
+    ∙ ap (λ ws. mark_at handset.last.to (ComingMark handset.last.number handset.last.from) ∷ (map
+    (new_address setting handset.last) (numbers_from 0 (suc handset.last.renewed - 0)) ++ commit_with ws)) both
+  where
+    none_less : suc handset.last.renewed ≡ suc handset.last.renewed - 0
+    none_less = omega arith
+
+    commit_with : List Write → List Write
+    commit_with ws = mark_at handset.last.from (Gone handset.last.number handset.last.to) ∷
+        (mark_at handset.last.to (Here handset.last.number) ∷ ws)
+
+    erased : erasing setting course handset.last ≡ map (erasure setting handset) (passing
+        (is_old setting handset) 0 (suc handset.last.renewed - 0))
+    erased =
+        map-passing-same (λ level. not (old_home setting course level == setting.home level handset.last.to))
+        (is_old setting handset)
+        (λ level. entry_at level (old_home setting course level) None) (erasure setting handset) 0
+        (suc handset.last.renewed)
+        (λ level h l. ap (λ n. not (setting.home level n == setting.home level handset.last.to)) (sym
+        (addresses level (omega (arith, l, low)))))
+        (λ level h l. ap (λ n. entry_at level (setting.home level n) None) (sym (addresses level (omega (
+          arith,
+          l,
+          low,
+        )))))
+        ∙ ap (λ n. map (erasure setting handset) (passing (is_old setting handset) 0 n)) none_less
+
+    purged : purging setting course handset.last ≡ purge_from setting handset 0
+    purged =
+        let none : setting.nodes ≡ setting.nodes - 0 = omega arith in
+        ap (λ ws. cond (handset.last.renewed == setting.top) ws [])
+        (map-passing-same (λ node. has node (trail setting course handset.last) && not (node == handset.last.to))
+        (is_passed handset)
+        (λ x. mark_at x Empty) (λ x. mark_at x Empty) 0 setting.nodes
+        (λ node h l. ap (λ b. b && not (node == handset.last.to)) (sym (trails node (omega (arith, l)))))
+        (λ node h l. refl)
+        ∙ ap (λ n. map (λ x. mark_at x Empty) (passing (is_passed handset) 0 n)) none)
+
+    both : erasing setting course handset.last ++ purging setting course handset.last ≡ erase_from setting handset 0
+    both = ap (λ ws. ws ++ purging setting course handset.last) erased ∙ ap (λ ws. map (erasure setting handset)
+        (passing (is_old setting handset) 0 (suc handset.last.renewed - 0)) ++ ws) purged

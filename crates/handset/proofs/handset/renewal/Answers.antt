@@ -1,0 +1,47 @@
+use Rattle.std.proofs.Common.{◌≡◌, ℕ, ◌+◌, ◌-◌, ◌<◌, ◌≤◌, suc, arith, ◌∙◌, ap, get_or, List, Bool}
+use Rattle.std.specs.Prelude.{nat_le}
+use Rattle.directory.specs.Courses.{highest}
+use Rattle.region_plan.specs.Plan.{PlanData, levels_of, threshold}
+use Rattle.handset.proofs.Lists.{highest-here, highest-later, highest-none, le-passes, le-fails}
+use Rattle.handset.proofs.handset.renewal.Goals as goal
+
+-- whether a level is reached
+abbrev reaches : PlanData → List ℕ → ℕ → ℕ → Bool
+reaches plan gathered weight level = nat_le (threshold plan level) (get_or gathered level 0 + weight)
+
+from_top : (plan : PlanData) (gathered : List ℕ) (weight limit : ℕ) → limit ≡ levels_of plan → 1 ≤ levels_of plan
+    → highest (reaches plan gathered weight) limit ≡ highest (reaches plan gathered weight) (suc (levels_of plan - 1))
+from_top plan gathered weight limit same some = let e : limit ≡ suc (levels_of plan - 1) = omega arith in ap
+    (highest (reaches plan gathered weight)) e
+
+pub loop-limit-init : goal.loop-limit-init
+loop-limit-init c = record {
+  within = omega arith;
+  same = from_top c.args.plan.now c.args.gathered.now c.args.weight c.levels-limit.result c.levels-limit.ensures
+      c.nodes-nodes.ensures.sound.some;
+}
+
+pub returns-then-threshold-gathered-clause-highest : goal.returns-then-threshold-gathered-clause-highest
+returns-then-threshold-gathered-clause-highest c =
+    let reached : threshold c.args.plan.now (c.loop-limit.limit - 1) ≤ get_or c.args.gathered.now
+    (c.loop-limit.limit - 1) 0 + c.args.weight = omega arith in
+    highest-here (reaches c.args.plan.now c.args.gathered.now c.args.weight) c.loop-limit.limit
+    c.loop-limit-test.true (le-passes _ _ reached)
+    ∙ c.loop-limit.invariant.same
+
+pub loop-limit-preserved : goal.loop-limit-preserved
+loop-limit-preserved c =
+    let missed : get_or c.args.gathered.now (c.loop-limit.limit - 1) 0 + c.args.weight < threshold c.args.plan.now
+    (c.loop-limit.limit - 1) = omega arith in
+    record {
+      within = omega arith;
+      same = highest-later (reaches c.args.plan.now c.args.gathered.now c.args.weight) c.loop-limit.limit
+          c.loop-limit-test.true (le-fails _ _ missed)
+          ∙ c.loop-limit.invariant.same;
+    }
+
+pub returns-clause-highest : goal.returns-clause-highest
+returns-clause-highest c =
+    highest-none (reaches c.args.plan.now c.args.gathered.now c.args.weight) c.loop-limit.limit
+    c.loop-limit-test.false
+    ∙ c.loop-limit.invariant.same

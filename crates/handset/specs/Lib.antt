@@ -1,0 +1,4 @@
+pub mod Kept
+pub mod Progress
+pub mod Beginning
+pub mod Stands

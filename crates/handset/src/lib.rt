@@ -1,0 +1,13 @@
+//! A subscriber's own state: where it stands, and what it writes next.
+#![tactic(auto)]
+
+mod fault;
+mod handset;
+mod stage;
+
+pub use fault::{MoveFault, SwitchFault};
+pub use handset::Handset;
+pub use net_graph::OutOfMemory;
+
+#[cfg(test)]
+mod tests;

@@ -1,0 +1,114 @@
+-- Places of cells: below the count, and different for different cells.
+use Rattle.std.proofs.Common.{◌≡◌, ℕ, suc, ◌+◌, ◌*◌, ◌<◌, ◌≤◌, Bool, true, false, List, length, take, refl, ap, ◌∙◌, subst, arith}
+use Rattle.std.specs.Prelude.{get_or, nat_lt, sum_by}
+use Rattle.std.proofs.lemmas.Bool.Decides.{nat_tests}
+use Rattle.std.proofs.lemmas.List.{take-take}
+use Rattle.std.proofs.lemmas.List.Sums.{sum_by_more, sum_by-take-le}
+use Rattle.std.proofs.Math.Nat.{mul-le-mul_left}
+use Rattle.entry_word.specs.declared.visit.Key.{Key}
+use Rattle.entry_word.specs.declared.visit.Key.TheVariants.{Presence, Entry}
+use Rattle.directory.specs.Keys.{key_sub}
+use Rattle.region_plan.specs.Plan.{PlanData, Level, no_level, nodes_of, levels_of, clusters_of}
+use Rattle.visit_log.specs.Numbers.{clusters_below, all_clusters, place_of, cell_number, cell_count, IsPlace, IsCell}
+
+-- the clusters of a level come before those of each later one, and are among all
+abbrev pub size : Level → ℕ
+size l = length l.clusters
+
+pub below-later : (levels : List Level) (i j : ℕ) → i < j → j ≤ length levels → sum_by size (take i levels) + size
+    (get_or levels i no_level) ≤ sum_by size (take j levels)
+below-later levels i j h l =
+    let one : sum_by size (take (i + 1) levels) ≡ sum_by size (take i levels) + size (get_or levels i no_level) =
+    sum_by_more size levels i no_level (omega (arith, h, l)) in
+    let two : sum_by size (take (i + 1) (take j levels)) ≤ sum_by size (take j levels) = sum_by-take-le size
+    (take j levels) (i + 1) in
+    let same : sum_by size (take (i + 1) (take j levels)) ≡ sum_by size (take (i + 1) levels) = ap (sum_by size)
+    (take-take (i + 1) j levels (omega (arith, h))) in
+    subst (λ n. n ≤ sum_by size (take j levels)) (same ∙ one) two
+
+pub below-all : (levels : List Level) (i : ℕ) → i < length levels → sum_by size (take i levels) + size
+    (get_or levels i no_level) ≤ sum_by size levels
+below-all levels i h = subst (λ n. n ≤ sum_by size levels) (sum_by_more size levels i no_level h)
+    (sum_by-take-le size levels (i + 1))
+
+-- places
+pub place-below : (plan : PlanData) (key : Key) → IsPlace plan key
+    → place_of plan key < nodes_of plan + all_clusters plan
+place-below plan (Presence node sub) h = omega (arith, h)
+place-below plan (Entry level cluster sub) h = omega (arith, h.1, below-all plan.levels level h.0)
+
+level-apart : (plan : PlanData) (i c j d : ℕ) → i < levels_of plan → c < clusters_of plan i → j < levels_of plan
+    → d < clusters_of plan j
+    → clusters_below plan i + c ≡ clusters_below plan j + d → (i ≡ j) × (c ≡ d)
+level-apart plan i c j d hi hc hj hd same = at_tests (nat_lt i j) (nat_lt j i) refl refl
+  where
+    at_tests : (a b : Bool) → nat_lt i j ≡ a → nat_lt j i ≡ b → (i ≡ j) × (c ≡ d)
+    at_tests true b one two = absurd (let low : i < j = grind (arith, nat_tests) in omega (
+      arith,
+      below-later plan.levels i j low (omega (arith, hj)),
+      hc,
+      same,
+    ))
+    at_tests false true one two = absurd (let low : j < i = grind (arith, nat_tests) in omega (
+      arith,
+      below-later plan.levels j i low (omega (arith, hi)),
+      hd,
+      same,
+    ))
+    at_tests false false one two =
+        let high : j ≤ i = grind (arith, nat_tests) in
+        let low : i ≤ j = grind (arith, nat_tests) in
+        let e : i ≡ j = omega arith in (
+          e,
+          let f : clusters_below plan i ≡ clusters_below plan j = ap (clusters_below plan) e in omega (
+            arith,
+            f,
+            same,
+          ),
+        )
+
+-- a place and a subscriber in one number
+pub number-below : (place total subs sub : ℕ) → place < total → sub < subs → place * subs + sub < total * subs
+number-below place total subs sub h l =
+    let step : subs * suc place ≤ subs * total = mul-le-mul_left subs h in
+    let one : subs * suc place ≡ place * subs + subs = omega arith in
+    let two : subs * total ≡ total * subs = omega arith in
+    omega (arith, step, one, two, l)
+
+pub number-apart : (p q subs s t : ℕ) → s < subs → t < subs → p * subs + s ≡ q * subs + t → (p ≡ q) × (s ≡ t)
+number-apart p q subs s t hs ht same = at_tests (nat_lt p q) (nat_lt q p) refl refl
+  where
+    at_tests : (a b : Bool) → nat_lt p q ≡ a → nat_lt q p ≡ b → (p ≡ q) × (s ≡ t)
+    at_tests true b one two = absurd (let low : p < q = grind (arith, nat_tests) in
+        let step : p * subs + s < q * subs = number-below p q subs s low hs in omega (arith, step, same))
+    at_tests false true one two = absurd (let low : q < p = grind (arith, nat_tests) in
+        let step : q * subs + t < p * subs = number-below q p subs t low ht in omega (arith, step, same))
+    at_tests false false one two =
+        let high : q ≤ p = grind (arith, nat_tests) in
+        let low : p ≤ q = grind (arith, nat_tests) in
+        let e : p ≡ q = omega arith in
+        (e, let f : p * subs ≡ q * subs = ap (λ n. n * subs) e in omega (arith, f, same))
+
+-- keys
+same-key : (plan : PlanData) (key other : Key) → IsPlace plan key → IsPlace plan other → place_of plan key
+    ≡ place_of plan other → key_sub key ≡ key_sub other → key ≡ other
+same-key plan (Presence node sub) (Presence other t) h l same subs = cc
+same-key plan (Presence node sub) (Entry level cluster t) h l same subs = absurd (omega (arith, h, same))
+same-key plan (Entry level cluster sub) (Presence node t) h l same subs = absurd (omega (arith, l, same))
+same-key plan (Entry level cluster sub) (Entry other c t) h l same subs =
+    let both : (level ≡ other) × (cluster ≡ c) = level-apart plan level cluster other c h.0 h.1 l.0 l.1 (omega
+    (arith, same)) in
+    let e = both.0 in let f = both.1 in cc
+
+pub cell-below : (plan : PlanData) (subs : ℕ) (key : Key) → IsCell plan subs key
+    → cell_number plan subs key < cell_count plan subs
+cell-below plan subs key h = number-below (place_of plan key) (nodes_of plan + all_clusters plan) subs
+    (key_sub key) (place-below plan key h.place) h.known
+
+pub cell-apart : (plan : PlanData) (subs : ℕ) (key other : Key) → IsCell plan subs key → IsCell plan subs other
+    → cell_number plan subs key ≡ cell_number plan subs other → key ≡ other
+cell-apart plan subs key other h l same =
+    let both : (place_of plan key ≡ place_of plan other) × (key_sub key ≡ key_sub other) =
+    number-apart (place_of plan key) (place_of plan other) subs (key_sub key)
+    (key_sub other) h.known l.known same in
+    same-key plan key other h.place l.place both.0 both.1

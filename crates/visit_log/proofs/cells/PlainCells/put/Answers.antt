@@ -1,0 +1,14 @@
+use Rattle.std.proofs.Common.{◌++◌, ◌∷◌, [], subst, sym}
+use Rattle.entry_word.specs.declared.visit.Act.TheVariants.{Put}
+use Rattle.visit_log.specs.Cells.{Hold}
+use Rattle.visit_log.proofs.Holding.{hold-after}
+use Rattle.visit_log.proofs.cells.PlainCells.put.Goals as goal
+
+pub returns-clause-history : goal.returns-clause-history
+returns-clause-history c = λ starts history actor hold.
+    subst (λ cells. Hold c.args.plan.now starts cells (history ++ record {
+      actor = actor;
+      act = Put c.args.key c.args.word;
+    } ∷ [])) (sym c.set.ensures.words)
+    (hold-after c.same_key_means.ensures c.cell_after.ensures c.args.plan.now starts c.args.self.now history actor
+    c.args.word c.args.key c.requires.goes c.requires.cell hold)

@@ -1,0 +1,54 @@
+-- Plain cells: the word of each cell by its number, and for each level the place of its first
+-- cluster.
+-- Key laws: `PlainCells::look` and `put`, by their clauses `history` (they hold what a history
+-- leaves).
+use Rattle.std.specs.Prelude.{◌≡◌, ℕ, ◌+◌, ◌<◌, ◌==◌, ◌&&◌, nat_lt, if◌then◌else◌, Some, List, length, slice_index}
+use Rattle.entry_word.specs.declared.visit.Key.{Key}
+use Rattle.entry_word.specs.declared.visit.Key.TheVariants.{Presence, Entry}
+use Rattle.entry_word.specs.declared.mark.PresenceMark.TheVariants.{Here}
+use Rattle.entry_word.specs.Marks.{mark_word}
+use Rattle.entry_word.specs.Addresses.{address_word}
+use Rattle.directory.specs.Histories.{History, cell}
+use Rattle.region_plan.specs.Plan.{PlanData, clusters_of, home, levels_of, nodes_of}
+use Rattle.region_plan.specs.Settings.{setting_of}
+use Rattle.visit_log.specs.Numbers.{clusters_below, cell_number, cell_count, IsCell}
+
+-- what contracts see of plain cells
+pub record CellData : Type 0 where
+  pub subs : ℕ
+  pub firsts : List ℕ
+  pub words : List ℕ
+
+-- plain cells go with a plan: they have a word for each of its cells, and the places of its
+-- clusters
+pub record GoWith (plan : PlanData) (cells : CellData) : Type 0 where
+  pub levels : length cells.firsts ≡ levels_of plan
+  pub firsts : (level : ℕ) → level < levels_of plan
+      → slice_index cells.firsts level ≡ nodes_of plan + clusters_below plan level
+  pub words : length cells.words ≡ cell_count plan cells.subs
+
+-- each home of a plan is a cluster of its level
+abbrev pub AreHomes : PlanData → Type 0
+AreHomes plan =
+    (level node : ℕ) → level < levels_of plan → node < nodes_of plan
+    → home plan level node < clusters_of plan level
+
+-- the word of a cell
+abbrev pub word_of : PlanData → CellData → Key → ℕ
+word_of plan cells key = slice_index cells.words (cell_number plan cells.subs key)
+
+-- plain cells hold what a history leaves in the cells of subscribers that start at these nodes
+pub record Hold (plan : PlanData) (starts : List ℕ) (cells : CellData)
+    (history : History) : Type 0 where
+  pub subs : cells.subs ≡ length starts
+  pub words : (key : Key) → IsCell plan (length starts) key
+      → word_of plan cells key ≡ cell (setting_of plan starts) history key
+
+-- the word of a cell once a subscriber is put at its start node, and its address at the homes of
+-- that node below a level
+abbrev pub opened : PlanData → ℕ → ℕ → ℕ → Key → ℕ → ℕ
+opened plan sub start limit (Presence node other) word =
+    if node == start && other == sub then mark_word (Here 0) else word
+opened plan sub start limit (Entry level cluster other) word =
+    if nat_lt level limit && (cluster == home plan level start && other == sub)
+    then address_word (Some (record { number = 0; node = start })) else word

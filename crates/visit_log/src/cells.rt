@@ -1,0 +1,168 @@
+//! Plain cells: one word of memory for each cell.
+ghost use Rattle.std.specs.Prelude.{◌≡◌, ◌+◌, ◌<◌, ◌≤◌, ◌++◌, ◌∷◌, [], ℕ, List, All, IfOk, length, replicate, slice_set};
+ghost use Rattle.entry_word.specs.declared.visit.Act.TheVariants.{Put};
+ghost use Rattle.entry_word.specs.declared.visit.Key.{Key};
+ghost use Rattle.directory.specs.Histories.{History, cell};
+ghost use Rattle.region_plan.specs.Plan.{levels_of, nodes_of};
+ghost use Rattle.region_plan.specs.Settings.{setting_of};
+ghost use Rattle.visit_log.specs.Numbers.{IsCell, cell_count, cell_number};
+ghost use Rattle.visit_log.specs.Cells.{AreHomes, GoWith, Hold, opened, word_of};
+
+use crate::numbers::{cell_count, cell_numbers, clusters_below};
+use directory::{cell_after, same_key_means};
+use entry_word::{Address, Key, PresenceMark, pack_address, pack_mark};
+use net_graph::OutOfMemory;
+use region_plan::Plan;
+use std::alloc::Global;
+use std::marker::Model;
+
+/// The words of all cells of some subscribers. They go with the plan that they were made for.
+#[derive(Drop)]
+pub struct PlainCells {
+    subs: u32,
+    firsts: Vec<u32>,
+    words: Vec<u64>,
+}
+
+impl Model for PlainCells {
+    ghost use Rattle.visit_log.specs.Cells.{CellData};
+
+    ghost Value = { CellData };
+
+    ghost view = { λ c. record { subs = c.subs; firsts = c.firsts.items; words = c.words.items } };
+}
+
+impl PlainCells {
+    /// The cells at the opening, of subscribers that start at these homes.
+    pub fn new(alloc: Global, plan: &Plan, homes: &[u32]) -> Result<PlainCells, OutOfMemory>
+        requires some { 1 ≤ length homes.now }
+        requires few { length homes.now ≤ 64 }
+        requires inside { All (λ home. home < nodes_of plan.now) homes.now }
+        requires clusters { AreHomes plan.now }
+        ensures goes { IfOk result (GoWith plan.now) }
+        ensures opening { IfOk result (λ cells. Hold plan.now homes.now cells []) }
+    {
+        // The call tells the proof that there is a level.
+        let _nodes = plan.nodes();
+        let subs = homes.len() as u32;
+        let mut cells = PlainCells::empty(alloc, plan, subs)?;
+        for sub in 0..subs {
+            cells.open(plan, sub, homes[sub as usize]);
+        }
+        Ok(cells)
+    }
+
+    /// The word that a cell holds.
+    pub fn look(&self, plan: &Plan, key: Key) -> u64
+        requires goes { GoWith plan.now self.now }
+        requires cell { IsCell plan.now self.now.subs key }
+        ensures word { result ≡ word_of plan.now self.now key }
+        ensures history { (starts : List ℕ) (history : History)
+            → Hold plan.now starts self.now history
+            → result ≡ cell (setting_of plan.now starts) history key }
+    {
+        cell_numbers();
+        self.words[self.index(plan, key)]
+    }
+
+    /// Puts a word into a cell; all others stay.
+    pub fn put(&mut self, plan: &Plan, key: Key, word: u64)
+        requires goes { GoWith plan.now self.old }
+        requires cell { IsCell plan.now self.old.subs key }
+        ensures words { self.new ≡ record self.old {
+          words = slice_set self.old.words (cell_number plan.now self.old.subs key) word;
+        } }
+        ensures goes { GoWith plan.now self.new }
+        ensures history { (starts : List ℕ) (history : History) (actor : ℕ)
+            → Hold plan.now starts self.old history
+            → Hold plan.now starts self.new
+            (history ++ record { actor = actor; act = Put key word } ∷ []) }
+    {
+        cell_after();
+        same_key_means();
+        self.set(plan, key, word);
+    }
+
+    // Changes the word of a cell.
+    fn set(&mut self, plan: &Plan, key: Key, word: u64)
+        requires goes { GoWith plan.now self.old }
+        requires cell { IsCell plan.now self.old.subs key }
+        ensures words { self.new ≡ record self.old {
+          words = slice_set self.old.words (cell_number plan.now self.old.subs key) word;
+        } }
+        ensures goes { GoWith plan.now self.new }
+    {
+        cell_numbers();
+        let index = self.index(plan, key);
+        self.words[index] = word;
+    }
+
+    // Cells that hold nothing.
+    fn empty(alloc: Global, plan: &Plan, subs: u32) -> Result<PlainCells, OutOfMemory>
+        requires { subs ≤ 64 }
+        ensures goes { IfOk result (GoWith plan.now) }
+        ensures subs { IfOk result (λ cells. cells.subs ≡ subs) }
+        ensures words { IfOk result (λ cells. cells.words
+            ≡ replicate (cell_count plan.now subs) 0) }
+    {
+        let mut firsts = Vec::with_capacity(alloc, plan.levels() as usize)?;
+        for level in 0..plan.levels() {
+            firsts.push(plan.nodes() + clusters_below(plan, level))?;
+        }
+        let words = vec![in alloc; 0u64; cell_count(plan, subs) as usize]?;
+        Ok(PlainCells {
+            subs,
+            firsts,
+            words,
+        })
+    }
+
+    // Puts the opening words of a subscriber.
+    fn open(&mut self, plan: &Plan, sub: u32, home: u32)
+        requires goes { GoWith plan.now self.old }
+        requires known { sub < self.old.subs }
+        requires inside { home < nodes_of plan.now }
+        requires homes { AreHomes plan.now }
+        ensures goes { GoWith plan.now self.new }
+        ensures subs { self.new.subs ≡ self.old.subs }
+        ensures words { (key : Key) → IsCell plan.now self.old.subs key
+            → word_of plan.now self.new key ≡ opened plan.now sub home (levels_of plan.now) key
+            (word_of plan.now self.old key) }
+    {
+        same_key_means();
+        // The call tells the proof that nodes are few.
+        let _nodes = plan.nodes();
+        let here = pack_mark(PresenceMark::Here { number: 0 });
+        self.set(plan, Key::Presence { node: home, sub }, here);
+        let address = pack_address(Some(Address {
+            number: 0,
+            node: home as u16,
+        }));
+        for level in 0..plan.levels() {
+            let cluster = plan.home(level, home);
+            let key = Key::Entry {
+                level,
+                cluster,
+                sub,
+            };
+            self.set(plan, key, address);
+        }
+    }
+
+    // The place of a cell's word.
+    fn index(&self, plan: &Plan, key: Key) -> usize
+        requires goes { GoWith plan.now self.now }
+        requires cell { IsCell plan.now self.now.subs key }
+        ensures { result ≡ cell_number plan.now self.now.subs key }
+    {
+        let subs = self.subs as usize;
+        match key {
+            Key::Presence { node, sub } => node as usize * subs + sub as usize,
+            Key::Entry {
+                level,
+                cluster,
+                sub,
+            } => (self.firsts[level as usize] as usize + cluster as usize) * subs + sub as usize,
+        }
+    }
+}

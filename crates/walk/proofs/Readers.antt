@@ -1,0 +1,199 @@
+-- The readers of a node: clusters that contain it, few at each level, and one after another in the climb.
+use Rattle.std.proofs.Common.{◌≡◌, ℕ, zero, suc, ◌+◌, ◌-◌, ◌*◌, ◌^◌, ◌<◌, ◌≤◌, Bool, true, false, cond, List, [], ◌∷◌, ◌++◌, length, map, drop, refl, sym, ap, ◌∙◌, subst, arith, drop-cons, Option}
+use Rattle.std.proofs.Math.Nat.{mul-le-mul, pow-le-pow_right}
+use Rattle.std.proofs.lemmas.List.Sums.{fold-append}
+use Rattle.std.specs.Prelude.{get_or, Some, None, flat_map, ◌==◌}
+use Rattle.std.proofs.lemmas.Bool.Decides.{nat_tests}
+use Rattle.std.proofs.lemmas.List.{get_or-map, length-map, drop_all}
+use Rattle.node_set.specs.Ascending.{has, passing}
+use Rattle.directory.specs.Settings.{Setting, levels}
+use Rattle.directory.specs.Writes.{numbers_from}
+use Rattle.entry_word.specs.Addresses.{address_in}
+use Rattle.entry_word.specs.declared.address.Address.{Address}
+use Rattle.entry_word.specs.declared.visit.Key.TheVariants.{Entry}
+use Rattle.directory.specs.Finds.{FindCall, Reader, after_entry, after_word, answer_of, at_origin, climb, climbs, find, key_of}
+use Rattle.region_plan.specs.Plan.{PlanData, no_level, level_at, cluster_in, clusters_of, inside, levels_of, members_of, nodes_of, readers}
+use Rattle.region_plan.specs.Regions.{containing}
+use Rattle.region_plan.specs.Kept.{IsKept, IsSized}
+use Rattle.region_plan.specs.Matched.{IsMatched, IsWithinReach}
+use Rattle.region_plan.specs.Settings.{setting_of}
+use Rattle.walk.specs.declared.progress.Progress.{Progress}
+use Rattle.walk.specs.declared.progress.Progress.TheVariants.{AtOrigin, Chasing, Climbing, Ended}
+use Rattle.walk.specs.Walks.{GoesWith, IsWithin, IsWordBelow, StandsFor, WalkData, call_of, reader_in, readers_at, readers_above, stage_at, stage_of}
+
+-- numbers that pass a test
+passing-at : (test : ℕ → Bool) (x k i : ℕ) → i < length (passing test x k) → (test (get_or (passing test x k) i 0)
+    ≡ true) × (get_or (passing test x k) i 0 < x + k)
+passing-at test x zero i h = absurd (omega (arith, h))
+passing-at test x (suc k) i h = at_test (passing-at test (suc x) k) (test x) refl i h
+  where
+    at_test : ((j : ℕ) → j < length (passing test (suc x) k) → (test (get_or (passing test (suc x) k) j 0) ≡ true)
+        × (get_or (passing test (suc x) k) j 0 < suc x + k))
+        → (b : Bool) → test x ≡ b → (j : ℕ) → j < length (cond b (x ∷ passing test (suc x) k) (passing test
+        (suc x) k))
+        → (test (get_or (cond b (x ∷ passing test (suc x) k) (passing test (suc x) k)) j 0) ≡ true)
+        × (get_or (cond b (x ∷ passing test (suc x) k) (passing test (suc x) k)) j 0 < x + suc k)
+    at_test later true same zero l = (same, omega arith)
+    at_test later true same (suc j) l = let deep = later j (omega (arith, l)) in (deep.0, omega (arith, deep.1))
+    at_test later false same j l = let deep = later j l in (deep.0, omega (arith, deep.1))
+
+passing-short : (test : ℕ → Bool) (x k : ℕ) → length (passing test x k) ≤ k
+passing-short test x zero = omega arith
+passing-short test x (suc k) = at_test (test x) (passing-short test (suc x) k)
+  where
+    at_test : (b : Bool) → length (passing test (suc x) k) ≤ k → length (cond b (x ∷ passing test (suc x) k)
+        (passing test (suc x) k)) ≤ suc k
+    at_test true h = omega (arith, h)
+    at_test false h = omega (arith, h)
+
+-- there are few readers, and each contains the node
+pub readers-few : (plan : PlanData) (level node : ℕ) → IsMatched plan → IsKept plan → level < levels_of plan
+    → node < nodes_of plan → length (readers plan level node) ≤ 1024
+readers-few plan level node matched kept h l =
+    let sized : IsSized (nodes_of plan) (level_at plan level) = kept.levels level no_level h in
+    subst (λ rs. length rs ≤ 1024) (sym (matched.read level node h l))
+    (omega (
+      arith,
+      passing-short (λ c. has node (cluster_in (level_at plan level).clusters c).members) 0 (length
+          (level_at plan level).clusters),
+      sized.clusters,
+      kept.metric.few,
+    ))
+
+pub reader-held : (plan : PlanData) (level node index : ℕ) → IsMatched plan → level < levels_of plan
+    → node < nodes_of plan → index < length (readers plan level node)
+    → (has node (members_of plan level (get_or (readers plan level node) index 0)) ≡ true)
+    × (get_or (readers plan level node) index 0 < clusters_of plan level)
+reader-held plan level node index matched h l inside =
+    let same : readers plan level node ≡ containing (level_at plan level).clusters node =
+    matched.read level node h l in
+    let here : index < length (containing (level_at plan level).clusters node) =
+    subst (λ rs. index < length rs) same inside in
+    let both = passing-at (λ c. has node (cluster_in (level_at plan level).clusters c).members) 0 (length
+    (level_at plan level).clusters) index here in (
+      ap (λ rs. has node (members_of plan level (get_or rs index 0))) same ∙ both.0,
+      subst (λ rs. get_or rs index 0 < clusters_of plan level) (sym same) (omega (arith, both.1)),
+    )
+
+-- the climb at a reader
+pub climb-here : (setting : Setting) (node : ℕ) (known : Option ℕ) (weight level index : ℕ) (later : List Reader)
+    → index < length (setting.readers level node)
+    → climb known weight (drop index (readers_at setting node level) ++ later)
+    ≡ climbs known weight (record { level = level; cluster = get_or (setting.readers level node) index 0 }) (drop
+    (suc index) (readers_at setting node level) ++ later)
+climb-here setting node known weight level index later inside =
+    let count : length (readers_at setting node level) ≡ length (setting.readers level node) =
+    length-map (setting.readers level node) (λ c. record { level = level; cluster = c }) in
+    let short : index < length (readers_at setting node level) = omega (arith, inside, count) in
+    let first : get_or (readers_at setting node level) index (record { level = level; cluster = 0 })
+    ≡ record { level = level; cluster = get_or (setting.readers level node) index 0 } =
+    get_or-map (λ c. record { level = level; cluster = c }) (setting.readers level node) index 0 (record {
+      level =
+          level;
+      cluster = 0;
+    }) inside in
+    ap (λ rs. climb known weight (rs ++ later)) (drop-cons (readers_at setting node level) index (record {
+      level =
+          level;
+      cluster = 0;
+    }) short ∙ ap (λ r. r ∷ drop (suc index) (readers_at setting node level)) first)
+
+-- the readers of a level and those above
+pub readers-spent : (setting : Setting) (node level index : ℕ) → length (setting.readers level node) ≤ index
+    → drop index (readers_at setting node level) ≡ []
+readers-spent setting node level index h =
+    let count : length (readers_at setting node level) ≡ length (setting.readers level node) =
+    length-map (setting.readers level node) (λ c. record { level = level; cluster = c }) in
+    drop_all index (readers_at setting node level) (omega (arith, h, count))
+
+pub above-more : (setting : Setting) (node level : ℕ) → level < levels setting → readers_above setting node level
+    ≡ readers_at setting node level ++ readers_above setting node (suc level)
+above-more setting node level h = let e : levels setting - level ≡ suc (levels setting - suc level) =
+    omega arith in ap (λ n. flat_map (readers_at setting node) (numbers_from level n)) e
+
+pub above-none : (setting : Setting) (node level : ℕ) → levels setting ≤ level → readers_above setting node level ≡ []
+above-none setting node level h = let e : levels setting - level ≡ 0 = omega arith in ap (λ n. flat_map
+    (readers_at setting node) (numbers_from level n)) e
+
+pub above-empty : (setting : Setting) (node level : ℕ) → level < levels setting
+    → length (setting.readers level node) ≡ 0 → readers_above setting node (level + 1)
+    ≡ readers_above setting node level
+above-empty setting node level h none =
+    let e : level + 1 ≡ suc level = omega arith in
+    ap (readers_above setting node) e ∙ sym (above-more setting node level h
+    ∙ at_list (setting.readers level node) none)
+  where
+    at_list : (rs : List ℕ) → length rs ≡ 0 → map (λ cluster. let r : Reader = record {
+      level = level;
+      cluster =
+          cluster;
+    } in r) rs ++ readers_above setting node (suc level) ≡ readers_above setting node (suc level)
+    at_list [] l = refl
+    at_list (r ∷ rs) l = absurd (omega (arith, l))
+
+-- a walk that climbs
+pub answer-climbing : (plan : PlanData) (from : ℕ) (progress : Progress) (known : Option ℕ)
+    (weight level index : ℕ) → progress ≡ Climbing known weight level index → IsWithin plan from progress
+    → None ≡ answer_of (stage_at (setting_of plan []) from progress)
+answer-climbing plan from progress known weight level index same within =
+    let inside = subst (IsWithin plan from) same within in
+    sym (ap (λ q. answer_of (stage_at (setting_of plan []) from q)) same
+    ∙ ap answer_of (climb-here (setting_of plan []) from known weight level index (readers_above
+    (setting_of plan []) from (suc level)) inside.1))
+
+pub next-climbing : (plan : PlanData) (walk : WalkData) (known : Option ℕ) (weight level index cluster : ℕ)
+    → walk.progress ≡ Climbing known weight level index → GoesWith plan walk
+    → cluster ≡ get_or (readers plan level walk.from) index 0 → Some (Entry level cluster walk.sub)
+    ≡ key_of (call_of walk) (stage_of plan walk)
+next-climbing plan walk known weight level index cluster same goes here =
+    let inside = subst (IsWithin plan walk.from) same goes.progress in
+    ap (λ c. Some (Entry level c walk.sub)) here
+    ∙ sym (ap (λ q. key_of (call_of walk) (stage_at (setting_of plan []) walk.from q)) same
+    ∙ ap (key_of (call_of walk)) (climb-here (setting_of plan []) walk.from known weight level index (readers_above
+    (setting_of plan []) walk.from (suc level)) inside.1))
+
+pub word-climbing : (plan : PlanData) (from sub : ℕ) (known : Option ℕ) (weight level index word : ℕ)
+    (address : Option Address) → index < length (readers plan level from) → address_in word ≡ address
+    → (let call : FindCall = record { from = from; sub = sub } in after_word (setting_of plan []) call (stage_at
+    (setting_of plan []) from (Climbing known weight level index)) word)
+    ≡ after_entry (setting_of plan []) (record { from = from; sub = sub }) known weight
+    (reader_in plan from level index)
+    (drop (suc index) (readers_at (setting_of plan []) from level) ++ readers_above (setting_of plan []) from
+    (suc level)) address
+word-climbing plan from sub known weight level index word address inside same =
+    ap (λ stage. after_word (setting_of plan []) (record { from = from; sub = sub }) stage word)
+    (climb-here (setting_of plan []) from known weight level index (readers_above (setting_of plan []) from
+    (suc level)) inside)
+    ∙ ap (after_entry (setting_of plan []) (record { from = from; sub = sub }) known weight
+    (reader_in plan from level index)
+    (drop (suc index) (readers_at (setting_of plan []) from level) ++ readers_above (setting_of plan []) from
+    (suc level))) same
+
+-- one word more
+pub find-more : (plan : PlanData) (old new : WalkData) (words : List ℕ) (word : ℕ) → call_of new ≡ call_of old
+    → stage_of plan new ≡ after_word (setting_of plan []) (call_of old) (stage_of plan old) word
+    → StandsFor plan old words → StandsFor plan new (words ++ word ∷ [])
+find-more plan old new words word same stage stands =
+    stage ∙ (ap (λ s. after_word (setting_of plan []) (call_of old) s word) stands
+    ∙ (sym (fold-append (after_word (setting_of plan []) (call_of old)) at_origin words (word ∷ []))
+    ∙ ap (λ c. find (setting_of plan []) c (words ++ word ∷ [])) (sym same)))
+
+pub empty-means : (n : ℕ) → (n == 0) ≡ true → n ≡ 0
+empty-means n h = grind (arith, nat_tests)
+
+-- weights inside clusters are light, and nothing names no node
+pub way-light : (plan : PlanData) (i c v : ℕ) → IsKept plan → IsWithinReach plan → i < levels_of plan
+    → c < clusters_of plan i → has v (members_of plan i c) ≡ true → inside plan i c v ≤ 2 ^ 35
+way-light plan i c v kept reached h l member =
+    let sized : IsSized (nodes_of plan) (level_at plan i) = kept.levels i no_level h in
+    let two : 0 < 2 = omega arith in
+    let power : 2 ^ (level_at plan i).exponent ≤ 2 ^ 30 = pow-le-pow_right {n = 2} two {i =
+    (level_at plan i).exponent} {j = 30} sized.exponent in
+    let product : plan.reach * 2 ^ (level_at plan i).exponent ≤ 17 * 2 ^ 30 = mul-le-mul kept.near power in
+    omega (arith, reached i c v h l member, product)
+
+pub nothing-below : (nodes : ℕ) (progress : Progress) → IsWordBelow nodes progress 0
+nothing-below nodes AtOrigin = tt
+nothing-below nodes (Climbing known weight level index) = tt
+nothing-below nodes (Chasing chase node) = tt
+nothing-below nodes (Ended found) = tt

@@ -1,0 +1,32 @@
+//! How far a find is.
+
+use directory::Found;
+
+/// What a find keeps as it chases: the greatest number of a Gone that it read, the level that it climbed to, its weight
+/// so far, and how many hops it has left.
+#[derive(Clone, Copy, PartialEq, Eq, Debug)]
+pub struct Chase {
+    pub known: Option<u32>,
+    pub level: Option<u32>,
+    pub weight: u64,
+    pub hops_left: u32,
+}
+
+/// At its origin; at the entry of a reader, by level and place among the readers; chasing at a node; or ended.
+#[derive(Clone, Copy, PartialEq, Eq, Debug)]
+pub enum Progress {
+    AtOrigin,
+    Climbing {
+        known: Option<u32>,
+        weight: u64,
+        level: u32,
+        index: u32,
+    },
+    Chasing {
+        chase: Chase,
+        node: u32,
+    },
+    Ended {
+        found: Found,
+    },
+}
