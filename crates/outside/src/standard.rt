@@ -1,6 +1,9 @@
 // Sources and sinks over std's readers and writers: the edge of what is proved. They tell no bytes.
-ghost use Rattle.std.specs.Prelude.{◌≡◌, ◌<◌, ◌≤◌, None, IfOk, length, drop, take};
+ghost use Rattle.std.specs.Prelude.{◌≡◌, ◌≢◌, ◌<◌, ◌≤◌, None, IfOk, length, drop, take};
 ghost use Rattle.outside.specs.Bytes.{prepend_known, append_known, IsAtEnd};
+ghost use Rattle.std.specs.Io.KnownBytes.{Consumes, Appends};
+ghost use Rattle.std.specs.Io.KnownBytes.{IsAtEnd as IsReaderAtEnd};
+ghost use Rattle.outside.specs.declared.source.Took.{Took};
 ghost use Rattle.outside.specs.Calls.{taken, given, TakesWithin, GivesWithin, CountsRead, CountsWrite};
 
 use crate::copy::copy_front;
@@ -38,7 +41,16 @@ impl<R: Read> Source for StdSource<R> {
 
     ghost left = { λ _. None };
 
-    fn read(&mut self, into: &mut [u8]) -> Took {
+    fn read(&mut self, into: &mut [u8]) -> Took
+        requires { 0 < length into.old }
+        ensures within { TakesWithin result (length into.old) }
+        ensures bytes { None ≡ prepend_known (take (taken result) into.new) None }
+        ensures rest { drop (taken result) into.new ≡ drop (taken result) into.old }
+        ensures count { CountsRead result self.old.faults self.new.faults }
+        ensures end { result ≡ Took.End → IsAtEnd None }
+        ensures passes { Consumes (R.remaining self.old.reader) (R.remaining self.new.reader) (take (taken result) into.new) }
+        ensures ends { result ≡ Took.End → IsReaderAtEnd (R.remaining self.new.reader) }
+    {
         let room = into.len().min(BUFFER);
         let buffer = &mut self.buffer[..];
         let count = match self.reader.read(&mut buffer[..room]) {
@@ -76,6 +88,7 @@ impl<W: Write> StdSink<W> {
     fn push(&mut self, piece: &[u8]) -> std::io::Result<usize>
         ensures within { IfOk result (λ count. count ≤ length piece.now) }
         ensures same { self.new.faults ≡ self.old.faults }
+        ensures passes { IfOk result (λ count. Appends (W.contents self.old.writer) (W.contents self.new.writer) (take count piece.now)) }
     {
         let count = self.writer.write(piece)?;
         self.writer.flush()?;
@@ -88,7 +101,13 @@ impl<W: Write> Sink for StdSink<W> {
 
     ghost written = { λ _. None };
 
-    fn write(&mut self, piece: &[u8]) -> Gave {
+    fn write(&mut self, piece: &[u8]) -> Gave
+        requires { 0 < length piece.now }
+        ensures within { GivesWithin result (length piece.now) }
+        ensures bytes { None ≡ append_known None (take (given result) piece.now) }
+        ensures count { CountsWrite result self.old.faults self.new.faults }
+        ensures passes { result ≢ Gave.Failed → Appends (W.contents self.old.writer) (W.contents self.new.writer) (take (given result) piece.now) }
+    {
         match self.push(piece) {
             Ok(count) if count > 0 => Gave::Wrote(count),
             _ => {

@@ -1,0 +1,14 @@
+mod Standing
+mod Feeding
+mod Packed
+mod Arity
+mod LineRead
+mod TextRead
+mod Scripts
+mod Ending
+mod OneInput
+mod Heard
+mod Measured
+mod Folding
+mod Calling
+mod ValidInput

@@ -1,0 +1,11 @@
+pub mod Lines
+pub mod Said
+pub mod Table
+pub mod Input
+pub mod Shown
+pub mod Steps
+pub mod Seen
+pub mod Sound
+pub mod Reading
+pub mod Valid
+pub mod Laws

@@ -1,0 +1,78 @@
+//! What an input says.
+ghost use Rattle.std.specs.Prelude.{◌≡◌, ◌≤◌, ◌<◌, ◌^◌, map, IfOk, Ok};
+ghost use Rattle.net_reader.specs.Said.{script_of};
+ghost use Rattle.net_reader.specs.Input.{numbers_from};
+ghost use Rattle.net_reader.specs.Seen.{seen_known, IsKept, Answers};
+ghost use Rattle.net_reader.specs.Sound.{IsSound};
+
+use crate::fault::{InputCause, InputFault, ReadRefusal};
+use crate::known::Known;
+use crate::said::{Call, Spoken};
+use net_graph::{Edge, Graph, GraphFault};
+use std::alloc::{AllocError, Global};
+
+/// What an input says: its network, its subscribers' homes, and one script per actor.
+#[derive(Debug, Drop)]
+pub struct Input {
+    pub format: u32,
+    pub nodes: u32,
+    pub k: u32,
+    pub edges: Vec<Edge>,
+    pub homes: Vec<u32>,
+    pub callers: u32,
+    pub scripts: Vec<Vec<Call>>,
+    pub order: Vec<u32>,
+}
+
+// The calls of one actor.
+fn script_of(alloc: Global, actor: u32, calls: &[Spoken]) -> Result<Vec<Call>, AllocError>
+    ensures { IfOk result (λ script. script.items ≡ script_of actor calls.now) }
+{
+    let mut script = Vec::new(alloc);
+    for spoken in calls {
+        if spoken.actor == actor {
+            script.push(spoken.call)?;
+        }
+    }
+    Ok(script)
+}
+
+fn scripts_of(alloc: Global, actors: u32, calls: &[Spoken]) -> Result<Vec<Vec<Call>>, AllocError>
+    ensures { IfOk result (λ scripts. map (λ script. script.items) scripts.items ≡ map (λ actor. script_of actor calls.now) (numbers_from 0 actors)) }
+{
+    let mut scripts = Vec::new(alloc);
+    for actor in 0..actors {
+        let script = script_of(alloc, actor, calls)?;
+        scripts.push(script)?;
+    }
+    Ok(scripts)
+}
+
+// The input that was read, where each node has a walk from node 0.
+pub(crate) fn answer(alloc: Global, known: Known, lines: u32) -> Result<Input, ReadRefusal>
+    requires kept { IsKept known }
+    requires sound { IsSound (seen_known known) }
+    ensures { Answers result (Ok (seen_known known, lines)) }
+{
+    match Graph::new(alloc, known.nodes, &known.edges) {
+        Ok(_) => {
+            let actors = known.homes.len() as u32 + known.callers;
+            let scripts = scripts_of(alloc, actors, &known.calls)?;
+            Ok(Input {
+                format: known.format,
+                nodes: known.nodes,
+                k: known.k,
+                edges: known.edges,
+                homes: known.homes,
+                callers: known.callers,
+                scripts,
+                order: known.order,
+            })
+        }
+        Err(GraphFault::Apart { node }) => Err(ReadRefusal::Fault(InputFault {
+            line: lines,
+            cause: InputCause::Apart { node },
+        })),
+        Err(GraphFault::OutOfMemory) => Err(ReadRefusal::OutOfMemory),
+    }
+}

@@ -1,0 +1,24 @@
+//! The input text: its grammar, and a reader that takes it piece by piece.
+#![tactic(auto)]
+
+mod examples;
+mod fault;
+mod input;
+mod known;
+mod laws;
+mod line;
+mod reader;
+mod said;
+mod scan;
+mod stop;
+mod word;
+
+pub use examples::{example_inputs, refused_examples};
+pub use fault::{InputCause, InputFault, ReadRefusal};
+pub use input::Input;
+pub use laws::{inputs_are_valid, text_says_one};
+pub use reader::{MAX_BYTES, Reader, read_input};
+pub use said::Call;
+
+#[cfg(test)]
+mod tests;

@@ -1,0 +1,194 @@
+//! What is read of an input so far, byte by byte: it keeps what the lines said, and no byte of them.
+ghost use Rattle.std.specs.Prelude.{◌≡◌, ◌<◌, ◌≤◌, ◌+◌, ◌^◌, length, IfOk, OnOk, None, nat_lt};
+ghost use Rattle.net_reader.specs.Steps.{end_line, line_ended, released, byte_read, next, fed, finished, fresh_reader, number_of_place};
+ghost use Rattle.net_reader.specs.Seen.{seen_line, seen_known, seen_scan, IsKept, Finishes, IsWell, Judges};
+
+use crate::fault::{InputCause, InputFault, ReadRefusal};
+use crate::known::Known;
+use crate::line::{Line, Open, plain_run};
+use crate::stop::Stop;
+use crate::word::Place;
+use std::alloc::{AllocError, Global};
+
+// What was read so far: what the whole lines said or their first fault, how many lines have begun, whether one hasn't
+// ended, whether that one ends with a carriage return, and what it is without it.
+#[derive(Debug, Drop)]
+pub(crate) struct Scan {
+    pub(crate) fault: Option<InputFault>,
+    lines: u32,
+    begun: bool,
+    held: bool,
+    line: Line,
+    known: Known,
+}
+
+// The line with the carriage return that was held back.
+#[tactic(auto, unfolding(crate::specs::Steps::released))]
+fn release(held: bool, line: &mut Line) -> Result<(), AllocError>
+    ensures { OnOk result (seen_line line.new ≡ released held (seen_line line.old)) }
+{
+    if held { line.put(b'\r') } else { Ok(()) }
+}
+
+// What a line says that is at its end.
+#[tactic(auto, unfolding(crate::specs::Steps::end_line))]
+fn end_line(line: &mut Line, known: &mut Known) -> Result<(), Stop>
+    requires { IsKept known.old }
+    ensures { Judges result known.new (end_line (seen_line line.old) (seen_known known.old)) }
+{
+    line.close()?;
+    match line.field {
+        Open::Blank => Ok(()),
+        Open::Comment => Ok(()),
+        Open::Between => known.hear(line.word, &line.numbers),
+        _ => Err(Stop::Fault(InputCause::Form)),
+    }
+}
+
+// Whether no callers line was read.
+fn is_before_callers(place: Place) -> bool
+    ensures { result ≡ nat_lt (number_of_place place) 6 }
+{
+    matches!(
+        place,
+        Place::Start | Place::Track | Place::Nodes | Place::K | Place::Edges | Place::Subs
+    )
+}
+
+impl Scan {
+    // No byte was read.
+    pub(crate) fn new(alloc: Global) -> Result<Scan, AllocError>
+        ensures fresh { IfOk result (λ scan. seen_scan scan ≡ fresh_reader) }
+        ensures well { IfOk result (λ scan. IsWell scan.fault scan.known) }
+    {
+        Ok(Scan {
+            fault: None,
+            lines: 0,
+            begun: false,
+            held: false,
+            line: Line::new(alloc)?,
+            known: Known::new(alloc),
+        })
+    }
+
+    // The end of a line.
+    #[tactic(auto, unfolding(crate::specs::Steps::line_ended))]
+    fn end_of_line(&mut self) -> Result<(), AllocError>
+        requires going { self.old.fault ≡ None }
+        requires well { IsWell self.old.fault self.old.known }
+        ensures read { OnOk result (seen_scan self.new ≡ line_ended (seen_scan self.old) (seen_known self.old.known)) }
+        ensures well { OnOk result (IsWell self.new.fault self.new.known) }
+    {
+        self.begun = false;
+        self.held = false;
+        match end_line(&mut self.line, &mut self.known) {
+            Ok(()) => {}
+            Err(Stop::Fault(cause)) => {
+                self.fault = Some(InputFault {
+                    line: self.lines,
+                    cause,
+                });
+            }
+            Err(Stop::Memory) => return Err(AllocError),
+        }
+        self.line.clear();
+        Ok(())
+    }
+
+    // One byte more.
+    fn byte(&mut self, byte: u8) -> Result<(), AllocError>
+        requires going { self.old.fault ≡ None }
+        requires well { IsWell self.old.fault self.old.known }
+        requires room { self.old.lines + 1 < 2 ^ 32 }
+        ensures read { OnOk result (seen_scan self.new ≡ byte_read (seen_scan self.old) (seen_known self.old.known) byte) }
+        ensures well { OnOk result (IsWell self.new.fault self.new.known) }
+    {
+        if !self.begun {
+            self.lines += 1;
+            self.begun = true;
+        }
+        if byte == b'\n' {
+            return self.end_of_line();
+        }
+        release(self.held, &mut self.line)?;
+        if byte == b'\r' {
+            self.held = true;
+        } else {
+            self.held = false;
+            self.line.put(byte)?;
+        }
+        Ok(())
+    }
+
+    // One byte more, which changes nothing after a fault.
+    #[tactic(auto, unfolding(crate::specs::Steps::next))]
+    fn step(&mut self, byte: u8) -> Result<(), AllocError>
+        requires well { IsWell self.old.fault self.old.known }
+        requires room { self.old.lines + 1 < 2 ^ 32 }
+        ensures read { OnOk result (seen_scan self.new ≡ next (seen_scan self.old) byte) }
+        ensures well { OnOk result (IsWell self.new.fault self.new.known) }
+    {
+        if self.fault.is_some() {
+            return Ok(());
+        }
+        self.byte(byte)
+    }
+
+    // Reads the bytes at the front that only go on with a field, and answers those behind.
+    fn skip<'a>(&mut self, piece: &'a [u8]) -> &'a [u8]
+        requires { IsWell self.old.fault self.old.known }
+        ensures read { fed (seen_scan self.new) result.now ≡ fed (seen_scan self.old) piece.now }
+        ensures shorter { length result.now ≤ length piece.now }
+        ensures well { IsWell self.new.fault self.new.known }
+        ensures lines { self.new.lines ≡ self.old.lines }
+    {
+        if self.fault.is_some() || !self.begun || self.held {
+            return piece;
+        }
+        let (field, count) = plain_run(self.line.field, piece);
+        self.line.field = field;
+        piece.split_at(count).1
+    }
+
+    // So many bytes more.
+    pub(crate) fn read(&mut self, piece: &[u8]) -> Result<(), AllocError>
+        requires well { IsWell self.old.fault self.old.known }
+        requires room { self.old.lines + length piece.now < 2 ^ 32 }
+        ensures read { OnOk result (seen_scan self.new ≡ fed (seen_scan self.old) piece.now) }
+        ensures well { OnOk result (IsWell self.new.fault self.new.known) }
+    {
+        let mut rest = piece;
+        'bytes: while !rest.is_empty() {
+            rest = self.skip(rest);
+            if let [byte, after @ ..] = rest {
+                self.step(*byte)?;
+                rest = after;
+            }
+        }
+        Ok(())
+    }
+
+    // What the text said that ends here.
+    #[tactic(auto, unfolding(crate::specs::Steps::finished))]
+    pub(crate) fn finish(mut self) -> Result<(Known, u32), ReadRefusal>
+        requires well { IsWell self.fault self.known }
+        ensures read { Finishes result (finished (seen_scan self)) }
+    {
+        if self.fault.is_none() && self.begun {
+            self.end_of_line()?;
+        }
+        match self.fault {
+            Some(fault) => Err(ReadRefusal::Fault(fault)),
+            None => {
+                if is_before_callers(self.known.place) {
+                    Err(ReadRefusal::Fault(InputFault {
+                        line: self.lines,
+                        cause: InputCause::Unfinished,
+                    }))
+                } else {
+                    Ok((self.known, self.lines))
+                }
+            }
+        }
+    }
+}

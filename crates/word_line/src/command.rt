@@ -1,0 +1,26 @@
+//! What the program is told to do.
+use crate::Load;
+
+/// What the program is told to do.
+#[derive(Clone, Copy, Debug, PartialEq, Eq)]
+pub enum Command {
+    /// Write the plan of a network.
+    Cover,
+    /// Write the report of the calls under the order of the input.
+    Replay,
+    /// Write who is where at the end of the replay.
+    Census,
+    /// Write the report of the calls that threads make.
+    Run,
+    /// Write the input that this load makes.
+    Make(Load),
+    /// Write the summary of the replay of the input that this load makes.
+    Trial(Load),
+}
+
+/// Why words aren't a command.
+#[derive(Clone, Copy, Debug, PartialEq, Eq)]
+pub enum WordsFault {
+    /// They are none of the forms.
+    Refused,
+}
