@@ -1,0 +1,92 @@
+-- A subscriber's next step, as the code reads it.
+use Rattle.std.proofs.Common.{◌≡◌, ℕ, ◌-◌, ◌<◌, ◌≤◌, ◌^◌, Bool, true, List, [], ◌∷◌, ◌++◌, length, get_or, sym, ap, ◌∙◌, subst, arith, Vec, Global}
+use Rattle.std.specs.Prelude.{Option, Some, None, Result, Ok, Err, OnErr, OnSome, not, slice_get}
+use Rattle.std.specs.Option.{is_some}
+use Rattle.std.specs.Result.{is_err}
+use Rattle.std.proofs.lemmas.List.{length-map}
+use Rattle.entry_word.specs.declared.visit.Visit.{Visit}
+use Rattle.directory.specs.Histories.{History, own}
+use Rattle.directory.specs.Orders.{steps_of}
+use Rattle.directory.specs.Writes.{visits}
+use Rattle.distances.specs.Table.{DistanceTable}
+use Rattle.net_reader.specs.declared.input.Input.{Input}
+use Rattle.net_reader.specs.declared.said.Call.{Call}
+use Rattle.net_reader.specs.Seen.{seen_input}
+use Rattle.region_plan.specs.Plan.{PlanData}
+use Rattle.handset.specs.Progress.{due}
+use Rattle.machine.specs.declared.subscriber.Subscriber.{Subscriber}
+use Rattle.machine.specs.Scripts.{scripts_of, step_of}
+use Rattle.machine.specs.Stands.{BelongTogether, setting_in}
+use Rattle.machine.specs.Subscribers.{IsSubscriber, begun_steps}
+use Rattle.machine.proofs.Looking.{script-is}
+use Rattle.machine.proofs.ScriptLaws.{calls-few, same-at, steps-are}
+use Rattle.machine.proofs.Written.{Begins, begins, first-visit}
+
+-- what is known where a step is left
+pub record Ready (input : Input) (plan : PlanData) (history : History) (sub : ℕ) (old : Subscriber) (script : List Call)
+    (place : ℕ) (default : Call) : Type 0 where
+  pub begin : Begins (seen_input input) plan history sub old (get_or script place default)
+  pub short : place < length script
+  pub few : length script < 2 ^ 32 - 1
+  pub left : length old.lines.items < length (steps_of (scripts_of (seen_input input)) sub)
+
+pub script-of : (input : Input) (plan : PlanData) (distances : DistanceTable) (sub : ℕ) (held : Vec Call Global)
+    (script : List Call) → BelongTogether (seen_input input) plan distances → sub < length input.homes.items
+    → held ≡ get_or input.scripts.items sub held → script ≡ held.items
+    → script ≡ get_or (seen_input input).scripts sub []
+script-of input plan distances sub held script together low reads same =
+    script-is input.scripts.items sub held script
+    (omega (arith, low, together.valid.scripts, length-map input.scripts.items (λ (s : Vec Call Global). s.items))) reads same
+
+pub ready : (input : Input) (plan : PlanData) (distances : DistanceTable) (history : History) (sub : ℕ) (old : Subscriber)
+    (held : Vec Call Global) (script : List Call) (place : ℕ) (default : Call)
+    → BelongTogether (seen_input input) plan distances → sub < length input.homes.items
+    → IsSubscriber (seen_input input) plan history sub old → due (setting_in (seen_input input) plan) old.handset ≡ None
+    → held ≡ get_or input.scripts.items sub held → script ≡ held.items → place ≡ length old.lines.items
+    → (place ≡ length script → ⊥) → Ready input plan history sub old script place default
+ready input plan distances history sub old held script place default together low its rests reads same here other =
+    let script_is : script ≡ get_or (seen_input input).scripts sub [] =
+    script-of input plan distances sub held script together low reads same in
+    let steps : length (steps_of (scripts_of (seen_input input)) sub) ≡ length script =
+    ap length (steps-are (seen_input input) sub together.valid low)
+    ∙ (length-map (get_or (seen_input input).scripts sub []) step_of ∙ ap length (sym script_is)) in
+    let short : place < length script = strictly place (length script) (omega (arith, here, its.few, steps)) other in
+    let call : Call = get_or script place default in
+    record {
+      begin = begins (seen_input input) plan distances history sub old call together low its rests
+          (omega (arith, here, short, ap length script_is))
+          (same-at script place default call short
+          ∙ (ap (λ s. get_or s place call) script_is ∙ ap (λ i. get_or (get_or (seen_input input).scripts sub []) i call) here));
+      short = short;
+      few = omega (arith, calls-few (seen_input input) sub together.valid, ap length script_is);
+      left = omega (arith, here, short, steps);
+    }
+  where
+    strictly : (a b : ℕ) → a ≤ b → (a ≡ b → ⊥) → a < b
+    strictly a b h n = omega (arith, h, n)
+
+pub on-some : {A : Type 0} (P : Type 0) (r : Option A) (x : A) → r ≡ Some x → OnSome r P → P
+on-some P r x e h = subst (λ o. OnSome o P) e h
+
+pub on-err : {A E : Type 0} (P : Type 0) (r : Result A E) → is_err r ≡ true → OnErr r P → P
+on-err P (Ok x) e h = cc
+on-err P (Err x) e h = h
+
+pub never-none : {A : Type 0} (r : Option A) (x : A) (b : Bool) → r ≡ Some x → is_some r ≡ not b → b ≡ true → ⊥
+never-none r x b e h t = cc
+
+-- the first visit of the step that is begun
+pub its-visit : (input : Input) (plan : PlanData) (history : History) (sub : ℕ) (old : Subscriber) (script : List Call)
+    (place subject : ℕ) (default : Call) (result : Option Visit)
+    → IsSubscriber (seen_input input) plan history sub old
+    → Ready input plan history sub old script place default → subject ≡ old.handset.sub
+    → result ≡ slice_get (visits (setting_in (seen_input input) plan) subject
+    (begun_steps (seen_input input) sub old ++ step_of (get_or script place default) ∷ [])) (length (own sub history))
+    → (visit : Visit) × (result ≡ Some visit)
+its-visit input plan history sub old script place subject default result its at same visit =
+    let first = first-visit (setting_in (seen_input input) plan) sub (length (own sub history)) (begun_steps (seen_input input) sub old)
+    (step_of (get_or script place default)) at.begin.all in (
+      first.0,
+      visit ∙ (ap (λ s. slice_get (visits (setting_in (seen_input input) plan) s
+          (begun_steps (seen_input input) sub old ++ step_of (get_or script place default) ∷ [])) (length (own sub history))) (same ∙ its.its) ∙ first.1),
+    )

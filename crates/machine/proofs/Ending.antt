@@ -1,0 +1,249 @@
+-- The end: when no actor has a visit left, the lines of all actors are those of the outcome.
+use Rattle.std.proofs.Common.{◌≡◌, ℕ, zero, suc, ◌+◌, ◌<◌, ◌≤◌, List, [], ◌∷◌, ◌++◌, length, map, take, drop, fold, get_or, refl, sym, ap, ◌∙◌, subst, arith, length-append, Option}
+use Rattle.std.specs.Prelude.{None, Some, flat_map, slice_get, vec_capacity}
+use Rattle.std.proofs.lemmas.List.{length-map, length-drop, take_all, get_or-drop}
+use Rattle.directory.specs.Settings.{Setting, start}
+use Rattle.directory.specs.Courses.{Course, Step, after_step, after_steps, course_at}
+use Rattle.directory.specs.Histories.{History, own, tickets, words_read}
+use Rattle.directory.specs.Finds.{FindCall, Stage, after_word, answer_of}
+use Rattle.directory.specs.Writes.{numbers_from, step_writes, visit_of, visits, writes}
+use Rattle.directory.specs.Orders.{Caller as Seeker, after_read, caller_at, caller_in, finds_of, read_by, script_visits, steps_of, with_stage, IsDone}
+use Rattle.directory.specs.Outcomes.{answer_line, caller_lines, outcome_in, step_lines, sub_lines}
+use Rattle.directory.specs.StepLaws.{writes-append}
+use Rattle.directory.specs.declared.answers.Done.{Done}
+use Rattle.directory.specs.declared.answers.Found.{Found}
+use Rattle.net_reader.specs.declared.said.Call.{Call}
+use Rattle.net_reader.specs.Input.{Contents}
+use Rattle.net_reader.specs.Valid.{count_calls}
+use Rattle.region_plan.specs.Plan.{PlanData}
+use Rattle.machine.specs.declared.caller.Caller.{Caller}
+use Rattle.machine.specs.declared.subscriber.Subscriber.{Subscriber}
+use Rattle.machine.specs.declared.machine.Machine.{Machine}
+use Rattle.machine.specs.Scripts.{scripts_of, step_of, find_of}
+use Rattle.machine.specs.Stands.{setting_in}
+use Rattle.machine.specs.Subscribers.{IsSubscriber, begun_steps}
+use Rattle.machine.specs.Machines.{StandsFor, input_at, scripts_at, setting_at}
+use Rattle.machine.proofs.ScriptLaws.{finds-are, steps-are}
+use Rattle.machine.proofs.Steps.{some-write}
+use Rattle.machine.proofs.Written.{next-sub}
+
+-- a subscriber that is done has begun all its steps
+past-end : {A : Type 0} (xs : List A) (i : ℕ) → slice_get xs i ≡ None → length xs ≤ i
+past-end [] i h = omega arith
+past-end (x ∷ xs) zero h = cc
+past-end (x ∷ xs) (suc i) h = omega (arith, past-end xs i h)
+
+take-drop : {A : Type 0} (n : ℕ) (xs : List A) → take n xs ++ drop n xs ≡ xs
+take-drop zero xs = refl
+take-drop (suc n) [] = refl
+take-drop (suc n) (x ∷ xs) = ap (λ zs. x ∷ zs) (take-drop n xs)
+
+none-left : (setting : Setting) (course : Course) (before left : List Step) (made : ℕ)
+    → length (writes setting course (before ++ left)) ≤ made → made ≤ length (writes setting course before)
+    → left ≡ []
+unfolding writes
+none-left setting course before [] made all few = refl
+none-left setting course before (step ∷ later) made all few =
+    absurd (omega (
+      arith,
+      all,
+      few,
+      ap length (writes-append setting course before (step ∷ later)),
+      length-append (writes setting course before)
+          (writes setting (after_steps setting course before) (step ∷ later)),
+      length-append (step_writes setting (after_steps setting course before) step)
+          (writes setting (after_step setting (after_steps setting course before) step) later),
+      some-write setting (after_steps setting course before) step,
+    ))
+
+pub lines-done : (input : Contents) (plan : PlanData) (history : History) (sub : ℕ) (subscriber : Subscriber)
+    → sub < length input.homes → IsSubscriber input plan history sub subscriber
+    → IsDone (setting_in input plan) (scripts_of input) history sub
+    → subscriber.lines.items ≡ sub_lines (setting_in input plan) (scripts_of input) history sub
+lines-done input plan history sub subscriber low is done =
+    is.lines ∙ ap (λ steps. step_lines (setting_in input plan) sub (course_at (start (setting_in input plan) sub)) steps
+    (tickets sub history)) all_begun
+  where
+    script : List Step
+    script = steps_of (scripts_of input) sub
+
+    begun : List Step
+    begun = begun_steps input sub subscriber
+
+    left : List Step
+    left = drop (length subscriber.lines.items) script
+
+    course : Course
+    course = course_at (start (setting_in input plan) sub)
+
+    whole : begun ++ left ≡ script
+    whole = take-drop (length subscriber.lines.items) script
+
+    made : length (script_visits (setting_in input plan) (scripts_of input) sub) ≤ length (own sub history)
+    made = past-end (script_visits (setting_in input plan) (scripts_of input) sub) (length (own sub history))
+        (sym (next-sub (setting_in input plan) (scripts_of input) history sub low) ∙ done)
+
+    few : length (own sub history) ≤ length (visits (setting_in input plan) sub begun)
+    few = subst (λ s. length (own sub history) ≤ length (visits (setting_in input plan) s begun)) is.its is.handset.few
+
+    nothing : left ≡ []
+    nothing = none-left (setting_in input plan) course begun left (length (own sub history))
+        (omega (
+          arith,
+          made,
+          ap (λ xs. length (writes (setting_in input plan) course xs)) whole,
+          length-map (writes (setting_in input plan) course script) (visit_of sub),
+        ))
+        (omega (arith, few, length-map (writes (setting_in input plan) course begun) (visit_of sub)))
+
+    all_begun : begun ≡ script
+    all_begun = take_all (length subscriber.lines.items) script
+        (omega (arith, ap length nothing, length-drop (length subscriber.lines.items) script))
+
+-- what each of a list gives, when each number gives the same
+pub flat-each : {X A : Type 0} (f : X → List A) (g : ℕ → List A) (xs : List X) (k : ℕ)
+    → ((i : ℕ) (d : X) → i < length xs → f (get_or xs i d) ≡ g (k + i))
+    → flat_map f xs ≡ flat_map g (numbers_from k (length xs))
+flat-each f g [] k each = refl
+flat-each f g (x ∷ xs) k each =
+    let here : k + 0 ≡ k = omega arith in
+    let first : f x ≡ g k = each 0 x (omega arith) ∙ ap g here in
+    rw (
+      first,
+      flat-each f g xs (suc k) (λ i d h. each (suc i) d (omega (arith, h))
+          ∙ ap g (let e : k + suc i ≡ suc k + i = omega arith in e)),
+    ) refl
+
+-- the lines of some actors are no more than their calls
+flat-few : {X : Type 0} (f : X → List Done) (xs : List X) (scripts : List (List Call))
+    → ((i : ℕ) (d : X) → i < length xs → length (f (get_or xs i d)) ≤ length (get_or scripts i []))
+    → length xs ≤ length scripts
+    → length (flat_map f xs) + count_calls (drop (length xs) scripts) ≤ count_calls scripts
+flat-few f [] scripts each within = omega arith
+flat-few f (x ∷ xs) [] each within = absurd (omega (arith, within))
+flat-few f (x ∷ xs) (script ∷ scripts) each within =
+    omega (
+      arith,
+      each 0 x (omega arith),
+      length-append (f x) (flat_map f xs),
+      flat-few f xs scripts (λ i d h. each (suc i) d (omega (arith, h))) (omega (arith, within)),
+    )
+
+-- a caller has no more answers than finds
+stage-count : (caller : Seeker) (call : FindCall) (later : List FindCall) (stage : Stage) (answer : Option Found)
+    → caller.calls ≡ call ∷ later
+    → length (with_stage caller call later stage answer).answers + length (with_stage caller call later stage answer).calls
+    ≡ length caller.answers + length caller.calls
+stage-count caller call later stage None same = refl
+stage-count caller call later stage (Some found) same =
+    omega (
+      arith,
+      length-append caller.answers (record {
+        call = call;
+        found = found;
+        first = caller.first;
+        last = caller.next;
+      } ∷ []),
+      ap length same,
+    )
+
+read-count : (setting : Setting) (caller : Seeker) (word : ℕ)
+    → length (after_read setting caller word).answers + length (after_read setting caller word).calls
+    ≡ length caller.answers + length caller.calls
+read-count setting caller word = at_calls caller.calls refl
+  where
+    at_calls : (calls : List FindCall) → caller.calls ≡ calls
+        → length (read_by setting caller calls word).answers + length (read_by setting caller calls word).calls
+        ≡ length caller.answers + length caller.calls
+    at_calls [] same = refl
+    at_calls (call ∷ later) same = stage-count caller call later (after_word setting call caller.stage word)
+        (answer_of (after_word setting call caller.stage word)) same
+
+words-count : (setting : Setting) (words : List ℕ) (caller : Seeker)
+    → length (fold (after_read setting) caller words).answers + length (fold (after_read setting) caller words).calls
+    ≡ length caller.answers + length caller.calls
+words-count setting [] caller = refl
+words-count setting (word ∷ words) caller = words-count setting words (after_read setting caller word)
+    ∙ read-count setting caller word
+
+caller-few : (input : Contents) (plan : PlanData) (history : History) (actor : ℕ)
+    → length (caller_lines (setting_in input plan) (scripts_of input) history actor)
+    ≤ length (finds_of (setting_in input plan) (scripts_of input) actor)
+caller-few input plan history actor =
+    omega (
+      arith,
+      length-map (caller_in (setting_in input plan) (scripts_of input) history actor).answers
+          (answer_line actor (tickets actor history)),
+      words-count (setting_in input plan) (words_read (setting_in input plan) actor history)
+          (caller_at (finds_of (setting_in input plan) (scripts_of input) actor)),
+    )
+
+-- there is room for the lines of the subscribers, and then for those of the callers
+pub room-for_both : (machine : Machine) (history : History) → StandsFor machine history
+    → length (flat_map (λ (one : Subscriber). one.lines.items) machine.subscribers.items)
+    + length (flat_map (λ (one : Caller). one.lines.items) machine.callers.items)
+    ≤ vec_capacity machine.calls
+room-for_both machine history is =
+    omega (
+      arith,
+      flat-few (λ (one : Subscriber). one.lines.items) machine.subscribers.items input.scripts
+          (λ s d h. omega (
+            arith,
+            (is.subscribers s d (omega (arith, h, is.subscribers_count))).few,
+            ap length (steps-are input s is.together.valid (omega (arith, h, is.subscribers_count))),
+            length-map (get_or input.scripts s []) step_of,
+          ))
+          (omega (arith, is.subscribers_count, is.together.valid.scripts)),
+      flat-few (λ (one : Caller). one.lines.items) machine.callers.items
+          (drop (length machine.subscribers.items) input.scripts)
+          (λ c d h. omega (
+            arith,
+            ap length (is.callers c d (omega (arith, h, is.callers_count))).lines,
+            caller-few input machine.plan.now history (length input.homes + c),
+            ap length (finds-are input machine.plan.now (length input.homes + c) (omega arith)
+                (omega (arith, h, is.callers_count, is.together.valid.scripts))),
+            length-map (get_or input.scripts (length input.homes + c) []) find_of,
+            ap length (get_or-drop (length machine.subscribers.items) input.scripts c []),
+            ap (λ n. length (get_or input.scripts (n + c) [])) is.subscribers_count,
+          ))
+          (omega (
+            arith,
+            is.subscribers_count,
+            is.callers_count,
+            is.together.valid.scripts,
+            length-drop (length machine.subscribers.items) input.scripts,
+          )),
+      is.total,
+    )
+  where
+    input : Contents
+    input = input_at machine
+
+-- the lines of all actors are those of the outcome
+pub lines-all : (machine : Machine) (history : History) → StandsFor machine history
+    → ((actor : ℕ) → IsDone (setting_at machine) (scripts_at machine) history actor)
+    → flat_map (λ (one : Subscriber). one.lines.items) machine.subscribers.items
+    ++ flat_map (λ (one : Caller). one.lines.items) machine.callers.items
+    ≡ (outcome_in (setting_at machine) (scripts_at machine) history).calls
+lines-all machine history is done =
+    rw (
+      flat-each (λ (one : Subscriber). one.lines.items) (sub_lines (setting_at machine) (scripts_at machine) history)
+          machine.subscribers.items 0 (λ s d h. lines-done input machine.plan.now history s
+          (get_or machine.subscribers.items s d) (omega (arith, h, is.subscribers_count))
+          (is.subscribers s d (omega (arith, h, is.subscribers_count))) (done s)
+          ∙ ap (sub_lines (setting_at machine) (scripts_at machine) history)
+          (let e : s ≡ 0 + s = omega arith in e)),
+      flat-each (λ (one : Caller). one.lines.items) (caller_lines (setting_at machine) (scripts_at machine) history)
+          machine.callers.items (length input.homes)
+          (λ c d h. (is.callers c d (omega (arith, h, is.callers_count))).lines),
+      is.subscribers_count,
+      is.callers_count,
+      finds_count,
+    ) refl
+  where
+    input : Contents
+    input = input_at machine
+
+    finds_count : length (scripts_at machine).finds ≡ input.callers
+    finds_count = length-map (drop (length input.homes) input.scripts) (map find_of)
+        ∙ omega (arith, length-drop (length input.homes) input.scripts, is.together.valid.scripts)

@@ -1,0 +1,13 @@
+mod ScriptLaws
+mod Looking
+mod Looked
+mod Steps
+mod Written
+mod Beginning
+mod Counting
+mod Sums
+mod Turning
+mod Opening
+mod Finishing
+mod Ending
+mod RightOutcome

@@ -1,0 +1,207 @@
+-- How far a caller is after a look.
+use Rattle.std.proofs.Common.{◌≡◌, ℕ, suc, ◌<◌, ◌≤◌, ◌==◌, Bool, true, false, cond, List, [], ◌∷◌, ◌++◌, length, drop, refl, sym, ap, ◌∙◌, subst, arith, Option}
+use Rattle.std.specs.Prelude.{Some, None, slice_index, nat_lt, option_map, option_to_list, vec_capacity, unwrap_or, if◌then◌else◌}
+use Rattle.std.proofs.lemmas.Bool.{eq-eqb}
+use Rattle.std.proofs.lemmas.Bool.Decides.{nat_tests}
+use Rattle.std.proofs.lemmas.List.{append-nil, length_push, get_or_push}
+use Rattle.std.proofs.Math.ListN.{get_or-append}
+use Rattle.entry_word.specs.declared.visit.Key.{Key}
+use Rattle.entry_word.specs.declared.visit.Visit.{Visit}
+use Rattle.directory.specs.Settings.{Setting}
+use Rattle.directory.specs.Histories.{History, cell, tickets}
+use Rattle.directory.specs.Finds.{FindCall, Stage, after_word, answer_of, at_origin, key_of}
+use Rattle.directory.specs.Looks.{look_by}
+use Rattle.directory.specs.Orders.{Caller as Seeker, Scripts, caller_in, finds_of, next, with_stage}
+use Rattle.directory.specs.Outcomes.{caller_lines, found_line}
+use Rattle.directory.specs.Statements.{CallerLinesGrow, CallersCount, CallersRead}
+use Rattle.directory.specs.declared.answers.Done.{Done}
+use Rattle.directory.specs.declared.answers.Found.{Found}
+use Rattle.net_reader.specs.Input.{Contents}
+use Rattle.region_plan.specs.Plan.{PlanData}
+use Rattle.region_plan.specs.Settings.{setting_of}
+use Rattle.walk.specs.Walks.{GoesWith, WalkData, call_of, stage_of}
+use Rattle.visit_log.specs.Cells.{CellData}
+use Rattle.machine.specs.declared.caller.Caller.{Caller}
+use Rattle.machine.specs.Scripts.{scripts_of}
+use Rattle.machine.specs.Stands.{IsWalking, Sees, setting_in}
+use Rattle.machine.specs.Callers.{IsCaller, first_ticket}
+use Rattle.machine.proofs.Looking.{Walks, drop-more, key-wanted, next-caller, read-on, walking}
+
+-- the tickets of an actor after a visit
+abbrev pub TicketsGrow : Type 0
+TicketsGrow = (actor : ℕ) (history : History) (visit : Visit)
+    → tickets actor (history ++ visit ∷ []) ≡ tickets actor history
+    ++ cond (visit.actor == actor) (length history ∷ []) []
+
+-- the ticket of the first look
+pub first-is : (first next ticket : ℕ) (seen : List ℕ) (kept : Option ℕ)
+    → kept ≡ (if nat_lt first next then Some (slice_index seen first) else None) → length seen ≡ next → first ≤ next
+    → unwrap_or kept ticket ≡ slice_index (seen ++ ticket ∷ []) first
+first-is first next ticket seen kept same count low = at_test (nat_lt first next) refl same
+  where
+    at_test : (b : Bool) → nat_lt first next ≡ b → kept ≡ (if b then Some (slice_index seen first) else None)
+        → unwrap_or kept ticket ≡ slice_index (seen ++ ticket ∷ []) first
+    at_test true e h =
+        let less : first < length seen = grind (arith, nat_tests, e, count) in
+        ap (λ o. unwrap_or o ticket) h ∙ sym (get_or-append seen (ticket ∷ []) 0 first less)
+    at_test false e h =
+        let at : length seen ≡ first = grind (arith, nat_tests, e, count, low) in
+        ap (λ o. unwrap_or o ticket) h ∙ sym (get_or_push seen ticket 0 first at)
+
+-- a caller by its parts
+pub by-parts : (input : Contents) (plan : PlanData) (history : History) (actor : ℕ) (seeker : Seeker)
+    (seen : List ℕ) (caller : Caller)
+    → caller_in (setting_in input plan) (scripts_of input) history actor ≡ seeker → tickets actor history ≡ seen
+    → IsWalking plan seeker.calls seeker.stage caller.walk → caller.first ≡ first_ticket seeker seen
+    → caller.lines.items ≡ caller_lines (setting_in input plan) (scripts_of input) history actor
+    → seeker.calls ≡ drop (length caller.lines.items) (finds_of (setting_in input plan) (scripts_of input) actor)
+    → length (finds_of (setting_in input plan) (scripts_of input) actor) ≤ vec_capacity caller.lines
+    → IsCaller input plan history actor caller
+by-parts input plan history actor seeker seen caller e t walks first lines left room =
+    record {
+      walk = subst (λ (s : Seeker). IsWalking plan s.calls s.stage caller.walk) (sym e) walks;
+      first = first ∙ (ap (λ s. first_ticket s seen) (sym e)
+          ∙ ap (first_ticket (caller_in (setting_in input plan) (scripts_of input) history actor)) (sym t));
+      lines = lines;
+      left = ap (λ (s : Seeker). s.calls) e ∙ left;
+      room = room;
+    }
+
+-- what is known as a caller looks
+pub record Looks (input : Contents) (plan : PlanData) (history : History) (actor : ℕ)
+    (caller : Caller) (key : Key) (next_walk : WalkData) : Type 0 where
+  pub call : FindCall
+  pub later : List FindCall
+  pub calls_are : (caller_in (setting_in input plan) (scripts_of input) history actor).calls ≡ call ∷ later
+  pub turn : next (setting_in input plan) (scripts_of input) history actor ≡ Some (look_by actor key)
+  pub stage : stage_of plan next_walk ≡ after_word (setting_in input plan) call
+      (caller_in (setting_in input plan) (scripts_of input) history actor).stage
+      (cell (setting_in input plan) history key)
+  pub its : call_of next_walk ≡ call
+  pub seen : tickets actor (history ++ look_by actor key ∷ []) ≡ tickets actor history ++ length history ∷ []
+
+pub looks : TicketsGrow → (input : Contents) (plan : PlanData) (history : History) (actor : ℕ) (caller : Caller)
+    (walk next_walk : WalkData) (key : Key) (word : ℕ) → length input.homes ≤ actor
+    → IsCaller input plan history actor caller → caller.walk ≡ Some walk
+    → key_of (call_of walk) (stage_of plan walk) ≡ Some key
+    → word ≡ cell (setting_in input plan) history key → call_of next_walk ≡ call_of walk
+    → stage_of plan next_walk ≡ after_word (setting_of plan []) (call_of walk) (stage_of plan walk) word
+    → Looks input plan history actor caller key next_walk
+looks grow input plan history actor caller walk next_walk key word high its held wants reads same saw =
+    let seeker : Seeker = caller_in (setting_in input plan) (scripts_of input) history actor in
+    let at : Walks plan seeker.calls seeker.stage walk =
+    walking plan seeker.calls seeker.stage caller.walk walk held its.walk in
+    record {
+      call = at.call;
+      later = at.later;
+      calls_are = at.calls_are;
+      turn = next-caller (setting_in input plan) (scripts_of input) history actor high
+          ∙ ap (option_map (look_by actor)) (sym (key-wanted plan seeker walk at) ∙ wants);
+      stage = saw
+          ∙ (ap (after_word (setting_of plan []) (call_of walk) (stage_of plan walk)) reads
+          ∙ (ap (λ s. after_word (setting_of plan []) (call_of walk) s (cell (setting_in input plan) history key)) at.so_far
+          ∙ ap (λ c. after_word (setting_of plan []) c seeker.stage (cell (setting_in input plan) history key)) at.its));
+      its = same ∙ at.its;
+      seen = grow actor history (look_by actor key)
+          ∙ ap (λ b. tickets actor history ++ cond b (length history ∷ []) []) (eq-eqb actor actor refl);
+    }
+
+-- the find goes on
+pub looked-on : CallersRead → CallerLinesGrow → CallersCount → (input : Contents) (plan : PlanData) (cells : CellData)
+    (history : History) (actor ticket : ℕ) (old new : Caller) (key : Key) (walk : WalkData) → length input.homes ≤ actor
+    → Sees input plan cells history → length history ≡ ticket → IsCaller input plan history actor old
+    → Looks input plan history actor old key walk → GoesWith plan walk → None ≡ answer_of (stage_of plan walk)
+    → new ≡ record old { walk = Some walk; first = Some (unwrap_or old.first ticket) }
+    → (k : Key) × (next (setting_in input plan) (scripts_of input) history actor ≡ Some (look_by actor k))
+    × IsCaller input plan (history ++ look_by actor k ∷ []) actor new
+looked-on read grow count input plan cells history actor ticket old new key walk high sees place its at goes none same =
+    let setting : Setting = setting_in input plan in
+    let scripts : Scripts = scripts_of input in
+    let seeker : Seeker = caller_in setting scripts history actor in
+    let stage : Stage = after_word setting at.call seeker.stage (cell setting history key) in
+    let counted = count setting scripts history actor high sees.played in
+    let unanswered : answer_of stage ≡ None = ap answer_of (sym at.stage) ∙ sym none in
+    let after : caller_in setting scripts (history ++ look_by actor key ∷ []) actor
+    ≡ with_stage seeker at.call at.later stage None =
+    read setting scripts history actor key
+    ∙ read-on setting seeker at.call at.later (cell setting history key) None at.calls_are unanswered in
+    let first : unwrap_or old.first ticket ≡ slice_index (tickets actor history ++ ticket ∷ []) seeker.first =
+    first-is seeker.first seeker.next ticket (tickets actor history) old.first its.first (sym counted.0) counted.1 in
+    let seen : tickets actor (history ++ look_by actor key ∷ []) ≡ tickets actor history ++ ticket ∷ [] =
+    at.seen ∙ ap (λ n. tickets actor history ++ n ∷ []) place in
+    let low : nat_lt seeker.first (suc seeker.next) ≡ true = grind (arith, nat_tests, counted.1) in
+    let there : IsCaller input plan (history ++ look_by actor key ∷ []) actor
+    (record old { walk = Some walk; first = Some (unwrap_or old.first ticket) }) =
+    by-parts input plan (history ++ look_by actor key ∷ []) actor (with_stage seeker at.call at.later stage None)
+    (tickets actor history ++ ticket ∷ []) (record old { walk = Some walk; first = Some (unwrap_or old.first ticket) })
+    after seen
+    (subst (λ cs. IsWalking plan cs stage (Some walk)) (sym at.calls_are) (at.its, at.stage, goes, unanswered))
+    (ap Some first ∙ sym (ap (λ b. if b then Some (slice_index (tickets actor history ++ ticket ∷ []) seeker.first)
+    else None) low))
+    (its.lines ∙ (sym (append-nil (caller_lines setting scripts history actor))
+    ∙ sym (grow setting scripts history actor key at.call at.later high sees.played at.calls_are
+    ∙ ap (λ o. caller_lines setting scripts history actor ++ option_to_list (option_map
+    (λ found. found_line actor at.call found
+    (slice_index (tickets actor history ++ length history ∷ []) seeker.first) (length history)) o)) unanswered)))
+    its.left its.room in
+    (key, at.turn, subst (IsCaller input plan (history ++ look_by actor key ∷ []) actor) (sym same) there)
+
+-- the find has its answer
+pub looked-up : CallersRead → CallerLinesGrow → CallersCount → (input : Contents) (plan : PlanData) (cells : CellData)
+    (history : History) (actor ticket : ℕ) (old new : Caller) (key : Key) (walk : WalkData) (found : Found) (line : Done)
+    (left : ℕ) → length input.homes ≤ actor
+    → Sees input plan cells history → length history ≡ ticket → IsCaller input plan history actor old
+    → Looks input plan history actor old key walk → Some found ≡ answer_of (stage_of plan walk)
+    → ((call : FindCall) (later : List FindCall)
+    → call ∷ later ≡ drop (length old.lines.items) (finds_of (setting_in input plan) (scripts_of input) actor)
+    → line ≡ found_line actor call found (unwrap_or old.first ticket) ticket)
+    → new.lines.items ≡ old.lines.items ++ line ∷ [] → left ≡ suc (length old.lines.items)
+    → vec_capacity old.lines ≤ vec_capacity new.lines → new.first ≡ None
+    → IsWalking plan (drop left (finds_of (setting_in input plan) (scripts_of input) actor)) at_origin new.walk
+    → (k : Key) × (next (setting_in input plan) (scripts_of input) history actor ≡ Some (look_by actor k))
+    × IsCaller input plan (history ++ look_by actor k ∷ []) actor new
+looked-up read grow count input plan cells history actor ticket old new key walk found line left high sees place its at
+    answered line_is lines left_is room first_is walks =
+    let setting : Setting = setting_in input plan in
+    let scripts : Scripts = scripts_of input in
+    let seeker : Seeker = caller_in setting scripts history actor in
+    let stage : Stage = after_word setting at.call seeker.stage (cell setting history key) in
+    let counted = count setting scripts history actor high sees.played in
+    let ends : answer_of stage ≡ Some found = ap answer_of (sym at.stage) ∙ sym answered in
+    let after : caller_in setting scripts (history ++ look_by actor key ∷ []) actor
+    ≡ with_stage seeker at.call at.later stage (Some found) =
+    read setting scripts history actor key
+    ∙ read-on setting seeker at.call at.later (cell setting history key) (Some found) at.calls_are ends in
+    let first : unwrap_or old.first ticket ≡ slice_index (tickets actor history ++ ticket ∷ []) seeker.first =
+    first-is seeker.first seeker.next ticket (tickets actor history) old.first its.first (sym counted.0) counted.1 in
+    let seen : tickets actor (history ++ look_by actor key ∷ []) ≡ tickets actor history ++ ticket ∷ [] =
+    at.seen ∙ ap (λ n. tickets actor history ++ n ∷ []) place in
+    let late : nat_lt (suc seeker.next) (suc seeker.next) ≡ false = grind (arith, nat_tests) in
+    let rest : at.call ∷ at.later ≡ drop (length old.lines.items) (finds_of setting scripts actor) =
+    sym at.calls_are ∙ its.left in
+    let more = drop-more (length old.lines.items) (finds_of setting scripts actor) at.call at.later rest in
+    let longer : length new.lines.items ≡ suc (length old.lines.items) =
+    ap length lines ∙ omega (arith, length_push old.lines.items line) in
+    let told : line ≡ found_line actor at.call found
+    (slice_index (tickets actor history ++ length history ∷ []) seeker.first) (length history) =
+    line_is at.call at.later rest
+    ∙ (ap (λ f. found_line actor at.call found f ticket) first
+    ∙ ap (λ n. found_line actor at.call found (slice_index (tickets actor history ++ n ∷ []) seeker.first) n)
+    (sym place)) in
+    let there : IsCaller input plan (history ++ look_by actor key ∷ []) actor new =
+    by-parts input plan (history ++ look_by actor key ∷ []) actor
+    (with_stage seeker at.call at.later stage (Some found)) (tickets actor history ++ ticket ∷ []) new
+    after seen
+    (subst (λ cs. IsWalking plan cs at_origin new.walk)
+    (ap (λ n. drop n (finds_of setting scripts actor)) left_is ∙ sym more.1) walks)
+    (first_is ∙ sym (ap (λ b. if b then Some (slice_index (tickets actor history ++ ticket ∷ []) (suc seeker.next))
+    else None) late))
+    (lines ∙ (ap (λ ls. ls ++ line ∷ []) its.lines
+    ∙ (ap (λ l. caller_lines setting scripts history actor ++ l ∷ []) told
+    ∙ sym (grow setting scripts history actor key at.call at.later high sees.played at.calls_are
+    ∙ ap (λ o. caller_lines setting scripts history actor ++ option_to_list (option_map
+    (λ found. found_line actor at.call found
+    (slice_index (tickets actor history ++ length history ∷ []) seeker.first) (length history)) o)) ends))))
+    (more.1 ∙ ap (λ n. drop n (finds_of setting scripts actor)) (sym longer))
+    (omega (arith, its.room, room)) in
+    (key, at.turn, there)

@@ -1,0 +1,384 @@
+-- A caller's look: which cell it is at, which nodes its word names, and how far the caller is after it.
+use Rattle.std.proofs.Common.{◌≡◌, ℕ, zero, suc, ◌+◌, ◌-◌, ◌^◌, ◌<◌, ◌≤◌, Bool, true, false, cond, List, [], ◌∷◌, ◌++◌, length, map, drop, get_or, refl, sym, ap, ◌∙◌, subst, arith, drop-cons, Option}
+use Rattle.std.specs.Prelude.{All, Some, None, option_map}
+use Rattle.std.proofs.lemmas.Bool.{le-ltb}
+use Rattle.std.proofs.lemmas.Bool.Decides.{nat_tests}
+use Rattle.std.proofs.lemmas.List.{get_or-map, length-map, length-drop}
+use Rattle.node_set.specs.Ascending.{has, passing}
+use Rattle.entry_word.specs.Marks.{mark_in}
+use Rattle.entry_word.specs.Addresses.{address_in}
+use Rattle.entry_word.specs.declared.address.Address.{Address}
+use Rattle.entry_word.specs.declared.mark.PresenceMark.{PresenceMark}
+use Rattle.entry_word.specs.declared.mark.PresenceMark.TheVariants.{Empty, Here, Gone, Coming, Off}
+use Rattle.entry_word.specs.declared.visit.Key.{Key}
+use Rattle.entry_word.specs.declared.visit.Key.TheVariants.{Presence, Entry}
+use Rattle.directory.specs.Settings.{Setting, subs}
+use Rattle.directory.specs.Keys.{key_sub}
+use Rattle.directory.specs.Histories.{History, cell}
+use Rattle.directory.specs.Legal.{IsLegal}
+use Rattle.directory.specs.Finds.{FindCall, Reader, Stage, after_word, answer_of, at_origin, chases, climb, climbs, ended, key_of}
+use Rattle.directory.specs.Looks.{look_by}
+use Rattle.directory.specs.Orders.{AreValid, Caller as Seeker, IsFindCall, Scripts, after_read, caller_in, finds_of, key_in, next, next_key, read_by, with_stage}
+use Rattle.directory.specs.Statements.{PlayedIsLegal}
+use Rattle.directory.specs.declared.answers.Found.{Found}
+use Rattle.trail_laws.specs.Trail.{EntriesTell, EntryTells, MarkTells, MarksTell}
+use Rattle.region_plan.specs.Plan.{PlanData, cluster_in, clusters_of, level_at, levels_of, nodes_of, readers}
+use Rattle.region_plan.specs.Regions.{containing}
+use Rattle.region_plan.specs.Matched.{IsMatched}
+use Rattle.region_plan.specs.Settings.{setting_of}
+use Rattle.visit_log.specs.Numbers.{IsCell, IsPlace}
+use Rattle.walk.specs.declared.progress.Progress.{Progress}
+use Rattle.walk.specs.declared.progress.Progress.TheVariants.{AtOrigin, Chasing, Climbing, Ended}
+use Rattle.walk.specs.Walks.{GoesWith, IsAddressBelow, IsMarkBelow, IsWithin, IsWordBelow, WalkData, call_of, readers_above, readers_at, stage_at, stage_of}
+use Rattle.std.specs.Prelude.{Result, Ok, Err, IfOk, nat_le, if◌then◌else◌}
+use Rattle.std.specs.Result.{is_err, is_ok, result_ok}
+use Rattle.walk.specs.declared.walk.WalkFault.{WalkFault}
+use Rattle.walk.specs.declared.walk.WalkFault.TheVariants.{NoNode, NoSubscriber}
+use Rattle.walk.specs.Walks.{walk_or_fault}
+use Rattle.distances.specs.Table.{DistanceTable}
+use Rattle.net_reader.specs.declared.said.Call.{Call}
+use Rattle.net_reader.specs.declared.said.Call.TheVariants as calls
+use Rattle.net_reader.specs.Input.{Contents}
+use Rattle.net_reader.specs.Valid.{IsSearch}
+use Rattle.visit_log.specs.Cells.{CellData}
+use Rattle.machine.specs.declared.caller.Caller.{Caller}
+use Rattle.machine.specs.Scripts.{find_of, scripts_of}
+use Rattle.machine.specs.Stands.{BelongTogether, IsWalking, Sees, setting_in}
+use Rattle.machine.specs.Callers.{IsCaller}
+use Rattle.std.proofs.Common.{Vec, Global}
+use Rattle.net_reader.specs.Valid.{IsValid}
+use Rattle.machine.proofs.ScriptLaws.{finds-are, scripts-valid, searches-of}
+
+-- whose turn it is
+pub next-caller : (setting : Setting) (scripts : Scripts) (history : History) (actor : ℕ) → subs setting ≤ actor
+    → next setting scripts history actor ≡ option_map (look_by actor)
+    (next_key (caller_in setting scripts history actor))
+next-caller setting scripts history actor high = rw (le-ltb actor (subs setting) high) refl
+
+-- the walk of the find that a caller is at
+pub record Walks (plan : PlanData) (calls : List FindCall) (stage : Stage) (walk : WalkData) : Type 0 where
+  pub call : FindCall
+  pub later : List FindCall
+  pub calls_are : calls ≡ call ∷ later
+  pub its : call_of walk ≡ call
+  pub so_far : stage_of plan walk ≡ stage
+  pub goes : GoesWith plan walk
+  pub unanswered : answer_of stage ≡ None
+
+pub walking : (plan : PlanData) (calls : List FindCall) (stage : Stage) (held : Option WalkData) (walk : WalkData)
+    → held ≡ Some walk → IsWalking plan calls stage held → Walks plan calls stage walk
+walking plan [] stage None walk same h = cc
+walking plan (call ∷ later) stage None walk same h = cc
+walking plan [] stage (Some other) walk same h = absurd h
+walking plan (call ∷ later) stage (Some other) walk same h =
+    let e : other ≡ walk = cc in
+    record {
+      call = call;
+      later = later;
+      calls_are = refl;
+      its = subst (λ w. call_of w ≡ call) e h.0;
+      so_far = subst (λ w. stage_of plan w ≡ stage) e h.1;
+      goes = subst (GoesWith plan) e h.2;
+      unanswered = h.3;
+    }
+
+pub idle-done : (plan : PlanData) (calls : List FindCall) (stage : Stage) (held : Option WalkData) → held ≡ None
+    → IsWalking plan calls stage held → key_in calls stage ≡ None
+idle-done plan [] stage held same h = refl
+idle-done plan (call ∷ later) stage None same h = absurd h
+idle-done plan (call ∷ later) stage (Some walk) same h = cc
+
+pub key-wanted : (plan : PlanData) (seeker : Seeker) (walk : WalkData)
+    → Walks plan seeker.calls seeker.stage walk → key_of (call_of walk) (stage_of plan walk) ≡ next_key seeker
+key-wanted plan seeker walk at =
+    ap (λ s. key_of (call_of walk) s) at.so_far
+    ∙ (ap (λ c. key_of c seeker.stage) at.its ∙ sym (ap (λ cs. key_in cs seeker.stage) at.calls_are))
+
+pub never-keyless : (call : FindCall) (stage : Stage) → answer_of stage ≡ None → key_of call stage ≡ None → ⊥
+never-keyless call at_origin h k = cc
+never-keyless call (climbs known weight reader later) h k = cc
+never-keyless call (chases chase node) h k = cc
+never-keyless call (ended found) h k = cc
+
+-- the readers of a node are clusters of their level
+passing-below : (test : ℕ → Bool) (x k i : ℕ) → i < length (passing test x k) → get_or (passing test x k) i 0 < x + k
+passing-below test x zero i h = absurd (omega (arith, h))
+passing-below test x (suc k) i h = at_test (passing-below test (suc x) k) (test x) i h
+  where
+    at_test : ((j : ℕ) → j < length (passing test (suc x) k) → get_or (passing test (suc x) k) j 0 < suc x + k)
+        → (b : Bool) (j : ℕ) → j < length (cond b (x ∷ passing test (suc x) k) (passing test (suc x) k))
+        → get_or (cond b (x ∷ passing test (suc x) k) (passing test (suc x) k)) j 0 < x + suc k
+    at_test later true zero l = omega arith
+    at_test later true (suc j) l = omega (arith, later j (omega (arith, l)))
+    at_test later false j l = omega (arith, later j l)
+
+reader-below : (plan : PlanData) (level node index : ℕ) → IsMatched plan → level < levels_of plan
+    → node < nodes_of plan → index < length (readers plan level node)
+    → get_or (readers plan level node) index 0 < clusters_of plan level
+reader-below plan level node index matched h l inside =
+    let same : readers plan level node ≡ containing (level_at plan level).clusters node =
+    matched.read level node h l in
+    let here : index < length (containing (level_at plan level).clusters node) =
+    subst (λ rs. index < length rs) same inside in
+    subst (λ rs. get_or rs index 0 < clusters_of plan level) (sym same)
+    (omega (
+      arith,
+      passing-below (λ c. has node (cluster_in (level_at plan level).clusters c).members) 0
+          (length (level_at plan level).clusters) index here,
+    ))
+
+-- the climb at a reader
+climb-here : (setting : Setting) (node : ℕ) (known : Option ℕ) (weight level index : ℕ) (later : List Reader)
+    → index < length (setting.readers level node)
+    → climb known weight (drop index (readers_at setting node level) ++ later)
+    ≡ climbs known weight (record { level = level; cluster = get_or (setting.readers level node) index 0 }) (drop
+    (suc index) (readers_at setting node level) ++ later)
+climb-here setting node known weight level index later inside =
+    let count : length (readers_at setting node level) ≡ length (setting.readers level node) =
+    length-map (setting.readers level node) (λ c. record { level = level; cluster = c }) in
+    let short : index < length (readers_at setting node level) = omega (arith, inside, count) in
+    let first : get_or (readers_at setting node level) index (record { level = level; cluster = 0 })
+    ≡ record { level = level; cluster = get_or (setting.readers level node) index 0 } =
+    get_or-map (λ c. record { level = level; cluster = c }) (setting.readers level node) index 0 (record {
+      level =
+          level;
+      cluster = 0;
+    }) inside in
+    ap (λ rs. climb known weight (rs ++ later)) (drop-cons (readers_at setting node level) index (record {
+      level =
+          level;
+      cluster = 0;
+    }) short ∙ ap (λ r. r ∷ drop (suc index) (readers_at setting node level)) first)
+
+-- the cell that a walk wants is one of the plan, of its own subscriber
+unsome : {A : Type 0} (x y : A) → Some x ≡ Some y → x ≡ y
+unsome x y h = cc
+
+climbing-key : (plan : PlanData) (from sub : ℕ) (known : Option ℕ) (weight level index : ℕ) (key : Key)
+    → index < length (readers plan level from)
+    → key_of (record { from = from; sub = sub }) (stage_at (setting_of plan []) from
+    (Climbing known weight level index)) ≡ Some key
+    → Entry level (get_or (readers plan level from) index 0) sub ≡ key
+climbing-key plan from sub known weight level index key inside wanted =
+    unsome _ _ (sym (ap (λ s. key_of (record { from = from; sub = sub }) s) (climb-here (setting_of plan []) from known weight
+    level index (readers_above (setting_of plan []) from (suc level)) inside)) ∙ wanted)
+
+place-wanted : (plan : PlanData) (from sub : ℕ) (progress : Progress) → IsMatched plan → from < nodes_of plan
+    → IsWithin plan from progress → (key : Key)
+    → key_of (record { from = from; sub = sub }) (stage_at (setting_of plan []) from progress) ≡ Some key
+    → IsPlace plan key × (key_sub key ≡ sub)
+place-wanted plan from sub AtOrigin matched inside within key wanted =
+    let e : Presence from sub ≡ key = unsome _ _ wanted in
+    subst (λ k. IsPlace plan k × (key_sub k ≡ sub)) e (inside, refl)
+place-wanted plan from sub (Climbing known weight level index) matched inside within key wanted =
+    subst (λ k. IsPlace plan k × (key_sub k ≡ sub))
+    (climbing-key plan from sub known weight level index key within.1 wanted)
+    ((within.0, reader-below plan level from index matched within.0 inside within.1), refl)
+place-wanted plan from sub (Chasing chase node) matched inside within key wanted =
+    let e : Presence node sub ≡ key = unsome _ _ wanted in
+    subst (λ k. IsPlace plan k × (key_sub k ≡ sub)) e (within.0, refl)
+place-wanted plan from sub (Ended found) matched inside within key wanted = cc
+
+pub cell-wanted : (plan : PlanData) (walk : WalkData) (count : ℕ) (key : Key) → IsMatched plan → GoesWith plan walk
+    → walk.sub < count → key_of (call_of walk) (stage_of plan walk) ≡ Some key → IsCell plan count key
+cell-wanted plan walk count key matched goes low wanted =
+    let found : IsPlace plan key × (key_sub key ≡ walk.sub) =
+    place-wanted plan walk.from walk.sub walk.progress matched goes.from goes.progress key wanted in
+    record { place = found.0; known = omega (arith, found.1, low) }
+
+-- the word that it reads there names nodes of the plan
+mark-below : (setting : Setting) (sub : ℕ) (history : History) (node : ℕ) (mark : PresenceMark)
+    → MarkTells setting sub history node mark → IsMarkBelow setting.nodes mark
+mark-below setting sub history node Empty tells = tt
+mark-below setting sub history node (Here number) tells = tt
+mark-below setting sub history node (Gone number to) tells = tells.2
+mark-below setting sub history node (Coming number from) tells = tells.1
+mark-below setting sub history node (Off number) tells = tt
+
+entry-below : (setting : Setting) (sub : ℕ) (history : History) (level cluster : ℕ) (entry : Option Address)
+    → EntryTells setting sub history level cluster entry → IsAddressBelow setting.nodes entry
+entry-below setting sub history level cluster None tells = tt
+entry-below setting sub history level cluster (Some address) tells = tells.0
+
+word-below : MarksTell → EntriesTell → (plan : PlanData) (starts : List ℕ) (history : History) (from sub : ℕ)
+    (progress : Progress) → IsMatched plan → nodes_of plan ≤ 2 ^ 16 → IsLegal (setting_of plan starts) sub history
+    → from < nodes_of plan → IsWithin plan from progress → (key : Key)
+    → key_of (record { from = from; sub = sub }) (stage_at (setting_of plan []) from progress) ≡ Some key
+    → IsWordBelow (nodes_of plan) progress (cell (setting_of plan starts) history key)
+word-below marks entries plan starts history from sub AtOrigin matched small legal inside within key wanted =
+    let e : Presence from sub ≡ key = unsome _ _ wanted in
+    subst (λ k. IsMarkBelow (nodes_of plan) (mark_in (cell (setting_of plan starts) history k))) e
+    (mark-below (setting_of plan starts) sub history from _
+    (marks (setting_of plan starts) sub history small legal from inside))
+word-below marks entries plan starts history from sub (Climbing known weight level index) matched small legal inside
+    within key wanted =
+    subst (λ k. IsAddressBelow (nodes_of plan) (address_in (cell (setting_of plan starts) history k)))
+    (climbing-key plan from sub known weight level index key within.1 wanted)
+    (entry-below (setting_of plan starts) sub history level _ _
+    (entries (setting_of plan starts) sub history small legal level _ (omega (arith, within.0))))
+word-below marks entries plan starts history from sub (Chasing chase node) matched small legal inside within key
+    wanted =
+    let e : Presence node sub ≡ key = unsome _ _ wanted in
+    subst (λ k. IsMarkBelow (nodes_of plan) (mark_in (cell (setting_of plan starts) history k))) e
+    (mark-below (setting_of plan starts) sub history node _
+    (marks (setting_of plan starts) sub history small legal node within.0))
+word-below marks entries plan starts history from sub (Ended found) matched small legal inside within key wanted = cc
+
+pub word-wanted : MarksTell → EntriesTell → (plan : PlanData) (starts : List ℕ) (history : History) (walk : WalkData)
+    (key : Key) → IsMatched plan → nodes_of plan ≤ 2 ^ 16 → IsLegal (setting_of plan starts) walk.sub history
+    → GoesWith plan walk → key_of (call_of walk) (stage_of plan walk) ≡ Some key
+    → IsWordBelow (nodes_of plan) walk.progress (cell (setting_of plan starts) history key)
+word-wanted marks entries plan starts history walk key matched small legal goes wanted =
+    word-below marks entries plan starts history walk.from walk.sub walk.progress matched small legal goes.from
+    goes.progress key wanted
+
+-- a caller that has read one word more
+pub read-on : (setting : Setting) (seeker : Seeker) (call : FindCall) (later : List FindCall) (word : ℕ)
+    (answer : Option Found) → seeker.calls ≡ call ∷ later
+    → answer_of (after_word setting call seeker.stage word) ≡ answer
+    → after_read setting seeker word
+    ≡ with_stage seeker call later (after_word setting call seeker.stage word) answer
+read-on setting seeker call later word answer same ends =
+    ap (λ cs. read_by setting seeker cs word) same
+    ∙ ap (with_stage seeker call later (after_word setting call seeker.stage word)) ends
+
+-- the calls that are left are the last of the script
+pub drop-more : {A : Type 0} (n : ℕ) (xs : List A) (x : A) (later : List A) → x ∷ later ≡ drop n xs
+    → (n < length xs) × (later ≡ drop (suc n) xs) × ((d : A) → get_or xs n d ≡ x)
+drop-more zero [] x later h = cc
+drop-more (suc n) [] x later h = cc
+drop-more zero (y ∷ ys) x later h =
+    let e : x ≡ y = cc in let f : later ≡ ys = cc in (omega arith, f, λ d. sym e)
+drop-more (suc n) (y ∷ ys) x later h =
+    let deep = drop-more n ys x later h in (omega (arith, deep.0), deep.1, deep.2)
+
+-- the walk of the find at a place of a script
+pub walk-at : (plan : PlanData) (script : List Call) (place count from sub : ℕ) (made : Result WalkData WalkFault)
+    (held : Option WalkData) → place < length script → ((d : Call) → calls.Find from sub ≡ get_or script place d)
+    → All (IsSearch (nodes_of plan) count) script → made ≡ walk_or_fault plan from sub count
+    → IfOk made (GoesWith plan) → held ≡ result_ok made
+    → IsWalking plan (drop place (map find_of script)) at_origin held
+walk-at plan script place count from sub made held low here searches answer goes same =
+    let its : IsSearch (nodes_of plan) count (calls.Find from sub) =
+    subst (IsSearch (nodes_of plan) count) (sym (here (calls.Find from sub))) (searches place (calls.Find from sub) low) in
+    let inside : nat_le (nodes_of plan) from ≡ false = grind (arith, nat_tests, its.0) in
+    let known : nat_le count sub ≡ false = grind (arith, nat_tests, its.1) in
+    let fine : made ≡ Ok (record { from = from; sub = sub; progress = AtOrigin }) = answer
+    ∙ (ap (λ b. if b then Err NoNode else if nat_le count sub then Err NoSubscriber
+    else Ok (record { from = from; sub = sub; progress = AtOrigin })) inside
+    ∙ ap (λ b. if b then Err NoSubscriber else Ok (record { from = from; sub = sub; progress = AtOrigin })) known) in
+    let there : drop place (map find_of script) ≡ (record { from = from; sub = sub }) ∷ drop (suc place) (map find_of script) =
+    drop-cons (map find_of script) place (record { from = from; sub = sub })
+    (omega (arith, low, length-map script find_of))
+    ∙ ap (λ x. x ∷ drop (suc place) (map find_of script))
+    (get_or-map find_of script place (calls.Find from sub) (record { from = from; sub = sub }) low
+    ∙ ap find_of (sym (here (calls.Find from sub)))) in
+    let goes_on : GoesWith plan (record { from = from; sub = sub; progress = AtOrigin }) =
+    subst (λ r. IfOk r (GoesWith plan)) fine goes in
+    let is_held : held ≡ Some (record { from = from; sub = sub; progress = AtOrigin }) = same ∙ ap result_ok fine in
+    subst (λ cs. IsWalking plan cs at_origin held) (sym there)
+    (subst (IsWalking plan (record { from = from; sub = sub } ∷ drop (suc place) (map find_of script)) at_origin) (sym is_held)
+    (refl, refl, goes_on, refl))
+
+-- the find that a caller is at is one of its script
+pub call-known : (input : Contents) (plan : PlanData) (actor n : ℕ) (call : FindCall) (later : List FindCall)
+    → AreValid (setting_in input plan) (scripts_of input) → length input.homes ≤ actor → actor < length input.scripts
+    → call ∷ later ≡ drop n (finds_of (setting_in input plan) (scripts_of input) actor)
+    → IsFindCall (setting_in input plan) call
+call-known input plan actor n call later valid high low left =
+    let at = drop-more n (finds_of (setting_in input plan) (scripts_of input) actor) call later left in
+    let short : actor - length input.homes < length (scripts_of input).finds =
+    omega (
+      arith,
+      high,
+      low,
+      length-map (drop (length input.homes) input.scripts) (map find_of),
+      length-drop (length input.homes) input.scripts,
+    ) in
+    subst (IsFindCall (setting_in input plan)) (at.2 call)
+    (valid.finds (actor - length input.homes) [] short n call at.0)
+
+-- what a caller's look leans on
+pub record Wanted (input : Contents) (plan : PlanData) (cells : CellData) (history : History) (walk : WalkData)
+    (key : Key) : Type 0 where
+  pub is_cell : IsCell plan cells.subs key
+  pub is_below : IsWordBelow (nodes_of plan) walk.progress (cell (setting_in input plan) history key)
+
+pub wanted : MarksTell → EntriesTell → PlayedIsLegal → (input : Contents) (plan : PlanData)
+    (distances : DistanceTable) (cells : CellData) (history : History) (actor : ℕ) (caller : Caller) (walk : WalkData)
+    (key : Key) → BelongTogether input plan distances → length input.homes ≤ actor → actor < length input.scripts
+    → Sees input plan cells history → IsCaller input plan history actor caller → caller.walk ≡ Some walk
+    → key_of (call_of walk) (stage_of plan walk) ≡ Some key → Wanted input plan cells history walk key
+wanted marks entries legal input plan distances cells history actor caller walk key together high low sees its held
+    wants =
+    let seeker : Seeker = caller_in (setting_in input plan) (scripts_of input) history actor in
+    let at : Walks plan seeker.calls seeker.stage walk =
+    walking plan seeker.calls seeker.stage caller.walk walk held its.walk in
+    let valid : AreValid (setting_in input plan) (scripts_of input) =
+    scripts-valid input plan together.valid together.nodes in
+    let known : IsFindCall (setting_in input plan) at.call =
+    call-known input plan actor (length caller.lines.items) at.call at.later valid high low
+    (sym at.calls_are ∙ its.left) in
+    let sub_low : walk.sub < length input.homes = subst (λ (c : FindCall). c.sub < length input.homes) (sym at.its) known.known in
+    let small : nodes_of plan ≤ 2 ^ 16 = omega (arith, together.matched.metric.few) in
+    record {
+      is_cell = cell-wanted plan walk cells.subs key together.matched at.goes (omega (arith, sub_low, sees.hold.subs)) wants;
+      is_below = word-wanted marks entries plan input.homes history walk key together.matched small
+          (legal (setting_in input plan) (scripts_of input) history walk.sub small valid sub_low sees.played) at.goes wants;
+    }
+
+-- the script that the code reads
+pub script-is : (scripts : List (Vec Call Global)) (actor : ℕ) (held : Vec Call Global) (script : List Call)
+    → actor < length scripts → held ≡ get_or scripts actor held → script ≡ held.items
+    → script ≡ get_or (map (λ (s : Vec Call Global). s.items) scripts) actor []
+script-is scripts actor held script low same its = its ∙ (ap (λ (s : Vec Call Global). s.items) same
+    ∙ sym (get_or-map (λ (s : Vec Call Global). s.items) scripts actor held [] low))
+
+pub scripts-low : (scripts : List (Vec Call Global)) (actor : ℕ) → actor < length scripts
+    → actor < length (map (λ (s : Vec Call Global). s.items) scripts)
+scripts-low scripts actor low = omega (arith, low, length-map scripts (λ (s : Vec Call Global). s.items))
+
+pub script-searches : (input : Contents) (plan : PlanData) (actor : ℕ) (script : List Call) (count : ℕ)
+    → IsValid input → nodes_of plan ≡ input.nodes → length input.homes ≤ actor → actor < length input.scripts
+    → script ≡ get_or input.scripts actor [] → count ≡ length input.homes
+    → All (IsSearch (nodes_of plan) count) script
+script-searches input plan actor script count valid nodes high low same few =
+    subst (λ n. All (IsSearch n count) script) (sym nodes)
+    (subst (λ n. All (IsSearch input.nodes n) script) (sym few)
+    (subst (λ s. All (IsSearch input.nodes (length input.homes)) s) (sym same)
+    (searches-of input actor valid high low)))
+
+-- a caller that has a walk has lines for fewer finds than its script has
+pub place-low : (input : Contents) (plan : PlanData) (history : History) (actor : ℕ) (caller : Caller)
+    (walk : WalkData) → length input.homes ≤ actor → actor < length input.scripts
+    → IsCaller input plan history actor caller → caller.walk ≡ Some walk
+    → length caller.lines.items < length (get_or input.scripts actor [])
+place-low input plan history actor caller walk high low its held =
+    let seeker : Seeker = caller_in (setting_in input plan) (scripts_of input) history actor in
+    let at : Walks plan seeker.calls seeker.stage walk =
+    walking plan seeker.calls seeker.stage caller.walk walk held its.walk in
+    let more = drop-more (length caller.lines.items) (finds_of (setting_in input plan) (scripts_of input) actor)
+    at.call at.later (sym at.calls_are ∙ its.left) in
+    omega (
+      arith,
+      more.0,
+      ap length (finds-are input plan actor high low),
+      length-map (get_or input.scripts actor []) find_of,
+    )
+
+-- the call at that place is the find that it is at
+pub call-at : (input : Contents) (plan : PlanData) (actor n : ℕ) (script : List Call) (call : FindCall)
+    (later : List FindCall) (default : Call) → length input.homes ≤ actor → actor < length input.scripts
+    → script ≡ get_or input.scripts actor [] → n < length script
+    → call ∷ later ≡ drop n (finds_of (setting_in input plan) (scripts_of input) actor)
+    → find_of (get_or script n default) ≡ call
+call-at input plan actor n script call later default high low same short left =
+    let more = drop-more n (finds_of (setting_in input plan) (scripts_of input) actor) call later left in
+    sym (get_or-map find_of script n default call short)
+    ∙ (ap (λ s. get_or (map find_of s) n call) same
+    ∙ (ap (λ fs. get_or fs n call) (sym (finds-are input plan actor high low)) ∙ more.2 call))
+
+-- a push that didn't fail
+pub ok-of : {T E : Type 0} (r : Result T E) → is_err r ≡ false → is_ok r ≡ true
+ok-of (Ok x) h = refl
+ok-of (Err e) h = cc

@@ -1,0 +1,116 @@
+-- Subscribers and callers before their first visits.
+use Rattle.std.proofs.Common.{◌≡◌, ◌⊎◌, inl, inr, ℕ, ◌+◌, ◌<◌, ◌≤◌, Bool, true, false, List, [], ◌∷◌, ◌++◌, length, map, take, drop, get_or, refl, sym, ap, ◌∙◌, subst, arith, Vec, Global}
+use Rattle.std.specs.Prelude.{All, None, vec_capacity}
+use Rattle.std.proofs.lemmas.Bool.Decides.{nat_tests}
+use Rattle.std.proofs.lemmas.List.{get_or_push, length_push, length-map, get_or-map}
+use Rattle.std.proofs.Math.ListN.{get_or-append}
+use Rattle.std.proofs.lemmas.List.Elements.{All-cons, All-nil, All-head, All-tail}
+use Rattle.directory.specs.Settings.{Setting, start}
+use Rattle.directory.specs.Courses.{course_at}
+use Rattle.directory.specs.Finds.{at_origin}
+use Rattle.directory.specs.Histories.{tickets, tickets_from, words_after}
+use Rattle.directory.specs.Orders.{IsPlayed, Scripts, caller_at, finds_of, steps_of}
+use Rattle.directory.specs.Outcomes.{step_lines}
+use Rattle.net_reader.specs.declared.said.Call.{Call}
+use Rattle.net_reader.specs.declared.said.Call.TheVariants as calls
+use Rattle.net_reader.specs.Input.{Contents}
+use Rattle.net_reader.specs.Valid.{IsCourse, IsSearch, IsValid}
+use Rattle.region_plan.specs.Plan.{PlanData}
+use Rattle.handset.specs.Kept.{GoesWith}
+use Rattle.handset.specs.Stands.{StandsFor}
+use Rattle.machine.specs.declared.caller.Caller.{Caller}
+use Rattle.machine.specs.declared.subscriber.Subscriber.{Subscriber}
+use Rattle.machine.specs.Scripts.{find_of, scripts_of, step_of}
+use Rattle.machine.specs.Stands.{AreInside, IsInside, IsWalking, setting_in}
+use Rattle.machine.specs.Callers.{IsCaller}
+use Rattle.machine.specs.Subscribers.{IsSubscriber, begun_steps}
+use Rattle.machine.proofs.Looked.{by-parts}
+use Rattle.machine.proofs.ScriptLaws.{finds-are, searches-of, steps-are}
+
+pub sub-opens : (input : Contents) (plan : PlanData) (sub : ℕ) (subscriber : Subscriber) → IsValid input
+    → sub < length input.homes → StandsFor (setting_in input plan) subscriber.handset [] 0
+    → GoesWith plan subscriber.handset → subscriber.handset.sub ≡ sub → subscriber.lines.items ≡ []
+    → length (get_or input.scripts sub []) ≤ vec_capacity subscriber.lines
+    → IsSubscriber input plan [] sub subscriber
+unfolding step_lines
+sub-opens input plan sub subscriber valid low stands goes its none room =
+    let begun : begun_steps input sub subscriber ≡ [] =
+    ap (λ n. take n (steps_of (scripts_of input) sub)) (ap length none) in
+    record {
+      handset = subst (λ ss. StandsFor (setting_in input plan) subscriber.handset ss 0) (sym begun) stands;
+      goes = goes;
+      its = its;
+      lines = none ∙ ap (λ ss. step_lines (setting_in input plan) sub (course_at (start (setting_in input plan) sub)) ss (tickets sub [])) (sym begun);
+      few = omega (arith, ap length none);
+      under = λ before step split. absurd (omega (arith, ap length (sym begun ∙ split), length_push before step));
+      room = omega (arith, room, ap length (steps-are input sub valid low), length-map (get_or input.scripts sub []) step_of);
+    }
+
+pub caller-opens : (input : Contents) (plan : PlanData) (actor : ℕ) (caller : Caller) (script : List Call)
+    → length input.homes ≤ actor → actor < length input.scripts → script ≡ get_or input.scripts actor []
+    → IsWalking plan (map find_of script) at_origin caller.walk → caller.first ≡ None → caller.lines.items ≡ []
+    → length script ≤ vec_capacity caller.lines → IsCaller input plan [] actor caller
+unfolding words_after tickets_from
+caller-opens input plan actor caller script high low same walks first none room =
+    let finds : finds_of (setting_in input plan) (scripts_of input) actor ≡ map find_of script =
+    finds-are input plan actor high low ∙ ap (map find_of) (sym same) in
+    by-parts input plan [] actor (caller_at (finds_of (setting_in input plan) (scripts_of input) actor)) [] caller refl refl
+    (subst (λ fs. IsWalking plan fs at_origin caller.walk) (sym finds) walks) first none
+    (ap (λ n. drop n (finds_of (setting_in input plan) (scripts_of input) actor)) (sym (ap length none)))
+    (omega (arith, room, ap length finds, length-map script find_of))
+
+pub none-played : (setting : Setting) (scripts : Scripts) → IsPlayed setting scripts []
+none-played setting scripts ticket visit h = cc
+
+pub each-more : {A : Type 0} (P : ℕ → A → Type 0) (xs : List A) (x : A) (n : ℕ) → length xs ≡ n
+    → ((s : ℕ) (d : A) → s < n → P s (get_or xs s d)) → P n x
+    → (s : ℕ) (d : A) → s < n + 1 → P s (get_or (xs ++ x ∷ []) s d)
+each-more P xs x n count each last s d low =
+    elim (cases s n) as (λ _. P s (get_or (xs ++ x ∷ []) s d)) [
+      | inl less ↦ subst (P s) (sym (get_or-append xs (x ∷ []) d s (omega (arith, less, count)))) (each s d less)
+      | inr more ↦ let same : s ≡ n = omega (arith, low, more) in
+          subst (P s) (sym (get_or_push xs x d s (count ∙ sym same))) (subst (λ k. P k x) (sym same) last)
+    ]
+  where
+    cases : (a b : ℕ) → (a < b) ⊎ (b ≤ a)
+    cases a b = grind (arith, nat_tests)
+
+-- the calls of a valid input are inside
+course-inside : (format n here : ℕ) (off : Bool) (script : List Call) → IsCourse format n here off script → AreInside n script
+course-inside format n here off [] its = All-nil (IsInside n)
+course-inside format n here off (calls.Move to ∷ script) its = All-cons (IsInside n) (calls.Move to) script tt (course-inside format n to off script its.3)
+course-inside format n here off (calls.Find from sub ∷ script) its = absurd its
+course-inside format n here off (calls.Off ∷ script) its = All-cons (IsInside n) calls.Off script tt (course-inside format n here true script its.2)
+course-inside format n here off (calls.On ∷ script) its = All-cons (IsInside n) calls.On script tt (course-inside format n here false script its.2)
+
+search-inside : (n subs : ℕ) (script : List Call) → All (IsSearch n subs) script → AreInside n script
+search-inside n subs [] all = All-nil (IsInside n)
+search-inside n subs (call ∷ script) all =
+    All-cons (IsInside n) call script (at_call call (All-head (IsSearch n subs) call script all))
+    (search-inside n subs script (All-tail (IsSearch n subs) call script all))
+  where
+    at_call : (c : Call) → IsSearch n subs c → IsInside n c
+    at_call (calls.Move to) h = absurd h
+    at_call (calls.Find from sub) h = h.0
+    at_call calls.Off h = absurd h
+    at_call calls.On h = absurd h
+
+script-inside : (input : Contents) (actor : ℕ) → IsValid input → actor < length input.scripts
+    → AreInside input.nodes (get_or input.scripts actor [])
+script-inside input actor valid low =
+    elim (cases actor (length input.homes)) as (λ _. AreInside input.nodes (get_or input.scripts actor [])) [
+      | inl sub ↦ course-inside input.format input.nodes (get_or input.homes actor 0) false (get_or input.scripts actor []) (valid.courses actor sub)
+      | inr high ↦ search-inside input.nodes (length input.homes) (get_or input.scripts actor []) (searches-of input actor valid high low)
+    ]
+  where
+    cases : (a b : ℕ) → (a < b) ⊎ (b ≤ a)
+    cases a b = grind (arith, nat_tests)
+
+pub scripts-inside : (input : Contents) (scripts : List (Vec Call Global)) (n : ℕ) → IsValid input
+    → input.scripts ≡ map (λ (s : Vec Call Global). s.items) scripts → n ≡ input.nodes
+    → (k : ℕ) (d : Vec Call Global) → k < length scripts → AreInside n (get_or scripts k d).items
+scripts-inside input scripts n valid same nodes k d low =
+    subst (λ m. AreInside m (get_or scripts k d).items) (sym nodes)
+    (subst (AreInside input.nodes) (ap (λ ss. get_or ss k []) same
+    ∙ get_or-map (λ (s : Vec Call Global). s.items) scripts k d [] low)
+    (script-inside input k valid (omega (arith, low, ap length same, length-map scripts (λ (s : Vec Call Global). s.items)))))

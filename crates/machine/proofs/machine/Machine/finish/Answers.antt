@@ -1,0 +1,53 @@
+use Rattle.std.proofs.Common.{◌≡◌, ◌+◌, ◌≤◌, ℕ, suc, [], length, map, sym, ap, ◌∙◌, subst, arith, Vec, Global}
+use Rattle.directory.specs.Histories.{History}
+use Rattle.directory.specs.Orders.{after_turn, after_turns, last_turns}
+use Rattle.std.proofs.lemmas.List.{length-map}
+use Rattle.std.proofs.lemmas.List.Sums.{fold-append}
+use Rattle.net_reader.specs.declared.said.Call.{Call}
+use Rattle.machine.specs.Machines.{StandsFor, scripts_at, setting_at}
+use Rattle.machine.proofs.Finishing.{same-through, turns-all, turns-following, turns_of}
+use Rattle.machine.proofs.machine.Machine.finish.Goals as goal
+
+pub actors-preserved : goal.actors-preserved
+actors-preserved c = record {
+  same = same-through c.args.self.now c.actors.self c.finish_actor.new.self c.actors.invariant.same
+      c.finish_actor.ensures.same;
+  stands = λ history is. subst (λ n. StandsFor c.finish_actor.new.self (after_turns (setting_at c.args.self.now)
+      (scripts_at c.args.self.now) history (turns_of (setting_at c.args.self.now) (scripts_at c.args.self.now) n)))
+      (let e : suc c.actors.actor ≡ c.actors.actor + 1 = omega arith in e)
+      (turns-following c.args.self.now c.actors.self c.finish_actor.new.self history c.actors.actor
+      c.actors.invariant.same
+      (c.finish_actor.ensures.stands (after_turns (setting_at c.args.self.now) (scripts_at c.args.self.now) history
+      (turns_of (setting_at c.args.self.now) (scripts_at c.args.self.now) c.actors.actor))
+      (c.actors.invariant.stands history is)));
+}
+
+-- all actors have had their turns
+count-had : (actor end count : ℕ) (scripts : Vec (Vec Call Global) Global) → end ≤ actor → actor ≤ end → end ≡ count
+    → count ≡ length scripts.items → actor ≡ length (map (λ (script : Vec Call Global). script.items) scripts.items)
+count-had actor end count scripts low high one two =
+    omega (arith, low, high, one, two, length-map scripts.items (λ (script : Vec Call Global). script.items))
+
+pub returns-clause-stands : goal.returns-clause-stands
+returns-clause-stands c history is =
+    subst (λ order. StandsFor c.actors.self (after_turns (setting_at c.args.self.now) (scripts_at c.args.self.now)
+    history order))
+    (ap (turns_of (setting_at c.args.self.now) (scripts_at c.args.self.now))
+    (count-had c.actors.actor c.len-actor-end.result c.args.self.now.input.now.scripts.len
+    c.args.self.now.input.now.scripts c.actors-test.false c.actors.auto.actor-end c.len-actor-end.ensures
+    c.args.self.now.input.now.scripts.ok.0) ∙ turns-all c.args.self.now is.together.valid)
+    (c.actors.invariant.stands history is)
+
+pub returns-clause-order : goal.returns-clause-order
+returns-clause-order c order is =
+    let reached : History = after_turns (setting_at c.args.self.now) (scripts_at c.args.self.now) [] order in
+    subst (StandsFor c.actors.self)
+    (sym (fold-append (after_turn (setting_at c.args.self.now) (scripts_at c.args.self.now)) [] order
+    (last_turns (setting_at c.args.self.now) (scripts_at c.args.self.now))))
+    (subst (λ later. StandsFor c.actors.self (after_turns (setting_at c.args.self.now) (scripts_at c.args.self.now)
+    reached later))
+    (ap (turns_of (setting_at c.args.self.now) (scripts_at c.args.self.now))
+    (count-had c.actors.actor c.len-actor-end.result c.args.self.now.input.now.scripts.len
+    c.args.self.now.input.now.scripts c.actors-test.false c.actors.auto.actor-end c.len-actor-end.ensures
+    c.args.self.now.input.now.scripts.ok.0) ∙ turns-all c.args.self.now is.together.valid)
+    (c.actors.invariant.stands reached is))

@@ -1,0 +1,25 @@
+use Rattle.std.proofs.Common.{sym, ap, ◌∙◌, arith, map, Vec, Global, suc, take, ◌+◌, ◌≡◌}
+use Rattle.std.proofs.lemmas.List.{take_all}
+use Rattle.net_reader.specs.declared.said.Call.{Call}
+use Rattle.net_reader.specs.Valid.{count_calls}
+use Rattle.machine.proofs.Sums.{added, calls-more}
+use Rattle.machine.proofs.machine.count_calls.Goals as goal
+
+pub loop-script-preserved : goal.loop-script-preserved
+loop-script-preserved c =
+    let sum = added _ _ c.in_ok-count.count c.checked_add.result _ c.ok_or.result c.checked_add.ensures c.ok_or.ensures.value c.in_ok-count.was in
+    let step = calls-more c.args.scripts.now c.loop-script.script-index c.script-item.result c.loop-script-test.true in
+    let next : c.loop-script.script-index + 1 ≡ suc c.loop-script.script-index = omega arith in
+    omega (
+      arith,
+      sum,
+      c.loop-script.invariant,
+      c.len.ensures,
+      step,
+      ap (λ (s : Vec Call Global). Rattle.std.proofs.Common.length s.items) c.script-item.is,
+      ap (λ i. count_calls (map (λ (s : Vec Call Global). s.items) (take i c.args.scripts.now))) next,
+    )
+
+pub returns : goal.returns
+returns c = c.loop-script.invariant ∙ ap (λ xs. count_calls (map (λ (s : Vec Call Global). s.items) xs))
+    (take_all c.loop-script.script-index c.args.scripts.now c.loop-script-test.false)

@@ -1,0 +1,5 @@
+pub mod Scripts
+pub mod Stands
+pub mod Callers
+pub mod Subscribers
+pub mod Machines

@@ -1,0 +1,72 @@
+-- What a machine stands for: a history in which each visit was its actor's next one. Its cells hold
+-- what the history leaves; each subscriber and each caller is as far as the history says; and it
+-- keeps the actor of each ticket.
+-- Key laws: `Machine::new` (it stands for no visits), `turn` (for a turn more), `finish` (for all
+-- visits) and `outcome`, by their clauses.
+use Rattle.std.specs.Prelude.{◌≡◌, ℕ, ◌+◌, ◌<◌, ◌≤◌, [], ◌∷◌, ◌++◌, All, Some, None, length, map, slice_index_or, vec_capacity}
+use Rattle.entry_word.specs.declared.visit.Visit.{Visit}
+use Rattle.directory.specs.Settings.{Setting}
+use Rattle.directory.specs.Histories.{History}
+use Rattle.directory.specs.Orders.{Scripts, next}
+use Rattle.directory.specs.Outcomes.{Outcome as Result}
+use Rattle.net_reader.specs.Input.{Contents}
+use Rattle.net_reader.specs.Seen.{seen_input}
+use Rattle.net_reader.specs.Valid.{count_calls}
+use Rattle.machine.specs.declared.caller.Caller.{Caller}
+use Rattle.machine.specs.declared.machine.Machine.{Machine}
+use Rattle.machine.specs.declared.machine.Outcome.{Outcome}
+use Rattle.machine.specs.declared.subscriber.Subscriber.{Subscriber}
+use Rattle.machine.specs.declared.turn.Turn.{Turn}
+use Rattle.machine.specs.declared.turn.Turn.TheVariants.{Visited, Finished}
+use Rattle.machine.specs.Scripts.{most_visits, scripts_of}
+use Rattle.machine.specs.Stands.{BelongTogether, Sees, setting_in}
+use Rattle.machine.specs.Callers.{IsCaller}
+use Rattle.machine.specs.Subscribers.{IsSubscriber}
+
+-- the input of a machine, its setting and its scripts
+abbrev pub input_at : Machine → Contents
+input_at machine = seen_input machine.input.now
+
+abbrev pub setting_at : Machine → Setting
+setting_at machine = setting_in (input_at machine) machine.plan.now
+
+abbrev pub scripts_at : Machine → Scripts
+scripts_at machine = scripts_of (input_at machine)
+
+-- a machine stands for a history
+pub record StandsFor (machine : Machine) (history : History) : Type 0 where
+  pub together : BelongTogether (input_at machine) machine.plan.now machine.distances.now
+  pub sees : Sees (input_at machine) machine.plan.now machine.cells history
+  pub order : machine.order.items ≡ map (λ visit. visit.actor) history
+  pub known : All (λ visit. visit.actor < length (input_at machine).scripts) history
+  pub room : most_visits (setting_at machine) (input_at machine).scripts
+      ≤ vec_capacity machine.order
+  pub subscribers_count : length machine.subscribers.items ≡ length (input_at machine).homes
+  pub callers_count : length machine.callers.items ≡ (input_at machine).callers
+  pub subscribers : (s : ℕ) (d : Subscriber) → s < length (input_at machine).homes
+      → IsSubscriber (input_at machine) machine.plan.now history s
+      (slice_index_or machine.subscribers.items s d)
+  pub callers : (c : ℕ) (d : Caller) → c < (input_at machine).callers
+      → IsCaller (input_at machine) machine.plan.now history
+      (length (input_at machine).homes + c) (slice_index_or machine.callers.items c d)
+  pub calls : machine.calls.items ≡ []
+  pub total : count_calls (input_at machine).scripts ≤ vec_capacity machine.calls
+
+-- a turn makes the actor's next visit, or none is left, and the machine stands for what it stood for
+abbrev pub HasTurned : Machine → Machine → History → ℕ → Turn → Type 0
+HasTurned old new history actor Finished =
+    (next (setting_at old) (scripts_at old) history actor ≡ None) × StandsFor new history
+    × (new.cells ≡ old.cells) × (new.order ≡ old.order)
+HasTurned old new history actor Visited =
+    (visit : Visit) × (next (setting_at old) (scripts_at old) history actor ≡ Some visit)
+    × StandsFor new (history ++ visit ∷ [])
+
+-- a machine keeps its input, its plan and its distances
+abbrev pub IsSame : Machine → Machine → Type 0
+IsSame old new =
+    (new.input.now ≡ old.input.now) × (new.plan.now ≡ old.plan.now)
+    × (new.distances.now ≡ old.distances.now)
+
+-- what an outcome says
+abbrev pub result_of : Outcome → Result
+result_of outcome = record { calls = outcome.calls.items; order = outcome.order.items }

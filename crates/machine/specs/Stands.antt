@@ -1,0 +1,58 @@
+-- What the parts of a machine lean on: an input with its plan and its distances, cells that hold
+-- what a history leaves, and a walk for the find that a caller is at.
+-- Key laws: `Machine::new`, `turn`, `finish` and `outcome`, by their clauses.
+use Rattle.std.specs.Prelude.{◌≡◌, ℕ, ◌<◌, List, [], ◌∷◌, All, Option, Some, None}
+use Rattle.distances.specs.Table.{DistanceTable}
+use Rattle.directory.specs.Settings.{Setting}
+use Rattle.directory.specs.Histories.{History}
+use Rattle.directory.specs.Finds.{FindCall, Stage, answer_of}
+use Rattle.directory.specs.Orders.{IsPlayed}
+use Rattle.net_reader.specs.Input.{Contents}
+use Rattle.net_reader.specs.Valid.{IsValid}
+use Rattle.net_reader.specs.declared.said.Call.{Call}
+use Rattle.net_reader.specs.declared.said.Call.TheVariants as calls
+use Rattle.region_plan.specs.Plan.{PlanData, nodes_of}
+use Rattle.region_plan.specs.Settings.{setting_of}
+use Rattle.region_plan.specs.Matched.{IsMatched, IsWithinReach}
+use Rattle.visit_log.specs.Cells.{CellData, GoWith, Hold}
+use Rattle.walk.specs.Walks.{GoesWith, WalkData, call_of, stage_of}
+use Rattle.machine.specs.Scripts.{scripts_of}
+
+-- a find begins at one of so many nodes
+abbrev pub IsInside : ℕ → Call → Type 0
+IsInside nodes (calls.Move to) = Unit {0}
+IsInside nodes (calls.Find from sub) = from < nodes
+IsInside nodes calls.Off = Unit {0}
+IsInside nodes calls.On = Unit {0}
+
+abbrev pub AreInside : ℕ → List Call → Type 0
+AreInside nodes script = All (IsInside nodes) script
+
+-- the input is valid, and the plan is one of its nodes, with these distances
+pub record BelongTogether (input : Contents) (plan : PlanData)
+    (distances : DistanceTable) : Type 0 where
+  pub valid : IsValid input
+  pub nodes : nodes_of plan ≡ input.nodes
+  pub belongs : plan.distances ≡ distances
+  pub matched : IsMatched plan
+  pub reached : IsWithinReach plan
+
+-- the setting of an input and a plan
+abbrev pub setting_in : Contents → PlanData → Setting
+setting_in input plan = setting_of plan input.homes
+
+-- each visit of a history was its actor's next one, and cells hold what the history leaves
+pub record Sees (input : Contents) (plan : PlanData) (cells : CellData)
+    (history : History) : Type 0 where
+  pub played : IsPlayed (setting_in input plan) (scripts_of input) history
+  pub goes : GoWith plan cells
+  pub hold : Hold plan input.homes cells history
+
+-- a walk is that of the first of the finds that are left, at this stage, and none where none is
+abbrev pub IsWalking : PlanData → List FindCall → Stage → Option WalkData → Type 0
+IsWalking plan [] stage None = Unit {0}
+IsWalking plan [] stage (Some walk) = ⊥
+IsWalking plan (call ∷ later) stage None = ⊥
+IsWalking plan (call ∷ later) stage (Some walk) =
+    (call_of walk ≡ call) × (stage_of plan walk ≡ stage) × GoesWith plan walk
+    × (answer_of stage ≡ None)

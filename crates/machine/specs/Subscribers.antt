@@ -1,0 +1,111 @@
+-- A subscriber in a history: its handset has made its visits, and its lines are those of the steps
+-- that it has begun, told by the tickets so far. A step that isn't done has the ticket of its last
+-- visit so far as its last, and 0 as its commit before that comes.
+-- Key law: `Subscriber::write`, by its clause (a turn makes the subscriber's next visit, or none is
+-- left).
+use Rattle.std.specs.Prelude.{◌≡◌, ℕ, suc, ◌-◌, ◌<◌, ◌≤◌, ◌^◌, ◌≢◌, Bool, true, false, if◌then◌else◌, List, [], ◌∷◌, ◌++◌, Some, None, length, take, vec_capacity}
+use Rattle.entry_word.specs.declared.mark.PresenceMark.{PresenceMark}
+use Rattle.entry_word.specs.declared.mark.PresenceMark.TheVariants.{Empty, Here, Gone, Coming, Off}
+use Rattle.entry_word.specs.declared.visit.Act.{Act}
+use Rattle.entry_word.specs.declared.visit.Visit.{Visit}
+use Rattle.directory.specs.Settings.{start}
+use Rattle.directory.specs.Courses.{Step, course_at}
+use Rattle.directory.specs.Histories.{History, own, tickets}
+use Rattle.directory.specs.Puts.{mark_put}
+use Rattle.directory.specs.Writes.{writes}
+use Rattle.directory.specs.Orders.{next, steps_of}
+use Rattle.directory.specs.Outcomes.{step_lines}
+use Rattle.directory.specs.declared.answers.Done.{Done}
+use Rattle.directory.specs.declared.answers.Done.TheVariants.{Moved, Switched, Found as FoundBy, Off as OffBy, Again as AgainBy}
+use Rattle.net_reader.specs.declared.said.Call.{Call}
+use Rattle.net_reader.specs.declared.said.Call.TheVariants as calls
+use Rattle.net_reader.specs.Input.{Contents}
+use Rattle.region_plan.specs.Plan.{PlanData, nodes_of}
+use Rattle.region_plan.specs.Settings.{setting_of}
+use Rattle.handset.specs.Kept.{GoesWith, HandsetData}
+use Rattle.handset.specs.Stands.{StandsFor}
+use Rattle.visit_log.specs.Cells.{CellData, GoWith, Hold}
+use Rattle.machine.specs.declared.subscriber.Subscriber.{Subscriber}
+use Rattle.machine.specs.declared.turn.Turn.{Turn}
+use Rattle.machine.specs.declared.turn.Turn.TheVariants.{Visited, Finished}
+use Rattle.machine.specs.Scripts.{scripts_of}
+use Rattle.machine.specs.Stands.{setting_in}
+
+-- whether an act commits a move: it puts a Gone
+abbrev pub says_gone : PresenceMark → Bool
+says_gone Empty = false
+says_gone (Here number) = false
+says_gone (Gone number to) = true
+says_gone (Coming number from) = false
+says_gone (Off number) = false
+
+abbrev pub is_commit : Act → Bool
+is_commit act = says_gone (mark_put act)
+
+-- the line of a step after one more of its visits, which commits or doesn't
+abbrev pub line_after : Done → Bool → ℕ → Done
+line_after (Moved actor number from to weight first commit last) commits ticket =
+    Moved actor number from to weight first (if commits then ticket else commit) ticket
+line_after (Switched actor off node number last) commits ticket =
+    Switched actor off node number last
+line_after (FoundBy actor from sub node number level weight first last) commits ticket =
+    FoundBy actor from sub node number level weight first last
+line_after (OffBy actor from sub node number level weight first last) commits ticket =
+    OffBy actor from sub node number level weight first last
+line_after (AgainBy actor from sub why weight first last) commits ticket =
+    AgainBy actor from sub why weight first last
+
+-- a handset may begin the step of a call
+abbrev pub MayBegin : PlanData → HandsetData → Call → Type 0
+MayBegin plan handset (calls.Move to) =
+    (to < nodes_of plan) × (to ≢ handset.place) × (handset.is_off ≡ false)
+    × (handset.number < 2 ^ 32 - 1)
+MayBegin plan handset (calls.Find from sub) = ⊥
+MayBegin plan handset calls.Off = handset.is_off ≡ false
+MayBegin plan handset calls.On = handset.is_off ≡ true
+
+-- the line of a step that a handset begins, with the ticket of its first visit
+abbrev pub begun_line : PlanData → HandsetData → Call → ℕ → Done
+begun_line plan handset (calls.Move to) ticket =
+    Moved handset.sub (suc handset.number) handset.place to
+    ((setting_of plan []).distance handset.place to) ticket 0 ticket
+begun_line plan handset (calls.Find from sub) ticket =
+    Switched handset.sub false handset.place handset.number ticket
+begun_line plan handset calls.Off ticket =
+    Switched handset.sub true handset.place handset.number ticket
+begun_line plan handset calls.On ticket =
+    Switched handset.sub false handset.place handset.number ticket
+
+-- the steps that a subscriber with so many lines has begun
+abbrev pub begun_steps : Contents → ℕ → Subscriber → List Step
+begun_steps input sub subscriber =
+    take (length subscriber.lines.items) (steps_of (scripts_of input) sub)
+
+-- a subscriber is as far as a history says
+pub record IsSubscriber (input : Contents) (plan : PlanData) (history : History) (sub : ℕ)
+    (subscriber : Subscriber) : Type 0 where
+  pub handset : StandsFor (setting_in input plan) subscriber.handset
+      (begun_steps input sub subscriber) (length (own sub history))
+  pub goes : GoesWith plan subscriber.handset
+  pub its : subscriber.handset.sub ≡ sub
+  pub lines : subscriber.lines.items
+      ≡ step_lines (setting_in input plan) sub (course_at (start (setting_in input plan) sub))
+      (begun_steps input sub subscriber) (tickets sub history)
+  pub few : length subscriber.lines.items ≤ length (steps_of (scripts_of input) sub)
+  -- the step under way has made a visit
+  pub under : (before : List Step) (step : Step)
+      → begun_steps input sub subscriber ≡ before ++ step ∷ []
+      → length (writes (setting_in input plan) (course_at (start (setting_in input plan) sub)) before)
+      < length (own sub history)
+  pub room : length (steps_of (scripts_of input) sub) ≤ vec_capacity subscriber.lines
+
+-- a turn makes its next visit, or none is left and nothing changes
+abbrev pub HasWritten : Contents → PlanData → History → ℕ → Subscriber → Subscriber → CellData
+    → CellData → Turn → Type 0
+HasWritten input plan history sub old new cells after Finished =
+    (next (setting_in input plan) (scripts_of input) history sub ≡ None) × (new ≡ old)
+    × (after ≡ cells)
+HasWritten input plan history sub old new cells after Visited =
+    (visit : Visit) × (next (setting_in input plan) (scripts_of input) history sub ≡ Some visit)
+    × IsSubscriber input plan (history ++ visit ∷ []) sub new × GoWith plan after
+    × Hold plan input.homes after (history ++ visit ∷ [])

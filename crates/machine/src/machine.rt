@@ -1,0 +1,329 @@
+//! The directory at work in one order of turns.
+ghost use Rattle.std.specs.Prelude.{All, ◌≡◌, ◌++◌, ◌+◌, ◌-◌, ◌<◌, ◌≤◌, ◌↔◌, ℕ, List, [], IfOk, None, drop, length, map, replicate, slice_index_or, vec_len, flat_map, vec_capacity};
+ghost use Rattle.directory.specs.Histories.{History};
+ghost use Rattle.directory.specs.Orders.{after_turn, after_turns, history_of, last_turns, most_turns, next, IsDone};
+ghost use Rattle.directory.specs.Outcomes.{outcome_in};
+ghost use Rattle.net_reader.specs.Seen.{seen_input};
+ghost use Rattle.net_reader.specs.Valid.{count_calls};
+ghost use Rattle.trail_laws.specs.Lines.{IsRightLine};
+ghost use Rattle.machine.specs.Callers.{IsCaller};
+ghost use Rattle.machine.specs.Machines.{HasTurned, IsSame, StandsFor, result_of, scripts_at, setting_at};
+ghost use Rattle.machine.specs.Stands.{BelongTogether};
+ghost use Rattle.machine.specs.Subscribers.{IsSubscriber};
+ghost use Rattle.machine.specs.declared.caller.Caller.{Caller};
+ghost use Rattle.machine.specs.declared.subscriber.Subscriber.{Subscriber};
+ghost use Rattle.machine.specs.declared.turn.Turn.TheVariants.{Finished};
+
+use crate::caller::Caller;
+use crate::laws::scripts_are_valid;
+use crate::room::most_visits;
+use crate::subscriber::Subscriber;
+use crate::turn::Turn;
+use directory::{
+    Done, each_visit_is_next, lines_grow, moves_are_short, next_is_own, order_of_history,
+    own_after, turns_are_few,
+};
+use distances::Distances;
+use net_graph::OutOfMemory;
+use net_reader::{Call, Input};
+use region_plan::Plan;
+use std::alloc::{AllocError, Global};
+use trail_laws::outcomes_are_right;
+use visit_log::PlainCells;
+
+/// The actors of an input at work: the subscribers, then the callers, and the cells that they visit.
+#[derive(Drop)]
+pub struct Machine<'a> {
+    input: &'a Input,
+    plan: &'a Plan,
+    distances: &'a Distances,
+    cells: PlainCells,
+    subscribers: Vec<Subscriber>,
+    callers: Vec<Caller>,
+    calls: Vec<Done>,
+    order: Vec<u32>,
+}
+
+/// What became of each call, by actor and in the order of its script, and whose visit each ticket was.
+#[derive(Debug, Drop)]
+pub struct Outcome {
+    pub calls: Vec<Done>,
+    pub order: Vec<u32>,
+}
+
+impl<'a> Machine<'a> {
+    /// All actors before their first turns. It takes all memory that the machine needs.
+    pub fn new(
+        alloc: Global,
+        input: &'a Input,
+        plan: &'a Plan,
+        distances: &'a Distances,
+    ) -> Result<Machine<'a>, OutOfMemory>
+        requires together { BelongTogether (seen_input input.now) plan.now distances.now }
+        ensures made { IfOk result (λ machine. (machine.input.now ≡ input.now) × (machine.plan.now ≡ plan.now)
+            × (machine.distances.now ≡ distances.now)) }
+        ensures stands { IfOk result (λ machine. StandsFor machine []) }
+    {
+        let cells = PlainCells::new(alloc, plan, &input.homes)?;
+        let subscribers = subscribers_of(alloc, input, plan, distances)?;
+        let callers = callers_of(alloc, input, plan, distances)?;
+        let order = Vec::with_capacity(alloc, most_visits(plan, &input.scripts)? as usize)?;
+        let calls = Vec::with_capacity(alloc, count_calls(&input.scripts)?)?;
+        Ok(Machine {
+            input,
+            plan,
+            distances,
+            cells,
+            subscribers,
+            callers,
+            calls,
+            order,
+        })
+    }
+
+    /// An actor's next visit, if it has one left; else nothing changes.
+    pub fn turn(&mut self, actor: u32) -> Turn
+        requires stands { (history : History) × StandsFor self.old history }
+        requires known { actor < length self.old.input.now.scripts.items }
+        ensures finished { (history : History) → StandsFor self.old history
+            → ((result ≡ Finished) ↔ (next (setting_at self.old) (scripts_at self.old) history actor ≡ None)) }
+        ensures still { result ≡ Finished → (self.new.cells ≡ self.old.cells) × (self.new.order ≡ self.old.order) }
+        ensures stands { (history : History) → StandsFor self.old history
+            → StandsFor self.new (after_turn (setting_at self.old) (scripts_at self.old) history actor) }
+        ensures same { IsSame self.old self.new }
+    {
+        self.act(actor)
+    }
+
+    /// The visits that are left, actor by actor. It takes no memory.
+    pub fn finish(&mut self)
+        requires stands { (history : History) × StandsFor self.old history }
+        ensures stands { (history : History) → StandsFor self.old history → StandsFor self.new
+            (after_turns (setting_at self.old) (scripts_at self.old) history
+            (last_turns (setting_at self.old) (scripts_at self.old))) }
+        ensures order { (order : List ℕ)
+            → StandsFor self.old (after_turns (setting_at self.old) (scripts_at self.old) [] order)
+            → StandsFor self.new (history_of (setting_at self.old) (scripts_at self.old) order) }
+        ensures same { IsSame self.old self.new }
+    {
+        'actors: for actor in 0..self.input.scripts.len() as u32 {
+            self.finish_actor(actor);
+        }
+    }
+
+    /// What became of all calls, once no actor has a visit left. It takes no memory.
+    pub fn outcome(self) -> Outcome
+        requires stands { (history : History) × StandsFor self history
+            × ((actor : ℕ) → IsDone (setting_at self) (scripts_at self) history actor) }
+        ensures result { (history : History) → StandsFor self.entry history
+            → ((actor : ℕ) → IsDone (setting_at self.entry) (scripts_at self.entry) history actor)
+            → result_of result ≡ outcome_in (setting_at self.entry) (scripts_at self.entry) history }
+        ensures right { (history : History) → StandsFor self.entry history
+            → ((actor : ℕ) → IsDone (setting_at self.entry) (scripts_at self.entry) history actor)
+            → All (IsRightLine (setting_at self.entry) history) (result_of result).calls }
+    {
+        outcomes_are_right();
+        order_of_history();
+        scripts_are_valid();
+        let mut calls = self.calls;
+        push_steps(&mut calls, &self.subscribers);
+        push_finds(&mut calls, &self.callers);
+        Outcome {
+            calls,
+            order: self.order,
+        }
+    }
+
+    /// The cells.
+    pub fn cells(&self) -> &PlainCells
+        ensures { result.now ≡ self.now.cells }
+    {
+        &self.cells
+    }
+
+    // The visits that are left of an actor.
+    fn finish_actor(&mut self, actor: u32)
+        requires stands { (history : History) × StandsFor self.old history }
+        requires known { actor < length self.old.input.now.scripts.items }
+        ensures stands { (history : History) → StandsFor self.old history → StandsFor self.new
+            (after_turns (setting_at self.old) (scripts_at self.old) history
+            (replicate (most_turns (setting_at self.old) (scripts_at self.old) actor) actor)) }
+        ensures same { IsSame self.old self.new }
+    {
+        turns_are_few();
+        next_is_own();
+        'turns: while let Turn::Visited = self.turn(actor) {}
+    }
+
+    // A turn, as the parts make it.
+    fn act(&mut self, actor: u32) -> Turn
+        requires stands { (history : History) × StandsFor self.old history }
+        requires known { actor < length self.old.input.now.scripts.items }
+        ensures turned { (history : History) → StandsFor self.old history
+            → HasTurned self.old self.new history actor result }
+        ensures same { IsSame self.old self.new }
+    {
+        if (actor as usize) < self.subscribers.len() {
+            self.write(actor)
+        } else {
+            self.look(actor)
+        }
+    }
+
+    // A subscriber's turn.
+    fn write(&mut self, actor: u32) -> Turn
+        requires stands { (history : History) × StandsFor self.old history }
+        requires known { actor < length self.old.input.now.homes.items }
+        ensures turned { (history : History) → StandsFor self.old history
+            → HasTurned self.old self.new history actor result }
+        ensures same { IsSame self.old self.new }
+    {
+        each_visit_is_next();
+        next_is_own();
+        own_after();
+        lines_grow();
+        turns_are_few();
+        moves_are_short();
+        let ticket = self.order.len() as u64;
+        let turn = self.subscribers[actor as usize].write(
+            actor,
+            self.input,
+            self.plan,
+            self.distances,
+            &mut self.cells,
+            ticket,
+        );
+        match turn {
+            Turn::Finished => Turn::Finished,
+            Turn::Visited => {
+                if self.order.push(actor).is_err() {
+                    unreachable!()
+                }
+                Turn::Visited
+            }
+        }
+    }
+
+    // A caller's turn.
+    fn look(&mut self, actor: u32) -> Turn
+        requires stands { (history : History) × StandsFor self.old history }
+        requires high { length self.old.input.now.homes.items ≤ actor }
+        requires known { actor < length self.old.input.now.scripts.items }
+        ensures turned { (history : History) → StandsFor self.old history
+            → HasTurned self.old self.new history actor result }
+        ensures same { IsSame self.old self.new }
+    {
+        each_visit_is_next();
+        next_is_own();
+        own_after();
+        lines_grow();
+        turns_are_few();
+        moves_are_short();
+        let ticket = self.order.len() as u64;
+        let place = actor as usize - self.subscribers.len();
+        let turn = self.callers[place].look(
+            actor,
+            self.input,
+            self.plan,
+            self.distances,
+            &self.cells,
+            ticket,
+        );
+        match turn {
+            Turn::Finished => Turn::Finished,
+            Turn::Visited => {
+                if self.order.push(actor).is_err() {
+                    unreachable!()
+                }
+                Turn::Visited
+            }
+        }
+    }
+}
+
+// The subscribers, before their first steps.
+fn subscribers_of(
+    alloc: Global,
+    input: &Input,
+    plan: &Plan,
+    distances: &Distances,
+) -> Result<Vec<Subscriber>, OutOfMemory>
+    requires together { BelongTogether (seen_input input.now) plan.now distances.now }
+    ensures count { IfOk result (λ subscribers. vec_len subscribers ≡ length input.now.homes.items) }
+    ensures each { IfOk result (λ subscribers. (s : ℕ) (d : Subscriber) → s < length input.now.homes.items
+        → IsSubscriber (seen_input input.now) plan.now [] s (slice_index_or subscribers.items s d)) }
+{
+    let mut subscribers = Vec::new(alloc);
+    for sub in 0..input.homes.len() as u32 {
+        let steps = input.scripts[sub as usize].len();
+        subscribers.push(Subscriber::new(alloc, sub, input.homes[sub as usize], steps, plan)?)?;
+    }
+    Ok(subscribers)
+}
+
+// The callers, before their first looks.
+fn callers_of(
+    alloc: Global,
+    input: &Input,
+    plan: &Plan,
+    distances: &Distances,
+) -> Result<Vec<Caller>, OutOfMemory>
+    requires together { BelongTogether (seen_input input.now) plan.now distances.now }
+    ensures count { IfOk result (λ callers. vec_len callers ≡ input.now.callers) }
+    ensures each { IfOk result (λ callers. (c : ℕ) (d : Caller) → c < input.now.callers
+        → IsCaller (seen_input input.now) plan.now [] (length input.now.homes.items + c) (slice_index_or callers.items c d)) }
+{
+    let subs = input.homes.len();
+    let mut callers = Vec::new(alloc);
+    for caller in 0..input.callers as usize {
+        let script = input.scripts[subs + caller].as_slice();
+        callers.push(Caller::new(alloc, script, subs as u32, plan)?)?;
+    }
+    Ok(callers)
+}
+
+// How many calls scripts have.
+fn count_calls(scripts: &[Vec<Call>]) -> Result<usize, OutOfMemory>
+    ensures { IfOk result (λ count. count ≡ count_calls (map (λ script. script.items) scripts.now)) }
+{
+    let mut count = 0usize;
+    for script in scripts {
+        count = count.checked_add(script.len()).ok_or(AllocError)?;
+    }
+    Ok(count)
+}
+
+// The lines of a list behind others.
+fn push_lines(calls: &mut Vec<Done>, lines: &[Done])
+    requires room { length calls.old.items + length lines.now ≤ vec_capacity calls.old }
+    ensures items { calls.new.items ≡ calls.old.items ++ lines.now }
+    ensures capacity { vec_capacity calls.old ≤ vec_capacity calls.new }
+{
+    if calls.extend_from_slice(lines).is_err() {
+        unreachable!()
+    }
+}
+
+// The lines of all subscribers behind others.
+fn push_steps(calls: &mut Vec<Done>, subscribers: &[Subscriber])
+    requires room { length calls.old.items + length (flat_map (λ one. one.lines.items) subscribers.now)
+        ≤ vec_capacity calls.old }
+    ensures items { calls.new.items ≡ calls.old.items ++ flat_map (λ one. one.lines.items) subscribers.now }
+    ensures capacity { vec_capacity calls.old ≤ vec_capacity calls.new }
+{
+    'subscribers: for subscriber in subscribers {
+        push_lines(calls, &subscriber.lines);
+    }
+}
+
+// The lines of all callers behind others.
+fn push_finds(calls: &mut Vec<Done>, callers: &[Caller])
+    requires room { length calls.old.items + length (flat_map (λ one. one.lines.items) callers.now)
+        ≤ vec_capacity calls.old }
+    ensures items { calls.new.items ≡ calls.old.items ++ flat_map (λ one. one.lines.items) callers.now }
+    ensures capacity { vec_capacity calls.old ≤ vec_capacity calls.new }
+{
+    'callers: for caller in callers {
+        push_lines(calls, &caller.lines);
+    }
+}

@@ -1,0 +1,49 @@
+//! How many visits scripts have at most.
+ghost use Rattle.std.specs.Prelude.{◌≡◌, ◌<◌, All, IfOk, List, ℕ, map};
+ghost use Rattle.machine.specs.Scripts.{most_in, most_of, most_visits};
+ghost use Rattle.machine.specs.Stands.{AreInside, IsInside};
+ghost use Rattle.region_plan.specs.Settings.{setting_of};
+ghost use Rattle.region_plan.specs.Plan.{nodes_of};
+
+use net_graph::OutOfMemory;
+use net_reader::Call;
+use region_plan::Plan;
+use std::alloc::AllocError;
+
+// The most visits of a call.
+fn most_of(plan: &Plan, call: Call) -> u64
+    requires inside { IsInside (nodes_of plan.now) call }
+    ensures { (starts : List ℕ) → result ≡ most_of (setting_of plan.now starts) call }
+{
+    match call {
+        Call::Move { .. } => plan.most_writes(),
+        Call::Find { from, .. } => plan.most_looks(from),
+        Call::Off | Call::On => 1,
+    }
+}
+
+// The most visits of a script.
+pub fn most_of_script(plan: &Plan, script: &[Call]) -> Result<u64, OutOfMemory>
+    requires inside { AreInside (nodes_of plan.now) script.now }
+    ensures { IfOk result (λ most. (starts : List ℕ) → most ≡ most_in (setting_of plan.now starts) script.now) }
+{
+    let mut most = 0u64;
+    for call in script {
+        most = most.checked_add(most_of(plan, *call)).ok_or(AllocError)?;
+    }
+    Ok(most)
+}
+
+// The most visits of all scripts.
+pub fn most_visits(plan: &Plan, scripts: &[Vec<Call>]) -> Result<u64, OutOfMemory>
+    requires inside { All (λ script. AreInside (nodes_of plan.now) script.items) scripts.now }
+    ensures { IfOk result (λ most. (starts : List ℕ) → most
+        ≡ most_visits (setting_of plan.now starts) (map (λ script. script.items) scripts.now)) }
+{
+    let mut most = 0u64;
+    for script in scripts {
+        let more = most_of_script(plan, script)?;
+        most = most.checked_add(more).ok_or(AllocError)?;
+    }
+    Ok(most)
+}

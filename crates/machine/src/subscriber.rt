@@ -1,0 +1,258 @@
+//! A subscriber: its moves and switches, one after another.
+ghost use Rattle.std.specs.Prelude.{◌≡◌, ◌≤◌, ◌<◌, ◌++◌, ◌∷◌, [], ℕ, List, IfOk, None, OnSome, not, length, suc, slice_get, slice_index, vec_capacity};
+ghost use Rattle.directory.specs.Courses.{Step};
+ghost use Rattle.directory.specs.Settings.{Setting};
+ghost use Rattle.directory.specs.declared.answers.Done.TheVariants.{Switched};
+ghost use Rattle.directory.specs.Histories.{History};
+ghost use Rattle.directory.specs.Writes.{visits};
+ghost use Rattle.net_reader.specs.Seen.{seen_input};
+ghost use Rattle.region_plan.specs.Plan.{PlanData, nodes_of};
+ghost use Rattle.region_plan.specs.Settings.{setting_of};
+ghost use Rattle.handset.specs.Kept.{GoesWith};
+ghost use Rattle.handset.specs.Progress.{due};
+ghost use Rattle.handset.specs.Stands.{StandsFor, switch_to};
+ghost use Rattle.visit_log.specs.Cells.{AreHomes, GoWith, Hold};
+ghost use Rattle.machine.specs.Scripts.{step_of};
+ghost use Rattle.machine.specs.Stands.{BelongTogether, Sees};
+ghost use Rattle.machine.specs.Subscribers.{HasWritten, IsSubscriber, MayBegin, begun_line, is_commit, line_after};
+
+use crate::turn::Turn;
+use directory::{Done, own_after, scripts_in_order, tickets_tell};
+use distances::Distances;
+use entry_word::{Act, Key, PresenceMark, Visit, mark_words, unpack_mark};
+use handset::Handset;
+use net_graph::OutOfMemory;
+use net_reader::{Call, Input};
+use region_plan::Plan;
+use std::alloc::Global;
+use visit_log::PlainCells;
+
+/// A subscriber: its handset, and the lines of the steps that it has begun.
+#[derive(Drop)]
+pub struct Subscriber {
+    pub handset: Handset,
+    pub lines: Vec<Done>,
+}
+
+impl Subscriber {
+    // A subscriber at its home, before its first step of so many.
+    pub fn new(
+        alloc: Global,
+        sub: u32,
+        home: u32,
+        steps: usize,
+        plan: &Plan,
+    ) -> Result<Subscriber, OutOfMemory>
+        requires node { home < nodes_of plan.now }
+        ensures handset { IfOk result (λ subscriber. (starts : List ℕ) → slice_index starts sub ≡ home
+            → StandsFor (setting_of plan.now starts) subscriber.handset [] 0) }
+        ensures goes { IfOk result (λ subscriber. GoesWith plan.now subscriber.handset) }
+        ensures its { IfOk result (λ subscriber. subscriber.handset.sub ≡ sub) }
+        ensures lines { IfOk result (λ subscriber. subscriber.lines.items ≡ []) }
+        ensures room { IfOk result (λ subscriber. steps ≤ vec_capacity subscriber.lines) }
+    {
+        Ok(Subscriber {
+            handset: Handset::new(alloc, sub, home, plan)?,
+            lines: Vec::with_capacity(alloc, steps)?,
+        })
+    }
+
+    // The next visit, if one is left.
+    pub fn write(
+        &mut self,
+        sub: u32,
+        input: &Input,
+        plan: &Plan,
+        distances: &Distances,
+        cells: &mut PlainCells,
+        ticket: u64,
+    ) -> Turn
+        requires together { BelongTogether (seen_input input.now) plan.now distances.now }
+        requires low { sub < length input.now.homes.items }
+        requires stands { (history : History) × Sees (seen_input input.now) plan.now cells.old history
+            × (length history ≡ ticket) × IsSubscriber (seen_input input.now) plan.now history sub self.old }
+        ensures { (history : History) → Sees (seen_input input.now) plan.now cells.old history
+            → length history ≡ ticket → IsSubscriber (seen_input input.now) plan.now history sub self.old
+            → HasWritten (seen_input input.now) plan.now history sub self.old self.new cells.old cells.new result }
+    {
+        own_after();
+        tickets_tell();
+        mark_words();
+        let Some(visit) = make(&mut self.handset, plan, cells) else {
+            return self.begin(sub, input, plan, distances, cells, ticket);
+        };
+        let last = self.lines.len() - 1;
+        self.lines[last] = line_after(self.lines[last], is_commit(visit.act), ticket);
+        Turn::Visited
+    }
+
+    // The first visit of the next step, if one is left.
+    fn begin(
+        &mut self,
+        sub: u32,
+        input: &Input,
+        plan: &Plan,
+        distances: &Distances,
+        cells: &mut PlainCells,
+        ticket: u64,
+    ) -> Turn
+        requires together { BelongTogether (seen_input input.now) plan.now distances.now }
+        requires low { sub < length input.now.homes.items }
+        requires rests { due (setting_of plan.now []) self.old.handset ≡ None }
+        requires stands { (history : History) × Sees (seen_input input.now) plan.now cells.old history
+            × (length history ≡ ticket) × IsSubscriber (seen_input input.now) plan.now history sub self.old }
+        ensures { (history : History) → Sees (seen_input input.now) plan.now cells.old history
+            → length history ≡ ticket → IsSubscriber (seen_input input.now) plan.now history sub self.old
+            → HasWritten (seen_input input.now) plan.now history sub self.old self.new cells.old cells.new result }
+    {
+        own_after();
+        tickets_tell();
+        let script = input.scripts[sub as usize].as_slice();
+        let place = self.lines.len();
+        if place == script.len() {
+            return Turn::Finished;
+        }
+        let line = begin_step(&mut self.handset, script[place], plan, distances, ticket);
+        if self.lines.push(line).is_err() {
+            unreachable!()
+        }
+        if make(&mut self.handset, plan, cells).is_none() {
+            unreachable!()
+        }
+        Turn::Visited
+    }
+}
+
+// Makes the write that comes next, if one is left.
+fn make(handset: &mut Handset, plan: &Plan, cells: &mut PlainCells) -> Option<Visit>
+    requires goes { GoesWith plan.now handset.old }
+    requires cells { GoWith plan.now cells.old }
+    requires homes { AreHomes plan.now }
+    requires known { handset.old.sub < cells.old.subs }
+    ensures exact { result ≡ due (setting_of plan.now []) handset.old }
+    ensures visit { (starts : List ℕ) (steps : List Step) (made : ℕ)
+        → StandsFor (setting_of plan.now starts) handset.old steps made
+        → result ≡ slice_get (visits (setting_of plan.now starts) handset.old.sub steps) made }
+    ensures rests { result ≡ None → (handset.new ≡ handset.old) × (cells.new ≡ cells.old) }
+    ensures goes { GoesWith plan.now handset.new }
+    ensures its { handset.new.sub ≡ handset.old.sub }
+    ensures cells { GoWith plan.now cells.new }
+    ensures stands { OnSome result ((starts : List ℕ) (steps : List Step) (made : ℕ)
+        → StandsFor (setting_of plan.now starts) handset.old steps made
+        → StandsFor (setting_of plan.now starts) handset.new steps (suc made)) }
+    ensures hold { OnSome result ((starts : List ℕ) (history : History)
+        → Hold plan.now starts cells.old history
+        → (visit : Visit) → result ≡ Some visit → Hold plan.now starts cells.new (history ++ visit ∷ [])) }
+{
+    let visit = handset.next(plan)?;
+    handset.made(plan);
+    if let Act::Put(key, word) = visit.act {
+        cells.put(plan, key, word);
+    }
+    Some(visit)
+}
+
+// Begins the step of a call, and gives its line with the ticket of its first visit.
+fn begin_step(
+    handset: &mut Handset,
+    call: Call,
+    plan: &Plan,
+    distances: &Distances,
+    ticket: u64,
+) -> Done
+    requires goes { GoesWith plan.now handset.old }
+    requires belongs { plan.now.distances ≡ distances.now }
+    requires rests { due (setting_of plan.now []) handset.old ≡ None }
+    requires may { MayBegin plan.now handset.old call }
+    ensures line { result ≡ begun_line plan.now handset.old call ticket }
+    ensures goes { GoesWith plan.now handset.new }
+    ensures its { handset.new.sub ≡ handset.old.sub }
+    ensures stands { (starts : List ℕ) (steps : List Step) (made : ℕ)
+        → StandsFor (setting_of plan.now starts) handset.old steps made
+        → StandsFor (setting_of plan.now starts) handset.new (steps ++ step_of call ∷ []) made }
+{
+    match call {
+        Call::Move { to } => {
+            let (number, from) = (handset.number() + 1, handset.place());
+            if handset.begin(plan, distances, to).is_err() {
+                unreachable!()
+            }
+            Done::Moved {
+                actor: handset.sub(),
+                number,
+                from,
+                to,
+                weight: handset.weight(),
+                first: ticket,
+                commit: 0,
+                last: ticket,
+            }
+        }
+        Call::Off => switch(handset, true, ticket),
+        Call::On => switch(handset, false, ticket),
+        Call::Find { .. } => unreachable!(),
+    }
+}
+
+// Begins a switch, and gives its line.
+fn switch(handset: &mut Handset, off: bool, ticket: u64) -> Done
+    requires rests { (plan : PlanData) × (due (setting_of plan []) handset.old ≡ None) }
+    requires other { handset.old.is_off ≡ not off }
+    ensures line { result ≡ Switched handset.old.sub off handset.old.place handset.old.number ticket }
+    ensures goes { (plan : PlanData) → GoesWith plan handset.old → GoesWith plan handset.new }
+    ensures its { handset.new.sub ≡ handset.old.sub }
+    ensures stands { (setting : Setting) (steps : List Step) (made : ℕ) → StandsFor setting handset.old steps made
+        → StandsFor setting handset.new (steps ++ switch_to off ∷ []) made }
+{
+    if handset.switch(off).is_err() {
+        unreachable!()
+    }
+    Done::Switched {
+        actor: handset.sub(),
+        off,
+        node: handset.place(),
+        number: handset.number(),
+        ticket,
+    }
+}
+
+// Whether an act commits a move.
+fn is_commit(act: Act) -> bool
+    ensures { result ≡ is_commit act }
+{
+    match act {
+        Act::Put(Key::Presence { .. }, word) => matches!(
+            unpack_mark(word),
+            Some(PresenceMark::Gone { .. })
+        ),
+        Act::Put(Key::Entry { .. }, _) | Act::Look(_) | Act::Census(_) => false,
+    }
+}
+
+// The line of a step after one more of its visits.
+fn line_after(line: Done, commits: bool, ticket: u64) -> Done
+    ensures { result ≡ line_after line commits ticket }
+{
+    match line {
+        Done::Moved {
+            actor,
+            number,
+            from,
+            to,
+            weight,
+            first,
+            commit,
+            ..
+        } => Done::Moved {
+            actor,
+            number,
+            from,
+            to,
+            weight,
+            first,
+            commit: if commits { ticket } else { commit },
+            last: ticket,
+        },
+        other => other,
+    }
+}
