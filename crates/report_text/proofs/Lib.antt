@@ -1,2 +1,3 @@
-pub mod Lines
-pub mod Members
+mod ManyLines
+mod Members
+mod Pieces

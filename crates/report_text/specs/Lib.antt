@@ -1,2 +1,5 @@
 pub mod Texts
 pub mod PlanText
+pub mod ReportText
+pub mod Written
+pub mod Examples

@@ -1,9 +1,18 @@
-//! Texts of plans, as docs/FORMATS.md tells them.
+//! Texts of plans, of reports and of refusals, as docs/FORMATS.md tells them.
 #![tactic(auto)]
 
+mod examples;
+mod line;
 mod plan;
+mod refusal;
+mod report_lines;
 
+pub use examples::{example_calls, example_lines};
 pub use plan::plan_text;
+pub use refusal::refused_line;
+pub use report_lines::{Lines, report};
 
+#[cfg(test)]
+mod report_tests;
 #[cfg(test)]
 mod tests;

@@ -1,16 +1,16 @@
--- What the answer of an input stands on: that a graph's plan is the plan of the edges that it was made of.
-use Rattle.std.proofs.Common.{Result, Ok, Err, IfOk, ◌≡◌, ℕ, ◌<◌, List, [], ◌∷◌, subst, ◌∙◌, arith}
+-- A graph's plan is the plan of the edges that it was made of.
+use Rattle.std.proofs.Common.{Result, Ok, Err, IfOk, ◌≡◌, ℕ, ◌<◌, List, [], ◌∷◌, subst, ◌∙◌}
 use Rattle.net_graph.specs.declared.edge.Edge.{Edge}
-use Rattle.net_graph.specs.Network.{Network, IsGraphOf, SameWalks}
+use Rattle.net_graph.specs.Network.{Network, IsFirstApart, IsGraphOf, SameWalks}
 use Rattle.net_graph.specs.Walks.{IsReached, everywhere}
 use Rattle.distances.specs.Table.{DistanceTable, AreDistancesOf, dist}
 use Rattle.cluster_tree.specs.Tree.{WeighedCluster, IsTreeOf, inside_weight, within}
-use Rattle.coarse_cover.specs.Covers.{listed}
+use Rattle.coarse_cover.specs.Covers.{cluster_list}
 use Rattle.coarse_cover.specs.declared.cover.Cluster.{Cluster}
 use Rattle.region_plan.specs.Plan.{PlanCluster, PlanData, level_at}
-use Rattle.region_plan.specs.Regions.{IsFlat, IsPlanOf, AreClustersOf, regions_of, weighed}
+use Rattle.region_plan.specs.Regions.{IsPlanOf, AreClustersOf, regions_of, weighed}
 use Rattle.track.specs.Answers.{network_of}
-use Rattle.track.specs.Contents.{Contents}
+use Rattle.net_reader.specs.Input.{Contents}
 
 -- ---- the plan of the input's network
 
@@ -50,6 +50,7 @@ pub plan_of_graph : (contents : Contents) (network : Network) (k : ℕ) (plan : 
 plan_of_graph contents network k plan graph is = record {
   distances = distances_of network (network_of contents) plan.distances graph.nodes graph.same is.distances;
   trade_off = is.trade_off;
+  reach = is.reach;
   some = is.some;
   top = is.top;
   each = λ i below.
@@ -58,27 +59,24 @@ plan_of_graph contents network k plan graph is = record {
         exponent = level.exponent;
         threshold = level.threshold;
         phases = level.phases;
-        clusters = clusters_of network (network_of contents) (listed plan.distances.nodes 0 (regions_of plan.distances k i)) (level_at plan i).clusters graph.same level.clusters;
+        clusters = clusters_of network (network_of contents) (cluster_list plan.distances.nodes 0 (regions_of plan.distances k i)) (level_at plan i).clusters graph.same level.clusters;
         homes = level.homes;
         readers = level.readers;
       };
-}
-
--- the network of a graph is connected
-pub connected_of : (n : ℕ) (edges given : List Edge) (network : Network) → given ≡ edges → IsGraphOf n given network → (v : ℕ) → v < n → IsReached edges everywhere 0 v
-connected_of n edges given network same graph v below =
-    subst (λ (es : List Edge). IsReached es everywhere 0 v) same ((graph.same.reached everywhere 0 v).1 (graph.sound.connected v (omega (arith, graph.nodes))))
-
--- the flat plan of a graph is that of the edges that it was made of
-pub flat_of_graph : (contents : Contents) (network : Network) (plan : PlanData) → IsGraphOf contents.nodes contents.edges network → IsFlat network plan → IsFlat (network_of contents) plan
-flat_of_graph contents network plan graph is = record {
-  distances = distances_of network (network_of contents) plan.distances graph.nodes graph.same is.distances;
-  trade_off = is.trade_off;
-  one = is.one;
-  level = is.level;
 }
 
 -- what follows from a result
 pub if_ok : {X E : Type 0} (r : Result X E) (P Q : X → Type 0) → ((x : X) → P x → Q x) → IfOk r P → IfOk r Q
 if_ok (Ok x) P Q on h = on x h
 if_ok (Err e) P Q on h = tt
+
+-- a network that is connected isn't apart
+pub not_apart : (n : ℕ) (edges given : List Edge) (node : ℕ) → given ≡ edges → ((v : ℕ) → v < n → IsReached edges everywhere 0 v) → IsFirstApart n given node → ⊥
+not_apart n edges given node same connected apart =
+    let is : IsFirstApart n edges node = subst (λ (es : List Edge). IsFirstApart n es node) same apart in
+    let reached = connected node is.below in
+    is.apart reached.steps reached.walk
+
+-- the graph of the edges that are given is that of the edges
+pub graph_of : (n : ℕ) (edges given : List Edge) (network : Network) → given ≡ edges → IsGraphOf n given network → IsGraphOf n edges network
+graph_of n edges given network same h = subst (λ (es : List Edge). IsGraphOf n es network) same h

@@ -1,13 +1,6 @@
-pub mod Digits
-pub mod ManyLines
-pub mod Spelled
-pub mod SpelledRows
-pub mod SpelledContents
-pub mod FlatFinds
-pub mod Made
-pub mod AtRest
-pub mod OrderLines
-pub mod Answering
-pub mod Words
-pub mod Telling
-pub mod OneAnswer
+mod Answering
+mod Ending
+mod OneText
+mod Words
+mod Playing
+mod Replaying

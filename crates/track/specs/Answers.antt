@@ -1,66 +1,86 @@
--- What answers an input, by the command: the report of its finds or the plan of its network where the network is
--- connected, and a line that names the least node apart where it isn't. Law: one_answer, that to a command an input has
--- one answer only.
-use Rattle.std.specs.Prelude.{◌≡◌, ℕ, ◌<◌, List, [], length, All}
-use Rattle.net_graph.specs.Network.{Network, IsFirstApart}
-use Rattle.net_graph.specs.Walks.{IsReached, everywhere}
+-- The text that answers bytes, by the command: that of the plan of the input's network, the report
+-- of what becomes of its calls under its order, or the line that refuses the input.
+-- Key law: `bytes_have_one_text`.
+use Rattle.std.specs.Prelude.{◌≡◌, ℕ, Bool, true, false, All, List, Result, Ok, Err}
+use Rattle.net_graph.specs.Network.{Network}
+use Rattle.net_reader.specs.declared.fault.InputFault.{InputFault}
+use Rattle.net_reader.specs.Input.{Contents, IsInput}
+use Rattle.directory.specs.Histories.{History}
+use Rattle.directory.specs.Orders.{history_of}
+use Rattle.directory.specs.Outcomes.{Outcome, outcome_of}
+use Rattle.trail_laws.specs.Lines.{IsRightLine}
 use Rattle.region_plan.specs.Plan.{PlanData}
-use Rattle.region_plan.specs.Regions.{IsFlat, IsPlanOf}
+use Rattle.region_plan.specs.Settings.{setting_of}
+use Rattle.stretch_laws.specs.Plans.{bound_of}
+use Rattle.stretch_laws.specs.Lines.{IsLineWithin}
+use Rattle.machine.specs.Scripts.{scripts_of}
+use Rattle.region_plan.specs.Regions.{IsPlanOf}
 use Rattle.report_text.specs.PlanText.{plan_text_of}
-use Rattle.directory.specs.Outcomes.{Done, outcome_of}
-use Rattle.directory.specs.Outcomes.Done.{moved, found, failed}
+use Rattle.report_text.specs.ReportText.{refused_line_of, report_of}
+use Rattle.word_line.specs.declared.command.Command.{Command}
+use Rattle.word_line.specs.declared.command.Command.TheVariants.{Cover, Replay, Census, Run, Make, Trial}
 use Rattle.track.specs.declared.status.Status.{Status}
-use Rattle.track.specs.declared.status.Status.TheVariants.{Refused, BadWords, OutOfMemory, ReadFailed, WriteFailed, NotPlain}
-use Rattle.track.specs.declared.status.Status.TheVariants as statuses
-use Rattle.track.specs.declared.word_line.Command.{Command}
-use Rattle.track.specs.declared.word_line.Command.TheVariants.{Cover, Replay}
-use Rattle.track.specs.Contents.{Contents}
-use Rattle.track.specs.PlainText.{rows_of}
-use Rattle.track.specs.Report.{report_of, apart_line}
-use Rattle.track.specs.Scripts.{home_of, scripts_of}
-
--- a call is a find that answered, and names the node where its subscriber stands: nobody moves, so that is its home
-abbrev pub NamesStanding : Contents → Done → Type 0
-NamesStanding contents (moved actor number from to weight first commit last) = ⊥
-NamesStanding contents (found actor from sub node number level weight first last) = (node ≡ home_of contents sub) × (number ≡ 0)
-NamesStanding contents (failed actor from sub why weight first last) = ⊥
+use Rattle.track.specs.declared.status.Status.TheVariants.{Done, Refused}
 
 -- the network of an input
 abbrev pub network_of : Contents → Network
 network_of contents = record { nodes = contents.nodes; edges = contents.edges }
 
--- the network is connected, the text is the report of the finds over its flat plan, and every find answers rightly
-pub record IsReport (contents : Contents) (text : List ℕ) : Type 0 where
-  pub connected : (v : ℕ) → v < contents.nodes → IsReached contents.edges everywhere 0 v
-  pub plan : PlanData
-  pub flat : IsFlat (network_of contents) plan
-  pub report : text ≡ report_of (outcome_of plan (scripts_of contents) [])
-  pub right : All (NamesStanding contents) (outcome_of plan (scripts_of contents) []).calls
-
--- the network is connected, and the text is that of its plan
-pub record IsCover (contents : Contents) (text : List ℕ) : Type 0 where
-  pub connected : (v : ℕ) → v < contents.nodes → IsReached contents.edges everywhere 0 v
+-- the text is that of the plan of the input's network and its k
+pub record IsPlanText (contents : Contents) (text : List ℕ) : Type 0 where
   pub plan : PlanData
   pub is : IsPlanOf (network_of contents) contents.k plan
   pub text_is : text ≡ plan_text_of plan
 
--- no walk leads from node 0 to some node, and the text names the least such node behind the number of lines
-pub record IsRefusal (contents : Contents) (text : List ℕ) : Type 0 where
-  pub node : ℕ
-  pub apart : IsFirstApart contents.nodes contents.edges node
-  pub line : text ≡ apart_line (length (rows_of contents)) node
+-- the history of an input's calls under its order, over a plan, and what becomes of the calls
+abbrev pub history_under : Contents → PlanData → History
+history_under contents plan =
+    history_of (setting_of plan contents.homes) (scripts_of contents) contents.order
 
--- what a command answers to an input of a connected network
+abbrev pub outcome_under : Contents → PlanData → Outcome
+outcome_under contents plan =
+    outcome_of (setting_of plan contents.homes) (scripts_of contents) contents.order
+
+-- the text is the report of what becomes of an input's calls under its order, over its plan
+pub record IsReport (contents : Contents) (text : List ℕ) : Type 0 where
+  pub plan : PlanData
+  pub is : IsPlanOf (network_of contents) contents.k plan
+  pub text_is : text ≡ report_of (outcome_under contents plan)
+  -- an answer names where its subscriber stood at the find's last visit, and a find that is to be
+  -- made again had a visit of a move of its subscriber within it
+  pub right : All (IsRightLine (setting_of plan contents.homes) (history_under contents plan))
+      (outcome_under contents plan).calls
+  -- a quiet find has its answer, and its weight is within the plan's bound: the stretch times the
+  -- distance, and twice an open passage
+  pub near : All (IsLineWithin (bound_of plan) (setting_of plan contents.homes)
+      (history_under contents plan)) (outcome_under contents plan).calls
+
+-- whether a command is built
+abbrev pub is_served : Command → Bool
+is_served Cover = true
+is_served Replay = true
+is_served Census = false
+is_served Run = false
+is_served (Make load) = false
+is_served (Trial load) = false
+
+-- what a command makes of an input
 abbrev pub IsResult : Command → Contents → List ℕ → Type 0
-IsResult Cover contents text = IsCover contents text
+IsResult Cover contents text = IsPlanText contents text
 IsResult Replay contents text = IsReport contents text
+IsResult Census contents text = ⊥
+IsResult Run contents text = ⊥
+IsResult (Make load) contents text = ⊥
+IsResult (Trial load) contents text = ⊥
 
--- the text that goes with a status
-abbrev pub IsAnswer : Command → Status → Contents → List ℕ → Type 0
-IsAnswer command statuses.Done contents text = IsResult command contents text
-IsAnswer command Refused contents text = IsRefusal contents text
-IsAnswer command BadWords contents text = ⊥
-IsAnswer command OutOfMemory contents text = ⊥
-IsAnswer command ReadFailed contents text = ⊥
-IsAnswer command WriteFailed contents text = ⊥
-IsAnswer command NotPlain contents text = ⊥
+-- the text that answers what bytes say, and the status that goes with it
+abbrev pub IsAnswer : Command → Result Contents InputFault → Status → List ℕ → Type 0
+IsAnswer command (Ok contents) status text = (status ≡ Done) × IsResult command contents text
+IsAnswer command (Err fault) status text =
+    (status ≡ Refused) × (text ≡ refused_line_of fault)
+
+-- the text of a command over these bytes, and the status that goes with it
+pub record IsText (command : Command) (bytes : List ℕ) (status : Status) (text : List ℕ) : Type 0 where
+  pub input : Result Contents InputFault
+  pub says : IsInput bytes input
+  pub answer : IsAnswer command input status text

@@ -1,11 +1,4 @@
-pub mod Contents
-pub mod Fields
-pub mod PlainText
-pub mod Reading
-pub mod Scripts
-pub mod Report
-pub mod FlatFinds
-pub mod Words
-pub mod Answers
 pub mod Transfer
-pub mod Command
+pub mod Answers
+pub mod Ends
+pub mod Laws

@@ -2,28 +2,35 @@
 use Rattle.std.specs.Prelude.{◌≡◌, ℕ, ◌<◌, ◌≤◌, List, ◌++◌, length, Option, IfSome}
 use Rattle.outside.specs.Bytes.{prepend_known, append_known, IsAtEnd}
 use Rattle.outside.specs.Calls.{HasFaulted}
-use Rattle.track.specs.declared.limits.TheConstants.{MAX_BYTES}
-use Rattle.track.specs.declared.status.Stop.{Stop}
-use Rattle.track.specs.declared.status.Stop.TheVariants.{OutOfMemory, ReadFailed, WriteFailed, NotPlain}
+use Rattle.net_reader.specs.Reading.{ReaderValue, StandsFor, most_bytes}
+use Rattle.track.specs.declared.status.Status.{Status}
+use Rattle.track.specs.declared.status.Status.TheVariants.{Done, Refused, BadWords, OutOfMemory, ReadFailed, WriteFailed, TooLong}
 
 -- what is left is an end of what was left
 pub record IsRest (before now : Option (List ℕ)) : Type 0 where
   pub front : List ℕ
   pub parts : before ≡ prepend_known front now
 
--- all that was left was read, nothing is left, and there was no fault
-pub record AllRead (bytes : List ℕ) (before now : Option (List ℕ)) (faults_before faults_now : ℕ) : Type 0 where
+-- the reader stands for all that was left, nothing is left, and there was no fault
+pub record IsAllRead (reader : ReaderValue) (before now : Option (List ℕ))
+    (faults_before faults_now : ℕ) : Type 0 where
+  pub bytes : List ℕ
+  pub stands : StandsFor reader bytes
   pub parts : before ≡ prepend_known bytes now
   pub end : IsAtEnd now
-  pub short : length bytes ≤ MAX_BYTES
+  pub short : length bytes ≤ most_bytes
   pub no_fault : faults_now ≡ faults_before
 
 -- why not all was read
-abbrev pub StopsReading : Stop → Option (List ℕ) → ℕ → ℕ → Type 0
+abbrev pub StopsReading : Status → Option (List ℕ) → ℕ → ℕ → Type 0
+StopsReading Done before faults_before faults_now = ⊥
+StopsReading Refused before faults_before faults_now = ⊥
+StopsReading BadWords before faults_before faults_now = ⊥
 StopsReading OutOfMemory before faults_before faults_now = faults_now ≡ faults_before
 StopsReading ReadFailed before faults_before faults_now = HasFaulted faults_before faults_now
 StopsReading WriteFailed before faults_before faults_now = ⊥
-StopsReading NotPlain before faults_before faults_now = IfSome before (λ bytes. MAX_BYTES < length bytes) × (faults_now ≡ faults_before)
+StopsReading TooLong before faults_before faults_now =
+    IfSome before (λ bytes. most_bytes < length bytes) × (faults_now ≡ faults_before)
 
 -- the text was written up to here
 pub record IsWrittenPart (text : List ℕ) (before now : Option (List ℕ)) : Type 0 where

@@ -1,99 +1,123 @@
-// The text that answers an input.
-ghost use Rattle.std.specs.Prelude.{◌≡◌, IfOk, length};
+//! The text that answers an input.
+ghost use Rattle.std.specs.Prelude.{◌≡◌, ℕ, List, IfOk, IfErr, true};
+ghost use Rattle.net_reader.specs.Reading.{StandsFor};
+ghost use Rattle.net_reader.specs.Seen.{seen_input};
+ghost use Rattle.net_reader.specs.Valid.{IsValid};
+ghost use Rattle.track.specs.declared.status.Status.TheVariants.{OutOfMemory};
 ghost use Rattle.net_graph.specs.Network.{IsGraphOf};
-ghost use Rattle.distances.specs.Table.{AreDistancesOf};
-ghost use Rattle.track.specs.Answers.{IsAnswer, IsCover, IsReport};
-ghost use Rattle.track.specs.Contents.{AreInLimits};
-ghost use Rattle.track.specs.PlainText.{rows_of};
-ghost use Rattle.track.specs.Reading.{view};
+ghost use Rattle.machine.specs.Machines.{result_of};
+ghost use Rattle.machine.specs.Stands.{BelongTogether};
+ghost use Rattle.track.specs.Answers.{IsPlanText, IsReport, IsResult, IsText, is_served, outcome_under};
 
-use crate::input::Input;
-use crate::outcome::make_outcome;
-use crate::report::{apart, report};
 use crate::status::Status;
-use crate::word_line::Command;
+use directory::all_scripts_done;
 use distances::Distances;
+use machine::{Machine, Outcome, scripts_are_valid};
 use net_graph::{Graph, GraphFault};
+use net_reader::{Input, ReadRefusal, Reader, inputs_are_valid};
 use region_plan::Plan;
-use report_text::plan_text;
+use report_text::{plan_text, refused_line, report};
 use std::alloc::{AllocError, Global};
+use stretch_laws::{plan_outcomes_are_near, plans_track};
+use trail_laws::outcomes_are_right;
+use word_line::Command;
 
 // A text, and the status that goes with it.
 #[derive(Debug, Drop)]
 pub(crate) struct Answer {
-    pub status: Status,
-    pub text: Vec<u8>,
+    pub(crate) status: Status,
+    pub(crate) text: Vec<u8>,
 }
 
-// How many lines a plain input has.
-fn line_count(input: &Input) -> usize
-    requires { AreInLimits (view input.now) }
-    ensures { result ≡ length (rows_of (view input.now)) }
+// The graph of an input's network.
+fn graph_of(alloc: Global, input: &Input) -> Result<Graph, AllocError>
+    requires { IsValid (seen_input input.now) }
+    ensures { IfOk result (IsGraphOf input.now.nodes input.now.edges.items) }
 {
-    4 + input.edges.len() + input.homes.len() + input.finds.len()
+    match Graph::new(alloc, input.nodes, &input.edges) {
+        Ok(graph) => Ok(graph),
+        Err(GraphFault::Apart { .. }) => unreachable!(),
+        Err(GraphFault::OutOfMemory) => Err(AllocError),
+    }
 }
 
-// The report of the finds, over the flat plan.
-fn replay(
-    alloc: Global,
-    graph: &Graph,
-    distances: &Distances,
-    input: &Input,
-) -> Result<Vec<u8>, AllocError>
-    requires graph { IsGraphOf input.now.nodes input.now.edges.items graph.now }
-    requires distances { AreDistancesOf graph.now distances.now }
-    requires limits { AreInLimits (view input.now) }
-    ensures { IfOk result (λ text. IsReport (view input.now) text.items) }
+// The text of the plan of an input's network.
+fn cover(alloc: Global, input: &Input) -> Result<Vec<u8>, AllocError>
+    requires { IsValid (seen_input input.now) }
+    ensures { IfOk result (λ text. IsPlanText (seen_input input.now) text.items) }
 {
-    let plan = Plan::flat(alloc, graph, distances)?;
-    let outcome = make_outcome(alloc, input, &plan)?;
-    let text = report(alloc, &outcome)?;
-    Ok(text.into_bytes())
-}
-
-// The plan of the network.
-fn cover(
-    alloc: Global,
-    graph: &Graph,
-    distances: &Distances,
-    input: &Input,
-) -> Result<Vec<u8>, AllocError>
-    requires graph { IsGraphOf input.now.nodes input.now.edges.items graph.now }
-    requires distances { AreDistancesOf graph.now distances.now }
-    requires limits { AreInLimits (view input.now) }
-    ensures { IfOk result (λ text. IsCover (view input.now) text.items) }
-{
-    let plan = Plan::build(alloc, graph, distances, input.k)?;
+    let graph = graph_of(alloc, input)?;
+    let distances = Distances::new(alloc, &graph)?;
+    let plan = Plan::build(alloc, &graph, &distances, input.k)?;
     plan_text(alloc, &plan)
 }
 
-// What the command answers to the input, or the line that refuses its network.
-pub(crate) fn make_answer(
-    alloc: Global,
-    command: Command,
-    input: &Input,
-) -> Result<Answer, AllocError>
-    requires { AreInLimits (view input.now) }
-    ensures { IfOk result (λ answer. IsAnswer command answer.status (view input.now) answer.text.items) }
+// The report of what becomes of an input's calls under its order.
+fn replay(alloc: Global, input: &Input) -> Result<Vec<u8>, AllocError>
+    requires { IsValid (seen_input input.now) }
+    ensures { IfOk result (λ text. IsReport (seen_input input.now) text.items) }
 {
-    let graph = match Graph::new(alloc, input.nodes, &input.edges) {
-        Ok(graph) => graph,
-        Err(GraphFault::Apart { node }) => {
-            let text = apart(alloc, line_count(input), node)?;
-            return Ok(Answer {
-                status: Status::Refused,
-                text: text.into_bytes(),
-            });
-        }
-        Err(GraphFault::OutOfMemory) => return Err(AllocError),
-    };
+    outcomes_are_right();
+    plans_track();
+    plan_outcomes_are_near();
+    scripts_are_valid();
+    let graph = graph_of(alloc, input)?;
     let distances = Distances::new(alloc, &graph)?;
-    let text = match command {
-        Command::Cover => cover(alloc, &graph, &distances, input)?,
-        Command::Replay => replay(alloc, &graph, &distances, input)?,
-    };
-    Ok(Answer {
-        status: Status::Done,
-        text,
-    })
+    let plan = Plan::build(alloc, &graph, &distances, input.k)?;
+    let outcome = play(alloc, input, &plan, &distances)?;
+    report(alloc, &outcome)
+}
+
+// What becomes of an input's calls under its order.
+fn play(
+    alloc: Global,
+    input: &Input,
+    plan: &Plan,
+    distances: &Distances,
+) -> Result<Outcome, AllocError>
+    requires { BelongTogether (seen_input input.now) plan.now distances.now }
+    ensures { IfOk result (λ outcome. result_of outcome
+        ≡ outcome_under (seen_input input.now) plan.now) }
+{
+    all_scripts_done();
+    let mut machine = Machine::new(alloc, input, plan, distances)?;
+    'order: for actor in &input.order {
+        machine.turn(*actor);
+    }
+    machine.finish();
+    Ok(machine.outcome())
+}
+
+// What a command makes of a valid input.
+fn result_of(alloc: Global, command: Command, input: &Input) -> Result<Vec<u8>, AllocError>
+    requires served { is_served command ≡ true }
+    requires valid { IsValid (seen_input input.now) }
+    ensures { IfOk result (λ text. IsResult command (seen_input input.now) text.items) }
+{
+    match command {
+        Command::Cover => cover(alloc, input),
+        Command::Replay => replay(alloc, input),
+        _ => unreachable!(),
+    }
+}
+
+// The text of a command over the bytes that the reader stands for.
+pub(crate) fn make_answer(alloc: Global, command: Command, reader: Reader) -> Result<Answer, Status>
+    requires served { is_served command ≡ true }
+    ensures text { IfOk result (λ answer. (bytes : List ℕ) → StandsFor reader bytes
+        → IsText command bytes answer.status answer.text.items) }
+    ensures stops { IfErr result (λ status. status ≡ OutOfMemory) }
+{
+    inputs_are_valid();
+    match reader.end(alloc) {
+        Ok(input) => Ok(Answer {
+            status: Status::Done,
+            text: result_of(alloc, command, &input)?,
+        }),
+        Err(ReadRefusal::Fault(fault)) => Ok(Answer {
+            status: Status::Refused,
+            text: refused_line(alloc, fault)?,
+        }),
+        Err(ReadRefusal::OutOfMemory) => Err(Status::OutOfMemory),
+    }
 }

@@ -1,23 +1,20 @@
-//! Laws of the definitions: each clause is a law, and the function does nothing.
-ghost use Rattle.std.specs.Prelude.{◌≡◌, ℕ, List};
-ghost use Rattle.track.specs.Command.{AnswersWith};
-ghost use Rattle.track.specs.Contents.{Contents};
-ghost use Rattle.track.specs.declared.status.Status.{Status};
-ghost use Rattle.track.specs.declared.word_line.Command.{Command};
-ghost use Rattle.track.specs.PlainText.{Says};
+//! What holds of every call. Each public function is a law, and does nothing.
+ghost use Rattle.track.specs.Laws.{BytesHaveOneText, IsComplete};
 
-use region_plan::{flat_is_one, plan_is_one};
+use net_reader::text_says_one;
+use region_plan::plan_is_one;
 
-/// Bytes say one input only.
-pub fn one_meaning()
-    ensures { (bytes : List ℕ) (one other : Contents) → Says bytes one → Says bytes other → one ≡ other }
-{}
-
-/// To a command, bytes have one answer only: one status, and one text.
-pub fn one_answer()
-    ensures { (command : Command) (bytes : List ℕ) (s t : Status) (one other : List ℕ)
-        → AnswersWith command s bytes one → AnswersWith command t bytes other → (s ≡ t) × (one ≡ other) }
+/// To a command, bytes have one text and one status only.
+pub fn bytes_have_one_text()
+    ensures { BytesHaveOneText }
 {
-    flat_is_one();
     plan_is_one();
+    text_says_one();
+}
+
+/// Where the bytes say an input, not too long, and nothing failed, the whole text was written, or memory was wanting.
+pub fn complete()
+    ensures { IsComplete }
+{
+    text_says_one();
 }

@@ -1,24 +1,14 @@
-//! The program `track` as one call: from the bytes of an input to the bytes of a report.
+//! The top call: what the program's words tell it to do, from the bytes read to the bytes written.
 #![tactic(auto)]
 
 mod answer;
-mod fault;
-mod fields;
-mod finding;
-mod input;
 mod laws;
-mod limits;
-mod outcome;
-mod plain;
-mod report;
-mod rows;
 mod status;
-#[cfg(test)]
-mod tests;
 mod top;
 mod transfer;
-mod word_line;
 
-pub use laws::{one_answer, one_meaning};
-pub use limits::{MAX_BYTES, MAX_CALLERS, MAX_CALLS, MAX_EDGES, MAX_K, MAX_NODES, MAX_SUBSCRIBERS};
+pub use laws::{bytes_have_one_text, complete};
 pub use top::command;
+
+#[cfg(test)]
+mod tests;

@@ -1,78 +1,49 @@
-// How a command ends.
+//! How the program ends.
 ghost use Rattle.std.specs.Prelude.{◌≡◌};
-ghost use Rattle.track.specs.declared.fault.ReadError.TheVariants as faults;
-ghost use Rattle.track.specs.declared.status.Stop.TheVariants as stops;
-ghost use Rattle.track.specs.Command.{number_of, status_of, stop_of};
+ghost use Rattle.track.specs.declared.status.Status.TheVariants.{OutOfMemory};
+ghost use Rattle.track.specs.Ends.{number_of};
 
-use crate::fault::ReadError;
 use std::alloc::{AllocError, AllocFailed};
 
-// Why a command stops before its end.
+/// The status that the program ends with.
 #[derive(Clone, Copy, Debug, PartialEq, Eq)]
-pub(crate) enum Stop {
-    OutOfMemory,
-    ReadFailed,
-    WriteFailed,
-    // The bytes are no plain input, or too many.
-    NotPlain,
-}
-
-impl From<AllocError> for Stop {
-    ghost from_gives = { λ _ e. e ≡ stops.OutOfMemory };
-
-    fn from(_: AllocError) -> Stop {
-        Stop::OutOfMemory
-    }
-}
-
-impl<T: Drop> From<AllocFailed<T>> for Stop {
-    ghost from_gives = { λ _ e. e ≡ stops.OutOfMemory };
-
-    fn from(_: AllocFailed<T>) -> Stop {
-        Stop::OutOfMemory
-    }
-}
-
-impl From<ReadError> for Stop {
-    ghost from_gives = { λ fault e. e ≡ stop_of fault };
-
-    fn from(fault: ReadError) -> Stop {
-        match fault {
-            ReadError::NotPlain => Stop::NotPlain,
-            ReadError::OutOfMemory => Stop::OutOfMemory,
-        }
-    }
-}
-
-// The status that a command ends with.
-#[derive(Clone, Copy, Debug, PartialEq, Eq)]
-pub(crate) enum Status {
+pub enum Status {
+    /// The whole text was written.
     Done = 0,
+    /// The line that refuses the input was written.
     Refused = 1,
+    /// The words are none of the forms; nothing was read or written.
     BadWords = 2,
+    /// Want of memory.
     OutOfMemory = 3,
+    /// A read failed; nothing was written.
     ReadFailed = 4,
+    /// A write failed; what was written begins the text.
     WriteFailed = 5,
-    NotPlain = 7,
+    /// The input is too long; nothing was written.
+    TooLong = 6,
 }
 
-impl From<Stop> for Status {
-    ghost from_gives = { λ stop status. status ≡ status_of stop };
+impl From<AllocError> for Status {
+    ghost from_gives = { λ _ e. e ≡ OutOfMemory };
 
-    fn from(stop: Stop) -> Status {
-        match stop {
-            Stop::OutOfMemory => Status::OutOfMemory,
-            Stop::ReadFailed => Status::ReadFailed,
-            Stop::WriteFailed => Status::WriteFailed,
-            Stop::NotPlain => Status::NotPlain,
-        }
+    fn from(_: AllocError) -> Self {
+        Status::OutOfMemory
+    }
+}
+
+impl<T: Drop> From<AllocFailed<T>> for Status {
+    ghost from_gives = { λ _ e. e ≡ OutOfMemory };
+
+    fn from(_: AllocFailed<T>) -> Self {
+        Status::OutOfMemory
     }
 }
 
 impl From<Status> for u8 {
     ghost from_gives = { λ status number. number ≡ number_of status };
 
-    fn from(status: Status) -> u8 {
+    fn from(status: Status) -> Self {
         status as u8
     }
 }

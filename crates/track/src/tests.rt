@@ -1,4 +1,4 @@
-// Whole runs over sources and sinks in memory: worked inputs with their reports, and what faults leave.
+// Whole runs over sources and sinks in memory: worked inputs with their texts, and what faults leave.
 ghost use Rattle.std.specs.Prelude.{◌≤◌};
 
 use crate::command;
@@ -17,7 +17,7 @@ struct Ran {
 #[derive(Drop)]
 struct Run<'a> {
     words: &'a [&'a str],
-    input: &'a str,
+    input: &'a [u8],
     most: usize,
     failing_reads: &'a [u64],
     failing_writes: &'a [u64],
@@ -32,7 +32,7 @@ fn perform(alloc: Global, run: &Run<'_>) -> Result<Ran, Fail>
     for word in run.words {
         words.push(String::from_str(alloc, word)?)?;
     }
-    let input = Vec::from_slice(alloc, run.input.as_bytes())?;
+    let input = Vec::from_slice(alloc, run.input)?;
     let failing = Vec::from_slice(alloc, run.failing_reads)?;
     let mut source = MemorySource::new(input, run.most, failing);
     let failing = Vec::from_slice(alloc, run.failing_writes)?;
@@ -45,149 +45,86 @@ fn perform(alloc: Global, run: &Run<'_>) -> Result<Ran, Fail>
     })
 }
 
-// A run of a word without faults.
-fn answer_to(alloc: Global, word: &str, input: &str) -> Result<Ran, Fail> {
+// A run of `cover` at so many bytes a call, some of whose calls fail.
+fn cover(
+    alloc: Global,
+    input: &[u8],
+    most: usize,
+    failing_reads: &[u64],
+    failing_writes: &[u64],
+) -> Result<Ran, Fail>
+    requires { 1 ≤ most }
+{
     perform(
         alloc,
         &Run {
-            words: &[word],
+            words: &["cover"],
             input,
-            most: ROOM,
-            failing_reads: &[],
-            failing_writes: &[],
+            most,
+            failing_reads,
+            failing_writes,
         },
     )
 }
 
-const TWO_NODES: &str = "track 1\nnodes 2\nk 2\nedge 0 1 1\nsub 1\ncallers 1\nfind 1 0 0\n";
+const TWO_NODES: &str = "track 1\nnodes 2\nk 1\nedge 0 1 1\nsub 0\ncallers 1\nfind 1 0 0\n";
 
-const TWO_NODES_REPORT: &str =
-    "find 1 0 0 at 1 number 0 level 0 weight 1 first 0 last 2\norder 1 1 1\nend 3\n";
-
-// The plan of two nodes joined by one edge, k being 1.
+// Its plan has two clusters of both nodes.
 const TWO_PHASES: &str =
     "plan nodes 2 k 1 levels 1 degree 2 stretch 56\nlevel 0 radius 1 clusters 2 phases 2\ncluster 0 phase 0 leader 0 depth 1 members 0 1\ncluster 1 phase 1 leader 1 depth 1 members 0 1\nhomes 0 1\nend\n";
 
 #[test]
 fn worked_inputs(rt: HostRuntime) -> Result<(), Fail> {
     let rows = [
-        (TWO_NODES, 0, TWO_NODES_REPORT),
+        (TWO_NODES, 0, TWO_PHASES),
         (
-            "track 1\nnodes 1\nk 1\nsub 0\ncallers 1\nfind 1 0 0\n",
-            0,
-            "find 1 0 0 at 0 number 0 level - weight 0 first 0 last 0\norder 1\nend 1\n",
-        ),
-        (
-            "track 1\nnodes 4\nk 2\nedge 0 1 1\nedge 1 2 1\nedge 2 3 1\nsub 3\ncallers 1\nfind 1 0 0\n",
-            0,
-            "find 1 0 0 at 3 number 0 level 0 weight 3 first 0 last 2\norder 1 1 1\nend 3\n",
-        ),
-        (
-            "track 1\nnodes 4\nk 2\nedge 0 1 1\nedge 1 2 1\nedge 2 3 1\nsub 3\ncallers 1\n",
-            0,
-            "end 0\n",
-        ),
-        (
-            "track 1\nnodes 3\nk 2\nedge 0 1 1\nsub 0\ncallers 0\n",
-            1,
-            "refused 6 apart 2\n",
-        ),
-        // Two callers, whose finds are mixed: the lighter of two edges counts, and one find starts at its subscriber's home.
-        (
-            "track 1\nnodes 3\nk 1\nedge 0 1 7\nedge 1 0 2\nedge 1 2 5\nsub 2\nsub 0\ncallers 2\nfind 3 1 0\nfind 2 1 1\nfind 3 0 1\n",
-            0,
-            "find 2 1 1 at 0 number 0 level 0 weight 2 first 0 last 2\nfind 3 1 0 at 2 number 0 level 0 weight 9 first 3 last 5\nfind 3 0 1 at 0 number 0 level - weight 0 first 6 last 6\norder 2 2 2 3 3 3 3\nend 7\n",
-        ),
-    ];
-    for (input, status, text) in rows {
-        let ran = answer_to(rt.alloc(), "replay", input)?;
-        assert_eq!(rt; ran.status, status, "{input}");
-        assert_eq!(rt; ran.written.as_slice(), text.as_bytes(), "{input}");
-    }
-    Ok(())
-}
-
-#[test]
-fn worked_plans(rt: HostRuntime) -> Result<(), Fail> {
-    let rows = [
-        (
-            "track 1\nnodes 2\nk 1\nedge 0 1 1\nsub 0\ncallers 0\n",
-            0,
-            TWO_PHASES,
-        ),
-        (
-            "track 1\nnodes 1\nk 1\nsub 0\ncallers 1\nfind 1 0 0\n",
+            "track 2\r\nnodes 1\r\nk 1\r\n# one node\r\nsub 0\r\ncallers 0\r\noff 0",
             0,
             "plan nodes 1 k 1 levels 1 degree 1 stretch 40\nlevel 0 radius 1 clusters 1 phases 1\ncluster 0 phase 0 leader 0 depth 0 members 0\nhomes 0\nend\n",
         ),
+        ("", 1, "refused 0 unfinished\n"),
+        ("track 1\nnodes 2\nnodes 2\n", 1, "refused 3 form\n"),
         (
             "track 1\nnodes 3\nk 2\nedge 0 1 1\nsub 0\ncallers 0\n",
             1,
             "refused 6 apart 2\n",
         ),
-        ("track 1\nnodes 3\nk 0\nsub 0\ncallers 0\n", 7, ""),
     ];
     for (input, status, text) in rows {
-        let ran = answer_to(rt.alloc(), "cover", input)?;
-        assert_eq!(rt; ran.status, status, "{input}");
-        assert_eq!(rt; ran.written.as_slice(), text.as_bytes(), "{input}");
+        for most in [1, 7, 64] {
+            let ran = cover(rt.alloc(), input.as_bytes(), most, &[], &[])?;
+            assert_eq!(rt; ran.status, status, "{input}");
+            assert_eq!(rt; ran.written.as_slice(), text.as_bytes(), "{input}");
+        }
+    }
+    Ok(())
+}
+
+// An input may have 4,194,304 bytes and no more.
+#[test]
+fn longest_input(rt: HostRuntime) -> Result<(), Fail> {
+    let alloc = rt.alloc();
+    for (length, status, text) in [(4_194_304, 1, "refused 1 unfinished\n"), (4_194_305, 6, "")] {
+        let input = vec![in alloc; b'#'; length]?;
+        let ran = cover(alloc, &input, 100_000, &[], &[])?;
+        assert_eq!(rt; ran.status, status);
+        assert_eq!(rt; ran.written.as_slice(), text.as_bytes());
     }
     Ok(())
 }
 
 #[test]
-fn inputs_that_are_not_plain(rt: HostRuntime) -> Result<(), Fail> {
-    let inputs = [
-        "",
-        "track 2\nnodes 2\nk 2\nedge 0 1 1\nsub 1\ncallers 1\n",
-        "track 1\nnodes 0\nk 2\nsub 0\ncallers 1\n",
-        "track 1\nnodes 257\nk 2\nsub 0\ncallers 1\n",
-        "track 1\nnodes 2\nk 9\nedge 0 1 1\nsub 1\ncallers 1\n",
-        "track 1\nnodes 2\nk 2\nedge 0 2 1\nsub 1\ncallers 1\n",
-        "track 1\nnodes 2\nk 2\nedge 0 1 0\nsub 1\ncallers 1\n",
-        "track 1\nnodes 2\nk 2\nedge 0 1 1048577\nsub 1\ncallers 1\n",
-        "track 1\nnodes 2\nk 2\nedge 0 1 1\ncallers 1\n",
-        "track 1\nnodes 2\nk 2\nedge 0 1 1\nsub 2\ncallers 1\n",
-        "track 1\nnodes 2\nk 2\nedge 0 1 1\nsub 1\ncallers 65\n",
-        "track 1\nnodes 2\nk 2\nedge 0 1 1\nsub 1\ncallers 1\nfind 0 0 0\n",
-        "track 1\nnodes 2\nk 2\nedge 0 1 1\nsub 1\ncallers 1\nfind 2 0 0\n",
-        "track 1\nnodes 2\nk 2\nedge 0 1 1\nsub 1\ncallers 1\nfind 1 2 0\n",
-        "track 1\nnodes 2\nk 2\nedge 0 1 1\nsub 1\ncallers 1\nfind 1 0 1\n",
-        "track 1\nnodes 2\nk 2\nedge 0 1 1\nsub 1\ncallers 1\nmove 0 0\n",
-        "track 1\nnodes 2\nnodes 2\nk 2\nedge 0 1 1\nsub 1\ncallers 1\n",
-        "track 1\n\nnodes 2\nk 2\nedge 0 1 1\nsub 1\ncallers 1\n",
-        "track 1\n# two nodes\nnodes 2\nk 2\nedge 0 1 1\nsub 1\ncallers 1\n",
-        "track 1\r\nnodes 2\r\nk 2\r\nedge 0 1 1\r\nsub 1\r\ncallers 1\r\n",
-        "track  1\nnodes 2\nk 2\nedge 0 1 1\nsub 1\ncallers 1\n",
-        "track 1\nnodes 2\nk 2\nedge 0 1 1\nsub 1\ncallers 1\nfind 1 0 0",
-        "track 0000000000000000001\nnodes 2\nk 2\nedge 0 1 1\nsub 1\ncallers 1\n",
-    ];
-    for input in inputs {
-        let ran = answer_to(rt.alloc(), "replay", input)?;
-        assert_eq!(rt; ran.status, 7, "{input}");
-        assert!(rt; ran.written.is_empty(), "{input}");
-    }
-    Ok(())
-}
-
-#[test]
-fn words_of_no_form(rt: HostRuntime) -> Result<(), Fail> {
-    let forms: [&[&str]; 5] = [
-        &[],
-        &["replay", "x"],
-        &["cover", "replay"],
-        &["--help"],
-        &["Cover"],
-    ];
+fn words_that_are_refused(rt: HostRuntime) -> Result<(), Fail> {
+    let forms: [&[&str]; 5] = [&[], &["cover", "x"], &["--help"], &["Cover"], &["run"]];
     for words in forms {
         let ran = perform(
             rt.alloc(),
             &Run {
                 words,
-                input: TWO_NODES,
+                input: TWO_NODES.as_bytes(),
                 most: ROOM,
-                failing_reads: &[],
-                failing_writes: &[],
+                failing_reads: &[0],
+                failing_writes: &[0],
             },
         )?;
         assert_eq!(rt; ran.status, 2);
@@ -196,44 +133,24 @@ fn words_of_no_form(rt: HostRuntime) -> Result<(), Fail> {
     Ok(())
 }
 
-// A run at ten bytes a call, some of whose calls fail.
-fn run_slowly(alloc: Global, failing_reads: &[u64], failing_writes: &[u64]) -> Result<Ran, Fail> {
-    perform(
-        alloc,
-        &Run {
-            words: &["replay"],
-            input: TWO_NODES,
-            most: 10,
-            failing_reads,
-            failing_writes,
-        },
-    )
-}
-
-// Each call of the source fails in turn, the one that tells the end too.
+// Each call of the source fails in turn, the one that tells the end too, and each call of the sink, which leaves what was
+// written before it.
 #[test]
-fn faults_at_every_read(rt: HostRuntime) -> Result<(), Fail> {
-    for call in 0..7u64 {
-        let ran = run_slowly(rt.alloc(), &[call], &[])?;
-        assert_eq!(rt; ran.status, 4, "read {call}");
-        assert!(rt; ran.written.is_empty(), "read {call}");
-    }
-    assert_eq!(rt; run_slowly(rt.alloc(), &[7], &[])?.status, 0);
-    Ok(())
-}
-
-// Each call of the sink fails in turn, and leaves what was written before it.
-#[test]
-fn faults_at_every_write(rt: HostRuntime) -> Result<(), Fail> {
+fn faults_at_every_call(rt: HostRuntime) -> Result<(), Fail> {
+    let input = TWO_NODES.as_bytes();
     for call in 0..8u64 {
-        let ran = run_slowly(rt.alloc(), &[], &[call])?;
+        let ran = cover(rt.alloc(), input, 10, &[call], &[])?;
+        let status = if call < 7 { 4 } else { 0 };
+        assert_eq!(rt; ran.status, status, "read {call}");
+    }
+    for call in 0..20u64 {
+        let ran = cover(rt.alloc(), input, 10, &[], &[call])?;
         assert_eq!(rt; ran.status, 5, "write {call}");
         assert_eq!(rt; ran.written.len() as u64, 10 * call, "write {call}");
         assert!(rt;
-            TWO_NODES_REPORT.as_bytes().starts_with(&ran.written),
+            TWO_PHASES.as_bytes().starts_with(&ran.written),
             "write {call}"
         );
     }
-    assert_eq!(rt; run_slowly(rt.alloc(), &[], &[8])?.status, 0);
     Ok(())
 }

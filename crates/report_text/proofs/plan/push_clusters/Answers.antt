@@ -1,7 +1,7 @@
 use Rattle.std.proofs.Common.{◌++◌, string_bytes, arith}
 use Rattle.region_plan.specs.Plan.{level_at, nodes_of}
 use Rattle.report_text.specs.PlanText.{clusters_text}
-use Rattle.report_text.proofs.Lines.{clusters_more, clusters_all}
+use Rattle.report_text.proofs.ManyLines.{clusters_more, clusters_all}
 use Rattle.report_text.proofs.plan.push_clusters.Goals as goal
 
 pub loop-cluster-preserved : goal.loop-cluster-preserved

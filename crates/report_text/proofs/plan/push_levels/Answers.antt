@@ -1,7 +1,7 @@
 use Rattle.std.proofs.Common.{◌++◌, string_bytes, arith}
 use Rattle.region_plan.specs.Plan.{nodes_of}
 use Rattle.report_text.specs.PlanText.{levels_text}
-use Rattle.report_text.proofs.Lines.{levels_more, levels_all}
+use Rattle.report_text.proofs.ManyLines.{levels_more, levels_all}
 use Rattle.report_text.proofs.plan.push_levels.Goals as goal
 
 pub loop-level-preserved : goal.loop-level-preserved

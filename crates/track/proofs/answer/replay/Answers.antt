@@ -1,25 +1,21 @@
-use Rattle.std.proofs.Common.{ap, refl, subst, ◌∙◌}
-use Rattle.region_plan.specs.Kept.{IsKept}
-use Rattle.region_plan.specs.Plan.{PlanData}
-use Rattle.std.specs.Prelude.{All}
-use Rattle.directory.specs.Outcomes.{Outcome}
-use Rattle.track.specs.Answers.{NamesStanding}
-use Rattle.track.specs.Reading.{view}
-use Rattle.track.specs.Report.{report_of}
-use Rattle.track.proofs.Answering.{connected_of, flat_of_graph}
+use Rattle.std.proofs.Common.{◌≡◌, ap, ◌∙◌}
+use Rattle.report_text.specs.ReportText.{report_of}
+use Rattle.machine.specs.Machines.{result_of}
+use Rattle.net_reader.specs.Seen.{seen_input}
+use Rattle.track.specs.Answers.{IsReport}
+use Rattle.track.proofs.Answering.{if_ok, plan_of_graph}
+use Rattle.track.proofs.Replaying.{report-says}
 use Rattle.track.proofs.answer.replay.Goals as goal
-
-pub make_outcome-requires-clause-plan : goal.make_outcome-requires-clause-plan
-make_outcome-requires-clause-plan c = record { network = c.args.graph.now; graph = c.requires.graph; flat = c.in_ok-plan.ensures.plan; kept = subst (λ (p : PlanData). IsKept p) c.plan.view_is c.plan.invariant.kept }
 
 pub returns : goal.returns
 returns c =
-    let contents = view c.args.input.now in
+    let input = c.args.input.now in
+    let contents = seen_input input in
     let plan = c.in_ok-plan.plan in
-    record {
-      connected = connected_of c.args.input.now.nodes c.args.input.now.edges.items c.args.input.now.edges.items c.args.graph.now refl c.requires.graph;
-      plan = plan;
-      flat = flat_of_graph contents c.args.graph.now plan c.requires.graph c.in_ok-plan.ensures.plan;
-      report = ap (λ v. v.items) c.into_bytes.ensures.value ∙ c.in_ok-text.ensures ∙ ap report_of c.in_ok-outcome.ensures.outcome;
-      right = subst (λ (o : Outcome). All (NamesStanding contents) o.calls) c.in_ok-outcome.ensures.outcome c.in_ok-outcome.ensures.right;
-    }
+    if_ok c.report.result (λ text. text.items ≡ report_of (result_of c.in_ok-outcome.outcome))
+    (λ text. IsReport contents text.items) (λ text is. report-says c.outcomes_are_right.ensures.lines
+    c.plans_track.ensures c.plan_outcomes_are_near.ensures c.scripts_are_valid.ensures contents plan text.items
+    c.requires
+    (plan_of_graph contents c.in_ok-graph.graph input.k plan c.in_ok-graph.ensures c.in_ok-plan.ensures.plan)
+    (ap (λ d. d.nodes) c.in_ok-plan.ensures.copy ∙ (c.in_ok-distances.ensures.nodes ∙ c.in_ok-graph.ensures.nodes))
+    c.in_ok-plan.ensures.bounding (is ∙ ap report_of c.in_ok-outcome.ensures)) c.report.ensures

@@ -1,12 +1,24 @@
-use Rattle.std.proofs.Common.{◌++◌, take, sym, ap, ◌∙◌}
+use Rattle.std.proofs.Common.{◌++◌, take, sym, ap, ◌∙◌, arith, length-append, length-take}
 use Rattle.outside.specs.Bytes.{prepend_known, prepend_known-append}
 use Rattle.track.proofs.transfer.read_all.Goals as goal
 
-pub returns-in_err-extend_from_slice-in-Got-clause-rest :
-    goal.returns-in_err-extend_from_slice-in-Got-clause-rest
-returns-in_err-extend_from_slice-in-Got-clause-rest g c =
-    let piece = take c.in-Got.count c.read.new.into in
+pub returns-in_err-feed-in-Got-clause-rest : goal.returns-in_err-feed-in-Got-clause-rest
+returns-in_err-feed-in-Got-clause-rest g c =
+    let bytes = c.pieces.invariant.bytes in
+    let piece = take c.in-Got.more c.read.new.into in
     record {
-      front = c.pieces.bytes.items ++ piece;
-      parts = c.pieces.invariant.parts ∙ ap (prepend_known c.pieces.bytes.items) c.in-Got.ensures.bytes ∙ sym (prepend_known-append c.pieces.bytes.items piece (g.S.Source.left c.read.new.self));
+      front = bytes ++ piece;
+      parts = c.pieces.invariant.parts ∙ ap (prepend_known bytes) c.in-Got.ensures.bytes ∙ sym (prepend_known-append bytes piece (g.S.Source.left c.read.new.self));
+    }
+
+pub pieces-preserved : goal.pieces-preserved
+pieces-preserved g c =
+    let bytes = c.pieces.invariant.bytes in
+    let piece = take c.in-Got.more c.read.new.into in
+    record {
+      bytes = bytes ++ piece;
+      stands = c.in_ok-feed-in-Got.ensures.fed bytes c.pieces.invariant.stands;
+      count = omega (arith, c.pieces.invariant.count, c.in-Got.ensures.within, length-append bytes piece, length-take c.in-Got.more c.read.new.into);
+      parts = c.pieces.invariant.parts ∙ ap (prepend_known bytes) c.in-Got.ensures.bytes ∙ sym (prepend_known-append bytes piece (g.S.Source.left c.read.new.self));
+      no_fault = c.in-Got.ensures.count ∙ c.pieces.invariant.no_fault;
     }

@@ -1,0 +1,7 @@
+-- What the worked examples are made of.
+use Rattle.std.specs.Prelude.{ℕ, zero, suc, List, [], ◌∷◌}
+
+-- so many zeros
+abbrev pub zeros : ℕ → List ℕ
+zeros zero = []
+zeros (suc count) = 0 ∷ zeros count

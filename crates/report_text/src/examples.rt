@@ -1,0 +1,41 @@
+//! Worked examples, computed: each kind of line.
+ghost use Rattle.std.specs.Prelude.{◌≡◌, ◌++◌, [], ◌∷◌, length, map, Some, None, true, false, codes};
+ghost use Rattle.directory.specs.declared.answers.Done.TheVariants.{Moved, Switched, Found, Off, Again};
+ghost use Rattle.directory.specs.declared.answers.Why.TheVariants.{Empty, NoEntry, Chased};
+ghost use Rattle.net_reader.specs.declared.fault.InputCause.TheVariants.{TooLarge, Apart};
+ghost use Rattle.report_text.specs.ReportText.{call_line, end_line, order_lines, refused_line_of, report_of};
+ghost use Rattle.report_text.specs.Examples.{zeros};
+
+/// The line of a call of each kind.
+pub fn example_calls()
+    ensures moved { call_line (Moved 0 1 3 2 1 0 3 5)
+        ≡ codes "move 0 1 3 2 weight 1 first 0 commit 3 last 5" ++ 10 ∷ [] }
+    ensures found { call_line (Found 1 2 0 3 0 (Some 0) 5 0 3)
+        ≡ codes "find 1 2 0 at 3 number 0 level 0 weight 5 first 0 last 3" ++ 10 ∷ [] }
+    ensures near { call_line (Found 1 2 0 2 1 None 2 4 6)
+        ≡ codes "find 1 2 0 at 2 number 1 level - weight 2 first 4 last 6" ++ 10 ∷ [] }
+    ensures off { call_line (Off 1 2 0 3 0 (Some 10) 5 1 4)
+        ≡ codes "off 1 2 0 at 3 number 0 level 10 weight 5 first 1 last 4" ++ 10 ∷ [] }
+    ensures switched_off { call_line (Switched 0 true 3 0 0)
+        ≡ codes "switch 0 off 3 number 0 ticket 0" ++ 10 ∷ [] }
+    ensures switched_on { call_line (Switched 0 false 3 0 2)
+        ≡ codes "switch 0 on 3 number 0 ticket 2" ++ 10 ∷ [] }
+    ensures empty { call_line (Again 1 3 0 (Empty 2) 5 6 16)
+        ≡ codes "again 1 3 0 empty 2 weight 5 first 6 last 16" ++ 10 ∷ [] }
+    ensures no_entry { call_line (Again 1 3 0 NoEntry 5 6 16)
+        ≡ codes "again 1 3 0 none weight 5 first 6 last 16" ++ 10 ∷ [] }
+    ensures chased { call_line (Again 1 3 0 Chased 5 6 16)
+        ≡ codes "again 1 3 0 chased weight 5 first 6 last 16" ++ 10 ∷ [] }
+{}
+
+/// Reports and refusals.
+pub fn example_lines()
+    ensures nothing { report_of (record { calls = []; order = [] }) ≡ codes "end 0" ++ 10 ∷ [] }
+    ensures order { order_lines (0 ∷ 1 ∷ 10 ∷ []) ≡ (codes "order 0 1 10" ++ 10 ∷ []) ∷ [] }
+    ensures full { map (λ line. length line) (order_lines (zeros 64)) ≡ 134 ∷ [] }
+    ensures more { map (λ line. length line) (order_lines (zeros 129)) ≡ 134 ∷ 134 ∷ 8 ∷ [] }
+    ensures refused { refused_line_of (record { line = 4; cause = TooLarge })
+        ≡ codes "refused 4 too-large" ++ 10 ∷ [] }
+    ensures apart { refused_line_of (record { line = 6; cause = Apart 2 })
+        ≡ codes "refused 6 apart 2" ++ 10 ∷ [] }
+{}

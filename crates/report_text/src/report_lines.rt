@@ -1,0 +1,254 @@
+//! The text of a report, line by line.
+ghost use Rattle.std.specs.Prelude.{◌≡◌, ◌⊎◌, ◌≤◌, ◌+◌, ◌++◌, ◌∷◌, [], length, drop, true, false, IfOk, IfSome, IfNone};
+ghost use types.Logic.{sem};
+ghost use mir.Syntax.{named};
+ghost use Rattle.std.specs.Io.BufRead.{Rests};
+ghost use Rattle.report_text.specs.contracts.report_lines.Lines.{the_row};
+ghost use Rattle.report_text.specs.ReportText.{call_line, order_line, place_fields, report_lines, report_of, visit_fields, why_field};
+ghost use Rattle.machine.specs.Machines.{result_of};
+
+use crate::line::Line;
+use directory::{Done, Why};
+use machine::Outcome;
+use std::alloc::{AllocError, Global};
+use std::marker::Model;
+
+const MOST_ON_A_LINE: usize = 64;
+
+// Where a find answers.
+fn write_place(line: &mut Line, node: u32, number: u32, level: Option<u32>)
+    requires { length line.old ≤ 200 }
+    ensures text { line.new ≡ line.old ++ place_fields node number level }
+    ensures long { length line.new ≤ length line.old + 200 }
+{
+    line.labelled(" at", u64::from(node));
+    line.labelled(" number", u64::from(number));
+    match level {
+        Some(level) => line.labelled(" level", u64::from(level)),
+        None => line.word(" level -"),
+    }
+}
+
+// What a find weighs, and its first ticket and its last.
+fn write_visits(line: &mut Line, weight: u64, first: u64, last: u64)
+    requires { length line.old ≤ 500 }
+    ensures { line.new ≡ line.old ++ visit_fields weight first last }
+{
+    line.labelled(" weight", weight);
+    line.labelled(" first", first);
+    line.labelled(" last", last);
+    line.word("\n");
+}
+
+// Why a find has to be made again.
+fn write_why(line: &mut Line, why: Why)
+    requires { length line.old ≤ 200 }
+    ensures text { line.new ≡ line.old ++ why_field why }
+    ensures long { length line.new ≤ length line.old + 50 }
+{
+    match why {
+        Why::Empty { node } => line.labelled(" empty", u64::from(node)),
+        Why::NoEntry => line.word(" none"),
+        Why::Chased => line.word(" chased"),
+    }
+}
+
+// The line of a call.
+fn write_call(line: &mut Line, call: &Done)
+    requires { line.old ≡ [] }
+    ensures { line.new ≡ call_line call.now }
+{
+    match *call {
+        Done::Moved {
+            actor,
+            number,
+            from,
+            to,
+            weight,
+            first,
+            commit,
+            last,
+        } => {
+            line.word("move");
+            line.numbers(&[actor, number, from, to]);
+            line.labelled(" weight", weight);
+            line.labelled(" first", first);
+            line.labelled(" commit", commit);
+            line.labelled(" last", last);
+            line.word("\n");
+        }
+        Done::Switched {
+            actor,
+            off,
+            node,
+            number,
+            ticket,
+        } => {
+            line.word("switch");
+            line.number(u64::from(actor));
+            line.word(if off { " off" } else { " on" });
+            line.number(u64::from(node));
+            line.labelled(" number", u64::from(number));
+            line.labelled(" ticket", ticket);
+            line.word("\n");
+        }
+        Done::Found {
+            actor,
+            from,
+            sub,
+            node,
+            number,
+            level,
+            weight,
+            first,
+            last,
+        } => {
+            line.word("find");
+            line.numbers(&[actor, from, sub]);
+            write_place(line, node, number, level);
+            write_visits(line, weight, first, last);
+        }
+        Done::Off {
+            actor,
+            from,
+            sub,
+            node,
+            number,
+            level,
+            weight,
+            first,
+            last,
+        } => {
+            line.word("off");
+            line.numbers(&[actor, from, sub]);
+            write_place(line, node, number, level);
+            write_visits(line, weight, first, last);
+        }
+        Done::Again {
+            actor,
+            from,
+            sub,
+            why,
+            weight,
+            first,
+            last,
+        } => {
+            line.word("again");
+            line.numbers(&[actor, from, sub]);
+            write_why(line, why);
+            write_visits(line, weight, first, last);
+        }
+    }
+}
+
+// The line of these actors, which are at most 64.
+fn write_order(line: &mut Line, actors: &[u32])
+    requires empty { line.old ≡ [] }
+    requires few { length actors.now ≤ 64 }
+    ensures { line.new ≡ order_line actors.now }
+{
+    line.word("order");
+    line.numbers(actors);
+    line.word("\n");
+}
+
+// How many actors the next line has, where so many are left.
+fn count_on_line(left: usize) -> usize
+    ensures few { result ≤ 64 }
+    ensures within { result ≤ left }
+    ensures most { (result ≡ 64) ⊎ (result ≡ left) }
+{
+    left.min(MOST_ON_A_LINE)
+}
+
+/// The lines of a report, one after another. It takes its memory at once, and keeps one line.
+#[derive(Debug, Drop)]
+pub struct Lines<'a> {
+    calls: &'a [Done],
+    order: &'a [u32],
+    visits: u64,
+    ended: bool,
+    line: Line,
+}
+
+impl<'a> Model for Lines<'a> {
+    ghost use Rattle.report_text.specs.Written.{LinesState, lines_left};
+
+    ghost Value = { LinesState };
+
+    ghost view = { λ l. record {
+      line = l.line;
+      left = lines_left l.calls.now l.order.now l.visits l.ended;
+    } };
+}
+
+impl<'a> Lines<'a> {
+    /// All lines of the report of an outcome.
+    pub fn new(alloc: Global, outcome: &'a Outcome) -> Result<Lines<'a>, AllocError>
+        ensures { IfOk result (λ lines. lines.left ≡ report_lines (result_of outcome.now)) }
+    {
+        Ok(Lines {
+            calls: &outcome.calls,
+            order: &outcome.order,
+            visits: outcome.order.len() as u64,
+            ended: false,
+            line: Line::new(alloc)?,
+        })
+    }
+
+    // Makes the next line, and answers whether there was one left.
+    fn advance(&mut self) -> bool
+        ensures line { result ≡ true → self.old.left ≡ self.new.line ∷ self.new.left }
+        ensures none { result ≡ false → (self.old.left ≡ []) × (self.new.left ≡ []) }
+    {
+        self.line.clear();
+        if let [call, calls @ ..] = self.calls {
+            write_call(&mut self.line, call);
+            self.calls = calls;
+        } else if !self.order.is_empty() {
+            let (actors, order) = self.order.split_at(count_on_line(self.order.len()));
+            write_order(&mut self.line, actors);
+            self.order = order;
+        } else if !self.ended {
+            self.line.labelled("end", self.visits);
+            self.line.word("\n");
+            self.ended = true;
+        } else {
+            return false;
+        }
+        true
+    }
+
+    // The line that was made last, with its line feed.
+    fn line(&self) -> &[u8]
+        ensures { result.now ≡ self.now.line }
+    {
+        self.line.bytes()
+    }
+
+    /// The next line with its line feed, and None where none is left. It takes no memory.
+    pub fn next_line(&mut self) -> Option<&[u8]>
+        ensures line { IfSome result (λ line. self.old.left ≡ line.now ∷ drop 1 self.old.left) }
+        ensures none { IfNone result (self.old.left ≡ []) }
+        ensures* after { sem 𝓛 (Rests (the_row (record { mir = named 1; lft = [] })) self.entry
+            (λ new. new.left ≡ drop 1 self.old.left)) }
+    {
+        if self.advance() {
+            Some(self.line())
+        } else {
+            None
+        }
+    }
+}
+
+/// The text of the report of an outcome.
+pub fn report(alloc: Global, outcome: &Outcome) -> Result<Vec<u8>, AllocError>
+    ensures { IfOk result (λ text. text.items ≡ report_of (result_of outcome.now)) }
+{
+    let mut lines = Lines::new(alloc, outcome)?;
+    let mut text = Vec::new(alloc);
+    'lines: while let Some(line) = lines.next_line() {
+        text.extend_from_slice(line)?;
+    }
+    Ok(text)
+}

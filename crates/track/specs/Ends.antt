@@ -1,0 +1,101 @@
+-- How a call ends: its status, and what that says of the words, of the source and of the sink. Key laws: `complete`, and
+-- `bytes_have_one_text`, by which the text that was written is the only right one.
+use Rattle.std.specs.Prelude.{◌≡◌, ℕ, ◌<◌, List, length, Option, Some, None, IfSome, Bool, true, false}
+use Rattle.outside.specs.Bytes.{append_known, IsAtEnd}
+use Rattle.outside.specs.Calls.{HasFaulted}
+use Rattle.net_reader.specs.Reading.{most_bytes}
+use Rattle.word_line.specs.declared.command.Command.{Command}
+use Rattle.track.specs.declared.status.Status.{Status}
+use Rattle.track.specs.declared.status.Status.TheVariants.{Done, Refused, BadWords, OutOfMemory, ReadFailed, WriteFailed, TooLong}
+use Rattle.track.specs.Answers.{IsText, is_served}
+use Rattle.track.specs.Transfer.{IsWrittenPart}
+
+-- what stands before and after a call: the bytes left, the source's count of faults, the bytes written, the sink's
+pub record Outside : Type 0 where
+  pub left : Option (List ℕ)
+  pub read_faults : ℕ
+  pub written : Option (List ℕ)
+  pub write_faults : ℕ
+
+-- the parts of the outside in order
+abbrev pub outside : Option (List ℕ) → ℕ → Option (List ℕ) → ℕ → Outside
+outside left read_faults written write_faults =
+    record {
+      left = left;
+      read_faults = read_faults;
+      written = written;
+      write_faults = write_faults;
+    }
+
+-- the text of the bytes that were left was written whole
+pub record IsWritten (command : Command) (status : Status) (bytes : List ℕ)
+    (before now : Option (List ℕ)) : Type 0 where
+  pub text : List ℕ
+  pub right : IsText command bytes status text
+  pub written : now ≡ append_known before text
+
+-- a front of it was written
+pub record IsBegun (command : Command) (bytes : List ℕ)
+    (before now : Option (List ℕ)) : Type 0 where
+  pub status : Status
+  pub text : List ℕ
+  pub right : IsText command bytes status text
+  pub part : IsWrittenPart text before now
+
+-- nothing was written, and the sink didn't fail
+abbrev pub IsSilent : Outside → Outside → Type 0
+IsSilent before now = (now.written ≡ before.written) × (now.write_faults ≡ before.write_faults)
+
+-- the whole text was written, nothing is left, and nothing failed
+abbrev pub IsDone : Command → Status → Outside → Outside → Type 0
+IsDone command status before now =
+    IfSome before.left (λ bytes. IsWritten command status bytes before.written now.written)
+    × IsAtEnd now.left × (now.read_faults ≡ before.read_faults)
+    × (now.write_faults ≡ before.write_faults)
+
+-- what a status says, to a command that is built
+abbrev pub EndsAs : Command → Status → Outside → Outside → Type 0
+EndsAs command Done before now = IsDone command Done before now
+EndsAs command Refused before now = IsDone command Refused before now
+EndsAs command BadWords before now = ⊥
+EndsAs command OutOfMemory before now =
+    IsSilent before now × (now.read_faults ≡ before.read_faults)
+EndsAs command ReadFailed before now =
+    IsSilent before now × HasFaulted before.read_faults now.read_faults
+EndsAs command WriteFailed before now =
+    HasFaulted before.write_faults now.write_faults
+    × IfSome before.left (λ bytes. IsBegun command bytes before.written now.written)
+    × IsAtEnd now.left × (now.read_faults ≡ before.read_faults)
+EndsAs command TooLong before now =
+    IsSilent before now × (now.read_faults ≡ before.read_faults)
+    × IfSome before.left (λ bytes. most_bytes < length bytes)
+
+-- words of no command, and those of a command that isn't built, change nothing
+abbrev pub IsRefusedAtOnce : Status → Outside → Outside → Type 0
+IsRefusedAtOnce status before now = (status ≡ BadWords) × (now ≡ before)
+
+-- what a status says, to a command that is built or isn't
+abbrev pub EndsIf : Bool → Command → Status → Outside → Outside → Type 0
+EndsIf true command status before now = EndsAs command status before now
+EndsIf false command status before now = IsRefusedAtOnce status before now
+
+-- what a status says, to words
+abbrev pub Ends : Option Command → Status → Outside → Outside → Type 0
+Ends None status before now = IsRefusedAtOnce status before now
+Ends (Some command) status before now = EndsIf (is_served command) command status before now
+
+-- the number of a status
+abbrev pub number_of : Status → ℕ
+number_of Done = 0
+number_of Refused = 1
+number_of BadWords = 2
+number_of OutOfMemory = 3
+number_of ReadFailed = 4
+number_of WriteFailed = 5
+number_of TooLong = 6
+
+-- the number is that of a status that says so
+pub record Tells (words : Option Command) (number : ℕ) (before now : Outside) : Type 0 where
+  pub status : Status
+  pub is : number ≡ number_of status
+  pub ends : Ends words status before now
