@@ -1,10 +1,11 @@
 -- The members and their weights, one node after another.
-use Rattle.std.proofs.Common.{◌≡◌, ℕ, ◌+◌, ◌<◌, Bool, true, false, List, [], ◌∷◌, ◌++◌, Option, Some, length, refl, sym, ◌∙◌, ap, subst, inl, inr, arith}
+use Rattle.std.proofs.Common.{◌≡◌, ℕ, ◌+◌, ◌<◌, Bool, true, false, List, [], ◌∷◌, ◌++◌, Option, Some, length, refl, sym}
+use Rattle.std.proofs.Common.{◌∙◌, ap, subst, inl, inr, arith}
 use Rattle.std.proofs.lemmas.List.{length_push, get_or_append_left, get_or_push}
 use Rattle.std.proofs.lemmas.Bool.{cases_eq, cases_lt}
 use Rattle.net_graph.specs.Walks.{among}
 use Rattle.net_graph.specs.Trees.{at_node}
-use Rattle.node_set.specs.Ascending.{has, passing}
+use Rattle.node_set.specs.Ascending.{has, sift}
 use Rattle.node_set.specs.SetLaws.{has-passing, passing_over, passing_takes, passing_skips}
 use Rattle.cluster_tree.specs.declared.weighing.Weighed.{Weighed}
 use Rattle.cluster_tree.specs.Tree.{weight_beside}
@@ -14,18 +15,22 @@ use Rattle.cluster_tree.proofs.Places.{beside_old, beside_new}
 pub no_flags : (members : List ℕ) → AreFlagsBelow 0 members []
 no_flags members = record { count = refl; each = λ v below. absurd (omega arith) }
 
-pub more_flags : (i : ℕ) (members : List ℕ) (flags next : List Bool) (flag : Bool) → flag ≡ has i members → next ≡ flags ++ flag ∷ []
+pub more_flags : (i : ℕ) (members : List ℕ) (flags next : List Bool) (flag : Bool) → flag ≡ has i members → next
+    ≡ flags ++ flag ∷ []
     → AreFlagsBelow i members flags → AreFlagsBelow (i + 1) members next
-more_flags i members flags next flag is grown so_far = subst (λ xs. AreFlagsBelow (i + 1) members xs) (sym grown) (record {
-  count = omega (arith, length_push flags flag, so_far.count);
-  each = λ v below. elim (cases_lt v i) [
-    | inl less ↦ get_or_append_left flags (flag ∷ []) false v (omega (arith, so_far.count)) ∙ so_far.each v less
-    | inr more ↦ let same : i ≡ v = omega arith in
-        subst (λ k. among (flags ++ flag ∷ []) k ≡ has k members) same (get_or_push flags flag false i so_far.count ∙ is)
-  ];
-})
+more_flags i members flags next flag is grown so_far =
+    subst (λ xs. AreFlagsBelow (i + 1) members xs) (sym grown) (record {
+      count = omega (arith, length_push flags flag, so_far.count);
+      each = λ v below. elim (cases_lt v i) [
+        | inl less ↦ get_or_append_left flags (flag ∷ []) false v (omega (arith, so_far.count)) ∙ so_far.each v less
+        | inr more ↦ let same : i ≡ v = omega arith in
+            subst (λ k. among (flags ++ flag ∷ []) k ≡ has k members) same
+            (get_or_push flags flag false i so_far.count ∙ is)
+      ];
+    })
 
-below_member : (members : List ℕ) (i v : ℕ) → v < i → has v members ≡ true → has v (passing (λ x. has x members) 0 i) ≡ true
+below_member : (members : List ℕ) (i v : ℕ) → v < i → has v members ≡ true → has v (sift (λ x. has x members) 0 i)
+    ≡ true
 below_member members i v below member = has-passing (λ x. has x members) v 0 i (omega arith) (omega arith) ∙ member
 
 pub member_taken : (i w : ℕ) (members : List ℕ) (weights : List (Option ℕ)) (old new : Weighed)
@@ -34,7 +39,14 @@ pub member_taken : (i w : ℕ) (members : List ℕ) (weights : List (Option ℕ)
     → AreWeighedBelow i members weights old → AreWeighedBelow (i + 1) members weights new
 member_taken i w members weights old new member weighs nodes_are weights_are so_far = record {
   nodes = nodes_are ∙ ap (λ xs. xs ++ i ∷ []) so_far.nodes ∙ sym (passing_takes (λ x. has x members) i member);
-  count = omega (arith, ap length nodes_are, ap length weights_are, length_push old.nodes.items i, length_push old.weights.items w, so_far.count);
+  count = omega (
+    arith,
+    ap length nodes_are,
+    ap length weights_are,
+    length_push old.nodes.items i,
+    length_push old.weights.items w,
+    so_far.count,
+  );
   each = λ v below v_member. elim (cases_lt v i) [
     | inl less ↦ so_far.each v less v_member ∙ ap Some (sym (
         ap (λ xs. weight_beside v xs new.weights.items) nodes_are
@@ -47,12 +59,14 @@ member_taken i w members weights old new member weighs nodes_are weights_are so_
         ap (λ xs. weight_beside i xs new.weights.items) nodes_are
         ∙ ap (λ xs. weight_beside i (old.nodes.items ++ i ∷ []) xs) weights_are
         ∙ beside_new i w old.nodes.items old.weights.items
-        (subst (λ xs. has i xs ≡ false) (sym so_far.nodes) (passing_over (λ x. has x members) i 0 i (omega arith))) so_far.count)))
+        (subst (λ xs. has i xs ≡ false) (sym so_far.nodes) (passing_over (λ x. has x members) i 0 i (omega arith)))
+        so_far.count)))
   ];
 }
 
 pub other_skipped : (i : ℕ) (members : List ℕ) (weights : List (Option ℕ)) (weighed : Weighed)
-    → has i members ≡ false → AreWeighedBelow i members weights weighed → AreWeighedBelow (i + 1) members weights weighed
+    → has i members ≡ false → AreWeighedBelow i members weights weighed
+    → AreWeighedBelow (i + 1) members weights weighed
 other_skipped i members weights weighed other so_far = record {
   nodes = so_far.nodes ∙ sym (passing_skips (λ x. has x members) i other);
   count = so_far.count;
@@ -62,7 +76,8 @@ other_skipped i members weights weighed other so_far = record {
   ];
 }
 
-pub no_member : (members : List ℕ) (weights : List (Option ℕ)) (weighed : Weighed) → weighed.nodes.items ≡ [] → weighed.weights.items ≡ []
+pub no_member : (members : List ℕ) (weights : List (Option ℕ)) (weighed : Weighed) → weighed.nodes.items ≡ []
+    → weighed.weights.items ≡ []
     → AreWeighedBelow 0 members weights weighed
 no_member members weights weighed nodes_are weights_are = record {
   nodes = nodes_are;

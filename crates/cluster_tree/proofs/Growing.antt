@@ -1,5 +1,6 @@
 -- From the weights of the members to the tree of the cluster.
-use Rattle.std.proofs.Common.{◌≡◌, ℕ, ◌^◌, ◌<◌, ◌≤◌, Bool, true, List, Option, Some, length, get_or, refl, sym, ◌∙◌, subst, arith}
+use Rattle.std.proofs.Common.{◌≡◌, ℕ, ◌^◌, ◌<◌, ◌≤◌, Bool, true, List, Option, Some, length, get_or, refl, sym, ◌∙◌}
+use Rattle.std.proofs.Common.{subst, arith}
 use Rattle.std.specs.Prelude.{All, Contains, IfErr, IsErrAnd, Result, Ok, Err}
 use Rattle.std.proofs.lemmas.List.{get_or_default}
 use Rattle.net_graph.specs.Walks.{IsLeastWeight, among}
@@ -19,13 +20,15 @@ use Rattle.cluster_tree.specs.PlaceLaws.{has_place, place_of, beside_place}
 use Rattle.cluster_tree.proofs.Places.{beside_contained}
 
 -- an error that is handed on
-pub err_passed : {T E : Type 0} (result : Result T E) (e : E) (P : E → Type 0) → IsErrAnd result (λ x. x ≡ e) → P e → IfErr result P
+pub err_passed : {T E : Type 0} (result : Result T E) (e : E) (P : E → Type 0) → IsErrAnd result (λ x. x ≡ e) → P e
+    → IfErr result P
 err_passed (Ok x) e P h p = tt
 err_passed (Err x) e P h p = subst P (sym h) p
 
 -- weights that stand beside members, and the greatest of them
 pub sound_tree : (leader : ℕ) (members weights : List ℕ) → IsAscending members → length weights ≡ length members
-    → has leader members ≡ true → (depth : ℕ) → All (λ x. x ≤ depth) weights → (0 < length weights → Contains weights depth)
+    → has leader members ≡ true → (depth : ℕ) → All (λ x. x ≤ depth) weights
+    → (0 < length weights → Contains weights depth)
     → IsSoundTree (record { leader = leader; members = members; weights = weights }) depth
 sound_tree leader members weights ascending count leads depth bound attained =
     let some = place_of leader members leads in
@@ -42,13 +45,16 @@ sound_tree leader members weights ascending count leads depth bound attained =
         attained = record {
           node = get_or members at.0 0;
           member = has_place members at.0 short;
-          far = beside_place members weights at.0 ascending count short ∙ get_or_default weights at.0 0 depth at.1 ∙ at.2;
+          far = beside_place members weights at.0 ascending count short ∙ get_or_default weights at.0 0 depth at.1
+              ∙ at.2;
         };
       };
     }
 
-module _ (network : Network) (sound : IsNetwork network) (set : Nodes) (nodes : AreNodes set) (room : set.room ≡ network.nodes)
-    (leader : ℕ) (leads : has leader set.members ≡ true) (flags : List Bool) (are_flags : AreFlagsBelow set.room set.members flags) where
+module _ (network : Network) (sound : IsNetwork network) (set : Nodes) (nodes : AreNodes set)
+    (room : set.room ≡ network.nodes)
+    (leader : ℕ) (leads : has leader set.members ≡ true) (flags : List Bool)
+    (are_flags : AreFlagsBelow set.room set.members flags) where
   pub leader_below : leader < network.nodes
   leader_below = omega (arith, below-has set.room leader set.members nodes.below leads, room)
 
@@ -65,9 +71,11 @@ module _ (network : Network) (sound : IsNetwork network) (set : Nodes) (nodes : 
     from_within : (x : ℕ) → x < network.nodes → within set.members x ≡ true → among flags x ≡ true
     from_within x below h = are_flags.each x (omega (arith, room)) ∙ h
 
-    least_within : (v w : ℕ) → v < network.nodes → at_node weights v ≡ Some w → IsLeastWeight network.edges (within set.members) leader v w
+    least_within : (v w : ℕ) → v < network.nodes → at_node weights v ≡ Some w
+        → IsLeastWeight network.edges (within set.members) leader v w
     least_within v w below is =
-        least_widened network.nodes network.edges (among flags) (within set.members) sound.limits.edges to_within from_within leader v w leader_below
+        least_widened network.nodes network.edges (among flags) (within set.members) sound.limits.edges to_within
+        from_within leader v w leader_below
         (least.least v w below is)
 
     pub is_light : (v w : ℕ) → v < set.room → at_node weights v ≡ Some w → w < 2 ^ 32
@@ -77,10 +85,12 @@ module _ (network : Network) (sound : IsNetwork network) (set : Nodes) (nodes : 
     is_outside node missing = record {
       member = missing.member;
       unreached = λ steps walk. least.unreached node (omega (arith, missing.below, room)) missing.missing steps
-          (walk_widened network.nodes network.edges (within set.members) (among flags) sound.limits.edges from_within leader steps node leader_below walk);
+          (walk_widened network.nodes network.edges (within set.members) (among flags) sound.limits.edges from_within
+          leader steps node leader_below walk);
       first = λ v less member.
           let w = missing.first v less member in
-          let reached = least_within v w.0 (omega (arith, below-has set.room v set.members nodes.below member, room)) w.1 in
+          let reached = least_within v w.0 (omega (arith, below-has set.room v set.members nodes.below member, room))
+          w.1 in
           record { steps = reached.attained.steps; walk = reached.attained.walk };
     }
 
@@ -92,19 +102,25 @@ module _ (network : Network) (sound : IsNetwork network) (set : Nodes) (nodes : 
       pub members_are : weighed.nodes.items ≡ set.members
       members_are = are_weighed.nodes ∙ all_members set nodes
 
-      pub is_tree : IsTreeOf network set.members leader (record { leader = leader; members = weighed.nodes.items; weights = weighed.weights.items })
+      pub is_tree : IsTreeOf network set.members leader
+          (record { leader = leader; members = weighed.nodes.items; weights = weighed.weights.items })
       is_tree = record {
         leader_is = refl;
         members_are = members_are;
         each = λ v member.
             let below : v < set.room = below-has set.room v set.members nodes.below member in
-            least_within v (weight_beside v weighed.nodes.items weighed.weights.items) (omega (arith, below, room)) (are_weighed.each v below member);
+            least_within v (weight_beside v weighed.nodes.items weighed.weights.items) (omega (arith, below, room))
+            (are_weighed.each v below member);
       }
 
       pub is_kept : (depth : ℕ) → All (λ x. x ≤ depth) weighed.weights.items
           → (0 < length weighed.weights.items → Contains weighed.weights.items depth)
-          → IsSoundTree (record { leader = leader; members = weighed.nodes.items; weights = weighed.weights.items }) depth
+          → IsSoundTree (record { leader = leader; members = weighed.nodes.items; weights = weighed.weights.items })
+          depth
       is_kept depth bound attained =
-          let ascending : IsAscending weighed.nodes.items = subst (λ xs. IsAscending xs) (sym members_are) nodes.ascending in
-          let leads_here : has leader weighed.nodes.items ≡ true = subst (λ xs. has leader xs ≡ true) (sym members_are) leads in
-          sound_tree leader weighed.nodes.items weighed.weights.items ascending are_weighed.count leads_here depth bound attained
+          let ascending : IsAscending weighed.nodes.items =
+          subst (λ xs. IsAscending xs) (sym members_are) nodes.ascending in
+          let leads_here : has leader weighed.nodes.items
+          ≡ true = subst (λ xs. has leader xs ≡ true) (sym members_are) leads in
+          sound_tree leader weighed.nodes.items weighed.weights.items ascending are_weighed.count leads_here depth bound
+          attained

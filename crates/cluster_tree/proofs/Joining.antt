@@ -1,5 +1,7 @@
 -- Where each member is joined to a nearer one, the weights inside a cluster are the distances.
-use Rattle.std.proofs.Common.{◌≡◌, ℕ, zero, suc, ◌+◌, ◌-◌, ◌<◌, ◌≤◌, Bool, true, false, cond, ◌||◌, List, [], ◌∷◌, ◌++◌, length, map, take, drop, get_or, refl, sym, ◌∙◌, ap, subst, inl, inr, arith, eq-eqb, ne_eqb}
+use Rattle.std.proofs.Common.{◌≡◌, ℕ, zero, suc, ◌+◌, ◌-◌, ◌<◌, ◌≤◌, Bool, true, false, cond, ◌||◌, List, [], ◌∷◌, ◌++◌}
+use Rattle.std.proofs.Common.{length, map, take, drop, get_or, refl, sym, ◌∙◌, ap, subst, inl, inr, arith, eq-eqb}
+use Rattle.std.proofs.Common.{ne_eqb}
 use Rattle.std.specs.Prelude.{All, Contains, slice_index}
 use Rattle.std.proofs.lemmas.List.{get_or_default, take_more, take_all, drop_at, length-map, length-append}
 use Rattle.std.proofs.lemmas.List.Elements.{All-contains, Contains-push_cases}
@@ -21,10 +23,12 @@ use Rattle.cluster_tree.proofs.Growing.{sound_tree}
 
 -- ---- members one after another
 
-pub none_joined : (network : Network) (members : List ℕ) (leader : ℕ) (row : List ℕ) → AreJoined network members [] leader row
+pub none_joined : (network : Network) (members : List ℕ) (leader : ℕ) (row : List ℕ)
+    → AreJoined network members [] leader row
 none_joined network members leader row v has other = absurd (omega (arith, has.1))
 
-pub leader_joined : (network : Network) (members listed : List ℕ) (leader : ℕ) (row : List ℕ) (i d : ℕ) → i < length listed
+pub leader_joined : (network : Network) (members listed : List ℕ) (leader : ℕ) (row : List ℕ) (i d : ℕ)
+    → i < length listed
     → get_or listed i d ≡ leader → AreJoined network members (take i listed) leader row
     → AreJoined network members (take (i + 1) listed) leader row
 leader_joined network members listed leader row i d below is so_far = rw (take_more listed i d below)
@@ -33,18 +37,21 @@ leader_joined network members listed leader row i d below is so_far = rw (take_m
       | inr new ↦ absurd (other (sym new ∙ is))
     ])
 
-pub one_joined : (network : Network) (members listed : List ℕ) (leader : ℕ) (row : List ℕ) (i d : ℕ) (arcs : List Arc) (far : ℕ)
+pub one_joined : (network : Network) (members listed : List ℕ) (leader : ℕ) (row : List ℕ) (i d : ℕ) (arcs : List Arc)
+    (far : ℕ)
     → i < length listed → AreArcsOf network.nodes network.edges (get_or listed i d) arcs
     → far ≡ slice_index row (get_or listed i d) → HasNearer members row arcs far
     → AreJoined network members (take i listed) leader row → AreJoined network members (take (i + 1) listed) leader row
-one_joined network members listed leader row i d arcs far below of_node far_is nearer so_far = rw (take_more listed i d below)
+one_joined network members listed leader row i d arcs far below of_node far_is nearer so_far =
+    rw (take_more listed i d below)
     (λ v has other. elim (Contains-push_cases (take i listed) (get_or listed i d) v has) [
       | inl old ↦ so_far v old other
       | inr new ↦ subst (λ u. ComesBy network members row u) new (record {
         node = nearer.node;
         weight = nearer.weight;
         joined = of_node.sound nearer.node nearer.weight nearer.arc;
-        positive = (All-contains (IsArc network.nodes) arcs (make_arc nearer.node nearer.weight) of_node.limits nearer.arc).positive;
+        positive = (All-contains (IsArc network.nodes) arcs (make_arc nearer.node nearer.weight) of_node.limits
+            nearer.arc).positive;
         member = nearer.member;
         sum = sym far_is ∙ nearer.sum;
       })
@@ -52,12 +59,14 @@ one_joined network members listed leader row i d arcs far below of_node far_is n
 
 pub all_joined : (network : Network) (members listed : List ℕ) (leader : ℕ) (row : List ℕ) (i : ℕ) → length listed ≤ i
     → AreJoined network members (take i listed) leader row → AreJoined network members listed leader row
-all_joined network members listed leader row i past so_far = subst (λ xs. AreJoined network members xs leader row) (take_all i listed past) so_far
+all_joined network members listed leader row i past so_far =
+    subst (λ xs. AreJoined network members xs leader row) (take_all i listed past) so_far
 
 -- ---- lists of distances
 
 has_contained : (v : ℕ) (xs : List ℕ) → has v xs ≡ true → Contains xs v
-has_contained v xs h = let place = place_of v xs h in (place.0, place.1, get_or_default xs place.0 v 0 place.1 ∙ place.2)
+has_contained v xs h = let place = place_of v xs h
+    in (place.0, place.1, get_or_default xs place.0 v 0 place.1 ∙ place.2)
 
 beside_map : (f : ℕ → ℕ) (v : ℕ) (xs : List ℕ) → has v xs ≡ true → weight_beside v xs (map f xs) ≡ f v
 beside_map f v [] h = let both : false ≡ true = h in cc
@@ -74,13 +83,15 @@ members_below set nodes n room k d short =
     subst (λ v. has v set.members ≡ true) (get_or_default set.members k 0 d short) (has_place set.members k short) in
     omega (arith, below-has set.room (get_or set.members k d) set.members nodes.below member, room)
 
-walk_anywhere : (edges : List Edge) (inside : ℕ → Bool) (u : ℕ) (steps : List Step) (v : ℕ) → IsWalk edges inside u steps v
+walk_anywhere : (edges : List Edge) (inside : ℕ → Bool) (u : ℕ) (steps : List Step) (v : ℕ)
+    → IsWalk edges inside u steps v
     → IsWalk edges everywhere u steps v
 walk_anywhere edges inside u [] v walk = (refl, walk.1)
 walk_anywhere edges inside u (step ∷ steps) v walk = (refl, walk.1, walk_anywhere edges inside step.node steps v walk.2)
 
 module _ (network : Network) (set : Nodes) (nodes : AreNodes set) (room : set.room ≡ network.nodes)
-    (leader : ℕ) (leads : has leader set.members ≡ true) (row : List ℕ) (distances : AreDistancesFrom network leader row)
+    (leader : ℕ) (leads : has leader set.members ≡ true) (row : List ℕ)
+    (distances : AreDistancesFrom network leader row)
     (joined : AreJoined network set.members set.members leader row) where
   member_below : (v : ℕ) → has v set.members ≡ true → v < network.nodes
   member_below v member = omega (arith, below-has set.room v set.members nodes.below member, room)
@@ -99,11 +110,13 @@ module _ (network : Network) (set : Nodes) (nodes : AreNodes set) (room : set.ro
         let by = joined v (has_contained v set.members member) other in
         let before = reached k by.node by.member (omega (arith, by.sum, by.positive)) in
         subst (λ w. IsWalkWeight network.edges (within set.members) leader v w) (sym by.sum)
-        (walk_further network.edges (within set.members) leader by.node v (slice_index row by.node) by.weight before member
+        (walk_further network.edges (within set.members) leader by.node v (slice_index row by.node) by.weight before
+        member
         (join_turned network.edges v by.node by.weight by.joined))
   ]
 
-  least_inside : (v : ℕ) → has v set.members ≡ true → IsLeastWeight network.edges (within set.members) leader v (slice_index row v)
+  least_inside : (v : ℕ) → has v set.members ≡ true
+      → IsLeastWeight network.edges (within set.members) leader v (slice_index row v)
   least_inside v member = record {
     attained = reached (slice_index row v + 1) v member (omega arith);
     least = λ steps walk. (distances.each v (member_below v member)).least steps
@@ -125,14 +138,17 @@ module _ (network : Network) (set : Nodes) (nodes : AreNodes set) (room : set.ro
   }
 
 -- what is written, and its greatest weight
-pub is_written : (network : Network) (members : List ℕ) (leader : ℕ) (old new : List ℕ) (start depth : ℕ) → IsAscending members
+pub is_written : (network : Network) (members : List ℕ) (leader : ℕ) (old new : List ℕ) (start depth : ℕ)
+    → IsAscending members
     → has leader members ≡ true → start ≡ length old → IsAppended network members leader old new
     → All (λ x. x ≤ depth) (take (length new - start) (drop start new))
-    → (0 < length (take (length new - start) (drop start new)) → Contains (take (length new - start) (drop start new)) depth)
+    → (0 < length (take (length new - start) (drop start new))
+    → Contains (take (length new - start) (drop start new)) depth)
     → IsWritten network members leader old new depth
 is_written network members leader old new start depth ascending leads is_start made bound attained =
     let k : ℕ = length new - start in
-    let long : length new ≡ length old + length made.weights = ap length made.appended ∙ length-append old made.weights in
+    let long : length new ≡ length old + length made.weights = ap length made.appended
+    ∙ length-append old made.weights in
     let rest : take k (drop start new) ≡ made.weights =
     ap (λ xs. take k (drop start xs)) made.appended ∙ ap (take k) (drop_at old made.weights start (sym is_start))
     ∙ take_all k made.weights (omega (arith, long, is_start)) in

@@ -1,5 +1,6 @@
 -- Places in ascending lists, and the weights that stand beside them.
-use Rattle.std.proofs.Common.{◌≡◌, ℕ, ◌<◌, true, false, cond, ◌||◌, List, [], ◌∷◌, ◌++◌, length, get_or, refl, sym, ◌∙◌, ap, subst, inl, inr, arith, eqb, eq-eqb, ne_eqb}
+use Rattle.std.proofs.Common.{◌≡◌, ℕ, ◌<◌, true, false, cond, ◌||◌, List, [], ◌∷◌, ◌++◌, length, get_or, refl, sym, ◌∙◌}
+use Rattle.std.proofs.Common.{ap, subst, inl, inr, arith, eqb, eq-eqb, ne_eqb}
 use Rattle.std.proofs.lemmas.Bool.{cases_eq}
 use Rattle.node_set.specs.Ascending.{has, IsAscending}
 use Rattle.cluster_tree.specs.Tree.{weight_beside}
@@ -35,5 +36,9 @@ beside_new v w (x ∷ xs) (u ∷ ws) h count = elim (cases_eq v x) [
 pub beside_contained : (v : ℕ) (xs ws : List ℕ) → IsAscending xs → has v xs ≡ true → length ws ≡ length xs
     → (k : ℕ) × (k < length ws) × (weight_beside v xs ws ≡ get_or ws k 0)
 beside_contained v xs ws ascending h count =
-    let place = place_of v xs h in
-    (place.0, omega (arith, place.1), ap (λ x. weight_beside x xs ws) (sym place.2) ∙ beside_place xs ws place.0 ascending count place.1)
+    let place = place_of v xs h in (
+      place.0,
+      omega (arith, place.1),
+      ap (λ x. weight_beside x xs ws) (sym place.2)
+          ∙ beside_place xs ws place.0 ascending count place.1,
+    )

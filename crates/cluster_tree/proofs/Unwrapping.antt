@@ -1,5 +1,6 @@
 -- Weights through all nodes are all there: they are the distances.
-use Rattle.std.proofs.Common.{◌≡◌, ◌⊎◌, ℕ, ◌^◌, ◌<◌, Bool, true, List, ◌++◌, map, Option, None, Some, length, replicate, refl, sym, ◌∙◌, ap, subst, inl, inr, arith}
+use Rattle.std.proofs.Common.{◌≡◌, ◌⊎◌, ℕ, ◌^◌, ◌<◌, Bool, true, List, ◌++◌, map, Option, None, Some, length, replicate}
+use Rattle.std.proofs.Common.{refl, sym, ◌∙◌, ap, subst, inl, inr, arith}
 use Rattle.std.specs.Prelude.{All}
 use Rattle.std.proofs.lemmas.List.{length-map, length-replicate, get_or-map, get_or_default}
 use Rattle.std.proofs.lemmas.List.Elements.{All-replicate}
@@ -23,8 +24,10 @@ weight_cases : (c : Option ℕ) → (c ≡ None) ⊎ ((w : ℕ) × (c ≡ Some w
 weight_cases None = inl refl
 weight_cases (Some w) = inr (w, refl)
 
-module _ (network : Network) (sound : IsNetwork network) (allowed : List Bool) (all : allowed ≡ replicate network.nodes true)
-    (root : ℕ) (below : root < network.nodes) (weights : List (Option ℕ)) (least : AreLeastWeights network (among allowed) root weights) where
+module _ (network : Network) (sound : IsNetwork network) (allowed : List Bool)
+    (all : allowed ≡ replicate network.nodes true)
+    (root : ℕ) (below : root < network.nodes) (weights : List (Option ℕ))
+    (least : AreLeastWeights network (among allowed) root weights) where
   allowed_count : length allowed ≡ network.nodes
   allowed_count = ap length all ∙ length-replicate network.nodes true
 
@@ -37,7 +40,8 @@ module _ (network : Network) (sound : IsNetwork network) (allowed : List Bool) (
         let to_root = sound.connected root below in
         let to_v = sound.connected v v_below in
         let back = walk_turned network.edges everywhere 0 to_root.steps root to_root.walk in
-        (unreached_everywhere network.nodes network.edges allowed root v sound.limits.edges allowed_count allowed_all below).0
+        (unreached_everywhere network.nodes network.edges allowed root v sound.limits.edges allowed_count allowed_all
+        below).0
         (least.unreached v v_below missing) (back.steps ++ to_v.steps)
         (walk-append network.edges everywhere root back.steps 0 to_v.steps v back.walk to_v.walk))
     | inr there ↦ there
@@ -60,6 +64,7 @@ module _ (network : Network) (sound : IsNetwork network) (allowed : List Bool) (
         let w = weighed v v_below in
         subst (λ x. IsLeastWeight network.edges everywhere root v x)
         (sym (get_or-map weight_in weights v None 0 (omega (arith, least.count)) ∙ ap weight_in w.1))
-        ((least_everywhere network.nodes network.edges allowed root v w.0 sound.limits.edges allowed_count allowed_all below).0
+        ((least_everywhere network.nodes network.edges allowed root v w.0 sound.limits.edges allowed_count allowed_all
+        below).0
         (least.least v w.0 v_below w.1));
   })

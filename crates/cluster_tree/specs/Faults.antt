@@ -11,7 +11,8 @@ use Rattle.cluster_tree.specs.Tree.{within}
 pub record IsFirstOutside (network : Network) (members : List ℕ) (leader node : ℕ) : Type 0 where
   pub member : has node members ≡ true
   pub unreached : IsUnreached network.edges (within members) leader node
-  pub first : (v : ℕ) → v < node → has v members ≡ true → IsReached network.edges (within members) leader v
+  pub first : (v : ℕ) → v < node → has v members ≡ true
+      → IsReached network.edges (within members) leader v
 
 -- `Outside` names the least member that isn't reached; memory may run out at any time
 abbrev pub IsTreeFault : Network → List ℕ → ℕ → TreeFault → Type 0

@@ -1,5 +1,6 @@
 -- The weights inside a cluster, written after others in one flat list.
-use Rattle.std.specs.Prelude.{◌≡◌, ◌≢◌, ℕ, ◌+◌, ◌≤◌, true, List, ◌++◌, length, Contains, slice_index}
+use Rattle.std.specs.Prelude.{◌≡◌, ◌≢◌, ℕ, ◌+◌, ◌≤◌, true, List, ◌++◌, length, Contains}
+use Rattle.std.specs.Prelude.{slice_index}
 use Rattle.net_graph.specs.declared.neighbours.Arc.{Arc}
 use Rattle.net_graph.specs.Layout.{make_arc}
 use Rattle.net_graph.specs.Walks.{Joins}
@@ -9,23 +10,28 @@ use Rattle.cluster_tree.specs.Tree.{WeighedCluster, IsTreeOf, IsSoundTree}
 
 -- the cluster of these members with these weights
 abbrev pub make_cluster : ℕ → List ℕ → List ℕ → WeighedCluster
-make_cluster leader members weights = record { leader = leader; members = members; weights = weights }
+make_cluster leader members weights =
+    record { leader = leader; members = members; weights = weights }
 
--- the weights inside the cluster from the leader to each member, in the order of the members, stand after the old ones
-pub record IsAppended (network : Network) (members : List ℕ) (leader : ℕ) (old new : List ℕ) : Type 0 where
+-- the weights inside the cluster from the leader to each member, in the order of the members, stand
+-- after the old ones
+pub record IsAppended (network : Network) (members : List ℕ) (leader : ℕ) (old new : List ℕ) : Type
+    0 where
   pub weights : List ℕ
   pub appended : new ≡ old ++ weights
   pub count : length weights ≡ length members
   pub tree : IsTreeOf network members leader (make_cluster leader members weights)
 
 -- the weights inside the cluster stand after the old ones, and the greatest of them is the depth
-pub record IsWritten (network : Network) (members : List ℕ) (leader : ℕ) (old new : List ℕ) (depth : ℕ) : Type 0 where
+pub record IsWritten (network : Network) (members : List ℕ) (leader : ℕ) (old new : List ℕ)
+    (depth : ℕ) : Type 0 where
   pub weights : List ℕ
   pub appended : new ≡ old ++ weights
   pub tree : IsTreeOf network members leader (make_cluster leader members weights)
   pub sound : IsSoundTree (make_cluster leader members weights) depth
 
--- an arc leads to a member that is nearer by just the arc's weight; the row has the distances from the leader
+-- an arc leads to a member that is nearer by just the arc's weight; the row has the distances from
+-- the leader
 pub record HasNearer (members row : List ℕ) (arcs : List Arc) (far : ℕ) : Type 0 where
   pub node : ℕ
   pub weight : ℕ

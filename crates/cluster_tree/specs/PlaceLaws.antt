@@ -1,5 +1,7 @@
 -- Laws of places in lists of members, and of the weights that stand beside them, for proofs.
-use Rattle.std.proofs.Common.{◌≤◌, Ok, Err, ◌≡◌, ℕ, zero, suc, ◌<◌, Bool, true, false, cond, ◌||◌, List, [], ◌∷◌, length, get_or, refl, sym, ◌∙◌, ap, subst, inl, inr, arith, eqb, eq-eqb, ne_eqb}
+use Rattle.std.proofs.Common.{◌≤◌, Ok, Err, ◌≡◌, ℕ, zero, suc, ◌<◌, Bool, true, false, cond, ◌||◌}
+use Rattle.std.proofs.Common.{List, [], ◌∷◌, length, get_or, refl, sym, ◌∙◌, ap, subst, inl, inr}
+use Rattle.std.proofs.Common.{arith, eqb, eq-eqb, ne_eqb}
 use Rattle.std.specs.List.Sorted.{IsBinarySearchResult}
 use Rattle.std.specs.Ordering.{nat_cmp}
 use Rattle.std.proofs.lemmas.List.Sorted.{searched}
@@ -18,9 +20,11 @@ or_left false c h = let both : false ≡ true = h in cc
 pub has_place : (xs : List ℕ) (i : ℕ) → i < length xs → has (get_or xs i 0) xs ≡ true
 has_place [] i below = absurd (omega arith)
 has_place (x ∷ xs) zero below = or_left (eqb x x) (has x xs) (eq-eqb x x refl)
-has_place (x ∷ xs) (suc i) below = or_right (eqb (get_or xs i 0) x) (has (get_or xs i 0) xs) (has_place xs i (omega arith))
+has_place (x ∷ xs) (suc i) below =
+    or_right (eqb (get_or xs i 0) x) (has (get_or xs i 0) xs) (has_place xs i (omega arith))
 
-pub place_of : (x : ℕ) (xs : List ℕ) → has x xs ≡ true → (k : ℕ) × (k < length xs) × (get_or xs k 0 ≡ x)
+pub place_of : (x : ℕ) (xs : List ℕ) → has x xs ≡ true → (k : ℕ) × (k < length xs)
+    × (get_or xs k 0 ≡ x)
 place_of x [] h = let both : false ≡ true = h in cc
 place_of x (y ∷ ys) h = elim (cases_eq x y) [
   | inl same ↦ (0, omega arith, sym same)
@@ -42,19 +46,24 @@ beside_place (x ∷ xs) (w ∷ ws) zero ascending count short =
     ap (λ b. cond b w (weight_beside x xs ws)) (eq-eqb x x refl)
 beside_place (x ∷ xs) (w ∷ ws) (suc i) ascending count short =
     let above : x < get_or xs i 0 = below_each x xs i ascending.0 (omega arith) in
-    ap (λ b. cond b w (weight_beside (get_or xs i 0) xs ws)) (ne_eqb (get_or xs i 0) x (λ same. omega (arith, same, above)))
+    ap (λ b. cond b w (weight_beside (get_or xs i 0) xs ws))
+    (ne_eqb (get_or xs i 0) x (λ same. omega (arith, same, above)))
     ∙ beside_place xs ws i ascending.1 (omega arith) (omega arith)
 
-rising : (xs : List ℕ) → IsAscending xs → (i j : ℕ) → i ≤ j → j < length xs → get_or xs i 0 ≤ get_or xs j 0
+rising : (xs : List ℕ) → IsAscending xs → (i j : ℕ) → i ≤ j → j < length xs
+    → get_or xs i 0 ≤ get_or xs j 0
 rising [] ascending i j order short = absurd (omega arith)
 rising (x ∷ xs) ascending zero zero order short = omega arith
-rising (x ∷ xs) ascending zero (suc j) order short = omega (arith, below_each x xs j ascending.0 (omega arith))
+rising (x ∷ xs) ascending zero (suc j) order short =
+    omega (arith, below_each x xs j ascending.0 (omega arith))
 rising (x ∷ xs) ascending (suc i) zero order short = absurd (omega arith)
-rising (x ∷ xs) ascending (suc i) (suc j) order short = rising xs ascending.1 i j (omega arith) (omega arith)
+rising (x ∷ xs) ascending (suc i) (suc j) order short =
+    rising xs ascending.1 i j (omega arith) (omega arith)
 
 -- what a search for a member finds
 pub found_place : (xs ws : List ℕ) (v k : ℕ) → IsAscending xs → length ws ≡ length xs
-    → IsBinarySearchResult (λ y. nat_cmp y v) xs (Ok k) → (k < length xs) × (weight_beside v xs ws ≡ get_or ws k 0)
+    → IsBinarySearchResult (λ y. nat_cmp y v) xs (Ok k) → (k < length xs)
+    × (weight_beside v xs ws ≡ get_or ws k 0)
 found_place xs ws v k ascending count result =
     let at = searched xs v (Ok k) result (rising xs ascending) in
     (at.0, ap (λ x. weight_beside x xs ws) (sym at.1) ∙ beside_place xs ws k ascending count at.0)

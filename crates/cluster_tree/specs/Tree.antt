@@ -4,7 +4,8 @@ use Rattle.net_graph.specs.Walks.{IsLeastWeight}
 use Rattle.net_graph.specs.Network.{Network}
 use Rattle.node_set.specs.Ascending.{has, IsAscending}
 
--- a cluster's leader, its members in ascending order, and the weight of each member in the same order
+-- a cluster's leader, its members in ascending order, and the weight of each member in the same
+-- order
 pub record WeighedCluster : Type 0 where
   pub leader : ℕ
   pub members : List ℕ
@@ -25,10 +26,12 @@ abbrev pub within : List ℕ → ℕ → Bool
 within members v = has v members
 
 -- the tree of these members from this leader in the network
-pub record IsTreeOf (network : Network) (members : List ℕ) (leader : ℕ) (cluster : WeighedCluster) : Type 0 where
+pub record IsTreeOf (network : Network) (members : List ℕ) (leader : ℕ) (cluster : WeighedCluster) :
+    Type 0 where
   pub leader_is : cluster.leader ≡ leader
   pub members_are : cluster.members ≡ members
-  pub each : (v : ℕ) → has v members ≡ true → IsLeastWeight network.edges (within members) leader v (inside_weight cluster v)
+  pub each : (v : ℕ) → has v members ≡ true
+      → IsLeastWeight network.edges (within members) leader v (inside_weight cluster v)
 
 -- a member whose weight is this
 pub record IsAttained (cluster : WeighedCluster) (w : ℕ) : Type 0 where

@@ -3,7 +3,7 @@ use Rattle.std.specs.Prelude.{◌≡◌, ℕ, ◌<◌, Bool, true, List, Option,
 use Rattle.net_graph.specs.Walks.{among}
 use Rattle.net_graph.specs.Trees.{at_node}
 use Rattle.node_set.specs.Nodes.{Nodes}
-use Rattle.node_set.specs.Ascending.{has, passing}
+use Rattle.node_set.specs.Ascending.{has, sift}
 use Rattle.cluster_tree.specs.declared.fault.TreeFault.{TreeFault}
 use Rattle.cluster_tree.specs.declared.fault.TreeFault.TheVariants.{Outside, OutOfMemory}
 use Rattle.cluster_tree.specs.declared.weighing.Weighed.{Weighed}
@@ -15,10 +15,12 @@ pub record AreFlagsBelow (i : ℕ) (members : List ℕ) (flags : List Bool) : Ty
   pub each : (v : ℕ) → v < i → among flags v ≡ has v members
 
 -- the members below i, each with its weight
-pub record AreWeighedBelow (i : ℕ) (members : List ℕ) (weights : List (Option ℕ)) (weighed : Weighed) : Type 0 where
-  pub nodes : weighed.nodes.items ≡ passing (λ x. has x members) 0 i
+pub record AreWeighedBelow (i : ℕ) (members : List ℕ) (weights : List (Option ℕ))
+    (weighed : Weighed) : Type 0 where
+  pub nodes : weighed.nodes.items ≡ sift (λ x. has x members) 0 i
   pub count : length weighed.weights.items ≡ length weighed.nodes.items
-  pub each : (v : ℕ) → v < i → has v members ≡ true → at_node weights v ≡ Some (weight_beside v weighed.nodes.items weighed.weights.items)
+  pub each : (v : ℕ) → v < i → has v members ≡ true → at_node weights v
+      ≡ Some (weight_beside v weighed.nodes.items weighed.weights.items)
 
 -- the least member that has no weight
 pub record IsFirstMissing (set : Nodes) (weights : List (Option ℕ)) (node : ℕ) : Type 0 where

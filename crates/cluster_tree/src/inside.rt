@@ -1,6 +1,7 @@
 //! The weights inside a cluster, for callers that keep those of many clusters in one flat list.
 
-ghost use Rattle.std.specs.Prelude.{◌≡◌, ◌<◌, ◌++◌, All, Contains, IfErr, IfOk, IsTrue, OnOk, length, map, slice_index, true};
+ghost use Rattle.std.specs.Prelude.{◌≡◌, ◌<◌, ◌++◌, All, Contains, IfErr, IfOk, IsTrue, OnOk};
+ghost use Rattle.std.specs.Prelude.{length, map, slice_index, true};
 ghost use Rattle.net_graph.specs.Layout.{IsArc};
 ghost use Rattle.net_graph.specs.Trees.{AreDistancesFrom};
 ghost use Rattle.node_set.specs.Ascending.{IsAscending, has};
@@ -14,13 +15,13 @@ use net_graph::{Arc, Graph, OutOfMemory, greatest_weight};
 use node_set::NodeSet;
 use std::alloc::Global;
 
-/// Appends to `weights` the weight inside a cluster from its leader to each member, in the order of `members`, which are
-/// those of `cluster`, and gives the greatest of them. `row` has the distances from the leader. `Outside` names the least
-/// member that no walk through members alone reaches from the leader. After an error `weights` may end in some weights
-/// of this cluster.
+/// Appends to `weights` the weight inside a cluster from its leader to each member, in the order of
+/// `members`, which are those of `cluster`, and gives the greatest of them. `row` has the distances
+/// from the leader. `Outside` names the least member that no walk through members alone reaches
+/// from the leader. After an error `weights` may end in some weights of this cluster.
 ///
-/// A search is needed only where some member has no arc from a member that is nearer to the leader by just the arc's
-/// weight: else the weights inside are the distances.
+/// A search is needed only where some member has no arc from a member that is nearer to the leader
+/// by just the arc's weight: else the weights inside are the distances.
 pub fn inside_weights(
     alloc: Global,
     graph: &Graph,
@@ -77,7 +78,8 @@ fn members_ascend(cluster: &NodeSet)
     cluster.room();
 }
 
-// Whether each member but the leader has an arc from a member that is nearer to the leader by just the arc's weight.
+// Whether each member but the leader has an arc from a member that is nearer to the leader by just
+// the arc's weight.
 fn are_joined(graph: &Graph, row: &[u32], cluster: &NodeSet, members: &[u32], leader: u32) -> bool
     requires room { cluster.now.room ≡ graph.now.nodes }
     requires members { All (λ v. v < graph.now.nodes) members.now }

@@ -26,14 +26,20 @@ impl Model for ClusterTree {
 
     ghost Value = { WeighedCluster };
 
-    ghost view = { λ t. record { leader = t.leader; members = t.members.items; weights = t.weights.items } };
+    ghost view = { λ t. record {
+      leader = t.leader;
+      members = t.members.items;
+      weights = t.weights.items;
+    } };
 
-    ghost invariant = { λ t. IsSoundTree (record { leader = t.leader; members = t.members.items; weights = t.weights.items }) t.depth };
+    ghost invariant = { λ t. IsSoundTree
+        (record { leader = t.leader; members = t.members.items; weights = t.weights.items })
+        t.depth };
 }
 
 impl ClusterTree {
-    /// The tree of the members from their leader. `Outside` names the least member that no walk through members alone
-    /// reaches from the leader.
+    /// The tree of the members from their leader. `Outside` names the least member that no walk
+    /// through members alone reaches from the leader.
     pub fn new(
         alloc: Global,
         graph: &Graph,

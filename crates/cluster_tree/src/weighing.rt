@@ -1,6 +1,7 @@
 //! The members of a cluster and their weights.
 
-ghost use Rattle.std.specs.Prelude.{◌≡◌, ◌<◌, ◌≤◌, ◌^◌, ◌++◌, ◌∷◌, [], ℕ, All, Contains, IfErr, IfOk, OnOk, Some, length};
+ghost use Rattle.std.specs.Prelude.{◌≡◌, ◌<◌, ◌≤◌, ◌^◌, ◌++◌, ◌∷◌, [], ℕ, All, Contains, IfErr};
+ghost use Rattle.std.specs.Prelude.{IfOk, OnOk, Some, length};
 ghost use Rattle.net_graph.specs.Trees.{at_node};
 ghost use Rattle.node_set.specs.Nodes.{AreNodes};
 ghost use Rattle.cluster_tree.specs.Weighing.{AreFlagsBelow, AreWeighedBelow, IsMissing};
@@ -19,7 +20,8 @@ pub(crate) struct Weighed {
 
 // For each node whether it is a member.
 pub(crate) fn flags_of(alloc: Global, members: &NodeSet) -> Result<Vec<bool>, OutOfMemory>
-    ensures flags { IfOk result (λ flags. AreFlagsBelow members.now.room members.now.members flags.items) }
+    ensures flags { IfOk result (λ flags.
+        AreFlagsBelow members.now.room members.now.members flags.items) }
     ensures sound { AreNodes members.now }
 {
     let mut flags = Vec::with_capacity(alloc, members.room() as usize)?;
@@ -36,8 +38,10 @@ pub(crate) fn weigh(
     weights: &[Option<u64>],
 ) -> Result<Weighed, TreeFault>
     requires count { length weights.now ≡ members.now.room }
-    requires light { (v w : ℕ) → v < members.now.room → at_node weights.now v ≡ Some w → w < 2 ^ 32 }
-    ensures weighed { IfOk result (AreWeighedBelow members.now.room members.now.members weights.now) }
+    requires light { (v w : ℕ) → v < members.now.room → at_node weights.now v ≡ Some w
+        → w < 2 ^ 32 }
+    ensures weighed { IfOk result
+        (AreWeighedBelow members.now.room members.now.members weights.now) }
     ensures missing { IfErr result (IsMissing members.now weights.now) }
 {
     let mut weighed = Weighed {
@@ -58,7 +62,8 @@ pub(crate) fn weigh(
 // Appends a member and its weight.
 fn push_member(weighed: &mut Weighed, node: u32, weight: u32) -> Result<(), OutOfMemory>
     ensures nodes { OnOk result (weighed.new.nodes.items ≡ weighed.old.nodes.items ++ node ∷ []) }
-    ensures weights { OnOk result (weighed.new.weights.items ≡ weighed.old.weights.items ++ weight ∷ []) }
+    ensures weights { OnOk result (weighed.new.weights.items
+        ≡ weighed.old.weights.items ++ weight ∷ []) }
 {
     weighed.nodes.push(node)?;
     weighed.weights.push(weight)?;

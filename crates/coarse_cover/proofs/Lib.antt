@@ -1,4 +1,5 @@
-mod Marking
+mod Leading
+mod Turns
 mod Growth
 mod Phase
 mod Whole

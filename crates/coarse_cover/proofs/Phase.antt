@@ -1,5 +1,6 @@
 -- One phase: its clusters are disjoint, and the balls that they are homes of are many.
-use Rattle.std.proofs.Common.{◌≡◌, ◌⊎◌, inl, inr, ℕ, zero, suc, ◌+◌, ◌*◌, ◌^◌, ◌<◌, ◌≤◌, Bool, true, false, cond, not, ◌&&◌, List, [], ◌∷◌, length, filter, refl, sym, ◌∙◌, ap, subst, arith}
+use Rattle.std.proofs.Common.{◌≡◌, ◌⊎◌, inl, inr, ℕ, zero, suc, ◌+◌, ◌*◌, ◌^◌, ◌<◌, ◌≤◌, Bool, true, false, cond, not}
+use Rattle.std.proofs.Common.{◌&&◌, List, [], ◌∷◌, length, filter, refl, sym, ◌∙◌, ap, subst, arith}
 use Rattle.std.specs.Prelude.{count_by, All}
 use Rattle.std.proofs.lemmas.List.Elements.{All-nil, All-cons, All-head, All-tail}
 use Rattle.std.proofs.lemmas.List.Sums.{sum_by-cons}
@@ -13,8 +14,10 @@ use Rattle.whole_powers.specs.PowerLaws.{zero_pow}
 use Rattle.coarse_cover.specs.Coarsening.{is_enough, cluster_of, phase, IsShaped}
 use Rattle.coarse_cover.specs.Progress.{IsReady}
 use Rattle.node_set.specs.Balls.{ball, union_of, touches, growth, least, GrownCluster, is_homed}
-use Rattle.node_set.specs.FilterLaws.{filter_keeps, filter_has, filter_twice, filter_halves, filter_fewer, filter_more, some_length, ascending-filter}
-use Rattle.node_set.specs.BallLaws.{HoldCentres, union_from, touches_own, growth_waits, growth_leader, growth_picked, least_passes}
+use Rattle.node_set.specs.FilterLaws.{filter_keeps, filter_has, filter_twice, filter_halves, filter_fewer, filter_more}
+use Rattle.node_set.specs.FilterLaws.{some_length, ascending-filter}
+use Rattle.node_set.specs.BallLaws.{HoldCentres, union_from, touches_own, growth_waits, growth_leader, growth_picked}
+use Rattle.node_set.specs.BallLaws.{least_passes}
 use Rattle.coarse_cover.proofs.Growth.{growths_few, enough_means}
 
 -- ---- one cluster
@@ -43,16 +46,19 @@ pub record IsCluster (balls : List (List ℕ)) (k r : ℕ) (waiting : List ℕ) 
   pub picked : c.homed ≡ filter (λ v. has v c.homed) waiting
   pub shape : c.homed ≡ growth balls waiting c.first c.growths
 
-pub is_cluster : (balls : List (List ℕ)) (k r a : ℕ) (rest : List ℕ) → 0 < k → length (a ∷ rest) ≤ r → IsBelowAll a rest → HoldCentres balls (a ∷ rest) → IsCluster balls k r (a ∷ rest) (cluster_of balls k r (a ∷ rest) a)
+pub is_cluster : (balls : List (List ℕ)) (k r a : ℕ) (rest : List ℕ) → 0 < k → length (a ∷ rest) ≤ r → IsBelowAll a rest
+    → HoldCentres balls (a ∷ rest) → IsCluster balls k r (a ∷ rest) (cluster_of balls k r (a ∷ rest) a)
 unfolding cluster_of growth
 is_cluster balls k r a rest pos fits below hold =
     record {
       leads = growth_leader balls a rest hold (least (is_enough balls k r (a ∷ rest) a) k);
       waits = growth_waits balls a rest (least (is_enough balls k r (a ∷ rest) a) k);
       joined = refl;
-      touching = λ v h. touches_own balls v (growth balls (a ∷ rest) a (least (is_enough balls k r (a ∷ rest) a) k)) h (hold v (growth_waits balls a rest (least (is_enough balls k r (a ∷ rest) a) k) v h));
+      touching = λ v h. touches_own balls v (growth balls (a ∷ rest) a (least (is_enough balls k r (a ∷ rest) a) k)) h
+          (hold v (growth_waits balls a rest (least (is_enough balls k r (a ∷ rest) a) k) v h));
       few = growths_few balls k r a rest pos fits;
-      enough = enough_means balls k r a rest (least (is_enough balls k r (a ∷ rest) a) k) (least_passes (is_enough balls k r (a ∷ rest) a) k (growths_few balls k r a rest pos fits));
+      enough = enough_means balls k r a rest (least (is_enough balls k r (a ∷ rest) a) k)
+          (least_passes (is_enough balls k r (a ∷ rest) a) k (growths_few balls k r a rest pos fits));
       picked = growth_picked balls a rest below (least (is_enough balls k r (a ∷ rest) a) k);
       shape = refl;
     }
@@ -70,11 +76,13 @@ homed_later c cs v h = at (has v c.homed)
     at true = refl
     at false = h
 
-homed_cases : (c : GrownCluster) (cs : List GrownCluster) (v : ℕ) → is_homed (c ∷ cs) v ≡ true → (has v c.homed ≡ true) ⊎ (is_homed cs v ≡ true)
+homed_cases : (c : GrownCluster) (cs : List GrownCluster) (v : ℕ) → is_homed (c ∷ cs) v ≡ true
+    → (has v c.homed ≡ true) ⊎ (is_homed cs v ≡ true)
 unfolding is_homed
 homed_cases c cs v h = at (has v c.homed) refl h
   where
-    at : (b : Bool) → has v c.homed ≡ b → cond b true (is_homed cs v) ≡ true → (has v c.homed ≡ true) ⊎ (is_homed cs v ≡ true)
+    at : (b : Bool) → has v c.homed ≡ b → cond b true (is_homed cs v) ≡ true
+        → (has v c.homed ≡ true) ⊎ (is_homed cs v ≡ true)
     at true e h = inl e
     at false e h = inr h
 
@@ -83,9 +91,11 @@ homed_cases c cs v h = at (has v c.homed) refl h
 -- the clusters are those of a phase, one after another
 abbrev pub IsPhase : List (List ℕ) → ℕ → ℕ → List ℕ → List GrownCluster → Type 0
 IsPhase balls k r waiting [] = waiting ≡ []
-IsPhase balls k r waiting (c ∷ cs) = IsCluster balls k r waiting c × IsPhase balls k r (apart balls c.members waiting) cs
+IsPhase balls k r waiting (c ∷ cs) = IsCluster balls k r waiting c
+    × IsPhase balls k r (apart balls c.members waiting) cs
 
-pub ready_filter : (balls : List (List ℕ)) (k r : ℕ) (waiting : List ℕ) (p : ℕ → Bool) → IsReady balls k r waiting → IsReady balls k r (filter p waiting)
+pub ready_filter : (balls : List (List ℕ)) (k r : ℕ) (waiting : List ℕ) (p : ℕ → Bool) → IsReady balls k r waiting
+    → IsReady balls k r (filter p waiting)
 ready_filter balls k r waiting p ready = record {
   some = ready.some;
   fits = omega (arith, filter_fewer p waiting, ready.fits);
@@ -93,51 +103,70 @@ ready_filter balls k r waiting p ready = record {
   centred = λ v h. ready.centred v (filter_keeps p v waiting h).0;
 }
 
-pub cluster_ready : (balls : List (List ℕ)) (k r a : ℕ) (rest : List ℕ) → IsReady balls k r (a ∷ rest) → IsCluster balls k r (a ∷ rest) (cluster_of balls k r (a ∷ rest) a)
+pub cluster_ready : (balls : List (List ℕ)) (k r a : ℕ) (rest : List ℕ) → IsReady balls k r (a ∷ rest)
+    → IsCluster balls k r (a ∷ rest) (cluster_of balls k r (a ∷ rest) a)
 cluster_ready balls k r a rest ready = is_cluster balls k r a rest ready.some ready.fits ready.ascending.0 ready.centred
 
 -- a cluster takes its leader at least
-pub apart_fewer : (balls : List (List ℕ)) (k r : ℕ) (waiting : List ℕ) (c : GrownCluster) → IsCluster balls k r waiting c → length (apart balls c.members waiting) < length waiting
+pub apart_fewer : (balls : List (List ℕ)) (k r : ℕ) (waiting : List ℕ) (c : GrownCluster)
+    → IsCluster balls k r waiting c → length (apart balls c.members waiting) < length waiting
 apart_fewer balls k r waiting c is =
-    let taken : has c.first (filter (touches balls c.members) waiting) ≡ true = filter_has (touches balls c.members) c.first waiting (is.waits c.first is.leads) (is.touching c.first is.leads) in
-    omega (arith, some_length c.first (filter (touches balls c.members) waiting) taken, filter_halves (touches balls c.members) waiting)
+    let taken : has c.first (filter (touches balls c.members) waiting)
+    ≡ true = filter_has (touches balls c.members) c.first waiting (is.waits c.first is.leads)
+    (is.touching c.first is.leads) in
+    omega (
+      arith,
+      some_length c.first (filter (touches balls c.members) waiting) taken,
+      filter_halves (touches balls c.members) waiting,
+    )
 
-pub phase_is : (balls : List (List ℕ)) (k r more : ℕ) (waiting : List ℕ) → IsReady balls k r waiting → length waiting ≤ more → IsPhase balls k r waiting (phase balls k r more waiting)
+pub phase_is : (balls : List (List ℕ)) (k r more : ℕ) (waiting : List ℕ) → IsReady balls k r waiting
+    → length waiting ≤ more → IsPhase balls k r waiting (phase balls k r more waiting)
 unfolding phase
 phase_is balls k r zero [] ready enough = refl
 phase_is balls k r zero (a ∷ rest) ready enough = absurd (omega arith)
 phase_is balls k r (suc more) [] ready enough = refl
 phase_is balls k r (suc more) (a ∷ rest) ready enough =
     let c : GrownCluster = cluster_of balls k r (a ∷ rest) a in
-    let is : IsCluster balls k r (a ∷ rest) (cluster_of balls k r (a ∷ rest) a) = cluster_ready balls k r a rest ready in (
+    let is : IsCluster balls k r (a ∷ rest) (cluster_of balls k r (a ∷ rest) a) = cluster_ready balls k r a rest ready
+    in (
       is,
-      phase_is balls k r more (apart balls (cluster_of balls k r (a ∷ rest) a).members (a ∷ rest)) (ready_filter balls k r (a ∷ rest) (λ v. not (touches balls (cluster_of balls k r (a ∷ rest) a).members v)) ready)
+      phase_is balls k r more (apart balls (cluster_of balls k r (a ∷ rest) a).members (a ∷ rest))
+          (ready_filter balls k r (a ∷ rest) (λ v. not (touches balls (cluster_of balls k r (a ∷ rest) a).members v))
+          ready)
           (omega (arith, apart_fewer balls k r (a ∷ rest) (cluster_of balls k r (a ∷ rest) a) is)),
     )
 
 module _ (balls : List (List ℕ)) (k r : ℕ) where
-  pub homed_waits : (waiting : List ℕ) (cs : List GrownCluster) → IsPhase balls k r waiting cs → (v : ℕ) → is_homed cs v ≡ true → has v waiting ≡ true
+  pub homed_waits : (waiting : List ℕ) (cs : List GrownCluster) → IsPhase balls k r waiting cs → (v : ℕ) → is_homed cs v
+      ≡ true → has v waiting ≡ true
   unfolding is_homed
   homed_waits waiting [] is v h = absurd (false≢true h)
   homed_waits waiting (c ∷ cs) is v h =
       elim (homed_cases c cs v h) [
         | inl here ↦ is.0.waits v here
-        | inr later ↦ (filter_keeps (λ w. not (touches balls c.members w)) v waiting (homed_waits (apart balls c.members waiting) cs is.1 v later)).0
+        | inr later ↦ (filter_keeps (λ w. not (touches balls c.members w)) v waiting
+            (homed_waits (apart balls c.members waiting) cs is.1 v later)).0
       ]
 
   -- the balls of a cluster and those of the later ones are counted apart
   split_homed : (waiting : List ℕ) (c : GrownCluster) (cs : List GrownCluster) → IsCluster balls k r waiting c →
-      length c.homed + length (filter (is_homed cs) (apart balls c.members waiting)) ≤ length (filter (is_homed (c ∷ cs)) waiting)
+      length c.homed + length (filter (is_homed cs) (apart balls c.members waiting)) ≤ length
+      (filter (is_homed (c ∷ cs)) waiting)
   split_homed waiting c cs is =
       let own : length c.homed ≤ length (filter (λ v. is_homed (c ∷ cs) v && touches balls c.members v) waiting) =
-      subst (λ (n : ℕ). n ≤ length (filter (λ v. is_homed (c ∷ cs) v && touches balls c.members v) waiting)) (sym (ap length is.picked))
+      subst (λ (n : ℕ). n ≤ length (filter (λ v. is_homed (c ∷ cs) v && touches balls c.members v) waiting))
+      (sym (ap length is.picked))
       (filter_more (λ v. has v c.homed) (λ v. is_homed (c ∷ cs) v && touches balls c.members v) waiting
       (λ v here h. and_from (is_homed (c ∷ cs) v) (touches balls c.members v) (homed_here c cs v h) (is.touching v h)))
       in
-      let others : length (filter (λ v. not (touches balls c.members v) && is_homed cs v) waiting) ≤ length (filter (λ v. is_homed (c ∷ cs) v && not (touches balls c.members v)) waiting) =
-      filter_more (λ v. not (touches balls c.members v) && is_homed cs v) (λ v. is_homed (c ∷ cs) v && not (touches balls c.members v)) waiting
+      let others : length (filter (λ v. not (touches balls c.members v) && is_homed cs v) waiting) ≤ length
+      (filter (λ v. is_homed (c ∷ cs) v && not (touches balls c.members v)) waiting) =
+      filter_more (λ v. not (touches balls c.members v) && is_homed cs v)
+      (λ v. is_homed (c ∷ cs) v && not (touches balls c.members v)) waiting
       (λ v here h.
-      let both : (not (touches balls c.members v) ≡ true) × (is_homed cs v ≡ true) = and_parts (not (touches balls c.members v)) (is_homed cs v) h in
+      let both : (not (touches balls c.members v) ≡ true)
+      × (is_homed cs v ≡ true) = and_parts (not (touches balls c.members v)) (is_homed cs v) h in
       and_from (is_homed (c ∷ cs) v) (not (touches balls c.members v)) (homed_later c cs v both.1) both.0)
       in
       omega (
@@ -150,62 +179,103 @@ module _ (balls : List (List ℕ)) (k r : ℕ) where
         ap length (filter_twice (is_homed cs) (λ v. not (touches balls c.members v)) waiting),
       )
 
-  pub phase_size : PowersAdd → (waiting : List ℕ) (cs : List GrownCluster) → 0 < k → IsPhase balls k r waiting cs → length waiting ^ k ≤ r * length (filter (is_homed cs) waiting) ^ k
-  phase_size adds waiting [] pos is = subst (λ (w : List ℕ). length w ^ k ≤ r * length (filter (is_homed []) w) ^ k) (sym is) (omega (arith, zero_pow k pos))
+  pub phase_size : PowersAdd → (waiting : List ℕ) (cs : List GrownCluster) → 0 < k → IsPhase balls k r waiting cs
+      → length waiting ^ k ≤ r * length (filter (is_homed cs) waiting) ^ k
+  phase_size adds waiting [] pos is = subst (λ (w : List ℕ). length w ^ k ≤ r * length (filter (is_homed []) w) ^ k)
+      (sym is) (omega (arith, zero_pow k pos))
   phase_size adds waiting (c ∷ cs) pos is =
-      let sums : (length (filter (touches balls c.members) waiting) + length (apart balls c.members waiting)) ^ k ≤ r * (length c.homed + length (filter (is_homed cs) (apart balls c.members waiting))) ^ k =
-      adds k r (length (filter (touches balls c.members) waiting)) (length (apart balls c.members waiting)) (length c.homed) (length (filter (is_homed cs) (apart balls c.members waiting))) pos is.0.enough
+      let sums : (length (filter (touches balls c.members) waiting) + length (apart balls c.members waiting)) ^ k ≤ r *
+      (length c.homed + length (filter (is_homed cs) (apart balls c.members waiting))) ^ k =
+      adds k r (length (filter (touches balls c.members) waiting)) (length (apart balls c.members waiting))
+      (length c.homed) (length (filter (is_homed cs) (apart balls c.members waiting))) pos is.0.enough
       (phase_size adds (apart balls c.members waiting) cs pos is.1)
       in
-      le_trans (subst (λ (n : ℕ). n ^ k ≤ r * (length c.homed + length (filter (is_homed cs) (apart balls c.members waiting))) ^ k) (filter_halves (touches balls c.members) waiting) sums)
+      le_trans (subst (λ (n : ℕ). n ^ k ≤ r *
+      (length c.homed + length (filter (is_homed cs) (apart balls c.members waiting))) ^ k)
+      (filter_halves (touches balls c.members) waiting) sums)
       (mul-le-mul_left r (pow-le-pow_left (split_homed waiting c cs is.0) k))
 
-  pub phase_count : (waiting : List ℕ) (cs : List GrownCluster) → IsPhase balls k r waiting cs → length cs ≤ length (filter (is_homed cs) waiting)
+  pub phase_count : (waiting : List ℕ) (cs : List GrownCluster) → IsPhase balls k r waiting cs
+      → length cs ≤ length (filter (is_homed cs) waiting)
   phase_count waiting [] is = omega arith
   phase_count waiting (c ∷ cs) is =
-      omega (arith, split_homed waiting c cs is.0, phase_count (apart balls c.members waiting) cs is.1, some_length c.first c.homed is.0.leads)
+      omega (
+        arith,
+        split_homed waiting c cs is.0,
+        phase_count (apart balls c.members waiting) cs is.1,
+        some_length c.first c.homed is.0.leads,
+      )
 
   -- ---- disjoint clusters
 
   -- no later cluster has a node of a set that no waiting ball touches
-  cluster_misses : (nodes waiting : List ℕ) (c : GrownCluster) (x : ℕ) → IsCluster balls k r waiting c → ((v : ℕ) → has v waiting ≡ true → touches balls nodes v ≡ false) → has x nodes ≡ true → has x c.members ≡ false
+  cluster_misses : (nodes waiting : List ℕ) (c : GrownCluster) (x : ℕ) → IsCluster balls k r waiting c
+      → ((v : ℕ) → has v waiting ≡ true → touches balls nodes v ≡ false) → has x nodes ≡ true → has x c.members ≡ false
   cluster_misses nodes waiting c x is none here = false_from_ne_true (has x c.members) (λ there.
-      let w : (v : ℕ) × (has v c.homed ≡ true) × (has x (ball balls v) ≡ true) = union_from balls x c.homed (subst (λ (l : List ℕ). has x l ≡ true) is.joined there) in
+      let w : (v : ℕ) × (has v c.homed ≡ true)
+      × (has x (ball balls v) ≡ true) = union_from balls x c.homed (subst (λ (l : List ℕ). has x l ≡ true) is.joined
+      there) in
       false≢true (sym (none w.0 (is.waits w.0 w.1)) ∙ share_from x (ball balls w.0) nodes w.2 here))
 
   pub later_apart : (nodes waiting : List ℕ) (cs : List GrownCluster) → IsPhase balls k r waiting cs →
-      ((v : ℕ) → has v waiting ≡ true → touches balls nodes v ≡ false) → All (λ (d : GrownCluster). share nodes d.members ≡ false) cs
+      ((v : ℕ) → has v waiting ≡ true → touches balls nodes v ≡ false)
+      → All (λ (d : GrownCluster). share nodes d.members ≡ false) cs
   later_apart nodes waiting [] is none = All-nil (λ (d : GrownCluster). share nodes d.members ≡ false)
   later_apart nodes waiting (c ∷ cs) is none =
       All-cons (λ (d : GrownCluster). share nodes d.members ≡ false) c cs
       (false_from_ne_true (share nodes c.members) (λ both.
       let w : (x : ℕ) × (has x nodes ≡ true) × (has x c.members ≡ true) = share_gives nodes c.members both in
       false≢true (sym (cluster_misses nodes waiting c w.0 is.0 none w.1) ∙ w.2)))
-      (later_apart nodes (apart balls c.members waiting) cs is.1 (λ v h. none v (filter_keeps (λ w. not (touches balls c.members w)) v waiting h).0))
+      (later_apart nodes (apart balls c.members waiting) cs is.1
+      (λ v h. none v (filter_keeps (λ w. not (touches balls c.members w)) v waiting h).0))
 
   -- the later clusters of a phase share no node with an earlier one
-  pub phase_apart : (waiting : List ℕ) (c : GrownCluster) (cs : List GrownCluster) → IsPhase balls k r waiting (c ∷ cs) → All (λ (d : GrownCluster). share c.members d.members ≡ false) cs
+  pub phase_apart : (waiting : List ℕ) (c : GrownCluster) (cs : List GrownCluster) → IsPhase balls k r waiting (c ∷ cs)
+      → All (λ (d : GrownCluster). share c.members d.members ≡ false) cs
   phase_apart waiting c cs is =
-      later_apart c.members (apart balls c.members waiting) cs is.1 (λ v h. not-true (touches balls c.members v) (filter_keeps (λ w. not (touches balls c.members w)) v waiting h).1)
+      later_apart c.members (apart balls c.members waiting) cs is.1
+      (λ v h. not-true (touches balls c.members v)
+      (filter_keeps (λ w. not (touches balls c.members w)) v waiting h).1)
 
-  none_has : (nodes : List ℕ) (x : ℕ) (cs : List GrownCluster) → has x nodes ≡ true → All (λ (d : GrownCluster). share nodes d.members ≡ false) cs → count_by (λ c. has x c.members) cs ≡ 0
+  none_has : (nodes : List ℕ) (x : ℕ) (cs : List GrownCluster) → has x nodes ≡ true
+      → All (λ (d : GrownCluster). share nodes d.members ≡ false) cs → count_by (λ c. has x c.members) cs ≡ 0
   none_has nodes x [] here all = refl
   none_has nodes x (d ∷ ds) here all =
-      let gone : has x d.members ≡ false = false_from_ne_true (has x d.members) (λ there. false≢true (sym (All-head (λ (d : GrownCluster). share nodes d.members ≡ false) d ds all) ∙ share_from x nodes d.members here there)) in
-      sum_by-cons (λ (c : GrownCluster). cond (has x c.members) 1 0) d ds ∙ rw (gone, none_has nodes x ds here (All-tail (λ (d : GrownCluster). share nodes d.members ≡ false) d ds all)) refl
+      let gone : has x d.members ≡ false =
+      false_from_ne_true (has x d.members)
+      (λ there. false≢true (sym (All-head (λ (d : GrownCluster). share nodes d.members ≡ false) d ds all) ∙
+      share_from x nodes d.members here there)) in
+      sum_by-cons (λ (c : GrownCluster). cond (has x c.members) 1 0) d ds
+      ∙ rw (
+        gone,
+        none_has nodes x ds here
+            (All-tail (λ (d : GrownCluster). share nodes d.members ≡ false) d ds all),
+      ) refl
 
   -- at most one cluster of a phase has the node x
-  pub phase_once : (waiting : List ℕ) (cs : List GrownCluster) (x : ℕ) → IsPhase balls k r waiting cs → count_by (λ c. has x c.members) cs ≤ 1
+  pub phase_once : (waiting : List ℕ) (cs : List GrownCluster) (x : ℕ) → IsPhase balls k r waiting cs
+      → count_by (λ c. has x c.members) cs ≤ 1
   phase_once waiting [] x is = omega arith
-  phase_once waiting (c ∷ cs) x is = subst (λ (n : ℕ). n ≤ 1) (sym (sum_by-cons (λ (c : GrownCluster). cond (has x c.members) 1 0) c cs)) (at (has x c.members) refl (phase_once (apart balls c.members waiting) cs x is.1))
+  phase_once waiting (c ∷ cs) x is = subst (λ (n : ℕ). n ≤ 1) (sym
+      (sum_by-cons (λ (c : GrownCluster). cond (has x c.members) 1 0) c cs))
+      (at (has x c.members) refl (phase_once (apart balls c.members waiting) cs x is.1))
     where
-      at : (b : Bool) → has x c.members ≡ b → count_by (λ d. has x d.members) cs ≤ 1 → cond b 1 0 + count_by (λ d. has x d.members) cs ≤ 1
+      at : (b : Bool) → has x c.members ≡ b → count_by (λ d. has x d.members) cs ≤ 1
+          → cond b 1 0 + count_by (λ d. has x d.members) cs ≤ 1
       at true e rest = omega (arith, none_has c.members x cs e (phase_apart waiting c cs is))
       at false e rest = omega arith
 
   -- ---- each cluster is the union of the balls that it is the home of
 
-  pub phase_joined : (waiting : List ℕ) (cs : List GrownCluster) → IsPhase balls k r waiting cs → All (IsShaped balls k) cs
+  pub phase_joined : (waiting : List ℕ) (cs : List GrownCluster) → IsPhase balls k r waiting cs
+      → All (IsShaped balls k) cs
   phase_joined waiting [] is = All-nil (IsShaped balls k)
   phase_joined waiting (c ∷ cs) is =
-      All-cons (IsShaped balls k) c cs (is.0.few, is.0.joined, touching_below balls c.members c.first (is.0.touching c.first is.0.leads), (waiting, is.0.waits c.first is.0.leads, is.0.shape)) (phase_joined (apart balls c.members waiting) cs is.1)
+      All-cons (IsShaped balls k) c cs (
+        is.0.few,
+        is.0.joined,
+        touching_below balls c.members c.first
+            (is.0.touching c.first is.0.leads),
+        (waiting, is.0.waits c.first is.0.leads, is.0.shape),
+      )
+      (phase_joined (apart balls c.members waiting) cs is.1)

@@ -1,5 +1,6 @@
 -- What a finished cover is, and what follows of its clusters.
-use Rattle.std.proofs.Common.{◌≡◌, ℕ, suc, ◌+◌, ◌-◌, ◌*◌, ◌^◌, ◌<◌, ◌≤◌, true, false, cond, List, [], ◌∷◌, ◌++◌, length, get_or, map, refl, sym, ◌∙◌, ap, subst, arith}
+use Rattle.std.proofs.Common.{◌≡◌, ℕ, suc, ◌+◌, ◌-◌, ◌*◌, ◌^◌, ◌<◌, ◌≤◌, true, false, cond, List, [], ◌∷◌, ◌++◌, length}
+use Rattle.std.proofs.Common.{get_or, map, refl, sym, ◌∙◌, ap, subst, arith}
 use Rattle.std.specs.Prelude.{count_by, All}
 use Rattle.std.specs.List.{sum_by}
 use Rattle.std.proofs.lemmas.Grind.{same_number_lists}
@@ -8,13 +9,15 @@ use Rattle.std.proofs.lemmas.List.Elements.{All-nil, All-append, All-map, All-we
 use Rattle.std.proofs.lemmas.List.Sums.{sum_by-cons}
 use Rattle.node_set.specs.Ascending.{has, share}
 use Rattle.whole_powers.specs.Bounds.{PowersAdd, OnePhase}
-use Rattle.coarse_cover.specs.Coarsening.{IsShaped, without_home, all_clusters, coarsening, HomesAreFound, ClustersAreShaped}
+use Rattle.coarse_cover.specs.Coarsening.{IsShaped, without_home, all_clusters, coarsening, HomesAreFound}
+use Rattle.coarse_cover.specs.Coarsening.{ClustersAreShaped}
 use Rattle.coarse_cover.specs.Covers.{cluster_list, as_cluster, IsCover, AreApart, nodes_of}
 use Rattle.coarse_cover.specs.Progress.{phases_of, Agrees, IsBetween}
 use Rattle.coarse_cover.specs.declared.cover.Cluster.{Cluster}
 use Rattle.coarse_cover.specs.declared.cover.Cover.{Cover}
 use Rattle.coarse_cover.proofs.Phase.{IsPhase, apart, phase_apart}
-use Rattle.coarse_cover.proofs.Whole.{ArePhases, all_homed, home_within, home_has, few_have, all_joined, phases_few, clusters_within}
+use Rattle.coarse_cover.proofs.Whole.{ArePhases, all_homed, home_within, home_has, few_have, all_joined, phases_few}
+use Rattle.coarse_cover.proofs.Whole.{clusters_within}
 use Rattle.node_set.specs.Balls.{ball, union_of, GrownCluster, is_homed, home_of, centres, AreCentred, AreHomes}
 use Rattle.node_set.specs.BallLaws.{union_has, length-centres, get_or-map_centres, has_centre}
 use Rattle.coarse_cover.proofs.Steps.{phases_of_none, coarsening_phases}
@@ -26,85 +29,134 @@ append_nothing : (xs : List Cluster) → xs ++ [] ≡ xs
 append_nothing [] = refl
 append_nothing (x ∷ xs) = ap (λ (l : List Cluster). x ∷ l) (append_nothing xs)
 
-pub is_cover : (balls : List (List ℕ)) (k : ℕ) (left : List ℕ) (cover : Cover) → IsBetween balls k left cover.clusters.items cover.home.items cover.phases → left ≡ [] → length cover.home.items ≡ length balls →
+pub is_cover : (balls : List (List ℕ)) (k : ℕ) (left : List ℕ) (cover : Cover)
+    → IsBetween balls k left cover.clusters.items cover.home.items cover.phases → left ≡ [] → length cover.home.items
+    ≡ length balls →
     IsCover (length balls) (coarsening balls k) cover
 unfolding cluster_list all_clusters
 is_cover balls k left cover between none sized =
     let over : Agrees (length balls) (coarsening balls k) [] [] cover.clusters.items cover.home.items cover.phases =
-    subst (λ (l : List (List GrownCluster)). Agrees (length balls) (coarsening balls k) l [] cover.clusters.items cover.home.items cover.phases) (phases_of_none balls k)
-    (subst (λ (l : List ℕ). Agrees (length balls) (coarsening balls k) (phases_of balls k l) l cover.clusters.items cover.home.items cover.phases) none between.so_far)
+    subst (λ (l : List (List GrownCluster)).
+    Agrees (length balls) (coarsening balls k) l [] cover.clusters.items cover.home.items cover.phases)
+    (phases_of_none balls k)
+    (subst (λ (l : List ℕ). Agrees (length balls) (coarsening balls k) (phases_of balls k l) l cover.clusters.items
+    cover.home.items cover.phases) none between.so_far)
     in
     record {
       clusters = sym (append_nothing cover.clusters.items) ∙ over.clusters_so_far;
-      homes = same_number_lists cover.home.items (map (home_of (all_clusters (coarsening balls k))) (centres (length balls)))
-          (sized ∙ sym (length-map (centres (length balls)) (home_of (all_clusters (coarsening balls k))) ∙ length-centres (length balls)))
-          (λ v h. over.homes_so_far v (omega arith) ∙ sym (get_or-map_centres (home_of (all_clusters (coarsening balls k))) (length balls) v 0 (omega arith)));
+      homes = same_number_lists cover.home.items
+          (map (home_of (all_clusters (coarsening balls k))) (centres (length balls)))
+          (sized ∙ sym (length-map (centres (length balls)) (home_of (all_clusters (coarsening balls k)))
+          ∙ length-centres (length balls)))
+          (λ v h. over.homes_so_far v (omega arith)
+          ∙ sym (get_or-map_centres (home_of (all_clusters (coarsening balls k))) (length balls) v 0
+          (omega arith)));
       phases = omega (arith, over.phases_so_far);
     }
 
 -- ---- clusters as they are cluster_list
 
-count_map : {X : Type 0} (f : X → List ℕ) (x : ℕ) (xs : List X) → count_by (λ c. has x (f c)) xs ≡ sum_by (λ m. cond (has x m) 1 0) (map f xs)
+count_map : {X : Type 0} (f : X → List ℕ) (x : ℕ) (xs : List X) → count_by (λ c. has x (f c)) xs
+    ≡ sum_by (λ m. cond (has x m) 1 0) (map f xs)
 count_map f x [] = refl
 count_map f x (y ∷ ys) =
-    sum_by-cons (λ c. cond (has x (f c)) 1 0) y ys ∙ (ap (λ (n : ℕ). cond (has x (f y)) 1 0 + n) (count_map f x ys) ∙ sym (sum_by-cons (λ (m : List ℕ). cond (has x m) 1 0) (f y) (map f ys)))
+    sum_by-cons (λ c. cond (has x (f c)) 1 0) y ys
+    ∙ (ap (λ (n : ℕ). cond (has x (f y)) 1 0 + n) (count_map f x ys)
+    ∙ sym (sum_by-cons (λ (m : List ℕ). cond (has x m) 1 0) (f y) (map f ys)))
 
-pub overlap : (balls : List (List ℕ)) (k n : ℕ) (cover : Cover) (x : ℕ) → 0 < k → AreCentred balls → IsCover n (coarsening balls k) cover → count_by (λ c. has x c.members.members) cover.clusters.items ≤ cover.phases
+pub overlap : (balls : List (List ℕ)) (k n : ℕ) (cover : Cover) (x : ℕ) → 0 < k → AreCentred balls
+    → IsCover n (coarsening balls k) cover → count_by (λ c. has x c.members.members) cover.clusters.items ≤ cover.phases
 overlap balls k n cover x some centred is =
-    let same : count_by (λ c. has x c.members.members) cover.clusters.items ≡ count_by (λ c. has x c.members) (all_clusters (coarsening balls k)) =
+    let same : count_by (λ c. has x c.members.members) cover.clusters.items
+    ≡ count_by (λ c. has x c.members) (all_clusters (coarsening balls k)) =
     ap (λ (l : List Cluster). count_by (λ (c : Cluster). has x c.members.members) l) is.clusters ∙
     (count_map (λ (c : Cluster). c.members.members) x (cluster_list n 0 (coarsening balls k)) ∙
-    (ap (λ (l : List (List ℕ)). sum_by (λ m. cond (has x m) 1 0) l) (cluster_list_nodes n 0 (coarsening balls k)) ∙ sym (count_map (λ (c : GrownCluster). c.members) x (all_clusters (coarsening balls k)))))
+    (ap (λ (l : List (List ℕ)). sum_by (λ m. cond (has x m) 1 0) l) (cluster_list_nodes n 0 (coarsening balls k))
+    ∙ sym (count_map (λ (c : GrownCluster). c.members) x (all_clusters (coarsening balls k)))))
     in
-    omega (arith, same, is.phases, few_have balls k (centres (length balls)) (coarsening balls k) x (coarsening_phases balls k some centred))
+    omega (
+      arith,
+      same,
+      is.phases,
+      few_have balls k (centres (length balls)) (coarsening balls k) x (coarsening_phases
+          balls k some centred),
+    )
 
-pub phases_bounded : PowersAdd → OnePhase → (balls : List (List ℕ)) (k n : ℕ) (cover : Cover) → 0 < k → AreCentred balls → IsCover n (coarsening balls k) cover → cover.phases ^ k ≤ k ^ k * length balls
+pub phases_bounded : PowersAdd → OnePhase → (balls : List (List ℕ)) (k n : ℕ) (cover : Cover) → 0 < k → AreCentred balls
+    → IsCover n (coarsening balls k) cover → cover.phases ^ k ≤ k ^ k * length balls
 phases_bounded adds one_phase balls k n cover some centred is =
     subst (λ (m : ℕ). m ^ k ≤ k ^ k * length balls) (sym is.phases)
-    (subst (λ (m : ℕ). length (coarsening balls k) ^ k ≤ k ^ k * m) (length-centres (length balls)) (phases_few balls k adds one_phase (centres (length balls)) (coarsening balls k) some (coarsening_phases balls k some centred)))
+    (subst (λ (m : ℕ). length (coarsening balls k) ^ k ≤ k ^ k * m) (length-centres (length balls))
+    (phases_few balls k adds one_phase (centres (length balls)) (coarsening balls k) some
+    (coarsening_phases balls k some centred)))
 
-pub clusters_few : (balls : List (List ℕ)) (k n : ℕ) (cover : Cover) → 0 < k → AreCentred balls → IsCover n (coarsening balls k) cover → length cover.clusters.items ≤ length balls
+pub clusters_few : (balls : List (List ℕ)) (k n : ℕ) (cover : Cover) → 0 < k → AreCentred balls
+    → IsCover n (coarsening balls k) cover → length cover.clusters.items ≤ length balls
 clusters_few balls k n cover some centred is =
-    omega (arith, ap length is.clusters, length-cluster_list n 0 (coarsening balls k), length-centres (length balls), clusters_within balls k (centres (length balls)) (coarsening balls k) (coarsening_phases balls k some centred))
+    omega (
+      arith,
+      ap length is.clusters,
+      length-cluster_list n 0 (coarsening balls k),
+      length-centres (length balls),
+      clusters_within balls k (centres (length balls)) (coarsening balls k) (coarsening_phases balls k some centred),
+    )
 
-pub growths_bounded : (balls : List (List ℕ)) (k : ℕ) → 0 < k → AreCentred balls → All (λ c. c.growths ≤ k - 1) (all_clusters (coarsening balls k))
+pub growths_bounded : (balls : List (List ℕ)) (k : ℕ) → 0 < k → AreCentred balls
+    → All (λ c. c.growths ≤ k - 1) (all_clusters (coarsening balls k))
 growths_bounded balls k some centred =
-    All-weaker (IsShaped balls k) (λ (c : GrownCluster). c.growths ≤ k - 1) (λ c h. omega (arith, h.0)) (all_clusters (coarsening balls k))
+    All-weaker (IsShaped balls k) (λ (c : GrownCluster). c.growths ≤ k - 1) (λ c h. omega (arith, h.0))
+    (all_clusters (coarsening balls k))
     (all_joined balls k (centres (length balls)) (coarsening balls k) (coarsening_phases balls k some centred))
 
 no_cluster : GrownCluster
 no_cluster = record { first = 0; growths = 0; homed = []; members = [] }
 
 -- the nodes of a cluster in the list are those of the one that was grown
-nodes_at : (n i : ℕ) (all : List (List GrownCluster)) (clusters : List Cluster) → clusters ≡ cluster_list n 0 all → i < length (all_clusters all) → get_or (nodes_of clusters) i [] ≡ (get_or (all_clusters all) i no_cluster).members
+nodes_at : (n i : ℕ) (all : List (List GrownCluster)) (clusters : List Cluster) → clusters ≡ cluster_list n 0 all
+    → i < length (all_clusters all) → get_or (nodes_of clusters) i [] ≡ (get_or (all_clusters all) i no_cluster).members
 nodes_at n i all clusters e h =
-    ap (λ (l : List (List ℕ)). get_or l i []) (ap nodes_of e ∙ cluster_list_nodes n 0 all) ∙ get_or-map (λ (c : GrownCluster). c.members) (all_clusters all) i no_cluster [] h
+    ap (λ (l : List (List ℕ)). get_or l i []) (ap nodes_of e ∙ cluster_list_nodes n 0 all)
+    ∙ get_or-map (λ (c : GrownCluster). c.members) (all_clusters all) i no_cluster [] h
 
 -- the cluster that is a ball's home has the ball's nodes
-home_has_nodes : (balls : List (List ℕ)) (k v x : ℕ) (left : List ℕ) (all : List (List GrownCluster)) → ArePhases balls k left all → has v left ≡ true → has x (ball balls v) ≡ true →
+home_has_nodes : (balls : List (List ℕ)) (k v x : ℕ) (left : List ℕ) (all : List (List GrownCluster))
+    → ArePhases balls k left all → has v left ≡ true → has x (ball balls v) ≡ true →
     has x (get_or (all_clusters all) (home_of (all_clusters all) v) no_cluster).members ≡ true
 home_has_nodes balls k v x left all are waits inside =
     let homed : is_homed (all_clusters all) v ≡ true = all_homed balls k left all are v waits in
-    let within : home_of (all_clusters all) v < length (all_clusters all) = home_within balls k (all_clusters all) v homed in
-    let joined : (get_or (all_clusters all) (home_of (all_clusters all) v) no_cluster).members ≡ union_of balls (get_or (all_clusters all) (home_of (all_clusters all) v) no_cluster).homed =
+    let within : home_of (all_clusters all) v < length (all_clusters all) =
+    home_within balls k (all_clusters all) v homed in
+    let joined : (get_or (all_clusters all) (home_of (all_clusters all) v) no_cluster).members
+    ≡ union_of balls (get_or (all_clusters all) (home_of (all_clusters all) v) no_cluster).homed =
     (all_joined balls k left all are (home_of (all_clusters all) v) no_cluster within).1
     in
-    subst (λ (l : List ℕ). has x l ≡ true) (sym joined) (union_has balls x v (get_or (all_clusters all) (home_of (all_clusters all) v) no_cluster).homed (home_has balls k (all_clusters all) v no_cluster homed) inside)
+    subst (λ (l : List ℕ). has x l ≡ true) (sym joined)
+    (union_has balls x v (get_or (all_clusters all) (home_of (all_clusters all) v) no_cluster).homed
+    (home_has balls k (all_clusters all) v no_cluster homed) inside)
 
-pub homes_hold : (balls : List (List ℕ)) (k n : ℕ) (cover : Cover) → 0 < k → AreCentred balls → n ≡ length balls → IsCover n (coarsening balls k) cover → AreHomes balls (nodes_of cover.clusters.items) cover.home.items
+pub homes_hold : (balls : List (List ℕ)) (k n : ℕ) (cover : Cover) → 0 < k → AreCentred balls → n ≡ length balls
+    → IsCover n (coarsening balls k) cover → AreHomes balls (nodes_of cover.clusters.items) cover.home.items
 homes_hold balls k n cover some centred size is = λ v h.
-    let are : ArePhases balls k (centres (length balls)) (coarsening balls k) = coarsening_phases balls k some centred in
+    let are : ArePhases balls k (centres (length balls)) (coarsening balls k) =
+    coarsening_phases balls k some centred in
     let waits : has v (centres (length balls)) ≡ true = has_centre (length balls) v h in
-    let home : get_or cover.home.items v 0 ≡ home_of (all_clusters (coarsening balls k)) v = ap (λ (l : List ℕ). get_or l v 0) is.homes ∙ get_or-map_centres (home_of (all_clusters (coarsening balls k))) n v 0 (omega arith) in
+    let home : get_or cover.home.items v 0
+    ≡ home_of (all_clusters (coarsening balls k)) v = ap (λ (l : List ℕ). get_or l v 0) is.homes
+    ∙ get_or-map_centres (home_of (all_clusters (coarsening balls k))) n v 0 (omega arith) in
     let within : home_of (all_clusters (coarsening balls k)) v < length (all_clusters (coarsening balls k)) =
-    home_within balls k (all_clusters (coarsening balls k)) v (all_homed balls k (centres (length balls)) (coarsening balls k) are v waits)
+    home_within balls k (all_clusters (coarsening balls k)) v
+    (all_homed balls k (centres (length balls)) (coarsening balls k) are v waits)
     in
     let count : length (nodes_of cover.clusters.items) ≡ length (all_clusters (coarsening balls k)) =
-    length-map cover.clusters.items (λ (c : Cluster). c.members.members) ∙ (ap length is.clusters ∙ length-cluster_list n 0 (coarsening balls k))
+    length-map cover.clusters.items (λ (c : Cluster). c.members.members)
+    ∙ (ap length is.clusters ∙ length-cluster_list n 0 (coarsening balls k))
     in (
-      subst (λ (i : ℕ). i < length (nodes_of cover.clusters.items)) (sym home) (subst (λ (m : ℕ). home_of (all_clusters (coarsening balls k)) v < m) (sym count) within),
+      subst (λ (i : ℕ). i < length (nodes_of cover.clusters.items)) (sym home)
+          (subst (λ (m : ℕ). home_of (all_clusters (coarsening balls k)) v < m) (sym count) within),
       λ x inside. subst (λ (i : ℕ). has x (get_or (nodes_of cover.clusters.items) i []) ≡ true) (sym home)
-          (subst (λ (l : List ℕ). has x l ≡ true) (sym (nodes_at n (home_of (all_clusters (coarsening balls k)) v) (coarsening balls k) cover.clusters.items is.clusters within))
+          (subst (λ (l : List ℕ). has x l ≡ true)
+          (sym (nodes_at n (home_of (all_clusters (coarsening balls k)) v) (coarsening balls k) cover.clusters.items
+          is.clusters within))
           (home_has_nodes balls k v x (centres (length balls)) (coarsening balls k) are waits inside)),
     )
 
@@ -116,28 +168,40 @@ later_phases n p [] = All-nil (λ (d : Cluster). p ≤ d.phase)
 later_phases n p (cs ∷ later) =
     All-append (λ (d : Cluster). p ≤ d.phase) (map (as_cluster n p) cs) (cluster_list n (suc p) later)
     (All-map (λ (d : Cluster). p ≤ d.phase) (as_cluster n p) cs (λ i d h. omega arith))
-    (All-weaker (λ (d : Cluster). suc p ≤ d.phase) (λ (d : Cluster). p ≤ d.phase) (λ d h. omega arith) (cluster_list n (suc p) later) (later_phases n (suc p) later))
+    (All-weaker (λ (d : Cluster). suc p ≤ d.phase) (λ (d : Cluster). p ≤ d.phase) (λ d h. omega arith)
+    (cluster_list n (suc p) later) (later_phases n (suc p) later))
 
 module _ (balls : List (List ℕ)) (k n : ℕ) where
-  apart_front : (r p : ℕ) (waiting : List ℕ) (cs : List GrownCluster) (later : List (List GrownCluster)) → IsPhase balls k r waiting cs → AreApart (cluster_list n (suc p) later) → AreApart (map (as_cluster n p) cs ++ cluster_list n (suc p) later)
+  apart_front : (r p : ℕ) (waiting : List ℕ) (cs : List GrownCluster) (later : List (List GrownCluster))
+      → IsPhase balls k r waiting cs → AreApart (cluster_list n (suc p) later)
+      → AreApart (map (as_cluster n p) cs ++ cluster_list n (suc p) later)
   unfolding as_cluster
   apart_front r p waiting [] later is rest = rest
   apart_front r p waiting (c ∷ cs) later is rest = (
-    All-append (λ (d : Cluster). d.phase ≡ p → share c.members d.members.members ≡ false) (map (as_cluster n p) cs) (cluster_list n (suc p) later)
+    All-append (λ (d : Cluster). d.phase ≡ p → share c.members d.members.members ≡ false) (map (as_cluster n p) cs)
+        (cluster_list n (suc p) later)
         (All-map (λ (d : Cluster). d.phase ≡ p → share c.members d.members.members ≡ false) (as_cluster n p) cs
-        (All-weaker (λ (d : GrownCluster). share c.members d.members ≡ false) (λ (d : GrownCluster). p ≡ p → share c.members d.members ≡ false) (λ d h e. h) cs (phase_apart balls k r waiting c cs is)))
-        (All-weaker (λ (d : Cluster). suc p ≤ d.phase) (λ (d : Cluster). d.phase ≡ p → share c.members d.members.members ≡ false) (λ d h e. absurd (omega arith)) (cluster_list n (suc p) later) (later_phases n (suc p) later)),
+        (All-weaker (λ (d : GrownCluster). share c.members d.members ≡ false)
+        (λ (d : GrownCluster). p ≡ p → share c.members d.members ≡ false) (λ d h e. h) cs
+        (phase_apart balls k r waiting c cs is)))
+        (All-weaker (λ (d : Cluster). suc p ≤ d.phase)
+        (λ (d : Cluster). d.phase ≡ p → share c.members d.members.members ≡ false) (λ d h e. absurd (omega arith))
+        (cluster_list n (suc p) later) (later_phases n (suc p) later)),
     apart_front r p (apart balls c.members waiting) cs later is.1 rest,
   )
 
-  apart_list : (p : ℕ) (left : List ℕ) (all : List (List GrownCluster)) → ArePhases balls k left all → AreApart (cluster_list n p all)
+  apart_list : (p : ℕ) (left : List ℕ) (all : List (List GrownCluster)) → ArePhases balls k left all
+      → AreApart (cluster_list n p all)
   unfolding cluster_list
   apart_list p left [] are = tt
-  apart_list p left (cs ∷ later) are = apart_front (length left) p left cs later are.1 (apart_list (suc p) (without_home cs left) later are.2)
+  apart_list p left (cs ∷ later) are =
+      apart_front (length left) p left cs later are.1 (apart_list (suc p) (without_home cs left) later are.2)
 
-  pub clusters_apart : (cover : Cover) → 0 < k → AreCentred balls → IsCover n (coarsening balls k) cover → AreApart cover.clusters.items
+  pub clusters_apart : (cover : Cover) → 0 < k → AreCentred balls → IsCover n (coarsening balls k) cover
+      → AreApart cover.clusters.items
   clusters_apart cover some centred is =
-      subst (λ (l : List Cluster). AreApart l) (sym is.clusters) (apart_list 0 (centres (length balls)) (coarsening balls k) (coarsening_phases balls k some centred))
+      subst (λ (l : List Cluster). AreApart l) (sym is.clusters)
+      (apart_list 0 (centres (length balls)) (coarsening balls k) (coarsening_phases balls k some centred))
 
 pub nothing_in : (xs : List ℕ) → length xs ≤ 0 → xs ≡ []
 nothing_in [] h = refl
@@ -146,11 +210,15 @@ nothing_in (x ∷ xs) h = absurd (omega arith)
 -- ---- laws for the layers above
 
 pub clusters_shaped : ClustersAreShaped
-clusters_shaped balls k some centred = all_joined balls k (centres (length balls)) (coarsening balls k) (coarsening_phases balls k some centred)
+clusters_shaped balls k some centred =
+    all_joined balls k (centres (length balls)) (coarsening balls k) (coarsening_phases balls k some centred)
 
 pub homes_found : HomesAreFound
 homes_found balls k v d some centred below =
     let homed : is_homed (all_clusters (coarsening balls k)) v ≡ true =
-    all_homed balls k (centres (length balls)) (coarsening balls k) (coarsening_phases balls k some centred) v (has_centre (length balls) v below)
-    in
-    (home_within balls k (all_clusters (coarsening balls k)) v homed, home_has balls k (all_clusters (coarsening balls k)) v d homed)
+    all_homed balls k (centres (length balls)) (coarsening balls k) (coarsening_phases balls k some centred) v
+    (has_centre (length balls) v below)
+    in (
+      home_within balls k (all_clusters (coarsening balls k)) v homed,
+      home_has balls k (all_clusters (coarsening balls k)) v d homed,
+    )

@@ -1,5 +1,6 @@
 -- All phases: how many they are, that each ball finds a home, and how many clusters a node is in.
-use Rattle.std.proofs.Common.{◌≡◌, inl, inr, ℕ, zero, suc, ◌+◌, ◌-◌, ◌*◌, ◌^◌, ◌<◌, ◌≤◌, Bool, true, false, cond, not, List, [], ◌∷◌, ◌++◌, length, length-append, filter, get_or, refl, ap, subst, arith}
+use Rattle.std.proofs.Common.{◌≡◌, inl, inr, ℕ, zero, suc, ◌+◌, ◌-◌, ◌*◌, ◌^◌, ◌<◌, ◌≤◌, Bool, true, false, cond, not}
+use Rattle.std.proofs.Common.{List, [], ◌∷◌, ◌++◌, length, length-append, filter, get_or, refl, ap, subst, arith}
 use Rattle.std.specs.Prelude.{count_by, All}
 use Rattle.std.proofs.Math.Nat.{le_refl}
 use Rattle.std.proofs.lemmas.List.Elements.{All-nil, All-append}
@@ -12,27 +13,40 @@ use Rattle.coarse_cover.specs.Coarsening.{IsShaped, phase, without_home, phases,
 use Rattle.coarse_cover.specs.Progress.{IsReady}
 use Rattle.node_set.specs.Balls.{GrownCluster, is_homed, home_of}
 use Rattle.node_set.specs.FilterLaws.{filter_has, filter_halves, filter_fewer}
-use Rattle.coarse_cover.proofs.Phase.{IsPhase, ready_filter, phase_is, phase_size, phase_count, phase_once, phase_joined}
+use Rattle.coarse_cover.proofs.Phase.{IsPhase, ready_filter, phase_is, phase_size, phase_count, phase_once}
+use Rattle.coarse_cover.proofs.Phase.{phase_joined}
 
 -- the lists are those of the phases of the balls that are left
 abbrev pub ArePhases : List (List ℕ) → ℕ → List ℕ → List (List GrownCluster) → Type 0
 ArePhases balls k left [] = left ≡ []
-ArePhases balls k left (cs ∷ later) = (0 < length cs) × IsPhase balls k (length left) left cs × ArePhases balls k (without_home cs left) later
+ArePhases balls k left (cs ∷ later) = (0 < length cs) × IsPhase balls k (length left) left cs
+    × ArePhases balls k (without_home cs left) later
 
 -- a phase leaves fewer balls
-pub phase_fewer : (balls : List (List ℕ)) (k r : ℕ) (left : List ℕ) (cs : List GrownCluster) → IsPhase balls k r left cs → length (without_home cs left) + length cs ≤ length left
+pub phase_fewer : (balls : List (List ℕ)) (k r : ℕ) (left : List ℕ) (cs : List GrownCluster) → IsPhase balls k r left cs
+    → length (without_home cs left) + length cs ≤ length left
 phase_fewer balls k r left cs is = omega (arith, phase_count balls k r left cs is, filter_halves (is_homed cs) left)
 
-pub some_clusters : (balls : List (List ℕ)) (k r v : ℕ) (vs : List ℕ) (cs : List GrownCluster) → IsPhase balls k r (v ∷ vs) cs → 0 < length cs
+pub some_clusters : (balls : List (List ℕ)) (k r v : ℕ) (vs : List ℕ) (cs : List GrownCluster)
+    → IsPhase balls k r (v ∷ vs) cs → 0 < length cs
 some_clusters balls k r v vs [] is = absurd (omega (arith, ap length is))
 some_clusters balls k r v vs (c ∷ cs) is = omega arith
 
-pub ready_left : (balls : List (List ℕ)) (k : ℕ) (left : List ℕ) (cs : List GrownCluster) → IsReady balls k (length left) left → IsReady balls k (length (without_home cs left)) (without_home cs left)
+pub ready_left : (balls : List (List ℕ)) (k : ℕ) (left : List ℕ) (cs : List GrownCluster)
+    → IsReady balls k (length left) left → IsReady balls k (length (without_home cs left)) (without_home cs left)
 ready_left balls k left cs ready =
-    let all : IsReady balls k (length left) (without_home cs left) = ready_filter balls k (length left) left (λ v. not (is_homed cs v)) ready in
-    record { some = all.some; fits = le_refl (length (without_home cs left)); ascending = all.ascending; centred = all.centred }
+    let all : IsReady balls k (length left) (without_home cs left) =
+    ready_filter balls k (length left) left (λ v. not (is_homed cs v)) ready in
+    record {
+      some = all.some;
+      fits = le_refl (length (without_home cs left));
+      ascending = all.ascending;
+      centred =
+          all.centred;
+    }
 
-pub phases_are : (balls : List (List ℕ)) (k more : ℕ) (left : List ℕ) → IsReady balls k (length left) left → length left ≤ more → ArePhases balls k left (phases balls k more left)
+pub phases_are : (balls : List (List ℕ)) (k more : ℕ) (left : List ℕ) → IsReady balls k (length left) left
+    → length left ≤ more → ArePhases balls k left (phases balls k more left)
 unfolding phases
 phases_are balls k zero [] ready enough = refl
 phases_are balls k zero (v ∷ vs) ready enough = absurd (omega arith)
@@ -41,34 +55,57 @@ phases_are balls k (suc more) (v ∷ vs) ready enough =
     let here : IsPhase balls k (length (v ∷ vs)) (v ∷ vs) (phase balls k (length (v ∷ vs)) (length (v ∷ vs)) (v ∷ vs)) =
     phase_is balls k (length (v ∷ vs)) (length (v ∷ vs)) (v ∷ vs) ready (le_refl (length (v ∷ vs)))
     in
-    let some : 0 < length (phase balls k (length (v ∷ vs)) (length (v ∷ vs)) (v ∷ vs)) = some_clusters balls k (length (v ∷ vs)) v vs (phase balls k (length (v ∷ vs)) (length (v ∷ vs)) (v ∷ vs)) here in (
+    let some : 0 < length (phase balls k (length (v ∷ vs)) (length (v ∷ vs)) (v ∷ vs)) =
+    some_clusters balls k (length (v ∷ vs)) v vs (phase balls k (length (v ∷ vs)) (length (v ∷ vs)) (v ∷ vs)) here
+    in (
       some,
       here,
       phases_are balls k more (without_home (phase balls k (length (v ∷ vs)) (length (v ∷ vs)) (v ∷ vs)) (v ∷ vs))
           (ready_left balls k (v ∷ vs) (phase balls k (length (v ∷ vs)) (length (v ∷ vs)) (v ∷ vs)) ready)
-          (fewer (length (without_home (phase balls k (length (v ∷ vs)) (length (v ∷ vs)) (v ∷ vs)) (v ∷ vs))) (length (phase balls k (length (v ∷ vs)) (length (v ∷ vs)) (v ∷ vs))) (length (v ∷ vs)) more
-          (phase_fewer balls k (length (v ∷ vs)) (v ∷ vs) (phase balls k (length (v ∷ vs)) (length (v ∷ vs)) (v ∷ vs)) here) some enough),
+          (fewer (length (without_home (phase balls k (length (v ∷ vs)) (length (v ∷ vs)) (v ∷ vs)) (v ∷ vs)))
+          (length (phase balls k (length (v ∷ vs)) (length (v ∷ vs)) (v ∷ vs))) (length (v ∷ vs)) more
+          (phase_fewer balls k (length (v ∷ vs)) (v ∷ vs) (phase balls k (length (v ∷ vs)) (length (v ∷ vs)) (v ∷ vs))
+          here) some enough),
     )
   where
     fewer : (after taken before more : ℕ) → after + taken ≤ before → 0 < taken → before ≤ suc more → after ≤ more
     fewer after taken before more h some enough = omega arith
 
 module _ (balls : List (List ℕ)) (k : ℕ) where
-  pub phases_few : PowersAdd → OnePhase → (left : List ℕ) (all : List (List GrownCluster)) → 0 < k → ArePhases balls k left all → length all ^ k ≤ k ^ k * length left
+  pub phases_few : PowersAdd → OnePhase → (left : List ℕ) (all : List (List GrownCluster)) → 0 < k
+      → ArePhases balls k left all → length all ^ k ≤ k ^ k * length left
   phases_few adds one_phase left [] pos are = omega (arith, zero_pow k pos)
   phases_few adds one_phase left (cs ∷ later) pos are =
-      let rest : length (without_home cs left) ≡ length left - length (filter (is_homed cs) left) = omega (arith, filter_halves (is_homed cs) left) in
-      one_phase k (length left) (length (filter (is_homed cs) left)) (length later) pos (omega (arith, are.0, phase_fewer balls k (length left) left cs are.1)) (filter_fewer (is_homed cs) left)
-      (phase_size balls k (length left) adds left cs pos are.1) (subst (λ (n : ℕ). length later ^ k ≤ k ^ k * n) rest (phases_few adds one_phase (without_home cs left) later pos are.2))
+      let rest : length (without_home cs left)
+      ≡ length left - length (filter (is_homed cs) left) = omega (arith, filter_halves (is_homed cs) left) in
+      one_phase k (length left) (length (filter (is_homed cs) left)) (length later) pos
+      (omega (arith, are.0, phase_fewer balls k (length left) left cs are.1)) (filter_fewer (is_homed cs) left)
+      (phase_size balls k (length left) adds left cs pos are.1)
+      (subst (λ (n : ℕ). length later ^ k ≤ k ^ k * n) rest
+      (phases_few adds one_phase (without_home cs left) later pos are.2))
 
-  pub phases_within : (left : List ℕ) (all : List (List GrownCluster)) → ArePhases balls k left all → length all ≤ length left
+  pub phases_within : (left : List ℕ) (all : List (List GrownCluster)) → ArePhases balls k left all
+      → length all ≤ length left
   phases_within left [] are = omega arith
-  phases_within left (cs ∷ later) are = omega (arith, are.0, phase_fewer balls k (length left) left cs are.1, phases_within (without_home cs left) later are.2)
+  phases_within left (cs ∷ later) are =
+      omega (
+        arith,
+        are.0,
+        phase_fewer balls k (length left) left cs are.1,
+        phases_within (without_home cs left) later are.2,
+      )
 
-  pub clusters_within : (left : List ℕ) (all : List (List GrownCluster)) → ArePhases balls k left all → length (all_clusters all) ≤ length left
+  pub clusters_within : (left : List ℕ) (all : List (List GrownCluster)) → ArePhases balls k left all
+      → length (all_clusters all) ≤ length left
   unfolding all_clusters
   clusters_within left [] are = omega arith
-  clusters_within left (cs ∷ later) are = omega (arith, length-append cs (all_clusters later), phase_fewer balls k (length left) left cs are.1, clusters_within (without_home cs left) later are.2)
+  clusters_within left (cs ∷ later) are =
+      omega (
+        arith,
+        length-append cs (all_clusters later),
+        phase_fewer balls k (length left) left cs are.1,
+        clusters_within (without_home cs left) later are.2,
+      )
 
   -- ---- each ball finds a home
 
@@ -77,7 +114,8 @@ module _ (balls : List (List ℕ)) (k : ℕ) where
   homed_front [] ds v h = absurd (false≢true h)
   homed_front (c ∷ cs) ds v h = at (has v c.homed) h (homed_front cs ds v)
     where
-      at : (b : Bool) → cond b true (is_homed cs v) ≡ true → (is_homed cs v ≡ true → is_homed (cs ++ ds) v ≡ true) → cond b true (is_homed (cs ++ ds) v) ≡ true
+      at : (b : Bool) → cond b true (is_homed cs v) ≡ true → (is_homed cs v ≡ true → is_homed (cs ++ ds) v ≡ true)
+          → cond b true (is_homed (cs ++ ds) v) ≡ true
       at true h rest = refl
       at false h rest = rest h
 
@@ -90,13 +128,16 @@ module _ (balls : List (List ℕ)) (k : ℕ) where
       at true rest = refl
       at false rest = rest
 
-  pub all_homed : (left : List ℕ) (all : List (List GrownCluster)) → ArePhases balls k left all → (v : ℕ) → has v left ≡ true → is_homed (all_clusters all) v ≡ true
+  pub all_homed : (left : List ℕ) (all : List (List GrownCluster)) → ArePhases balls k left all → (v : ℕ) → has v left
+      ≡ true → is_homed (all_clusters all) v ≡ true
   unfolding all_clusters
   all_homed left [] are v h = absurd (false≢true (subst (λ (l : List ℕ). has v l ≡ true) are h))
   all_homed left (cs ∷ later) are v h =
       elim (cases_Bool (is_homed cs v)) [
         | inl here ↦ homed_front cs (all_clusters later) v here
-        | inr gone ↦ homed_end cs (all_clusters later) v (all_homed (without_home cs left) later are.2 v (filter_has (λ w. not (is_homed cs w)) v left h (not_from_false (is_homed cs v) gone)))
+        | inr gone ↦ homed_end cs (all_clusters later) v
+            (all_homed (without_home cs left) later are.2 v
+            (filter_has (λ w. not (is_homed cs w)) v left h (not_from_false (is_homed cs v) gone)))
       ]
 
   pub home_within : (cs : List GrownCluster) (v : ℕ) → is_homed cs v ≡ true → home_of cs v < length cs
@@ -104,30 +145,41 @@ module _ (balls : List (List ℕ)) (k : ℕ) where
   home_within [] v h = absurd (false≢true h)
   home_within (c ∷ cs) v h = at (has v c.homed) h (home_within cs v)
     where
-      at : (b : Bool) → cond b true (is_homed cs v) ≡ true → (is_homed cs v ≡ true → home_of cs v < length cs) → cond b 0 (suc (home_of cs v)) < suc (length cs)
+      at : (b : Bool) → cond b true (is_homed cs v) ≡ true → (is_homed cs v ≡ true → home_of cs v < length cs)
+          → cond b 0 (suc (home_of cs v)) < suc (length cs)
       at true h rest = omega arith
       at false h rest = omega (arith, rest h)
 
-  pub home_has : (cs : List GrownCluster) (v : ℕ) (d : GrownCluster) → is_homed cs v ≡ true → has v (get_or cs (home_of cs v) d).homed ≡ true
+  pub home_has : (cs : List GrownCluster) (v : ℕ) (d : GrownCluster) → is_homed cs v ≡ true
+      → has v (get_or cs (home_of cs v) d).homed ≡ true
   unfolding is_homed home_of
   home_has [] v d h = absurd (false≢true h)
   home_has (c ∷ cs) v d h = at (has v c.homed) refl h (home_has cs v d)
     where
-      at : (b : Bool) → has v c.homed ≡ b → cond b true (is_homed cs v) ≡ true → (is_homed cs v ≡ true → has v (get_or cs (home_of cs v) d).homed ≡ true) →
+      at : (b : Bool) → has v c.homed ≡ b → cond b true (is_homed cs v) ≡ true
+          → (is_homed cs v ≡ true → has v (get_or cs (home_of cs v) d).homed ≡ true) →
           has v (get_or (c ∷ cs) (cond b 0 (suc (home_of cs v))) d).homed ≡ true
       at true e h rest = e
       at false e h rest = rest h
 
   -- ---- how many clusters have a node
 
-  pub few_have : (left : List ℕ) (all : List (List GrownCluster)) (x : ℕ) → ArePhases balls k left all → count_by (λ c. has x c.members) (all_clusters all) ≤ length all
+  pub few_have : (left : List ℕ) (all : List (List GrownCluster)) (x : ℕ) → ArePhases balls k left all
+      → count_by (λ c. has x c.members) (all_clusters all) ≤ length all
   unfolding all_clusters
   few_have left [] x are = omega arith
   few_have left (cs ∷ later) x are =
-      omega (arith, sum_by-append (λ (c : GrownCluster). cond (has x c.members) 1 0) cs (all_clusters later), phase_once balls k (length left) left cs x are.1, few_have (without_home cs left) later x are.2)
+      omega (
+        arith,
+        sum_by-append (λ (c : GrownCluster). cond (has x c.members) 1 0) cs (all_clusters later),
+        phase_once balls k (length left) left cs x are.1,
+        few_have (without_home cs left) later x are.2,
+      )
 
-  pub all_joined : (left : List ℕ) (all : List (List GrownCluster)) → ArePhases balls k left all → All (IsShaped balls k) (all_clusters all)
+  pub all_joined : (left : List ℕ) (all : List (List GrownCluster)) → ArePhases balls k left all
+      → All (IsShaped balls k) (all_clusters all)
   unfolding all_clusters
   all_joined left [] are = All-nil (IsShaped balls k)
   all_joined left (cs ∷ later) are =
-      All-append (IsShaped balls k) cs (all_clusters later) (phase_joined balls k (length left) left cs are.1) (all_joined (without_home cs left) later are.2)
+      All-append (IsShaped balls k) cs (all_clusters later) (phase_joined balls k (length left) left cs are.1)
+      (all_joined (without_home cs left) later are.2)

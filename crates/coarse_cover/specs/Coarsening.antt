@@ -1,20 +1,35 @@
--- Coarsening: balls are merged into clusters, phase by phase, so that few clusters overlap and no cluster grows far.
--- Key laws: `cluster_shape` (each cluster grows at most k - 1 times from its leader's ball), `home_means` (each ball finds a home), and the clauses of `coarsen`: `apart` (clusters of one phase are disjoint), `phases` (their number p has p ^ k ≤ k ^ k * n), `homes` (each ball lies in its home).
-use Rattle.std.specs.Prelude.{◌≡◌, ℕ, zero, suc, ◌*◌, ◌^◌, ◌<◌, Bool, true, not, List, [], ◌∷◌, ◌++◌, length, get_or, filter, nat_le, All}
+-- Coarsening: balls are merged into clusters, phase by phase, so that few clusters overlap and no
+-- cluster grows far.
+-- Key laws: `cluster_shape` (each cluster grows at most k - 1 times from its leader's ball),
+-- `home_means` (each ball finds a home), and the clauses of `coarsen`: `apart` (clusters of one
+-- phase are disjoint), `phases` (their number p has p ^ k ≤ k ^ k * n), `homes` (each ball lies in
+-- its home).
+use Rattle.std.specs.Prelude.{◌≡◌, ℕ, zero, suc, ◌*◌, ◌^◌, ◌<◌, Bool, true, not, List, [], ◌∷◌}
+use Rattle.std.specs.Prelude.{◌++◌, length, get_or, filter, nat_le, All}
 use Rattle.node_set.specs.Ascending.{has}
-use Rattle.node_set.specs.Balls.{centres, AreCentred, union_of, touches, growth, least, GrownCluster, is_homed, home_of}
+use Rattle.node_set.specs.Balls.{centres, AreCentred, union_of, touches, growth, least}
+use Rattle.node_set.specs.Balls.{GrownCluster, is_homed, home_of}
 
--- whether j growths are enough: one more would not multiply the number of balls, to the power k, by more than r
+-- whether j growths are enough: one more would not multiply the number of balls, to the power k, by
+-- more than r
 unfoldable pub is_enough : List (List ℕ) → ℕ → ℕ → List ℕ → ℕ → ℕ → Bool
-is_enough balls k r waiting a j = nat_le (length (growth balls waiting a (suc j)) ^ k) (r * length (growth balls waiting a j) ^ k)
+is_enough balls k r waiting a j =
+    nat_le (length (growth balls waiting a (suc j)) ^ k) (r * length (growth balls waiting a j) ^ k)
 
 -- the cluster that a leads, grown as often as is enough, which is less than k times
 unfoldable pub cluster_of : List (List ℕ) → ℕ → ℕ → List ℕ → ℕ → GrownCluster
 cluster_of balls k r waiting a =
     let j = least (is_enough balls k r waiting a) k in
-    record { first = a; growths = j; homed = growth balls waiting a j; members = union_of balls (growth balls waiting a j) }
+    record {
+      first = a;
+      growths = j;
+      homed = growth balls waiting a j;
+      members =
+          union_of balls (growth balls waiting a j);
+    }
 
--- the clusters of a phase: the least waiting centre leads a cluster, the balls that touch it are waiting no more, and so on, with at most so many clusters
+-- the clusters of a phase: the least waiting centre leads a cluster, the balls that touch it are
+-- waiting no more, and so on, with at most so many clusters
 unfoldable pub phase : List (List ℕ) → ℕ → ℕ → ℕ → List ℕ → List GrownCluster
 phase balls k r zero waiting = []
 phase balls k r (suc more) [] = []
@@ -26,7 +41,8 @@ phase balls k r (suc more) (a ∷ rest) =
 abbrev pub without_home : List GrownCluster → List ℕ → List ℕ
 without_home clusters left = filter (λ v. not (is_homed clusters v)) left
 
--- the phases: each begins with all the balls that are left, and those that it finds a home for are left no more; with at most so many phases
+-- the phases: each begins with all the balls that are left, and those that it finds a home for are
+-- left no more; with at most so many phases
 unfoldable pub phases : List (List ℕ) → ℕ → ℕ → List ℕ → List (List GrownCluster)
 phases balls k zero left = []
 phases balls k (suc more) [] = []
@@ -43,10 +59,13 @@ all_clusters (clusters ∷ later) = clusters ++ all_clusters later
 abbrev pub coarsening : List (List ℕ) → ℕ → List (List GrownCluster)
 coarsening balls k = phases balls k (length balls) (centres (length balls))
 
--- a cluster of a coarsening: grown fewer than k times from its leader's ball among balls that waited, it has the nodes of the balls that it is the home of
+-- a cluster of a coarsening: grown fewer than k times from its leader's ball among balls that
+-- waited, it has the nodes of the balls that it is the home of
 abbrev pub IsShaped : List (List ℕ) → ℕ → GrownCluster → Type 0
-IsShaped balls k c = (c.growths < k) × (c.members ≡ union_of balls c.homed) × (c.first < length balls)
-    × ((waiting : List ℕ) × (has c.first waiting ≡ true) × (c.homed ≡ growth balls waiting c.first c.growths))
+IsShaped balls k c = (c.growths < k) × (c.members ≡ union_of balls c.homed)
+    × (c.first < length balls)
+    × ((waiting : List ℕ) × (has c.first waiting ≡ true)
+    × (c.homed ≡ growth balls waiting c.first c.growths))
 
 -- all clusters of a coarsening are of that shape
 abbrev pub ClustersAreShaped : Type 0
@@ -55,6 +74,8 @@ ClustersAreShaped = (balls : List (List ℕ)) (k : ℕ) → 0 < k → AreCentred
 
 -- each ball is one of those that its home was grown from
 abbrev pub HomesAreFound : Type 0
-HomesAreFound = (balls : List (List ℕ)) (k v : ℕ) (d : GrownCluster) → 0 < k → AreCentred balls → v < length balls
+HomesAreFound = (balls : List (List ℕ)) (k v : ℕ) (d : GrownCluster) → 0 < k → AreCentred balls
+    → v < length balls
     → (home_of (all_clusters (coarsening balls k)) v < length (all_clusters (coarsening balls k)))
-    × (has v (get_or (all_clusters (coarsening balls k)) (home_of (all_clusters (coarsening balls k)) v) d).homed ≡ true)
+    × (has v (get_or (all_clusters (coarsening balls k))
+    (home_of (all_clusters (coarsening balls k)) v) d).homed ≡ true)

@@ -1,4 +1,5 @@
--- A cover as it is given: the clusters of all phases one after another, and for each ball the number of the cluster that is its home.
+-- A cover as it is given: the clusters of all phases one after another, and for each ball the
+-- number of the cluster that is its home.
 -- Key law: `coarsen` gives the cover of its balls' coarsening, by its clause `exact`.
 use Rattle.std.specs.Prelude.{◌≡◌, ℕ, suc, false, List, [], ◌∷◌, ◌++◌, length, map, All}
 use Rattle.node_set.specs.Ascending.{share}
@@ -9,7 +10,11 @@ use Rattle.coarse_cover.specs.declared.cover.Cover.{Cover}
 
 -- a cluster of phase p, over n nodes
 unfoldable pub as_cluster : ℕ → ℕ → GrownCluster → Cluster
-as_cluster n p c = record { first = c.first; members = record { room = n; members = c.members }; phase = p }
+as_cluster n p c = record {
+  first = c.first;
+  members = record { room = n; members = c.members };
+  phase = p;
+}
 
 -- the clusters of the phases from p on
 unfoldable pub cluster_list : ℕ → ℕ → List (List GrownCluster) → List Cluster
@@ -25,7 +30,8 @@ pub record IsCover (n : ℕ) (all : List (List GrownCluster)) (cover : Cover) : 
 -- of the clusters of one phase no two share a node
 abbrev pub AreApart : List Cluster → Type 0
 AreApart [] = Unit {0}
-AreApart (c ∷ cs) = All (λ (d : Cluster). d.phase ≡ c.phase → share c.members.members d.members.members ≡ false) cs × AreApart cs
+AreApart (c ∷ cs) = All (λ (d : Cluster). d.phase ≡ c.phase
+    → share c.members.members d.members.members ≡ false) cs × AreApart cs
 
 -- the nodes of each cluster
 abbrev pub nodes_of : List Cluster → List (List ℕ)

@@ -2,3 +2,4 @@ pub mod Coarsening
 pub mod Covers
 pub mod CoverLaws
 pub mod Progress
+pub mod Turned

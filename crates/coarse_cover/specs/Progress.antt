@@ -1,17 +1,15 @@
--- How far the making of a cover has come: what is done, followed by what the definition gives for the balls that are left, is what it gives for all.
--- Only the private functions of this crate speak of it.
-use Rattle.std.specs.Prelude.{◌≡◌, ℕ, ◌+◌, ◌<◌, ◌≤◌, Bool, true, false, cond, not, List, [], ◌∷◌, ◌++◌, length, get_or, filter}
-use Rattle.node_set.specs.Ascending.{has, IsAscending, passing}
+-- How far the making of a cover has come: what is done, followed by what the definition gives for
+-- the balls that are left, is what it gives for all. Only the private functions of this crate speak
+-- of it.
+use Rattle.std.specs.Prelude.{◌≡◌, ℕ, ◌+◌, ◌<◌, ◌≤◌, true, cond, not, List, [], ◌∷◌, ◌++◌, length}
+use Rattle.std.specs.Prelude.{get_or, filter}
+use Rattle.node_set.specs.Ascending.{has, IsAscending}
 use Rattle.coarse_cover.specs.Coarsening.{phase, phases, without_home, all_clusters, coarsening}
 use Rattle.coarse_cover.specs.Covers.{cluster_list, as_cluster}
 use Rattle.coarse_cover.specs.declared.cover.Cluster.{Cluster}
 use Rattle.coarse_cover.specs.declared.cover.Cover.{Cover}
 use Rattle.node_set.specs.Balls.{ball, touches, GrownCluster, home_of}
 use Rattle.coarse_cover.specs.declared.phasing.Work.{Work}
-
--- the centres that are marked
-unfoldable pub marked : List Bool → List ℕ
-marked marks = passing (λ v. get_or marks v false) 0 (length marks)
 
 -- the clusters of a phase, from these waiting balls on
 unfoldable pub phase_of : List (List ℕ) → ℕ → ℕ → List ℕ → List GrownCluster
@@ -28,37 +26,51 @@ pub record IsReady (balls : List (List ℕ)) (k r : ℕ) (waiting : List ℕ) : 
   pub ascending : IsAscending waiting
   pub centred : (v : ℕ) → has v waiting ≡ true → has v (ball balls v) ≡ true
 
--- these clusters and homes, made up to phase p, followed by what comes later, are those of all phases
-pub record Agrees (n : ℕ) (all later : List (List GrownCluster)) (left : List ℕ) (clusters : List Cluster) (home : List ℕ) (p : ℕ) : Type 0 where
+-- these clusters and homes, made up to phase p, followed by what comes later, are those of all
+-- phases
+pub record Agrees (n : ℕ) (all later : List (List GrownCluster)) (left : List ℕ)
+    (clusters : List Cluster) (home : List ℕ) (p : ℕ) : Type 0 where
   pub clusters_so_far : clusters ++ cluster_list n p later ≡ cluster_list n 0 all
-  pub homes_so_far : (v : ℕ) → v < n → cond (has v left) (length clusters + home_of (all_clusters later) v) (get_or home v 0) ≡ home_of (all_clusters all) v
+  pub homes_so_far : (v : ℕ) → v < n
+      → cond (has v left) (length clusters + home_of (all_clusters later) v) (get_or home v 0)
+      ≡ home_of (all_clusters all) v
   pub phases_so_far : p + length later ≡ length all
 
 -- within a phase
-pub record IsInPhase (balls : List (List ℕ)) (k r : ℕ) (waiting left : List ℕ) (clusters : List Cluster) (home : List ℕ) (p : ℕ) : Type 0 where
+pub record IsInPhase (balls : List (List ℕ)) (k r : ℕ) (waiting left : List ℕ)
+    (clusters : List Cluster) (home : List ℕ) (p : ℕ) : Type 0 where
   pub ready : IsReady balls k r waiting
   pub left_ready : IsReady balls k (length left) left
   pub waiting_left : (v : ℕ) → has v waiting ≡ true → has v left ≡ true
-  pub so_far : Agrees (length balls) (coarsening balls k) (phase_of balls k r waiting ∷ phases_of balls k (without_home (phase_of balls k r waiting) left)) left clusters home p
+  pub so_far : Agrees (length balls) (coarsening balls k)
+      (phase_of balls k r waiting ∷ phases_of balls k
+      (without_home (phase_of balls k r waiting) left)) left clusters home p
 
 -- between two phases
-pub record IsBetween (balls : List (List ℕ)) (k : ℕ) (left : List ℕ) (clusters : List Cluster) (home : List ℕ) (p : ℕ) : Type 0 where
+pub record IsBetween (balls : List (List ℕ)) (k : ℕ) (left : List ℕ) (clusters : List Cluster)
+    (home : List ℕ) (p : ℕ) : Type 0 where
   pub left_ready : IsReady balls k (length left) left
-  pub so_far : Agrees (length balls) (coarsening balls k) (phases_of balls k left) left clusters home p
+  pub so_far : Agrees (length balls) (coarsening balls k) (phases_of balls k left) left clusters
+      home p
 
--- each list of marks has one for each ball
+-- each set of balls has room for all of them
 pub record IsSized (n : ℕ) (work : Work) : Type 0 where
-  pub left : length work.left.items ≡ n
-  pub waiting : length work.waiting.items ≡ n
-  pub taken : length work.growth.taken.items ≡ n
-  pub touched : length work.growth.touched.items ≡ n
+  pub left : work.left.room ≡ n
+  pub waiting : work.waiting.room ≡ n
+  pub taken : work.growth.taken.room ≡ n
+  pub touched : work.growth.touched.room ≡ n
 
--- the cluster c was added: its balls have their home and are left no more, those that touch it wait no more
-pub record IsAdded (n : ℕ) (balls : List (List ℕ)) (c : GrownCluster) (old new : Work) (before after : Cover) : Type 0 where
-  pub waiting : marked new.waiting.items ≡ filter (λ v. not (touches balls c.members v)) (marked old.waiting.items)
-  pub left : marked new.left.items ≡ filter (λ v. not (has v c.homed)) (marked old.left.items)
+-- the cluster c was added: its balls have their home and are left no more, those that touch it wait
+-- no more
+pub record IsAdded (n : ℕ) (balls : List (List ℕ)) (c : GrownCluster) (old new : Work)
+    (before after : Cover) : Type 0 where
+  pub waiting : new.waiting.members
+      ≡ filter (λ v. not (touches balls c.members v)) old.waiting.members
+  pub left : new.left.members ≡ filter (λ v. not (has v c.homed)) old.left.members
   pub clusters : after.clusters.items ≡ before.clusters.items ++ as_cluster n before.phases c ∷ []
-  pub homes : (v : ℕ) → v < n → get_or after.home.items v 0 ≡ cond (has v c.homed) (length before.clusters.items) (get_or before.home.items v 0)
+  pub homes : (v : ℕ) → v < n
+      → get_or after.home.items v 0 ≡
+      cond (has v c.homed) (length before.clusters.items) (get_or before.home.items v 0)
   pub phases : after.phases ≡ before.phases
   pub sized : IsSized n new
   pub home_len : length after.home.items ≡ n

@@ -1,49 +1,83 @@
-// The coarsening of balls: phases until no ball is left.
-ghost use Rattle.std.specs.Prelude.{◌≡◌, ℕ, ◌-◌, ◌*◌, ◌^◌, ◌≤◌, ◌<◌, length, count_by, All, IfOk, OnOk};
+//! The coarsening of balls: phases until no ball is left.
+
+ghost use Rattle.std.specs.Prelude.{◌≡◌, ℕ, ◌-◌, ◌*◌, ◌^◌, ◌≤◌, ◌<◌, length, count_by, All, IfOk};
+ghost use Rattle.std.specs.Prelude.{OnOk};
 ghost use Rattle.node_set.specs.Ascending.{has};
 ghost use Rattle.node_set.specs.Nodes.{Nodes};
 ghost use Rattle.coarse_cover.specs.Coarsening.{coarsening, all_clusters};
+ghost use Rattle.coarse_cover.specs.Turned.{AreTurned};
 ghost use Rattle.node_set.specs.Balls.{sets, AreCentred, AreHomes};
 ghost use Rattle.coarse_cover.specs.Covers.{IsCover, nodes_of, AreApart};
 
 use crate::cover::Cover;
-use crate::marks::count;
 use crate::phasing::{Work, make_phase};
+use crate::turning::rows_of;
 use node_set::{NodeSet, OutOfMemory};
 use std::alloc::Global;
 use whole_powers::{one_phase, powers_add};
 
-/// Coarsens balls into clusters, with a trade-off `k` of 1 to 8: a larger `k` makes larger clusters that overlap less.
+/// Coarsens balls into clusters, with a trade-off `k` of 1 to 8: a larger `k` makes larger clusters
+/// that overlap less.
 ///
-/// There are at most 1,024 balls, each a set of as many nodes as there are balls, and the ball at place `v` holds `v`, its centre.
-/// Takes one set of nodes for each cluster, and five lists of the number of balls beside them.
+/// There are at most 1,024 balls, each a set of as many nodes as there are balls, and the ball at
+/// place `v` holds `v`, its centre. Takes one set of nodes for each cluster, and the balls' rows
+/// and a few sets beside them.
 pub fn coarsen(alloc: Global, balls: &[NodeSet], k: u32) -> Result<Cover, OutOfMemory>
     requires small { length balls.now ≤ 1024 }
     requires rooms { All (λ (b : Nodes). b.room ≡ length balls.now) balls.now }
     requires centred { AreCentred (sets balls.now) }
     requires low { 1 ≤ k }
     requires high { k ≤ 8 }
-    ensures exact { IfOk result (λ cover. IsCover (length balls.now) (coarsening (sets balls.now) k) cover) }
+    ensures exact { IfOk result (λ cover.
+        IsCover (length balls.now) (coarsening (sets balls.now) k) cover) }
 
     // What follows from the definition.
-    ensures growths { OnOk result (All (λ c. c.growths ≤ k - 1) (all_clusters (coarsening (sets balls.now) k))) }
-    ensures homes { IfOk result (λ cover. AreHomes (sets balls.now) (nodes_of cover.clusters.items) cover.home.items) }
+    ensures growths { OnOk result (All (λ c. c.growths ≤ k - 1)
+        (all_clusters (coarsening (sets balls.now) k))) }
+    ensures homes { IfOk result
+        (λ cover. AreHomes (sets balls.now) (nodes_of cover.clusters.items) cover.home.items) }
     ensures apart { IfOk result (λ cover. AreApart cover.clusters.items) }
     ensures phases { IfOk result (λ cover. cover.phases ^ k ≤ k ^ k * length balls.now) }
-    ensures overlap { IfOk result (λ cover. (x : ℕ) → count_by (λ c. has x c.members.members) cover.clusters.items ≤ cover.phases) }
+    ensures overlap { IfOk result (λ cover. (x : ℕ)
+        → count_by (λ c. has x c.members.members) cover.clusters.items ≤ cover.phases) }
+    ensures few { IfOk result (λ cover. length cover.clusters.items ≤ length balls.now) }
+{
+    let rows = rows_of(alloc, balls)?;
+    let cover = coarsen_by_rows(alloc, balls, &rows, k)?;
+    powers_add();
+    one_phase();
+    Ok(cover)
+}
+
+/// Coarsens balls as `coarsen` does, where their rows are there: the row of each node is the set of
+/// the centres of the balls that have it. Balls of distances are their own rows.
+pub fn coarsen_by_rows(
+    alloc: Global,
+    balls: &[NodeSet],
+    rows: &[NodeSet],
+    k: u32,
+) -> Result<Cover, OutOfMemory>
+    requires small { length balls.now ≤ 1024 }
+    requires rooms { All (λ (b : Nodes). b.room ≡ length balls.now) balls.now }
+    requires rows { All (λ (b : Nodes). b.room ≡ length balls.now) rows.now }
+    requires row_count { length rows.now ≡ length balls.now }
+    requires turned { AreTurned (sets balls.now) (sets rows.now) }
+    requires centred { AreCentred (sets balls.now) }
+    requires low { 1 ≤ k }
+    requires high { k ≤ 8 }
+    ensures exact { IfOk result (λ cover.
+        IsCover (length balls.now) (coarsening (sets balls.now) k) cover) }
     ensures few { IfOk result (λ cover. length cover.clusters.items ≤ length balls.now) }
 {
     let n = balls.len();
-    let mut work = Work::new(alloc, n)?;
+    let mut work = Work::new(alloc, n as u32)?;
     let mut cover = Cover {
         clusters: Vec::new(alloc),
         home: vec![in alloc; 0u32; n]?,
         phases: 0,
     };
-    'phase: while count(&work.left) > 0 {
-        make_phase(alloc, balls, k, &mut work, &mut cover)?;
+    'phase: while work.left.count() > 0 {
+        make_phase(alloc, balls, rows, k, &mut work, &mut cover)?;
     }
-    powers_add();
-    one_phase();
     Ok(cover)
 }

@@ -7,8 +7,9 @@ mod growing;
 mod laws;
 mod marks;
 mod phasing;
+mod turning;
 
-pub use coarsening::coarsen;
+pub use coarsening::{coarsen, coarsen_by_rows};
 pub use cover::{Cluster, Cover};
 pub use laws::{cluster_shape, home_means};
 

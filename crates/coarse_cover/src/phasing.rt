@@ -1,36 +1,39 @@
-// One phase: clusters are added until no ball waits.
+//! One phase: clusters are added until no ball waits.
+
 ghost use Rattle.std.specs.Prelude.{◌≡◌, ℕ, ◌+◌, ◌≤◌, ◌<◌, ◌∷◌, ◌^◌, List, length, All, IfOk, OnOk};
 ghost use Rattle.node_set.specs.Nodes.{Nodes};
 ghost use Rattle.coarse_cover.specs.Coarsening.{cluster_of};
 ghost use Rattle.node_set.specs.Balls.{centres, sets, AreCentred};
-ghost use Rattle.coarse_cover.specs.Progress.{marked, IsReady, IsSized, IsAdded, IsBetween};
+ghost use Rattle.coarse_cover.specs.Progress.{IsReady, IsSized, IsAdded, IsBetween};
+ghost use Rattle.coarse_cover.specs.Turned.{AreTurned};
 
 use crate::cover::{Cluster, Cover};
 use crate::growing::{Growth, grow};
-use crate::marks::{count, set_homes, unmark};
+use crate::marks::{all_balls, set_homes};
 use node_set::{NodeSet, OutOfMemory};
 use std::alloc::Global;
 
 // The balls that are left, those that wait in this phase, and those of the cluster that grows.
 #[derive(Drop)]
 pub struct Work {
-    pub left: Vec<bool>,
-    pub waiting: Vec<bool>,
+    pub left: NodeSet,
+    pub waiting: NodeSet,
     pub growth: Growth,
 }
 
 impl Work {
     // All of `n` balls are left.
-    pub fn new(alloc: Global, n: usize) -> Result<Self, OutOfMemory>
+    pub fn new(alloc: Global, n: u32) -> Result<Self, OutOfMemory>
+        requires { n ≤ 1024 }
         ensures sized { IfOk result (λ work. IsSized n work) }
-        ensures all_left { IfOk result (λ work. marked work.left.items ≡ centres n) }
+        ensures all_left { IfOk result (λ work. work.left.members ≡ centres n) }
     {
         Ok(Self {
-            left: vec![in alloc; true; n]?,
-            waiting: vec![in alloc; false; n]?,
+            left: all_balls(alloc, n)?,
+            waiting: NodeSet::empty(alloc, n)?,
             growth: Growth {
-                taken: vec![in alloc; false; n]?,
-                touched: vec![in alloc; false; n]?,
+                taken: NodeSet::empty(alloc, n)?,
+                touched: NodeSet::empty(alloc, n)?,
             },
         })
     }
@@ -40,6 +43,7 @@ impl Work {
 fn add_cluster(
     alloc: Global,
     balls: &[NodeSet],
+    rows: &[NodeSet],
     k: u32,
     r: u32,
     first: usize,
@@ -48,20 +52,34 @@ fn add_cluster(
 ) -> Result<(), OutOfMemory>
     requires small { length balls.now ≤ 1024 }
     requires rooms { All (λ (b : Nodes). b.room ≡ length balls.now) balls.now }
+    requires rows { All (λ (b : Nodes). b.room ≡ length balls.now) rows.now }
+    requires row_count { length rows.now ≡ length balls.now }
+    requires turned { AreTurned (sets balls.now) (sets rows.now) }
     requires few { k ≤ 8 }
     requires within { r ≤ 1024 }
     requires sized { IsSized (length balls.now) work.old }
     requires home_len { length cover.old.home.items ≡ length balls.now }
     requires numbers { length cover.old.clusters.items < 2 ^ 32 }
-    requires ready { IsReady (sets balls.now) k r (marked work.old.waiting.items) }
+    requires ready { IsReady (sets balls.now) k r work.old.waiting.members }
     requires first { first < length balls.now }
-    requires leads { (rest : List ℕ) × (marked work.old.waiting.items ≡ first ∷ rest) }
-    ensures { OnOk result (IsAdded (length balls.now) (sets balls.now) (cluster_of (sets balls.now) k r (marked work.old.waiting.items) first) work.old work.new cover.old cover.new) }
+    requires leads { (rest : List ℕ) × (work.old.waiting.members ≡ first ∷ rest) }
+    ensures { OnOk result (IsAdded (length balls.now) (sets balls.now)
+        (cluster_of (sets balls.now) k r work.old.waiting.members first)
+        work.old work.new cover.old cover.new) }
 {
     let number = cover.clusters.len() as u32;
-    let members = grow(alloc, balls, k, r, first, &work.waiting, &mut work.growth)?;
-    unmark(&work.growth.taken, &mut work.left);
-    unmark(&work.growth.touched, &mut work.waiting);
+    let members = grow(
+        alloc,
+        balls,
+        rows,
+        k,
+        r,
+        first,
+        &work.waiting,
+        &mut work.growth,
+    )?;
+    work.left.remove(&work.growth.taken);
+    work.waiting.remove(&work.growth.touched);
     set_homes(&work.growth.taken, number, &mut cover.home);
     cover.clusters.push(Cluster {
         first: first as u32,
@@ -75,31 +93,41 @@ fn add_cluster(
 pub fn make_phase(
     alloc: Global,
     balls: &[NodeSet],
+    rows: &[NodeSet],
     k: u32,
     work: &mut Work,
     cover: &mut Cover,
 ) -> Result<(), OutOfMemory>
     requires small { length balls.now ≤ 1024 }
     requires rooms { All (λ (b : Nodes). b.room ≡ length balls.now) balls.now }
+    requires rows { All (λ (b : Nodes). b.room ≡ length balls.now) rows.now }
+    requires row_count { length rows.now ≡ length balls.now }
+    requires turned { AreTurned (sets balls.now) (sets rows.now) }
     requires centred { AreCentred (sets balls.now) }
     requires low { 1 ≤ k }
     requires few { k ≤ 8 }
     requires sized { IsSized (length balls.now) work.old }
     requires home_len { length cover.old.home.items ≡ length balls.now }
-    requires between { IsBetween (sets balls.now) k (marked work.old.left.items) cover.old.clusters.items cover.old.home.items cover.old.phases }
-    requires some { 0 < length (marked work.old.left.items) }
-    ensures between { OnOk result (IsBetween (sets balls.now) k (marked work.new.left.items) cover.new.clusters.items cover.new.home.items cover.new.phases) }
+    requires between { IsBetween (sets balls.now) k work.old.left.members
+        cover.old.clusters.items cover.old.home.items cover.old.phases }
+    requires some { 0 < length work.old.left.members }
+    ensures between { OnOk result (IsBetween (sets balls.now) k work.new.left.members
+        cover.new.clusters.items cover.new.home.items cover.new.phases) }
     ensures next { OnOk result (cover.new.phases ≡ cover.old.phases + 1) }
     ensures sized { OnOk result (IsSized (length balls.now) work.new) }
     ensures home_len { OnOk result (length cover.new.home.items ≡ length balls.now) }
 {
-    work.waiting.copy_from_slice(&work.left);
-    let r = count(&work.left);
+    // The call tells the proof that no more balls are left than there are.
+    let _room = work.left.room();
+    work.waiting.assign(&work.left);
+    let r = work.left.count();
     for first in 0..balls.len() {
-        if work.waiting[first] {
-            add_cluster(alloc, balls, k, r, first, work, cover)?;
+        if work.waiting.has(first as u32) {
+            add_cluster(alloc, balls, rows, k, r, first, work, cover)?;
         }
     }
+    // The call tells the proof that no ball waits beyond them.
+    let _all = work.waiting.room();
     cover.phases += 1;
     Ok(())
 }

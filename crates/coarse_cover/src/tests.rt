@@ -1,6 +1,6 @@
 // The line 0 - 1 - 2 - 3 of unit weights, by its balls of radius 1; and longer paths.
 ghost use Rattle.std.specs.Prelude.{◌≡◌, ◌<◌, ◌≤◌, [], ◌∷◌, IfOk, All, length, true};
-ghost use Rattle.node_set.specs.Ascending.{has, inserted};
+ghost use Rattle.node_set.specs.Ascending.{has, with_number};
 ghost use Rattle.node_set.specs.Balls.{sets, AreCentred};
 ghost use Rattle.node_set.specs.Nodes.{Nodes};
 
@@ -14,7 +14,8 @@ fn ball(alloc: Global, a: u32, b: u32, c: u32) -> Result<NodeSet, AllocError>
     requires a { a < 4 }
     requires b { b < 4 }
     requires c { c < 4 }
-    ensures { IfOk result (λ s. s ≡ record { room = 4; members = inserted c (inserted b (inserted a [])) }) }
+    ensures { IfOk result (λ s. s ≡
+        record { room = 4; members = with_number c (with_number b (with_number a [])) }) }
 {
     let mut set = NodeSet::empty(alloc, 4)?;
     set.insert(a);

@@ -35,22 +35,36 @@ fold_from (x ∷ xs) some = elim (cases_lt 0 x) [
 ]
 
 block_place : (a b : List ℕ) (at i : ℕ) → at + 4 ≤ length a → at + 4 ≤ length b → i < 4 →
-    get_or (zip2 bit_and (take 4 (drop at a)) (take 4 (drop at b))) i 0 ≡ bit_and (get_or a (at + i) 0) (get_or b (at + i) 0)
+    get_or (zip2 bit_and (take 4 (drop at a)) (take 4 (drop at b))) i 0 ≡ bit_and (get_or a (at + i) 0)
+    (get_or b (at + i) 0)
 block_place a b at i fits_a fits_b h =
-    get_or-zip2 bit_and (chunk at 4 a) (chunk at 4 b) i 0 0 0 (omega (arith, length-chunk at 4 a fits_a)) (omega (arith, length-chunk at 4 b fits_b)) ∙
-    (ap (λ n. bit_and n (get_or (chunk at 4 b) i 0)) (get_or-chunk at 4 a i 0 h) ∙ ap (λ n. bit_and (get_or a (at + i) 0) n) (get_or-chunk at 4 b i 0 h))
+    get_or-zip2 bit_and (chunk at 4 a) (chunk at 4 b) i 0 0 0 (omega (arith, length-chunk at 4 a fits_a))
+    (omega (arith, length-chunk at 4 b fits_b)) ∙
+    (ap (λ n. bit_and n (get_or (chunk at 4 b) i 0)) (get_or-chunk at 4 a i 0 h)
+    ∙ ap (λ n. bit_and (get_or a (at + i) 0) n) (get_or-chunk at 4 b i 0 h))
 
-block_found : (a b : List ℕ) (at : ℕ) → at + 4 ≤ length a → at + 4 ≤ length b → 0 < fold_l bit_or 0 (zip2 bit_and (take 4 (drop at a)) (take 4 (drop at b))) → MeetWithin a b at (at + 4)
+block_found : (a b : List ℕ) (at : ℕ) → at + 4 ≤ length a → at + 4 ≤ length b
+    → 0 < fold_l bit_or 0 (zip2 bit_and (take 4 (drop at a)) (take 4 (drop at b))) → MeetWithin a b at (at + 4)
 block_found a b at fits_a fits_b some =
     let found = fold_from (zip2 bit_and (take 4 (drop at a)) (take 4 (drop at b))) some in
-    let near : found.0 < 4 = omega (arith, found.1, length-zip2 bit_and (chunk at 4 a) (chunk at 4 b) (length-chunk at 4 a fits_a ∙ sym (length-chunk at 4 b fits_b)), length-chunk at 4 a fits_a) in
+    let near : found.0 < 4 = omega (
+      arith,
+      found.1,
+      length-zip2 bit_and (chunk at 4 a) (chunk at 4 b)
+          (length-chunk at 4 a fits_a ∙ sym (length-chunk at 4 b fits_b)),
+      length-chunk at 4 a fits_a,
+    ) in
     (at + found.0, omega arith, omega arith, subst (λ n. 0 < n) (block_place a b at found.0 fits_a fits_b near) found.2)
 
-block_some : (a b : List ℕ) (at : ℕ) → at + 4 ≤ length a → at + 4 ≤ length b → MeetWithin a b at (at + 4) → 0 < fold_l bit_or 0 (zip2 bit_and (take 4 (drop at a)) (take 4 (drop at b)))
+block_some : (a b : List ℕ) (at : ℕ) → at + 4 ≤ length a → at + 4 ≤ length b → MeetWithin a b at (at + 4)
+    → 0 < fold_l bit_or 0 (zip2 bit_and (take 4 (drop at a)) (take 4 (drop at b)))
 block_some a b at fits_a fits_b place =
     let e : at + (place.0 - at) ≡ place.0 = omega (arith, place.1) in
-    let here : get_or (zip2 bit_and (take 4 (drop at a)) (take 4 (drop at b))) (place.0 - at) 0 ≡ bit_and (get_or a place.0 0) (get_or b place.0 0) =
-    subst (λ n. get_or (zip2 bit_and (take 4 (drop at a)) (take 4 (drop at b))) (place.0 - at) 0 ≡ bit_and (get_or a n 0) (get_or b n 0)) e (block_place a b at (place.0 - at) fits_a fits_b (omega (arith, place.1, place.2)))
+    let here : get_or (zip2 bit_and (take 4 (drop at a)) (take 4 (drop at b))) (place.0 - at) 0 ≡ bit_and
+    (get_or a place.0 0) (get_or b place.0 0) =
+    subst (λ n. get_or (zip2 bit_and (take 4 (drop at a)) (take 4 (drop at b))) (place.0 - at) 0 ≡ bit_and
+    (get_or a n 0) (get_or b n 0)) e (block_place a b at (place.0 - at) fits_a fits_b
+    (omega (arith, place.1, place.2)))
     in
     omega (arith, here, place.3, fold_has (zip2 bit_and (take 4 (drop at a)) (take 4 (drop at b))) 0 (place.0 - at))
 
@@ -59,9 +73,11 @@ is_some zero = (λ h. absurd (false≢true h), λ h. absurd (omega arith))
 is_some (suc n) = (λ h. omega arith, λ h. grind (arith, nat_tests))
 
 pub block_meet : (a b : List ℕ) (at : ℕ) → at + 4 ≤ length a → at + 4 ≤ length b →
-    IsTrue (not (nat_eq (fold_l bit_or 0 (zip2 bit_and (take 4 (drop at a)) (take 4 (drop at b)))) 0)) ↔ MeetWithin a b at (at + 4)
+    IsTrue (not (nat_eq (fold_l bit_or 0 (zip2 bit_and (take 4 (drop at a)) (take 4 (drop at b)))) 0))
+    ↔ MeetWithin a b at (at + 4)
 block_meet a b at fits_a fits_b =
-    let test : IsTrue (not (nat_eq (fold_l bit_or 0 (zip2 bit_and (take 4 (drop at a)) (take 4 (drop at b)))) 0)) ↔ (0 < fold_l bit_or 0 (zip2 bit_and (take 4 (drop at a)) (take 4 (drop at b)))) =
+    let test : IsTrue (not (nat_eq (fold_l bit_or 0 (zip2 bit_and (take 4 (drop at a)) (take 4 (drop at b)))) 0)) ↔
+    (0 < fold_l bit_or 0 (zip2 bit_and (take 4 (drop at a)) (take 4 (drop at b)))) =
     is_some (fold_l bit_or 0 (zip2 bit_and (take 4 (drop at a)) (take 4 (drop at b))))
     in
     (λ h. block_found a b at fits_a fits_b (test.0 h), λ h. test.1 (block_some a b at fits_a fits_b h))
@@ -74,24 +90,32 @@ module _ (a b : List ℕ) (at : ℕ) (fits_a : at + 4 ≤ length a) (fits_b : at
 
   lanes : length either ≡ 4
   unfolding either
-  lanes = length-zip2 bit_or (chunk at 4 a) (chunk at 4 b) (length-chunk at 4 a fits_a ∙ sym (length-chunk at 4 b fits_b)) ∙ length-chunk at 4 a fits_a
+  lanes = length-zip2 bit_or (chunk at 4 a) (chunk at 4 b)
+      (length-chunk at 4 a fits_a ∙ sym (length-chunk at 4 b fits_b)) ∙ length-chunk at 4 a fits_a
 
-  placed : (i : ℕ) → i < 4 → get_or (put_chunk at a either) (at + i) 0 ≡ bit_or (get_or a (at + i) 0) (get_or b (at + i) 0)
+  placed : (i : ℕ) → i < 4 → get_or (put_chunk at a either) (at + i) 0 ≡ bit_or (get_or a (at + i) 0)
+      (get_or b (at + i) 0)
   unfolding either
   placed i h =
-      get_or-put_chunk_at at a (zip2 bit_or (take 4 (drop at a)) (take 4 (drop at b))) i 0 (omega (arith, lanes)) (omega (arith, lanes)) ∙
-      (get_or-zip2 bit_or (chunk at 4 a) (chunk at 4 b) i 0 0 0 (omega (arith, length-chunk at 4 a fits_a)) (omega (arith, length-chunk at 4 b fits_b)) ∙
-      (ap (λ n. bit_or n (get_or (chunk at 4 b) i 0)) (get_or-chunk at 4 a i 0 h) ∙ ap (λ n. bit_or (get_or a (at + i) 0) n) (get_or-chunk at 4 b i 0 h)))
+      get_or-put_chunk_at at a (zip2 bit_or (take 4 (drop at a)) (take 4 (drop at b))) i 0 (omega (arith, lanes))
+      (omega (arith, lanes)) ∙
+      (get_or-zip2 bit_or (chunk at 4 a) (chunk at 4 b) i 0 0 0 (omega (arith, length-chunk at 4 a fits_a))
+      (omega (arith, length-chunk at 4 b fits_b)) ∙
+      (ap (λ n. bit_or n (get_or (chunk at 4 b) i 0)) (get_or-chunk at 4 a i 0 h)
+      ∙ ap (λ n. bit_or (get_or a (at + i) 0) n) (get_or-chunk at 4 b i 0 h)))
 
-  pub block_joined : AreJoinedWithin a b (put_chunk at a (zip2 bit_or (take 4 (drop at a)) (take 4 (drop at b)))) at (at + 4)
+  pub block_joined : AreJoinedWithin a b (put_chunk at a (zip2 bit_or (take 4 (drop at a)) (take 4 (drop at b)))) at
+      (at + 4)
   unfolding either
   block_joined = record {
     enough = length-put_chunk at a (zip2 bit_or (take 4 (drop at a)) (take 4 (drop at b)));
     joined = λ k low high.
         let e : at + (k - at) ≡ k = omega arith in
-        subst (λ n. get_or (put_chunk at a (zip2 bit_or (take 4 (drop at a)) (take 4 (drop at b)))) n 0 ≡ bit_or (get_or a n 0) (get_or b n 0)) e (placed (k - at) (omega arith));
+        subst (λ n. get_or (put_chunk at a (zip2 bit_or (take 4 (drop at a)) (take 4 (drop at b)))) n 0 ≡ bit_or
+        (get_or a n 0) (get_or b n 0)) e (placed (k - at) (omega arith));
     before = λ k low. get_or-put_chunk_below at a (zip2 bit_or (take 4 (drop at a)) (take 4 (drop at b))) k 0 low;
-    after = λ k high. get_or-put_chunk_above at a (zip2 bit_or (take 4 (drop at a)) (take 4 (drop at b))) k 0 (omega (arith, lanes));
+    after = λ k high. get_or-put_chunk_above at a (zip2 bit_or (take 4 (drop at a)) (take 4 (drop at b))) k 0
+        (omega (arith, lanes));
   }
 
 -- ---- all blocks, and what is left behind the last
@@ -100,12 +124,15 @@ module _ (a b : List ℕ) (at : ℕ) (fits_a : at + 4 ≤ length a) (fits_b : at
 shared_bit : (x y : ℕ) → x < 2 ^ 64 → 0 < bit_and x y → (i : ℕ) × (i < 64) × (bit_at x i ≡ 1) × (bit_at y i ≡ 1)
 shared_bit x y small some =
     let less : bit_and x y < 2 ^ 64 = omega (arith, and_le_l x y) in
-    let found : (trailing_zeros w64 (bit_and x y) < 64) × (bit_at (bit_and x y) (trailing_zeros w64 (bit_and x y)) ≡ 1) × ((i : ℕ) → i < trailing_zeros w64 (bit_and x y) → bit_at (bit_and x y) i ≡ 0) =
+    let found : (trailing_zeros w64 (bit_and x y) < 64) × (bit_at (bit_and x y) (trailing_zeros w64 (bit_and x y)) ≡ 1)
+    × ((i : ℕ) → i < trailing_zeros w64 (bit_and x y) → bit_at (bit_and x y) i ≡ 0) =
     bit_at-trailing_zeros w64 (bit_and x y) (omega arith) less
     in
-    let one : min (bit_at x (trailing_zeros w64 (bit_and x y))) (bit_at y (trailing_zeros w64 (bit_and x y))) ≡ 1 = sym (bit_at_and x y (trailing_zeros w64 (bit_and x y))) ∙ found.1 in
+    let one : min (bit_at x (trailing_zeros w64 (bit_and x y))) (bit_at y (trailing_zeros w64 (bit_and x y))) ≡ 1 =
+    sym (bit_at_and x y (trailing_zeros w64 (bit_and x y))) ∙ found.1 in
     let both : (bit_at x (trailing_zeros w64 (bit_and x y)) ≡ 1) × (bit_at y (trailing_zeros w64 (bit_and x y)) ≡ 1) =
-    both_one (bit_at x (trailing_zeros w64 (bit_and x y))) (bit_at y (trailing_zeros w64 (bit_and x y))) (bit_at-lt x (trailing_zeros w64 (bit_and x y))) (bit_at-lt y (trailing_zeros w64 (bit_and x y))) one
+    both_one (bit_at x (trailing_zeros w64 (bit_and x y))) (bit_at y (trailing_zeros w64 (bit_and x y)))
+    (bit_at-lt x (trailing_zeros w64 (bit_and x y))) (bit_at-lt y (trailing_zeros w64 (bit_and x y))) one
     in
     (trailing_zeros w64 (bit_and x y), found.0, both.0, both.1)
   where
@@ -117,11 +144,13 @@ common_bit x y i here there = elim (cases_lt 0 (bit_and x y)) [
   | inl some ↦ some
   | inr none ↦
       let zero_here : bit_and x y ≡ 0 = omega arith in
-      let one : min (bit_at x i) (bit_at y i) ≡ 0 = sym (bit_at_and x y i) ∙ (ap (λ n. bit_at n i) zero_here ∙ bit_at-zero i) in
+      let one : min (bit_at x i) (bit_at y i) ≡ 0 = sym (bit_at_and x y i)
+      ∙ (ap (λ n. bit_at n i) zero_here ∙ bit_at-zero i) in
       absurd (omega arith)
 ]
 
-pub all_meet : (a b : List ℕ) (from : ℕ) → ((k : ℕ) → get_or a k 0 < 2 ^ 64) → ((k : ℕ) → k < from → bit_and (get_or a k 0) (get_or b k 0) ≡ 0) → (result : Bool) →
+pub all_meet : (a b : List ℕ) (from : ℕ) → ((k : ℕ) → get_or a k 0 < 2 ^ 64)
+    → ((k : ℕ) → k < from → bit_and (get_or a k 0) (get_or b k 0) ≡ 0) → (result : Bool) →
     IsTrue result ↔ MeetWithin a b from (length a) → IsTrue result ↔ Meet a b
 all_meet a b from small none result rest = (
   λ h.
@@ -129,7 +158,8 @@ all_meet a b from small none result rest = (
       let bit = shared_bit (get_or a place.0 0) (get_or b place.0 0) (small place.0) place.3 in
       (place.0, bit.0, place.2, bit.1, bit.2, bit.3),
   λ place.
-      let some : 0 < bit_and (get_or a place.0 0) (get_or b place.0 0) = common_bit (get_or a place.0 0) (get_or b place.0 0) place.1 place.4 place.5 in
+      let some : 0 < bit_and (get_or a place.0 0) (get_or b place.0 0) =
+      common_bit (get_or a place.0 0) (get_or b place.0 0) place.1 place.4 place.5 in
       elim (cases_lt place.0 from) [
         | inl before ↦ absurd (omega (arith, none place.0 before, some))
         | inr later ↦ rest.1 (place.0, later, place.2, some)
@@ -137,13 +167,15 @@ all_meet a b from small none result rest = (
 )
 
 -- a block that meets
-pub some_meet : (a b : List ℕ) (at to : ℕ) → ((k : ℕ) → get_or a k 0 < 2 ^ 64) → to ≤ length a → MeetWithin a b at to → Meet a b
+pub some_meet : (a b : List ℕ) (at to : ℕ) → ((k : ℕ) → get_or a k 0 < 2 ^ 64) → to ≤ length a → MeetWithin a b at to
+    → Meet a b
 some_meet a b at to small fits place =
     let bit = shared_bit (get_or a place.0 0) (get_or b place.0 0) (small place.0) place.3 in
     (place.0, bit.0, omega (arith, place.2), bit.1, bit.2, bit.3)
 
 -- no place of the block meets, nor one before it
-pub none_below : (a b : List ℕ) (at : ℕ) → ((k : ℕ) → k < at → bit_and (get_or a k 0) (get_or b k 0) ≡ 0) → (MeetWithin a b at (at + 4) → ⊥) → (k : ℕ) → k < at + 4 → bit_and (get_or a k 0) (get_or b k 0) ≡ 0
+pub none_below : (a b : List ℕ) (at : ℕ) → ((k : ℕ) → k < at → bit_and (get_or a k 0) (get_or b k 0) ≡ 0)
+    → (MeetWithin a b at (at + 4) → ⊥) → (k : ℕ) → k < at + 4 → bit_and (get_or a k 0) (get_or b k 0) ≡ 0
 none_below a b at none apart k h = elim (cases_lt k at) [
   | inl before ↦ none k before
   | inr here ↦ elim (cases_lt 0 (bit_and (get_or a k 0) (get_or b k 0))) [

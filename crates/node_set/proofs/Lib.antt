@@ -1,2 +1,5 @@
 mod Blocks
 mod Words
+mod Remains
+mod Scans
+mod Limiting

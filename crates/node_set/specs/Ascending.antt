@@ -1,5 +1,7 @@
--- Sets of numbers, written as strictly ascending lists: membership, one number more, the union of two sets, and whether two sets share a number, the numbers that pass a test.
--- Key laws: `same_members` (an ascending list is determined by its members), `has-inserted` and `has-union` (what the members are), `share_means`.
+-- Sets of numbers, written as strictly ascending lists: membership, one number more, the union of
+-- two sets, and whether two sets share a number, the numbers that pass a test. Key laws:
+-- `same_members` (an ascending list is determined by its members), `has-inserted` and `has-union`
+-- (what the members are), `share_means`.
 use Rattle.std.specs.Prelude.{ℕ, zero, suc, ◌<◌, Bool, false, cond, ◌||◌, List, [], ◌∷◌, ◌==◌, nat_lt}
 
 -- whether x is one of the numbers
@@ -18,14 +20,15 @@ IsAscending [] = Unit {0}
 IsAscending (x ∷ xs) = IsBelowAll x xs × IsAscending xs
 
 -- the numbers with x in its place, unless it is there
-abbrev pub inserted : ℕ → List ℕ → List ℕ
-inserted x [] = x ∷ []
-inserted x (y ∷ ys) = cond (nat_lt x y) (x ∷ y ∷ ys) (cond (x == y) (y ∷ ys) (y ∷ inserted x ys))
+abbrev pub with_number : ℕ → List ℕ → List ℕ
+with_number x [] = x ∷ []
+with_number x (y ∷ ys) = cond (nat_lt x y) (x ∷ y ∷ ys)
+    (cond (x == y) (y ∷ ys) (y ∷ with_number x ys))
 
 -- the numbers that are in either list
 abbrev pub union : List ℕ → List ℕ → List ℕ
 union [] ys = ys
-union (x ∷ xs) ys = inserted x (union xs ys)
+union (x ∷ xs) ys = with_number x (union xs ys)
 
 -- whether some number is in both lists
 abbrev pub share : List ℕ → List ℕ → Bool
@@ -38,6 +41,6 @@ AllBelow n [] = Unit {0}
 AllBelow n (x ∷ xs) = (x < n) × AllBelow n xs
 
 -- of the k numbers from v on, those that pass the test
-abbrev pub passing : (ℕ → Bool) → ℕ → ℕ → List ℕ
-passing test v zero = []
-passing test v (suc k) = cond (test v) (v ∷ passing test (suc v) k) (passing test (suc v) k)
+abbrev pub sift : (ℕ → Bool) → ℕ → ℕ → List ℕ
+sift test v zero = []
+sift test v (suc k) = cond (test v) (v ∷ sift test (suc v) k) (sift test (suc v) k)

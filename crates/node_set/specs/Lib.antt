@@ -5,3 +5,6 @@ pub mod Balls
 pub mod SetLaws
 pub mod FilterLaws
 pub mod BallLaws
+pub mod Scan
+pub mod Limits
+pub mod ScanLaws

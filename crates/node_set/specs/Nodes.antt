@@ -1,7 +1,8 @@
--- What a set of node numbers is seen as: its room, and its members in strictly ascending order, each below the room.
+-- What a set of node numbers is seen as: its room, and its members in strictly ascending order,
+-- each below the room.
 use Rattle.std.specs.Prelude.{◌≡◌, ℕ, ◌+◌, ◌*◌, ◌/◌, ◌%◌, ◌≤◌, Bool, false, List, length, get_or, ◌==◌}
 use Rattle.std.specs.Int.{bit_at}
-use Rattle.node_set.specs.Ascending.{IsAscending, AllBelow, passing}
+use Rattle.node_set.specs.Ascending.{IsAscending, AllBelow, sift}
 
 -- a set of numbers below its room
 pub record Nodes : Type 0 where
@@ -20,7 +21,7 @@ is_set words v = bit_at (get_or words (v / 64) 0) (v % 64) == 1
 
 -- the numbers whose bits are set
 abbrev pub set_bits : List ℕ → List ℕ
-set_bits words = passing (is_set words) 0 (64 * length words)
+set_bits words = sift (is_set words) 0 (64 * length words)
 
 -- the words of a set: enough of them for its room, and no bit set from the room on
 pub record AreWords (room : ℕ) (words : List ℕ) : Type 0 where

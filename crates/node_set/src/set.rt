@@ -1,9 +1,13 @@
 // The set itself: one bit for each number below the room.
-ghost use Rattle.std.specs.Prelude.{◌≡◌, ◌+◌, ◌*◌, ◌≤◌, ◌<◌, [], ◌∷◌, length, IfOk};
-ghost use Rattle.node_set.specs.Ascending.{has, inserted, union, share};
+ghost use Rattle.std.specs.Prelude.{◌≡◌, ◌+◌, ◌*◌, ◌≤◌, ◌<◌, [], ◌∷◌, filter, length, nat_le, not, slice_index, IfNone, IfOk, IfSome};
+ghost use Rattle.node_set.specs.Ascending.{has, with_number, sift, union, share};
 ghost use Rattle.node_set.specs.Nodes.{AreNodes};
+ghost use Rattle.node_set.specs.Scan.{IsNext, IsNoneFrom};
 
+use crate::cuts::{words_keep, words_remove};
 use crate::lanes::{lanes_absorb, lanes_meet};
+use crate::limit::words_within;
+use crate::scan::next_bit;
 use std::alloc::{AllocError, Global};
 use std::marker::Model;
 
@@ -37,6 +41,20 @@ impl NodeSet {
         Ok(Self { room, words })
     }
 
+    /// The places of the numbers that are at most the limit. There are at most 1,024 numbers.
+    pub fn within(alloc: Global, numbers: &[u32], limit: u32) -> Result<Self, OutOfMemory>
+        requires { length numbers.now ≤ 1024 }
+        ensures room { IfOk result (λ set. set.room ≡ length numbers.now) }
+        ensures members { IfOk result (λ set. set.members
+            ≡ sift (λ x. nat_le (slice_index numbers.now x) limit) 0 (length numbers.now)) }
+    {
+        let words = words_within(alloc, numbers, limit)?;
+        Ok(Self {
+            room: numbers.len() as u32,
+            words,
+        })
+    }
+
     /// The room: each member is below it.
     pub fn room(&self) -> u32
         ensures value { result ≡ self.now.room }
@@ -48,7 +66,11 @@ impl NodeSet {
     /// Puts `v` into the set.
     pub fn insert(&mut self, v: u32)
         requires { v < self.old.room }
-        ensures { self.new ≡ record { room = self.old.room; members = inserted v self.old.members } }
+        ensures { self.new ≡ record {
+          room = self.old.room;
+          members =
+              with_number v self.old.members;
+        } }
     {
         self.words[(v / 64) as usize] |= 1 << (v % 64);
     }
@@ -72,9 +94,60 @@ impl NodeSet {
     /// Puts each number of `other` into the set.
     pub fn absorb(&mut self, other: &NodeSet)
         requires { self.old.room ≡ other.now.room }
-        ensures { self.new ≡ record { room = self.old.room; members = union other.now.members self.old.members } }
+        ensures { self.new ≡ record {
+          room = self.old.room;
+          members =
+              union other.now.members self.old.members;
+        } }
     {
         lanes_absorb(&mut self.words, &other.words);
+    }
+
+    /// Takes all numbers out of the set.
+    pub fn clear(&mut self)
+        ensures { self.new ≡ record { room = self.old.room; members = [] } }
+    {
+        self.words.fill(0);
+    }
+
+    /// Makes the set that of the numbers of `other`.
+    pub fn assign(&mut self, other: &NodeSet)
+        requires { self.old.room ≡ other.now.room }
+        ensures { self.new ≡ other.now }
+    {
+        self.words.copy_from_slice(&other.words);
+    }
+
+    /// Takes each number out of the set that isn't in `other`.
+    pub fn keep(&mut self, other: &NodeSet)
+        requires { self.old.room ≡ other.now.room }
+        ensures room { self.new.room ≡ self.old.room }
+        ensures members { self.new.members
+            ≡ filter (λ v. has v other.now.members) self.old.members }
+    {
+        words_keep(&mut self.words, &other.words);
+    }
+
+    /// Takes each number of `other` out of the set.
+    pub fn remove(&mut self, other: &NodeSet)
+        requires { self.old.room ≡ other.now.room }
+        ensures room { self.new.room ≡ self.old.room }
+        ensures members { self.new.members ≡ filter (λ v. not (has v other.now.members))
+            self.old.members }
+    {
+        words_remove(&mut self.words, &other.words);
+    }
+
+    /// The least number of the set that isn't below `from`.
+    pub fn next_from(&self, from: u32) -> Option<u32>
+        ensures some { IfSome result (IsNext self.now.members from) }
+        ensures below { IfSome result (λ v. v < self.now.room) }
+        ensures none { IfNone result (IsNoneFrom self.now.members from) }
+    {
+        match next_bit(&self.words, from as usize) {
+            Some(v) => Some(v as u32),
+            None => None,
+        }
     }
 
     /// How many numbers are in the set.

@@ -1,5 +1,6 @@
 -- A network and k have one plan.
-use Rattle.std.proofs.Common.{◌≡◌, ℕ, zero, suc, ◌<◌, ◌≤◌, Bool, true, List, [], ◌∷◌, map, length, get_or, refl, sym, ◌∙◌, ap, subst, inl, inr, arith}
+use Rattle.std.proofs.Common.{◌≡◌, ℕ, zero, suc, ◌<◌, ◌≤◌, Bool, true, List, [], ◌∷◌, map, length, get_or, refl, sym}
+use Rattle.std.proofs.Common.{◌∙◌, ap, subst, inl, inr, arith}
 use Rattle.std.specs.Prelude.{All}
 use Rattle.std.proofs.lemmas.List.{get_or_default, same_lists}
 use Rattle.std.proofs.lemmas.List.Elements.{All-nil, All-cons, All-append, All-head, All-tail}
@@ -17,7 +18,8 @@ use Rattle.cluster_tree.specs.PlaceLaws.{has_place, beside_place}
 use Rattle.region_plan.specs.Plan.{PlanCluster, Level, PlanData, level_at, levels_of, top_of, no_level}
 use Rattle.node_set.specs.Balls.{GrownCluster}
 use Rattle.node_set.specs.BallLaws.{ascending-union_of}
-use Rattle.region_plan.specs.Regions.{IsTop, IsClusterOf, AreClustersOf, IsLevelOf, IsPlanOf, regions_of, readers_of, weighed}
+use Rattle.region_plan.specs.Regions.{IsTop, IsClusterOf, AreClustersOf, IsLevelOf, IsPlanOf, regions_of, readers_of}
+use Rattle.region_plan.specs.Regions.{as_tree}
 
 -- ---- the clusters of a coarsening have ascending members
 
@@ -33,7 +35,8 @@ phase_ascends balls k r zero waiting = All-nil Ascends
 phase_ascends balls k r (suc more) [] = All-nil Ascends
 phase_ascends balls k r (suc more) (a ∷ rest) =
     let cluster = cluster_of balls k r (a ∷ rest) a in
-    All-cons Ascends cluster (phase balls k r more _) (ascending-union_of balls cluster.homed) (phase_ascends balls k r more _)
+    All-cons Ascends cluster (phase balls k r more _) (ascending-union_of balls cluster.homed)
+    (phase_ascends balls k r more _)
 
 phases_ascend : (balls : List (List ℕ)) (k more : ℕ) (left : List ℕ) → All (All Ascends) (phases balls k more left)
 unfolding phases
@@ -42,18 +45,22 @@ phases_ascend balls k (suc more) [] = All-nil (All Ascends)
 phases_ascend balls k (suc more) (v ∷ vs) =
     let n = length (v ∷ vs) in
     let clusters = phase balls k n n (v ∷ vs) in
-    All-cons (All Ascends) clusters (phases balls k more (without_home clusters (v ∷ vs))) (phase_ascends balls k n n (v ∷ vs)) (phases_ascend balls k more (without_home clusters (v ∷ vs)))
+    All-cons (All Ascends) clusters (phases balls k more (without_home clusters (v ∷ vs)))
+    (phase_ascends balls k n n (v ∷ vs)) (phases_ascend balls k more (without_home clusters (v ∷ vs)))
 
 shown_rise : (n p : ℕ) (cs : List GrownCluster) → All Ascends cs → All Rises (map (as_cluster n p) cs)
 unfolding as_cluster
 shown_rise n p [] all = All-nil Rises
-shown_rise n p (c ∷ cs) all = All-cons Rises (as_cluster n p c) (map (as_cluster n p) cs) (All-head Ascends c cs all) (shown_rise n p cs (All-tail Ascends c cs all))
+shown_rise n p (c ∷ cs) all = All-cons Rises (as_cluster n p c) (map (as_cluster n p) cs) (All-head Ascends c cs all)
+    (shown_rise n p cs (All-tail Ascends c cs all))
 
 listed_rise : (n p : ℕ) (all : List (List GrownCluster)) → All (All Ascends) all → All Rises (cluster_list n p all)
 unfolding cluster_list
 listed_rise n p [] h = All-nil Rises
 listed_rise n p (cs ∷ later) h =
-    All-append Rises (map (as_cluster n p) cs) (cluster_list n (suc p) later) (shown_rise n p cs (All-head (All Ascends) cs later h)) (listed_rise n (suc p) later (All-tail (All Ascends) cs later h))
+    All-append Rises (map (as_cluster n p) cs) (cluster_list n (suc p) later)
+    (shown_rise n p cs (All-head (All Ascends) cs later h))
+    (listed_rise n (suc p) later (All-tail (All Ascends) cs later h))
 
 -- ---- one cluster
 
@@ -73,24 +80,33 @@ same_depth cluster d e p q =
 
 -- a network has one least weight between two nodes
 abbrev pub LeastIsOne : Type 0
-LeastIsOne = (edges : List Edge) (inside : ℕ → Bool) (u v w x : ℕ) → IsLeastWeight edges inside u v w → IsLeastWeight edges inside u v x → w ≡ x
+LeastIsOne = (edges : List Edge) (inside : ℕ → Bool) (u v w x : ℕ) → IsLeastWeight edges inside u v w
+    → IsLeastWeight edges inside u v x → w ≡ x
 
-same_cluster : (one_weight : LeastIsOne) (network : Network) (made : Cluster) (d e : PlanCluster) → Rises made → IsClusterOf network made d → IsClusterOf network made e → d ≡ e
+same_cluster : (one_weight : LeastIsOne) (network : Network) (made : Cluster) (d e : PlanCluster) → Rises made
+    → IsClusterOf network made d → IsClusterOf network made e → d ≡ e
 same_cluster one_weight network made d e rises p q =
     let xs = made.members.members in
     let leader : d.leader ≡ e.leader = p.leader ∙ sym q.leader in
     let phase_is : d.phase ≡ e.phase = p.phase ∙ sym q.phase in
     let members : d.members ≡ e.members = p.members ∙ sym q.members in
-    let weights : d.weights ≡ e.weights = same_weights xs d.weights e.weights rises (p.count ∙ ap length p.members) (q.count ∙ ap length q.members)
+    let weights : d.weights ≡ e.weights =
+    same_weights xs d.weights e.weights rises (p.count ∙ ap length p.members) (q.count ∙ ap length q.members)
     (λ v h. ap (λ ys. weight_beside v ys d.weights) (sym p.members)
-    ∙ one_weight network.edges (within xs) made.first v (inside_weight (weighed d) v) (inside_weight (weighed e) v) (p.tree.each v h) (q.tree.each v h)
+    ∙ one_weight network.edges (within xs) made.first v (inside_weight (as_tree d) v) (inside_weight (as_tree e) v)
+    (p.tree.each v h) (q.tree.each v h)
     ∙ ap (λ ys. weight_beside v ys e.weights) q.members) in
-    let both : weighed d ≡ weighed e = cc in
-    let depth : d.depth ≡ e.depth = same_depth (weighed e) d.depth e.depth (subst (λ (c : WeighedCluster). IsDepth c d.depth) both p.depth) q.depth in
-    let parts : ◌≡◌ {A = PlanCluster} (record { leader = d.leader; phase = d.phase; members = d.members; weights = d.weights; depth = d.depth }) (record { leader = e.leader; phase = e.phase; members = e.members; weights = e.weights; depth = e.depth }) = cc in
+    let both : as_tree d ≡ as_tree e = cc in
+    let depth : d.depth ≡ e.depth = same_depth (as_tree e) d.depth e.depth (subst
+    (λ (c : WeighedCluster). IsDepth c d.depth) both p.depth) q.depth in
+    let parts : ◌≡◌ {A = PlanCluster}
+    (record { leader = d.leader; phase = d.phase; members = d.members; weights = d.weights; depth = d.depth })
+    (record { leader = e.leader; phase = e.phase; members = e.members; weights = e.weights; depth = e.depth }) =
+    cc in
     parts
 
-same_clusters : (one_weight : LeastIsOne) (network : Network) (made : List Cluster) (ds es : List PlanCluster) → All Rises made
+same_clusters : (one_weight : LeastIsOne) (network : Network) (made : List Cluster) (ds es : List PlanCluster)
+    → All Rises made
     → AreClustersOf network made ds → AreClustersOf network made es → ds ≡ es
 same_clusters one_weight network [] [] [] all p q = refl
 same_clusters one_weight network [] [] (e ∷ es) all p q = absurd q
@@ -104,38 +120,64 @@ same_clusters one_weight network (c ∷ cs) (d ∷ ds) (e ∷ es) all p q =
 
 -- ---- one level, and one plan
 
-same_level : (one_weight : LeastIsOne) (network : Network) (table : DistanceTable) (k i : ℕ) (one two : Level) → IsLevelOf network table k i one → IsLevelOf network table k i two → one ≡ two
+same_level : (one_weight : LeastIsOne) (network : Network) (table : DistanceTable) (k i : ℕ) (one two : Level)
+    → IsLevelOf network table k i one → IsLevelOf network table k i two → one ≡ two
 same_level one_weight network table k i one two p q =
-    let rise : All Rises (cluster_list table.nodes 0 (regions_of table k i)) = listed_rise table.nodes 0 (regions_of table k i) (phases_ascend _ k _ _) in
-    let clusters : one.clusters ≡ two.clusters = same_clusters one_weight network (cluster_list table.nodes 0 (regions_of table k i)) one.clusters two.clusters rise p.clusters q.clusters in
+    let rise : All Rises (cluster_list table.nodes 0 (regions_of table k i)) =
+    listed_rise table.nodes 0 (regions_of table k i) (phases_ascend _ k _ _) in
+    let clusters : one.clusters ≡ two.clusters =
+    same_clusters one_weight network (cluster_list table.nodes 0 (regions_of table k i)) one.clusters two.clusters
+    rise p.clusters q.clusters in
     let exponent : one.exponent ≡ two.exponent = p.exponent ∙ sym q.exponent in
     let threshold : one.threshold ≡ two.threshold = p.threshold ∙ sym q.threshold in
     let phases_are : one.phases ≡ two.phases = p.phases ∙ sym q.phases in
     let homes : one.homes ≡ two.homes = p.homes ∙ sym q.homes in
     let readers_are : one.readers ≡ two.readers = p.readers ∙ ap (readers_of table.nodes) clusters ∙ sym q.readers in
-    let parts : ◌≡◌ {A = Level} (record { exponent = one.exponent; threshold = one.threshold; phases = one.phases; clusters = one.clusters; homes = one.homes; readers = one.readers }) (record { exponent = two.exponent; threshold = two.threshold; phases = two.phases; clusters = two.clusters; homes = two.homes; readers = two.readers }) = cc in
+    let parts : ◌≡◌ {A = Level} (record {
+      exponent = one.exponent;
+      threshold = one.threshold;
+      phases = one.phases;
+      clusters = one.clusters;
+      homes = one.homes;
+      readers = one.readers;
+    })
+    (record {
+      exponent = two.exponent;
+      threshold = two.threshold;
+      phases = two.phases;
+      clusters = two.clusters;
+      homes = two.homes;
+      readers = two.readers;
+    }) = cc in
     parts
 
 same_top : (table : DistanceTable) (one two : ℕ) → IsTop table one → IsTop table two → one ≡ two
 same_top table one two p q =
-    let le : p.diameter ≤ q.diameter = subst (λ w. w ≤ q.diameter) p.greatest.attained.far (q.greatest.greatest p.greatest.attained.from p.greatest.attained.to p.greatest.attained.from_below p.greatest.attained.to_below) in
-    let ge : q.diameter ≤ p.diameter = subst (λ w. w ≤ p.diameter) q.greatest.attained.far (p.greatest.greatest q.greatest.attained.from q.greatest.attained.to q.greatest.attained.from_below q.greatest.attained.to_below) in
+    let le : p.diameter ≤ q.diameter = subst (λ w. w ≤ q.diameter) p.greatest.attained.far (q.greatest.greatest
+    p.greatest.attained.from p.greatest.attained.to p.greatest.attained.from_below p.greatest.attained.to_below) in
+    let ge : q.diameter ≤ p.diameter = subst (λ w. w ≤ p.diameter) q.greatest.attained.far (p.greatest.greatest
+    q.greatest.attained.from q.greatest.attained.to q.greatest.attained.from_below q.greatest.attained.to_below) in
     elim (cases_lt one two) [
       | inl less ↦ absurd (omega (arith, q.least one less, p.enough, le, ge))
-      | inr more ↦ elim (cases_lt two one) [ inl greater ↦ absurd (omega (arith, p.least two greater, q.enough, le, ge)) | inr same ↦ omega arith ]
+      | inr more ↦ elim (cases_lt two one)
+          [ inl greater ↦ absurd (omega (arith, p.least two greater, q.enough, le, ge)) | inr same ↦ omega arith ]
     ]
 
 -- a network has one table of distances
 abbrev pub TableIsOne : Type 0
-TableIsOne = (network : Network) (one two : DistanceTable) → AreDistancesOf network one → AreDistancesOf network two → one ≡ two
+TableIsOne = (network : Network) (one two : DistanceTable) → AreDistancesOf network one → AreDistancesOf network two
+    → one ≡ two
 
-pub one_plan : (one_table : TableIsOne) (one_weight : LeastIsOne) (network : Network) (k : ℕ) (one two : PlanData) → IsPlanOf network k one → IsPlanOf network k two → one ≡ two
+pub one_plan : (one_table : TableIsOne) (one_weight : LeastIsOne) (network : Network) (k : ℕ) (one two : PlanData)
+    → IsPlanOf network k one → IsPlanOf network k two → one ≡ two
 one_plan one_table one_weight network k one two p q =
     let a : one.distances ≡ two.distances = tables in
     let b : one.k ≡ two.k = trade_off in
     let r : one.reach ≡ two.reach = p.reach ∙ sym q.reach in
     let c : one.levels ≡ two.levels = levels in
-    let parts : ◌≡◌ {A = PlanData} (record { k = one.k; reach = one.reach; distances = one.distances; levels = one.levels }) (record { k = two.k; reach = two.reach; distances = two.distances; levels = two.levels }) = cc in
+    let parts : ◌≡◌ {A = PlanData}
+    (record { k = one.k; reach = one.reach; distances = one.distances; levels = one.levels })
+    (record { k = two.k; reach = two.reach; distances = two.distances; levels = two.levels }) = cc in
     parts
   where
     tables : one.distances ≡ two.distances
@@ -145,15 +187,18 @@ one_plan one_table one_weight network k one two p q =
     trade_off = p.trade_off ∙ sym q.trade_off
 
     tops : top_of one ≡ top_of two
-    tops = same_top two.distances (top_of one) (top_of two) (subst (λ (t : DistanceTable). IsTop t (top_of one)) tables p.top) q.top
+    tops = same_top two.distances (top_of one) (top_of two)
+        (subst (λ (t : DistanceTable). IsTop t (top_of one)) tables p.top) q.top
 
     count : levels_of one ≡ levels_of two
     count = omega (arith, tops, p.some, q.some)
 
     level : (i : ℕ) → i < levels_of one → level_at one i ≡ level_at two i
     level i below = same_level one_weight network two.distances k i (level_at one i) (level_at two i)
-        (subst (λ (t : DistanceTable). IsLevelOf network t k i (level_at one i)) tables (p.each i below)) (q.each i (omega (arith, count)))
+        (subst (λ (t : DistanceTable). IsLevelOf network t k i (level_at one i)) tables (p.each i below))
+        (q.each i (omega (arith, count)))
 
     levels : one.levels ≡ two.levels
     levels = same_lists one.levels two.levels count (λ i d below.
-        get_or_default one.levels i d no_level below ∙ level i below ∙ get_or_default two.levels i no_level d (omega (arith, count)))
+        get_or_default one.levels i d no_level below ∙ level i below
+        ∙ get_or_default two.levels i no_level d (omega (arith, count)))

@@ -1,26 +1,47 @@
 -- A level as it is built, and the plan of all levels.
-use Rattle.std.proofs.Common.{◌≡◌, ℕ, ◌+◌, ◌-◌, ◌^◌, ◌<◌, ◌≤◌, List, [], ◌∷◌, ◌++◌, length, map, get_or, refl, sym, ◌∙◌, ap, subst, inl, inr, arith, ◌*◌}
-use Rattle.std.specs.Prelude.{All}
+use Rattle.std.proofs.Common.{◌≡◌, ℕ, ◌+◌, ◌-◌, ◌^◌, ◌<◌, ◌≤◌, List, [], ◌∷◌, ◌++◌, length, map, get_or, refl, sym, ◌∙◌}
+use Rattle.std.proofs.Common.{ap, subst, inl, inr, arith, ◌*◌}
+use Rattle.std.specs.Prelude.{All, nat_le}
 use Rattle.std.proofs.lemmas.Bool.{cases_lt}
 use Rattle.std.proofs.lemmas.List.{get_or_append_left, get_or_push}
 use Rattle.net_graph.specs.Network.{Network, IsNetwork}
 use Rattle.node_set.specs.Nodes.{Nodes}
-use Rattle.distances.specs.Table.{DistanceTable, AreDistancesOf, IsMetric, ball_of}
+use Rattle.distances.specs.Table.{DistanceTable, AreDistancesOf, IsMetric, ball_of, dist}
 use Rattle.coarse_cover.specs.Coarsening.{coarsening, all_clusters, ClustersAreShaped}
 use Rattle.coarse_cover.specs.Covers.{IsCover}
 use Rattle.coarse_cover.specs.declared.cover.Cluster.{Cluster}
 use Rattle.coarse_cover.specs.declared.cover.Cover.{Cover}
 use Rattle.region_plan.specs.Plan.{PlanCluster, Level, PlanData, level_in, no_level}
-use Rattle.region_plan.specs.Regions.{balls_of, regions_of, readers_of, threshold_of, IsTop, AreClustersOf, IsLevelOf, IsPlanOf}
+use Rattle.region_plan.specs.Regions.{balls_of, regions_of, readers_of, threshold_of, IsTop, AreClustersOf, IsLevelOf}
+use Rattle.region_plan.specs.Regions.{IsPlanOf}
 use Rattle.region_plan.specs.Kept.{IsSpanned, IsSized, level_of}
 use Rattle.region_plan.proofs.Spanning.{centred, listed_spanned}
-use Rattle.node_set.specs.Balls.{home_of, centres, sets, AreCentred}
-use Rattle.node_set.specs.BallLaws.{length-sets, length-map_centres}
+use Rattle.node_set.specs.Ascending.{has}
+use Rattle.node_set.specs.Balls.{ball, home_of, centres, sets, AreCentred}
+use Rattle.node_set.specs.BallLaws.{length-sets, length-map_centres, get_or-map_centres}
+use Rattle.node_set.specs.SetLaws.{has-passing}
+use Rattle.coarse_cover.specs.Turned.{AreTurned}
 use Rattle.region_plan.proofs.Making.{clusters_count, level_sized}
 
-module _ (network : Network) (table : DistanceTable) (metric : IsMetric table) (least : AreDistancesOf network table) (sound : IsNetwork network) (k i : ℕ) (low : 1 ≤ k)
+-- a node is in a ball just where the ball's centre is in the node's ball
+balls_are_rows : (table : DistanceTable) → IsMetric table → (i : ℕ) → AreTurned (balls_of table i) (balls_of table i)
+balls_are_rows table metric i u v u_below v_below =
+    let n : length (balls_of table i) ≡ table.nodes = length-map_centres (λ w. ball_of table w (2 ^ i)) table.nodes in
+    member u v (omega (arith, n)) (omega (arith, n))
+    ∙ ap (λ d. nat_le d (2 ^ i)) (metric.turned v u (omega (arith, n)) (omega (arith, n)))
+    ∙ sym (member v u (omega (arith, n)) (omega (arith, n)))
+  where
+    member : (x w : ℕ) → x < table.nodes → w < table.nodes → has x (ball (balls_of table i) w)
+        ≡ nat_le (dist table w x) (2 ^ i)
+    member x w x_below w_below =
+        ap (has x) (get_or-map_centres (λ y. ball_of table y (2 ^ i)) table.nodes w [] w_below)
+        ∙ has-passing (λ y. nat_le (dist table w y) (2 ^ i)) x 0 table.nodes (omega arith) (omega arith)
+
+module _ (network : Network) (table : DistanceTable) (metric : IsMetric table) (least : AreDistancesOf network table)
+    (sound : IsNetwork network) (k i : ℕ) (low : 1 ≤ k)
     (radius : ℕ) (radius_is : radius ≡ 2 ^ i)
-    (balls now : List Nodes) (value : now ≡ balls) (are : sets balls ≡ map (λ v. ball_of table v radius) (centres table.nodes)) where
+    (balls now : List Nodes) (value : now ≡ balls)
+    (are : sets balls ≡ map (λ v. ball_of table v radius) (centres table.nodes)) where
   sets_are : sets now ≡ balls_of table i
   sets_are = ap sets value ∙ are ∙ ap (λ r. map (λ v. ball_of table v r) (centres table.nodes)) radius_is
 
@@ -31,26 +52,54 @@ module _ (network : Network) (table : DistanceTable) (metric : IsMetric table) (
   balls_few = omega (arith, count, metric.few)
 
   pub balls_rooms : All (λ (b : Nodes). b.room ≡ table.nodes) balls → All (λ (b : Nodes). b.room ≡ length now) now
-  balls_rooms rooms = subst (λ (n : ℕ). All (λ (b : Nodes). b.room ≡ n) now) (sym count) (subst (λ (bs : List Nodes). All (λ (b : Nodes). b.room ≡ table.nodes) bs) (sym value) rooms)
+  balls_rooms rooms = subst (λ (n : ℕ). All (λ (b : Nodes). b.room ≡ n) now) (sym count)
+      (subst (λ (bs : List Nodes). All (λ (b : Nodes). b.room ≡ table.nodes) bs) (sym value) rooms)
 
   pub balls_centred : AreCentred (sets now)
-  balls_centred = subst (λ (bs : List (List ℕ)). AreCentred bs) (sym sets_are) (centred network table metric least sound k i low)
+  balls_centred = subst (λ (bs : List (List ℕ)). AreCentred bs) (sym sets_are)
+      (centred network table metric least sound k i low)
+
+  -- the balls are their own rows
+  module _ (rows : List Nodes) (rows_value : rows ≡ balls) where
+    pub balls_rows : All (λ (b : Nodes). b.room ≡ table.nodes) balls → All (λ (b : Nodes). b.room ≡ length now) rows
+    balls_rows rooms =
+        subst (λ (n : ℕ). All (λ (b : Nodes). b.room ≡ n) rows) (sym count)
+        (subst (λ (bs : List Nodes). All (λ (b : Nodes). b.room ≡ table.nodes) bs) (sym rows_value) rooms)
+
+    pub balls_turned : AreTurned (sets now) (sets rows)
+    balls_turned =
+        subst (λ (bs : List (List ℕ)). AreTurned bs (sets rows)) (sym sets_are)
+        (subst (λ (bs : List (List ℕ)). AreTurned (balls_of table i) bs)
+        (sym (ap sets (rows_value ∙ sym value) ∙ sets_are)) (balls_are_rows table metric i))
 
   module _ (cover : Cover) (exact : IsCover (length now) (coarsening (sets now) k) cover) where
     cover_is : IsCover table.nodes (regions_of table k i) cover
-    cover_is = subst (λ (n : ℕ). IsCover n (regions_of table k i) cover) count (subst (λ (bs : List (List ℕ)). IsCover (length now) (coarsening bs k) cover) sets_are exact)
+    cover_is = subst (λ (n : ℕ). IsCover n (regions_of table k i) cover) count
+        (subst (λ (bs : List (List ℕ)). IsCover (length now) (coarsening bs k) cover) sets_are exact)
 
     pub cover_spanned : ClustersAreShaped → All (IsSpanned network) cover.clusters.items
-    cover_spanned law = subst (λ (cs : List Cluster). All (IsSpanned network) cs) (sym cover_is.clusters) (listed_spanned network table metric least sound k i low law)
+    cover_spanned law = subst (λ (cs : List Cluster). All (IsSpanned network) cs) (sym cover_is.clusters)
+        (listed_spanned network table metric least sound k i low law)
 
     pub homes_count : length cover.home.items ≡ table.nodes
-    homes_count = ap length cover_is.homes ∙ length-map_centres (home_of (all_clusters (regions_of table k i))) table.nodes
+    homes_count = ap length cover_is.homes
+        ∙ length-map_centres (home_of (all_clusters (regions_of table k i))) table.nodes
 
-    module _ (rows : List PlanCluster) (rows_are : AreClustersOf network cover.clusters.items rows) (few : length cover.clusters.items ≤ length now) where
+    -- the balls' sets are as many as the homes, and have room for as many
+    pub sets_fit : length balls ≡ length cover.home.items
+    sets_fit = ap length (sym value) ∙ count ∙ sym homes_count
+
+    pub rooms_fit : All (λ (b : Nodes). b.room ≡ table.nodes) balls
+        → All (λ (b : Nodes). b.room ≡ length cover.home.items) balls
+    rooms_fit = subst (λ (n : ℕ). All (λ (b : Nodes). b.room ≡ n) balls) (sym homes_count)
+
+    module _ (rows : List PlanCluster) (rows_are : AreClustersOf network cover.clusters.items rows)
+        (few : length cover.clusters.items ≤ length now) where
       pub rows_few : length rows ≤ table.nodes
       rows_few = omega (arith, clusters_count network cover.clusters.items rows rows_are, count)
 
-      pub level_built : (threshold : ℕ) (level : Level) → threshold ≡ threshold_of i → level ≡ level_of i threshold cover.phases rows cover.home.items
+      pub level_built : (threshold : ℕ) (level : Level) → threshold ≡ threshold_of i → level
+          ≡ level_of i threshold cover.phases rows cover.home.items
           → IsLevelOf network table k i level
       level_built threshold level is made = subst (λ (l : Level). IsLevelOf network table k i l) (sym made) (record {
         exponent = refl;
@@ -61,28 +110,36 @@ module _ (network : Network) (table : DistanceTable) (metric : IsMetric table) (
         readers = ap (λ n. readers_of n rows) homes_count;
       })
 
-      pub level_fits : (threshold : ℕ) (level : Level) → i ≤ 30 → level ≡ level_of i threshold cover.phases rows cover.home.items → IsSized table.nodes level
-      level_fits threshold level light made = level_sized table.nodes i threshold cover.phases rows cover.home.items level made homes_count rows_few light
+      pub level_fits : (threshold : ℕ) (level : Level) → i ≤ 30 → level
+          ≡ level_of i threshold cover.phases rows cover.home.items → IsSized table.nodes level
+      level_fits threshold level light made =
+          level_sized table.nodes i threshold cover.phases rows cover.home.items level made homes_count rows_few light
 
 -- ---- the levels, one after another
 
-pub more_levels : (network : Network) (table : DistanceTable) (k i : ℕ) (old new : List Level) (level : Level) → length old ≡ i
-    → ((j : ℕ) → j < i → IsLevelOf network table k j (level_in old j)) → IsLevelOf network table k i level → new ≡ old ++ level ∷ []
+pub more_levels : (network : Network) (table : DistanceTable) (k i : ℕ) (old new : List Level) (level : Level)
+    → length old ≡ i
+    → ((j : ℕ) → j < i → IsLevelOf network table k j (level_in old j)) → IsLevelOf network table k i level → new
+    ≡ old ++ level ∷ []
     → (j : ℕ) → j < i + 1 → IsLevelOf network table k j (level_in new j)
 more_levels network table k i old new level count each is now j below = elim (cases_lt j i) [
   | inl less ↦ subst (λ (l : Level). IsLevelOf network table k j l)
-      (sym (ap (λ (ls : List Level). get_or ls j no_level) now ∙ get_or_append_left old (level ∷ []) no_level j (omega (arith, count)))) (each j less)
+      (sym (ap (λ (ls : List Level). get_or ls j no_level) now
+      ∙ get_or_append_left old (level ∷ []) no_level j (omega (arith, count)))) (each j less)
   | inr more ↦
       let same : i ≡ j = omega arith in
       subst (λ (m : ℕ). IsLevelOf network table k m (level_in new m)) same
-      (subst (λ (l : Level). IsLevelOf network table k i l) (sym (ap (λ (ls : List Level). get_or ls i no_level) now ∙ get_or_push old level no_level i count)) is)
+      (subst (λ (l : Level). IsLevelOf network table k i l)
+      (sym (ap (λ (ls : List Level). get_or ls i no_level) now ∙ get_or_push old level no_level i count)) is)
 ]
 
 abbrev plan_with : ℕ → ℕ → List Level → DistanceTable → PlanData
 plan_with k reach levels t = record { k = k; reach = reach; distances = t; levels = levels }
 
-pub plan_built : (network : Network) (table copy : DistanceTable) (k reach top : ℕ) (levels : List Level) (plan : PlanData) → AreDistancesOf network table → copy ≡ table
-    → reach ≡ 2 * k - 1 → plan ≡ record { k = k; reach = reach; distances = copy; levels = levels } → length levels ≡ top + 1 → IsTop table top
+pub plan_built : (network : Network) (table copy : DistanceTable) (k reach top : ℕ) (levels : List Level)
+    (plan : PlanData) → AreDistancesOf network table → copy ≡ table
+    → reach ≡ 2 * k - 1 → plan ≡ record { k = k; reach = reach; distances = copy; levels = levels } → length levels
+    ≡ top + 1 → IsTop table top
     → ((j : ℕ) → j < top + 1 → IsLevelOf network table k j (level_in levels j)) → IsPlanOf network k plan
 plan_built network table copy k reach top levels plan least same reach_is is count top_is each =
     subst (λ (p : PlanData). IsPlanOf network k p) (sym (is ∙ ap (plan_with k reach levels) same)) (record {

@@ -5,6 +5,7 @@ mod Making
 mod Flatness
 mod Reaching
 mod Spanning
+mod Gathering
 mod Levels
 mod Matching
 mod Alone

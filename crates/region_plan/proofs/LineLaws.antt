@@ -1,6 +1,9 @@
--- The distances of the line of four are a metric: each fact is a test at every number below its bounds, and is computed.
-use Rattle.std.proofs.Common.{◌≡◌, ℕ, ◌+◌, ◌*◌, ◌<◌, Bool, true, false, not, ◌==◌, ◌&&◌, ◌||◌, List, [], ◌∷◌, refl, ap, arith, nat_le, nat_lt, inl, inr}
-use Rattle.std.proofs.lemmas.Bool.{agree_below, agree_below_at, leb-true, ltb-true, eqb-true, ne_eqb, or_cases, and_parts}
+-- The distances of the line of four are a metric: each fact is a test at every number below its bounds, and is
+-- computed.
+use Rattle.std.proofs.Common.{◌≡◌, ℕ, ◌+◌, ◌*◌, ◌<◌, Bool, true, false, not, ◌==◌, ◌&&◌, ◌||◌, List, [], ◌∷◌, refl, ap}
+use Rattle.std.proofs.Common.{arith, nat_le, nat_lt, inl, inr}
+use Rattle.std.proofs.lemmas.Bool.{agree_below, agree_below_at, leb-true, ltb-true, eqb-true, ne_eqb, or_cases}
+use Rattle.std.proofs.lemmas.Bool.{and_parts}
 use Rattle.node_set.specs.Ascending.{has}
 use Rattle.distances.specs.Table.{IsMetric, dist}
 use Rattle.region_plan.specs.Examples.{line_table}
@@ -23,7 +26,8 @@ at2 test n m h x y low high = at1 (test x) m (at1 (λ z. all1 (test z) m) n h x 
 unfoldable pub all3 : (ℕ → ℕ → ℕ → Bool) → ℕ → ℕ → ℕ → Bool
 all3 test n m k = all1 (λ x. all2 (test x) m k) n
 
-pub at3 : (test : ℕ → ℕ → ℕ → Bool) (n m k : ℕ) → all3 test n m k ≡ true → (x y z : ℕ) → x < n → y < m → z < k → test x y z ≡ true
+pub at3 : (test : ℕ → ℕ → ℕ → Bool) (n m k : ℕ) → all3 test n m k ≡ true → (x y z : ℕ) → x < n → y < m → z < k
+    → test x y z ≡ true
 unfolding all3
 at3 test n m k h x y z low high far = at2 (test x) m k (at1 (λ w. all2 (test w) m k) n h x low) y z high far
 
@@ -39,10 +43,16 @@ line_metric = record {
   few = leb-true 4 1024 refl;
   count = refl;
   zero = λ u low. eqb-true (dist line_table u u) 0 (at1 (λ u. dist line_table u u == 0) 4 refl u low);
-  positive = λ u v low high apart. leb-true 1 (dist line_table u v) (when (not (u == v)) (nat_le 1 (dist line_table u v)) (at2 (λ u v. not (not (u == v)) || nat_le 1 (dist line_table u v)) 4 4 refl u v low high) (ap not (ne_eqb u v apart)));
-  turned = λ u v low high. eqb-true (dist line_table u v) (dist line_table v u) (at2 (λ u v. dist line_table u v == dist line_table v u) 4 4 refl u v low high);
-  triangle = λ u v w low high far. leb-true (dist line_table u w) (dist line_table u v + dist line_table v w) (at3 (λ u v w. nat_le (dist line_table u w) (dist line_table u v + dist line_table v w)) 4 4 4 refl u v w low high far);
-  bounded = λ u v low high. leb-true (dist line_table u v) (3 * 1048576) (at2 (λ u v. nat_le (dist line_table u v) (3 * 1048576)) 4 4 refl u v low high);
+  positive = λ u v low high apart. leb-true 1 (dist line_table u v) (when (not (u == v))
+      (nat_le 1 (dist line_table u v)) (at2 (λ u v. not (not (u == v)) || nat_le 1 (dist line_table u v)) 4 4 refl u v
+      low high) (ap not (ne_eqb u v apart)));
+  turned = λ u v low high. eqb-true (dist line_table u v) (dist line_table v u)
+      (at2 (λ u v. dist line_table u v == dist line_table v u) 4 4 refl u v low high);
+  triangle = λ u v w low high far. leb-true (dist line_table u w) (dist line_table u v + dist line_table v w) (at3
+      (λ u v w. nat_le (dist line_table u w) (dist line_table u v + dist line_table v w)) 4 4 4 refl u v w low high
+      far);
+  bounded = λ u v low high. leb-true (dist line_table u v) (3 * 1048576)
+      (at2 (λ u v. nat_le (dist line_table u v) (3 * 1048576)) 4 4 refl u v low high);
 }
 
 unfoldable pub below_four : List ℕ → Bool

@@ -1,10 +1,10 @@
 -- Numbers from 0 on, and what stands beside a member.
-use Rattle.std.proofs.Common.{Bool, ◌≡◌, ℕ, zero, suc, ◌+◌, ◌<◌, ◌≤◌, true, false, cond, ◌||◌, List, [], ◌∷◌, ◌++◌, map, refl, sym, ◌∙◌, ap, subst, inl, inr, arith, eq-eqb, ne_eqb}
+use Rattle.std.proofs.Common.{◌≡◌, ℕ, zero, suc, ◌+◌, ◌<◌, ◌≤◌, true, false, cond, ◌||◌, List, [], ◌∷◌, ◌++◌, map}
+use Rattle.std.proofs.Common.{refl, sym, ◌∙◌, ap, subst, inl, inr, arith, eq-eqb, ne_eqb}
 use Rattle.std.proofs.lemmas.Bool.{cases_eq}
 use Rattle.std.proofs.lemmas.List.{map_push}
-use Rattle.node_set.specs.Nodes.{Nodes}
-use Rattle.node_set.specs.Ascending.{has, passing, union, IsAscending}
-use Rattle.node_set.specs.SetLaws.{same_members, ascending-union, has-union, passing_takes}
+use Rattle.node_set.specs.Ascending.{has, sift}
+use Rattle.node_set.specs.SetLaws.{passing_takes}
 use Rattle.node_set.specs.Balls.{centres}
 use Rattle.cluster_tree.specs.Tree.{weight_beside}
 
@@ -22,35 +22,20 @@ beside_map f v (x ∷ xs) h = elim (cases_eq v x) [
 pub centres_push : (v : ℕ) → centres (v + 1) ≡ centres v ++ v ∷ []
 centres_push v = passing_takes (λ x. true) v refl
 
-pub made_more : {X : Type 0} (f : ℕ → X) (v : ℕ) (old new : List X) (y : X) → old ≡ map f (centres v) → y ≡ f v → new ≡ old ++ y ∷ []
+pub made_more : {X : Type 0} (f : ℕ → X) (v : ℕ) (old new : List X) (y : X) → old ≡ map f (centres v) → y ≡ f v → new
+    ≡ old ++ y ∷ []
     → new ≡ map f (centres (v + 1))
 made_more {X} f v old new y before is now =
     now ∙ ap (λ (xs : List X). xs ++ y ∷ []) before ∙ ap (λ (x : X). map f (centres v) ++ x ∷ []) is
     ∙ sym (ap (λ (xs : List ℕ). map f xs) (centres_push v) ∙ map_push f (centres v) v)
 
-map_same_range : {X : Type 0} (f g : ℕ → X) (v n : ℕ) → ((u : ℕ) → v ≤ u → u < v + n → f u ≡ g u) → map f (passing (λ x. true) v n) ≡ map g (passing (λ x. true) v n)
+map_same_range : {X : Type 0} (f g : ℕ → X) (v n : ℕ) → ((u : ℕ) → v ≤ u → u < v + n → f u ≡ g u)
+    → map f (sift (λ x. true) v n) ≡ map g (sift (λ x. true) v n)
 map_same_range f g v zero same = refl
 map_same_range f g v (suc n) same =
     let rest = map_same_range f g (suc v) n (λ u low high. same u (omega arith) (omega arith)) in
     rw (same v (omega arith) (omega arith), rest) refl
 
-pub map_same : {X : Type 0} (f g : ℕ → X) (n : ℕ) → ((u : ℕ) → u < n → f u ≡ g u) → map f (centres n) ≡ map g (centres n)
+pub map_same : {X : Type 0} (f g : ℕ → X) (n : ℕ) → ((u : ℕ) → u < n → f u ≡ g u) → map f (centres n)
+    ≡ map g (centres n)
 map_same f g n same = map_same_range f g 0 n (λ u low high. same u (omega arith))
-
--- the union with nothing
-pub union_alone : (xs : List ℕ) → IsAscending xs → union xs [] ≡ xs
-union_alone xs order = same_members (union xs []) xs (ascending-union xs [] tt) order (λ x. has-union x xs [] ∙ or_none (has x xs))
-  where
-    or_none : (b : Bool) → (b || false) ≡ b
-    or_none true = refl
-    or_none false = refl
-
-abbrev make_nodes : ℕ → List ℕ → Nodes
-make_nodes room members = record { room = room; members = members }
-
--- a set that was copied into an empty one
-pub copied_set : (set empty new : Nodes) (room : ℕ) → IsAscending set.members → room ≡ set.room → empty ≡ record { room = room; members = [] }
-    → new ≡ record { room = empty.room; members = union set.members empty.members } → new ≡ set
-copied_set set empty new room order same none is =
-    is ∙ ap (λ (e : Nodes). make_nodes e.room (union set.members e.members)) none
-    ∙ ap (λ xs. make_nodes room xs) (union_alone set.members order) ∙ ap (λ n. make_nodes n set.members) same

@@ -1,5 +1,6 @@
 -- The plan of a network is matched, and its clusters are within their radius.
-use Rattle.std.proofs.Common.{◌≡◌, ℕ, ◌-◌, ◌*◌, ◌^◌, ◌<◌, ◌≤◌, true, List, [], length, get_or, refl, sym, ◌∙◌, ap, subst, arith}
+use Rattle.std.proofs.Common.{◌≡◌, ℕ, ◌-◌, ◌*◌, ◌^◌, ◌<◌, ◌≤◌, true, List, [], length, get_or, refl, sym, ◌∙◌, ap}
+use Rattle.std.proofs.Common.{subst, arith}
 use Rattle.std.proofs.lemmas.List.{get_or-map}
 use Rattle.net_graph.specs.Walks.{IsLeastWeight, weight_of, everywhere}
 use Rattle.net_graph.specs.Network.{Network, IsNetwork}
@@ -12,8 +13,9 @@ use Rattle.coarse_cover.specs.Covers.{cluster_list}
 use Rattle.coarse_cover.specs.declared.cover.Cluster.{Cluster}
 use Rattle.coarse_cover.specs.CoverLaws.{cluster_list_nodes, length-cluster_list}
 use Rattle.cluster_tree.specs.Tree.{within}
-use Rattle.region_plan.specs.Plan.{PlanData, nodes_of, levels_of, top_of, distance, level_at, no_cluster, cluster_in, cluster_at, clusters_of, members_of, home, readers, leader, inside}
-use Rattle.region_plan.specs.Regions.{balls_of, regions_of, containing, IsClusterOf, IsLevelOf, IsPlanOf}
+use Rattle.region_plan.specs.Plan.{PlanData, nodes_of, levels_of, top_of, distance, level_at, no_cluster, cluster_in}
+use Rattle.region_plan.specs.Plan.{cluster_at, clusters_of, members_of, home, readers, leader, inside}
+use Rattle.region_plan.specs.Regions.{balls_of, regions_of, clusters_with, IsClusterOf, IsLevelOf, IsPlanOf}
 use Rattle.region_plan.specs.Matched.{IsMatched, IsWithinReach, BoundsFinds}
 use Rattle.region_plan.proofs.Reaching.{to_ball}
 use Rattle.region_plan.proofs.Spanning.{IsClose, centred, listed_close}
@@ -28,7 +30,8 @@ no_made = record { first = 0; members = record { room = 0; members = [] }; phase
 abbrev no_grown : GrownCluster
 no_grown = record { first = 0; growths = 0; homed = []; members = [] }
 
-module _ (shape : ClustersAreShaped) (found : HomesAreFound) (network : Network) (sound : IsNetwork network) (k : ℕ) (low : 1 ≤ k) (plan : PlanData) (metric : IsMetric plan.distances) (is : IsPlanOf network k plan) where
+module _ (shape : ClustersAreShaped) (found : HomesAreFound) (network : Network) (sound : IsNetwork network) (k : ℕ)
+    (low : 1 ≤ k) (plan : PlanData) (metric : IsMetric plan.distances) (is : IsPlanOf network k plan) where
   module _ (i : ℕ) (below : i < levels_of plan) where
     abbrev made : List Cluster
     made = cluster_list (nodes_of plan) 0 (regions_of plan.distances k i)
@@ -40,12 +43,15 @@ module _ (shape : ClustersAreShaped) (found : HomesAreFound) (network : Network)
     as_many = clusters_count network made (level_at plan i).clusters level.clusters
 
     cluster_is : (c : ℕ) → c < clusters_of plan i → IsClusterOf network (get_or made c no_made) (cluster_at plan i c)
-    cluster_is c h = clusters_at network made (level_at plan i).clusters level.clusters c no_made no_cluster (omega (arith, as_many))
+    cluster_is c h = clusters_at network made (level_at plan i).clusters level.clusters c no_made no_cluster
+        (omega (arith, as_many))
 
     close : (c : ℕ) → c < clusters_of plan i → IsClose network ((2 * k - 1) * 2 ^ i) (get_or made c no_made)
-    close c h = listed_close network plan.distances metric is.distances sound k i low shape c no_made (omega (arith, as_many))
+    close c h = listed_close network plan.distances metric is.distances sound k i low shape c no_made
+        (omega (arith, as_many))
 
-    made_member : (c v : ℕ) → c < clusters_of plan i → has v (members_of plan i c) ≡ true → has v (get_or made c no_made).members.members ≡ true
+    made_member : (c v : ℕ) → c < clusters_of plan i → has v (members_of plan i c) ≡ true
+        → has v (get_or made c no_made).members.members ≡ true
     made_member c v h member = ap (has v) (sym (cluster_is c h).members) ∙ member
 
     pub member_below : (c v : ℕ) → c < clusters_of plan i → has v (members_of plan i c) ≡ true → v < nodes_of plan
@@ -53,30 +59,37 @@ module _ (shape : ClustersAreShaped) (found : HomesAreFound) (network : Network)
 
     pub leader_member : (c : ℕ) → c < clusters_of plan i → has (leader plan i c) (members_of plan i c) ≡ true
     leader_member c h =
-        ap (λ u. has u (members_of plan i c)) (cluster_is c h).leader ∙ ap (has (get_or made c no_made).first) (cluster_is c h).members ∙ (close c h).leads
+        ap (λ u. has u (members_of plan i c)) (cluster_is c h).leader
+        ∙ ap (has (get_or made c no_made).first) (cluster_is c h).members ∙ (close c h).leads
 
     weighs : (c v : ℕ) → c < clusters_of plan i → has v (members_of plan i c) ≡ true
-        → IsLeastWeight network.edges (within (get_or made c no_made).members.members) (get_or made c no_made).first v (inside plan i c v)
+        → IsLeastWeight network.edges (within (get_or made c no_made).members.members) (get_or made c no_made).first v
+        (inside plan i c v)
     weighs c v h member = (cluster_is c h).tree.each v (made_member c v h member)
 
     pub leader_inside : (c : ℕ) → c < clusters_of plan i → inside plan i c (leader plan i c) ≡ 0
     leader_inside c h =
-        let least = (weighs c (leader plan i c) h (leader_member c h)).least [] ((close c h).leads, sym (cluster_is c h).leader) in
+        let least = (weighs c (leader plan i c) h (leader_member c h)).least []
+        ((close c h).leads, sym (cluster_is c h).leader) in
         omega (arith, least)
 
-    pub inside_far : (c v : ℕ) → c < clusters_of plan i → has v (members_of plan i c) ≡ true → distance plan (leader plan i c) v ≤ inside plan i c v
+    pub inside_far : (c v : ℕ) → c < clusters_of plan i → has v (members_of plan i c) ≡ true
+        → distance plan (leader plan i c) v ≤ inside plan i c v
     inside_far c v h member =
         let walk = (weighs c v h member).attained in
-        let first : (get_or made c no_made).first < network.nodes = (close c h).below (get_or made c no_made).first (close c h).leads in
+        let first : (get_or made c no_made).first < network.nodes =
+        (close c h).below (get_or made c no_made).first (close c h).leads in
         let v_below : v < nodes_of plan = member_below c v h member in
         let far : dist plan.distances (get_or made c no_made).first v ≤ weight_of walk.steps =
         (is.distances.each (get_or made c no_made).first v (omega (arith, is.distances.nodes)) v_below).least walk.steps
-        (walk_widened network.nodes network.edges (within (get_or made c no_made).members.members) everywhere sound.limits.edges (λ x hx inner. refl)
+        (walk_widened network.nodes network.edges (within (get_or made c no_made).members.members) everywhere
+        sound.limits.edges (λ x hx inner. refl)
         (get_or made c no_made).first walk.steps v first walk.walk)
         in
         subst (λ u. distance plan u v ≤ inside plan i c v) (sym (cluster_is c h).leader) (omega (arith, far, walk.sum))
 
-    pub inside_near : (c v : ℕ) → c < clusters_of plan i → has v (members_of plan i c) ≡ true → inside plan i c v ≤ (2 * k - 1) * 2 ^ i
+    pub inside_near : (c v : ℕ) → c < clusters_of plan i → has v (members_of plan i c) ≡ true
+        → inside plan i c v ≤ (2 * k - 1) * 2 ^ i
     inside_near c v h member =
         let near = (close c h).near v (made_member c v h member) in
         let least = (weighs c v h member).least near.steps near.walk in
@@ -91,7 +104,8 @@ module _ (shape : ClustersAreShaped) (found : HomesAreFound) (network : Network)
     groups_count = sym (length-cluster_list (nodes_of plan) 0 (regions_of plan.distances k i)) ∙ as_many
 
     home_is : (v : ℕ) → v < nodes_of plan → home plan i v ≡ home_of groups v
-    home_is v h = ap (λ (xs : List ℕ). get_or xs v 0) level.homes ∙ get_or-map_centres (home_of groups) (nodes_of plan) v 0 h
+    home_is v h = ap (λ (xs : List ℕ). get_or xs v 0) level.homes
+        ∙ get_or-map_centres (home_of groups) (nodes_of plan) v 0 h
 
     ball_below : (v : ℕ) → v < nodes_of plan → v < length (balls_of plan.distances i)
     ball_below v h = omega (arith, length-map_centres (λ u. ball_of plan.distances u (2 ^ i)) (nodes_of plan))
@@ -102,46 +116,60 @@ module _ (shape : ClustersAreShaped) (found : HomesAreFound) (network : Network)
           arith,
           home_is v h,
           groups_count,
-          (found (balls_of plan.distances i) k v no_grown low (centred network plan.distances metric is.distances sound k i low) (ball_below v h)).0,
+          (found (balls_of plan.distances i) k v no_grown low
+              (centred network plan.distances metric is.distances sound k i low) (ball_below v h)).0,
         )
 
-    group_members : (c : ℕ) → c < length groups → (get_or made c no_made).members.members ≡ (get_or groups c no_grown).members
+    group_members : (c : ℕ) → c < length groups → (get_or made c no_made).members.members
+        ≡ (get_or groups c no_grown).members
     group_members c h =
         sym (get_or-map (λ (d : Cluster). d.members.members) made c no_made [] (omega (arith, groups_count, as_many)))
-        ∙ ap (λ (xs : List (List ℕ)). get_or xs c []) (cluster_list_nodes (nodes_of plan) 0 (regions_of plan.distances k i))
+        ∙ ap (λ (xs : List (List ℕ)). get_or xs c [])
+        (cluster_list_nodes (nodes_of plan) 0 (regions_of plan.distances k i))
         ∙ get_or-map (λ (g : GrownCluster). g.members) groups c no_grown [] h
 
-    in_home : (v x : ℕ) → v < nodes_of plan → has x (ball (balls_of plan.distances i) v) ≡ true → has x (members_of plan i (home plan i v)) ≡ true
+    in_home : (v x : ℕ) → v < nodes_of plan → has x (ball (balls_of plan.distances i) v) ≡ true
+        → has x (members_of plan i (home plan i v)) ≡ true
     in_home v x h member =
         let c : ℕ = home_of groups v in
         let is_within : c < length groups =
-        (found (balls_of plan.distances i) k v no_grown low (centred network plan.distances metric is.distances sound k i low) (ball_below v h)).0
+        (found (balls_of plan.distances i) k v no_grown low
+        (centred network plan.distances metric is.distances sound k i low) (ball_below v h)).0
         in
-        let homed = (found (balls_of plan.distances i) k v no_grown low (centred network plan.distances metric is.distances sound k i low) (ball_below v h)).1 in
-        let shaped = shape (balls_of plan.distances i) k low (centred network plan.distances metric is.distances sound k i low) c no_grown is_within in
+        let homed = (found (balls_of plan.distances i) k v no_grown low
+        (centred network plan.distances metric is.distances sound k i low) (ball_below v h)).1 in
+        let shaped = shape (balls_of plan.distances i) k low
+        (centred network plan.distances metric is.distances sound k i low) c no_grown is_within in
         subst (λ d. has x (members_of plan i d) ≡ true) (sym (home_is v h))
         (ap (has x) ((cluster_is c (omega (arith, groups_count))).members ∙ group_members c is_within ∙ shaped.1)
         ∙ union_has (balls_of plan.distances i) x v (get_or groups c no_grown).homed homed member)
 
-    near_home : (u v : ℕ) → u < nodes_of plan → v < nodes_of plan → distance plan u v ≤ 2 ^ i → has v (members_of plan i (home plan i u)) ≡ true
+    near_home : (u v : ℕ) → u < nodes_of plan → v < nodes_of plan → distance plan u v ≤ 2 ^ i
+        → has v (members_of plan i (home plan i u)) ≡ true
     near_home u v hu hv near =
-        in_home u v hu (to_ball network plan.distances metric is.distances sound.limits.edges (2 ^ i) (balls_of plan.distances i) refl u v hu hv near)
+        in_home u v hu (to_ball network plan.distances metric is.distances sound.limits.edges (2 ^ i)
+        (balls_of plan.distances i) refl u v hu hv near)
 
-    pub reads : (v : ℕ) → v < nodes_of plan → readers plan i v ≡ containing (level_at plan i).clusters v
-    reads v h = ap (λ (xs : List (List ℕ)). get_or xs v []) level.readers ∙ get_or-map_centres (containing (level_at plan i).clusters) (nodes_of plan) v [] h
+    pub reads : (v : ℕ) → v < nodes_of plan → readers plan i v ≡ clusters_with (level_at plan i).clusters v
+    reads v h = ap (λ (xs : List (List ℕ)). get_or xs v []) level.readers
+        ∙ get_or-map_centres (clusters_with (level_at plan i).clusters) (nodes_of plan) v [] h
 
     pub own_home : (v : ℕ) → v < nodes_of plan → has v (members_of plan i (home plan i v)) ≡ true
     own_home v h = near_home v v h h (omega (arith, metric.zero v h))
 
-    pub meets : (u v : ℕ) → u < nodes_of plan → v < nodes_of plan → distance plan u v ≤ 2 ^ (level_at plan i).exponent → has (home plan i u) (readers plan i v) ≡ true
+    pub meets : (u v : ℕ) → u < nodes_of plan → v < nodes_of plan → distance plan u v ≤ 2 ^ (level_at plan i).exponent
+        → has (home plan i u) (readers plan i v) ≡ true
     meets u v hu hv near =
         ap (has (home plan i u)) (reads v hv)
-        ∙ has-passing (λ c. has v (cluster_in (level_at plan i).clusters c).members) (home plan i u) 0 (clusters_of plan i) (omega arith) (omega (arith, home_below u hu))
+        ∙ has-passing (λ c. has v (cluster_in (level_at plan i).clusters c).members) (home plan i u) 0
+        (clusters_of plan i) (omega arith) (omega (arith, home_below u hu))
         ∙ near_home u v hu hv (subst (λ e. distance plan u v ≤ 2 ^ e) level.exponent near)
 
-    pub all_home : (u v : ℕ) → u < nodes_of plan → v < nodes_of plan → i ≡ top_of plan → has u (members_of plan i (home plan i v)) ≡ true
+    pub all_home : (u v : ℕ) → u < nodes_of plan → v < nodes_of plan → i ≡ top_of plan
+        → has u (members_of plan i (home plan i v)) ≡ true
     all_home u v hu hv last =
-        near_home v u hv hu (subst (λ e. distance plan v u ≤ 2 ^ e) (sym last) (omega (arith, is.top.greatest.greatest v u hv hu, is.top.enough)))
+        near_home v u hv hu (subst (λ e. distance plan v u ≤ 2 ^ e) (sym last)
+        (omega (arith, is.top.greatest.greatest v u hv hu, is.top.enough)))
 
   plan_matched : IsMatched plan
   plan_matched =
@@ -163,7 +191,9 @@ module _ (shape : ClustersAreShaped) (found : HomesAreFound) (network : Network)
 
   plan_near : IsWithinReach plan
   plan_near i c v h hc member =
-      subst (λ j. inside plan i c v ≤ j * 2 ^ (level_at plan i).exponent) (sym is.reach) (subst (λ e. inside plan i c v ≤ (2 * k - 1) * 2 ^ e) (sym (is.each i h).exponent) (inside_near i h c v hc member))
+      subst (λ j. inside plan i c v ≤ j * 2 ^ (level_at plan i).exponent) (sym is.reach)
+      (subst (λ e. inside plan i c v ≤ (2 * k - 1) * 2 ^ e) (sym (is.each i h).exponent)
+      (inside_near i h c v hc member))
 
   pub plan_bounds : BoundsFinds plan
   plan_bounds = record {

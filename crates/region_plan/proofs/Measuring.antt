@@ -1,5 +1,6 @@
 -- The greatest of some numbers, one after another.
-use Rattle.std.proofs.Common.{◌≡◌, ℕ, zero, suc, ◌+◌, ◌<◌, ◌≤◌, List, [], ◌∷◌, ◌++◌, length, map, take, get_or, refl, sym, ◌∙◌, ap, arith, rules}
+use Rattle.std.proofs.Common.{◌≡◌, ℕ, zero, suc, ◌+◌, ◌<◌, ◌≤◌, List, [], ◌∷◌, ◌++◌, length, map, take, get_or, refl}
+use Rattle.std.proofs.Common.{sym, ◌∙◌, ap, arith, rules}
 use Rattle.std.specs.Prelude.{max}
 use Rattle.std.specs.Ordering.{ord_max, nat_cmp}
 use Rattle.std.proofs.lemmas.Bool.Decides.{nat_tests}
@@ -15,23 +16,35 @@ most_push : (xs : List ℕ) (y : ℕ) → most (xs ++ y ∷ []) ≡ max (most xs
 most_push [] y = max-zero y ∙ sym (zero-max y)
 most_push (x ∷ xs) y = ap (λ n. max x n) (most_push xs y) ∙ sym (max_both x (most xs) y)
 
-most_more : (xs : List ℕ) (i y : ℕ) → i < length xs → get_or xs i 0 ≡ y → most (take (i + 1) xs) ≡ max (most (take i xs)) y
-most_more xs i y below is = ap most (take_more xs i 0 below) ∙ most_push (take i xs) (get_or xs i 0) ∙ ap (λ n. max (most (take i xs)) n) is
+most_more : (xs : List ℕ) (i y : ℕ) → i < length xs → get_or xs i 0 ≡ y → most (take (i + 1) xs)
+    ≡ max (most (take i xs)) y
+most_more xs i y below is = ap most (take_more xs i 0 below) ∙ most_push (take i xs) (get_or xs i 0)
+    ∙ ap (λ n. max (most (take i xs)) n) is
 
-pub degree_step : (level : Level) (v old len new : ℕ) (row : List ℕ) → v < length level.readers → old ≡ most (take v (map length level.readers))
-    → len ≡ length row → row ≡ readers_in level v → new ≡ max old len → new ≡ most (take (v + 1) (map length level.readers))
+pub degree_step : (level : Level) (v old len new : ℕ) (row : List ℕ) → v < length level.readers → old
+    ≡ most (take v (map length level.readers))
+    → len ≡ length row → row ≡ readers_in level v → new ≡ max old len → new
+    ≡ most (take (v + 1) (map length level.readers))
 degree_step level v old len new row below before is reads now =
-    let at : get_or (map length level.readers) v 0 ≡ len = get_or-map length level.readers v [] 0 below ∙ ap length (sym reads) ∙ sym is in
-    now ∙ ap (λ n. max n len) before ∙ sym (most_more (map length level.readers) v len (omega (arith, length-map level.readers (length {A = ℕ}))) at)
+    let at : get_or (map length level.readers) v 0 ≡ len = get_or-map length level.readers v [] 0 below
+    ∙ ap length (sym reads) ∙ sym is in
+    now ∙ ap (λ n. max n len) before ∙ sym (most_more (map length level.readers) v len
+    (omega (arith, length-map level.readers (length {A = ℕ}))) at)
 
-pub degree_done : (level : Level) (v degree : ℕ) → length level.readers ≤ v → degree ≡ most (take v (map length level.readers)) → degree ≡ degree_in level
-degree_done level v degree past is = is ∙ ap most (take_all v (map length level.readers) (omega (arith, length-map level.readers (length {A = ℕ}))))
+pub degree_done : (level : Level) (v degree : ℕ) → length level.readers ≤ v → degree
+    ≡ most (take v (map length level.readers)) → degree ≡ degree_in level
+degree_done level v degree past is = is
+    ∙ ap most (take_all v (map length level.readers) (omega (arith, length-map level.readers (length {A = ℕ}))))
 
-pub level_step : (levels : List Level) (i old d new : ℕ) (level : Level) → i < length levels → old ≡ most (take i (map degree_in levels))
-    → level ≡ get_or levels i level → d ≡ degree_in level → new ≡ max old d → new ≡ most (take (i + 1) (map degree_in levels))
+pub level_step : (levels : List Level) (i old d new : ℕ) (level : Level) → i < length levels → old
+    ≡ most (take i (map degree_in levels))
+    → level ≡ get_or levels i level → d ≡ degree_in level → new ≡ max old d → new
+    ≡ most (take (i + 1) (map degree_in levels))
 level_step levels i old d new level below before is reads now =
-    let at : get_or (map degree_in levels) i 0 ≡ d = get_or-map degree_in levels i level 0 below ∙ ap degree_in (sym is) ∙ sym reads in
-    now ∙ ap (λ n. max n d) before ∙ sym (most_more (map degree_in levels) i d (omega (arith, length-map levels degree_in)) at)
+    let at : get_or (map degree_in levels) i 0 ≡ d = get_or-map degree_in levels i level 0 below ∙ ap degree_in (sym is)
+    ∙ sym reads in
+    now ∙ ap (λ n. max n d) before ∙ sym (most_more (map degree_in levels) i d
+    (omega (arith, length-map levels degree_in)) at)
 
 pub max_few : (a b c new : ℕ) → new ≡ max a b → a ≤ c → b ≤ c → new ≤ c
 max_few a b c new is left right = omega arith

@@ -1,5 +1,6 @@
 -- Walks inside unions of balls: a least walk from a centre stays in its ball, so a cluster is spanned from its leader.
-use Rattle.std.proofs.Common.{◌≡◌, ◌⊎◌, ℕ, zero, suc, ◌+◌, ◌*◌, ◌<◌, ◌≤◌, Bool, true, false, ◌||◌, List, [], ◌∷◌, ◌++◌, length, map, get_or, refl, sym, ◌∙◌, ap, subst, inl, inr, arith, eqb, eq-eqb}
+use Rattle.std.proofs.Common.{◌≡◌, ◌⊎◌, ℕ, zero, suc, ◌+◌, ◌*◌, ◌<◌, ◌≤◌, Bool, true, false, ◌||◌, List, [], ◌∷◌, ◌++◌}
+use Rattle.std.proofs.Common.{length, map, get_or, refl, sym, ◌∙◌, ap, subst, inl, inr, arith, eqb, eq-eqb}
 use Rattle.std.specs.Prelude.{All}
 use Rattle.std.proofs.lemmas.Bool.{cases_lt, eqb-true}
 use Rattle.std.proofs.lemmas.List.{get_or_past}
@@ -18,39 +19,48 @@ use Rattle.node_set.specs.BallLaws.{union_has, union_from, union_more, touches_o
 
 -- ---- walks that aren't heavier
 
-near_back : (edges : List Edge) (inside : ℕ → Bool) (u v w : ℕ) → IsNoHeavier edges inside u v w → IsNoHeavier edges inside v u w
+near_back : (edges : List Edge) (inside : ℕ → Bool) (u v w : ℕ) → IsNoHeavier edges inside u v w
+    → IsNoHeavier edges inside v u w
 near_back edges inside u v w near =
     let back = walk_turned edges inside u near.steps v near.walk in
     record { steps = back.steps; walk = back.walk; light = omega (arith, back.sum, near.light) }
 
-near_on : (edges : List Edge) (inside : ℕ → Bool) (u v x a b : ℕ) → IsNoHeavier edges inside u v a → IsNoHeavier edges inside v x b → IsNoHeavier edges inside u x (a + b)
+near_on : (edges : List Edge) (inside : ℕ → Bool) (u v x a b : ℕ) → IsNoHeavier edges inside u v a
+    → IsNoHeavier edges inside v x b → IsNoHeavier edges inside u x (a + b)
 near_on edges inside u v x a b here there = record {
   steps = here.steps ++ there.steps;
   walk = walk-append edges inside u here.steps v there.steps x here.walk there.walk;
   light = omega (arith, weight_of-append here.steps there.steps, here.light, there.light);
 }
 
-pub near_more : (edges : List Edge) (inside : ℕ → Bool) (u v a b : ℕ) → a ≤ b → IsNoHeavier edges inside u v a → IsNoHeavier edges inside u v b
-near_more edges inside u v a b less near = record { steps = near.steps; walk = near.walk; light = omega (arith, near.light) }
+pub near_more : (edges : List Edge) (inside : ℕ → Bool) (u v a b : ℕ) → a ≤ b → IsNoHeavier edges inside u v a
+    → IsNoHeavier edges inside u v b
+near_more edges inside u v a b less near =
+    record { steps = near.steps; walk = near.walk; light = omega (arith, near.light) }
 
-module _ (network : Network) (table : DistanceTable) (metric : IsMetric table) (least : AreDistancesOf network table) (limits : All (IsEdge network.nodes) network.edges) where
+module _ (network : Network) (table : DistanceTable) (metric : IsMetric table) (least : AreDistancesOf network table)
+    (limits : All (IsEdge network.nodes) network.edges) where
   -- ---- a least walk from a centre stays in the ball
 
   hop : (u v w : ℕ) → u < table.nodes → v < table.nodes → Joins network.edges u v w → dist table u v ≤ w
   hop u v w hu hv joined =
       let step : Step = record { node = v; weight = w } in
-      let light : dist table u v ≤ weight_of (step ∷ []) = (least.each u v hu hv).least (step ∷ []) (refl, joined, (refl, refl)) in
+      let light : dist table u v ≤ weight_of (step ∷ []) =
+      (least.each u v hu hv).least (step ∷ []) (refl, joined, (refl, refl)) in
       omega (arith, light)
 
-  stays : (inside : ℕ → Bool) (c r : ℕ) → c < table.nodes → ((y : ℕ) → y < table.nodes → dist table c y ≤ r → inside y ≡ true)
-      → (steps : List Step) (a u x : ℕ) → u < table.nodes → dist table c u ≤ a → IsWalk network.edges everywhere u steps x → a + weight_of steps ≤ r
+  stays : (inside : ℕ → Bool) (c r : ℕ) → c < table.nodes
+      → ((y : ℕ) → y < table.nodes → dist table c y ≤ r → inside y ≡ true)
+      → (steps : List Step) (a u x : ℕ) → u < table.nodes → dist table c u ≤ a
+      → IsWalk network.edges everywhere u steps x → a + weight_of steps ≤ r
       → IsWalk network.edges inside u steps x
   stays inside c r hc holds [] a u x hu far walk light = (holds u hu (omega arith), walk.1)
   stays inside c r hc holds (step ∷ steps) a u x hu far walk light =
       let ends = join_edge network.nodes network.edges u step.node step.weight limits walk.1 in
       let below : step.node < table.nodes = omega (arith, ends.1, least.nodes) in
       let near : dist table u step.node ≤ step.weight = hop u step.node step.weight hu below walk.1 in
-      let on : dist table c step.node ≤ dist table c u + dist table u step.node = metric.triangle c u step.node hc hu below in (
+      let on : dist table c step.node ≤ dist table c u + dist table u step.node =
+      metric.triangle c u step.node hc hu below in (
         holds u hu (omega arith),
         walk.1,
         stays inside c r hc holds steps (a + step.weight) step.node x below (omega arith) walk.2 (omega arith),
@@ -62,7 +72,8 @@ module _ (network : Network) (table : DistanceTable) (metric : IsMetric table) (
       let walk = (least.each c x hc hx).attained in
       record {
         steps = walk.steps;
-        walk = stays inside c r hc holds walk.steps 0 c x hc (omega (arith, metric.zero c hc)) walk.walk (omega (arith, walk.sum));
+        walk = stays inside c r hc holds walk.steps 0 c x hc (omega (arith, metric.zero c hc)) walk.walk
+            (omega (arith, walk.sum));
         light = omega (arith, walk.sum);
       }
 
@@ -73,12 +84,15 @@ module _ (network : Network) (table : DistanceTable) (metric : IsMetric table) (
     count = ap length are ∙ length-map_centres (λ v. ball_of table v r) table.nodes
 
     ball_is : (v : ℕ) → v < table.nodes → ball balls v ≡ ball_of table v r
-    ball_is v h = ap (λ (bs : List (List ℕ)). get_or bs v []) are ∙ get_or-map_centres (λ u. ball_of table u r) table.nodes v [] h
+    ball_is v h = ap (λ (bs : List (List ℕ)). get_or bs v []) are
+        ∙ get_or-map_centres (λ u. ball_of table u r) table.nodes v [] h
 
     pub in_ball : (v x : ℕ) → has x (ball balls v) ≡ true → (v < table.nodes) × (x < table.nodes) × (dist table v x ≤ r)
     in_ball v x h = elim (cases_lt v table.nodes) [
-      | inl below ↦ let both = (ball_members table v r x).0 (ap (has x) (sym (ball_is v below)) ∙ h) in (below, both.0, both.1)
-      | inr past ↦ absurd (let none : false ≡ true = sym (ap (has x) (get_or_past balls v [] (omega (arith, count)))) ∙ h in cc)
+      | inl below ↦ let both = (ball_members table v r x).0 (ap (has x) (sym (ball_is v below)) ∙ h)
+          in (below, both.0, both.1)
+      | inr past ↦ absurd (let none : false ≡ true = sym (ap (has x) (get_or_past balls v [] (omega (arith, count))))
+          ∙ h in cc)
     ]
 
     pub to_ball : (v x : ℕ) → v < table.nodes → x < table.nodes → dist table v x ≤ r → has x (ball balls v) ≡ true
@@ -91,7 +105,8 @@ module _ (network : Network) (table : DistanceTable) (metric : IsMetric table) (
 
     module _ (waiting : List ℕ) (a : ℕ) (below : a < table.nodes) (waits : has a waiting ≡ true) where
       only : (v : ℕ) → has v (a ∷ []) ≡ true → a ≡ v
-      only v h = elim (cases_or (eqb v a) h) [ inl same ↦ sym (eqb-true v a same) | inr none ↦ absurd (let no : false ≡ true = none in cc) ]
+      only v h = elim (cases_or (eqb v a) h)
+          [ inl same ↦ sym (eqb-true v a same) | inr none ↦ absurd (let no : false ≡ true = none in cc) ]
         where
           cases_or : (b : Bool) → (b || false) ≡ true → (b ≡ true) ⊎ (false ≡ true)
           cases_or true h = inl refl
@@ -109,7 +124,8 @@ module _ (network : Network) (table : DistanceTable) (metric : IsMetric table) (
       grows : (j v : ℕ) → has v (growth balls waiting a j) ≡ true → has v (growth balls waiting a (suc j)) ≡ true
       grows j v h =
           let both = taken j v h in
-          (next_growth_means balls waiting a j v).1 (both.1, touches_own balls v (growth balls waiting a j) h (own_ball v both.0))
+          (next_growth_means balls waiting a j v).1
+          (both.1, touches_own balls v (growth balls waiting a j) h (own_ball v both.0))
 
       pub growth_leads : (j : ℕ) → has a (growth balls waiting a j) ≡ true
       growth_leads zero = ap (has a) (growth_first balls waiting a) ∙ ap (λ b. b || false) (eq-eqb a a refl)
@@ -129,24 +145,32 @@ module _ (network : Network) (table : DistanceTable) (metric : IsMetric table) (
       near_leader zero x h =
           let from = union_from balls x (growth balls waiting a 0) h in
           let same : a ≡ from.0 = only from.0 (ap (has from.0) (sym (growth_first balls waiting a)) ∙ from.1) in
-          near_more network.edges (within (union_of balls (growth balls waiting a 0))) a x r ((2 * 0 + 1) * r) (omega arith)
-          (subst (λ v. IsNoHeavier network.edges (within (union_of balls (growth balls waiting a 0))) v x r) (sym same) (near_in 0 from.0 x from.1 from.2))
+          near_more network.edges (within (union_of balls (growth balls waiting a 0))) a x r ((2 * 0 + 1) * r)
+          (omega arith)
+          (subst (λ v. IsNoHeavier network.edges (within (union_of balls (growth balls waiting a 0))) v x r) (sym same)
+          (near_in 0 from.0 x from.1 from.2))
       near_leader (suc j) x h =
           let from = union_from balls x (growth balls waiting a (suc j)) h in
           let both = (next_growth_means balls waiting a j from.0).0 from.1 in
           let shared = share_gives (ball balls from.0) (union_of balls (growth balls waiting a j)) both.1 in
           let before = near_leader j shared.0 shared.2 in
-          let wider : IsNoHeavier network.edges (within (union_of balls (growth balls waiting a (suc j)))) a shared.0 ((2 * j + 1) * r) = record {
+          let wider : IsNoHeavier network.edges (within (union_of balls (growth balls waiting a (suc j)))) a shared.0
+          ((2 * j + 1) * r) = record {
             steps = before.steps;
-            walk = walk_widened network.nodes network.edges (within (union_of balls (growth balls waiting a j))) (within (union_of balls (growth balls waiting a (suc j)))) limits
-                (λ y hy inside. union_more balls y (growth balls waiting a j) (growth balls waiting a (suc j)) (grows j) inside)
+            walk = walk_widened network.nodes network.edges (within (union_of balls (growth balls waiting a j)))
+                (within (union_of balls (growth balls waiting a (suc j)))) limits
+                (λ y hy inside. union_more balls y (growth balls waiting a j) (growth balls waiting a (suc j)) (grows j)
+                inside)
                 a before.steps shared.0 (omega (arith, least.nodes)) before.walk;
             light = before.light;
           } in
-          near_more network.edges (within (union_of balls (growth balls waiting a (suc j)))) a x ((2 * j + 1) * r + (r + r)) ((2 * suc j + 1) * r) (more j r)
-          (near_on network.edges (within (union_of balls (growth balls waiting a (suc j)))) a shared.0 x ((2 * j + 1) * r) (r + r) wider
+          near_more network.edges (within (union_of balls (growth balls waiting a (suc j)))) a x
+          ((2 * j + 1) * r + (r + r)) ((2 * suc j + 1) * r) (more j r)
+          (near_on network.edges (within (union_of balls (growth balls waiting a (suc j)))) a shared.0 x
+          ((2 * j + 1) * r) (r + r) wider
           (near_on network.edges (within (union_of balls (growth balls waiting a (suc j)))) shared.0 from.0 x r r
-          (near_back network.edges (within (union_of balls (growth balls waiting a (suc j)))) from.0 shared.0 r (near_in (suc j) from.0 shared.0 from.1 shared.1))
+          (near_back network.edges (within (union_of balls (growth balls waiting a (suc j)))) from.0 shared.0 r
+          (near_in (suc j) from.0 shared.0 from.1 shared.1))
           (near_in (suc j) from.0 x from.1 from.2)))
         where
           more : (j r : ℕ) → (2 * j + 1) * r + (r + r) ≤ (2 * suc j + 1) * r

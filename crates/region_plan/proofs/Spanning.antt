@@ -1,5 +1,6 @@
 -- The clusters of a level: each is spanned from its leader, within its radius.
-use Rattle.std.proofs.Common.{◌≡◌, ℕ, suc, ◌+◌, ◌-◌, ◌*◌, ◌^◌, ◌<◌, ◌≤◌, true, List, [], ◌∷◌, ◌++◌, length, map, get_or, refl, sym, ◌∙◌, ap, subst, arith}
+use Rattle.std.proofs.Common.{◌≡◌, ℕ, suc, ◌+◌, ◌-◌, ◌*◌, ◌^◌, ◌<◌, ◌≤◌, true, List, [], ◌∷◌, ◌++◌, length, map, get_or}
+use Rattle.std.proofs.Common.{refl, sym, ◌∙◌, ap, subst, arith}
 use Rattle.std.specs.Prelude.{All}
 use Rattle.std.proofs.Math.Nat.{mul-le-mul_right}
 use Rattle.std.proofs.lemmas.List.{length-append, get_or_append_left, get_or-append-add}
@@ -21,12 +22,15 @@ use Rattle.region_plan.proofs.Reaching.{near_more, in_ball, own_ball, near_leade
 -- ---- what holds of each part of a list
 
 All-left : {X : Type 0} (P : X → Type 0) (xs ys : List X) → All P (xs ++ ys) → All P xs
-All-left P xs ys all k d below = subst P (get_or_append_left xs ys d k below) (all k d (omega (arith, length-append xs ys)))
+All-left P xs ys all k d below = subst P (get_or_append_left xs ys d k below) (all k d
+    (omega (arith, length-append xs ys)))
 
 All-right : {X : Type 0} (P : X → Type 0) (xs ys : List X) → All P (xs ++ ys) → All P ys
-All-right P xs ys all k d below = subst P (get_or-append-add xs ys k d) (all (length xs + k) d (omega (arith, length-append xs ys)))
+All-right P xs ys all k d below = subst P (get_or-append-add xs ys k d) (all (length xs + k) d
+    (omega (arith, length-append xs ys)))
 
-pub for_each_listed : (P : Cluster → Type 0) (Q : GrownCluster → Type 0) (n : ℕ) → ((p : ℕ) (c : GrownCluster) → Q c → P (as_cluster n p c))
+pub for_each_listed : (P : Cluster → Type 0) (Q : GrownCluster → Type 0) (n : ℕ)
+    → ((p : ℕ) (c : GrownCluster) → Q c → P (as_cluster n p c))
     → (p : ℕ) (all : List (List GrownCluster)) → All Q (all_clusters all) → All P (cluster_list n p all)
 unfolding cluster_list all_clusters
 for_each_listed P Q n each p [] all = All-nil P
@@ -40,7 +44,8 @@ pub record IsClose (network : Network) (radius : ℕ) (c : Cluster) : Type 0 whe
   pub room : c.members.room ≡ network.nodes
   pub leads : has c.first c.members.members ≡ true
   pub below : (v : ℕ) → has v c.members.members ≡ true → v < network.nodes
-  pub near : (v : ℕ) → has v c.members.members ≡ true → IsNoHeavier network.edges (within c.members.members) c.first v radius
+  pub near : (v : ℕ) → has v c.members.members ≡ true
+      → IsNoHeavier network.edges (within c.members.members) c.first v radius
 
 pub close_spans : (network : Network) (radius : ℕ) (c : Cluster) → IsClose network radius c → IsSpanned network c
 close_spans network radius c close = record {
@@ -49,40 +54,58 @@ close_spans network radius c close = record {
   reached = λ v h. let near = close.near v h in record { steps = near.steps; walk = near.walk };
 }
 
-module _ (network : Network) (table : DistanceTable) (metric : IsMetric table) (least : AreDistancesOf network table) (sound : IsNetwork network) (k i : ℕ) (low : 1 ≤ k) where
+module _ (network : Network) (table : DistanceTable) (metric : IsMetric table) (least : AreDistancesOf network table)
+    (sound : IsNetwork network) (k i : ℕ) (low : 1 ≤ k) where
   pub centred : AreCentred (balls_of table i)
-  centred v h = own_ball network table metric least sound.limits.edges (2 ^ i) (balls_of table i) refl v (omega (arith, length-map_centres (λ u. ball_of table u (2 ^ i)) table.nodes))
+  centred v h = own_ball network table metric least sound.limits.edges (2 ^ i) (balls_of table i) refl v
+      (omega (arith, length-map_centres (λ u. ball_of table u (2 ^ i)) table.nodes))
 
-  shape_close : (p : ℕ) (c : GrownCluster) → IsShaped (balls_of table i) k c → IsClose network ((2 * k - 1) * 2 ^ i) (as_cluster table.nodes p c)
+  shape_close : (p : ℕ) (c : GrownCluster) → IsShaped (balls_of table i) k c
+      → IsClose network ((2 * k - 1) * 2 ^ i) (as_cluster table.nodes p c)
   unfolding as_cluster
   shape_close p c shaped =
       let waiting : List ℕ = shaped.3.0 in
-      let below : c.first < table.nodes = omega (arith, shaped.2, length-map_centres (λ u. ball_of table u (2 ^ i)) table.nodes) in
+      let below : c.first < table.nodes = omega (
+        arith,
+        shaped.2,
+        length-map_centres (λ u. ball_of table u (2 ^ i))
+            table.nodes,
+      ) in
       let is : c.members ≡ union_of (balls_of table i) (growth (balls_of table i) waiting c.first c.growths) =
       shaped.1 ∙ ap (union_of (balls_of table i)) shaped.3.2
       in
       record {
         room = least.nodes;
-        leads = ap (has c.first) is ∙ union_has (balls_of table i) c.first c.first (growth (balls_of table i) waiting c.first c.growths)
-            (growth_leads network table metric least sound.limits.edges (2 ^ i) (balls_of table i) refl waiting c.first below shaped.3.1 c.growths)
+        leads = ap (has c.first) is ∙ union_has (balls_of table i) c.first c.first
+            (growth (balls_of table i) waiting c.first c.growths)
+            (growth_leads network table metric least sound.limits.edges (2 ^ i) (balls_of table i) refl waiting c.first
+            below shaped.3.1 c.growths)
             (own_ball network table metric least sound.limits.edges (2 ^ i) (balls_of table i) refl c.first below);
         below = λ v h.
-            let from = union_from (balls_of table i) v (growth (balls_of table i) waiting c.first c.growths) (ap (has v) (sym is) ∙ h) in
-            let inside = in_ball network table metric least sound.limits.edges (2 ^ i) (balls_of table i) refl from.0 v from.2 in
+            let from = union_from (balls_of table i) v (growth (balls_of table i) waiting c.first c.growths)
+            (ap (has v) (sym is) ∙ h) in
+            let inside = in_ball network table metric least sound.limits.edges (2 ^ i) (balls_of table i) refl from.0 v
+            from.2 in
             omega (arith, inside.1, least.nodes);
         near = λ v h.
-            near_more network.edges (within c.members) c.first v ((2 * c.growths + 1) * 2 ^ i) ((2 * k - 1) * 2 ^ i) (enough c.growths k (2 ^ i) shaped.0)
-            (subst (λ (xs : List ℕ). IsNoHeavier network.edges (within xs) c.first v ((2 * c.growths + 1) * 2 ^ i)) (sym is)
-            (near_leader network table metric least sound.limits.edges (2 ^ i) (balls_of table i) refl waiting c.first below shaped.3.1 c.growths v (ap (has v) (sym is) ∙ h)));
+            near_more network.edges (within c.members) c.first v ((2 * c.growths + 1) * 2 ^ i) ((2 * k - 1) * 2 ^ i)
+            (enough c.growths k (2 ^ i) shaped.0)
+            (subst (λ (xs : List ℕ). IsNoHeavier network.edges (within xs) c.first v ((2 * c.growths + 1) * 2 ^ i))
+            (sym is)
+            (near_leader network table metric least sound.limits.edges (2 ^ i) (balls_of table i) refl waiting c.first
+            below shaped.3.1 c.growths v (ap (has v) (sym is) ∙ h)));
       }
     where
       enough : (j k r : ℕ) → j < k → (2 * j + 1) * r ≤ (2 * k - 1) * r
       enough j k r h = mul-le-mul_right r (omega arith)
 
-  pub listed_close : ClustersAreShaped → All (IsClose network ((2 * k - 1) * 2 ^ i)) (cluster_list table.nodes 0 (regions_of table k i))
+  pub listed_close : ClustersAreShaped
+      → All (IsClose network ((2 * k - 1) * 2 ^ i)) (cluster_list table.nodes 0 (regions_of table k i))
   listed_close law =
-      for_each_listed (IsClose network ((2 * k - 1) * 2 ^ i)) (IsShaped (balls_of table i) k) table.nodes shape_close 0 (regions_of table k i)
+      for_each_listed (IsClose network ((2 * k - 1) * 2 ^ i)) (IsShaped (balls_of table i) k) table.nodes shape_close 0
+      (regions_of table k i)
       (law (balls_of table i) k low centred)
 
   pub listed_spanned : ClustersAreShaped → All (IsSpanned network) (cluster_list table.nodes 0 (regions_of table k i))
-  listed_spanned law j d h = close_spans network ((2 * k - 1) * 2 ^ i) (get_or (cluster_list table.nodes 0 (regions_of table k i)) j d) (listed_close law j d h)
+  listed_spanned law j d h = close_spans network ((2 * k - 1) * 2 ^ i)
+      (get_or (cluster_list table.nodes 0 (regions_of table k i)) j d) (listed_close law j d h)

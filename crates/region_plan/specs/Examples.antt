@@ -1,7 +1,7 @@
--- The line of four nodes, 0 - 1 - 2 - 3 with weights of 1, and its plan with the trade-off 2: three levels, of which the lowest
--- has two clusters.
--- Key law: `line_has_its_plan` (it is the plan of its network, and bounds its finds, so that what is said of such plans is said
--- of some).
+-- The line of four nodes, 0 - 1 - 2 - 3 with weights of 1, and its plan with the trade-off 2: three
+-- levels, of which the lowest has two clusters.
+-- Key law: `line_has_its_plan` (it is the plan of its network, and bounds its finds, so that what
+-- is said of such plans is said of some).
 use Rattle.std.specs.Prelude.{ℕ, List, [], ◌∷◌}
 use Rattle.net_graph.specs.declared.edge.Edge.{Edge}
 use Rattle.net_graph.specs.Network.{Network}
@@ -19,25 +19,65 @@ line_network = record { nodes = 4; edges = line_edges }
 
 -- the distances on the line
 abbrev pub line_table : DistanceTable
-line_table = record { nodes = 4; cells = 0 ∷ 1 ∷ 2 ∷ 3 ∷ 1 ∷ 0 ∷ 1 ∷ 2 ∷ 2 ∷ 1 ∷ 0 ∷ 1 ∷ 3 ∷ 2 ∷ 1 ∷ 0 ∷ [] }
+line_table = record {
+  nodes = 4;
+  cells =
+      0 ∷ 1 ∷ 2 ∷ 3 ∷ 1 ∷ 0 ∷ 1 ∷ 2 ∷ 2 ∷ 1 ∷ 0 ∷ 1 ∷ 3 ∷ 2 ∷ 1 ∷ 0 ∷ [];
+}
 
 -- all four nodes, from node 0
 abbrev pub whole_line : PlanCluster
-whole_line = record { leader = 0; phase = 0; members = 0 ∷ 1 ∷ 2 ∷ 3 ∷ []; weights = 0 ∷ 1 ∷ 2 ∷ 3 ∷ []; depth = 3 }
+whole_line = record {
+  leader = 0;
+  phase = 0;
+  members = 0 ∷ 1 ∷ 2 ∷ 3 ∷ [];
+  weights =
+      0 ∷ 1 ∷ 2 ∷ 3 ∷ [];
+  depth = 3;
+}
 
 -- the last two nodes, from node 3
 abbrev pub end_of_line : PlanCluster
-end_of_line = record { leader = 3; phase = 1; members = 2 ∷ 3 ∷ []; weights = 1 ∷ 0 ∷ []; depth = 1 }
+end_of_line = record {
+  leader = 3;
+  phase = 1;
+  members = 2 ∷ 3 ∷ [];
+  weights = 1 ∷ 0 ∷ [];
+  depth =
+      1;
+}
 
 -- the lowest level, where node 3 has the end of the line as its home
 abbrev pub line_level_0 : Level
-line_level_0 = record { exponent = 0; threshold = 1; phases = 2; clusters = whole_line ∷ end_of_line ∷ []; homes = 0 ∷ 0 ∷ 0 ∷ 1 ∷ []; readers = readers_of 4 (whole_line ∷ end_of_line ∷ []) }
+line_level_0 = record {
+  exponent = 0;
+  threshold = 1;
+  phases = 2;
+  clusters =
+      whole_line ∷ end_of_line ∷ [];
+  homes = 0 ∷ 0 ∷ 0 ∷ 1 ∷ [];
+  readers =
+      readers_of 4 (whole_line ∷ end_of_line ∷ []);
+}
 
 -- a higher level, with one cluster
 abbrev pub line_level : ℕ → ℕ → Level
 line_level exponent threshold =
-    record { exponent = exponent; threshold = threshold; phases = 1; clusters = whole_line ∷ []; homes = 0 ∷ 0 ∷ 0 ∷ 0 ∷ []; readers = readers_of 4 (whole_line ∷ []) }
+    record {
+      exponent = exponent;
+      threshold = threshold;
+      phases = 1;
+      clusters = whole_line ∷ [];
+      homes = 0 ∷ 0 ∷ 0 ∷ 0 ∷ [];
+      readers = readers_of 4 (whole_line ∷ []);
+    }
 
 -- the plan
 abbrev pub line_of_four : PlanData
-line_of_four = record { k = 2; reach = 3; distances = line_table; levels = line_level_0 ∷ line_level 1 1 ∷ line_level 2 2 ∷ [] }
+line_of_four = record {
+  k = 2;
+  reach = 3;
+  distances = line_table;
+  levels =
+      line_level_0 ∷ line_level 1 1 ∷ line_level 2 2 ∷ [];
+}

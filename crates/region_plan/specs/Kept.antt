@@ -1,14 +1,14 @@
 -- What every plan keeps: its sizes.
-use Rattle.std.specs.Prelude.{◌≡◌, ℕ, Bool, true, false, ◌+◌, ◌*◌, ◌^◌, ◌≤◌, ◌<◌, List, All, length, get_or, slice_index, slice_range}
+use Rattle.std.specs.Prelude.{◌≡◌, ℕ, Bool, true, false, ◌+◌, ◌*◌, ◌^◌, ◌≤◌, ◌<◌, List, All, length}
+use Rattle.std.specs.Prelude.{get_or, slice_index, slice_range}
 use Rattle.net_graph.specs.Network.{Network}
 use Rattle.net_graph.specs.Walks.{IsReached}
-use Rattle.node_set.specs.Nodes.{Nodes, AreNodes}
-use Rattle.node_set.specs.Ascending.{has}
+use Rattle.node_set.specs.Ascending.{has, IsAscending}
 use Rattle.coarse_cover.specs.declared.cover.Cluster.{Cluster}
 use Rattle.cluster_tree.specs.Tree.{within}
 use Rattle.distances.specs.Table.{DistanceTable, IsMetric, dist}
 use Rattle.region_plan.specs.Plan.{PlanCluster, PlanData, Level, nodes_of, levels_of}
-use Rattle.region_plan.specs.Regions.{containing, readers_of}
+use Rattle.region_plan.specs.Regions.{clusters_with, readers_of}
 use Rattle.region_plan.specs.Measures.{degree_of}
 
 -- a level over n nodes
@@ -28,18 +28,19 @@ pub record IsKept (plan : PlanData) : Type 0 where
   pub metric : IsMetric plan.distances
   pub levels : All (IsSized (nodes_of plan)) plan.levels
 
--- the nodes of a set, listed, and a weight for each
-pub record IsRow (members : Nodes) (nodes weights : List ℕ) : Type 0 where
-  pub sound : AreNodes members
-  pub listed : nodes ≡ members.members
+-- nodes in ascending order, and a weight for each
+pub record IsRow (nodes weights : List ℕ) : Type 0 where
+  pub ascending : IsAscending nodes
   pub count : length weights ≡ length nodes
 
--- the readers of n nodes lie one after another, and the starts say where those of each node begin and end
+-- the readers of n nodes lie one after another, and the starts say where those of each node begin
+-- and end
 pub record AreRows (n : ℕ) (clusters : List PlanCluster) (starts readers : List ℕ) : Type 0 where
   pub count : length starts ≡ n + 1
   pub order : (v : ℕ) → v < n → slice_index starts v ≤ slice_index starts (v + 1)
   pub within : (v : ℕ) → v ≤ n → slice_index starts v ≤ length readers
-  pub each : (v : ℕ) → v < n → slice_range readers (slice_index starts v) (slice_index starts (v + 1)) ≡ containing clusters v
+  pub each : (v : ℕ) → v < n → slice_range readers (slice_index starts v)
+      (slice_index starts (v + 1)) ≡ clusters_with clusters v
 
 -- the sizes of a plan, and its degree
 pub record IsPlanKept (plan : PlanData) (d : ℕ) : Type 0 where
@@ -50,13 +51,22 @@ pub record IsPlanKept (plan : PlanData) (d : ℕ) : Type 0 where
 -- a level of these parts
 abbrev pub level_of : ℕ → ℕ → ℕ → List PlanCluster → List ℕ → Level
 level_of exponent threshold phases clusters homes =
-    record { exponent = exponent; threshold = threshold; phases = phases; clusters = clusters; homes = homes; readers = readers_of (length homes) clusters }
+    record {
+      exponent = exponent;
+      threshold = threshold;
+      phases = phases;
+      clusters = clusters;
+      homes = homes;
+      readers = readers_of (length homes) clusters;
+    }
 
--- the cluster is over the network's nodes, and walks inside it lead from the centre that leads it to each member
+-- the cluster is over the network's nodes, and walks inside it lead from the centre that leads it
+-- to each member
 pub record IsSpanned (network : Network) (cluster : Cluster) : Type 0 where
   pub room : cluster.members.room ≡ network.nodes
   pub leads : has cluster.first cluster.members.members ≡ true
-  pub reached : (v : ℕ) → has v cluster.members.members ≡ true → IsReached network.edges (within cluster.members.members) cluster.first v
+  pub reached : (v : ℕ) → has v cluster.members.members ≡ true
+      → IsReached network.edges (within cluster.members.members) cluster.first v
 
 -- the same level with another exponent and threshold
 abbrev pub level_with : ℕ → ℕ → Level → Level
@@ -79,4 +89,5 @@ pub record IsMarked (marks : List Bool) (distance : ℕ) : Type 0 where
 
 -- so have the distances from the first so many nodes
 abbrev pub AreMarked : DistanceTable → List Bool → ℕ → Type 0
-AreMarked table marks rows = (u v : ℕ) → u < rows → v < table.nodes → IsMarked marks (dist table u v)
+AreMarked table marks rows = (u v : ℕ) → u < rows → v < table.nodes
+    → IsMarked marks (dist table u v)

@@ -5,3 +5,4 @@ pub mod Measures
 pub mod Kept
 pub mod Examples
 pub mod Settings
+pub mod Readers

@@ -1,41 +1,56 @@
--- A matched plan: at each level the home of a node is read by every node within the level's radius. And what the bound on the
--- weight of finds asks of a plan beside that.
--- Key laws: `Plan::build` gives plans that bound their finds, by its clause `bounding`, and `plan_is_bounding` says the same of every
--- plan of a network; `Plan::flat` gives matched plans whose clusters are within their reach, by its clauses `matched` and `reached`.
+-- A matched plan: at each level the home of a node is read by every node within the level's radius.
+-- And what the bound on the weight of finds asks of a plan beside that.
+-- Key laws: `Plan::build` gives plans that bound their finds, by its clause `bounding`, and
+-- `plan_is_bounding` says the same of every plan of a network; `Plan::flat` gives matched plans
+-- whose clusters are within their reach, by its clauses `matched` and `reached`.
 use Rattle.std.specs.Prelude.{◌≡◌, ℕ, ◌*◌, ◌^◌, ◌<◌, ◌≤◌, true, length}
 use Rattle.node_set.specs.Ascending.{has}
 use Rattle.distances.specs.Table.{IsMetric}
-use Rattle.region_plan.specs.Plan.{PlanData, nodes_of, levels_of, top_of, distance, level_at, clusters_of, members_of, home, readers, leader, inside, threshold}
-use Rattle.region_plan.specs.Regions.{containing, threshold_of, IsPlanOf}
+use Rattle.region_plan.specs.Plan.{PlanData, nodes_of, levels_of, top_of, distance, level_at}
+use Rattle.region_plan.specs.Plan.{clusters_of, members_of, home, readers, leader, inside}
+use Rattle.region_plan.specs.Plan.{threshold}
+use Rattle.region_plan.specs.Regions.{clusters_with, threshold_of, IsPlanOf}
 use Rattle.region_plan.specs.Measures.{degree_of}
 use Rattle.net_graph.specs.Network.{Network, IsNetwork}
 
--- each home contains its node, each node reads just the clusters that contain it, and those within a level's radius read
--- the home; a cluster has its leader, and no walk inside it is shorter than the distance
+-- each home contains its node, each node reads just the clusters that contain it, and those within
+-- a level's radius read the home; a cluster has its leader, and no walk inside it is shorter than
+-- the distance
 pub record IsMatched (plan : PlanData) : Type 0 where
   pub some : 1 ≤ levels_of plan
   pub metric : IsMetric plan.distances
   pub first : threshold plan 0 ≡ 1
-  pub homes : (i v : ℕ) → i < levels_of plan → v < nodes_of plan → home plan i v < clusters_of plan i
-  pub held : (i v : ℕ) → i < levels_of plan → v < nodes_of plan → has v (members_of plan i (home plan i v)) ≡ true
-  pub read : (i v : ℕ) → i < levels_of plan → v < nodes_of plan → readers plan i v ≡ containing (level_at plan i).clusters v
+  pub homes : (i v : ℕ) → i < levels_of plan → v < nodes_of plan
+      → home plan i v < clusters_of plan i
+  pub held : (i v : ℕ) → i < levels_of plan → v < nodes_of plan
+      → has v (members_of plan i (home plan i v)) ≡ true
+  pub read : (i v : ℕ) → i < levels_of plan → v < nodes_of plan → readers plan i v
+      ≡ clusters_with (level_at plan i).clusters v
   pub met : (i u v : ℕ) → i < levels_of plan → u < nodes_of plan → v < nodes_of plan
-      → distance plan u v ≤ 2 ^ (level_at plan i).exponent → has (home plan i u) (readers plan i v) ≡ true
-  pub whole : (u v : ℕ) → u < nodes_of plan → v < nodes_of plan → has u (members_of plan (top_of plan) (home plan (top_of plan) v)) ≡ true
-  pub within : (i c v : ℕ) → i < levels_of plan → c < clusters_of plan i → has v (members_of plan i c) ≡ true → v < nodes_of plan
-  pub led : (i c : ℕ) → i < levels_of plan → c < clusters_of plan i → has (leader plan i c) (members_of plan i c) ≡ true
-  pub starts : (i c : ℕ) → i < levels_of plan → c < clusters_of plan i → inside plan i c (leader plan i c) ≡ 0
-  pub far : (i c v : ℕ) → i < levels_of plan → c < clusters_of plan i → has v (members_of plan i c) ≡ true
+      → distance plan u v ≤ 2 ^ (level_at plan i).exponent → has (home plan i u) (readers plan i v)
+      ≡ true
+  pub whole : (u v : ℕ) → u < nodes_of plan → v < nodes_of plan
+      → has u (members_of plan (top_of plan) (home plan (top_of plan) v)) ≡ true
+  pub within : (i c v : ℕ) → i < levels_of plan → c < clusters_of plan i
+      → has v (members_of plan i c) ≡ true → v < nodes_of plan
+  pub led : (i c : ℕ) → i < levels_of plan → c < clusters_of plan i
+      → has (leader plan i c) (members_of plan i c) ≡ true
+  pub starts : (i c : ℕ) → i < levels_of plan → c < clusters_of plan i
+      → inside plan i c (leader plan i c) ≡ 0
+  pub far : (i c v : ℕ) → i < levels_of plan → c < clusters_of plan i → has v (members_of plan i c)
+      ≡ true
       → distance plan (leader plan i c) v ≤ inside plan i c v
 
--- each member is within the plan's reach of its leader, inside the cluster: so many radii of the level
+-- each member is within the plan's reach of its leader, inside the cluster: so many radii of the
+-- level
 abbrev pub IsWithinReach : PlanData → Type 0
-IsWithinReach plan = (i c v : ℕ) → i < levels_of plan → c < clusters_of plan i → has v (members_of plan i c) ≡ true
+IsWithinReach plan = (i c v : ℕ) → i < levels_of plan → c < clusters_of plan i
+    → has v (members_of plan i c) ≡ true
     → inside plan i c v ≤ plan.reach * 2 ^ (level_at plan i).exponent
 
--- what bounds the weight of a find by its distance: the plan is matched, its levels are the powers of two from 1 on, a level above
--- the lowest is renewed after half of its radius, clusters are within their reach, and no node reads more clusters of a level
--- than the degree
+-- what bounds the weight of a find by its distance: the plan is matched, its levels are the powers
+-- of two from 1 on, a level above the lowest is renewed after half of its radius, clusters are
+-- within their reach, and no node reads more clusters of a level than the degree
 pub record BoundsFinds (plan : PlanData) : Type 0 where
   pub matched : IsMatched plan
   pub exponents : (i : ℕ) → i < levels_of plan → (level_at plan i).exponent ≡ i
@@ -45,5 +60,6 @@ pub record BoundsFinds (plan : PlanData) : Type 0 where
 
 -- the plans of networks are such plans
 abbrev pub PlansBoundFinds : Type 0
-PlansBoundFinds = (network : Network) (k : ℕ) (plan : PlanData) → IsNetwork network → 1 ≤ k → IsMetric plan.distances
+PlansBoundFinds = (network : Network) (k : ℕ) (plan : PlanData) → IsNetwork network → 1 ≤ k
+    → IsMetric plan.distances
     → IsPlanOf network k plan → BoundsFinds plan

@@ -1,6 +1,8 @@
--- The measures of a plan: how many clusters a node reads at most, and the bound on a find's weight by its distance.
--- Key laws: `degree_bounds` (no node reads more clusters of a level than the degree), `plan_counts` (the most looks and the most
--- writes of the directory, from the plan's own data), and the accessors' clauses.
+-- The measures of a plan: how many clusters a node reads at most, and the bound on a find's weight
+-- by its distance.
+-- Key laws: `degree_bounds` (no node reads more clusters of a level than the degree), `plan_counts`
+-- (the most looks and the most writes of the directory, from the plan's own data), and the
+-- accessors' clauses.
 use Rattle.std.specs.Prelude.{ℕ, ◌+◌, ◌*◌, List, [], ◌∷◌, length, map, max}
 use Rattle.region_plan.specs.Plan.{PlanData, Level}
 

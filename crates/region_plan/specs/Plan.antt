@@ -1,12 +1,14 @@
--- A plan as contracts see it: plain data. For each level which clusters there are, which one is the home of a node and
--- which ones a node reads; for each cluster who leads it, who its members are, and the least weight of a walk inside it
--- from its leader to each of them. The functions below read the data; outside of its nodes, levels and clusters they
--- are 0 or empty, so that every fact about a plan names its bounds.
+-- A plan as contracts see it: plain data. For each level which clusters there are, which one is the
+-- home of a node and which ones a node reads; for each cluster who leads it, who its members are,
+-- and the least weight of a walk inside it from its leader to each of them. The functions below
+-- read the data; outside of its nodes, levels and clusters they are 0 or empty, so that every fact
+-- about a plan names its bounds.
 use Rattle.std.specs.Prelude.{ℕ, ◌-◌, List, [], length, slice_index, slice_index_or}
 use Rattle.distances.specs.Table.{DistanceTable, dist}
 use Rattle.cluster_tree.specs.Tree.{weight_beside}
 
--- a cluster of a level: its members ascending, and beside each the least weight inside the cluster from its leader
+-- a cluster of a level: its members ascending, and beside each the least weight inside the cluster
+-- from its leader
 pub record PlanCluster : Type 0 where
   pub leader : ℕ
   pub phase : ℕ
@@ -14,7 +16,8 @@ pub record PlanCluster : Type 0 where
   pub weights : List ℕ
   pub depth : ℕ
 
--- a level: its clusters by number, the number of each node's home, and the ascending numbers of the clusters of each node
+-- a level: its clusters by number, the number of each node's home, and the ascending numbers of the
+-- clusters of each node
 pub record Level : Type 0 where
   pub exponent : ℕ
   pub threshold : ℕ
@@ -23,8 +26,8 @@ pub record Level : Type 0 where
   pub homes : List ℕ
   pub readers : List (List ℕ)
 
--- a plan: its trade-off; its reach, which says how many radii of its level a member may be from its leader; the distances of
--- its network; and its levels from 0 on
+-- a plan: its trade-off; its reach, which says how many radii of its level a member may be from its
+-- leader; the distances of its network; and its levels from 0 on
 pub record PlanData : Type 0 where
   pub k : ℕ
   pub reach : ℕ
@@ -35,7 +38,15 @@ abbrev pub no_cluster : PlanCluster
 no_cluster = record { leader = 0; phase = 0; members = []; weights = []; depth = 0 }
 
 abbrev pub no_level : Level
-no_level = record { exponent = 0; threshold = 0; phases = 0; clusters = []; homes = []; readers = [] }
+no_level = record {
+  exponent = 0;
+  threshold = 0;
+  phases = 0;
+  clusters = [];
+  homes = [];
+  readers =
+      [];
+}
 
 -- how many nodes, how many levels, and the last level
 abbrev pub nodes_of : PlanData → ℕ

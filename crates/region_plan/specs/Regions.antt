@@ -1,16 +1,19 @@
--- The plan of a network, level by level: level i coarsens the balls of radius 2^i; and the flat plan, one cluster of all nodes.
--- Key laws: `Plan::build` gives the plan of its network and k, `Plan::flat` gives the flat plan, and `plan_is_one` says
--- that a network and k have one plan.
-use Rattle.std.specs.Prelude.{◌≡◌, ℕ, zero, suc, ◌-◌, ◌*◌, ◌^◌, ◌<◌, ◌≤◌, List, [], ◌∷◌, length, map}
+-- The plan of a network, level by level: level i coarsens the balls of radius 2^i; and the flat
+-- plan, one cluster of all nodes.
+-- Key laws: `Plan::build` gives the plan of its network and k, `Plan::flat` gives the flat plan,
+-- and `plan_is_one` says that a network and k have one plan.
+use Rattle.std.specs.Prelude.{◌≡◌, ℕ, zero, suc, ◌-◌, ◌*◌, ◌^◌, ◌<◌, ◌≤◌, List, [], ◌∷◌, length}
+use Rattle.std.specs.Prelude.{map}
 use Rattle.net_graph.specs.Network.{Network}
-use Rattle.node_set.specs.Ascending.{has, passing}
+use Rattle.node_set.specs.Ascending.{has, sift}
 use Rattle.distances.specs.Table.{DistanceTable, AreDistancesOf, IsDiameter, ball_of, dist}
 use Rattle.coarse_cover.specs.Coarsening.{coarsening, all_clusters}
 use Rattle.coarse_cover.specs.Covers.{cluster_list}
 use Rattle.coarse_cover.specs.declared.cover.Cluster.{Cluster}
 use Rattle.cluster_tree.specs.Tree.{WeighedCluster, IsTreeOf, IsDepth}
 use Rattle.node_set.specs.Balls.{GrownCluster, centres, home_of}
-use Rattle.region_plan.specs.Plan.{PlanCluster, Level, PlanData, cluster_in, level_at, levels_of, top_of}
+use Rattle.region_plan.specs.Plan.{PlanCluster, Level, PlanData, cluster_in, level_at, levels_of}
+use Rattle.region_plan.specs.Plan.{top_of}
 
 -- the top level: the least whose power of two reaches the diameter
 pub record IsTop (table : DistanceTable) (top : ℕ) : Type 0 where
@@ -33,25 +36,30 @@ abbrev pub regions_of : DistanceTable → ℕ → ℕ → List (List GrownCluste
 regions_of table k i = coarsening (balls_of table i) k
 
 -- the ascending numbers of the clusters that contain v
-abbrev pub containing : List PlanCluster → ℕ → List ℕ
-containing clusters v = passing (λ c. has v (cluster_in clusters c).members) 0 (length clusters)
+abbrev pub clusters_with : List PlanCluster → ℕ → List ℕ
+clusters_with clusters v = sift (λ c. has v (cluster_in clusters c).members) 0 (length clusters)
 
 -- for each of n nodes the clusters that contain it
 abbrev pub readers_of : ℕ → List PlanCluster → List (List ℕ)
-readers_of n clusters = map (containing clusters) (centres n)
+readers_of n clusters = map (clusters_with clusters) (centres n)
 
 -- a cluster of a plan as its tree sees it
-abbrev pub weighed : PlanCluster → WeighedCluster
-weighed cluster = record { leader = cluster.leader; members = cluster.members; weights = cluster.weights }
+abbrev pub as_tree : PlanCluster → WeighedCluster
+as_tree cluster = record {
+  leader = cluster.leader;
+  members = cluster.members;
+  weights =
+      cluster.weights;
+}
 
 -- a cluster of a plan is this cluster of a cover, with the least weights inside it
 pub record IsClusterOf (network : Network) (made : Cluster) (cluster : PlanCluster) : Type 0 where
   pub leader : cluster.leader ≡ made.first
   pub phase : cluster.phase ≡ made.phase
   pub members : cluster.members ≡ made.members.members
-  pub tree : IsTreeOf network made.members.members made.first (weighed cluster)
+  pub tree : IsTreeOf network made.members.members made.first (as_tree cluster)
   pub count : length cluster.weights ≡ length cluster.members
-  pub depth : IsDepth (weighed cluster) cluster.depth
+  pub depth : IsDepth (as_tree cluster) cluster.depth
 
 -- the clusters of a plan are those of a cover, one for one
 abbrev pub AreClustersOf : Network → List Cluster → List PlanCluster → Type 0
@@ -61,13 +69,16 @@ AreClustersOf network (c ∷ cs) [] = ⊥
 AreClustersOf network (c ∷ cs) (d ∷ ds) = IsClusterOf network c d × AreClustersOf network cs ds
 
 -- level i of the plan of a network
-pub record IsLevelOf (network : Network) (table : DistanceTable) (k i : ℕ) (level : Level) : Type 0 where
-  pub exponent : level.exponent ≡ i
-  pub threshold : level.threshold ≡ threshold_of i
-  pub phases : level.phases ≡ length (regions_of table k i)
-  pub clusters : AreClustersOf network (cluster_list table.nodes 0 (regions_of table k i)) level.clusters
-  pub homes : level.homes ≡ map (home_of (all_clusters (regions_of table k i))) (centres table.nodes)
-  pub readers : level.readers ≡ readers_of table.nodes level.clusters
+pub record IsLevelOf (network : Network) (table : DistanceTable) (k i : ℕ) (level : Level) : Type 0
+  where
+    pub exponent : level.exponent ≡ i
+    pub threshold : level.threshold ≡ threshold_of i
+    pub phases : level.phases ≡ length (regions_of table k i)
+    pub clusters : AreClustersOf network (cluster_list table.nodes 0 (regions_of table k i))
+        level.clusters
+    pub homes : level.homes ≡ map (home_of (all_clusters (regions_of table k i)))
+        (centres table.nodes)
+    pub readers : level.readers ≡ readers_of table.nodes level.clusters
 
 -- the plan of a network with the trade-off k
 pub record IsPlanOf (network : Network) (k : ℕ) (plan : PlanData) : Type 0 where
@@ -84,7 +95,7 @@ pub record IsWhole (table : DistanceTable) (cluster : PlanCluster) : Type 0 wher
   pub phase : cluster.phase ≡ 0
   pub members : cluster.members ≡ centres table.nodes
   pub weights : cluster.weights ≡ map (λ v. dist table 0 v) (centres table.nodes)
-  pub depth : IsDepth (weighed cluster) cluster.depth
+  pub depth : IsDepth (as_tree cluster) cluster.depth
 
 -- the level of one cluster of all nodes
 pub record IsFlatLevel (table : DistanceTable) (level : Level) : Type 0 where

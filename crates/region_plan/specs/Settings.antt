@@ -2,7 +2,8 @@
 -- Outside of its nodes the distance is 0.
 use Rattle.std.specs.Prelude.{ℕ, ◌&&◌, nat_lt, if◌then◌else◌, List}
 use Rattle.directory.specs.Settings.{Setting}
-use Rattle.region_plan.specs.Plan.{PlanData, nodes_of, top_of, distance, threshold, home, readers, leader, inside}
+use Rattle.region_plan.specs.Plan.{PlanData, nodes_of, top_of, distance, threshold, home, readers}
+use Rattle.region_plan.specs.Plan.{leader, inside}
 
 -- the setting of a plan, with these start nodes
 abbrev pub setting_of : PlanData → List ℕ → Setting

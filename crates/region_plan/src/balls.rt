@@ -1,4 +1,5 @@
-// The levels' exponents, and the balls of a level.
+//! The levels' exponents, and the balls of a level.
+
 ghost use Rattle.std.specs.Prelude.{◌≡◌, ℕ, ◌<◌, ◌≤◌, ◌^◌, All, IfOk, map};
 ghost use Rattle.node_set.specs.Nodes.{Nodes};
 ghost use Rattle.distances.specs.Table.{IsMetric, ball_of};
@@ -35,18 +36,35 @@ fn least_exponent(number: u64) -> u32
     30
 }
 
+// The nodes within this radius of `v`.
+fn ball_round(
+    alloc: Global,
+    distances: &Distances,
+    v: u32,
+    radius: u32,
+) -> Result<NodeSet, OutOfMemory>
+    requires few { distances.now.nodes ≤ 1024 }
+    requires node { v < distances.now.nodes }
+    ensures room { IfOk result (λ ball. ball.room ≡ distances.now.nodes) }
+    ensures members { IfOk result (λ ball. ball.members ≡ ball_of distances.now v radius) }
+{
+    Ok(NodeSet::within(alloc, distances.row(v), radius)?)
+}
+
 // The balls of this radius round all nodes.
 pub fn balls_of_radius(
     alloc: Global,
     distances: &Distances,
-    radius: u64,
+    radius: u32,
 ) -> Result<Vec<NodeSet>, OutOfMemory>
-    ensures balls { IfOk result (λ balls. sets balls.items ≡ map (λ v. ball_of distances.now v radius) (centres distances.now.nodes)) }
-    ensures rooms { IfOk result (λ balls. All (λ (b : Nodes). b.room ≡ distances.now.nodes) balls.items) }
+    ensures balls { IfOk result (λ balls. sets balls.items
+        ≡ map (λ v. ball_of distances.now v radius) (centres distances.now.nodes)) }
+    ensures rooms { IfOk result (λ balls.
+        All (λ (b : Nodes). b.room ≡ distances.now.nodes) balls.items) }
 {
     let mut balls = Vec::with_capacity(alloc, distances.nodes() as usize)?;
     for v in 0..distances.nodes() {
-        balls.push(distances.ball(alloc, v, radius)?)?;
+        balls.push(ball_round(alloc, distances, v, radius)?)?;
     }
     Ok(balls)
 }

@@ -1,4 +1,5 @@
-// A level of the plan of a network.
+//! A level of the plan of a network.
+
 ghost use Rattle.std.specs.Prelude.{◌≡◌, ◌<◌, ◌≤◌, ◌^◌, ℕ, All, IfOk, length};
 ghost use Rattle.net_graph.specs.Network.{IsNetwork};
 ghost use Rattle.distances.specs.Table.{AreDistancesOf, IsMetric};
@@ -9,7 +10,7 @@ ghost use Rattle.region_plan.specs.Plan.{level_in};
 use crate::balls::balls_of_radius;
 use crate::level::LevelTable;
 use crate::row::rows_of;
-use coarse_cover::{Cover, cluster_shape, coarsen};
+use coarse_cover::{Cover, cluster_shape, coarsen_by_rows};
 use distances::Distances;
 use net_graph::{Graph, OutOfMemory};
 use std::alloc::Global;
@@ -32,18 +33,19 @@ fn build_level(
     ensures sized { IfOk result (IsSized distances.now.nodes) }
 {
     let balls = balls_of_radius(alloc, distances, two_to(i))?;
+    // Distances are the same both ways, so each ball is the row of its centre.
     let Cover {
         clusters,
         home,
         phases,
-    } = coarsen(alloc, &balls, k)?;
+    } = coarsen_by_rows(alloc, &balls, &balls, k)?;
     cluster_shape();
     let rows = rows_of(alloc, graph, distances, clusters)?;
-    Ok(LevelTable::new(alloc, i, threshold_for(i), phases, rows, home)?)
+    Ok(LevelTable::new(alloc, i, threshold_for(i), phases, rows, home, balls)?)
 }
 
-// Level `i` of the plan over the levels below it: where no distance lies between its radius and the one below, it has the
-// clusters of the level below.
+// Level `i` of the plan over the levels below it: where no distance lies between its radius and the
+// one below, it has the clusters of the level below.
 pub fn next_level(
     alloc: Global,
     graph: &Graph,
@@ -75,7 +77,7 @@ pub fn next_level(
 }
 
 // The power of two.
-fn two_to(i: u32) -> u64
+fn two_to(i: u32) -> u32
     requires { i ≤ 30 }
     ensures { result ≡ 2 ^ i }
 {
@@ -87,5 +89,5 @@ fn threshold_for(i: u32) -> u64
     requires { i ≤ 30 }
     ensures { result ≡ threshold_of i }
 {
-    if i == 0 { 1 } else { two_to(i - 1) }
+    if i == 0 { 1 } else { u64::from(two_to(i - 1)) }
 }

@@ -6,6 +6,7 @@ ghost use Rattle.region_plan.specs.Kept.{IsSized};
 
 use crate::balls::top_for;
 use crate::level::LevelTable;
+use crate::readers::empty_sets;
 use crate::row::ClusterRow;
 use distances::Distances;
 use net_graph::OutOfMemory;
@@ -21,5 +22,6 @@ pub fn flat_level(alloc: Global, distances: &Distances) -> Result<LevelTable, Ou
     let mut clusters = Vec::with_capacity(alloc, 1)?;
     clusters.push(ClusterRow::whole(alloc, distances)?)?;
     let homes = vec![in alloc; 0u32; distances.nodes() as usize]?;
-    Ok(LevelTable::new(alloc, top, 1, 1, clusters, homes)?)
+    let sets = empty_sets(alloc, homes.len(), distances.nodes())?;
+    Ok(LevelTable::new(alloc, top, 1, 1, clusters, homes, sets)?)
 }

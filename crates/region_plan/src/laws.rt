@@ -3,7 +3,8 @@
 ghost use Rattle.std.specs.Prelude.{◌≡◌, ◌+◌, ◌*◌, ◌<◌, ◌≤◌, ℕ, List, [], ◌∷◌, length, sum_by};
 ghost use Rattle.net_graph.specs.Network.{Network, IsNetwork};
 ghost use Rattle.distances.specs.Table.{IsMetric};
-ghost use Rattle.region_plan.specs.Plan.{PlanData, nodes_of, levels_of, readers_in, distance, home, readers, leader, inside};
+ghost use Rattle.region_plan.specs.Plan.{PlanData, nodes_of, levels_of, readers_in, distance, home};
+ghost use Rattle.region_plan.specs.Plan.{readers, leader, inside};
 ghost use Rattle.region_plan.specs.Regions.{IsFlat, IsPlanOf};
 ghost use Rattle.region_plan.specs.Matched.{IsMatched, IsWithinReach, PlansBoundFinds, BoundsFinds};
 ghost use Rattle.region_plan.specs.Measures.{degree_of};
@@ -18,7 +19,8 @@ use net_graph::{least_weight_is_one, least_weight_turned};
 
 /// A network and a trade-off have one plan.
 pub fn plan_is_one()
-    ensures { (network : Network) (k : ℕ) (one two : PlanData) → IsPlanOf network k one → IsPlanOf network k two → one ≡ two }
+    ensures { (network : Network) (k : ℕ) (one two : PlanData) → IsPlanOf network k one
+        → IsPlanOf network k two → one ≡ two }
 {
     distances_are_one();
     least_weight_is_one();
@@ -34,23 +36,32 @@ pub fn plan_is_bounding()
 
 /// A network has one flat plan.
 pub fn flat_is_one()
-    ensures { (network : Network) (one two : PlanData) → IsFlat network one → IsFlat network two → one ≡ two }
+    ensures { (network : Network) (one two : PlanData) → IsFlat network one → IsFlat network two
+        → one ≡ two }
 {}
 
-/// In a flat plan cluster 0 is the home of each node and all that it reads, node 0 leads it, and weights are distances.
+/// In a flat plan cluster 0 is the home of each node and all that it reads, node 0 leads it, and
+/// weights are distances.
 pub fn flat_means()
-    ensures home { (network : Network) (plan : PlanData) (v : ℕ) → IsFlat network plan → v < nodes_of plan → home plan 0 v ≡ 0 }
-    ensures readers { (network : Network) (plan : PlanData) (v : ℕ) → IsFlat network plan → v < nodes_of plan → readers plan 0 v ≡ 0 ∷ [] }
-    ensures leader { (network : Network) (plan : PlanData) → IsFlat network plan → leader plan 0 0 ≡ 0 }
-    ensures inside { (network : Network) (plan : PlanData) (v : ℕ) → IsFlat network plan → v < nodes_of plan → inside plan 0 0 v ≡ distance plan 0 v }
-    ensures matched { (network : Network) (plan : PlanData) → IsFlat network plan → IsMetric plan.distances → IsMatched plan }
-    ensures reached { (network : Network) (plan : PlanData) → IsFlat network plan → IsWithinReach plan }
+    ensures home { (network : Network) (plan : PlanData) (v : ℕ) → IsFlat network plan
+        → v < nodes_of plan → home plan 0 v ≡ 0 }
+    ensures readers { (network : Network) (plan : PlanData) (v : ℕ) → IsFlat network plan
+        → v < nodes_of plan → readers plan 0 v ≡ 0 ∷ [] }
+    ensures leader { (network : Network) (plan : PlanData) → IsFlat network plan → leader plan 0 0
+        ≡ 0 }
+    ensures inside { (network : Network) (plan : PlanData) (v : ℕ) → IsFlat network plan
+        → v < nodes_of plan → inside plan 0 0 v ≡ distance plan 0 v }
+    ensures matched { (network : Network) (plan : PlanData) → IsFlat network plan
+        → IsMetric plan.distances → IsMatched plan }
+    ensures reached { (network : Network) (plan : PlanData) → IsFlat network plan
+        → IsWithinReach plan }
 {}
 
 /// The most looks of a find and the most writes of a move, from the plan's own data.
 pub fn plan_counts()
     ensures looks { (plan : PlanData) (starts : List ℕ) (v : ℕ) → 1 ≤ levels_of plan
-        → most_looks (setting_of plan starts) v ≡ 1 + sum_by (λ level. length (readers_in level v)) plan.levels + nodes_of plan + 3 }
+        → most_looks (setting_of plan starts) v
+        ≡ 1 + sum_by (λ level. length (readers_in level v)) plan.levels + nodes_of plan + 3 }
     ensures writes { (plan : PlanData) (starts : List ℕ) → 1 ≤ levels_of plan
         → most_writes (setting_of plan starts) ≡ 3 + 2 * levels_of plan + nodes_of plan }
 {}
@@ -60,7 +71,8 @@ pub fn degree_bounds()
     ensures { (plan : PlanData) (i v : ℕ) → length (readers plan i v) ≤ degree_of plan }
 {}
 
-/// The plan of the line of four is the plan of its network with the trade-off 2, and bounds its finds.
+/// The plan of the line of four is the plan of its network with the trade-off 2, and bounds its
+/// finds.
 pub fn line_has_its_plan()
     ensures plan { IsPlanOf line_network 2 line_of_four }
     ensures bounding { BoundsFinds line_of_four }

@@ -1,16 +1,21 @@
-// A level of a plan in flat arrays.
-ghost use Rattle.std.specs.Prelude.{◌≡◌, ◌+◌, ◌*◌, ◌<◌, ◌≤◌, ◌++◌, IfOk, List, OnOk, length, slice_index};
+//! A level of a plan in flat arrays.
+
+ghost use Rattle.std.specs.Prelude.{◌≡◌, ◌+◌, ◌*◌, ◌<◌, ◌≤◌, All, IfOk, length, slice_index};
+ghost use Rattle.node_set.specs.Nodes.{Nodes};
 ghost use Rattle.region_plan.specs.Plan.{readers_in};
-ghost use Rattle.region_plan.specs.Regions.{containing};
+ghost use Rattle.region_plan.specs.Regions.{clusters_with};
 ghost use Rattle.region_plan.specs.Measures.{degree_in};
 ghost use Rattle.region_plan.specs.Kept.{level_of, level_with};
 
+use crate::readers::{gather_readers, push_members};
 use crate::row::ClusterRow;
 use net_graph::OutOfMemory;
+use node_set::NodeSet;
 use std::alloc::Global;
 use std::marker::Model;
 
-// A level: its clusters, each node's home, and the numbers of the clusters of each node, one node after another.
+// A level: its clusters, each node's home, and the numbers of the clusters of each node, one node
+// after another.
 #[derive(Drop)]
 pub struct LevelTable {
     pub exponent: u32,
@@ -39,11 +44,12 @@ impl Model for LevelTable {
       readers = readers_of (length l.homes.items) l.clusters.items;
     } };
 
-    ghost invariant = { λ l. AreRows (length l.homes.items) l.clusters.items l.starts.items l.readers.items };
+    ghost invariant = { λ l.
+        AreRows (length l.homes.items) l.clusters.items l.starts.items l.readers.items };
 }
 
 impl LevelTable {
-    // The level of these clusters and homes.
+    // The level of these clusters and homes. The sets, one for each node, are used up.
     pub fn new(
         alloc: Global,
         exponent: u32,
@@ -51,16 +57,21 @@ impl LevelTable {
         phases: u32,
         clusters: Vec<ClusterRow>,
         homes: Vec<u32>,
+        mut sets: Vec<NodeSet>,
     ) -> Result<LevelTable, OutOfMemory>
         requires nodes { length homes.items ≤ 1024 }
-        requires clusters { length clusters.items ≤ 1024 }
-        ensures { IfOk result (λ level. level ≡ level_of exponent threshold phases clusters.items homes.items) }
+        requires clusters { length clusters.items ≤ length homes.items }
+        requires sets { length sets.items ≡ length homes.items }
+        requires rooms { All (λ (s : Nodes). s.room ≡ length homes.items) sets.items }
+        ensures { IfOk result
+            (λ level. level ≡ level_of exponent threshold phases clusters.items homes.items) }
     {
+        gather_readers(&mut sets, &clusters, homes.len() as u32);
         let mut starts = Vec::with_capacity(alloc, homes.len() + 1)?;
         let mut readers = Vec::new(alloc);
         starts.push(0u32)?;
-        for v in 0..homes.len() as u32 {
-            push_containing(&clusters, v, &mut readers)?;
+        for v in 0..homes.len() {
+            push_members(&sets[v], &mut readers)?;
             starts.push(readers.len() as u32)?;
         }
         Ok(LevelTable {
@@ -120,21 +131,4 @@ impl LevelTable {
     {
         &self.readers[self.starts[v as usize] as usize..self.starts[v as usize + 1] as usize]
     }
-}
-
-// Appends the ascending numbers of the clusters that contain `v`.
-fn push_containing(
-    clusters: &[ClusterRow],
-    v: u32,
-    readers: &mut Vec<u32>,
-) -> Result<(), OutOfMemory>
-    requires { length clusters.now ≤ 1024 }
-    ensures { OnOk result (readers.new.items ≡ readers.old.items ++ containing clusters.now v) }
-{
-    for (c, cluster) in clusters.iter().enumerate() {
-        if cluster.member(v) {
-            readers.push(c as u32)?;
-        }
-    }
-    Ok(())
 }

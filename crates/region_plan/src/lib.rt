@@ -7,6 +7,7 @@ mod flat;
 mod laws;
 mod level;
 mod plan;
+mod readers;
 mod row;
 mod spread;
 

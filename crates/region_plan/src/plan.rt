@@ -1,10 +1,13 @@
 //! The plan of a network.
 
-ghost use Rattle.std.specs.Prelude.{◌≡◌, ◌<◌, ◌≤◌, ℕ, List, IfOk, IsTrue, length, slice_index_or};
+ghost use Rattle.std.specs.Prelude.{◌≡◌, ◌<◌, ◌≤◌, ◌^◌, ℕ, List, IfOk, IsTrue, length};
+ghost use Rattle.std.specs.Prelude.{slice_index_or};
 ghost use Rattle.node_set.specs.Ascending.{has};
 ghost use Rattle.distances.specs.Table.{AreDistancesOf};
-ghost use Rattle.region_plan.specs.Plan.{level_at, levels_of, nodes_of, clusters_of, cluster_at, members_of, inside};
-ghost use Rattle.region_plan.specs.Plan.{home as home_in, readers as readers_at, leader as leader_in, threshold as threshold_at};
+ghost use Rattle.region_plan.specs.Plan.{level_at, levels_of, nodes_of, clusters_of, cluster_at};
+ghost use Rattle.region_plan.specs.Plan.{members_of, inside};
+ghost use Rattle.region_plan.specs.Plan.{home as home_in, readers as readers_at};
+ghost use Rattle.region_plan.specs.Plan.{leader as leader_in, threshold as threshold_at};
 ghost use Rattle.region_plan.specs.Regions.{IsFlat, IsPlanOf};
 ghost use Rattle.region_plan.specs.Matched.{IsMatched, IsWithinReach, BoundsFinds};
 ghost use Rattle.region_plan.specs.Measures.{degree_of, stretch_of};
@@ -24,10 +27,12 @@ use net_graph::{Graph, OutOfMemory};
 use std::alloc::Global;
 use std::marker::Model;
 
-/// A plan: for each level the clusters of a cover, the home of each node and the clusters that it reads.
+/// A plan: for each level the clusters of a cover, the home of each node and the clusters that it
+/// reads.
 ///
-/// A number that names a node is below `nodes`, one that names a level below `levels`, and one that names a cluster
-/// below the clusters of its level. All calls but `flat` and `build` take no memory.
+/// A number that names a node is below `nodes`, one that names a level below `levels`, and one that
+/// names a cluster below the clusters of its level. All calls but `flat` and `build` take no
+/// memory.
 #[derive(Drop)]
 pub struct Plan {
     k: u32,
@@ -44,14 +49,22 @@ impl Model for Plan {
 
     ghost Value = { PlanData };
 
-    ghost view = { λ p. record { k = p.k; reach = p.reach; distances = p.distances; levels = p.levels.items } };
+    ghost view = { λ p. record {
+      k = p.k;
+      reach = p.reach;
+      distances = p.distances;
+      levels =
+          p.levels.items;
+    } };
 
-    ghost invariant = { λ p. IsPlanKept (record { k = p.k; reach = p.reach; distances = p.distances; levels = p.levels.items }) p.degree };
+    ghost invariant = { λ p. IsPlanKept
+        (record { k = p.k; reach = p.reach; distances = p.distances; levels = p.levels.items })
+        p.degree };
 }
 
 impl Plan {
-    /// The flat plan: one level, whose exponent is that of the top level, with one cluster of all nodes that node 0
-    /// leads.
+    /// The flat plan: one level, whose exponent is that of the top level, with one cluster of all
+    /// nodes that node 0 leads.
     pub fn flat(alloc: Global, graph: &Graph, distances: &Distances) -> Result<Plan, OutOfMemory>
         requires belongs { AreDistancesOf graph.now distances.now }
         ensures plan { IfOk result (IsFlat graph.now) }
@@ -66,8 +79,20 @@ impl Plan {
 
     // The plan of these levels.
     fn of_levels(k: u32, reach: u32, distances: Distances, levels: Vec<LevelTable>) -> Plan
-        requires { IsKept (record { k = k; reach = reach; distances = distances; levels = levels.items }) }
-        ensures { result ≡ record { k = k; reach = reach; distances = distances; levels = levels.items } }
+        requires { IsKept (record {
+          k = k;
+          reach = reach;
+          distances = distances;
+          levels =
+              levels.items;
+        }) }
+        ensures { result ≡ record {
+          k = k;
+          reach = reach;
+          distances = distances;
+          levels =
+              levels.items;
+        } }
     {
         let mut degree = 0;
         for level in &levels {
@@ -82,8 +107,8 @@ impl Plan {
         }
     }
 
-    /// The plan of the network with the trade-off `k`: a larger `k` makes larger clusters that overlap less. Level `i`
-    /// coarsens the balls of radius 2^`i`.
+    /// The plan of the network with the trade-off `k`: a larger `k` makes larger clusters that
+    /// overlap less. Level `i` coarsens the balls of radius 2^`i`.
     pub fn build(
         alloc: Global,
         graph: &Graph,
@@ -97,7 +122,8 @@ impl Plan {
         ensures copy { IfOk result (λ plan. plan.distances ≡ distances.now) }
         ensures bounding { IfOk result BoundsFinds }
     {
-        // The calls tell the proof that the network is connected and within the limits, and what covers keep.
+        // The calls tell the proof that the network is connected and within the limits, and what
+        // covers keep.
         let _nodes = graph.nodes();
         cluster_shape();
         home_means();
@@ -211,6 +237,15 @@ impl Plan {
         self.levels[i as usize].clusters[c as usize].member(v)
     }
 
+    /// The members of a cluster, ascending.
+    pub fn members(&self, i: u32, c: u32) -> &[u32]
+        requires level { i < levels_of self.now }
+        requires cluster { c < clusters_of self.now i }
+        ensures { result.now ≡ members_of self.now i c }
+    {
+        self.levels[i as usize].clusters[c as usize].nodes()
+    }
+
     /// The greatest weight of a member of a cluster.
     pub fn depth(&self, i: u32, c: u32) -> u64
         requires level { i < levels_of self.now }
@@ -239,7 +274,8 @@ impl Plan {
 
     /// How many times its distance a find that meets no write may travel.
     pub fn stretch(&self) -> u64
-        ensures { result ≡ stretch_of self.now }
+        ensures exact { result ≡ stretch_of self.now }
+        ensures small { result ≤ 2 ^ 20 }
     {
         16 * u64::from(self.degree) * u64::from(self.reach) + 12 * u64::from(self.reach) + 12
     }

@@ -1,4 +1,5 @@
-// A cluster of a plan: its members ascending, and a weight beside each.
+//! A cluster of a plan: its members ascending, and a weight beside each.
+
 ghost use Rattle.std.specs.Prelude.{◌≡◌, ◌<◌, ◌≤◌, All, IfOk, IsTrue, length, map, slice_index};
 ghost use Rattle.node_set.specs.Ascending.{has};
 ghost use Rattle.node_set.specs.Nodes.{AreNodes};
@@ -18,14 +19,13 @@ use node_set::NodeSet;
 use std::alloc::{AllocError, Global};
 use std::marker::Model;
 
-// A cluster: the set of its members, these in ascending order, and beside each the least weight inside the cluster from
-// the leader.
+// A cluster: its members in ascending order, and beside each the least weight inside the cluster
+// from the leader.
 #[derive(Drop)]
 pub struct ClusterRow {
     leader: u32,
     phase: u32,
     depth: u32,
-    members: NodeSet,
     nodes: Vec<u32>,
     weights: Vec<u32>,
 }
@@ -44,7 +44,7 @@ impl Model for ClusterRow {
       depth = r.depth;
     } };
 
-    ghost invariant = { λ r. IsRow r.members r.nodes.items r.weights.items };
+    ghost invariant = { λ r. IsRow r.nodes.items r.weights.items };
 }
 
 impl ClusterRow {
@@ -72,7 +72,6 @@ impl ClusterRow {
             leader: first,
             phase,
             depth,
-            members,
             nodes,
             weights,
         })
@@ -92,7 +91,6 @@ impl ClusterRow {
             leader: 0,
             phase: 0,
             depth,
-            members,
             nodes,
             weights,
         })
@@ -102,13 +100,10 @@ impl ClusterRow {
     pub fn copy(&self, alloc: Global) -> Result<ClusterRow, OutOfMemory>
         ensures { IfOk result (λ copy. copy ≡ self.now) }
     {
-        let mut members = NodeSet::empty(alloc, self.members.room())?;
-        members.absorb(&self.members);
         Ok(ClusterRow {
             leader: self.leader,
             phase: self.phase,
             depth: self.depth,
-            members,
             nodes: self.nodes.to_vec(alloc)?,
             weights: self.weights.to_vec(alloc)?,
         })
@@ -141,7 +136,10 @@ impl ClusterRow {
     pub fn member(&self, v: u32) -> bool
         ensures { result ≡ has v self.now.members }
     {
-        v < self.members.room() && self.members.has(v)
+        match self.nodes.binary_search(&v) {
+            Ok(_) => true,
+            Err(_) => false,
+        }
     }
 
     pub fn weight(&self, v: u32) -> u64
@@ -161,16 +159,18 @@ fn nodes_of(alloc: Global, set: &NodeSet) -> Result<Vec<u32>, OutOfMemory>
     ensures sound { IfOk result (λ nodes. AreNodes set.now) }
 {
     let mut nodes = Vec::with_capacity(alloc, set.count() as usize)?;
-    for v in 0..set.room() {
-        if set.has(v) {
-            nodes.push(v)?;
-        }
+    // The call tells the proof that the members ascend.
+    let _room = set.room();
+    let mut from = 0;
+    'member: while let Some(v) = set.next_from(from) {
+        nodes.push(v)?;
+        from = v + 1;
     }
     Ok(nodes)
 }
 
-// Writes the least weight inside a cluster from its leader to each member, and gives the greatest. Walks among the
-// members reach them all.
+// Writes the least weight inside a cluster from its leader to each member, and gives the greatest.
+// Walks among the members reach them all.
 fn weigh_members(
     alloc: Global,
     graph: &Graph,
@@ -182,8 +182,10 @@ fn weigh_members(
 ) -> Result<u32, OutOfMemory>
     requires row { AreDistancesFrom graph.now leader row.now }
     requires nodes { nodes.now ≡ members.now.members }
-    requires spanned { IsSpanned graph.now (record { first = leader; members = members.now; phase = 0 }) }
-    ensures { IfOk result (IsWritten graph.now nodes.now leader weights.old.items weights.new.items) }
+    requires spanned { IsSpanned graph.now
+        (record { first = leader; members = members.now; phase = 0 }) }
+    ensures { IfOk result
+        (IsWritten graph.now nodes.now leader weights.old.items weights.new.items) }
 {
     match inside_weights(alloc, graph, row, members, nodes, leader, weights) {
         Ok(depth) => Ok(depth),

@@ -1,5 +1,6 @@
 // At which exponents the balls of a network grow.
-ghost use Rattle.std.specs.Prelude.{◌≡◌, ◌*◌, ◌<◌, ◌≤◌, ◌^◌, ℕ, Bool, IfOk, false, length, true, get_or};
+ghost use Rattle.std.specs.Prelude.{◌≡◌, ◌*◌, ◌<◌, ◌≤◌, ◌^◌, ℕ, Bool, IfOk, false, length, true};
+ghost use Rattle.std.specs.Prelude.{get_or};
 ghost use Rattle.distances.specs.Table.{IsMetric, dist};
 ghost use Rattle.region_plan.specs.Kept.{AreMarked, IsMarked};
 
@@ -7,11 +8,12 @@ use distances::Distances;
 use net_graph::OutOfMemory;
 use std::alloc::Global;
 
-// For each exponent to 30 whether some distance is reached by its power of two and not by the one below. At the others
-// balls are as they are one exponent below.
+// For each exponent to 30 whether some distance is reached by its power of two and not by the one
+// below. At the others balls are as they are one exponent below.
 pub fn exponents_in_use(alloc: Global, distances: &Distances) -> Result<Vec<bool>, OutOfMemory>
     ensures count { IfOk result (λ marks. length marks.items ≡ 31) }
-    ensures marked { IfOk result (λ marks. AreMarked distances.now marks.items distances.now.nodes) }
+    ensures marked { IfOk result
+        (λ marks. AreMarked distances.now marks.items distances.now.nodes) }
 {
     let mut marks = vec![in alloc; false; 31]?;
     for u in 0..distances.nodes() {
@@ -25,7 +27,8 @@ fn mark_from(distances: &Distances, u: u32, marks: &mut [bool])
     requires from { u < distances.now.nodes }
     requires count { length marks.old ≡ 31 }
     ensures more { (e : ℕ) → get_or marks.old e false ≡ true → get_or marks.new e false ≡ true }
-    ensures marked { (v : ℕ) → v < distances.now.nodes → IsMarked marks.new (dist distances.now u v) }
+    ensures marked { (v : ℕ) → v < distances.now.nodes
+        → IsMarked marks.new (dist distances.now u v) }
 {
     for v in 0..distances.nodes() {
         let exponent = exponent_of(distances.between(u, v));

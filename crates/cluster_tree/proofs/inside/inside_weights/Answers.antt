@@ -5,7 +5,8 @@ use Rattle.cluster_tree.proofs.inside.inside_weights.Goals as goal
 
 pub returns-clause-written : goal.returns-clause-written
 returns-clause-written c =
-    is_written c.args.graph.now c.args.members.now c.args.leader c.args.weights.now.items c.push_inside.new.weights.items
+    is_written c.args.graph.now c.args.members.now c.args.leader c.args.weights.now.items
+    c.push_inside.new.weights.items
     c.len-start.result c.greatest_weight.result c.in_ok-push_inside.ensures.ordered
     (subst (λ (xs : List ℕ). has c.args.leader xs ≡ true) (sym c.requires.members) c.requires.leader)
     (search rules) c.in_ok-push_inside.ensures.appended

@@ -27,16 +27,20 @@ returns-clause-found c =
     let weighed = c.in_ok-weighed.weighed in
     let are_weighed = rw c.deref-2.ensures.value at c.in_ok-weighed.ensures.weighed in
     let same : weighed.nodes.items ≡ c.args.cluster.now.members =
-    members_are c.args.graph.now c.weights_from.ensures.sound c.args.cluster.now c.flags_of.ensures.sound c.requires.room
+    members_are c.args.graph.now c.weights_from.ensures.sound c.args.cluster.now c.flags_of.ensures.sound
+    c.requires.room
     c.args.leader c.requires.leader c.in_ok-flags.flags.items c.in_ok-flags.ensures.flags c.in_ok-found.found.items
     (rw c.deref.ensures.value at c.in_ok-found.ensures.weights) weighed are_weighed in
     record {
       weights = weighed.weights.items;
-      appended = c.in_ok-extend_from_slice.ensures.items ∙ ap (λ (xs : List ℕ). c.args.weights.now.items ++ xs) c.deref-3.ensures.value;
+      appended = c.in_ok-extend_from_slice.ensures.items
+          ∙ ap (λ (xs : List ℕ). c.args.weights.now.items ++ xs) c.deref-3.ensures.value;
       count = are_weighed.count ∙ ap (λ (xs : List ℕ). length xs) same;
       tree = subst (λ (xs : List ℕ). IsTreeOf c.args.graph.now c.args.cluster.now.members c.args.leader
           (record { leader = c.args.leader; members = xs; weights = weighed.weights.items })) same
-          (is_tree c.args.graph.now c.weights_from.ensures.sound c.args.cluster.now c.flags_of.ensures.sound c.requires.room
-          c.args.leader c.requires.leader c.in_ok-flags.flags.items c.in_ok-flags.ensures.flags c.in_ok-found.found.items
+          (is_tree c.args.graph.now c.weights_from.ensures.sound c.args.cluster.now c.flags_of.ensures.sound
+          c.requires.room
+          c.args.leader c.requires.leader c.in_ok-flags.flags.items c.in_ok-flags.ensures.flags
+          c.in_ok-found.found.items
           (rw c.deref.ensures.value at c.in_ok-found.ensures.weights) weighed are_weighed);
     }

@@ -1,86 +1,162 @@
-use Rattle.std.proofs.Common.{◌≡◌, ◌+◌, ◌++◌, ◌||◌, ℕ, List, length, take, drop, suc, ap, arith, refl, sym, ◌∙◌, subst, add-one}
+use Rattle.std.proofs.Common.{◌≡◌, ◌+◌, ◌||◌, ◌∷◌, [], ℕ, List, length, filter, suc, ap, arith, refl, sym, ◌∙◌, add-one}
 use Rattle.std.proofs.lemmas.Bool.{false≢true}
-use Rattle.node_set.specs.Ascending.{has, IsAscending}
+use Rattle.node_set.specs.Ascending.{has, with_number}
 use Rattle.node_set.specs.Nodes.{Nodes}
 use Rattle.coarse_cover.specs.Coarsening.{is_enough}
-use Rattle.coarse_cover.specs.Progress.{marked}
-use Rattle.coarse_cover.proofs.Marking.{marked_few, written, nodes_from}
-use Rattle.coarse_cover.proofs.Growth.{cluster_homed, cluster_members, growth_fits, some_enough, next_union, reached, stops, goes_on}
+use Rattle.coarse_cover.proofs.Leading.{nodes_from}
+use Rattle.coarse_cover.proofs.Turns.{touched_grown}
+use Rattle.coarse_cover.proofs.Growth.{cluster_homed, cluster_members, growth_fits, some_enough, next_union, reached}
+use Rattle.coarse_cover.proofs.Growth.{stops, goes_on}
 use Rattle.coarse_cover.proofs.growing.grow.Goals as goal
-use Rattle.node_set.specs.Balls.{growth, least, union_of, sets}
-use Rattle.node_set.specs.BallLaws.{ball_at, growth_first, union_first, ascending-union_of}
-use Rattle.coarse_cover.proofs.growing.grow.Goals.{Then-at_most}
+use Rattle.node_set.specs.Balls.{growth, least, touches, union_of, sets}
+use Rattle.node_set.specs.BallLaws.{ball_at, growth_first, union_first}
+use Rattle.node_set.specs.FilterLaws.{filter_fewer}
+use Rattle.coarse_cover.proofs.growing.grow.Goals.{Then-at_most, After-count-more}
 
+-- the first growth
 pub loop-step-init : goal.loop-step-init
 loop-step-init c =
-    let kept : length c.mark_only.new.marks ≡ length c.args.growth.now.taken.items = c.mark_only.auto.marks ∙ ap length c.deref_mut.ensures.value in
-    let whole : take c.args.growth.now.taken.len (c.mark_only.new.marks ++ drop (length c.mark_only.new.marks) c.args.growth.now.taken.items) ≡ c.mark_only.new.marks =
-    written c.args.growth.now.taken.len c.mark_only.new.marks c.args.growth.now.taken.items kept c.args.growth.now.taken.ok.0
+    let first : growth (sets c.args.balls.now) c.args.waiting.now.members c.args.first 0 ≡ c.args.first ∷ [] =
+    growth_first (sets c.args.balls.now) c.args.waiting.now.members c.args.first
     in
     record {
-      taken = rw whole (c.mark_only.ensures ∙ sym (growth_first (sets c.args.balls.now) (marked c.args.waiting.now) c.args.first));
-      members = rw (c.absorb.ensures, c.in_ok-members.ensures, growth_first (sets c.args.balls.now) (marked c.args.waiting.now) c.args.first, ← union_first (sets c.args.balls.now) c.args.first, ball_at c.args.balls.now c.args.first c.index-balls-first.result c.requires.first c.index-balls-first.is) refl;
-      size = sym (ap length (growth_first (sets c.args.balls.now) (marked c.args.waiting.now) c.args.first));
+      taken = ap (λ (s : Nodes). s.members) c.insert.ensures
+          ∙ ap (λ (s : Nodes). with_number c.args.first s.members) c.clear.ensures ∙ sym first;
+      members = rw (
+        c.absorb.ensures,
+        c.in_ok-members.ensures,
+        growth_first (sets c.args.balls.now) c.args.waiting.now.members c.args.first,
+        ← union_first (sets c.args.balls.now) c.args.first,
+        ball_at c.args.balls.now c.args.first c.index-balls-first.result c.requires.first c.index-balls-first.is,
+      ) refl;
+      size = sym (ap length first);
       none = λ i h. absurd (omega arith);
-      taken_len = rw whole (kept ∙ c.requires.taken);
-      touched_len = c.requires.touched;
+      taken_room = ap (λ (s : Nodes). s.room) c.insert.ensures ∙ ap (λ (s : Nodes). s.room) c.clear.ensures
+          ∙ c.requires.taken;
+      touched_room = c.requires.touched;
     }
 
+-- the balls that touch the union so far
+touched_are : (c : After-count-more) → c.touch.new.touched.members
+    ≡ filter (touches (sets c.args.balls.now) c.loop-step.members.members) c.args.waiting.now.members
+touched_are c =
+    touched_grown c.args.balls.now c.args.rows.now c.loop-step.members c.args.waiting.now c.touch.new.touched.members
+    c.requires.turned
+    (ap (λ (s : Nodes). s.room) c.loop-step.invariant.members) c.requires.waiting c.touch.ensures.sound
+    c.touch.ensures.waits
+    c.touch.ensures.members
+
 pub at_most-requires-clause-z_small : goal.at_most-requires-clause-z_small
-at_most-requires-clause-z_small c = omega (arith, c.touch-more.ensures.total, marked_few c.touch-more.new.touched, c.touch-more.auto.touched)
+at_most-requires-clause-z_small c =
+    omega (
+      arith,
+      c.count-more.ensures,
+      ap length (touched_are c),
+      filter_fewer (touches (sets c.args.balls.now) c.loop-step.members.members) c.args.waiting.now.members,
+      c.requires.ready.fits,
+    )
 
 pub at_most-requires-clause-y_small : goal.at_most-requires-clause-y_small
 at_most-requires-clause-y_small c =
-    omega (arith, growth_fits (sets c.args.balls.now) c.args.k c.args.r c.args.first (marked c.args.waiting.now) c.requires.leads.0 c.requires.leads.1 c.loop-step._step)
+    omega (
+      arith,
+      growth_fits (sets c.args.balls.now) c.args.k c.args.r c.args.first c.args.waiting.now.members c.requires.leads.0
+          c.requires.leads.1
+          c.loop-step._step,
+      c.requires.ready.fits,
+      c.loop-step.invariant.size,
+    )
 
-growths : (c : Then-at_most) → least (is_enough (sets c.args.balls.now) c.args.k c.args.r (marked c.args.waiting.now) c.args.first) c.args.k ≡ c.loop-step._step
+growths : (c : Then-at_most)
+    → least (is_enough (sets c.args.balls.now) c.args.k c.args.r c.args.waiting.now.members c.args.first) c.args.k
+    ≡ c.loop-step._step
 growths c =
-    stops (sets c.args.balls.now) c.args.k c.args.r c.args.first (marked c.args.waiting.now) c.loop-step._step c.touch-more.result c.loop-step.size c.loop-step.members.members (marked c.touch-more.new.touched)
-    (ap (λ (s : Nodes). s.members) c.loop-step.invariant.members) c.touch-more.ensures.marks c.touch-more.ensures.total c.loop-step.invariant.size c.loop-step-test.true c.loop-step.invariant.none (c.at_most.ensures.0 c.if-at_most.true)
+    stops (sets c.args.balls.now) c.args.k c.args.r c.args.first c.args.waiting.now.members c.loop-step._step
+    c.count-more.result
+    c.loop-step.size c.loop-step.members.members c.touch.new.touched.members
+    (ap (λ (s : Nodes). s.members) c.loop-step.invariant.members)
+    (touched_grown c.args.balls.now c.args.rows.now c.loop-step.members c.args.waiting.now c.touch.new.touched.members
+    c.requires.turned
+    (ap (λ (s : Nodes). s.room) c.loop-step.invariant.members) c.requires.waiting c.touch.ensures.sound
+    c.touch.ensures.waits
+    c.touch.ensures.members)
+    c.count-more.ensures c.loop-step.invariant.size c.loop-step-test.true c.loop-step.invariant.none
+    (c.at_most.ensures.0 c.if-at_most.true)
 
 pub returns-then-at_most-clause-members : goal.returns-then-at_most-clause-members
 returns-then-at_most-clause-members c =
-    rw (cluster_members (sets c.args.balls.now) c.args.k c.args.r c.args.first (marked c.args.waiting.now), growths c) c.loop-step.invariant.members
+    rw (cluster_members (sets c.args.balls.now) c.args.k c.args.r c.args.first c.args.waiting.now.members, growths c)
+    c.loop-step.invariant.members
 
 pub returns-then-at_most-clause-taken : goal.returns-then-at_most-clause-taken
 returns-then-at_most-clause-taken c =
-    rw (cluster_homed (sets c.args.balls.now) c.args.k c.args.r c.args.first (marked c.args.waiting.now), growths c) c.loop-step.invariant.taken
+    rw (cluster_homed (sets c.args.balls.now) c.args.k c.args.r c.args.first c.args.waiting.now.members, growths c)
+    c.loop-step.invariant.taken
 
 pub returns-then-at_most-clause-touched : goal.returns-then-at_most-clause-touched
 returns-then-at_most-clause-touched c =
-    let kept : length c.touch-more.new.touched ≡ length c.loop-step.growth.touched.items = c.touch-more.auto.touched ∙ ap length c.deref_mut-in-loop-step.ensures.value in
-    rw (written c.loop-step.growth.touched.len c.touch-more.new.touched c.loop-step.growth.touched.items kept c.loop-step.growth.touched.ok.0, cluster_members (sets c.args.balls.now) c.args.k c.args.r c.args.first (marked c.args.waiting.now), growths c, ← ap (λ (s : Nodes). s.members) c.loop-step.invariant.members)
-    c.touch-more.ensures.marks
+    rw (
+      cluster_members (sets c.args.balls.now) c.args.k c.args.r c.args.first c.args.waiting.now.members,
+      growths c,
+      ← ap (λ (s : Nodes). s.members) c.loop-step.invariant.members,
+    ) (touched_grown c.args.balls.now c.args.rows.now c.loop-step.members c.args.waiting.now c.touch.new.touched.members
+    c.requires.turned
+    (ap (λ (s : Nodes). s.room) c.loop-step.invariant.members) c.requires.waiting c.touch.ensures.sound
+    c.touch.ensures.waits
+    c.touch.ensures.members)
 
 pub loop-step-preserved : goal.loop-step-preserved
 loop-step-preserved c =
     let e : c.loop-step._step + 1 ≡ suc c.loop-step._step = add-one c.loop-step._step in
-    let kept : length c.touch-more.new.touched ≡ length c.loop-step.growth.touched.items = c.touch-more.auto.touched ∙ ap length c.deref_mut-in-loop-step.ensures.value in
-    let whole : take c.loop-step.growth.touched.len (c.touch-more.new.touched ++ drop (length c.touch-more.new.touched) c.loop-step.growth.touched.items) ≡ c.touch-more.new.touched =
-    written c.loop-step.growth.touched.len c.touch-more.new.touched c.loop-step.growth.touched.items kept c.loop-step.growth.touched.ok.0
+    let touched = touched_grown c.args.balls.now c.args.rows.now c.loop-step.members c.args.waiting.now
+    c.touch.new.touched.members c.requires.turned
+    (ap (λ (s : Nodes). s.room) c.loop-step.invariant.members) c.requires.waiting c.touch.ensures.sound
+    c.touch.ensures.waits
+    c.touch.ensures.members
     in
-    let members : c.loop-step.members.members ≡ union_of (sets c.args.balls.now) (growth (sets c.args.balls.now) (marked c.args.waiting.now) c.args.first c.loop-step._step) = ap (λ (s : Nodes). s.members) c.loop-step.invariant.members in
-    let next : marked c.touch-more.new.touched ≡ growth (sets c.args.balls.now) (marked c.args.waiting.now) c.args.first (suc c.loop-step._step) =
-    reached (sets c.args.balls.now) c.args.k c.args.r c.args.first (marked c.args.waiting.now) c.loop-step._step c.touch-more.result c.loop-step.size c.loop-step.members.members (marked c.touch-more.new.touched) members c.touch-more.ensures.marks
+    let members : c.loop-step.members.members
+    ≡ union_of (sets c.args.balls.now) (growth (sets c.args.balls.now) c.args.waiting.now.members c.args.first
+    c.loop-step._step) =
+    ap (λ (s : Nodes). s.members) c.loop-step.invariant.members
     in
-    let marks : marked c.deref.result.now ≡ growth (sets c.args.balls.now) (marked c.args.waiting.now) c.args.first (suc c.loop-step._step) = ap marked (c.deref.ensures.value ∙ whole) ∙ next in
-    let union_is : c.absorb_marked.new.nodes.members ≡ union_of (sets c.args.balls.now) (growth (sets c.args.balls.now) (marked c.args.waiting.now) c.args.first (suc c.loop-step._step)) =
-    next_union (sets c.args.balls.now) c.args.k c.args.r c.args.first (marked c.args.waiting.now) c.requires.leads.0 c.requires.leads.1 c.requires.ready.centred c.loop-step._step c.absorb_marked.new.nodes.members
-    (c.absorb_marked.ensures.order (subst (λ (l : List ℕ). IsAscending l) (sym members) (ascending-union_of (sets c.args.balls.now) (growth (sets c.args.balls.now) (marked c.args.waiting.now) c.args.first c.loop-step._step))))
-    (λ x. c.absorb_marked.ensures.members x ∙
-    (ap (λ (vs : List ℕ). has x (union_of (sets c.args.balls.now) vs) || has x c.loop-step.members.members) marks ∙
-    ap (λ (l : List ℕ). has x (union_of (sets c.args.balls.now) (growth (sets c.args.balls.now) (marked c.args.waiting.now) c.args.first (suc c.loop-step._step))) || has x l) members))
+    let next : c.touch.new.touched.members
+    ≡ growth (sets c.args.balls.now) c.args.waiting.now.members c.args.first (suc c.loop-step._step) =
+    reached (sets c.args.balls.now) c.args.k c.args.r c.args.first c.args.waiting.now.members c.loop-step._step
+    c.count-more.result
+    c.loop-step.size c.loop-step.members.members c.touch.new.touched.members members touched
+    in
+    let union_is : c.absorb_balls.new.nodes.members
+    ≡ union_of (sets c.args.balls.now) (growth (sets c.args.balls.now) c.args.waiting.now.members c.args.first
+    (suc c.loop-step._step)) =
+    next_union (sets c.args.balls.now) c.args.k c.args.r c.args.first c.args.waiting.now.members c.requires.leads.0
+    c.requires.leads.1
+    c.requires.ready.centred c.loop-step._step c.absorb_balls.new.nodes.members
+    (c.absorb_balls.ensures.order c.touch.ensures.sound.ascending)
+    (λ x. c.absorb_balls.ensures.members x
+    ∙ ap (λ (vs : List ℕ). has x (union_of (sets c.args.balls.now) vs) || has x c.loop-step.members.members) next
+    ∙ ap (λ (l : List ℕ). has x (union_of (sets c.args.balls.now)
+    (growth (sets c.args.balls.now) c.args.waiting.now.members c.args.first (suc c.loop-step._step))) || has x l)
+    members)
     in
     rw e (record {
-      taken = rw (c.swap.ensures.x_after, whole) next;
-      members = nodes_from c.absorb_marked.new.nodes (length c.args.balls.now) (union_of (sets c.args.balls.now) (growth (sets c.args.balls.now) (marked c.args.waiting.now) c.args.first (suc c.loop-step._step))) (c.absorb_marked.ensures.room ∙ ap (λ (s : Nodes). s.room) c.loop-step.invariant.members) union_is;
-      size = c.touch-more.ensures.total ∙ ap length next;
-      none = goes_on (sets c.args.balls.now) c.args.k c.args.r c.args.first (marked c.args.waiting.now) c.loop-step._step c.touch-more.result c.loop-step.size c.loop-step.members.members (marked c.touch-more.new.touched)
-          members c.touch-more.ensures.marks c.touch-more.ensures.total c.loop-step.invariant.size c.loop-step.invariant.none (λ fits. false≢true (sym c.if-at_most.false ∙ c.at_most.ensures.1 fits));
-      taken_len = rw (c.swap.ensures.x_after, whole) (kept ∙ c.loop-step.invariant.touched_len);
-      touched_len = rw (c.swap.ensures.y_after) c.loop-step.invariant.taken_len;
+      taken = ap (λ (s : Nodes). s.members) c.swap.ensures.x_after ∙ next;
+      members = nodes_from c.absorb_balls.new.nodes (length c.args.balls.now)
+          (union_of (sets c.args.balls.now)
+          (growth (sets c.args.balls.now) c.args.waiting.now.members c.args.first (suc c.loop-step._step)))
+          (c.absorb_balls.ensures.room ∙ ap (λ (s : Nodes). s.room) c.loop-step.invariant.members) union_is;
+      size = c.count-more.ensures ∙ ap length next;
+      none = goes_on (sets c.args.balls.now) c.args.k c.args.r c.args.first c.args.waiting.now.members c.loop-step._step
+          c.count-more.result
+          c.loop-step.size c.loop-step.members.members c.touch.new.touched.members members touched c.count-more.ensures
+          c.loop-step.invariant.size c.loop-step.invariant.none
+          (λ fits. false≢true (sym c.if-at_most.false ∙ c.at_most.ensures.1 fits));
+      taken_room = ap (λ (s : Nodes). s.room) c.swap.ensures.x_after ∙ c.touch.ensures.room
+          ∙ c.loop-step.invariant.touched_room;
+      touched_room = ap (λ (s : Nodes). s.room) c.swap.ensures.y_after ∙ c.loop-step.invariant.taken_room;
     })
 
 pub unreachable-requires : goal.unreachable-requires
 unreachable-requires c =
-    some_enough (sets c.args.balls.now) c.args.k c.args.r c.args.first (marked c.args.waiting.now) c.requires.leads.0 c.requires.leads.1 c.requires.ready.some c.requires.ready.fits (λ i h. c.loop-step.invariant.none i (omega arith))
+    some_enough (sets c.args.balls.now) c.args.k c.args.r c.args.first c.args.waiting.now.members c.requires.leads.0
+    c.requires.leads.1
+    c.requires.ready.some c.requires.ready.fits (λ i h. c.loop-step.invariant.none i (omega arith))

@@ -1,7 +1,20 @@
-use Rattle.std.proofs.Common.{◌∙◌, Bool, cond, ap, sym, arith, get_or}
-use Rattle.coarse_cover.proofs.Marking.{has-marked}
+use Rattle.std.proofs.Common.{arith}
+use Rattle.coarse_cover.proofs.Leading.{homes_done, homes_left, homes_end}
 use Rattle.coarse_cover.proofs.marks.set_homes.Goals as goal
+
+pub ball-preserved : goal.ball-preserved
+ball-preserved c = record {
+  done = homes_done c.args.taken.now.members c.args.number c.ball.from c.in-Some.v c.args.home.now c.ball.home
+      c.in-Some.ensures.some
+      (omega (arith, c.in-Some.ensures.below, c.requires, c.ball.auto.home)) c.ball.invariant.done
+      c.ball.invariant.left;
+  left = homes_left c.args.taken.now.members c.args.number c.ball.from c.in-Some.v c.args.home.now c.ball.home
+      c.in-Some.ensures.some
+      (omega (arith, c.in-Some.ensures.below, c.requires, c.ball.auto.home)) c.ball.invariant.done
+      c.ball.invariant.left;
+}
 
 pub returns : goal.returns
 returns c = λ x below.
-    c.loop-v.invariant.done x (omega arith) ∙ ap (λ (b : Bool). cond b c.args.number (get_or c.args.home.now x 0)) (sym (has-marked c.args.taken.now x))
+    homes_end c.args.taken.now.members c.args.number c.ball.from c.args.home.now c.ball.home c.in_default.ensures.none
+    c.ball.invariant.done c.ball.invariant.left x

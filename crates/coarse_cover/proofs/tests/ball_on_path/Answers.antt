@@ -10,5 +10,6 @@ use Rattle.coarse_cover.proofs.tests.ball_on_path.Goals as goal
 
 pub returns-clause-centre : goal.returns-clause-centre
 returns-clause-centre c =
-    ap (λ (s : Nodes). has c.args.v s.members) c.insert-2.ensures ∙ has-inserted c.args.v c.args.v c.loop-node.ball.members
+    ap (λ (s : Nodes). has c.args.v s.members) c.insert-2.ensures
+    ∙ has-inserted c.args.v c.args.v c.loop-node.ball.members
     ∙ or_left (c.args.v == c.args.v) (has c.args.v c.loop-node.ball.members) (eq-eqb c.args.v c.args.v refl)

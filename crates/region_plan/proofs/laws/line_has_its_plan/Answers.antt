@@ -9,4 +9,5 @@ pub returns-clause-plan : goal.returns-clause-plan
 returns-clause-plan c = line_is_plan c.least_weight_turned.ensures
 
 pub returns-clause-bounding : goal.returns-clause-bounding
-returns-clause-bounding c = c.plan_is_bounding.ensures line_network 2 line_of_four line_is_network (omega arith) line_metric (line_is_plan c.least_weight_turned.ensures)
+returns-clause-bounding c = c.plan_is_bounding.ensures line_network 2 line_of_four line_is_network (omega arith)
+    line_metric (line_is_plan c.least_weight_turned.ensures)

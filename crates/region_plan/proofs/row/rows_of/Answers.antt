@@ -9,8 +9,12 @@ use Rattle.region_plan.proofs.row.rows_of.Goals as goal
 
 pub loop-cluster-preserved : goal.loop-cluster-preserved
 loop-cluster-preserved c = record {
-  done = subst (λ (rows : List PlanCluster). AreClustersOf c.args.graph.now (c.loop-cluster.yielded ++ c.in-Some.cluster ∷ []) rows) (sym c.in_ok-push.ensures.items)
-      (more_clusters c.args.graph.now c.loop-cluster.yielded c.loop-cluster.rows.items c.in-Some.cluster c.in_ok-new.field-0 c.loop-cluster.invariant.done c.in_ok-new.ensures);
-  all = c.loop-cluster.invariant.all ∙ ap (λ (rest : List Cluster). c.loop-cluster.yielded ++ rest) c.in-Some.ensures.steps.0
+  done = subst (λ (rows : List PlanCluster).
+      AreClustersOf c.args.graph.now (c.loop-cluster.yielded ++ c.in-Some.cluster ∷ []) rows)
+      (sym c.in_ok-push.ensures.items)
+      (more_clusters c.args.graph.now c.loop-cluster.yielded c.loop-cluster.rows.items c.in-Some.cluster
+      c.in_ok-new.field-0 c.loop-cluster.invariant.done c.in_ok-new.ensures);
+  all = c.loop-cluster.invariant.all ∙ ap (λ (rest : List Cluster). c.loop-cluster.yielded ++ rest)
+      c.in-Some.ensures.steps.0
       ∙ sym (append_assoc c.loop-cluster.yielded (c.in-Some.cluster ∷ []) (into_iter_items c.next.new.self));
 }

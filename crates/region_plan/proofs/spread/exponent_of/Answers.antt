@@ -5,7 +5,8 @@ use Rattle.region_plan.proofs.spread.exponent_of.Goals as goal
 use Rattle.region_plan.proofs.spread.exponent_of.Goals.{After-saturating_sub}
 
 just : (c : After-saturating_sub) → IsJust c.args.distance (64 - count_leading_zeros 64 c.saturating_sub.result)
-just c = subst (λ n. IsJust c.args.distance (64 - count_leading_zeros 64 n)) (sym c.saturating_sub.ensures) (just_reached c.args.distance c.requires)
+just c = subst (λ n. IsJust c.args.distance (64 - count_leading_zeros 64 n)) (sym c.saturating_sub.ensures)
+    (just_reached c.args.distance c.requires)
 
 pub returns-clause-few : goal.returns-clause-few
 returns-clause-few c = (just c).few

@@ -8,21 +8,24 @@ pub weights_from-requires-clause-root : goal.weights_from-requires-clause-root
 weights_from-requires-clause-root c =
     let sound = c.flags_of.ensures.sound in
     rw c.deref.ensures.value
-    (c.in_ok-flags.ensures.flags.each c.args.leader (below-has c.args.members.now.room c.args.leader c.args.members.now.members sound.below c.requires.leader)
+    (c.in_ok-flags.ensures.flags.each c.args.leader
+    (below-has c.args.members.now.room c.args.leader c.args.members.now.members sound.below c.requires.leader)
     ∙ c.requires.leader)
 
 pub returns-in_err-weighed-clause-fault : goal.returns-in_err-weighed-clause-fault
 returns-in_err-weighed-clause-fault c =
     err_passed c.from_residual-in_err-weighed.result c.in_err-weighed.field-0.0
     (IsTreeFault c.args.graph.now c.args.members.now.members c.args.leader) c.from_residual-in_err-weighed.ensures.1
-    (is_fault c.args.graph.now c.weights_from.ensures.sound c.args.members.now c.flags_of.ensures.sound c.requires.room c.args.leader c.requires.leader
+    (is_fault c.args.graph.now c.weights_from.ensures.sound c.args.members.now c.flags_of.ensures.sound c.requires.room
+    c.args.leader c.requires.leader
     c.in_ok-flags.flags.items c.in_ok-flags.ensures.flags c.in_ok-weights.weights.items
     (rw c.deref.ensures.value at c.in_ok-weights.ensures.weights)
     c.in_err-weighed.field-0.0 (rw c.deref-2.ensures.value at c.in_err-weighed.ensures.missing))
 
 pub invariant_of-result : goal.invariant_of-result
 invariant_of-result c =
-    is_kept c.args.graph.now c.weights_from.ensures.sound c.args.members.now c.flags_of.ensures.sound c.requires.room c.args.leader c.requires.leader
+    is_kept c.args.graph.now c.weights_from.ensures.sound c.args.members.now c.flags_of.ensures.sound c.requires.room
+    c.args.leader c.requires.leader
     c.in_ok-flags.flags.items c.in_ok-flags.ensures.flags c.in_ok-weights.weights.items
     (rw c.deref.ensures.value at c.in_ok-weights.ensures.weights)
     c.in_ok-weighed.weighed (rw c.deref-2.ensures.value at c.in_ok-weighed.ensures.weighed)
@@ -32,7 +35,8 @@ invariant_of-result c =
 
 pub returns-clause-tree : goal.returns-clause-tree
 returns-clause-tree c =
-    is_tree c.args.graph.now c.weights_from.ensures.sound c.args.members.now c.flags_of.ensures.sound c.requires.room c.args.leader c.requires.leader
+    is_tree c.args.graph.now c.weights_from.ensures.sound c.args.members.now c.flags_of.ensures.sound c.requires.room
+    c.args.leader c.requires.leader
     c.in_ok-flags.flags.items c.in_ok-flags.ensures.flags c.in_ok-weights.weights.items
     (rw c.deref.ensures.value at c.in_ok-weights.ensures.weights)
     c.in_ok-weighed.weighed (rw c.deref-2.ensures.value at c.in_ok-weighed.ensures.weighed)

@@ -13,8 +13,10 @@ unreachable-requires c =
 
 pub returns-clause-exact : goal.returns-clause-exact
 returns-clause-exact c =
-    let found = found_place c.self.inside.members.items c.self.inside.weights.items c.args.v c.in-Ok.place c.self.invariant.ascending
+    let found = found_place c.self.inside.members.items c.self.inside.weights.items c.args.v c.in-Ok.place
+    c.self.invariant.ascending
     c.self.invariant.count (rw c.deref.ensures.value at c.in-Ok.ensures.position) in
     c.from.ensures
-    ∙ get_or_read c.self.inside.weights.items c.in-Ok.place c.index.result.now (omega (arith, found.0, c.self.invariant.count)) c.index.ensures 0
+    ∙ get_or_read c.self.inside.weights.items c.in-Ok.place c.index.result.now
+    (omega (arith, found.0, c.self.invariant.count)) c.index.ensures 0
     ∙ sym found.1 ∙ ap (λ (cluster : WeighedCluster). inside_weight cluster c.args.v) c.self.view_is

@@ -7,26 +7,39 @@ use Rattle.node_set.proofs.set.NodeSet.absorb.Goals as goal
 use Rattle.node_set.proofs.set.NodeSet.absorb.Goals.{After-self-1}
 
 same_room : (c : After-self-1) → c.self.inside.room ≡ c.other.inside.room
-same_room c = ap (λ (s : Nodes). s.room) c.self.view_is ∙ (c.requires ∙ sym (ap (λ (s : Nodes). s.room) c.other.view_is))
+same_room c = ap (λ (s : Nodes). s.room) c.self.view_is
+    ∙ (c.requires ∙ sym (ap (λ (s : Nodes). s.room) c.other.view_is))
 
 joined : (c : After-self-1) → AreJoined c.self.inside.words.items c.other.inside.words.items c.lanes_absorb.new.a
 joined c =
     subst (λ (l : List ℕ). AreJoined l c.other.inside.words.items c.lanes_absorb.new.a) c.deref_mut.ensures.value
-    (subst (λ (l : List ℕ). AreJoined c.deref_mut.result.now l c.lanes_absorb.new.a) c.deref.ensures.value c.lanes_absorb.ensures)
+    (subst (λ (l : List ℕ). AreJoined c.deref_mut.result.now l c.lanes_absorb.new.a) c.deref.ensures.value
+    c.lanes_absorb.ensures)
 
 -- the words were written over whole
-whole : (n : ℕ) (new old : List ℕ) → length new ≡ length old → n ≡ length old → take n (new ++ drop (length new) old) ≡ new
+whole : (n : ℕ) (new old : List ℕ) → length new ≡ length old → n ≡ length old
+    → take n (new ++ drop (length new) old) ≡ new
 whole n new old same all = let e : n ≡ length new = all ∙ sym same in rw (e, take-append_seam) refl
 
-written : (c : After-self-1) → take c.self.inside.words.len (c.lanes_absorb.new.a ++ drop (length c.lanes_absorb.new.a) c.self.inside.words.items) ≡ c.lanes_absorb.new.a
-written c = whole c.self.inside.words.len c.lanes_absorb.new.a c.self.inside.words.items (joined c).enough c.self.inside.words.ok.0
+written : (c : After-self-1) → take c.self.inside.words.len
+    (c.lanes_absorb.new.a ++ drop (length c.lanes_absorb.new.a) c.self.inside.words.items) ≡ c.lanes_absorb.new.a
+written c = whole c.self.inside.words.len c.lanes_absorb.new.a c.self.inside.words.items
+    (joined c).enough c.self.inside.words.ok.0
 
 pub invariant_of-self : goal.invariant_of-self
 invariant_of-self c =
     let other : AreWords c.self.inside.room c.other.inside.words.items = rw (same_room c) c.other.invariant in
-    subst (λ (l : List ℕ). AreWords c.self.inside.room l) (sym (written c)) (words-absorb c.self.inside.room c.self.inside.words.items c.other.inside.words.items c.lanes_absorb.new.a c.self.invariant other (joined c))
+    subst (λ (l : List ℕ). AreWords c.self.inside.room l) (sym (written c))
+    (words-absorb c.self.inside.room c.self.inside.words.items c.other.inside.words.items c.lanes_absorb.new.a
+    c.self.invariant other (joined c))
 
 pub returns : goal.returns
 returns c =
     let same : length c.self.inside.words.items ≡ length c.other.inside.words.items = omega (arith, same_room c) in
-    rw (← c.self.view_is, ← c.other.view_is, written c, absorb_bits c.self.inside.words.items c.other.inside.words.items c.lanes_absorb.new.a (joined c) same) refl
+    rw (
+      ← c.self.view_is,
+      ← c.other.view_is,
+      written c,
+      absorb_bits c.self.inside.words.items c.other.inside.words.items
+          c.lanes_absorb.new.a (joined c) same,
+    ) refl

@@ -7,21 +7,28 @@ use Rattle.region_plan.proofs.level.LevelTable.degree.Goals as goal
 
 pub loop-v-preserved : goal.loop-v-preserved
 loop-v-preserved c =
-    let homes : length c.self.inside.homes.items ≡ length c.args.self.now.homes = ap (λ (l : Level). length l.homes) c.self.view_is in
+    let homes : length c.self.inside.homes.items
+    ≡ length c.args.self.now.homes = ap (λ (l : Level). length l.homes) c.self.view_is in
     let count : length c.args.self.now.readers ≡ length c.args.self.now.homes =
-    readers_count c.self.inside.exponent c.self.inside.threshold c.self.inside.phases c.self.inside.clusters.items c.self.inside.homes.items c.args.self.now c.self.view_is
+    readers_count c.self.inside.exponent c.self.inside.threshold c.self.inside.phases c.self.inside.clusters.items
+    c.self.inside.homes.items c.args.self.now c.self.view_is
     in
-    let greater : c.max-degree.result ≡ max c.loop-v.degree (length c.readers_at.result.now) = greater_is c.loop-v.degree (length c.readers_at.result.now) c.max-degree.result c.max-degree.ensures in
+    let greater : c.max-degree.result ≡ max c.loop-v.degree (length c.readers_at.result.now) = greater_is
+    c.loop-v.degree (length c.readers_at.result.now) c.max-degree.result c.max-degree.ensures in
     record {
-      most = degree_step c.args.self.now c.loop-v.v c.loop-v.degree (length c.readers_at.result.now) c.max-degree.result c.readers_at.result.now (omega (arith, count, homes))
+      most = degree_step c.args.self.now c.loop-v.v c.loop-v.degree (length c.readers_at.result.now) c.max-degree.result
+          c.readers_at.result.now (omega (arith, count, homes))
           c.loop-v.invariant.most refl c.readers_at.ensures.numbers greater;
-      few = max_few c.loop-v.degree (length c.readers_at.result.now) 1024 c.max-degree.result greater c.loop-v.invariant.few (omega (arith, c.readers_at.ensures.few));
+      few = max_few c.loop-v.degree (length c.readers_at.result.now) 1024 c.max-degree.result greater
+          c.loop-v.invariant.few (omega (arith, c.readers_at.ensures.few));
     }
 
 pub returns-clause-exact : goal.returns-clause-exact
 returns-clause-exact c =
-    let homes : length c.self.inside.homes.items ≡ length c.args.self.now.homes = ap (λ (l : Level). length l.homes) c.self.view_is in
+    let homes : length c.self.inside.homes.items
+    ≡ length c.args.self.now.homes = ap (λ (l : Level). length l.homes) c.self.view_is in
     let count : length c.args.self.now.readers ≡ length c.args.self.now.homes =
-    readers_count c.self.inside.exponent c.self.inside.threshold c.self.inside.phases c.self.inside.clusters.items c.self.inside.homes.items c.args.self.now c.self.view_is
+    readers_count c.self.inside.exponent c.self.inside.threshold c.self.inside.phases c.self.inside.clusters.items
+    c.self.inside.homes.items c.args.self.now c.self.view_is
     in
     degree_done c.args.self.now c.loop-v.v c.loop-v.degree (omega (arith, count, homes)) c.loop-v.invariant.most

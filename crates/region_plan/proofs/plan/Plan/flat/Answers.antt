@@ -9,7 +9,9 @@ pub returns-clause-matched : goal.returns-clause-matched
 returns-clause-matched c =
     let flat : IsFlat c.args.graph.now c.of_levels.result = search rules in
     flat_matched c.args.graph.now c.of_levels.result flat
-    (subst (λ (t : DistanceTable). IsMetric t) (sym (ap (λ (p : PlanData). p.distances) c.of_levels.ensures ∙ c.in_ok-copy.ensures)) c.flat_level.ensures.metric)
+    (subst (λ (t : DistanceTable). IsMetric t)
+    (sym (ap (λ (p : PlanData). p.distances) c.of_levels.ensures ∙ c.in_ok-copy.ensures))
+    c.flat_level.ensures.metric)
 
 pub returns-clause-reached : goal.returns-clause-reached
 returns-clause-reached c =

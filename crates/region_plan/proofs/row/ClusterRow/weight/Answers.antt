@@ -1,6 +1,6 @@
 use Rattle.std.proofs.Common.{◌≡◌, ◌∙◌, true, sym, subst, ap, arith}
 use Rattle.std.proofs.lemmas.List.{get_or_read}
-use Rattle.node_set.specs.Ascending.{has, IsAscending}
+use Rattle.node_set.specs.Ascending.{has}
 use Rattle.cluster_tree.specs.Tree.{weight_beside}
 use Rattle.cluster_tree.specs.PlaceLaws.{found_place, always_found}
 use Rattle.region_plan.specs.Plan.{PlanCluster}
@@ -8,13 +8,17 @@ use Rattle.region_plan.proofs.row.ClusterRow.weight.Goals as goal
 
 pub unreachable-requires : goal.unreachable-requires
 unreachable-requires c =
-    always_found c.self.inside.nodes.items c.args.v c.in-Err.field-0 (subst IsAscending (sym c.self.invariant.listed) c.self.invariant.sound.ascending)
-    (subst (λ (r : PlanCluster). has c.args.v r.members ≡ true) (sym c.self.view_is) c.requires) (rw c.deref.ensures.value at c.in-Err.ensures.position)
+    always_found c.self.inside.nodes.items c.args.v c.in-Err.field-0
+    c.self.invariant.ascending
+    (subst (λ (r : PlanCluster). has c.args.v r.members ≡ true) (sym c.self.view_is) c.requires)
+    (rw c.deref.ensures.value at c.in-Err.ensures.position)
 
 pub returns : goal.returns
 returns c =
-    let order : IsAscending c.self.inside.nodes.items = subst IsAscending (sym c.self.invariant.listed) c.self.invariant.sound.ascending in
-    let found = found_place c.self.inside.nodes.items c.self.inside.weights.items c.args.v c.in-Ok.place order c.self.invariant.count (rw c.deref.ensures.value at c.in-Ok.ensures.position) in
+    let found = found_place c.self.inside.nodes.items c.self.inside.weights.items c.args.v c.in-Ok.place
+    c.self.invariant.ascending
+    c.self.invariant.count (rw c.deref.ensures.value at c.in-Ok.ensures.position) in
     c.from.ensures
-    ∙ get_or_read c.self.inside.weights.items c.in-Ok.place c.index.result.now (omega (arith, found.0, c.self.invariant.count)) c.index.ensures 0
+    ∙ get_or_read c.self.inside.weights.items c.in-Ok.place c.index.result.now
+    (omega (arith, found.0, c.self.invariant.count)) c.index.ensures 0
     ∙ sym found.1 ∙ ap (λ (r : PlanCluster). weight_beside c.args.v r.members r.weights) c.self.view_is

@@ -1,0 +1,50 @@
+use Rattle.std.proofs.Common.{◌≡◌, ◌≤◌, ℕ, List, length, ap, sym, ◌∙◌, subst}
+use Rattle.coarse_cover.specs.Coarsening.{coarsening}
+use Rattle.coarse_cover.specs.Covers.{IsCover}
+use Rattle.coarse_cover.specs.Progress.{IsBetween}
+use Rattle.coarse_cover.specs.declared.cover.Cluster.{Cluster}
+use Rattle.coarse_cover.proofs.Results.{is_cover, clusters_few, nothing_in}
+use Rattle.coarse_cover.proofs.Steps.{between_start}
+use Rattle.coarse_cover.proofs.coarsening.coarsen_by_rows.Goals as goal
+use Rattle.coarse_cover.specs.declared.cover.Cover.{Cover}
+use Rattle.node_set.specs.Nodes.{Nodes}
+use Rattle.node_set.specs.Balls.{centres, sets}
+use Rattle.node_set.specs.BallLaws.{length-sets}
+
+pub phase-init : goal.phase-init
+phase-init c =
+    let all : c.in_ok-work.work.left.members ≡ centres (length (sets c.args.balls.now)) =
+    c.in_ok-work.ensures.all_left ∙ ap (λ (n : ℕ). centres n) (sym (length-sets c.args.balls.now))
+    in
+    record {
+      between = subst (λ (l : List Cluster).
+          IsBetween (sets c.args.balls.now) c.args.k c.in_ok-work.work.left.members l c.in_ok-vec.field-0.items 0)
+          (sym c.new-2.ensures.items)
+          (between_start (sets c.args.balls.now) c.args.k c.in_ok-work.work.left.members c.in_ok-vec.field-0.items
+          c.requires.low
+          c.requires.centred all);
+      sized = c.in_ok-work.ensures.sized;
+      home_len = sym c.in_ok-vec.field-0.ok.0 ∙ c.in_ok-vec.ensures.len;
+    }
+
+-- no ball is left
+cover_is : (balls : List Nodes) (k : ℕ) (left : List ℕ) (cover : Cover) → length left ≤ 0
+    → IsBetween (sets balls) k left cover.clusters.items cover.home.items cover.phases → length cover.home.items
+    ≡ length balls
+    → IsCover (length balls) (coarsening (sets balls) k) cover
+cover_is balls k left cover none between home_len =
+    subst (λ (n : ℕ). IsCover n (coarsening (sets balls) k) cover) (length-sets balls)
+    (is_cover (sets balls) k left cover between (nothing_in left none) (home_len ∙ sym (length-sets balls)))
+
+pub returns-clause-exact : goal.returns-clause-exact
+returns-clause-exact c =
+    cover_is c.args.balls.now c.args.k c.phase.work.left.members c.phase.cover
+    (subst (λ (n : ℕ). n ≤ 0) c.count.ensures c.phase-test.false) c.phase.invariant.between c.phase.invariant.home_len
+
+pub returns-clause-few : goal.returns-clause-few
+returns-clause-few c =
+    subst (λ (n : ℕ). length c.phase.cover.clusters.items ≤ n) (length-sets c.args.balls.now)
+    (clusters_few (sets c.args.balls.now) c.args.k (length c.args.balls.now) c.phase.cover c.requires.low
+    c.requires.centred
+    (cover_is c.args.balls.now c.args.k c.phase.work.left.members c.phase.cover
+    (subst (λ (n : ℕ). n ≤ 0) c.count.ensures c.phase-test.false) c.phase.invariant.between c.phase.invariant.home_len))

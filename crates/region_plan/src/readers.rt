@@ -1,0 +1,79 @@
+//! The clusters that contain each node, as sets of numbers of clusters.
+
+ghost use Rattle.std.specs.Prelude.{◌≡◌, ◌<◌, ◌≤◌, ◌++◌, ◌&&◌, ◌||◌, ◌==◌, ℕ, All, IfOk, OnOk};
+ghost use Rattle.std.specs.Prelude.{false, length, nat_lt};
+ghost use Rattle.node_set.specs.Ascending.{has};
+ghost use Rattle.node_set.specs.Balls.{ball, sets as lists_of};
+ghost use Rattle.node_set.specs.Nodes.{AreNodes, Nodes};
+ghost use Rattle.region_plan.specs.Readers.{IsReadBelow};
+
+use crate::row::ClusterRow;
+use net_graph::OutOfMemory;
+use node_set::NodeSet;
+use std::alloc::Global;
+
+// As many empty sets.
+pub fn empty_sets(alloc: Global, count: usize, room: u32) -> Result<Vec<NodeSet>, OutOfMemory>
+    requires { room ≤ 1024 }
+    ensures count { IfOk result (λ sets. length sets.items ≡ count) }
+    ensures rooms { IfOk result (λ sets. All (λ (s : Nodes). s.room ≡ room) sets.items) }
+{
+    let mut sets = Vec::with_capacity(alloc, count)?;
+    for _place in 0..count {
+        sets.push(NodeSet::empty(alloc, room)?)?;
+    }
+    Ok(sets)
+}
+
+// Puts the number of a cluster into the sets of its members.
+fn add_reader(sets: &mut [NodeSet], number: u32, members: &[u32])
+    requires { All (λ (s : Nodes). number < s.room) sets.old }
+    ensures rooms { (room : ℕ) → All (λ (s : Nodes). s.room ≡ room) sets.old
+        → All (λ (s : Nodes). s.room ≡ room) sets.new }
+    ensures each { (v x : ℕ) → v < length sets.old → has x (ball (lists_of sets.new) v)
+        ≡ (has x (ball (lists_of sets.old) v) || (x == number && has v members.now)) }
+{
+    for member in members {
+        if (*member as usize) < sets.len() {
+            sets[*member as usize].insert(number);
+        }
+    }
+}
+
+// Takes all numbers out of the sets.
+fn clear_sets(sets: &mut [NodeSet])
+    ensures rooms { (room : ℕ) → All (λ (s : Nodes). s.room ≡ room) sets.old
+        → All (λ (s : Nodes). s.room ≡ room) sets.new }
+    ensures empty { (v x : ℕ) → v < length sets.old → has x (ball (lists_of sets.new) v) ≡ false }
+{
+    for place in 0..sets.len() {
+        sets[place].clear();
+    }
+}
+
+// Makes the set of each node that of the numbers of the clusters that contain it.
+pub fn gather_readers(sets: &mut [NodeSet], clusters: &[ClusterRow], room: u32)
+    requires rooms { All (λ (s : Nodes). s.room ≡ room) sets.old }
+    requires few { length clusters.now ≤ room }
+    ensures { IsReadBelow (length sets.old) clusters.now (length clusters.now) (lists_of sets.new) }
+{
+    clear_sets(sets);
+    for (number, cluster) in clusters.iter().enumerate() {
+        add_reader(sets, number as u32, cluster.nodes());
+    }
+}
+
+// Appends the numbers of a set.
+pub fn push_members(set: &NodeSet, list: &mut Vec<u32>) -> Result<(), OutOfMemory>
+    ensures sound { AreNodes set.now }
+    ensures pushed { OnOk result (list.new.items ≡ list.old.items ++ set.now.members) }
+{
+    // The call tells the proof that the numbers ascend.
+    let _room = set.room();
+    let mut from = 0;
+    'member: while let Some(v) = set.next_from(from) {
+        list.push(v)?;
+        from = v + 1;
+    }
+    Ok(())
+}
