@@ -17,7 +17,9 @@ use Rattle.directory.specs.declared.answers.Found.{Found}
 use Rattle.directory.specs.Statements.{TurnsEndAlike, StepLinesGrow, CallersRead, CallerLinesGrow, CallersKept, CallersCount}
 use Rattle.directory.proofs.HistoryLaws.{words-push}
 use Rattle.directory.proofs.TicketLaws.{tickets-push}
-use Rattle.directory.proofs.OrderLaws.{after_turns-append, after_turns-done, caller-push, done-after}
+use Rattle.directory.proofs.NextLaws.{after_turns-done}
+use Rattle.directory.proofs.CallerLaws.{caller-push}
+use Rattle.directory.proofs.OrderLaws.{after_turns-append, done-after}
 use Rattle.directory.proofs.MadeLaws.{IsAnswered, IsUnderWay, under_way}
 
 -- turns of one actor, in two parts

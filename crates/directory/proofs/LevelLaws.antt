@@ -3,11 +3,11 @@ use Rattle.std.proofs.Common.{◌≡◌, ℕ, zero, suc, ◌+◌, ◌≤◌, Boo
 use Rattle.std.specs.Prelude.{◌==◌, ◌&&◌, not, None, nat_le, sum_by, get_or}
 use Rattle.std.proofs.lemmas.List.Sums.{sum_by-append}
 use Rattle.std.proofs.lemmas.List.{length-map}
-use Rattle.node_set.specs.Ascending.{has, passing}
+use Rattle.node_set.specs.Ascending.{has, sift}
 use Rattle.entry_word.specs.declared.mark.PresenceMark.TheVariants.{Empty, Here, Gone}
 use Rattle.directory.specs.Settings.{Setting}
-use Rattle.directory.specs.Writes.{mark_at, entry_at, numbers_from, new_address, old_home, erasing, purging, trail, step_writes, most_writes}
-use Rattle.directory.specs.Courses.{highest, Step, move_to, switch_off, switch_on, Move, Course, course_at, stop, base, address_node, gathered, next_move, after_step, after_steps}
+use Rattle.directory.specs.Writes.{mark_at, entry_at, numbers_from, new_address, old_home, erasure_writes, purge_writes, trail, step_writes, most_writes}
+use Rattle.directory.specs.Courses.{highest, Step, move_to, switch_off, switch_on, Move, Course, course_at, stop, base, address_node, gathered_weight, next_move, after_step, after_steps}
 use Rattle.directory.proofs.HistoryLaws.{base-after}
 
 -- moves are numbered one after another
@@ -76,9 +76,9 @@ stop-last (suc k) node (y ∷ xs) x h = stop-last k y.to xs x (omega arith)
 
 -- what a move does to a level
 pub gathered-after : (setting : Setting) (course : Course) (node level : ℕ) → AreNumbered 0 course.moves
-    → gathered (after_step setting course (move_to node)) level
+    → gathered_weight (after_step setting course (move_to node)) level
     ≡ cond (nat_le level (next_move setting course node).renewed) 0
-    (gathered course level + setting.distance (fold (λ n (m : Move). m.to) course.start course.moves) node)
+    (gathered_weight course level + setting.distance (fold (λ n (m : Move). m.to) course.start course.moves) node)
 gathered-after setting course node level numbered = ap
     (λ b. sum_by (λ (m : Move). m.weight) (drop b (course.moves ++ move ∷ []))) (base-after level course.moves move)
     ∙ at_test (nat_le level move.renewed)
@@ -92,12 +92,12 @@ gathered-after setting course node level numbered = ap
 
     at_test : (b : Bool) → sum_by (λ (m : Move). m.weight)
         (drop (cond b move.number (base level course.moves)) (course.moves ++ move ∷ []))
-        ≡ cond b 0 (gathered course level + move.weight)
+        ≡ cond b 0 (gathered_weight course level + move.weight)
     at_test true = ap (sum_by (λ (m : Move). m.weight)) (drop-past move.number course.moves move refl)
     at_test false =
         ap (sum_by (λ (m : Move). m.weight)) (drop-short (base level course.moves) course.moves move low)
         ∙ (sum_by-append (λ (m : Move). m.weight) (drop (base level course.moves) course.moves) (move ∷ [])
-        ∙ ap (λ w. gathered course level + w) (let e : 0 + move.weight ≡ move.weight = omega arith in e))
+        ∙ ap (λ w. gathered_weight course level + w) (let e : 0 + move.weight ≡ move.weight = omega arith in e))
 
 pub address-after : (setting : Setting) (course : Course) (node level : ℕ) → AreNumbered 0 course.moves
     → address_node (after_step setting course (move_to node)) level
@@ -122,9 +122,9 @@ abbrev pub course_of : Setting → ℕ → List Step → Course
 course_of setting node steps = after_steps setting (course_at node) steps
 
 pub gathered_by_move : (setting : Setting) (first : ℕ) (steps : List Step) (node level : ℕ)
-    → gathered (after_step setting (course_of setting first steps) (move_to node)) level
+    → gathered_weight (after_step setting (course_of setting first steps) (move_to node)) level
     ≡ cond (nat_le level (next_move setting (course_of setting first steps) node).renewed) 0
-    (gathered (course_of setting first steps) level + setting.distance
+    (gathered_weight (course_of setting first steps) level + setting.distance
     (fold (λ n (m : Move). m.to) (course_of setting first steps).start (course_of setting first steps).moves)
     node)
 unfolding AreNumbered
@@ -140,12 +140,12 @@ address_by_move setting first steps node level = address-after setting (course_o
     (numbered-steps setting (course_at first) steps tt)
 
 -- no move has more writes than the most
-passing-short : (test : ℕ → Bool) (v k : ℕ) → length (passing test v k) ≤ k
+passing-short : (test : ℕ → Bool) (v k : ℕ) → length (sift test v k) ≤ k
 passing-short test v zero = omega arith
 passing-short test v (suc k) = at_test (test v) (passing-short test (suc v) k)
   where
-    at_test : (b : Bool) → length (passing test (suc v) k) ≤ k
-        → length (cond b (v ∷ passing test (suc v) k) (passing test (suc v) k)) ≤ suc k
+    at_test : (b : Bool) → length (sift test (suc v) k) ≤ k
+        → length (cond b (v ∷ sift test (suc v) k) (sift test (suc v) k)) ≤ suc k
     at_test true h = omega (arith, h)
     at_test false h = omega (arith, h)
 
@@ -164,17 +164,17 @@ highest-low test (suc limit) = at_test (test (suc limit)) (highest-low test limi
     at_test false h = omega (arith, h)
 
 purging-short : (setting : Setting) (course : Course) (move : Move)
-    → length (purging setting course move) ≤ setting.nodes
+    → length (purge_writes setting course move) ≤ setting.nodes
 purging-short setting course move = at_test (move.renewed == setting.top)
   where
     kept : ℕ → Bool
     kept node = has node (trail setting course move) && not (node == move.to)
 
-    at_test : (b : Bool) → length (cond b (map (λ node. mark_at node Empty) (passing kept 0 setting.nodes)) []) ≤
+    at_test : (b : Bool) → length (cond b (map (λ node. mark_at node Empty) (sift kept 0 setting.nodes)) []) ≤
         setting.nodes
     at_test true = omega (
       arith,
-      length-map (passing kept 0 setting.nodes) (λ node. mark_at node Empty),
+      length-map (sift kept 0 setting.nodes) (λ node. mark_at node Empty),
       passing-short kept 0 setting.nodes,
     )
     at_test false = omega arith
@@ -190,22 +190,22 @@ move-short setting course node =
       length-map (numbers_from 0 (suc move.renewed)) (new_address setting move),
       passing-short (λ p. true) 0 (suc move.renewed),
     ) in
-    let two : length (erasing setting course move) ≤ suc move.renewed =
+    let two : length (erasure_writes setting course move) ≤ suc move.renewed =
     omega (
       arith,
-      length-map (passing (λ level. not (old_home setting course level == setting.home level move.to)) 0
+      length-map (sift (λ level. not (old_home setting course level == setting.home level move.to)) 0
           (suc move.renewed)) (λ level. entry_at level (old_home setting course level) None),
       passing-short (λ level. not (old_home setting course level == setting.home level move.to)) 0
           (suc move.renewed),
     ) in
-    let three : length (purging setting course move) ≤ setting.nodes = purging-short setting course move in
-    let ends : length (erasing setting course move ++ purging setting course move)
-    ≡ length (erasing setting course move) + length (purging setting course move) = length-append
-    (erasing setting course move) (purging setting course move) in
+    let three : length (purge_writes setting course move) ≤ setting.nodes = purging-short setting course move in
+    let ends : length (erasure_writes setting course move ++ purge_writes setting course move)
+    ≡ length (erasure_writes setting course move) + length (purge_writes setting course move) = length-append
+    (erasure_writes setting course move) (purge_writes setting course move) in
     let all : length (step_writes setting course (move_to node))
     ≡ suc (length (map (new_address setting move) (numbers_from 0 (suc move.renewed))) + suc
-    (suc (length (erasing setting course move ++ purging setting course move)))) =
+    (suc (length (erasure_writes setting course move ++ purge_writes setting course move)))) =
     ap suc (length-append (map (new_address setting move) (numbers_from 0 (suc move.renewed)))
     (mark_at move.from (Gone move.number move.to) ∷
-    (mark_at move.to (Here move.number) ∷ (erasing setting course move ++ purging setting course move)))) in
+    (mark_at move.to (Here move.number) ∷ (erasure_writes setting course move ++ purge_writes setting course move)))) in
     omega (arith, low, one, two, three, ends, all)

@@ -3,6 +3,8 @@ mod FindLaws
 mod HistoryLaws
 mod OneProof
 mod LevelLaws
+mod NextLaws
+mod CallerLaws
 mod OrderLaws
 mod CellLaws
 mod StateLaws
@@ -12,3 +14,4 @@ mod StandingLaws
 mod RestLaws
 mod AmidLaws
 mod GrowthLaws
+mod DoneLaws

@@ -21,7 +21,8 @@ use Rattle.directory.specs.Outcomes.{step_line, step_lines, sub_lines, found_lin
 use Rattle.directory.specs.declared.answers.Found.{Found}
 use Rattle.directory.specs.declared.answers.Found.TheVariants.{At, Off as OffAt, Again}
 use Rattle.directory.proofs.HistoryLaws.{words-push}
-use Rattle.directory.proofs.OrderLaws.{next-sub, played-own, caller-look, caller-push}
+use Rattle.directory.proofs.NextLaws.{next-sub, played-own}
+use Rattle.directory.proofs.CallerLaws.{caller-look, caller-push}
 use Rattle.directory.proofs.TicketLaws.{tickets-tell, tickets-ascend, tickets-push, ascending_take, ascending_drop}
 use Rattle.directory.specs.Statements.{LinesAreMade, FindsFollow}
 use Rattle.directory.specs.StepLaws.{by_fronts}

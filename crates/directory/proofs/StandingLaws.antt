@@ -8,7 +8,7 @@ use Rattle.entry_word.specs.declared.mark.PresenceMark.TheVariants.{Empty, Here,
 use Rattle.directory.specs.Settings.{Setting, start}
 use Rattle.directory.specs.Histories.{puts_to}
 use Rattle.directory.specs.Courses.{Step, move_to, switch_off, switch_on, Move, Course, course_at, next_move, after_step, after_steps}
-use Rattle.directory.specs.Writes.{Write, mark_at, entry_at, numbers_from, new_address, erasing, purging, move_writes, step_writes, writes}
+use Rattle.directory.specs.Writes.{Write, mark_at, entry_at, numbers_from, new_address, erasure_writes, purge_writes, move_writes, step_writes, writes}
 use Rattle.directory.specs.Puts.{steps_in, course_in}
 use Rattle.directory.specs.Standing.{Commit, commit_by, commits, number}
 use Rattle.directory.specs.States.{write_commit}
@@ -93,7 +93,7 @@ one-listed (x ∷ xs) y zs commit zero f g h = refl
 one-listed (x ∷ xs) y zs commit (suc k) f g h = ap (λ o. cons_option o
     (filter_map write_commit (take k (xs ++ y ∷ zs)))) f.0 ∙ one-listed xs y zs commit k f.1 g h
 
-no-purges : (setting : Setting) (course : Course) (move : Move) → NoCommits (purging setting course move)
+no-purges : (setting : Setting) (course : Course) (move : Move) → NoCommits (purge_writes setting course move)
 unfolding NoCommits
 no-purges setting course move = at_test (move.renewed == setting.top) _
   where
@@ -109,11 +109,11 @@ unfolding NoCommits is_past
 move-listed setting course move k =
     one-listed (mark_at move.to (Coming move.number move.from) ∷ map (new_address setting move)
     (numbers_from 0 (suc move.renewed))) (mark_at move.from (Gone move.number move.to))
-    (mark_at move.to (Here move.number) ∷ (erasing setting course move ++ purging setting course move))
+    (mark_at move.to (Here move.number) ∷ (erasure_writes setting course move ++ purge_writes setting course move))
     (commit_by move) k
     (refl, no-map (new_address setting move) (λ i. refl) (numbers_from 0 (suc move.renewed))) (
       refl,
-      no-append (erasing setting course move) (purging setting course move)
+      no-append (erasure_writes setting course move) (purge_writes setting course move)
           (no-map (λ level. entry_at level _ None) (λ i. refl) _) (no-purges setting course move),
     ) refl
 
@@ -190,7 +190,8 @@ committed setting course (move_to node ∷ steps) k = moved
     longer = omega (
       arith,
       length-append addresses (mark_at its_move.from (Gone its_move.number its_move.to) ∷
-          (mark_at its_move.to (Here its_move.number) ∷ (erasing setting course its_move ++ purging setting course
+          (mark_at its_move.to (Here its_move.number)
+          ∷ (erasure_writes setting course its_move ++ purge_writes setting course
           its_move))),
     )
 

@@ -15,7 +15,7 @@ use Rattle.directory.specs.Settings.{Setting, start}
 use Rattle.directory.specs.Keys.{is_start, is_start_home}
 use Rattle.directory.specs.Histories.{History, word_after, cell, puts_to}
 use Rattle.directory.specs.Courses.{Step, move_to, switch_off, switch_on, Move, Course, course_at, next_move, after_step, MayStep, MaySteps}
-use Rattle.directory.specs.Writes.{Write, mark_at, entry_at, visit_of, numbers_from, new_address, erasing, purging, move_writes, step_writes, writes}
+use Rattle.directory.specs.Writes.{Write, mark_at, entry_at, visit_of, numbers_from, new_address, erasure_writes, purge_writes, move_writes, step_writes, writes}
 use Rattle.directory.specs.Puts.{mark_put, node_put, steps_in}
 use Rattle.directory.specs.Standing.{commit_of, off}
 use Rattle.directory.specs.Legal.{IsLegal}
@@ -116,7 +116,7 @@ small-move setting course move few from to = (
         (few, to),
         (
           few,
-          small-append (erasing setting course move) (purging setting course move)
+          small-append (erasure_writes setting course move) (purge_writes setting course move)
               (small-map (λ level. entry_at level _ None) (λ level. tt) _) (at_test (move.renewed == setting.top) _),
         ),
       ),

@@ -11,7 +11,7 @@ use Rattle.entry_word.specs.declared.visit.Visit.{Visit}
 use Rattle.directory.specs.Settings.{Setting, start}
 use Rattle.directory.specs.Histories.{IsFront}
 use Rattle.directory.specs.Courses.{Step, move_to, switch_off, switch_on, Move, Course, course_at, last_stop, next_move, after_step, after_steps, MayStep, MaySteps}
-use Rattle.directory.specs.Writes.{Write, mark_at, visit_of, numbers_from, new_address, erasing, purging, step_writes, writes, visits}
+use Rattle.directory.specs.Writes.{Write, mark_at, visit_of, numbers_from, new_address, erasure_writes, purge_writes, step_writes, writes, visits}
 use Rattle.directory.specs.Puts.{node_put, mark_put, mark_step, steps_from, steps_in, course_in}
 use Rattle.directory.specs.Legal.{IsScript, ArePuts}
 use Rattle.directory.specs.Statements.{FrontsAreLegal, ScriptsAreLegal, DueIsLegal, BeginningIsLegal, NextIsDecided}
@@ -72,10 +72,10 @@ after_coming setting course move =
     map (new_address setting move) (numbers_from 0 (suc move.renewed))
     ++ (mark_at move.from (Gone move.number move.to)
     ∷ (mark_at move.to (Here move.number)
-    ∷ (erasing setting course move ++ purging setting course move)))
+    ∷ (erasure_writes setting course move ++ purge_writes setting course move)))
 
 plain-purging : (setting : Setting) (sub : ℕ) (course : Course) (move : Move)
-    → ArePlain (map (visit_of sub) (purging setting course move))
+    → ArePlain (map (visit_of sub) (purge_writes setting course move))
 unfolding ArePlain
 plain-purging setting sub course move = at_test (move.renewed == setting.top) _
   where
@@ -97,13 +97,14 @@ plain-after unpacks setting sub course move few low =
   where
     last_writes : List Write
     last_writes = mark_at move.from (Gone move.number move.to) ∷
-        (mark_at move.to (Here move.number) ∷ (erasing setting course move ++ purging setting course move))
+        (mark_at move.to (Here move.number) ∷ (erasure_writes setting course move ++ purge_writes setting course move))
 
-    ends_plain : ArePlain (map (visit_of sub) (erasing setting course move ++ purging setting course move))
+    ends_plain : ArePlain (map (visit_of sub) (erasure_writes setting course move ++ purge_writes setting course move))
     ends_plain =
-        subst ArePlain (sym (map-append (visit_of sub) (erasing setting course move) (purging setting course move)))
-        (plain-append (map (visit_of sub) (erasing setting course move))
-        (map (visit_of sub) (purging setting course move))
+        subst ArePlain (sym (map-append (visit_of sub) (erasure_writes setting course move)
+        (purge_writes setting course move)))
+        (plain-append (map (visit_of sub) (erasure_writes setting course move))
+        (map (visit_of sub) (purge_writes setting course move))
         (plain-map sub _ (λ i. (refl, refl)) _) (plain-purging setting sub course move))
 
     last_plain : ArePlain (map (visit_of sub) last_writes)

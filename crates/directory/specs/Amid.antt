@@ -1,7 +1,6 @@
--- How far a subscriber is with its script, told by its puts: some steps are done, and at most one is
--- under way, of which so many writes are made.
--- Key laws: `legal_is_amid` (legal puts are so far), `steps_begin_at_rest` (a step begins where the
--- one before is done).
+-- How far a subscriber is with its script, told by its puts: some steps are done, and at most one
+-- is under way, of which so many writes are made. Key laws: `legal_is_amid` (legal puts are so
+-- far), `steps_begin_at_rest` (a step begins where the one before is done).
 use Rattle.std.specs.Prelude.{◌≡◌, ℕ, ◌≤◌, List, ◌++◌, length, take}
 use Rattle.entry_word.specs.declared.visit.Visit.{Visit}
 use Rattle.directory.specs.Settings.{Setting, start}

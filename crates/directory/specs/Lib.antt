@@ -15,4 +15,5 @@ pub mod Outcomes
 pub mod Census
 pub mod Amid
 pub mod StepLaws
+pub mod ScriptLaws
 pub mod Statements

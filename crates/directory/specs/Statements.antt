@@ -1,5 +1,5 @@
--- What the laws of the directory say, by name: each is proved by the public law that is named beside
--- it, and the crates above cite these names.
+-- What the laws of the directory say, by name: each is proved by the public law that is named
+-- beside it, and the crates above cite these names.
 use Rattle.std.specs.Prelude.{◌≡◌, ℕ, ◌<◌, ◌≤◌, ◌^◌, ◌==◌, All, List, [], ◌∷◌, ◌++◌, Some, length, map, take, fold, filter_map, option_map, option_to_list, replicate, slice_get, slice_index, false}
 use Rattle.entry_word.specs.Marks.{mark_in}
 use Rattle.entry_word.specs.Addresses.{address_in}
@@ -13,7 +13,7 @@ use Rattle.directory.specs.Courses.{Course, MayStep, Step, after_steps, stop}
 use Rattle.directory.specs.Writes.{step_writes, visit_of, visits, writes}
 use Rattle.directory.specs.Finds.{FindCall, after_word, answer_of}
 use Rattle.directory.specs.Looks.{look_by}
-use Rattle.directory.specs.Puts.{course_in, ends_off, mark_put, mark_step, node_put, steps_in}
+use Rattle.directory.specs.Puts.{course_in, ends_off, mark_put, mark_step, node_put, puts_left, steps_in}
 use Rattle.directory.specs.Amid.{IsAmid}
 use Rattle.directory.specs.Legal.{ArePuts, IsLegal, IsScript}
 use Rattle.directory.specs.States.{entry_left, mark_left, write_commit, write_off, writes_made}
@@ -154,6 +154,14 @@ PlayedIsLegal =
     (setting : Setting) (scripts : Scripts) (history : History) (sub : ℕ)
     → setting.nodes ≤ 2 ^ 16 → AreValid setting scripts → sub < subs setting
     → IsPlayed setting scripts history → IsLegal setting sub history
+
+-- a subscriber whose script is done has nothing left to put (`done_is_rest`)
+abbrev pub DoneIsRest : Type 0
+DoneIsRest =
+    (setting : Setting) (scripts : Scripts) (history : History) (sub : ℕ)
+    → setting.nodes ≤ 2 ^ 16 → AreValid setting scripts → sub < subs setting
+    → IsPlayed setting scripts history → IsDone setting scripts history sub
+    → puts_left setting sub (puts_to sub history) ≡ []
 
 -- where nobody moves or switches, each cell holds its opening word (`rest_keeps_opening`)
 abbrev pub RestKeepsOpening : Type 0

@@ -1,7 +1,7 @@
--- Short laws of lists of steps, writes and puts, one more at the end: what the crates above take for
--- granted.
--- Key laws: `writes-append` (more steps only add writes at the end), `steps-append` (more puts show
--- more steps), `by_fronts` (what holds of no visits and with each that comes next holds of all).
+-- Short laws of lists of steps, writes and puts, one more at the end: what the crates above take
+-- for granted. Key laws: `writes-append` (more steps only add writes at the end), `steps-append`
+-- (more puts show more steps), `by_fronts` (what holds of no visits and with each that comes next
+-- holds of all).
 use Rattle.std.proofs.Common.{◌≡◌, ℕ, zero, suc, ◌-◌, ◌<◌, ◌≤◌, Bool, cond, ◌==◌, List, [], ◌∷◌, ◌++◌, Option, Some, None, length, map, take, fold, refl, sym, ap, ◌∙◌, subst, arith, append_assoc}
 use Rattle.std.specs.Prelude.{slice_get}
 use Rattle.std.specs.List.{cons_option}

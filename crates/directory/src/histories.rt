@@ -25,7 +25,8 @@ pub fn cell_of_puts()
     ensures { CellsOfPuts }
 {}
 
-/// A visit adds to the visits of its own actor, and to the puts for the subscriber whose cell it changes.
+/// A visit adds to the visits of its own actor, and to the puts for the subscriber whose cell it
+/// changes.
 pub fn own_after()
     ensures visits { (actor : ℕ) (history : History) (visit : Visit)
         → own actor (history ++ visit ∷ [])

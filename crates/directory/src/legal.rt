@@ -27,7 +27,8 @@ pub fn script_is_legal()
     mark_words();
 }
 
-/// Which put may come next: that of the step under way, and at rest the first of a step that may come.
+/// Which put may come next: that of the step under way, and at rest the first of a step that may
+/// come.
 pub fn legal_next()
     ensures due { DueIsLegal }
     ensures begins { BeginningIsLegal }
@@ -40,7 +41,8 @@ pub fn next_is_decided()
     ensures { NextIsDecided }
 {}
 
-/// Legal puts have done the steps that they begin, but for the last, of which so many writes are made.
+/// Legal puts have done the steps that they begin, but for the last, of which so many writes are
+/// made.
 pub fn legal_is_amid()
     ensures { LegalIsAmid }
 {

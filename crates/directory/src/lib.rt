@@ -1,5 +1,5 @@
-//! The directory: what it is, and the laws of its definitions. Each public function but the types' own is a law, and does
-//! nothing.
+//! The directory: what it is, and the laws of its definitions. Each public function but the types'
+//! own is a law, and does nothing.
 #![tactic(auto)]
 
 mod answers;
@@ -25,8 +25,8 @@ pub use legal::{
     steps_begin_at_rest,
 };
 pub use orders::{
-    all_scripts_done, each_visit_is_next, every_order_is_legal, idle_turns, next_is_own,
-    order_of_history, rest_keeps_opening, scripts_in_order, turns_are_few,
+    all_scripts_done, done_is_rest, each_visit_is_next, every_order_is_legal, idle_turns,
+    next_is_own, order_of_history, rest_keeps_opening, scripts_in_order, turns_are_few,
 };
 pub use outcomes::{lines_are_made, lines_grow};
 pub use standing::{census_members, commits_after, commits_are_moves, last_commit_tells};

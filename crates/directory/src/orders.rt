@@ -3,7 +3,7 @@ ghost use Rattle.std.specs.Prelude.{All, List, Some, [], map, ℕ, ◌++◌, ◌
 ghost use Rattle.directory.specs.Histories.{History};
 ghost use Rattle.directory.specs.Orders.{IsDone, IsPlayed, Scripts, after_turns, history_of, next};
 ghost use Rattle.directory.specs.Settings.{Setting};
-ghost use Rattle.directory.specs.Statements.{HistoriesAreOrdered, OrdersAreDone, OrdersArePlayed, OwnPutsAlone, PlayedIsLegal, RestKeepsOpening, ScriptsInOrder, TurnsAreFew, TurnsEndAlike};
+ghost use Rattle.directory.specs.Statements.{DoneIsRest, HistoriesAreOrdered, OrdersAreDone, OrdersArePlayed, OwnPutsAlone, PlayedIsLegal, RestKeepsOpening, ScriptsInOrder, TurnsAreFew, TurnsEndAlike};
 ghost use Rattle.entry_word.specs.declared.visit.Visit.{Visit};
 
 use entry_word::mark_words;
@@ -15,7 +15,8 @@ pub fn next_is_own()
         → next setting scripts history actor ≡ Some visit → visit.actor ≡ actor }
 {}
 
-/// Each visit was its actor's next one, in the history of an order and of a part of one; and one more next visit keeps that.
+/// Each visit was its actor's next one, in the history of an order and of a part of one; and one
+/// more next visit keeps that.
 pub fn each_visit_is_next()
     ensures order { OrdersArePlayed }
     ensures part { (setting : Setting) (scripts : Scripts) (order : List ℕ)
@@ -33,7 +34,8 @@ pub fn idle_turns()
         → after_turns setting scripts history idle ≡ history }
 {}
 
-/// An actor that isn't done has made fewer visits than it may, so that its turns until it is done make what all that it may have make.
+/// An actor that isn't done has made fewer visits than it may, so that its turns until it is done
+/// make what all that it may have make.
 pub fn turns_are_few()
     ensures few { TurnsAreFew }
     ensures alike { TurnsEndAlike }
@@ -47,7 +49,8 @@ pub fn all_scripts_done()
         ≡ history_of setting scripts order }
 {}
 
-/// A history in which each visit was its actor's next one is that of the order of its actors, completed.
+/// A history in which each visit was its actor's next one is that of the order of its actors,
+/// completed.
 pub fn order_of_history()
     ensures completed { HistoriesAreOrdered }
     ensures done { (setting : Setting) (scripts : Scripts) (history : History)
@@ -56,7 +59,8 @@ pub fn order_of_history()
         → history_of setting scripts (map (λ (visit : Visit). visit.actor) history) ≡ history }
 {}
 
-/// A subscriber's own visits are the first of its script, in order, and all that is put into its cells.
+/// A subscriber's own visits are the first of its script, in order, and all that is put into its
+/// cells.
 pub fn scripts_in_order()
     ensures script { ScriptsInOrder }
     ensures alone { OwnPutsAlone }
@@ -65,6 +69,13 @@ pub fn scripts_in_order()
 /// Whatever the order, the history is legal for every subscriber.
 pub fn every_order_is_legal()
     ensures { PlayedIsLegal }
+{
+    mark_words();
+}
+
+/// A subscriber whose script is done has nothing left to put.
+pub fn done_is_rest()
+    ensures { DoneIsRest }
 {
     mark_words();
 }

@@ -21,8 +21,8 @@ pub fn commits_after()
         (cons_option (commit_of (node_put visit.act) (mark_put visit.act)) []) [] }
 {}
 
-/// The last commit tells where a subscriber stands, and which passage is open until a put confirms it; before any commit it
-/// stands at its start node.
+/// The last commit tells where a subscriber stands, and which passage is open until a put confirms
+/// it; before any commit it stands at its start node.
 pub fn last_commit_tells()
     ensures start { (setting : Setting) (sub : ℕ) (history : History) → commits sub history ≡ []
         → standing setting sub history ≡ start setting sub }
@@ -38,7 +38,8 @@ pub fn last_commit_tells()
         (puts_to sub history)) 0 (setting.distance last.from last.to) }
 {}
 
-/// The commits of a legal history are the first moves of its course, so that a subscriber stands at the stop with its number.
+/// The commits of a legal history are the first moves of its course, so that a subscriber stands at
+/// the stop with its number.
 pub fn commits_are_moves()
     ensures commits { CommitsAreMoves }
     ensures stands { StandsAtStop }

@@ -33,7 +33,8 @@ arcs_step n u edges arcs old mid new are so_far lowered =
     ))
     (λ i w (v, below, joined, at). (make_arc v w, are.whole v w joined, (at, refl))) lowered)
 
-pub arcs_step_taken : (n u k : ℕ) (edges : List Edge) (arcs : List Arc) (old mid new more : List ℕ) → AreArcsOf n edges u arcs
+pub arcs_step_taken : (n u k : ℕ) (edges : List Edge) (arcs : List Arc) (old mid new more : List ℕ)
+    → AreArcsOf n edges u arcs
     → IsLowered (Below u (EdgeOffer edges n)) old mid → IsLowered (Among arcs (ArcOffer n u)) mid new → length new ≡ k
     → IsLowered (Below (u + 1) (EdgeOffer edges n)) old (take k (new ++ more))
 arcs_step_taken n u k edges arcs old mid new more are so_far lowered count =
@@ -44,7 +45,8 @@ pub no_arcs : (n : ℕ) (edges : List Edge) (old : List ℕ) → IsLowered (Belo
 no_arcs n edges old = lowered_none (Below 0 (EdgeOffer edges n)) old (λ i w (u, below, offered). omega arith)
 
 pub first_done : (network : Network) (table : List ℕ)
-    → IsLowered (Below network.nodes (EdgeOffer network.edges network.nodes)) (replicate (network.nodes * network.nodes) FAR) table
+    → IsLowered (Below network.nodes (EdgeOffer network.edges network.nodes))
+    (replicate (network.nodes * network.nodes) FAR) table
     → IsFirstTable network table
 first_done network table lowered =
     let n : ℕ = network.nodes in
@@ -63,11 +65,13 @@ first_done network table lowered =
     }
 
 module _ (network : Network) (sound : IsNetwork network) (table : List ℕ) (first : IsFirstTable network table) where
-  turned_below : (u v : ℕ) → u < network.nodes → v < network.nodes → cell network.nodes table v u ≤ cell network.nodes table u v
+  turned_below : (u v : ℕ) → u < network.nodes → v < network.nodes
+      → cell network.nodes table v u ≤ cell network.nodes table u v
   turned_below u v u_below v_below = elim (first.sound u v u_below v_below) [
     | inl far ↦
         let most : cell network.nodes table v u ≤ FAR =
-        first.light (v * network.nodes + u) 0 (omega (arith, first.count, mul-add-lt v network.nodes u network.nodes v_below u_below)) in
+        first.light (v * network.nodes + u) 0 (omega
+        (arith, first.count, mul-add-lt v network.nodes u network.nodes v_below u_below)) in
         omega arith
     | inr joined ↦ first.whole v u (cell network.nodes table u v) v_below u_below
         (join_turned network.edges u v (cell network.nodes table u v) joined)
@@ -91,29 +95,36 @@ module _ (network : Network) (sound : IsNetwork network) (table : List ℕ) (fir
           };
     }
 
-pub rows_of : ReachedHasLeastWeight → (network : Network) → IsNetwork network → (first : List ℕ) (stages : List Stage) (table : List ℕ)
-    → IsFirstTable network first → AreAllStages network.nodes first stages → IsFilled network.nodes stages table → AreRowsOf network network.nodes table
+pub rows_of : ReachedHasLeastWeight → (network : Network) → IsNetwork network
+    → (first : List ℕ) (stages : List Stage) (table : List ℕ)
+    → IsFirstTable network first → AreAllStages network.nodes first stages → IsFilled network.nodes stages table
+    → AreRowsOf network network.nodes table
 rows_of least_of network sound first stages table is_first left_out_all filled =
     let found = least_there least_of network sound in
     let d : ℕ → ℕ → ℕ = found.0 in
     let least : AreLeast network d = found.1 in
     let lens = lengths network sound d least in
     let held = left_out_all.holds d lens (begun network sound first is_first d least) in
-    let is : (a b : ℕ) → a < network.nodes → b < network.nodes → cell network.nodes table a b ≡ d a b = filled.each d lens held left_out_all.all in
+    let is : (a b : ℕ) → a < network.nodes → b < network.nodes → cell network.nodes table a b ≡ d a b =
+    filled.each d lens held left_out_all.all in
     record {
       count = filled.count;
       each = λ a v a_below v_below.
-          subst (λ w. IsLeastWeight network.edges everywhere a v w) (sym (is a v a_below v_below)) (least a v a_below v_below);
+          subst (λ w. IsLeastWeight network.edges everywhere a v w) (sym (is a v a_below v_below))
+          (least a v a_below v_below);
       bounded = λ a v a_below v_below.
-          subst (λ w. w ≤ (network.nodes - 1) * MAX_WEIGHT) (sym (is a v a_below v_below)) (bounded network sound d least a v a_below v_below);
+          subst (λ w. w ≤ (network.nodes - 1) * MAX_WEIGHT) (sym (is a v a_below v_below))
+          (bounded network sound d least a v a_below v_below);
     }
 
 -- the table as the code has it
-pub rows_made : ReachedHasLeastWeight → (network : Network) → IsNetwork network → (n : ℕ) → n ≡ network.nodes → (first seen : List ℕ) (stages : List Stage) (table more : List ℕ) (k : ℕ)
+pub rows_made : ReachedHasLeastWeight → (network : Network) → IsNetwork network → (n : ℕ) → n ≡ network.nodes
+    → (first seen : List ℕ) (stages : List Stage) (table more : List ℕ) (k : ℕ)
     → IsFirstTable network first → seen ≡ first → length seen ≡ k → AreAllStages n seen stages → IsFilled n stages table
     → AreRowsOf network network.nodes (take k (table ++ more))
 rows_made least_of network sound n is_n first seen stages table more k is_first seen_is count left_out_all filled =
-    let stages_here : AreAllStages network.nodes first stages = subst (λ i. AreAllStages i first stages) is_n (subst (λ xs. AreAllStages n xs stages) seen_is left_out_all) in
+    let stages_here : AreAllStages network.nodes first stages =
+    subst (λ i. AreAllStages i first stages) is_n (subst (λ xs. AreAllStages n xs stages) seen_is left_out_all) in
     let filled_here : IsFilled network.nodes stages table = subst (λ i. IsFilled i stages table) is_n filled in
     let same : length table ≡ k = filled_here.count ∙ sym is_first.count ∙ sym (ap length seen_is) ∙ count in
     subst (λ xs. AreRowsOf network network.nodes xs) (sym (take_at table more k same))

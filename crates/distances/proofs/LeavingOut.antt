@@ -18,14 +18,16 @@ use Rattle.distances.proofs.OneLess.{left_out, stage}
 use Rattle.distances.proofs.Lowered.{lowered_light}
 
 -- what leaving out nodes keeps
-pub record IsLeavingSome (n : ℕ) (first : List ℕ) (left : List Bool) (stages : List Stage) (table : List ℕ) : Type 0 where
+pub record IsLeavingSome (n : ℕ) (first : List ℕ) (left : List Bool) (stages : List Stage)
+    (table : List ℕ) : Type 0 where
   pub left_count : length left ≡ n
   pub count : length table ≡ n * n
   pub light : All (λ w. w ≤ FAR) table
   pub within : All (IsStageWithin n) stages
   pub left_is_fresh : (x : ℕ) → among left x ≡ true → IsFresh n stages x
   pub fresh_is_left : (x : ℕ) → IsFresh n stages x → among left x ≡ true
-  pub keeps : (d : ℕ → ℕ → ℕ) → AreLengths n d → KeepsLengths (λ x. x < n) (cell n first) d → KeepsLengths (λ x. among left x ≡ true) (cell n table) d
+  pub keeps : (d : ℕ → ℕ → ℕ) → AreLengths n d → KeepsLengths (λ x. x < n) (cell n first) d
+      → KeepsLengths (λ x. among left x ≡ true) (cell n table) d
   pub holds : (d : ℕ → ℕ → ℕ) → AreLengths n d → KeepsLengths (λ x. x < n) (cell n first) d → AreStages n d stages
 
 least_is_min : (x c s : ℕ) → x ≤ c → x ≤ s → (x ≡ c) ⊎ (x ≡ s) → x ≡ min c s
@@ -42,7 +44,8 @@ keeps_as left other c d there back p = record {
       record { next = g.next; is_left = there g.next g.is_left; other = g.other; short = g.short };
 }
 
-stage_as : (left other : ℕ → Type 0) (d : ℕ → ℕ → ℕ) (v : ℕ) (near : List Near) → ((x : ℕ) → left x → other x) → ((x : ℕ) → other x → left x)
+stage_as : (left other : ℕ → Type 0) (d : ℕ → ℕ → ℕ) (v : ℕ) (near : List Near) → ((x : ℕ) → left x → other x)
+    → ((x : ℕ) → other x → left x)
     → IsStage left d v near → IsStage other d v near
 stage_as left other d v near there back p = record {
   sound = λ x w is_near. let s = p.sound x w is_near in (there x s.0, s.1, s.2);
@@ -60,7 +63,8 @@ module _ (left : List Bool) (v : ℕ) (v_left : among left v ≡ true) where
   fewer : (x : ℕ) → among (set left v false) x ≡ true → (among left x ≡ true) × (x ≢ v)
   fewer x h = elim (cases_eq x v) [
     | inl same ↦
-        let both : false ≡ true = sym (get_or-set_same left v false false v_in) ∙ subst (λ i. among (set left v false) i ≡ true) same h in cc
+        let both : false ≡ true = sym (get_or-set_same left v false false v_in)
+        ∙ subst (λ i. among (set left v false) i ≡ true) same h in cc
     | inr other ↦ (sym (get_or-set_other left v x false false other) ∙ h, other)
   ]
 
@@ -69,11 +73,13 @@ module _ (left : List Bool) (v : ℕ) (v_left : among left v ≡ true) where
 
 -- what lowering the cells of near nodes comes to
 module _ (n : ℕ) (v : ℕ) (new : ℕ → Type 0) (row : List ℕ) (near : List Near) (old table : List ℕ)
-    (within : (x : ℕ) → new x → x < n) (row_count : length row ≡ n) (is_row : (x : ℕ) → x < n → get_or row x 0 ≡ cell n old v x)
+    (within : (x : ℕ) → new x → x < n) (row_count : length row ≡ n)
+    (is_row : (x : ℕ) → x < n → get_or row x 0 ≡ cell n old v x)
     (are_near : AreNearBelow (length row) row new near) where
   pub near_sound : (x w : ℕ) → Contains near (make_near x w) → new x × (w ≡ cell n old v x) × (w < FAR)
   near_sound x w has =
-      let s = All-contains (λ (a : Near). new a.node × (a.node < length row) × (a.weight ≡ get_or row a.node 0) × (a.weight < FAR))
+      let s = All-contains (λ (a : Near). new a.node × (a.node < length row) × (a.weight ≡ get_or row a.node 0)
+      × (a.weight < FAR))
       near (make_near x w) are_near.sound has in
       (s.0, s.2 ∙ is_row x (within x s.0), s.3)
 
@@ -84,22 +90,28 @@ module _ (n : ℕ) (v : ℕ) (new : ℕ → Type 0) (row : List ℕ) (near : Lis
       subst (λ w. Contains near (make_near x w)) e (are_near.whole x (omega (arith, row_count)) x_new (omega arith))
 
   pub near_within : All (IsWithin n) near
-  near_within = All-weaker (λ (a : Near). new a.node × (a.node < length row) × (a.weight ≡ get_or row a.node 0) × (a.weight < FAR)) (IsWithin n)
+  near_within = All-weaker (λ (a : Near). new a.node × (a.node < length row) × (a.weight ≡ get_or row a.node 0)
+      × (a.weight < FAR)) (IsWithin n)
       (λ (a : Near) s. record { below = within a.node s.0; light = omega (arith, s.3) }) near are_near.sound
 
-  pub pairs_lowered : length old ≡ n * n → All (λ w. w ≤ FAR) old → IsLowered (Among near (λ a. Among near (PairOffer n a))) old table
+  pub pairs_lowered : length old ≡ n * n → All (λ w. w ≤ FAR) old
+      → IsLowered (Among near (λ a. Among near (PairOffer n a))) old table
       → (a b : ℕ) → new a → new b → cell n table a b ≡ min (cell n old a b) (cell n old v a + cell n old v b)
   pairs_lowered count light lowered a b a_new b_new =
       let a_below = within a a_new in
       let b_below = within b b_new in
-      let most : cell n old a b ≤ FAR = light (a * n + b) 0 (omega (arith, mul-add-lt a n b n a_below b_below, count)) in
+      let most : cell n old a b ≤ FAR = light (a * n + b) 0 (omega (arith, mul-add-lt a n b n a_below b_below, count))
+      in
       least_is_min (cell n table a b) (cell n old a b) (cell n old v a + cell n old v b) (lowered.falls (a * n + b))
       (elim (cases_lt (cell n old v a) FAR) [
         | inr far ↦ omega (arith, lowered.falls (a * n + b))
         | inl a_light ↦ elim (cases_lt (cell n old v b) FAR) [
           | inr far ↦ omega (arith, lowered.falls (a * n + b))
-          | inl b_light ↦ lowered.reached (a * n + b) (cell n old v a + cell n old v b)
-              (make_near a (cell n old v a), near_whole a a_new a_light, (make_near b (cell n old v b), near_whole b b_new b_light, (refl, refl)))
+          | inl b_light ↦ lowered.reached (a * n + b) (cell n old v a + cell n old v b) (
+            make_near a (cell n old v a),
+            near_whole a a_new a_light,
+            (make_near b (cell n old v b), near_whole b b_new b_light, (refl, refl)),
+          )
         ]
       ])
       (elim (lowered.cause (a * n + b)) [
@@ -109,72 +121,82 @@ module _ (n : ℕ) (v : ℕ) (new : ℕ → Type 0) (row : List ℕ) (near : Lis
             let q_is = near_sound q.node q.weight has_q in
             let place = same_from_place a b p.node q.node n b_below (within q.node q_is.0) at in
             inr (sum ∙ ap (λ w. w + q.weight) p_is.1 ∙ ap (λ w. cell n old v p.node + w) q_is.1
-            ∙ ap (λ x. cell n old v x + cell n old v q.node) (sym place.0) ∙ ap (λ x. cell n old v a + cell n old v x) (sym place.1))
+            ∙ ap (λ x. cell n old v x + cell n old v q.node) (sym place.0)
+            ∙ ap (λ x. cell n old v a + cell n old v x) (sym place.1))
       ])
 
 -- one more node is left out
-module _ (n : ℕ) (first : List ℕ) (left : List Bool) (stages : List Stage) (old : List ℕ) (so_far : IsLeavingSome n first left stages old)
+module _ (n : ℕ) (first : List ℕ) (left : List Bool) (stages : List Stage) (old : List ℕ)
+    (so_far : IsLeavingSome n first left stages old)
     (v : ℕ) (v_left : among left v ≡ true) (row : List ℕ) (row_count : length row ≡ n)
     (is_row : (x : ℕ) → x < n → get_or row x 0 ≡ cell n old v x)
     (s : Stage) (s_node : s.node ≡ v)
     (are_near : AreNearBelow (length row) row (λ x. among (set left v false) x ≡ true) s.near.items)
-    (table : List ℕ) (lowered : IsLowered (Among s.near.items (λ a. Among s.near.items (PairOffer n a))) old table) where
-  now : ℕ → Type 0
-  now x = among (set left v false) x ≡ true
+    (table : List ℕ) (lowered : IsLowered (Among s.near.items (λ a. Among s.near.items (PairOffer n a))) old table)
+  where
+    now : ℕ → Type 0
+    now x = among (set left v false) x ≡ true
 
-  below : (x : ℕ) → among left x ≡ true → x < n
-  below x h = (so_far.left_is_fresh x h).0
+    below : (x : ℕ) → among left x ≡ true → x < n
+    below x h = (so_far.left_is_fresh x h).0
 
-  below_now : (x : ℕ) → among (set left v false) x ≡ true → x < n
-  below_now x h = below x (fewer left v v_left x h).0
+    below_now : (x : ℕ) → among (set left v false) x ≡ true → x < n
+    below_now x h = below x (fewer left v v_left x h).0
 
-  now_fresh : (x : ℕ) → among (set left v false) x ≡ true → IsFresh n (stages ++ s ∷ []) x
-  now_fresh x h =
-      let f = fewer left v v_left x h in
-      let was = so_far.left_is_fresh x f.0 in
-      (was.0, All-push (λ (t : Stage). t.node ≢ x) stages s was.1 (λ e. f.1 (sym e ∙ s_node)))
+    now_fresh : (x : ℕ) → among (set left v false) x ≡ true → IsFresh n (stages ++ s ∷ []) x
+    now_fresh x h =
+        let f = fewer left v v_left x h in
+        let was = so_far.left_is_fresh x f.0 in
+        (was.0, All-push (λ (t : Stage). t.node ≢ x) stages s was.1 (λ e. f.1 (sym e ∙ s_node)))
 
-  fresh_now : (x : ℕ) → IsFresh n (stages ++ s ∷ []) x → among (set left v false) x ≡ true
-  fresh_now x h =
-      let parts = All-pop (λ (t : Stage). t.node ≢ x) (stages ++ s ∷ []) stages (Some s) refl h.1 in
-      rest left v v_left x (so_far.fresh_is_left x (h.0, parts.0)) (λ e. parts.1 (s_node ∙ sym e))
+    fresh_now : (x : ℕ) → IsFresh n (stages ++ s ∷ []) x → among (set left v false) x ≡ true
+    fresh_now x h =
+        let parts = All-pop (λ (t : Stage). t.node ≢ x) (stages ++ s ∷ []) stages (Some s) refl h.1 in
+        rest left v v_left x (so_far.fresh_is_left x (h.0, parts.0)) (λ e. parts.1 (s_node ∙ sym e))
 
-  next_keeps : (d : ℕ → ℕ → ℕ) → AreLengths n d → KeepsLengths (λ x. x < n) (cell n first) d
-      → KeepsLengths (λ x. among (set left v false) x ≡ true) (cell n table) d
-  next_keeps d lengths begun =
-      left_out n d lengths (λ x. among left x ≡ true) (λ x. among (set left v false) x ≡ true) v below v_left
-      (fewer left v v_left) (rest left v v_left) (cell n old) (cell n table) (so_far.keeps d lengths begun)
-      (pairs_lowered n v (λ x. among (set left v false) x ≡ true) row s.near.items old table below_now row_count is_row are_near
-      so_far.count so_far.light lowered)
+    next_keeps : (d : ℕ → ℕ → ℕ) → AreLengths n d → KeepsLengths (λ x. x < n) (cell n first) d
+        → KeepsLengths (λ x. among (set left v false) x ≡ true) (cell n table) d
+    next_keeps d lengths begun =
+        left_out n d lengths (λ x. among left x ≡ true) (λ x. among (set left v false) x ≡ true) v below v_left
+        (fewer left v v_left) (rest left v v_left) (cell n old) (cell n table) (so_far.keeps d lengths begun)
+        (pairs_lowered n v (λ x. among (set left v false) x ≡ true) row s.near.items old table below_now row_count
+        is_row are_near so_far.count so_far.light lowered)
 
-  next_stage : (d : ℕ → ℕ → ℕ) → AreLengths n d → KeepsLengths (λ x. x < n) (cell n first) d
-      → IsStage (λ x. among (set left v false) x ≡ true) d v s.near.items
-  next_stage d lengths begun =
-      stage n d lengths (λ x. among left x ≡ true) (λ x. among (set left v false) x ≡ true) v below v_left
-      (fewer left v v_left) (rest left v v_left) (cell n old) (cell n table) (so_far.keeps d lengths begun)
-      s.near.items
-      (near_sound n v (λ x. among (set left v false) x ≡ true) row s.near.items old table below_now row_count is_row are_near)
-      (near_whole n v (λ x. among (set left v false) x ≡ true) row s.near.items old table below_now row_count is_row are_near)
+    next_stage : (d : ℕ → ℕ → ℕ) → AreLengths n d → KeepsLengths (λ x. x < n) (cell n first) d
+        → IsStage (λ x. among (set left v false) x ≡ true) d v s.near.items
+    next_stage d lengths begun =
+        stage n d lengths (λ x. among left x ≡ true) (λ x. among (set left v false) x ≡ true) v below v_left
+        (fewer left v v_left) (rest left v v_left) (cell n old) (cell n table) (so_far.keeps d lengths begun)
+        s.near.items
+        (near_sound n v (λ x. among (set left v false) x ≡ true) row s.near.items old table below_now row_count is_row
+        are_near)
+        (near_whole n v (λ x. among (set left v false) x ≡ true) row s.near.items old table below_now row_count is_row
+        are_near)
 
-  pub leaving_step : IsLeavingSome n first (set left v false) (stages ++ s ∷ []) table
-  leaving_step = record {
-    left_count = length-set left v false ∙ so_far.left_count;
-    count = lowered.count ∙ so_far.count;
-    light = lowered_light (Among s.near.items (λ a. Among s.near.items (PairOffer n a))) old table FAR lowered so_far.light;
-    within = All-push (IsStageWithin n) stages s so_far.within (record {
-      node = subst (λ x. x < n) (sym s_node) (below v v_left);
-      near = near_within n v (λ x. among (set left v false) x ≡ true) row s.near.items old table below_now row_count is_row are_near;
-    });
-    left_is_fresh = now_fresh;
-    fresh_is_left = fresh_now;
-    keeps = next_keeps;
-    holds = λ d lengths begun. more stages s (stages ++ s ∷ []) refl (so_far.holds d lengths begun)
-        (stage_as (λ x. among (set left v false) x ≡ true) (IsFresh n (stages ++ s ∷ [])) d s.node s.near.items now_fresh fresh_now
-        (subst (λ x. IsStage (λ x. among (set left v false) x ≡ true) d x s.near.items) (sym s_node) (next_stage d lengths begun)));
-  }
+    pub leaving_step : IsLeavingSome n first (set left v false) (stages ++ s ∷ []) table
+    leaving_step = record {
+      left_count = length-set left v false ∙ so_far.left_count;
+      count = lowered.count ∙ so_far.count;
+      light = lowered_light (Among s.near.items (λ a. Among s.near.items (PairOffer n a))) old table FAR lowered
+          so_far.light;
+      within = All-push (IsStageWithin n) stages s so_far.within (record {
+        node = subst (λ x. x < n) (sym s_node) (below v v_left);
+        near = near_within n v (λ x. among (set left v false) x ≡ true) row s.near.items old table below_now row_count
+            is_row are_near;
+      });
+      left_is_fresh = now_fresh;
+      fresh_is_left = fresh_now;
+      keeps = next_keeps;
+      holds = λ d lengths begun. more stages s (stages ++ s ∷ []) refl (so_far.holds d lengths begun)
+          (stage_as (λ x. among (set left v false) x ≡ true) (IsFresh n (stages ++ s ∷ [])) d s.node s.near.items
+          now_fresh fresh_now
+          (subst (λ x. IsStage (λ x. among (set left v false) x ≡ true) d x s.near.items) (sym s_node)
+          (next_stage d lengths begun)));
+    }
 
 -- the beginning, and the end
-pub leaving_begins : (n : ℕ) (first : List ℕ) → length first ≡ n * n → All (λ w. w ≤ FAR) first → IsLeavingSome n first (replicate n true) [] first
+pub leaving_begins : (n : ℕ) (first : List ℕ) → length first ≡ n * n → All (λ w. w ≤ FAR) first
+    → IsLeavingSome n first (replicate n true) [] first
 leaving_begins n first count light = record {
   left_count = length-replicate n true;
   count = count;
@@ -184,7 +206,8 @@ leaving_begins n first count light = record {
     elim (cases_lt x n) [
       | inl below ↦ below
       | inr past ↦
-          let none_there : get_or (replicate n true) x false ≡ false = get_or_past (replicate n true) x false (omega (arith, length-replicate n true)) in
+          let none_there : get_or (replicate n true) x false ≡ false =
+          get_or_past (replicate n true) x false (omega (arith, length-replicate n true)) in
           let both : false ≡ true = sym none_there ∙ h in cc
     ],
     All-nil (λ (s : Stage). s.node ≢ x),
@@ -195,13 +218,15 @@ leaving_begins n first count light = record {
       (λ x h. elim (cases_lt x n) [
         | inl below ↦ below
         | inr past ↦
-            let none_there : get_or (replicate n true) x false ≡ false = get_or_past (replicate n true) x false (omega (arith, length-replicate n true)) in
+            let none_there : get_or (replicate n true) x false ≡ false =
+            get_or_past (replicate n true) x false (omega (arith, length-replicate n true)) in
             let both : false ≡ true = sym none_there ∙ h in cc
       ]) begun;
   holds = λ d lengths begun. none;
 }
 
-pub leaving_ends : (n : ℕ) (first : List ℕ) (left : List Bool) (stages : List Stage) (table : List ℕ) → IsLeavingSome n first left stages table
+pub leaving_ends : (n : ℕ) (first : List ℕ) (left : List Bool) (stages : List Stage) (table : List ℕ)
+    → IsLeavingSome n first left stages table
     → ((x : ℕ) → among left x ≡ true → ⊥) → AreAllStages n first stages
 leaving_ends n first left stages table so_far none_left = record {
   within = so_far.within;
@@ -210,12 +235,17 @@ leaving_ends n first left stages table so_far none_left = record {
 }
 
 -- the step as the code has it
-pub leaving_next : (n : ℕ) (first : List ℕ) (left seen next : List Bool) (stages later : List Stage) (old table : List ℕ) (v : ℕ) (s : Stage) (near : List Near)
-    → IsLeavingSome n first left stages old → seen ≡ left → (v < length seen) × (among seen v ≡ true) → s.node ≡ v → next ≡ set left v false
-    → AreNearBelow (length (between (v * n) ((v + 1) * n) old)) (between (v * n) ((v + 1) * n) old) (λ x. among next x ≡ true) s.near.items
-    → near ≡ s.near.items → IsLowered (Among near (λ a. Among near (PairOffer n a))) old table → later ≡ stages ++ s ∷ []
+pub leaving_next : (n : ℕ) (first : List ℕ) (left seen next : List Bool) (stages later : List Stage)
+    (old table : List ℕ) (v : ℕ) (s : Stage) (near : List Near)
+    → IsLeavingSome n first left stages old → seen ≡ left → (v < length seen) × (among seen v ≡ true) → s.node ≡ v
+    → next ≡ set left v false
+    → AreNearBelow (length (between (v * n) ((v + 1) * n) old)) (between (v * n) ((v + 1) * n) old)
+    (λ x. among next x ≡ true) s.near.items
+    → near ≡ s.near.items → IsLowered (Among near (λ a. Among near (PairOffer n a))) old table
+    → later ≡ stages ++ s ∷ []
     → IsLeavingSome n first (set left v false) later table
-leaving_next n first left seen next stages later old table v s near so_far seen_is v_left s_node next_is are_near near_is lowered later_is =
+leaving_next n first left seen next stages later old table v s near so_far seen_is v_left s_node next_is are_near
+    near_is lowered later_is =
     let v_in_left : among left v ≡ true = subst (λ xs. among xs v ≡ true) seen_is v_left.1 in
     let v_below : v < n = (so_far.left_is_fresh v v_in_left).0 in
     let end_fits : (v + 1) * n ≤ length old = omega (arith, row_fits v n n n v_below (omega arith), so_far.count) in
@@ -224,14 +254,16 @@ leaving_next n first left seen next stages later old table v s near so_far seen_
     (length-between old (v * n) ((v + 1) * n) end_fits ∙ row_width v n)
     (λ x below. get_or-between old (v * n) ((v + 1) * n) x 0 (omega arith))
     s s_node
-    (subst (λ xs. AreNearBelow (length (between (v * n) ((v + 1) * n) old)) (between (v * n) ((v + 1) * n) old) (λ x. among xs x ≡ true) s.near.items) next_is are_near)
+    (subst (λ xs. AreNearBelow (length (between (v * n) ((v + 1) * n) old)) (between (v * n) ((v + 1) * n) old)
+    (λ x. among xs x ≡ true) s.near.items) next_is are_near)
     table
     (subst (λ xs. IsLowered (Among xs (λ a. Among xs (PairOffer n a))) old table) near_is lowered))
   where
     row_width : (v n : ℕ) → (v + 1) * n - v * n ≡ n
     row_width v n = omega arith
 
-pub none_left_in : (left seen : List Bool) → seen ≡ left → ((x : ℕ) → x < length seen → among seen x ≡ true → ⊥) → (x : ℕ) → among left x ≡ true → ⊥
+pub none_left_in : (left seen : List Bool) → seen ≡ left → ((x : ℕ) → x < length seen → among seen x ≡ true → ⊥)
+    → (x : ℕ) → among left x ≡ true → ⊥
 none_left_in left seen is none_seen x h =
     let there : among seen x ≡ true = subst (λ xs. among xs x ≡ true) (sym is) h in
     none_seen x (v_in seen x there) there

@@ -1,5 +1,5 @@
--- The least weights of walks in a network as lengths: they are there, they are a metric, a first step begins each, and none is
--- heavier than a walk through all nodes.
+-- The least weights of walks in a network as lengths: they are there, they are a metric, a first step begins each, and
+-- none is heavier than a walk through all nodes.
 use Rattle.std.proofs.Common.{◌≡◌, ◌≢◌, ◌⊎◌, ℕ, zero, suc, ◌+◌, ◌-◌, ◌*◌, ◌<◌, ◌≤◌, cond, ltb, List, [], ◌∷◌, ◌++◌, refl, sym, subst, inl, inr, arith}
 use Rattle.std.proofs.lemmas.Bool.{cases_eq, cases_lt}
 use Rattle.std.proofs.lemmas.Bool.Decides.{nat_tests}
@@ -12,7 +12,8 @@ use Rattle.distances.specs.Stages.{AreLeast, AreLengths}
 
 -- ---- the lengths are there
 
-picked : (n : ℕ) (P : ℕ → ℕ → Type 0) (x : ℕ) → (x < n) ⊎ (n ≤ x) → ((x : ℕ) → x < n → (w : ℕ) × P x w) → (w : ℕ) × (x < n → P x w)
+picked : (n : ℕ) (P : ℕ → ℕ → Type 0) (x : ℕ) → (x < n) ⊎ (n ≤ x) → ((x : ℕ) → x < n → (w : ℕ) × P x w) → (w : ℕ)
+    × (x < n → P x w)
 picked n P x (inl below) each = let found = each x below in (found.0, λ again. found.1)
 picked n P x (inr past) each = (0, λ below. absurd (omega arith))
 
@@ -28,8 +29,10 @@ module _ (least_of : ReachedHasLeastWeight) (network : Network) (sound : IsNetwo
       })
 
   one : (u v : ℕ) → (w : ℕ) × (v < network.nodes → u < network.nodes → IsLeastWeight network.edges everywhere u v w)
-  one u v = picked network.nodes (λ y w. u < network.nodes → IsLeastWeight network.edges everywhere u y w) v (cases_lt v network.nodes) (λ y y_below.
-      let found = picked network.nodes (λ x w. IsLeastWeight network.edges everywhere x y w) u (cases_lt u network.nodes)
+  one u v = picked network.nodes (λ y w. u < network.nodes → IsLeastWeight network.edges everywhere u y w) v
+      (cases_lt v network.nodes) (λ y y_below.
+      let found = picked network.nodes (λ x w. IsLeastWeight network.edges everywhere x y w) u
+      (cases_lt u network.nodes)
       (λ x x_below. reach x y x_below y_below) in
       (found.0, found.1))
 
@@ -55,7 +58,11 @@ one_more x s t le = elim (cases_lt x s) [
 ]
 
 one_most : (x t : ℕ) → cond (ltb x t) 1 0 ≤ 1
-one_most x t = elim (cases_lt x t) [ inl below ↦ omega (arith, one_below x t below) | inr past ↦ omega (arith, one_past x t past) ]
+one_most x t = elim (cases_lt x t) [
+  | inl below ↦ omega (arith, one_below x t below)
+  | inr past ↦
+      omega (arith, one_past x t past)
+]
 
 count_most : (g : ℕ → ℕ) (t n : ℕ) → count g t n ≤ n
 unfolding count
@@ -92,7 +99,8 @@ pub record Begins (edges : List Edge) (n : ℕ) (d : ℕ → ℕ → ℕ) (a b :
   pub short : weight + d next b ≤ d a b
 
 module _ (network : Network) (sound : IsNetwork network) (d : ℕ → ℕ → ℕ) (least : AreLeast network d) where
-  begins_with : (a b : ℕ) → a < network.nodes → b < network.nodes → a ≢ b → (steps : List Step) → IsWalk network.edges everywhere a steps b
+  begins_with : (a b : ℕ) → a < network.nodes → b < network.nodes → a ≢ b → (steps : List Step)
+      → IsWalk network.edges everywhere a steps b
       → weight_of steps ≤ d a b → Begins network.edges network.nodes d a b
   begins_with a b a_below b_below apart [] walk light = absurd (apart walk.1)
   begins_with a b a_below b_below apart (step ∷ steps) walk light =
@@ -120,7 +128,8 @@ module _ (network : Network) (sound : IsNetwork network) (d : ℕ → ℕ → �
   zero_length u below = omega (arith, (least u u below below).least [] (refl, refl))
 
   turned_length : (u v : ℕ) → u < network.nodes → v < network.nodes → d u v ≡ d v u
-  turned_length u v u_below v_below = least_weight_one network.edges everywhere u v (d u v) (d v u) (least u v u_below v_below)
+  turned_length u v u_below v_below = least_weight_one network.edges everywhere u v (d u v) (d v u)
+      (least u v u_below v_below)
       (least_weight_back network.edges everywhere v u (d v u) (least v u v_below u_below))
 
   triangle_length : (u v x : ℕ) → u < network.nodes → v < network.nodes → x < network.nodes → d u x ≤ d u v + d v x
@@ -129,16 +138,28 @@ module _ (network : Network) (sound : IsNetwork network) (d : ℕ → ℕ → �
 
   pub step_length : (u v w : ℕ) → u < network.nodes → v < network.nodes → Joins network.edges u v w → d u v ≤ w
   step_length u v w u_below v_below joined =
-      omega (arith, (least u v u_below v_below).least (record { node = v; weight = w } ∷ []) (refl, joined, (refl, refl)))
+      omega (
+        arith,
+        (least u v u_below v_below).least (record { node = v; weight = w } ∷ [])
+            (refl, joined, (refl, refl)),
+      )
 
   -- a node that is farther from b than k edges can be has more than k nodes nearer to b
   nearer : (b : ℕ) → b < network.nodes → (k a : ℕ) → a < network.nodes → k * MAX_WEIGHT < d a b
       → k + 1 ≤ count (λ x. d x b) (d a b) network.nodes
   nearer b b_below zero a a_below far =
-      let g = begins a b a_below b_below (λ same. let none : d a b ≡ 0 = subst (λ i. d i b ≡ 0) (sym same) (zero_length b b_below) in omega arith) in
-      omega (arith, count_more (λ x. d x b) (d g.next b) (d a b) network.nodes g.next g.below (omega arith) (omega (arith, g.short, g.positive)))
+      let g = begins a b a_below b_below (λ same. let none : d a b ≡ 0 =
+      subst (λ i. d i b ≡ 0) (sym same) (zero_length b b_below)
+      in omega arith) in
+      omega (
+        arith,
+        count_more (λ x. d x b) (d g.next b) (d a b) network.nodes g.next g.below (omega arith)
+            (omega (arith, g.short, g.positive)),
+      )
   nearer b b_below (suc k) a a_below far =
-      let g = begins a b a_below b_below (λ same. let none : d a b ≡ 0 = subst (λ i. d i b ≡ 0) (sym same) (zero_length b b_below) in omega arith) in
+      let g = begins a b a_below b_below (λ same. let none : d a b ≡ 0 =
+      subst (λ i. d i b ≡ 0) (sym same) (zero_length b b_below)
+      in omega arith) in
       let step : d a b ≤ MAX_WEIGHT + d g.next b = omega (
         arith,
         triangle_length a g.next b a_below g.below b_below,
@@ -149,7 +170,8 @@ module _ (network : Network) (sound : IsNetwork network) (d : ℕ → ℕ → �
       omega (
         arith,
         nearer b b_below k g.next g.below more,
-        count_more (λ x. d x b) (d g.next b) (d a b) network.nodes g.next g.below (omega arith) (omega (arith, g.short, g.positive)),
+        count_more (λ x. d x b) (d g.next b) (d a b) network.nodes g.next g.below (omega arith)
+            (omega (arith, g.short, g.positive)),
       )
 
   pub bounded : (a b : ℕ) → a < network.nodes → b < network.nodes → d a b ≤ (network.nodes - 1) * MAX_WEIGHT
@@ -166,7 +188,8 @@ module _ (network : Network) (sound : IsNetwork network) (d : ℕ → ℕ → �
   pub lengths : AreLengths network.nodes d
   lengths = record {
     zero = zero_length;
-    positive = λ u v u_below v_below apart. least_positive network.nodes network.edges everywhere u v (d u v) sound.limits.edges apart (least u v u_below v_below);
+    positive = λ u v u_below v_below apart. least_positive network.nodes network.edges everywhere u v
+        (d u v) sound.limits.edges apart (least u v u_below v_below);
     turned = turned_length;
     triangle = triangle_length;
     light = λ u v u_below v_below. omega (arith, bounded u v u_below v_below, sound.limits.few);

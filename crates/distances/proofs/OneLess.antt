@@ -11,7 +11,8 @@ module _ (n : ℕ) (d : ℕ → ℕ → ℕ) (lengths : AreLengths n d) (old new
     (fewer : (x : ℕ) → new x → old x × (x ≢ v)) (rest : (x : ℕ) → old x → x ≢ v → new x)
     (c e : ℕ → ℕ → ℕ) (keeps : KeepsLengths old c d) where
   module _ (lowered : (a b : ℕ) → new a → new b → e a b ≡ min (c a b) (c v a + c v b)) where
-    around : (a b y : ℕ) → new a → new b → old y → y ≢ v → c a v + d v b ≤ d a b → c v y + d y b ≤ d v b → GoesOn new e d a b
+    around : (a b y : ℕ) → new a → new b → old y → y ≢ v → c a v + d v b ≤ d a b → c v y + d y b ≤ d v b
+        → GoesOn new e d a b
     around a b y a_new b_new y_old other first second =
         let a_old = fewer a a_new in
         let turned : c a v ≡ c v a = keeps.turned a v a_old.0 v_old in
@@ -42,7 +43,13 @@ module _ (n : ℕ) (d : ℕ → ℕ → ℕ) (lengths : AreLengths n d) (old new
             lengths.turned a v (within a a_old.0) (within v v_old),
           );
       turned = λ a b a_new b_new.
-          omega (arith, lowered a b a_new b_new, lowered b a b_new a_new, keeps.turned a b (fewer a a_new).0 (fewer b b_new).0);
+          omega (
+            arith,
+            lowered a b a_new b_new,
+            lowered b a b_new a_new,
+            keeps.turned a b (fewer a a_new).0
+                (fewer b b_new).0,
+          );
       goes_on = λ a b a_new b_new apart.
           let a_old = fewer a a_new in
           let b_old = fewer b b_new in
@@ -50,10 +57,17 @@ module _ (n : ℕ) (d : ℕ → ℕ → ℕ) (lengths : AreLengths n d) (old new
           elim (cases_eq g.next v) [
             | inl same ↦
                 let h = keeps.goes_on v b v_old b_old.0 (λ is. b_old.1 (sym is)) in
-                around a b h.next a_new b_new h.is_left h.other (subst (λ i. c a i + d i b ≤ d a b) same g.short) h.short
+                around a b h.next a_new b_new h.is_left h.other (subst (λ i. c a i + d i b ≤ d a b) same g.short)
+                h.short
             | inr other ↦
                 let next_new : new g.next = rest g.next g.is_left other in
-                record { next = g.next; is_left = next_new; other = g.other; short = omega (arith, lowered a g.next a_new next_new, g.short) }
+                record {
+                  next = g.next;
+                  is_left = next_new;
+                  other = g.other;
+                  short =
+                      omega (arith, lowered a g.next a_new next_new, g.short);
+                }
           ];
     }
 

@@ -1,5 +1,5 @@
--- All distances by leaving out one node after another. `c` are the weights in a table, `d` the lengths of least walks, and
--- `left` says which nodes are left.
+-- All distances by leaving out one node after another. `c` are the weights in a table, `d` the
+-- lengths of least walks, and `left` says which nodes are left.
 use Rattle.std.specs.Prelude.{◌≡◌, ◌≢◌, ◌⊎◌, ℕ, ◌+◌, ◌*◌, ◌<◌, ◌≤◌, List, [], ◌∷◌, ◌++◌, All, Contains, length}
 use Rattle.distances.specs.declared.elimination.Near.{Near}
 use Rattle.distances.specs.declared.elimination.Stage.{Stage}
@@ -10,7 +10,8 @@ use Rattle.distances.specs.Lowering.{IsWithin, cell}
 
 -- d are the least weights of walks between the nodes of the network
 abbrev pub AreLeast : Network → (ℕ → ℕ → ℕ) → Type 0
-AreLeast network d = (u v : ℕ) → u < network.nodes → v < network.nodes → IsLeastWeight network.edges everywhere u v (d u v)
+AreLeast network d = (u v : ℕ) → u < network.nodes → v < network.nodes
+    → IsLeastWeight network.edges everywhere u v (d u v)
 
 -- lengths between the nodes below n
 pub record AreLengths (n : ℕ) (d : ℕ → ℕ → ℕ) : Type 0 where
@@ -60,19 +61,22 @@ IsFresh n stages x = (x < n) × All (λ (s : Stage). s.node ≢ x) stages
 -- each stage holds of the nodes that were left after it
 pub data AreStages (n : ℕ) (d : ℕ → ℕ → ℕ) : List Stage → Type 0 where
   none : AreStages n d []
-  more : (earlier : List Stage) (stage : Stage) (stages : List Stage) → stages ≡ earlier ++ stage ∷ [] → AreStages n d earlier
+  more : (earlier : List Stage) (stage : Stage) (stages : List Stage)
+      → stages ≡ earlier ++ stage ∷ [] → AreStages n d earlier
       → IsStage (IsFresh n stages) d stage.node stage.near.items → AreStages n d stages
 
 -- the stages by which all nodes were left out of a table
 pub record AreAllStages (n : ℕ) (first : List ℕ) (stages : List Stage) : Type 0 where
   pub within : All (IsStageWithin n) stages
   pub all : (x : ℕ) → IsFresh n stages x → ⊥
-  pub holds : (d : ℕ → ℕ → ℕ) → AreLengths n d → KeepsLengths (λ x. x < n) (cell n first) d → AreStages n d stages
+  pub holds : (d : ℕ → ℕ → ℕ) → AreLengths n d → KeepsLengths (λ x. x < n) (cell n first) d
+      → AreStages n d stages
 
 -- the table has the lengths of which the stages hold
 pub record IsFilled (n : ℕ) (stages : List Stage) (table : List ℕ) : Type 0 where
   pub count : length table ≡ n * n
-  pub each : (d : ℕ → ℕ → ℕ) → AreLengths n d → AreStages n d stages → ((x : ℕ) → IsFresh n stages x → ⊥)
+  pub each : (d : ℕ → ℕ → ℕ) → AreLengths n d → AreStages n d stages
+      → ((x : ℕ) → IsFresh n stages x → ⊥)
       → (a b : ℕ) → a < n → b < n → cell n table a b ≡ d a b
 
 -- the table has the least weights of edges, FAR where there is none
@@ -80,5 +84,7 @@ pub record IsFirstTable (network : Network) (table : List ℕ) : Type 0 where
   pub count : length table ≡ network.nodes * network.nodes
   pub light : All (λ w. w ≤ FAR) table
   pub sound : (u v : ℕ) → u < network.nodes → v < network.nodes
-      → (cell network.nodes table u v ≡ FAR) ⊎ Joins network.edges u v (cell network.nodes table u v)
-  pub whole : (u v w : ℕ) → u < network.nodes → v < network.nodes → Joins network.edges u v w → cell network.nodes table u v ≤ w
+      → (cell network.nodes table u v ≡ FAR)
+      ⊎ Joins network.edges u v (cell network.nodes table u v)
+  pub whole : (u v w : ℕ) → u < network.nodes → v < network.nodes → Joins network.edges u v w
+      → cell network.nodes table u v ≤ w

@@ -1,5 +1,5 @@
--- Laws of tables of distances and of balls, for proofs. In words they are the public functions `distances_are_one` and
--- `members_of_a_ball`.
+-- Laws of tables of distances and of balls, for proofs. In words they are the public functions
+-- `distances_are_one` and `members_of_a_ball`.
 use Rattle.std.proofs.Common.{◌≡◌, ℕ, ◌+◌, ◌*◌, ◌/◌, ◌%◌, ◌<◌, ◌≤◌, true, List, length, get_or, sym, ◌∙◌, ap, subst, inl, inr, arith, false, leb-true, le-leb, drop, ◌-◌}
 use Rattle.std.specs.Prelude.{◌↔◌, nat_le, slice_range}
 use Rattle.std.proofs.lemmas.Bool.Decides.{nat_tests}
@@ -26,9 +26,11 @@ positive_side n k below = elim (cases_lt 0 n) [
 ]
 
 -- a network has one table of distances
-pub one_table : (network : Network) (one two : DistanceTable) → AreDistancesOf network one → AreDistancesOf network two → one ≡ two
+pub one_table : (network : Network) (one two : DistanceTable) → AreDistancesOf network one
+    → AreDistancesOf network two → one ≡ two
 one_table network one two p q =
-    ap (λ (n : ℕ). record { nodes = n; cells = one.cells }) nodes ∙ ap (λ (xs : List ℕ). record { nodes = two.nodes; cells = xs }) cells
+    ap (λ (n : ℕ). record { nodes = n; cells = one.cells }) nodes
+    ∙ ap (λ (xs : List ℕ). record { nodes = two.nodes; cells = xs }) cells
   where
     nodes : one.nodes ≡ two.nodes
     nodes = p.nodes ∙ sym q.nodes
@@ -36,9 +38,11 @@ one_table network one two p q =
     count : length one.cells ≡ length two.cells
     count = p.count ∙ ap (λ n. n * n) nodes ∙ sym q.count
 
-    at : (u v : ℕ) → u < one.nodes → v < one.nodes → get_or one.cells (u * one.nodes + v) 0 ≡ get_or two.cells (u * one.nodes + v) 0
+    at : (u v : ℕ) → u < one.nodes → v < one.nodes
+        → get_or one.cells (u * one.nodes + v) 0 ≡ get_or two.cells (u * one.nodes + v) 0
     at u v u_below v_below =
-        least_weight_one network.edges everywhere u v (dist one u v) (dist two u v) (p.each u v u_below v_below)
+        least_weight_one network.edges everywhere u v (dist one u v) (dist two u v)
+        (p.each u v u_below v_below)
         (q.each u v (omega (arith, nodes)) (omega (arith, nodes)))
         ∙ ap (λ n. get_or two.cells (u * n + v) 0) (sym nodes)
 
@@ -48,7 +52,8 @@ one_table network one two p q =
         let some : 0 < one.nodes = positive_side one.nodes k small in
         get_or_default one.cells k d 0 below
         ∙ ap (λ i. get_or one.cells i 0) (sym (div-add-mod' k one.nodes))
-        ∙ at (k / one.nodes) (k % one.nodes) (div_below k one.nodes one.nodes some small) (omega arith)
+        ∙ at (k / one.nodes) (k % one.nodes) (div_below k one.nodes one.nodes some small)
+        (omega arith)
         ∙ ap (λ i. get_or two.cells i 0) (div-add-mod' k one.nodes)
         ∙ get_or_default two.cells k 0 d (omega (arith, count)))
 
@@ -71,27 +76,32 @@ ball_members table v radius w = (there, back)
       | inl below ↦ (
         below,
         leb-true (dist table v w) radius
-            (sym (has-passing (λ x. nat_le (dist table v x) radius) w 0 table.nodes (omega arith) (omega arith)) ∙ h),
+            (sym (has-passing (λ x. nat_le (dist table v x) radius) w 0 table.nodes (omega arith)
+            (omega arith)) ∙ h),
       )
       | inr past ↦ absurd (let both : false ≡ true =
-          sym (passing_over (λ x. nat_le (dist table v x) radius) w 0 table.nodes (omega arith)) ∙ h in cc)
+          sym (passing_over (λ x. nat_le (dist table v x) radius) w 0 table.nodes (omega arith)) ∙ h
+          in cc)
     ]
 
     back : (w < table.nodes) × (dist table v w ≤ radius) → has w (ball_of table v radius) ≡ true
     back (below, close) =
-        has-passing (λ x. nat_le (dist table v x) radius) w 0 table.nodes (omega arith) (omega arith)
+        has-passing (λ x. nat_le (dist table v x) radius) w 0 table.nodes (omega arith)
+        (omega arith)
         ∙ le-leb (dist table v w) radius close
 
 -- ---- rows
 
 -- a row of a network's table has the distances from its node
-pub row_has_distances : (network : Network) (table : DistanceTable) (u : ℕ) (row : List ℕ) → AreDistancesOf network table
+pub row_has_distances : (network : Network) (table : DistanceTable) (u : ℕ) (row : List ℕ)
+    → AreDistancesOf network table
     → u < table.nodes → IsRowOf table u row → AreDistancesFrom network u row
 row_has_distances network table u row distances below is_row = record {
   count = is_row.count ∙ distances.nodes;
   each = λ v v_below.
       let v_here : v < table.nodes = omega (arith, distances.nodes) in
-      subst (λ w. IsLeastWeight network.edges everywhere u v w) (sym (is_row.each v v_here)) (distances.each u v below v_here);
+      subst (λ w. IsLeastWeight network.edges everywhere u v w) (sym (is_row.each v v_here))
+      (distances.each u v below v_here);
 }
 
 -- a part of a table of n columns is a row of it
@@ -106,5 +116,6 @@ part_is_row n u cells count below = record {
     row_fits u n n n below (omega arith),
   );
   each = λ v v_below.
-      get_or-take ((u + 1) * n - u * n) (drop (u * n) cells) v 0 (omega arith) ∙ get_or-drop (u * n) cells v 0;
+      get_or-take ((u + 1) * n - u * n) (drop (u * n) cells) v 0 (omega arith)
+      ∙ get_or-drop (u * n) cells v 0;
 }

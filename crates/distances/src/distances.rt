@@ -25,13 +25,15 @@ impl Model for Distances {
 
     ghost view = { λ d. record { nodes = d.nodes; cells = d.table.items } };
 
-    ghost invariant = { λ d. IsSoundTable (record { nodes = d.nodes; cells = d.table.items }) d.diameter };
+    ghost invariant = { λ d. IsSoundTable (record { nodes = d.nodes; cells = d.table.items })
+        d.diameter };
 }
 
 impl Distances {
-    /// The distances of a network. Nodes are eliminated one after another, one with the fewest neighbours first: of
-    /// those that are left, each two neighbours of it are joined by the sum of its edges to them. Then the nodes are
-    /// taken back in the opposite order, each over the neighbours that it had.
+    /// The distances of a network. Nodes are eliminated one after another, one with the fewest
+    /// neighbours first: of those that are left, each two neighbours of it are joined by the sum of
+    /// its edges to them. Then the nodes are taken back in the opposite order, each over the
+    /// neighbours that it had.
     pub fn new(alloc: Global, graph: &Graph) -> Result<Self, OutOfMemory>
         ensures { IfOk result (AreDistancesOf graph.now) }
     {
@@ -150,7 +152,8 @@ mod tests {
         Ok(())
     }
 
-    // Every node is a neighbour of every other one, so whole rows are lowered, sixteen weights at once and one by one.
+    // Every node is a neighbour of every other one, so whole rows are lowered, sixteen weights at
+    // once and one by one.
     #[test]
     fn distances_where_all_are_neighbours(rt: HostRuntime) -> Result<(), Fail> {
         let mut edges = Vec::new(rt.alloc());

@@ -1,4 +1,5 @@
-//! All distances by elimination: the nodes are left out one after another, and taken back in the opposite order.
+//! All distances by elimination: the nodes are left out one after another, and taken back in the
+//! opposite order.
 
 ghost use Rattle.std.specs.Prelude.{◌≡◌, ◌+◌, ◌*◌, ◌<◌, ◌≤◌, ◌↔◌, ◌⊎◌, ℕ, All, Contains, IfOk, OnOk, IfSome, IfNone, IsTrue, length, map, min, replicate, slice_set, slice_index, true};
 ghost use lib.Lanes.{zip2};
@@ -34,7 +35,8 @@ pub(crate) struct Stage {
 #[inline(always)]
 fn lower(weights: &mut [u32], place: usize, weight: u32)
     requires { place < length weights.old }
-    ensures { weights.new ≡ slice_set weights.old place (min (slice_index weights.old place) weight) }
+    ensures { weights.new
+        ≡ slice_set weights.old place (min (slice_index weights.old place) weight) }
 {
     weights[place] = weights[place].min(weight);
 }
@@ -156,7 +158,8 @@ fn spread(weights: &mut [u32], near: &[Near])
     }
 }
 
-// Lowers the cells of a near node and each other one to the sums of their weights, the whole row at once.
+// Lowers the cells of a near node and each other one to the sums of their weights, the whole row at
+// once.
 fn lower_whole_row(table: &mut [u32], n: usize, a: Near, near: &[Near], mine: &[u32])
     requires few { n ≤ MAX_NODES }
     requires count { length table.old ≡ n * n }
@@ -186,7 +189,8 @@ fn count_far(table: &[u32], n: usize, a: Near, near: &[Near]) -> usize
     more
 }
 
-// Lowers the cell of each two near nodes to the sum of their weights, and counts their degrees anew.
+// Lowers the cell of each two near nodes to the sum of their weights, and counts their degrees
+// anew.
 fn lower_pairs(
     table: &mut [u32],
     n: usize,

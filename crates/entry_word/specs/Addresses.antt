@@ -2,13 +2,13 @@
 -- its subscriber went with one of its moves.
 -- Key laws: `address_words` (an entry comes back from its word, and a word from its entry).
 use Rattle.std.specs.Prelude.{◌≡◌, ℕ, zero, suc, ◌/◌, ◌%◌, ◌^◌, ◌<◌, ◌==◌, ◌&&◌, cond, Option, Some, None, unwrap_or}
-use Rattle.entry_word.specs.Parts.{joined}
+use Rattle.entry_word.specs.Parts.{word_of_parts}
 use Rattle.entry_word.specs.declared.address.Address.{Address}
 
 -- the word of an entry
 abbrev pub address_word : Option Address → ℕ
 address_word None = 0
-address_word (Some address) = joined 1 address.number address.node
+address_word (Some address) = word_of_parts 1 address.number address.node
 
 -- the entry of these parts, if there is one
 abbrev pub address_from : ℕ → ℕ → ℕ → Option (Option Address)

@@ -3,17 +3,17 @@
 -- kind 4 that it is here and switched off. A part that a kind doesn't use is 0.
 -- Key laws: `mark_words` (a mark comes back from its word, and a word from its mark).
 use Rattle.std.specs.Prelude.{◌≡◌, ℕ, ◌/◌, ◌%◌, ◌^◌, ◌<◌, ◌==◌, ◌&&◌, Bool, true, false, cond, zero, suc, Option, Some, None, unwrap_or}
-use Rattle.entry_word.specs.Parts.{joined}
+use Rattle.entry_word.specs.Parts.{word_of_parts}
 use Rattle.entry_word.specs.declared.mark.PresenceMark.{PresenceMark}
 use Rattle.entry_word.specs.declared.mark.PresenceMark.TheVariants.{Empty, Here, Gone, Coming, Off}
 
 -- the word of a mark
 abbrev pub mark_word : PresenceMark → ℕ
 mark_word Empty = 0
-mark_word (Here number) = joined 1 number 0
-mark_word (Gone number to) = joined 2 number to
-mark_word (Coming number from) = joined 3 number from
-mark_word (Off number) = joined 4 number 0
+mark_word (Here number) = word_of_parts 1 number 0
+mark_word (Gone number to) = word_of_parts 2 number to
+mark_word (Coming number from) = word_of_parts 3 number from
+mark_word (Off number) = word_of_parts 4 number 0
 
 -- the mark of these parts, if there is one
 abbrev pub mark_from : ℕ → ℕ → ℕ → Option PresenceMark

@@ -5,7 +5,8 @@ ghost use Rattle.entry_word.specs.declared.address.Address.{Address};
 ghost use Rattle.entry_word.specs.Marks.{mark_word, mark_of, IsSmallMark, MarksUnpack};
 ghost use Rattle.entry_word.specs.Addresses.{address_word, address_of, EntriesUnpack, IsSmallAddress};
 
-/// A mark comes back from its word, and a word from its mark; every mark that is read is one that may be written.
+/// A mark comes back from its word, and a word from its mark; every mark that is read is one that
+/// may be written.
 pub fn mark_words()
     ensures unpacked { MarksUnpack }
     ensures packed { (word : ℕ) (mark : PresenceMark) → mark_of word ≡ Some mark
@@ -13,7 +14,8 @@ pub fn mark_words()
     ensures small { (word : ℕ) (mark : PresenceMark) → mark_of word ≡ Some mark → IsSmallMark mark }
 {}
 
-/// An entry comes back from its word, and a word from its entry; every entry that is read is one that may be written.
+/// An entry comes back from its word, and a word from its entry; every entry that is read is one
+/// that may be written.
 pub fn address_words()
     ensures unpacked { EntriesUnpack }
     ensures packed { (word : ℕ) (address : Option Address) → address_of word ≡ Some address

@@ -26,7 +26,8 @@ link_kept links more at arc before l = record {
   earlier = l.earlier;
 }
 
-chain_kept : (links more : List Link) (at : Option ℕ) (arcs : List Arc) → IsChain links at arcs → IsChain (links ++ more) at arcs
+chain_kept : (links more : List Link) (at : Option ℕ) (arcs : List Arc) → IsChain links at arcs
+    → IsChain (links ++ more) at arcs
 chain_kept links more at [] chain = chain
 chain_kept links more at (arc ∷ arcs) chain =
     (chain.0, link_kept links more at arc chain.0 chain.1, chain_kept links more chain.0 arcs chain.2)
@@ -37,9 +38,11 @@ some_place p q h = cc
 none_or_some : (q : ℕ) → None ≡ Some q → ⊥
 none_or_some q h = cc
 
-chain_below : (links : List Link) (at : Option ℕ) (arcs : List Arc) → IsChain links at arcs → (q : ℕ) → at ≡ Some q → q < length links
+chain_below : (links : List Link) (at : Option ℕ) (arcs : List Arc) → IsChain links at arcs → (q : ℕ) → at ≡ Some q
+    → q < length links
 chain_below links at [] chain q is = absurd (none_or_some q (sym chain ∙ is))
-chain_below links at (arc ∷ arcs) chain q is = omega (arith, some_place chain.1.place q (sym chain.1.here ∙ is), chain.1.below)
+chain_below links at (arc ∷ arcs) chain q is =
+    omega (arith, some_place chain.1.place q (sym chain.1.here ∙ is), chain.1.below)
 
 chain_more : (links : List Link) (at : Option ℕ) (arcs : List Arc) (arc : Arc) → IsChain links at arcs
     → IsChain (links ++ record { arc = arc; before = at } ∷ []) (Some (length links)) (arc ∷ arcs)
@@ -75,13 +78,15 @@ make_link arc before = record { arc = arc; before = before }
 -- the chain of the node from which the arc leads
 chain_here : (n : ℕ) (joins : ℕ → ℕ → ℕ → Type 0) (links : List Link) (last : List (Option ℕ)) (from target weight : ℕ)
     → from < n → AreChains n joins links last
-    → HasChain (Plus joins from target weight) (links ++ make_link (make_arc target weight) (get_or last from None) ∷ [])
+    → HasChain (Plus joins from target weight)
+    (links ++ make_link (make_arc target weight) (get_or last from None) ∷ [])
     (set last from (Some (length links))) from
 chain_here n joins links last from target weight below so_far =
     let old = so_far.each from below in
     record {
       arcs = make_arc target weight ∷ old.arcs;
-      chain = subst (λ at. IsChain (links ++ make_link (make_arc target weight) (get_or last from None) ∷ []) at (make_arc target weight ∷ old.arcs))
+      chain = subst (λ at. IsChain (links ++ make_link (make_arc target weight) (get_or last from None) ∷ []) at
+          (make_arc target weight ∷ old.arcs))
           (sym (get_or-set_same last from (Some (length links)) None (omega (arith, so_far.count, below))))
           (chain_more links (get_or last from None) old.arcs (make_arc target weight) old.chain);
       are = λ v w. (
@@ -96,23 +101,29 @@ chain_here n joins links last from target weight below so_far =
       );
     }
 
-pub chain_noted : (n : ℕ) (joins : ℕ → ℕ → ℕ → Type 0) (links next : List Link) (last latest : List (Option ℕ)) (from target weight : ℕ)
+pub chain_noted : (n : ℕ) (joins : ℕ → ℕ → ℕ → Type 0) (links next : List Link) (last latest : List (Option ℕ))
+    (from target weight : ℕ)
     → from < n → next ≡ links ++ record { arc = make_arc target weight; before = get_or last from None } ∷ []
     → latest ≡ set last from (Some (length links)) → AreChains n joins links last
     → AreChains n (Plus joins from target weight) next latest
 chain_noted n joins links next last latest from target weight below next_is latest_is so_far =
     subst (λ xs. AreChains n (Plus joins from target weight) xs latest) (sym next_is)
-    (subst (λ xs. AreChains n (Plus joins from target weight) (links ++ make_link (make_arc target weight) (get_or last from None) ∷ []) xs) (sym latest_is) (record {
+    (subst (λ xs. AreChains n (Plus joins from target weight)
+    (links ++ make_link (make_arc target weight) (get_or last from None) ∷ []) xs) (sym latest_is) (record {
       count = length-set last from (Some (length links)) ∙ so_far.count;
       each = λ u u_below. elim (cases_eq u from) [
-        | inl same ↦ subst (λ i. HasChain (Plus joins from target weight) (links ++ make_link (make_arc target weight) (get_or last from None) ∷ []) (set last from (Some (length links))) i) (sym same)
+        | inl same ↦ subst (λ i. HasChain (Plus joins from target weight)
+            (links ++ make_link (make_arc target weight) (get_or last from None) ∷ [])
+            (set last from (Some (length links))) i) (sym same)
             (chain_here n joins links last from target weight below so_far)
         | inr other ↦
             let old = so_far.each u u_below in
             record {
               arcs = old.arcs;
-              chain = subst (λ at. IsChain (links ++ make_link (make_arc target weight) (get_or last from None) ∷ []) at old.arcs) (sym (get_or-set_other last from u (Some (length links)) None other))
-                  (chain_kept links (make_link (make_arc target weight) (get_or last from None) ∷ []) (get_or last u None) old.arcs old.chain);
+              chain = subst (λ at. IsChain (links ++ make_link (make_arc target weight) (get_or last from None) ∷ []) at
+                  old.arcs) (sym (get_or-set_other last from u (Some (length links)) None other))
+                  (chain_kept links (make_link (make_arc target weight) (get_or last from None) ∷ [])
+                  (get_or last u None) old.arcs old.chain);
               are = λ v w. (
                 λ has. inl ((old.are v w).0 has),
                 λ joined. elim joined [ inl before ↦ (old.are v w).1 before | inr now ↦ absurd (other now.0) ],
@@ -160,29 +171,39 @@ unfolding Ends
 joins_more edges a b w u v x (inl h) =
     elim (Contains-push_cases edges (make_edge a b w) (make_edge u v x) h) [
       | inl old ↦ inl (inl old)
-      | inr new ↦ inr (inl (sym (ap (λ (e : Edge). e.a) new), sym (ap (λ (e : Edge). e.b) new)), ap (λ (e : Edge). e.weight) new)
+      | inr new ↦ inr (
+        inl (sym (ap (λ (e : Edge). e.a) new), sym (ap (λ (e : Edge). e.b) new)),
+        ap (λ (e : Edge). e.weight) new,
+      )
     ]
 joins_more edges a b w u v x (inr h) =
     elim (Contains-push_cases edges (make_edge a b w) (make_edge v u x) h) [
       | inl old ↦ inl (inr old)
-      | inr new ↦ inr (inr (sym (ap (λ (e : Edge). e.b) new), sym (ap (λ (e : Edge). e.a) new)), ap (λ (e : Edge). e.weight) new)
+      | inr new ↦ inr (
+        inr (sym (ap (λ (e : Edge). e.b) new), sym (ap (λ (e : Edge). e.a) new)),
+        ap (λ (e : Edge). e.weight) new,
+      )
     ]
 
 joins_kept : (edges more : List Edge) (u v x : ℕ) → Joins edges u v x → Joins (edges ++ more) u v x
 joins_kept edges more u v x (inl h) = inl (Contains-append_left edges more (make_edge u v x) h)
 joins_kept edges more u v x (inr h) = inr (Contains-append_left edges more (make_edge v u x) h)
 
-joins_last : (edges : List Edge) (a b w u v : ℕ) → Ends (make_edge a b w) u v → Joins (edges ++ make_edge a b w ∷ []) u v w
+joins_last : (edges : List Edge) (a b w u v : ℕ) → Ends (make_edge a b w) u v
+    → Joins (edges ++ make_edge a b w ∷ []) u v w
 unfolding Ends
 joins_last edges a b w u v (inl at) =
-    inl (subst (λ e. Contains (edges ++ make_edge a b w ∷ []) e) (ap (λ i. make_edge i b w) (sym at.0) ∙ ap (λ i. make_edge u i w) (sym at.1))
+    inl (subst (λ e. Contains (edges ++ make_edge a b w ∷ []) e)
+    (ap (λ i. make_edge i b w) (sym at.0) ∙ ap (λ i. make_edge u i w) (sym at.1))
     (Contains-push edges (make_edge a b w)))
 joins_last edges a b w u v (inr at) =
-    inr (subst (λ e. Contains (edges ++ make_edge a b w ∷ []) e) (ap (λ i. make_edge i b w) (sym at.1) ∙ ap (λ i. make_edge v i w) (sym at.0))
+    inr (subst (λ e. Contains (edges ++ make_edge a b w ∷ []) e)
+    (ap (λ i. make_edge i b w) (sym at.1) ∙ ap (λ i. make_edge v i w) (sym at.0))
     (Contains-push edges (make_edge a b w)))
 
 -- a loop joins nothing
-pub loop_noted : (n : ℕ) (edges : List Edge) (i : ℕ) (d : Edge) (links : List Link) (last : List (Option ℕ)) → i < length edges
+pub loop_noted : (n : ℕ) (edges : List Edge) (i : ℕ) (d : Edge) (links : List Link) (last : List (Option ℕ))
+    → i < length edges
     → (get_or edges i d).a ≡ (get_or edges i d).b → AreChains n (JoinsOther (take i edges)) links last
     → AreChains n (JoinsOther (take (i + 1) edges)) links last
 unfolding Ends
@@ -201,25 +222,30 @@ loop_noted n edges i d links last below loop so_far =
     )) so_far)
 
 -- any other edge joins its ends
-pub edge_noted : (n : ℕ) (edges : List Edge) (i : ℕ) (d : Edge) (links : List Link) (last : List (Option ℕ)) → i < length edges
+pub edge_noted : (n : ℕ) (edges : List Edge) (i : ℕ) (d : Edge) (links : List Link) (last : List (Option ℕ))
+    → i < length edges
     → (get_or edges i d).a ≢ (get_or edges i d).b
-    → AreChains n (Plus (Plus (JoinsOther (take i edges)) (get_or edges i d).a (get_or edges i d).b (get_or edges i d).weight)
+    → AreChains n (Plus (Plus (JoinsOther (take i edges)) (get_or edges i d).a (get_or edges i d).b
+    (get_or edges i d).weight)
     (get_or edges i d).b (get_or edges i d).a (get_or edges i d).weight) links last
     → AreChains n (JoinsOther (take (i + 1) edges)) links last
 unfolding Ends
 edge_noted n edges i d links last below apart so_far =
     let e : Edge = get_or edges i d in
     rw (take_more edges i d below)
-    (chains_as n (Plus (Plus (JoinsOther (take i edges)) e.a e.b e.weight) e.b e.a e.weight) (JoinsOther (take i edges ++ e ∷ [])) links last (λ u v w. (
+    (chains_as n (Plus (Plus (JoinsOther (take i edges)) e.a e.b e.weight) e.b e.a e.weight)
+    (JoinsOther (take i edges ++ e ∷ [])) links last (λ u v w. (
       λ joined. elim joined [
         | inl (inl old) ↦ (old.0, joins_kept (take i edges) (e ∷ []) u v w old.1)
         | inl (inr now) ↦ (
           (λ same. apart (sym now.0 ∙ same ∙ now.1)),
-          subst (λ x. Joins (take i edges ++ e ∷ []) u v x) (sym now.2) (joins_last (take i edges) e.a e.b e.weight u v (inl (now.0, now.1))),
+          subst (λ x. Joins (take i edges ++ e ∷ []) u v x) (sym now.2)
+              (joins_last (take i edges) e.a e.b e.weight u v (inl (now.0, now.1))),
         )
         | inr now ↦ (
           (λ same. apart (sym now.1 ∙ sym same ∙ now.0)),
-          subst (λ x. Joins (take i edges ++ e ∷ []) u v x) (sym now.2) (joins_last (take i edges) e.a e.b e.weight u v (inr (now.0, now.1))),
+          subst (λ x. Joins (take i edges ++ e ∷ []) u v x) (sym now.2)
+              (joins_last (take i edges) e.a e.b e.weight u v (inr (now.0, now.1))),
         )
       ],
       λ joined. elim (joins_more (take i edges) e.a e.b e.weight u v w joined.1) [
@@ -236,14 +262,16 @@ edge_noted n edges i d links last below apart so_far =
 -- what of a chain is left to push
 abbrev pub IsPushing : List Link → Option ℕ → List Arc → Option ℕ → List Arc → Type 0
 IsPushing links start before at arcs =
-    (all : List Arc) → IsChain links start all → (rest : List Arc) × IsChain links at rest × (arcs ++ rest ≡ before ++ all)
+    (all : List Arc) → IsChain links start all → (rest : List Arc) × IsChain links at rest
+    × (arcs ++ rest ≡ before ++ all)
 
 pub pushing_begins : (links : List Link) (start : Option ℕ) (arcs : List Arc) → IsPushing links start arcs start arcs
 pushing_begins links start arcs all chain = (all, chain, refl)
 
 -- the link at a place of a chain
 pub link_at : (links : List Link) (place : ℕ) (rest : List Arc) → IsChain links (Some place) rest
-    → (arc : Arc) × (later : List Arc) × (before : Option ℕ) × (rest ≡ arc ∷ later) × IsLink links (Some place) arc before × IsChain links before later
+    → (arc : Arc) × (later : List Arc) × (before : Option ℕ) × (rest ≡ arc ∷ later)
+    × IsLink links (Some place) arc before × IsChain links before later
 link_at links place [] chain = absurd (none_or_some place (sym chain))
 link_at links place (arc ∷ later) chain = (arc, later, chain.0, refl, chain.1, chain.2)
 
@@ -262,7 +290,8 @@ left_below place None earlier = omega arith
 left_below place (Some q) earlier = omega (arith, earlier q refl)
 
 module _ (links : List Link) (start : Option ℕ) (before : List Arc) (place : ℕ) (arcs : List Arc)
-    (so_far : IsPushing links start before (Some place) arcs) (link : Link) (there : (d : Link) → get_or links place d ≡ link) where
+    (so_far : IsPushing links start before (Some place) arcs) (link : Link)
+    (there : (d : Link) → get_or links place d ≡ link) where
   pub left_falls : (all : List Arc) → IsChain links start all → places_left link.before < places_left (Some place)
   left_falls all chain =
       let rest = so_far all chain in
@@ -292,7 +321,8 @@ no_rest : (links : List Link) (rest : List Arc) → IsChain links None rest → 
 no_rest links [] chain = refl
 no_rest links (arc ∷ rest) chain = absurd (none_or_some chain.1.place chain.1.here)
 
-pub pushing_ends : (links : List Link) (start : Option ℕ) (before arcs : List Arc) → IsPushing links start before None arcs
+pub pushing_ends : (links : List Link) (start : Option ℕ) (before arcs : List Arc)
+    → IsPushing links start before None arcs
     → (all : List Arc) → IsChain links start all → arcs ≡ before ++ all
 pushing_ends links start before arcs so_far all chain =
     let rest = so_far all chain in

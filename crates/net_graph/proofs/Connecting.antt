@@ -13,7 +13,8 @@ some_weight : (c : Option ℕ) → (c ≡ None → ⊥) → (w : ℕ) × (c ≡ 
 some_weight None not = absurd (not refl)
 some_weight (Some w) not = (w, refl)
 
-module _ (n : ℕ) (edges : List Edge) (network : Network) (nodes : network.nodes ≡ n) (limits : IsInLimits network) (same : SameWalks edges network.edges)
+module _ (n : ℕ) (edges : List Edge) (network : Network) (nodes : network.nodes ≡ n) (limits : IsInLimits network)
+    (same : SameWalks edges network.edges)
     (allowed : List Bool) (all : allowed ≡ replicate n true)
     (weights : List (Option ℕ)) (least : AreLeastWeights network (among allowed) 0 weights) where
   count : length allowed ≡ network.nodes
@@ -28,7 +29,8 @@ module _ (n : ℕ) (edges : List Edge) (network : Network) (nodes : network.node
       let walk = (least.least v w.0 below w.1).attained in
       record {
         steps = walk.steps;
-        walk = walk_widened network.nodes network.edges (among allowed) everywhere limits.edges (λ x b h. refl) 0 walk.steps v (omega (arith, limits.positive)) walk.walk;
+        walk = walk_widened network.nodes network.edges (among allowed) everywhere limits.edges
+            (λ x b h. refl) 0 walk.steps v (omega (arith, limits.positive)) walk.walk;
       }
 
   pub connected : ((v : ℕ) → v < length weights → at_node weights v ≡ None → ⊥) → IsNetwork network
@@ -40,12 +42,14 @@ module _ (n : ℕ) (edges : List Edge) (network : Network) (nodes : network.node
   pub made : ((v : ℕ) → v < length weights → at_node weights v ≡ None → ⊥) → IsGraphOf n edges network
   made none = record { nodes = nodes; same = same; sound = connected none }
 
-  pub first_is_apart : (node : ℕ) → node < n → at_node weights node ≡ None → ((v : ℕ) → v < node → at_node weights v ≡ None → ⊥)
+  pub first_is_apart : (node : ℕ) → node < n → at_node weights node ≡ None
+      → ((v : ℕ) → v < node → at_node weights v ≡ None → ⊥)
       → IsFirstApart n edges node
   first_is_apart node below here first = record {
     below = below;
     apart = (same.unreached everywhere 0 node).1
-        ((unreached_everywhere network.nodes network.edges allowed 0 node limits.edges count all_true (omega (arith, limits.positive))).0
+        ((unreached_everywhere network.nodes network.edges allowed 0 node limits.edges count all_true
+        (omega (arith, limits.positive))).0
         (least.unreached node (omega (arith, nodes)) here));
     first = λ v less. (same.reached everywhere 0 v).1 (reached_in v (omega (arith, nodes)) (first v less));
   }

@@ -73,17 +73,20 @@ module _ (n : ℕ) (edges : List Edge) (all : All (IsEdge n) edges) where
         ];
         are = λ k small. elim (cases_lt k u) [
           | inl less ↦ subst (λ xs. AreArcsBy (JoinsOther edges) k xs)
-              (sym (row_kept starts (end ∷ []) arcs more k (omega (arith, rows.count)) (rows.ordered k less) (rows.within k less)))
+              (sym (row_kept starts (end ∷ []) arcs more k (omega (arith, rows.count)) (rows.ordered k less)
+              (rows.within k less)))
               (rows.are k less)
           | inr more_or_same ↦ let same : u ≡ k = omega arith in
               subst (λ i. AreArcsBy (JoinsOther edges) i (row (starts ++ end ∷ []) (arcs ++ more) i)) same
-              (subst (λ xs. AreArcsBy (JoinsOther edges) u xs) (sym (row_last starts arcs more u rows.count rows.last)) are)
+              (subst (λ xs. AreArcsBy (JoinsOther edges) u xs) (sym (row_last starts arcs more u rows.count rows.last))
+              are)
         ];
         limits = All-append (IsArc n) arcs more rows.limits (new_limits u more are);
       }
 
   -- the row of one more node, from its chain
-  pub next_rows : (u : ℕ) (starts new_starts : List ℕ) (arcs next : List Arc) (links : List Link) (last : List (Option ℕ)) → u < n
+  pub next_rows : (u : ℕ) (starts new_starts : List ℕ) (arcs next : List Arc) (links : List Link)
+      (last : List (Option ℕ)) → u < n
       → AreChains n (JoinsOther edges) links last → AreRowsBelow n u (JoinsOther edges) starts arcs
       → ((chain : List Arc) → IsChain links (get_or last u None) chain → next ≡ arcs ++ chain)
       → new_starts ≡ starts ++ length next ∷ []
@@ -91,10 +94,12 @@ module _ (n : ℕ) (edges : List Edge) (all : All (IsEdge n) edges) where
   next_rows u starts new_starts arcs next links last below chains rows pushed is_starts =
       let chain = chains.each u below in
       subst (λ xs. AreRowsBelow n (u + 1) (JoinsOther edges) xs next) (sym is_starts)
-      (subst (λ xs. AreRowsBelow n (u + 1) (JoinsOther edges) (starts ++ length xs ∷ []) xs) (sym (pushed chain.arcs chain.chain))
+      (subst (λ xs. AreRowsBelow n (u + 1) (JoinsOther edges) (starts ++ length xs ∷ []) xs)
+      (sym (pushed chain.arcs chain.chain))
       (more_rows u starts arcs chain.arcs chain.are rows))
 
-  pub all_rows : (starts : List ℕ) (arcs : List Arc) → 1 ≤ n → n ≤ MAX_NODES → AreRowsBelow n n (JoinsOther edges) starts arcs
+  pub all_rows : (starts : List ℕ) (arcs : List Arc) → 1 ≤ n → n ≤ MAX_NODES
+      → AreRowsBelow n n (JoinsOther edges) starts arcs
       → IsLaidOut n starts arcs
   all_rows starts arcs positive few rows = record {
     positive = positive;
@@ -109,7 +114,8 @@ module _ (n : ℕ) (edges : List Edge) (all : All (IsEdge n) edges) where
         (rows.are v v_below u w).1 ((λ same. joined.0 (sym same)), join_turned edges u v w joined.1);
   }
 
-  covered : (starts : List ℕ) (arcs : List Arc) → AreRowsBelow n n (JoinsOther edges) starts arcs → Covers edges (edges_from starts arcs n)
+  covered : (starts : List ℕ) (arcs : List Arc) → AreRowsBelow n n (JoinsOther edges) starts arcs
+      → Covers edges (edges_from starts arcs n)
   covered starts arcs rows u v w other joined =
       let below = (join_edge n edges u v w all joined).0 in
       (w, inl (edges_have_row starts arcs n u v w below ((rows.are u below v w).1 (other, joined))), omega arith)
@@ -119,9 +125,11 @@ module _ (n : ℕ) (edges : List Edge) (all : All (IsEdge n) edges) where
   from_row starts arcs rows u v w has =
       let r = row_has_edge starts arcs n u v w has in ((rows.are u r.0 v w).0 r.1).1
 
-  covering : (starts : List ℕ) (arcs : List Arc) → AreRowsBelow n n (JoinsOther edges) starts arcs → Covers (edges_from starts arcs n) edges
+  covering : (starts : List ℕ) (arcs : List Arc) → AreRowsBelow n n (JoinsOther edges) starts arcs
+      → Covers (edges_from starts arcs n) edges
   covering starts arcs rows u v w other (inl h) = (w, from_row starts arcs rows u v w h, omega arith)
-  covering starts arcs rows u v w other (inr h) = (w, join_turned edges v u w (from_row starts arcs rows v u w h), omega arith)
+  covering starts arcs rows u v w other (inr h) =
+      (w, join_turned edges v u w (from_row starts arcs rows v u w h), omega arith)
 
   pub rows_same_walks : (starts : List ℕ) (arcs : List Arc) → AreRowsBelow n n (JoinsOther edges) starts arcs
       → SameWalks edges (edges_from starts arcs n)

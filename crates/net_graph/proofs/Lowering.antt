@@ -1,7 +1,7 @@
 -- Numbers that may be missing, and the lesser of two.
 use Rattle.std.proofs.Common.{◌≡◌, ◌⊎◌, ℕ, ◌≤◌, Option, None, Some, min, refl, inl, inr, arith}
 use Rattle.std.proofs.lemmas.Bool.{cases_lt}
-use Rattle.net_graph.specs.Least.{IsAtMost, lowered}
+use Rattle.net_graph.specs.Least.{IsAtMost, lesser_of}
 
 pub at_most_trans : (c : Option ℕ) (x y : ℕ) → IsAtMost c x → x ≤ y → IsAtMost c y
 at_most_trans None x y h le = h
@@ -11,17 +11,17 @@ pub at_most_some : (c : Option ℕ) (x : ℕ) → IsAtMost c x → (y : ℕ) × 
 at_most_some None x h = absurd h
 at_most_some (Some y) x h = (y, refl, h)
 
-pub lowered_light : (c : Option ℕ) (w : ℕ) → IsAtMost (lowered c w) w
+pub lowered_light : (c : Option ℕ) (w : ℕ) → IsAtMost (lesser_of c w) w
 lowered_light None w = omega arith
 lowered_light (Some x) w = omega arith
 
-pub lowered_keeps : (c : Option ℕ) (w y : ℕ) → IsAtMost c y → IsAtMost (lowered c w) y
+pub lowered_keeps : (c : Option ℕ) (w y : ℕ) → IsAtMost c y → IsAtMost (lesser_of c w) y
 lowered_keeps None w y h = absurd h
 lowered_keeps (Some x) w y h = omega arith
 
 some_or_other : (x y : ℕ) → (min x y ≡ x) ⊎ (min x y ≡ y)
 some_or_other x y = elim (cases_lt x y) [ inl less ↦ inl (omega arith) | inr more ↦ inr (omega arith) ]
 
-pub lowered_cause : (c : Option ℕ) (w x : ℕ) → lowered c w ≡ Some x → (c ≡ Some x) ⊎ (w ≡ x)
+pub lowered_cause : (c : Option ℕ) (w x : ℕ) → lesser_of c w ≡ Some x → (c ≡ Some x) ⊎ (w ≡ x)
 lowered_cause None w x h = inr (cc)
 lowered_cause (Some y) w x h = elim (some_or_other y w) [ inl first ↦ inl (cc) | inr second ↦ inr (cc) ]

@@ -10,7 +10,7 @@ use Rattle.net_graph.specs.Walks.{Joins, Step, IsWalk, weight_of}
 use Rattle.net_graph.specs.Network.{Network, IsInLimits}
 use Rattle.net_graph.specs.Trees.{at_node, AreLeastWeights, IsParent, AreParents}
 use Rattle.net_graph.specs.Layout.{make_arc, AreArcsOf}
-use Rattle.net_graph.specs.Least.{IsAtMost, lowered}
+use Rattle.net_graph.specs.Least.{IsAtMost, lesser_of}
 use Rattle.net_graph.specs.Parents.{MakesUp, IsLeastTarget, IsLeastNeighbour, AreLeastNeighbours}
 use Rattle.net_graph.specs.WalkLaws.{join_turned, join_edge, walk_begins, walk_ends, walk_further}
 use Rattle.net_graph.proofs.Lowering.{lowered_light, lowered_keeps, lowered_cause}
@@ -21,8 +21,10 @@ no_target weights weight = record {
   whole = λ q c has makes. absurd (omega (arith, has.1));
 }
 
-pub target_taken : (arcs : List Arc) (i : ℕ) (d : Arc) (weights : List (Option ℕ)) (weight least next : Option ℕ) → i < length arcs
-    → MakesUp weights (get_or arcs i d).target (get_or arcs i d).weight weight → next ≡ lowered least (get_or arcs i d).target
+pub target_taken : (arcs : List Arc) (i : ℕ) (d : Arc) (weights : List (Option ℕ)) (weight least next : Option ℕ)
+    → i < length arcs
+    → MakesUp weights (get_or arcs i d).target (get_or arcs i d).weight weight
+    → next ≡ lesser_of least (get_or arcs i d).target
     → IsLeastTarget (take i arcs) weights weight least → IsLeastTarget (take (i + 1) arcs) weights weight next
 target_taken arcs i d weights weight least next below makes is so_far =
     let arc : Arc = get_or arcs i d in
@@ -38,11 +40,13 @@ target_taken arcs i d weights weight least next below makes is so_far =
       ];
       whole = λ q c has fits. elim (Contains-push_cases (take i arcs) arc (make_arc q c) has) [
         | inl old ↦ lowered_keeps least arc.target q (so_far.whole q c old fits)
-        | inr new ↦ subst (λ (a : Arc). IsAtMost (lowered least arc.target) a.target) new (lowered_light least arc.target)
+        | inr new ↦ subst (λ (a : Arc). IsAtMost (lesser_of least arc.target) a.target) new
+            (lowered_light least arc.target)
       ];
     })
 
-pub target_left : (arcs : List Arc) (i : ℕ) (d : Arc) (weights : List (Option ℕ)) (weight least : Option ℕ) → i < length arcs
+pub target_left : (arcs : List Arc) (i : ℕ) (d : Arc) (weights : List (Option ℕ)) (weight least : Option ℕ)
+    → i < length arcs
     → (MakesUp weights (get_or arcs i d).target (get_or arcs i d).weight weight → ⊥)
     → IsLeastTarget (take i arcs) weights weight least → IsLeastTarget (take (i + 1) arcs) weights weight least
 target_left arcs i d weights weight least below fails so_far =
@@ -57,7 +61,8 @@ target_left arcs i d weights weight least below fails so_far =
     })
 
 neighbour : (n : ℕ) (edges : List Edge) (v : ℕ) (arcs : List Arc) (weights : List (Option ℕ)) (least : Option ℕ)
-    → AreArcsOf n edges v arcs → IsLeastTarget arcs weights (at_node weights v) least → IsLeastNeighbour edges weights v least
+    → AreArcsOf n edges v arcs → IsLeastTarget arcs weights (at_node weights v) least
+    → IsLeastNeighbour edges weights v least
 neighbour n edges v arcs weights least of_node found = record {
   cause = λ p some. let r = found.cause p some in (r.0, of_node.sound p r.0 r.1, r.2);
   whole = λ q c joined makes. found.whole q c (of_node.whole q c joined) makes;
@@ -66,9 +71,11 @@ neighbour n edges v arcs weights least of_node found = record {
 pub no_neighbours : (edges : List Edge) (weights : List (Option ℕ)) → AreLeastNeighbours edges weights 0 []
 no_neighbours edges weights = record { count = refl; each = λ v below. absurd (omega arith) }
 
-pub more_neighbours : (n : ℕ) (edges : List Edge) (v : ℕ) (arcs : List Arc) (weights parents next : List (Option ℕ)) (least : Option ℕ)
+pub more_neighbours : (n : ℕ) (edges : List Edge) (v : ℕ) (arcs : List Arc) (weights parents next : List (Option ℕ))
+    (least : Option ℕ)
     → AreArcsOf n edges v arcs → IsLeastTarget arcs weights (at_node weights v) least
-    → AreLeastNeighbours edges weights v parents → next ≡ parents ++ least ∷ [] → AreLeastNeighbours edges weights (v + 1) next
+    → AreLeastNeighbours edges weights v parents → next ≡ parents ++ least ∷ []
+    → AreLeastNeighbours edges weights (v + 1) next
 more_neighbours n edges v arcs weights parents next least of_node found so_far is =
     subst (λ xs. AreLeastNeighbours edges weights (v + 1) xs) (sym is) (record {
       count = omega (arith, length_push parents least, so_far.count);
@@ -121,7 +128,8 @@ module _ (network : Network) (limits : IsInLimits network) (inside : ℕ → Boo
     (weights parents : List (Option ℕ)) (least : AreLeastWeights network inside root weights)
     (found : AreLeastNeighbours network.edges weights network.nodes parents) where
   -- a node's weight is at most that of a neighbour and the edge between them
-  no_more : (p v b w c : ℕ) → p < network.nodes → v < network.nodes → at_node weights p ≡ Some b → at_node weights v ≡ Some w
+  no_more : (p v b w c : ℕ) → p < network.nodes → v < network.nodes → at_node weights p ≡ Some b
+      → at_node weights v ≡ Some w
       → Joins network.edges p v c → w ≤ b + c
   no_more p v b w c p_below v_below at_p at_v joined =
       let there = (least.least p b p_below at_p).attained in
@@ -136,7 +144,8 @@ module _ (network : Network) (limits : IsInLimits network) (inside : ℕ → Boo
       let r = (found.each v v_below).cause p some in
       let edge = join_edge network.nodes network.edges v p r.0 limits.edges r.1 in
       let w = least.least v (r.2.before + r.0) v_below r.2.sum in (
-        (λ same. let begins : inside root ≡ true = walk_begins network.edges inside root w.attained.steps v w.attained.walk in
+        (λ same. let begins : inside root ≡ true =
+            walk_begins network.edges inside root w.attained.steps v w.attained.walk in
             omega (arith, edge.2.positive, w.least [] (begins, sym same))),
         edge.1,
         record {
@@ -147,13 +156,18 @@ module _ (network : Network) (limits : IsInLimits network) (inside : ℕ → Boo
             sum = r.2.sum;
             joined = record {
               joined = join_turned network.edges v p r.0 r.1;
-              least = λ x joined. omega (arith, no_more p v r.2.before (r.2.before + r.0) x edge.1 v_below r.2.comes_from r.2.sum joined);
+              least = λ x joined. omega (
+                arith,
+                no_more p v r.2.before
+                    (r.2.before + r.0) x edge.1 v_below r.2.comes_from r.2.sum joined,
+              );
             };
           };
           first = λ q less leads. omega (
             arith,
             subst (λ o. IsAtMost o q) some
-                ((found.each v v_below).whole q leads.edge (join_turned network.edges q v leads.edge leads.joined.joined)
+                ((found.each v v_below).whole q leads.edge
+                (join_turned network.edges q v leads.edge leads.joined.joined)
                 (record { before = leads.before; comes_from = leads.comes_from; sum = leads.sum })),
           );
         },
@@ -165,15 +179,19 @@ module _ (network : Network) (limits : IsInLimits network) (inside : ℕ → Boo
       elim (last_step network.edges inside root walk.steps v walk.walk) [
         | inl same ↦ sym same
         | inr ends ↦ absurd (
-            let p_below : ends.node < network.nodes = (join_edge network.nodes network.edges ends.node v ends.edge limits.edges ends.joined).0 in
+            let p_below : ends.node < network.nodes =
+            (join_edge network.nodes network.edges ends.node v ends.edge limits.edges ends.joined).0 in
             elim (option_cases (at_node weights ends.node)) [
               | inl missing ↦ least.unreached ends.node p_below missing ends.front ends.walk
               | inr there ↦
-                  let light : there.0 ≤ weight_of ends.front = (least.least ends.node there.0 p_below there.1).least ends.front ends.walk in
-                  let close : w ≤ there.0 + ends.edge = no_more ends.node v there.0 w ends.edge p_below v_below there.1 here ends.joined in
+                  let light : there.0 ≤ weight_of ends.front =
+                  (least.least ends.node there.0 p_below there.1).least ends.front ends.walk in
+                  let close : w ≤ there.0 + ends.edge =
+                  no_more ends.node v there.0 w ends.edge p_below v_below there.1 here ends.joined in
                   let exact : w ≡ there.0 + ends.edge = omega (arith, light, close, ends.light, walk.sum) in
                   subst (λ o. IsAtMost o ends.node) none
-                  ((found.each v v_below).whole ends.node ends.edge (join_turned network.edges ends.node v ends.edge ends.joined)
+                  ((found.each v v_below).whole ends.node ends.edge
+                  (join_turned network.edges ends.node v ends.edge ends.joined)
                   (record { before = there.0; comes_from = there.1; sum = here ∙ ap Some exact }))
             ])
       ]

@@ -92,14 +92,16 @@ module _ (arc : Arc) (x : ℕ) (unsettled : List Bool) (old : List (Option ℕ))
 
   joins : Contains waiting (make_waiting through target)
   unfolding target through
-  joins = Contains-permutation (make_waiting (x + arc.weight) arc.target ∷ waited) waiting (make_waiting (x + arc.weight) arc.target) pushed
+  joins = Contains-permutation (make_waiting (x + arc.weight) arc.target ∷ waited) waiting
+      (make_waiting (x + arc.weight) arc.target) pushed
       (0, omega arith, refl)
 
   pub relaxed_to : IsRelaxed (arc ∷ []) x unsettled old (set old arc.target (Some (x + arc.weight))) waited waiting
   unfolding target through lowered
   relaxed_to = record {
     count = length-set old arc.target (Some (x + arc.weight));
-    kept = λ v settled. other_now v (λ same. let both : true ≡ false = sym waits ∙ sym (ap (among unsettled) same) ∙ settled in cc);
+    kept = λ v settled. other_now v (λ same. let both : true ≡ false = sym waits ∙ sym (ap (among unsettled) same)
+        ∙ settled in cc);
     cause = λ v w here. elim (cases_eq v arc.target) [
       | inl same ↦ inr (record {
         by = arc.weight;
@@ -111,7 +113,8 @@ module _ (arc : Arc) (x : ℕ) (unsettled : List Bool) (old : List (Option ℕ))
     ];
     falls = λ v w h. elim (cases_eq v arc.target) [
       | inl same ↦ subst (λ o. IsAtMost o w) (sym (ap (at_node lowered) same ∙ here_now))
-          (lighter_falls (x + arc.weight) w (at_node old arc.target) lighter (subst (λ i. IsAtMost (at_node old i) w) same h))
+          (lighter_falls (x + arc.weight) w (at_node old arc.target) lighter
+          (subst (λ i. IsAtMost (at_node old i) w) same h))
       | inr other ↦ subst (λ o. IsAtMost o w) (sym (other_now v other)) h
     ];
     reached = λ v c has v_waits. elim (contains_cases (make_arc v c) arc [] has) [
@@ -119,10 +122,12 @@ module _ (arc : Arc) (x : ℕ) (unsettled : List Bool) (old : List (Option ℕ))
           (subst (λ o. IsAtMost o (x + arc.weight)) (sym here_now) (omega arith))
       | inr none ↦ absurd (omega (arith, none.1))
     ];
-    wait_on = λ w v has. Contains-permutation (make_waiting (x + arc.weight) arc.target ∷ waited) waiting (make_waiting w v) pushed
+    wait_on = λ w v has. Contains-permutation (make_waiting (x + arc.weight) arc.target ∷ waited) waiting
+        (make_waiting w v) pushed
         (waits_later (make_waiting w v) (make_waiting (x + arc.weight) arc.target) waited has);
     joined = λ v w here. elim (cases_eq v arc.target) [
-      | inl same ↦ inr (subst (λ i. Contains waiting (make_waiting i v)) (sym (some_same w (x + arc.weight) (sym here ∙ ap (at_node lowered) same ∙ here_now)))
+      | inl same ↦ inr (subst (λ i. Contains waiting (make_waiting i v))
+          (sym (some_same w (x + arc.weight) (sym here ∙ ap (at_node lowered) same ∙ here_now)))
           (subst (λ i. Contains waiting (make_waiting (x + arc.weight) i)) (sym same) joins))
       | inr other ↦ inl (sym (other_now v other) ∙ here)
     ];
@@ -197,7 +202,8 @@ relaxed_more arcs arc x unsettled old mid new waited between waiting p q = recor
 
 -- one more arc of a list
 pub relaxed_next : (arcs : List Arc) (i : ℕ) (d : Arc) (x : ℕ) (unsettled : List Bool) (old mid new : List (Option ℕ))
-    (waited between waiting : List Waiting) → i < length arcs → IsRelaxed (take i arcs) x unsettled old mid waited between
+    (waited between waiting : List Waiting) → i < length arcs
+    → IsRelaxed (take i arcs) x unsettled old mid waited between
     → IsRelaxed (get_or arcs i d ∷ []) x unsettled mid new between waiting
     → IsRelaxed (take (i + 1) arcs) x unsettled old new waited waiting
 relaxed_next arcs i d x unsettled old mid new waited between waiting below p q =

@@ -20,14 +20,25 @@ least_of_step edges inside u v w x at_u at_v joined p =
 abbrev pub Covers : List Edge → List Edge → Type 0
 Covers old new = (u v w : ℕ) → u ≢ v → Joins old u v w → (x : ℕ) × Joins new u v x × (x ≤ w)
 
-walk_skipped : (edges : List Edge) (inside : ℕ → Bool) (u y v w c : ℕ) → u ≡ y → IsNoHeavier edges inside y v w → IsNoHeavier edges inside u v (c + w)
+walk_skipped : (edges : List Edge) (inside : ℕ → Bool) (u y v w c : ℕ) → u ≡ y → IsNoHeavier edges inside y v w
+    → IsNoHeavier edges inside u v (c + w)
 walk_skipped edges inside u y v w c e rest =
-    record { steps = rest.steps; walk = subst (λ z. IsWalk edges inside z rest.steps v) (sym e) rest.walk; light = omega (arith, rest.light) }
+    record {
+      steps = rest.steps;
+      walk = subst (λ z. IsWalk edges inside z rest.steps v) (sym e) rest.walk;
+      light =
+          omega (arith, rest.light);
+    }
 
 walk_replaced : (edges : List Edge) (inside : ℕ → Bool) (u y v w c x : ℕ) → inside u ≡ true → Joins edges u y x → x ≤ c
     → IsNoHeavier edges inside y v w → IsNoHeavier edges inside u v (c + w)
 walk_replaced edges inside u y v w c x at_u joined light rest =
-    record { steps = record { node = y; weight = x } ∷ rest.steps; walk = (at_u, joined, rest.walk); light = omega (arith, rest.light, light) }
+    record {
+      steps = record { node = y; weight = x } ∷ rest.steps;
+      walk =
+          (at_u, joined, rest.walk);
+      light = omega (arith, rest.light, light);
+    }
 
 pub walk_covered : (old new : List Edge) → Covers old new → (inside : ℕ → Bool) (u : ℕ) (steps : List Step) (v : ℕ)
     → IsWalk old inside u steps v → IsNoHeavier new inside u v (weight_of steps)

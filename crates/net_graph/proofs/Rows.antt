@@ -18,17 +18,20 @@ edge_of_arc k u v w arc same = (
       ap (λ t. make_arc t arc.weight) at ∙ ap (make_arc v) of,
 )
 
-mapped : (k v w : ℕ) (arcs : List Arc) → Contains arcs (make_arc v w) → Contains (map (edge_from k) arcs) (make_edge k v w)
+mapped : (k v w : ℕ) (arcs : List Arc) → Contains arcs (make_arc v w)
+    → Contains (map (edge_from k) arcs) (make_edge k v w)
 mapped k v w arcs (i, below, here) = (
   i,
   omega (arith, length-map arcs (edge_from k)),
   get_or-map (edge_from k) arcs i (make_arc v w) (make_edge k v w) below ∙ ap (edge_from k) here,
 )
 
-unmapped : (k u v w : ℕ) (arcs : List Arc) → Contains (map (edge_from k) arcs) (make_edge u v w) → (k ≡ u) × Contains arcs (make_arc v w)
+unmapped : (k u v w : ℕ) (arcs : List Arc) → Contains (map (edge_from k) arcs) (make_edge u v w) → (k ≡ u)
+    × Contains arcs (make_arc v w)
 unmapped k u v w arcs (i, below, here) =
     let short : i < length arcs = omega (arith, length-map arcs (edge_from k)) in
-    let same = edge_of_arc k u v w (get_or arcs i (make_arc v w)) (sym (get_or-map (edge_from k) arcs i (make_arc v w) (make_edge u v w) short) ∙ here) in
+    let same = edge_of_arc k u v w (get_or arcs i (make_arc v w))
+    (sym (get_or-map (edge_from k) arcs i (make_arc v w) (make_edge u v w) short) ∙ here) in
     (same.0, (i, short, same.1))
 
 pub edges_have_row : (starts : List ℕ) (arcs : List Arc) (n u v w : ℕ) → u < n
@@ -37,11 +40,13 @@ unfolding edges_from
 edges_have_row starts arcs zero u v w below has = absurd (omega arith)
 edges_have_row starts arcs (suc n) u v w below has =
     elim (cases_lt u n) [
-      | inl less ↦ Contains-append_left (edges_from starts arcs n) (map (edge_from n) (row starts arcs n)) (make_edge u v w)
+      | inl less ↦ Contains-append_left (edges_from starts arcs n) (map (edge_from n) (row starts arcs n))
+          (make_edge u v w)
           (edges_have_row starts arcs n u v w less has)
       | inr more ↦
           let same : u ≡ n = omega arith in
-          subst (λ k. Contains (edges_from starts arcs n ++ map (edge_from k) (row starts arcs k)) (make_edge u v w)) same
+          subst (λ k. Contains (edges_from starts arcs n ++ map (edge_from k) (row starts arcs k)) (make_edge u v w))
+          same
           (Contains-append_right (edges_from starts arcs n) (map (edge_from u) (row starts arcs u)) (make_edge u v w)
           (mapped u v w (row starts arcs u) has))
     ]
@@ -51,13 +56,15 @@ pub row_has_edge : (starts : List ℕ) (arcs : List Arc) (n u v w : ℕ)
 unfolding edges_from
 row_has_edge starts arcs zero u v w (i, below, here) = absurd (omega arith)
 row_has_edge starts arcs (suc n) u v w has =
-    elim (Contains-append_cases (edges_from starts arcs n) (map (edge_from n) (row starts arcs n)) (make_edge u v w) has) [
+    elim (Contains-append_cases (edges_from starts arcs n) (map (edge_from n) (row starts arcs n))
+    (make_edge u v w) has) [
       | inl before ↦ let r = row_has_edge starts arcs n u v w before in (omega (arith, r.0), r.1)
       | inr here ↦ let r = unmapped n u v w (row starts arcs n) here in
           (omega (arith, r.0), subst (λ k. Contains (row starts arcs k) (make_arc v w)) r.0 r.1)
     ]
 
-row_limits : (n : ℕ) (starts : List ℕ) (arcs : List Arc) (u : ℕ) → All (IsArc n) arcs → All (IsArc n) (row starts arcs u)
+row_limits : (n : ℕ) (starts : List ℕ) (arcs : List Arc) (u : ℕ) → All (IsArc n) arcs
+    → All (IsArc n) (row starts arcs u)
 row_limits n starts arcs u all =
     All-take (IsArc n) (get_or starts (u + 1) 0 - get_or starts u 0) (drop (get_or starts u 0) arcs)
     (All-drop (IsArc n) (get_or starts u 0) arcs all)
@@ -70,7 +77,8 @@ laid_out_limits n starts arcs laid = record {
   edges = λ k d below.
       let e : Edge = get_or (edges_from starts arcs n) k d in
       let r = row_has_edge starts arcs n e.a e.b e.weight (Contains-get_or (edges_from starts arcs n) k d below) in
-      let arc = All-contains (IsArc n) (row starts arcs e.a) (make_arc e.b e.weight) (row_limits n starts arcs e.a laid.limits) r.1 in
+      let arc = All-contains (IsArc n) (row starts arcs e.a) (make_arc e.b e.weight)
+      (row_limits n starts arcs e.a laid.limits) r.1 in
       record { a_below = r.0; b_below = arc.below; positive = arc.positive; light = arc.light };
 }
 
@@ -110,17 +118,22 @@ pub row_kept : (starts more_starts : List ℕ) (arcs more : List Arc) (k : ℕ) 
     → get_or starts k 0 ≤ get_or starts (k + 1) 0 → get_or starts (k + 1) 0 ≤ length arcs
     → row (starts ++ more_starts) (arcs ++ more) k ≡ row starts arcs k
 row_kept starts more_starts arcs more k there ordered within =
-    let first : get_or (starts ++ more_starts) k 0 ≡ get_or starts k 0 = get_or_append_left starts more_starts 0 k (omega arith) in
-    let next : get_or (starts ++ more_starts) (k + 1) 0 ≡ get_or starts (k + 1) 0 = get_or_append_left starts more_starts 0 (k + 1) there in
+    let first : get_or (starts ++ more_starts) k 0 ≡ get_or starts k 0 =
+    get_or_append_left starts more_starts 0 k (omega arith) in
+    let next : get_or (starts ++ more_starts) (k + 1) 0 ≡ get_or starts (k + 1) 0 =
+    get_or_append_left starts more_starts 0 (k + 1) there in
     rw (first, next)
     (slice_kept arcs more (get_or starts k 0) (get_or starts (k + 1) 0) ordered within)
 
 -- the row that was put last
-pub row_last : (starts : List ℕ) (arcs more : List Arc) (k : ℕ) → length starts ≡ k + 1 → get_or starts k 0 ≡ length arcs
+pub row_last : (starts : List ℕ) (arcs more : List Arc) (k : ℕ) → length starts ≡ k + 1
+    → get_or starts k 0 ≡ length arcs
     → row (starts ++ length (arcs ++ more) ∷ []) (arcs ++ more) k ≡ more
 row_last starts arcs more k count last =
     let end : ℕ = length (arcs ++ more) in
-    let first : get_or (starts ++ end ∷ []) k 0 ≡ length arcs = get_or_append_left starts (end ∷ []) 0 k (omega arith) ∙ last in
+    let first : get_or (starts ++ end ∷ []) k 0 ≡ length arcs = get_or_append_left starts (end ∷ []) 0 k (omega arith)
+    ∙ last in
     let next : get_or (starts ++ end ∷ []) (k + 1) 0 ≡ end = get_or_push starts end 0 (k + 1) count in
     rw (first, next)
-    (rw (drop_at arcs more (length arcs) refl) (take_all (length (arcs ++ more) - length arcs) more (omega (arith, length-append arcs more))))
+    (rw (drop_at arcs more (length arcs) refl)
+    (take_all (length (arcs ++ more) - length arcs) more (omega (arith, length-append arcs more))))

@@ -27,16 +27,20 @@ abbrev pub unsettled_count : List Bool → ℕ
 unsettled_count unsettled = count_by (λ b. b) unsettled
 
 -- what each round of the search keeps
-pub record IsSearch (network : Network) (inside : ℕ → Bool) (root : ℕ) (unsettled : List Bool) (weights : List (Option ℕ)) : Type 0 where
+pub record IsSearch (network : Network) (inside : ℕ → Bool) (root : ℕ) (unsettled : List Bool)
+    (weights : List (Option ℕ)) : Type 0 where
   pub nodes : length unsettled ≡ network.nodes
   pub count : length weights ≡ network.nodes
   pub start : IsAtMost (at_node weights root) 0
   pub inner : (v : ℕ) → among unsettled v ≡ true → inside v ≡ true
   pub settled : (v : ℕ) → inside v ≡ true → among unsettled v ≡ false → (w : ℕ) × (at_node weights v ≡ Some w)
   pub sound : (v w : ℕ) → at_node weights v ≡ Some w → IsWalkWeight network.edges inside root v w
-  pub closed : (u v w c : ℕ) → among unsettled u ≡ false → at_node weights u ≡ Some w → inside v ≡ true → Joins network.edges u v c → IsAtMost (at_node weights v) (w + c)
-  pub lightest : (u v x y : ℕ) → among unsettled u ≡ false → at_node weights u ≡ Some x → among unsettled v ≡ true → at_node weights v ≡ Some y → x ≤ y
-  pub slack : (v w : ℕ) → at_node weights v ≡ Some w → w + unsettled_count unsettled * MAX_WEIGHT ≤ network.nodes * MAX_WEIGHT
+  pub closed : (u v w c : ℕ) → among unsettled u ≡ false → at_node weights u ≡ Some w → inside v ≡ true
+      → Joins network.edges u v c → IsAtMost (at_node weights v) (w + c)
+  pub lightest : (u v x y : ℕ) → among unsettled u ≡ false → at_node weights u ≡ Some x → among unsettled v ≡ true
+      → at_node weights v ≡ Some y → x ≤ y
+  pub slack : (v w : ℕ) → at_node weights v ≡ Some w
+      → w + unsettled_count unsettled * MAX_WEIGHT ≤ network.nodes * MAX_WEIGHT
   pub bounded : (v w : ℕ) → at_node weights v ≡ Some w → w ≤ (network.nodes - 1) * MAX_WEIGHT
 
 -- the best is an unsettled node with its weight, and no unsettled node weighs less
@@ -49,7 +53,8 @@ pub record IsLightest (unsettled : List Bool) (weights : List (Option ℕ)) (bes
 pub record IsQueue (unsettled : List Bool) (weights : List (Option ℕ)) (waiting : List Waiting) : Type 0 where
   pub below : (w v : ℕ) → Contains waiting (make_waiting w v) → v < length unsettled
   pub whole : (v w : ℕ) → among unsettled v ≡ true → at_node weights v ≡ Some w → Contains waiting (make_waiting w v)
-  pub light : (w v : ℕ) → Contains waiting (make_waiting w v) → among unsettled v ≡ true → IsAtMost (at_node weights v) w
+  pub light : (w v : ℕ) → Contains waiting (make_waiting w v) → among unsettled v ≡ true
+      → IsAtMost (at_node weights v) w
 
 none_is_not_some : (w : ℕ) → None ≡ Some w → ⊥
 none_is_not_some w h = cc
@@ -63,7 +68,8 @@ true_is_not_false b h k = let both : true ≡ false = sym h ∙ k in cc
 none_there : (n v w : ℕ) → get_or (replicate n None) v None ≡ Some w → ⊥
 none_there n v w here = elim (cases_lt v n) [
   | inl below ↦ none_is_not_some w (sym (get_or-replicate n v None None below) ∙ here)
-  | inr past ↦ none_is_not_some w (sym (get_or_past (replicate n None) v None (omega (arith, length-replicate {A = Option ℕ} n None))) ∙ here)
+  | inr past ↦ none_is_not_some w (sym (get_or_past (replicate n None) v None
+      (omega (arith, length-replicate {A = Option ℕ} n None))) ∙ here)
 ]
 
 -- the beginning, where the root alone has a weight
@@ -73,29 +79,40 @@ only_root n root v w here = elim (cases_lt root n) [
     | inl same ↦ (
       same,
       sym (some_injective 0 w
-          (sym (get_or-set_same (replicate n None) root (Some 0) None (omega (arith, length-replicate {A = Option ℕ} n None)))
+          (sym (get_or-set_same (replicate n None) root (Some 0) None
+          (omega (arith, length-replicate {A = Option ℕ} n None)))
           ∙ sym (ap (at_node (set (replicate n None) root (Some 0))) same) ∙ here)),
     )
-    | inr other ↦ absurd (none_there n v w (sym (get_or-set_other (replicate n None) root v (Some 0) None other) ∙ here))
+    | inr other ↦ absurd (none_there n v w (sym (get_or-set_other (replicate n None) root v (Some 0) None other)
+        ∙ here))
   ]
   | inr past ↦ elim (cases_eq v root) [
     | inl same ↦ absurd (none_is_not_some w (sym (get_or_past (set (replicate n None) root (Some 0)) v None
-        (omega (arith, length-set {A = Option ℕ} (replicate n None) root (Some 0), length-replicate {A = Option ℕ} n None))) ∙ here))
-    | inr other ↦ absurd (none_there n v w (sym (get_or-set_other (replicate n None) root v (Some 0) None other) ∙ here))
+        (omega (
+          arith,
+          length-set {A = Option ℕ} (replicate n None) root (Some 0),
+          length-replicate {A = Option ℕ} n
+              None,
+        ))) ∙ here))
+    | inr other ↦ absurd (none_there n v w (sym (get_or-set_other (replicate n None) root v (Some 0) None other)
+        ∙ here))
   ]
 ]
 
-pub search_begins : (network : Network) (allowed : List Bool) (root : ℕ) → 1 ≤ network.nodes → length allowed ≡ network.nodes
+pub search_begins : (network : Network) (allowed : List Bool) (root : ℕ) → 1 ≤ network.nodes
+    → length allowed ≡ network.nodes
     → among allowed root ≡ true
     → IsSearch network (among allowed) root allowed (set (replicate network.nodes None) root (Some 0))
 search_begins network allowed root positive count at_root =
     let n : ℕ = network.nodes in
-    let below : root < length (replicate {A = Option ℕ} n None) = omega (arith, among_below allowed root at_root, count, length-replicate {A = Option ℕ} n None) in
+    let below : root < length (replicate {A = Option ℕ} n None) =
+    omega (arith, among_below allowed root at_root, count, length-replicate {A = Option ℕ} n None) in
     let few : unsettled_count allowed ≤ n = omega (arith, count_by-le-length (λ b. b) allowed, count) in
     record {
       nodes = count;
       count = length-set (replicate n None) root (Some 0) ∙ length-replicate n None;
-      start = subst (λ c. IsAtMost c 0) (sym (get_or-set_same (replicate n None) root (Some 0) None below)) (omega arith);
+      start = subst (λ c. IsAtMost c 0) (sym (get_or-set_same (replicate n None) root (Some 0) None below))
+          (omega arith);
       inner = λ v h. h;
       settled = λ v h k. absurd (true_is_not_false (among allowed v) h k);
       sound = λ v w here. let r = only_root n root v w here in
@@ -109,19 +126,22 @@ search_begins network allowed root positive count at_root =
     }
 
 -- settling a node
-settled_now : (unsettled : List Bool) (x v : ℕ) → among (set unsettled x false) v ≡ false → (v ≡ x) ⊎ (among unsettled v ≡ false)
+settled_now : (unsettled : List Bool) (x v : ℕ) → among (set unsettled x false) v ≡ false → (v ≡ x)
+    ⊎ (among unsettled v ≡ false)
 settled_now unsettled x v h = elim (cases_eq v x) [
   | inl same ↦ inl same
   | inr other ↦ inr (sym (get_or-set_other unsettled x v false false other) ∙ h)
 ]
 
-unsettled_still : (unsettled : List Bool) (x v : ℕ) → x < length unsettled → among (set unsettled x false) v ≡ true → (v ≢ x) × (among unsettled v ≡ true)
+unsettled_still : (unsettled : List Bool) (x v : ℕ) → x < length unsettled → among (set unsettled x false) v ≡ true
+    → (v ≢ x) × (among unsettled v ≡ true)
 unsettled_still unsettled x v below h =
     let other : v ≢ x = λ same. true_is_not_false (among (set unsettled x false) x)
     (sym (ap (among (set unsettled x false)) same) ∙ h) (get_or-set_same unsettled x false false below) in
     (other, sym (get_or-set_other unsettled x v false false other) ∙ h)
 
-count_falls : (unsettled : List Bool) (x : ℕ) → among unsettled x ≡ true → unsettled_count (set unsettled x false) + 1 ≡ unsettled_count unsettled
+count_falls : (unsettled : List Bool) (x : ℕ) → among unsettled x ≡ true
+    → unsettled_count (set unsettled x false) + 1 ≡ unsettled_count unsettled
 count_falls unsettled x waits =
     let f : Bool → ℕ = λ b. cond b 1 0 in
     let one : f (among unsettled x) ≡ 1 = ap f waits in
@@ -141,24 +161,34 @@ module _ (network : Network) (inside : ℕ → Bool) (root : ℕ) (unsettled : L
   module _ (arcs : List Arc) (of_node : AreArcsOf network.nodes network.edges best.node arcs)
       (new : List (Option ℕ)) (waited waiting : List Waiting)
       (r : IsRelaxed arcs best.weight (set unsettled best.node false) weights new waited waiting) where
-    closed_now : (u v w c : ℕ) → among (set unsettled best.node false) u ≡ false → at_node new u ≡ Some w → inside v ≡ true
+    closed_now : (u v w c : ℕ) → among (set unsettled best.node false) u ≡ false → at_node new u ≡ Some w
+        → inside v ≡ true
         → Joins network.edges u v c → IsAtMost (at_node new v) (w + c)
     closed_now u v w c is_settled here inner joined =
         let before : at_node weights u ≡ Some w = sym (r.kept u is_settled) ∙ here in
         elim (settled_now unsettled best.node u is_settled) [
           | inr old ↦ r.falls v (w + c) (so_far.closed u v w c old before inner joined)
           | inl same ↦
-              let w_is : best.weight ≡ w = some_injective best.weight w (sym lightest.weighs ∙ sym (ap (at_node weights) same) ∙ before) in
+              let w_is : best.weight ≡ w = some_injective best.weight w
+              (sym lightest.weighs ∙ sym (ap (at_node weights) same) ∙ before) in
               let from : Joins network.edges best.node v c = subst (λ i. Joins network.edges i v c) same joined in
               elim (true_or_false (among (set unsettled best.node false) v)) [
-                | inl waits ↦ subst (λ i. IsAtMost (at_node new v) (i + c)) w_is (r.reached v c (of_node.whole v c from) waits)
-                | inr gone ↦ subst (λ o. IsAtMost o (w + c)) (sym (r.kept v gone)) (elim (settled_now unsettled best.node v gone) [
-                  | inl itself ↦ subst (λ o. IsAtMost o (w + c)) (sym (ap (at_node weights) itself ∙ lightest.weighs)) (omega (arith, w_is))
-                  | inr old ↦
-                      let y = so_far.settled v inner old in
-                      subst (λ o. IsAtMost o (w + c)) (sym y.1)
-                      (omega (arith, w_is, so_far.lightest v best.node y.0 best.weight old y.1 lightest.waits lightest.weighs))
-                ])
+                | inl waits ↦ subst (λ i. IsAtMost (at_node new v) (i + c)) w_is
+                    (r.reached v c (of_node.whole v c from) waits)
+                | inr gone ↦ subst (λ o. IsAtMost o (w + c)) (sym (r.kept v gone))
+                    (elim (settled_now unsettled best.node v gone) [
+                      | inl itself ↦ subst (λ o. IsAtMost o (w + c))
+                          (sym (ap (at_node weights) itself ∙ lightest.weighs)) (omega (arith, w_is))
+                      | inr old ↦
+                          let y = so_far.settled v inner old in
+                          subst (λ o. IsAtMost o (w + c)) (sym y.1)
+                          (omega (
+                            arith,
+                            w_is,
+                            so_far.lightest v best.node y.0 best.weight old y.1 lightest.waits
+                                lightest.weighs,
+                          ))
+                    ])
               ]
         ]
 
@@ -168,7 +198,11 @@ module _ (network : Network) (inside : ℕ → Bool) (root : ℕ) (unsettled : L
         let before : at_node weights u ≡ Some x = sym (r.kept u is_settled) ∙ here in
         let still = unsettled_still unsettled best.node v (among_below unsettled best.node lightest.waits) waits in
         let light : x ≤ best.weight = elim (settled_now unsettled best.node u is_settled) [
-          | inl same ↦ omega (arith, some_injective best.weight x (sym lightest.weighs ∙ sym (ap (at_node weights) same) ∙ before))
+          | inl same ↦ omega (
+            arith,
+            some_injective best.weight x
+                (sym lightest.weighs ∙ sym (ap (at_node weights) same) ∙ before),
+          )
           | inr old ↦ so_far.lightest u best.node x best.weight old before lightest.waits lightest.weighs
         ] in
         elim (r.cause v y there) [
@@ -182,12 +216,14 @@ module _ (network : Network) (inside : ℕ → Bool) (root : ℕ) (unsettled : L
     pub search_goes_on : IsSearch network inside root (set unsettled best.node false) new
     search_goes_on =
         let next : List Bool = set unsettled best.node false in
-        let fallen : unsettled_count next + 1 ≡ unsettled_count unsettled = count_falls unsettled best.node lightest.waits in
+        let fallen : unsettled_count next + 1 ≡ unsettled_count unsettled =
+        count_falls unsettled best.node lightest.waits in
         record {
           nodes = length-set unsettled best.node false ∙ so_far.nodes;
           count = r.count ∙ so_far.count;
           start = r.falls root 0 so_far.start;
-          inner = λ v waits. so_far.inner v (unsettled_still unsettled best.node v (among_below unsettled best.node lightest.waits) waits).1;
+          inner = λ v waits. so_far.inner v (unsettled_still unsettled best.node v
+              (among_below unsettled best.node lightest.waits) waits).1;
           settled = λ v inner gone. elim (settled_now unsettled best.node v gone) [
             | inl same ↦ (best.weight, r.kept v gone ∙ ap (at_node weights) same ∙ lightest.weighs)
             | inr old ↦ let y = so_far.settled v inner old in (y.0, r.kept v gone ∙ y.1)
@@ -195,16 +231,24 @@ module _ (network : Network) (inside : ℕ → Bool) (root : ℕ) (unsettled : L
           sound = λ v w here. elim (r.cause v w here) [
             | inl old ↦ so_far.sound v w old
             | inr through ↦
-                let still = unsettled_still unsettled best.node v (among_below unsettled best.node lightest.waits) through.waits in
+                let still = unsettled_still unsettled best.node v (among_below unsettled best.node lightest.waits)
+                through.waits in
                 subst (λ i. IsWalkWeight network.edges inside root v i) (sym through.sum)
                 (walk_further network.edges inside root best.node v best.weight through.by
-                (so_far.sound best.node best.weight lightest.weighs) (so_far.inner v still.1) (of_node.sound v through.by through.arc))
+                (so_far.sound best.node best.weight lightest.weighs) (so_far.inner v still.1)
+                (of_node.sound v through.by through.arc))
           ];
           closed = closed_now;
           lightest = lightest_now;
           slack = λ v w here. elim (r.cause v w here) [
             | inl old ↦ omega (arith, so_far.slack v w old, fallen)
-            | inr through ↦ omega (arith, through.sum, fallen, so_far.slack best.node best.weight lightest.weighs, through_light v through.by through.arc)
+            | inr through ↦ omega (
+              arith,
+              through.sum,
+              fallen,
+              so_far.slack best.node best.weight lightest.weighs,
+              through_light v through.by through.arc,
+            )
           ];
           bounded = λ v w here. elim (r.cause v w here) [
             | inl old ↦ so_far.bounded v w old
@@ -220,12 +264,19 @@ module _ (network : Network) (inside : ℕ → Bool) (root : ℕ) (unsettled : L
         }
 
 -- the queue's next is the lightest
-module _ (unsettled : List Bool) (weights : List (Option ℕ)) (waiting rest : List Waiting) (queue : IsQueue unsettled weights waiting)
+module _ (unsettled : List Bool) (weights : List (Option ℕ)) (waiting rest : List Waiting)
+    (queue : IsQueue unsettled weights waiting)
     (best : Candidate) (next : IsNext unsettled waiting rest best) where
   pub next_is_lightest : IsLightest unsettled weights best
   next_is_lightest =
-      let y = at_most_some (at_node weights best.node) best.weight (queue.light best.weight best.node next.there next.waits) in
-      let same : y.0 ≡ best.weight = omega (arith, y.2, next.lightest y.0 best.node (queue.whole best.node y.0 next.waits y.1) next.waits) in
+      let y = at_most_some (at_node weights best.node) best.weight
+      (queue.light best.weight best.node next.there next.waits) in
+      let same : y.0 ≡ best.weight = omega (
+        arith,
+        y.2,
+        next.lightest y.0 best.node
+            (queue.whole best.node y.0 next.waits y.1) next.waits,
+      ) in
       record {
         waits = next.waits;
         weighs = y.1 ∙ ap Some same;
@@ -255,13 +306,15 @@ module _ (unsettled : List Bool) (weights : List (Option ℕ)) (waiting rest : L
   }
 
 -- the queue at the beginning
-pub queue_begins : (n : ℕ) (allowed : List Bool) (root : ℕ) (waiting : List Waiting) → length allowed ≡ n → among allowed root ≡ true
+pub queue_begins : (n : ℕ) (allowed : List Bool) (root : ℕ) (waiting : List Waiting) → length allowed ≡ n
+    → among allowed root ≡ true
     → IsPermutation (make_waiting 0 root ∷ []) waiting
     → IsQueue allowed (set (replicate n None) root (Some 0)) waiting
 queue_begins n allowed root waiting count at_root pushed = record {
   below = λ w v has. let r = only w v has in omega (arith, among_below allowed root at_root, r.1);
   whole = λ v w waits here. let r = only_root n root v w here in
-      subst (λ i. Contains waiting (make_waiting i v)) (sym r.1) (subst (λ i. Contains waiting (make_waiting 0 i)) (sym r.0)
+      subst (λ i. Contains waiting (make_waiting i v)) (sym r.1)
+      (subst (λ i. Contains waiting (make_waiting 0 i)) (sym r.0)
       (Contains-permutation (make_waiting 0 root ∷ []) waiting (make_waiting 0 root) pushed (0, omega arith, refl)));
   light = λ w v has waits. let r = only w v has in
       subst (λ i. IsAtMost (at_node (set (replicate n None) root (Some 0)) i) w) r.1
@@ -278,24 +331,28 @@ queue_begins n allowed root waiting count at_root pushed = record {
         one (suc k, below, here) = absurd (omega arith)
 
 -- what the search and its queue keep
-pub record IsUnderWay (network : Network) (inside : ℕ → Bool) (root : ℕ) (unsettled : List Bool) (weights : List (Option ℕ))
+pub record IsUnderWay (network : Network) (inside : ℕ → Bool) (root : ℕ) (unsettled : List Bool)
+    (weights : List (Option ℕ))
     (waiting : List Waiting) : Type 0 where
   pub found : IsSearch network inside root unsettled weights
   pub queue : IsQueue unsettled weights waiting
 
 -- one round, on a part of a longer list of weights
-pub search_settles : (network : Network) (inside : ℕ → Bool) (root : ℕ) (unsettled : List Bool) (weights : List (Option ℕ))
+pub search_settles : (network : Network) (inside : ℕ → Bool) (root : ℕ) (unsettled : List Bool)
+    (weights : List (Option ℕ))
     (waiting remaining after : List Waiting) → IsUnderWay network inside root unsettled weights waiting
     → (best : Candidate) → IsNext unsettled waiting remaining best
     → (arcs : List Arc) → AreArcsOf network.nodes network.edges best.node arcs
     → (new rest : List (Option ℕ)) (k : ℕ)
     → IsRelaxed arcs best.weight (set unsettled best.node false) weights new remaining after → length new ≡ k
     → IsUnderWay network inside root (set unsettled best.node false) (take k (new ++ rest)) after
-search_settles network inside root unsettled weights waiting remaining after so_far best next arcs of_node new rest k r count =
+search_settles network inside root unsettled weights waiting remaining after so_far best next arcs of_node new rest k r
+    count =
     rw (take_at new rest k count)
     (record {
       found = search_goes_on network inside root unsettled weights so_far.found best
-          (next_is_lightest unsettled weights waiting remaining so_far.queue best next) arcs of_node new remaining after r;
+          (next_is_lightest unsettled weights waiting remaining so_far.queue best next) arcs of_node new remaining after
+          r;
       queue = queue_goes_on unsettled weights waiting remaining so_far.queue best next arcs new after r;
     })
 
@@ -319,10 +376,12 @@ module _ (network : Network) (inside : ℕ → Bool) (root : ℕ) (unsettled : L
       at_most_trans (at_node weights v) (y.0 + weight_of steps) (w + (step.weight + weight_of steps))
       (follows step.node steps v y.0 y.1 walk.2) (omega (arith, y.2))
 
-  from_root : (steps : List Step) (v : ℕ) → IsWalk network.edges inside root steps v → IsAtMost (at_node weights v) (weight_of steps)
+  from_root : (steps : List Step) (v : ℕ) → IsWalk network.edges inside root steps v
+      → IsAtMost (at_node weights v) (weight_of steps)
   from_root steps v walk =
       let y = at_most_some (at_node weights root) 0 so_far.start in
-      at_most_trans (at_node weights v) (y.0 + weight_of steps) (weight_of steps) (follows root steps v y.0 y.1 walk) (omega (arith, y.2))
+      at_most_trans (at_node weights v) (y.0 + weight_of steps) (weight_of steps) (follows root steps v y.0 y.1 walk)
+      (omega (arith, y.2))
 
   pub search_ends : AreLeastWeights network inside root weights
   search_ends = record {

@@ -33,12 +33,14 @@ no_less : (a b : ℕ) (o : Ordering) → is_lt (ordering_then (nat_cmp b a) o) �
 no_less a b o h = elim (cases_lt b a) [
   | inl less ↦ absurd (
       let lt : nat_lt b a ≡ true = lt-ltb b a less in
-      let both : true ≡ false = subst (λ t. is_lt (ordering_then (cond t Less (cond (b == a) Equal Greater)) o) ≡ false) lt h in cc)
+      let both : true ≡ false = subst (λ t. is_lt (ordering_then (cond t Less (cond (b == a) Equal Greater)) o) ≡ false)
+      lt h in cc)
   | inr more ↦ more
 ]
 
 -- nothing is lighter than the greatest of a queue
-no_lighter : (x : Waiting) (xs : List Waiting) → IsUpperBound lighter_first x xs → (y : Waiting) → Contains xs y → x.0.0 ≤ y.0.0
+no_lighter : (x : Waiting) (xs : List Waiting) → IsUpperBound lighter_first x xs → (y : Waiting) → Contains xs y
+    → x.0.0 ≤ y.0.0
 no_lighter x [] bound y has = absurd (omega (arith, has.1))
 no_lighter x (z ∷ zs) bound y has = elim (first_or_later y z zs has) [
   | inl is ↦ subst (λ (u : Waiting). x.0.0 ≤ u.0.0) is (no_less x.0.0 z.0.0 (nat_cmp z.0.1 x.0.1) bound.0)
@@ -60,7 +62,8 @@ module _ (unsettled : List Bool) (old now rest : List Waiting) (so_far : StillWa
       (IsPermutation-sym now (make_waiting weight node ∷ rest) taken) has
 
   rest_fewer : (w v : ℕ) → Contains rest (make_waiting w v) → Contains old (make_waiting w v)
-  rest_fewer w v has = so_far.fewer w v (back (make_waiting w v) (later (make_waiting w v) (make_waiting weight node) rest has))
+  rest_fewer w v has = so_far.fewer w v (back (make_waiting w v)
+      (later (make_waiting w v) (make_waiting weight node) rest has))
 
   pub taken_waited : Contains old (make_waiting weight node)
   taken_waited = so_far.fewer weight node (back (make_waiting weight node) (first (make_waiting weight node) rest))
@@ -85,7 +88,8 @@ module _ (unsettled : List Bool) (old now rest : List Waiting) (so_far : StillWa
     there = subst (λ i. Contains old (make_waiting i best.node)) (sym weight_is)
         (subst (λ i. Contains old (make_waiting weight i)) (sym node_is) taken_waited);
     lightest = λ w v has v_waits.
-        let light : weight ≤ w = no_lighter (make_waiting weight node) now bound (make_waiting w v) (so_far.kept w v has v_waits) in
+        let light : weight ≤ w = no_lighter (make_waiting weight node) now bound (make_waiting w v)
+        (so_far.kept w v has v_waits) in
         omega (arith, weight_is);
     kept = λ w v has v_waits other. elim (taken_or_rest w v (so_far.kept w v has v_waits)) [
       | inl same ↦ absurd (other (sym same ∙ sym node_is))

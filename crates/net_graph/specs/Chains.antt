@@ -1,5 +1,5 @@
--- The arcs of each node as a chain: each arc leads to the one that was noted before it at the same node.
--- These definitions serve the private type `Chains`, from which a graph's rows are made.
+-- The arcs of each node as a chain: each arc leads to the one that was noted before it at the same
+-- node. These definitions serve the private type `Chains`, from which a graph's rows are made.
 use Rattle.std.specs.Prelude.{◌≡◌, ◌≢◌, ◌↔◌, ℕ, ◌<◌, List, [], ◌∷◌, Option, None, Some, Contains, length, slice_index_or}
 use Rattle.net_graph.specs.declared.edge.Edge.{Edge}
 use Rattle.net_graph.specs.declared.neighbours.Arc.{Arc}
@@ -21,7 +21,8 @@ pub record IsLink (links : List Link) (at : Option ℕ) (arc : Arc) (before : Op
 -- from this place on the chain has these arcs
 abbrev pub IsChain : List Link → Option ℕ → List Arc → Type 0
 IsChain links at [] = at ≡ None
-IsChain links at (arc ∷ arcs) = (before : Option ℕ) × IsLink links at arc before × IsChain links before arcs
+IsChain links at (arc ∷ arcs) = (before : Option ℕ) × IsLink links at arc before
+    × IsChain links before arcs
 
 -- an edge that is no loop joins u and v with weight w
 abbrev pub JoinsOther : List Edge → ℕ → ℕ → ℕ → Type 0
@@ -32,12 +33,14 @@ abbrev pub AreArcsBy : (ℕ → ℕ → ℕ → Type 0) → ℕ → List Arc →
 AreArcsBy joins u arcs = (v w : ℕ) → Contains arcs (make_arc v w) ↔ joins u v w
 
 -- a chain of the arcs from u
-pub record HasChain (joins : ℕ → ℕ → ℕ → Type 0) (links : List Link) (last : List (Option ℕ)) (u : ℕ) : Type 0 where
+pub record HasChain (joins : ℕ → ℕ → ℕ → Type 0) (links : List Link) (last : List (Option ℕ))
+    (u : ℕ) : Type 0 where
   pub arcs : List Arc
   pub chain : IsChain links (slice_index_or last u None) arcs
   pub are : AreArcsBy joins u arcs
 
 -- each of n nodes has a chain of its arcs
-pub record AreChains (n : ℕ) (joins : ℕ → ℕ → ℕ → Type 0) (links : List Link) (last : List (Option ℕ)) : Type 0 where
+pub record AreChains (n : ℕ) (joins : ℕ → ℕ → ℕ → Type 0) (links : List Link)
+    (last : List (Option ℕ)) : Type 0 where
   pub count : length last ≡ n
   pub each : (u : ℕ) → u < n → HasChain joins links last u

@@ -1,5 +1,6 @@
--- How a network lies in memory: each node's arcs stand in one row of a flat array, and `starts` says where each row
--- begins. These definitions serve the private type `Neighbours`; clauses of `Graph` see a `Network` alone.
+-- How a network lies in memory: each node's arcs stand in one row of a flat array, and `starts`
+-- says where each row begins. These definitions serve the private type `Neighbours`; clauses of
+-- `Graph` see a `Network` alone.
 use Rattle.std.specs.Prelude.{◌≡◌, ℕ, zero, suc, ◌+◌, ◌<◌, ◌≤◌, List, [], ◌++◌, length, map, Contains, All, slice_index_or, slice_range}
 use Rattle.net_graph.specs.declared.edge.Edge.{Edge}
 use Rattle.net_graph.specs.declared.edge.TheConstants.{MAX_NODES, MAX_WEIGHT}
@@ -37,7 +38,8 @@ pub record IsLaidOut (n : ℕ) (starts : List ℕ) (arcs : List Arc) : Type 0 wh
   pub ordered : (u : ℕ) → u < n → slice_index_or starts u 0 ≤ slice_index_or starts (u + 1) 0
   pub within : (u : ℕ) → u < n → slice_index_or starts (u + 1) 0 ≤ length arcs
   pub limits : All (IsArc n) arcs
-  pub turned : (u v w : ℕ) → u < n → Contains (row starts arcs u) (make_arc v w) → Contains (row starts arcs v) (make_arc u w)
+  pub turned : (u v w : ℕ) → u < n → Contains (row starts arcs u) (make_arc v w)
+      → Contains (row starts arcs v) (make_arc u w)
 
 -- the arcs are those that lead from node u
 pub record AreArcsOf (n : ℕ) (edges : List Edge) (u : ℕ) (arcs : List Arc) : Type 0 where

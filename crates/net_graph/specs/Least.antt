@@ -7,6 +7,6 @@ IsAtMost None w = ⊥
 IsAtMost (Some x) w = x ≤ w
 
 -- the lesser of a number that may be missing and another
-abbrev pub lowered : Option ℕ → ℕ → Option ℕ
-lowered None w = Some w
-lowered (Some x) w = Some (min x w)
+abbrev pub lesser_of : Option ℕ → ℕ → Option ℕ
+lesser_of None w = Some w
+lesser_of (Some x) w = Some (min x w)

@@ -29,12 +29,14 @@ pub record IsNetwork (network : Network) : Type 0 where
   pub limits : IsInLimits network
   pub connected : (v : ℕ) → v < network.nodes → IsReached network.edges everywhere 0 v
 
--- inside any set of nodes, the two lists of edges have the same least weights, and reach and leave unreached
--- the same nodes
+-- inside any set of nodes, the two lists of edges have the same least weights, and reach and leave
+-- unreached the same nodes
 pub record SameWalks (old new : List Edge) : Type 0 where
-  pub least : (inside : ℕ → Bool) (u v w : ℕ) → IsLeastWeight old inside u v w ↔ IsLeastWeight new inside u v w
+  pub least : (inside : ℕ → Bool) (u v w : ℕ) → IsLeastWeight old inside u v w
+      ↔ IsLeastWeight new inside u v w
   pub reached : (inside : ℕ → Bool) (u v : ℕ) → IsReached old inside u v ↔ IsReached new inside u v
-  pub unreached : (inside : ℕ → Bool) (u v : ℕ) → IsUnreached old inside u v ↔ IsUnreached new inside u v
+  pub unreached : (inside : ℕ → Bool) (u v : ℕ) → IsUnreached old inside u v
+      ↔ IsUnreached new inside u v
 
 -- a graph of these nodes and edges
 pub record IsGraphOf (n : ℕ) (edges : List Edge) (network : Network) : Type 0 where
@@ -50,5 +52,6 @@ pub record IsFirstApart (n : ℕ) (edges : List Edge) (node : ℕ) : Type 0 wher
 
 -- where a walk leads to a node, one of least weight does
 abbrev pub ReachedHasLeastWeight : Type 0
-ReachedHasLeastWeight = (n : ℕ) (edges : List Edge) (inside : ℕ → Bool) (u v : ℕ) → All (IsEdge n) edges
+ReachedHasLeastWeight = (n : ℕ) (edges : List Edge) (inside : ℕ → Bool) (u v : ℕ)
+    → All (IsEdge n) edges
     → IsReached edges inside u v → (w : ℕ) × IsLeastWeight edges inside u v w

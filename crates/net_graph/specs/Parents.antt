@@ -14,16 +14,23 @@ pub record MakesUp (weights : List (Option ℕ)) (p c : ℕ) (weight : Option �
   pub sum : weight ≡ Some (before + c)
 
 -- the least target of an arc that makes up the weight
-pub record IsLeastTarget (arcs : List Arc) (weights : List (Option ℕ)) (weight least : Option ℕ) : Type 0 where
-  pub cause : (p : ℕ) → least ≡ Some p → (c : ℕ) × Contains arcs (make_arc p c) × MakesUp weights p c weight
-  pub whole : (q c : ℕ) → Contains arcs (make_arc q c) → MakesUp weights q c weight → IsAtMost least q
+pub record IsLeastTarget (arcs : List Arc) (weights : List (Option ℕ))
+    (weight least : Option ℕ) : Type 0 where
+  pub cause : (p : ℕ) → least ≡ Some p → (c : ℕ) × Contains arcs (make_arc p c)
+      × MakesUp weights p c weight
+  pub whole : (q c : ℕ) → Contains arcs (make_arc q c) → MakesUp weights q c weight
+      → IsAtMost least q
 
 -- the least neighbour whose weight and edge make up the weight of v
-pub record IsLeastNeighbour (edges : List Edge) (weights : List (Option ℕ)) (v : ℕ) (least : Option ℕ) : Type 0 where
-  pub cause : (p : ℕ) → least ≡ Some p → (c : ℕ) × Joins edges v p c × MakesUp weights p c (at_node weights v)
-  pub whole : (q c : ℕ) → Joins edges v q c → MakesUp weights q c (at_node weights v) → IsAtMost least q
+pub record IsLeastNeighbour (edges : List Edge) (weights : List (Option ℕ)) (v : ℕ)
+    (least : Option ℕ) : Type 0 where
+  pub cause : (p : ℕ) → least ≡ Some p → (c : ℕ) × Joins edges v p c
+      × MakesUp weights p c (at_node weights v)
+  pub whole : (q c : ℕ) → Joins edges v q c → MakesUp weights q c (at_node weights v)
+      → IsAtMost least q
 
 -- the least neighbours of the first n nodes
-pub record AreLeastNeighbours (edges : List Edge) (weights : List (Option ℕ)) (n : ℕ) (parents : List (Option ℕ)) : Type 0 where
+pub record AreLeastNeighbours (edges : List Edge) (weights : List (Option ℕ)) (n : ℕ)
+    (parents : List (Option ℕ)) : Type 0 where
   pub count : length parents ≡ n
   pub each : (v : ℕ) → v < n → IsLeastNeighbour edges weights v (at_node parents v)

@@ -19,14 +19,17 @@ lighter_first x y = ordering_then (nat_cmp y.0.0 x.0.0) (nat_cmp y.0.1 x.0.1)
 
 -- none of those that wait is unsettled
 abbrev pub AreSettled : List Bool → List Waiting → Type 0
-AreSettled unsettled waiting = (w v : ℕ) → Contains waiting (make_waiting w v) → among unsettled v ≡ true → ⊥
+AreSettled unsettled waiting = (w v : ℕ) → Contains waiting (make_waiting w v)
+    → among unsettled v ≡ true → ⊥
 
--- the best is the lightest unsettled one of those that waited; the other unsettled ones wait still, and no new ones
+-- the best is the lightest unsettled one of those that waited; the other unsettled ones wait still,
+-- and no new ones
 pub record IsNext (unsettled : List Bool) (old new : List Waiting) (best : Candidate) : Type 0 where
   pub below : best.node < length unsettled
   pub waits : among unsettled best.node ≡ true
   pub there : Contains old (make_waiting best.weight best.node)
-  pub lightest : (w v : ℕ) → Contains old (make_waiting w v) → among unsettled v ≡ true → best.weight ≤ w
+  pub lightest : (w v : ℕ) → Contains old (make_waiting w v) → among unsettled v ≡ true
+      → best.weight ≤ w
   pub kept : (w v : ℕ) → Contains old (make_waiting w v) → among unsettled v ≡ true → v ≢ best.node
       → Contains new (make_waiting w v)
   pub fewer : (w v : ℕ) → Contains new (make_waiting w v) → Contains old (make_waiting w v)

@@ -1,4 +1,5 @@
--- Steps of the search for least walks, on the list of the weights found so far and on the nodes that wait.
+-- Steps of the search for least walks, on the list of the weights found so far and on the nodes
+-- that wait.
 use Rattle.std.specs.Prelude.{◌≡◌, ◌⊎◌, ℕ, ◌+◌, ◌<◌, Bool, true, false, List, Option, Some, Contains, length}
 use Rattle.net_graph.specs.declared.neighbours.Arc.{Arc}
 use Rattle.net_graph.specs.Walks.{among}
@@ -18,16 +19,20 @@ pub record IsThrough (arcs : List Arc) (x : ℕ) (unsettled : List Bool) (v w : 
   pub waits : among unsettled v ≡ true
   pub sum : w ≡ x + by
 
--- what relaxing the arcs from a node of weight x does to the weights and to the nodes that wait: weights of unsettled
--- nodes fall to those through the arcs, and a node whose weight fell waits at its new weight
+-- what relaxing the arcs from a node of weight x does to the weights and to the nodes that wait:
+-- weights of unsettled nodes fall to those through the arcs, and a node whose weight fell waits at
+-- its new weight
 pub record IsRelaxed (arcs : List Arc) (x : ℕ) (unsettled : List Bool) (old new : List (Option ℕ))
     (waited waiting : List Waiting) : Type 0 where
   pub count : length new ≡ length old
   pub kept : (v : ℕ) → among unsettled v ≡ false → at_node new v ≡ at_node old v
-  pub cause : (v w : ℕ) → at_node new v ≡ Some w → (at_node old v ≡ Some w) ⊎ IsThrough arcs x unsettled v w
+  pub cause : (v w : ℕ) → at_node new v ≡ Some w → (at_node old v ≡ Some w)
+      ⊎ IsThrough arcs x unsettled v w
   pub falls : (v w : ℕ) → IsAtMost (at_node old v) w → IsAtMost (at_node new v) w
-  pub reached : (v c : ℕ) → Contains arcs (make_arc v c) → among unsettled v ≡ true → IsAtMost (at_node new v) (x + c)
+  pub reached : (v c : ℕ) → Contains arcs (make_arc v c) → among unsettled v ≡ true
+      → IsAtMost (at_node new v) (x + c)
   pub wait_on : (w v : ℕ) → Contains waited (make_waiting w v) → Contains waiting (make_waiting w v)
-  pub joined : (v w : ℕ) → at_node new v ≡ Some w → (at_node old v ≡ Some w) ⊎ Contains waiting (make_waiting w v)
+  pub joined : (v w : ℕ) → at_node new v ≡ Some w → (at_node old v ≡ Some w)
+      ⊎ Contains waiting (make_waiting w v)
   pub since : (w v : ℕ) → Contains waiting (make_waiting w v)
       → Contains waited (make_waiting w v) ⊎ ((v < length unsettled) × IsAtMost (at_node new v) w)

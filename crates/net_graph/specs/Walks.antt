@@ -1,7 +1,8 @@
 -- Walks along the edges of a network, and the least weight of a walk whose nodes all lie in a set.
--- Each definition takes the list of edges and a test `inside`, that says which nodes a walk may visit.
--- Key laws, public functions of `laws`: a least weight is one, it is the same from either end, it obeys the
--- triangle inequality, it is 0 from a node to itself, and what has a least weight is not unreached.
+-- Each definition takes the list of edges and a test `inside`, that says which nodes a walk may
+-- visit. Key laws, public functions of `laws`: a least weight is one, it is the same from either
+-- end, it obeys the triangle inequality, it is 0 from a node to itself, and what has a least weight
+-- is not unreached.
 use Rattle.std.specs.Prelude.{◌≡◌, ◌⊎◌, ℕ, ◌+◌, ◌≤◌, Bool, true, false, List, [], ◌∷◌, Contains, IsTrue, slice_index_or}
 use Rattle.net_graph.specs.declared.edge.Edge.{Edge}
 
@@ -26,10 +27,12 @@ everywhere v = true
 abbrev pub among : List Bool → ℕ → Bool
 among allowed v = slice_index_or allowed v false
 
--- the steps lead from u to v along edges of the list, and each node of the walk, u and v too, is inside
+-- the steps lead from u to v along edges of the list, and each node of the walk, u and v too, is
+-- inside
 abbrev pub IsWalk : List Edge → (ℕ → Bool) → ℕ → List Step → ℕ → Type 0
 IsWalk edges inside u [] v = IsTrue (inside u) × (u ≡ v)
-IsWalk edges inside u (step ∷ steps) v = IsTrue (inside u) × Joins edges u step.node step.weight × IsWalk edges inside step.node steps v
+IsWalk edges inside u (step ∷ steps) v = IsTrue (inside u) × Joins edges u step.node step.weight
+    × IsWalk edges inside step.node steps v
 
 -- the sum of the weights of the steps
 abbrev pub weight_of : List Step → ℕ

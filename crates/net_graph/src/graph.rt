@@ -33,8 +33,9 @@ impl Model for Graph {
 }
 
 impl Graph {
-    /// A graph of `n` nodes. Of edges that join the same nodes the lightest counts, and an edge from a node to itself
-    /// counts for nothing. `Apart` names the least node that no walk from node 0 reaches.
+    /// A graph of `n` nodes. Of edges that join the same nodes the lightest counts, and an edge
+    /// from a node to itself counts for nothing. `Apart` names the least node that no walk from
+    /// node 0 reaches.
     pub fn new(alloc: Global, n: u32, edges: &[Edge]) -> Result<Graph, GraphFault>
         requires positive { 1 ≤ n }
         requires few { n ≤ MAX_NODES }
@@ -67,8 +68,8 @@ impl Graph {
         self.neighbours.arcs_of(node)
     }
 
-    /// For each node the least weight of a walk from `root` through the nodes at which `allowed` holds true, `None`
-    /// where there is no walk.
+    /// For each node the least weight of a walk from `root` through the nodes at which `allowed`
+    /// holds true, `None` where there is no walk.
     pub fn weights_from(
         &self,
         alloc: Global,
@@ -77,7 +78,8 @@ impl Graph {
     ) -> Result<Vec<Option<u64>>, OutOfMemory>
         requires count { length allowed.now ≡ self.now.nodes }
         requires root { IsTrue (among allowed.now root) }
-        ensures weights { IfOk result (λ w. AreLeastWeights self.now (among allowed.now) root w.items) }
+        ensures weights { IfOk result (λ w. AreLeastWeights self.now
+            (among allowed.now) root w.items) }
         ensures sound { IsNetwork self.now }
     {
         search_from(alloc, &self.neighbours, allowed, root)
@@ -87,8 +89,10 @@ impl Graph {
     pub fn tree_from(&self, alloc: Global, allowed: &[bool], root: u32) -> Result<Tree, OutOfMemory>
         requires count { length allowed.now ≡ self.now.nodes }
         requires root { IsTrue (among allowed.now root) }
-        ensures weights { IfOk result (λ t. AreLeastWeights self.now (among allowed.now) root t.weight.items) }
-        ensures parents { IfOk result (λ t. AreParents self.now root t.weight.items t.parent.items) }
+        ensures weights { IfOk result (λ t. AreLeastWeights self.now
+            (among allowed.now) root t.weight.items) }
+        ensures parents { IfOk result (λ t.
+            AreParents self.now root t.weight.items t.parent.items) }
         ensures sound { IsNetwork self.now }
     {
         let weight = search_from(alloc, &self.neighbours, allowed, root)?;
@@ -100,9 +104,11 @@ impl Graph {
 // The first node that has no weight.
 fn first_apart(weights: &[Option<u64>]) -> Option<u32>
     requires { length weights.now ≤ MAX_NODES }
-    ensures apart { IfSome result (λ node. (node < length weights.now) × (at_node weights.now node ≡ None)) }
+    ensures apart { IfSome result (λ node. (node < length weights.now)
+        × (at_node weights.now node ≡ None)) }
     ensures first { IfSome result (λ node. (v : ℕ) → v < node → at_node weights.now v ≡ None → ⊥) }
-    ensures none { IfNone result ((v : ℕ) → v < length weights.now → at_node weights.now v ≡ None → ⊥) }
+    ensures none { IfNone result ((v : ℕ) → v < length weights.now → at_node weights.now v ≡ None
+        → ⊥) }
 {
     for (node, weight) in weights.iter().enumerate() {
         if weight.is_none() {

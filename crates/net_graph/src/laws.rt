@@ -1,4 +1,5 @@
-//! Laws of least weights, for the proofs of callers: each function does nothing, and its clause is a law.
+//! Laws of least weights, for the proofs of callers: each function does nothing, and its clause is
+//! a law.
 
 ghost use Rattle.std.specs.Prelude.{◌≡◌, ◌≢◌, ◌+◌, ◌<◌, ◌≤◌, ◌↔◌, ℕ, Bool, true, List, All, length};
 ghost use Rattle.net_graph.specs.declared.edge.Edge.{Edge};
@@ -38,7 +39,8 @@ pub fn least_weight_to_itself()
 
 /// A least weight is at most the weight of an edge between the nodes.
 pub fn least_weight_of_a_step()
-    ensures { (edges : List Edge) (inside : ℕ → Bool) (u v w x : ℕ) → inside u ≡ true → inside v ≡ true
+    ensures { (edges : List Edge) (inside : ℕ → Bool) (u v w x : ℕ) → inside u ≡ true
+        → inside v ≡ true
         → Joins edges u v x → IsLeastWeight edges inside u v w → w ≤ x }
 {}
 
@@ -51,7 +53,8 @@ pub fn least_weight_is_positive()
 /// A node that has a least weight is reached, and one that is unreached has none.
 pub fn least_weight_is_reached()
     ensures { (edges : List Edge) (inside : ℕ → Bool) (u v w : ℕ)
-        → IsLeastWeight edges inside u v w → IsReached edges inside u v × ¬ (IsUnreached edges inside u v) }
+        → IsLeastWeight edges inside u v w → IsReached edges inside u v
+        × ¬ (IsUnreached edges inside u v) }
 {}
 
 /// Where all nodes are allowed, walks go everywhere.

@@ -1,4 +1,5 @@
-//! Weighted networks: a graph by the neighbours of each node, and least walks from a node inside a set of nodes.
+//! Weighted networks: a graph by the neighbours of each node, and least walks from a node inside a
+//! set of nodes.
 #![tactic(auto)]
 
 mod chains;

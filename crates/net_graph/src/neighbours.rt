@@ -31,7 +31,11 @@ impl Model for Neighbours {
 
     ghost use Rattle.net_graph.specs.Layout.{IsLaidOut, edges_from};
 
-    ghost view = { λ g. record { nodes = g.nodes; edges = edges_from g.starts.items g.arcs.items g.nodes } };
+    ghost view = { λ g. record {
+      nodes = g.nodes;
+      edges =
+          edges_from g.starts.items g.arcs.items g.nodes;
+    } };
 
     ghost invariant = { λ g. IsLaidOut g.nodes g.starts.items g.arcs.items };
 }

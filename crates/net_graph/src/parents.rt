@@ -2,7 +2,7 @@
 
 ghost use Rattle.std.specs.Prelude.{◌≡◌, ◌↔◌, ◌<◌, ℕ, All, IfOk, IsTrue, length};
 ghost use Rattle.net_graph.specs.Layout.{IsArc};
-ghost use Rattle.net_graph.specs.Least.{lowered};
+ghost use Rattle.net_graph.specs.Least.{lesser_of};
 ghost use Rattle.net_graph.specs.Parents.{AreLeastNeighbours, IsLeastTarget, MakesUp};
 
 use crate::neighbours::{Arc, Neighbours};
@@ -41,7 +41,7 @@ fn least_target(arcs: &[Arc], weights: &[Option<u64>], weight: Option<u64>) -> O
 
 // Lowers a number that may be missing to another.
 fn lower(least: &mut Option<u32>, number: u32)
-    ensures { least.new ≡ lowered least.old number }
+    ensures { least.new ≡ lesser_of least.old number }
 {
     *least = Some(least.map_or(number, |x| x.min(number)));
 }

@@ -16,7 +16,8 @@ pub(crate) struct Candidate {
     pub(crate) weight: u64,
 }
 
-// Nodes that wait, each with the weight at which it was reached. A node that was reached again waits more than once.
+// Nodes that wait, each with the weight at which it was reached. A node that was reached again
+// waits more than once.
 #[derive(Drop)]
 pub(crate) struct Queue {
     heap: BinaryHeap<Reverse<(u64, u32)>>,
@@ -42,7 +43,8 @@ impl Queue {
         Ok(())
     }
 
-    // The lightest of the unsettled nodes that wait. It and the settled ones before it wait no longer.
+    // The lightest of the unsettled nodes that wait. It and the settled ones before it wait no
+    // longer.
     pub(crate) fn next_unsettled(&mut self, unsettled: &[bool]) -> Option<Candidate>
         requires { (w v : ℕ) → Contains (heap_items self.old.heap) (make_waiting w v)
             → v < length unsettled.now }

@@ -1,5 +1,6 @@
-//! The search for least walks: of the unsettled nodes the lightest is settled next, and the arcs that leave it are
-//! relaxed. A node waits once for each time that its weight fell; once it is settled, its other entries are skipped.
+//! The search for least walks: of the unsettled nodes the lightest is settled next, and the arcs
+//! that leave it are relaxed. A node waits once for each time that its weight fell; once it is
+//! settled, its other entries are skipped.
 
 ghost use Rattle.std.specs.Prelude.{◌≡◌, ◌+◌, ◌*◌, ◌<◌, ◌≤◌, ◌^◌, ◌∷◌, [], All, IfOk, IsTrue, OnOk, false, length, true};
 ghost use Rattle.std.specs.BinaryHeap.{heap_items};
@@ -57,7 +58,8 @@ fn relax(
     Ok(())
 }
 
-// Lowers the weight of a node, if it is unsettled, to what it weighs by an arc from a node of this weight.
+// Lowers the weight of a node, if it is unsettled, to what it weighs by an arc from a node of this
+// weight.
 fn relax_arc(
     arc: Arc,
     weight: u64,

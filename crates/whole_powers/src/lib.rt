@@ -1,4 +1,5 @@
-//! Powers of whole numbers, the growth test of coarsening, and the laws on powers that its bounds rest on.
+//! Powers of whole numbers, the growth test of coarsening, and the laws on powers that its bounds
+//! rest on.
 #![tactic(auto)]
 
 mod laws;

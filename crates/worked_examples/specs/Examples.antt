@@ -74,7 +74,8 @@ worked_steps =
     ∷ (switch_off ∷ []) ∷ (switch_off ∷ switch_on ∷ [])
     ∷ (move_to 2 ∷ switch_off ∷ switch_on ∷ []) ∷ []
 
--- the scripts of these steps are valid, with whatever finds of the subscriber from nodes of the line
+-- the scripts of these steps are valid, with whatever finds of the subscriber from nodes of the
+-- line
 abbrev pub MakeValidScripts : List Step → Type 0
 MakeValidScripts steps =
     (finds : List FindCall) → All (IsFindCall line_setting) finds

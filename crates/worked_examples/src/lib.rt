@@ -1,5 +1,5 @@
-//! Worked examples of the directory, computed from its definitions over the plan of the line of four nodes. A definition that
-//! says something else is refused here.
+//! Worked examples of the directory, computed from its definitions over the plan of the line of
+//! four nodes. A definition that says something else is refused here.
 #![tactic(auto)]
 
 mod finds;

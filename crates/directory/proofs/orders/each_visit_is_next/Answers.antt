@@ -1,4 +1,4 @@
-use Rattle.directory.proofs.OrderLaws.{played-of_history, played-of_play, played-push}
+use Rattle.directory.proofs.NextLaws.{played-of_history, played-of_play, played-push}
 use Rattle.directory.proofs.orders.each_visit_is_next.Goals as goal
 
 pub returns-clause-order : goal.returns-clause-order

@@ -1,4 +1,4 @@
-use Rattle.directory.proofs.OrderLaws.{played-legal}
+use Rattle.directory.proofs.NextLaws.{played-legal}
 use Rattle.directory.proofs.orders.every_order_is_legal.Goals as goal
 
 pub returns : goal.returns

@@ -1,4 +1,4 @@
-use Rattle.directory.proofs.OrderLaws.{after_turns-done}
+use Rattle.directory.proofs.NextLaws.{after_turns-done}
 use Rattle.directory.proofs.orders.idle_turns.Goals as goal
 
 pub returns : goal.returns

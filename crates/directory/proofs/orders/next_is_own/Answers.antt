@@ -1,4 +1,4 @@
-use Rattle.directory.proofs.OrderLaws.{next-actor}
+use Rattle.directory.proofs.NextLaws.{next-actor}
 use Rattle.directory.proofs.orders.next_is_own.Goals as goal
 
 pub returns : goal.returns

@@ -1,4 +1,4 @@
-use Rattle.directory.proofs.OrderLaws.{played-own, played-puts}
+use Rattle.directory.proofs.NextLaws.{played-own, played-puts}
 use Rattle.directory.proofs.orders.scripts_in_order.Goals as goal
 
 pub returns-clause-script : goal.returns-clause-script

@@ -4,7 +4,8 @@ use Rattle.distances.specs.declared.elimination.TheConstants.{FAR}
 use Rattle.distances.proofs.LeavingOut.{none_left_in, leaving_begins, leaving_ends, leaving_next}
 use Rattle.distances.proofs.elimination.leave_out_all.Goals as goal
 
-taken_width : (new old : List ℕ) (k n : ℕ) → length new ≡ k → length new ≡ n → length (take k (new ++ drop (length new) old)) ≡ n
+taken_width : (new old : List ℕ) (k n : ℕ) → length new ≡ k → length new ≡ n
+    → length (take k (new ++ drop (length new) old)) ≡ n
 taken_width new old k n is_k is_n = ap length (take_at new (drop (length new) old) k is_k) ∙ is_n
 
 pub loop-node-init : goal.loop-node-init
@@ -12,7 +13,8 @@ loop-node-init c =
     let filled : c.in_ok-left.left.items ≡ replicate c.args.n true = search rules in
     let far : c.in_ok-mine.mine.items ≡ replicate c.args.n FAR = search rules in
     record {
-      leaving = rw (filled, c.in_ok-stages.ensures.items) (leaving_begins c.args.n c.args.table.now c.requires.count c.requires.light);
+      leaving = rw (filled, c.in_ok-stages.ensures.items)
+          (leaving_begins c.args.n c.args.table.now c.requires.count c.requires.light);
       width = ap length far ∙ length-replicate c.args.n FAR;
     }
 
@@ -27,11 +29,13 @@ loop-node-preserved c = record {
       c.loop-node.invariant.leaving c.deref.ensures.value c.in-Some.ensures refl c.deref-in-Some.ensures.value
       c.in_ok-near.ensures c.deref-in-Some-2.ensures.value c.lower_pairs.ensures c.in_ok-push.ensures.items;
   width = taken_width c.lower_pairs.new.mine c.loop-node.mine.items c.loop-node.mine.len c.args.n
-      (let e : length c.lower_pairs.new.mine ≡ c.loop-node.mine.len = omega (arith, c.lower_pairs.auto.mine, c.deref_mut.ensures.len) in e)
+      (let e : length c.lower_pairs.new.mine ≡ c.loop-node.mine.len =
+      omega (arith, c.lower_pairs.auto.mine, c.deref_mut.ensures.len) in e)
       (let e : length c.lower_pairs.new.mine ≡ c.args.n =
       omega (arith, c.lower_pairs.auto.mine, ap length c.deref_mut.ensures.value, c.loop-node.invariant.width) in e);
 }
 
 pub returns-clause-stages : goal.returns-clause-stages
-returns-clause-stages c = leaving_ends c.args.n c.args.table.now c.loop-node.left.items c.loop-node.stages.items c.loop-node.table c.loop-node.invariant.leaving
+returns-clause-stages c = leaving_ends c.args.n c.args.table.now c.loop-node.left.items c.loop-node.stages.items
+    c.loop-node.table c.loop-node.invariant.leaving
     (none_left_in c.loop-node.left.items c.deref.result.now c.deref.ensures.value c.in_default.ensures)

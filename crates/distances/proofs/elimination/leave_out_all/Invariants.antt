@@ -4,7 +4,8 @@ use Rattle.distances.specs.declared.elimination.Stage.{Stage}
 use Rattle.distances.proofs.LeavingOut.{IsLeavingSome}
 use Rattle.distances.proofs.elimination.leave_out_all.Given as goal
 
-pub record IsLeavingOut (n : ℕ) (first : List ℕ) (left : List Bool) (stages : List Stage) (table mine : List ℕ) : Type 0 where
+pub record IsLeavingOut (n : ℕ) (first : List ℕ) (left : List Bool) (stages : List Stage)
+    (table mine : List ℕ) : Type 0 where
   pub leaving : IsLeavingSome n first left stages table
   pub width : length mine ≡ n
 

@@ -8,36 +8,45 @@ pub loop-stage-init : goal.loop-stage-init
 loop-stage-init c =
     let filled : c.in_ok-mine.mine.items ≡ replicate c.args.n FAR = search rules in
     record {
-      filling = fill_begins c.args.n c.args.stages.items c.args.table.now c.requires.count c.requires.light c.requires.stages;
+      filling = fill_begins c.args.n c.args.stages.items c.args.table.now c.requires.count c.requires.light
+          c.requires.stages;
       row = ap length filled ∙ length-replicate c.args.n FAR;
     }
 
 pub fold_rows-requires-clause-near : goal.fold_rows-requires-clause-near
 fold_rows-requires-clause-near c =
-    near_fits c.args.n c.args.stages.items c.loop-stage.stages.items c.pop.new.self.items c.in-Some.stage c.in-Some.ensures.items
+    near_fits c.args.n c.args.stages.items c.loop-stage.stages.items c.pop.new.self.items c.in-Some.stage
+    c.in-Some.ensures.items
     c.loop-stage.table c.loop-stage.invariant.filling c.deref.result.now c.deref.ensures.value
 
 pub index_mut-requires : goal.index_mut-requires
 index_mut-requires c =
-    let within = stage_within c.args.n c.args.stages.items c.loop-stage.stages.items c.pop.new.self.items c.in-Some.stage c.in-Some.ensures.items
+    let within = stage_within c.args.n c.args.stages.items c.loop-stage.stages.items c.pop.new.self.items
+    c.in-Some.stage c.in-Some.ensures.items
     c.loop-stage.table c.loop-stage.invariant.filling in
     omega (arith, within.node, c.loop-stage.invariant.row, c.deref_mut.ensures.len, ap length c.deref_mut.ensures.value)
 
 pub write_node-requires-clause-below : goal.write_node-requires-clause-below
 write_node-requires-clause-below c =
-    (stage_within c.args.n c.args.stages.items c.loop-stage.stages.items c.pop.new.self.items c.in-Some.stage c.in-Some.ensures.items
+    (stage_within c.args.n c.args.stages.items c.loop-stage.stages.items c.pop.new.self.items c.in-Some.stage
+    c.in-Some.ensures.items
     c.loop-stage.table c.loop-stage.invariant.filling).node
 
 pub loop-stage-preserved : goal.loop-stage-preserved
 loop-stage-preserved c =
-    let count : length c.fold_rows.new.weights ≡ c.loop-stage.mine.len = omega (arith, c.fold_rows.auto.weights, c.deref_mut.ensures.len) in
+    let count : length c.fold_rows.new.weights ≡ c.loop-stage.mine.len =
+    omega (arith, c.fold_rows.auto.weights, c.deref_mut.ensures.len) in
     record {
-      filling = fill_next c.args.n c.args.stages.items c.loop-stage.stages.items c.pop.new.self.items c.in-Some.stage c.in-Some.ensures.items
+      filling = fill_next c.args.n c.args.stages.items c.loop-stage.stages.items c.pop.new.self.items c.in-Some.stage
+          c.in-Some.ensures.items
           c.loop-stage.table c.loop-stage.invariant.filling c.deref.result.now c.deref.ensures.value
-          c.fold_rows.new.weights (drop (length c.fold_rows.new.weights) c.loop-stage.mine.items) c.deref-in-Some.result.now c.write_node.new.table
+          c.fold_rows.new.weights (drop (length c.fold_rows.new.weights) c.loop-stage.mine.items)
+          c.deref-in-Some.result.now c.write_node.new.table
           c.loop-stage.mine.len count c.fold_rows.ensures c.deref-in-Some.ensures.value c.write_node.ensures;
-      row = row_kept c.args.n c.args.stages.items c.loop-stage.stages.items c.pop.new.self.items c.in-Some.stage c.in-Some.ensures.items
+      row = row_kept c.args.n c.args.stages.items c.loop-stage.stages.items c.pop.new.self.items c.in-Some.stage
+          c.in-Some.ensures.items
           c.loop-stage.table c.loop-stage.invariant.filling c.deref.result.now c.deref.ensures.value
-          c.fold_rows.new.weights (drop (length c.fold_rows.new.weights) c.loop-stage.mine.items) c.deref-in-Some.result.now c.write_node.new.table
+          c.fold_rows.new.weights (drop (length c.fold_rows.new.weights) c.loop-stage.mine.items)
+          c.deref-in-Some.result.now c.write_node.new.table
           c.loop-stage.mine.len count c.fold_rows.ensures c.deref-in-Some.ensures.value c.write_node.ensures;
     }

@@ -18,10 +18,12 @@ loop-edge-preserved c = elim c.if-edge.branch [
       let d : Edge = record { a = 0; b = 0; weight = 0 } in
       let e : Edge = get_or c.args.edges.now c.loop-edge.edge-index d in
       let is_edge : IsEdge c.args.n e = c.requires.edges c.loop-edge.edge-index d c.loop-edge-test.true in
-      subst (λ (x : Chains). AreChains c.args.n (JoinsOther (take (c.loop-edge.edge-index + 1) c.args.edges.now)) x.links.items x.last.items)
+      subst (λ (x : Chains). AreChains c.args.n (JoinsOther (take (c.loop-edge.edge-index + 1) c.args.edges.now))
+      x.links.items x.last.items)
       (sym w.chains-is)
       (edge_noted c.args.n c.args.edges.now c.loop-edge.edge-index d
-      w.note_arc-then-edge.new.chains.links.items w.note_arc-then-edge.new.chains.last.items c.loop-edge-test.true w.if-edge.true
+      w.note_arc-then-edge.new.chains.links.items w.note_arc-then-edge.new.chains.last.items c.loop-edge-test.true
+      w.if-edge.true
       (chain_noted c.args.n (Plus (JoinsOther (take c.loop-edge.edge-index c.args.edges.now)) e.a e.b e.weight)
       w.note_arc.new.chains.links.items w.note_arc-then-edge.new.chains.links.items
       w.note_arc.new.chains.last.items w.note_arc-then-edge.new.chains.last.items e.b e.a e.weight is_edge.b_below
@@ -30,8 +32,10 @@ loop-edge-preserved c = elim c.if-edge.branch [
       c.loop-edge.chains.links.items w.note_arc.new.chains.links.items
       c.loop-edge.chains.last.items w.note_arc.new.chains.last.items e.a e.b e.weight is_edge.a_below
       w.in_ok-note_arc.ensures.links w.in_ok-note_arc.ensures.last c.loop-edge.invariant)))
-  | else-edge w ↦ subst (λ (x : Chains). AreChains c.args.n (JoinsOther (take (c.loop-edge.edge-index + 1) c.args.edges.now)) x.links.items x.last.items)
+  | else-edge w ↦ subst (λ (x : Chains). AreChains c.args.n
+      (JoinsOther (take (c.loop-edge.edge-index + 1) c.args.edges.now)) x.links.items x.last.items)
       (sym w.chains-is)
       (loop_noted c.args.n c.args.edges.now c.loop-edge.edge-index (record { a = 0; b = 0; weight = 0 })
-      c.loop-edge.chains.links.items c.loop-edge.chains.last.items c.loop-edge-test.true w.if-edge.false c.loop-edge.invariant)
+      c.loop-edge.chains.links.items c.loop-edge.chains.last.items c.loop-edge-test.true w.if-edge.false
+      c.loop-edge.invariant)
 ]

@@ -18,7 +18,8 @@ loop-lightest-init c =
           c.requires.count c.requires.root;
       queue = queue_begins c.args.neighbours.now.nodes c.args.allowed.now c.args.root (heap_items c.push.new.self.heap)
           c.requires.count c.requires.root
-          (subst (λ (xs : List Waiting). IsPermutation (make_waiting 0 c.args.root ∷ xs) (heap_items c.push.new.self.heap))
+          (subst (λ (xs : List Waiting). IsPermutation (make_waiting 0 c.args.root ∷ xs)
+          (heap_items c.push.new.self.heap))
           c.new-queue.ensures c.in_ok-push.ensures);
     })
 
@@ -29,7 +30,8 @@ pub relax-requires-clause-weight : goal.relax-requires-clause-weight
 relax-requires-clause-weight c =
     light_enough c.args.neighbours.now (among c.args.allowed.now) c.args.root c.loop-lightest.unsettled.items
     c.loop-lightest.weights.items c.loop-lightest.invariant.found c.in-Some.lightest
-    (next_is_lightest c.loop-lightest.unsettled.items c.loop-lightest.weights.items (heap_items c.loop-lightest.queue.heap)
+    (next_is_lightest c.loop-lightest.unsettled.items c.loop-lightest.weights.items
+    (heap_items c.loop-lightest.queue.heap)
     (heap_items c.next_unsettled.new.self.heap) c.loop-lightest.invariant.queue c.in-Some.lightest
     (rw c.deref.ensures.value at c.in-Some.ensures.next))
     c.nodes.ensures.limits.few

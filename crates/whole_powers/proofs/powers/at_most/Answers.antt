@@ -11,6 +11,7 @@ pow-requires-2 c = rw c.from-3.ensures (omega (arith, small_power c.args.y c.arg
 
 pub overflow_mul-result : goal.overflow_mul-result
 overflow_mul-result c =
-    let p : c.pow-2.result ≤ 1024 ^ 8 = rw (c.pow-2.ensures, c.from-3.ensures) (small_power c.args.y c.args.k c.requires.y_small c.requires.few) in
+    let p : c.pow-2.result ≤ 1024 ^ 8 = rw (c.pow-2.ensures, c.from-3.ensures)
+    (small_power c.args.y c.args.k c.requires.y_small c.requires.few) in
     let r : c.from-2.result ≤ 1024 = omega (arith, c.from-2.ensures) in
     omega (arith, mul-le-mul_right c.pow-2.result r)

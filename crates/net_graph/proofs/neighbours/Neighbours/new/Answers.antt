@@ -22,21 +22,26 @@ loop-u-preserved c =
 pub invariant_of-result : goal.invariant_of-result
 invariant_of-result c =
     let done : c.loop-u.u ≡ c.args.n = omega arith in
-    all_rows c.args.n c.args.edges.now c.requires.edges c.loop-u.starts.items c.loop-u.arcs.items c.requires.positive c.requires.few
-    (subst (λ (u : ℕ). AreRowsBelow c.args.n u (JoinsOther c.args.edges.now) c.loop-u.starts.items c.loop-u.arcs.items) done
+    all_rows c.args.n c.args.edges.now c.requires.edges c.loop-u.starts.items c.loop-u.arcs.items c.requires.positive
+    c.requires.few
+    (subst (λ (u : ℕ). AreRowsBelow c.args.n u (JoinsOther c.args.edges.now) c.loop-u.starts.items c.loop-u.arcs.items)
+    done
     c.loop-u.invariant)
 
 pub returns-clause-same : goal.returns-clause-same
 returns-clause-same c =
     let done : c.loop-u.u ≡ c.args.n = omega arith in
     rows_same_walks c.args.n c.args.edges.now c.requires.edges c.loop-u.starts.items c.loop-u.arcs.items
-    (subst (λ (u : ℕ). AreRowsBelow c.args.n u (JoinsOther c.args.edges.now) c.loop-u.starts.items c.loop-u.arcs.items) done
+    (subst (λ (u : ℕ). AreRowsBelow c.args.n u (JoinsOther c.args.edges.now) c.loop-u.starts.items c.loop-u.arcs.items)
+    done
     c.loop-u.invariant)
 
 pub returns-clause-limits : goal.returns-clause-limits
 returns-clause-limits c =
     let done : c.loop-u.u ≡ c.args.n = omega arith in
     laid_out_limits c.args.n c.loop-u.starts.items c.loop-u.arcs.items
-    (all_rows c.args.n c.args.edges.now c.requires.edges c.loop-u.starts.items c.loop-u.arcs.items c.requires.positive c.requires.few
-    (subst (λ (u : ℕ). AreRowsBelow c.args.n u (JoinsOther c.args.edges.now) c.loop-u.starts.items c.loop-u.arcs.items) done
+    (all_rows c.args.n c.args.edges.now c.requires.edges c.loop-u.starts.items c.loop-u.arcs.items c.requires.positive
+    c.requires.few
+    (subst (λ (u : ℕ). AreRowsBelow c.args.n u (JoinsOther c.args.edges.now) c.loop-u.starts.items c.loop-u.arcs.items)
+    done
     c.loop-u.invariant))

@@ -1,0 +1,169 @@
+-- The looks of callers: each own visit reads one word, and no caller makes more than the most.
+use Rattle.std.proofs.Common.{◌≡◌, ℕ, ◌+◌, ◌<◌, ◌≤◌, Bool, true, false, cond, ◌==◌, List, [], ◌∷◌, ◌++◌, Option, Some, None, length, take, refl, sym, ap, ◌∙◌, subst, arith, length-append}
+use Rattle.std.specs.Prelude.{slice_get, sum_by, option_map}
+use Rattle.std.proofs.lemmas.Bool.{eqb-true}
+use Rattle.std.proofs.lemmas.List.{append-nil, length_push}
+use Rattle.std.proofs.lemmas.List.Sums.{fold-append, sum_by-cons}
+use Rattle.entry_word.specs.declared.visit.Key.{Key}
+use Rattle.entry_word.specs.declared.visit.Act.TheVariants.{Look}
+use Rattle.entry_word.specs.declared.visit.Visit.{Visit}
+use Rattle.directory.specs.Settings.{Setting, subs}
+use Rattle.directory.specs.Histories.{History, cell, own, words_of, words_after, words_read}
+use Rattle.directory.specs.Finds.{FindCall, Stage, at_origin, after_word, answer_of, most_looks, looks_left}
+use Rattle.directory.specs.Looks.{look_by}
+use Rattle.directory.specs.Orders.{Scripts, finds_of, Caller, caller_at, with_stage, read_by, after_read, caller_after, caller_in, key_in, next_key, next, IsPlayed}
+use Rattle.directory.specs.declared.answers.Found.{Found}
+use Rattle.directory.proofs.HistoryLaws.{words-push}
+use Rattle.directory.proofs.FindLaws.{looks-fall}
+use Rattle.directory.specs.StepLaws.{by_fronts, own-push}
+use Rattle.directory.proofs.NextLaws.{look-next, next-caller}
+
+-- each own visit of a caller reads one word
+caller-word : (setting : Setting) (scripts : Scripts) (history : History) (actor : ℕ) (visit : Visit)
+    → subs setting ≤ actor → next setting scripts history actor ≡ Some visit
+    → length (words_of setting history visit.act) ≡ 1
+caller-word setting scripts history actor visit high h =
+    let found = look-next actor (next_key (caller_in setting scripts history actor)) visit
+    (sym (next-caller setting scripts history actor high) ∙ h) in
+    let e : visit ≡ record { actor = actor; act = Look found.0 } = found.1 in
+    subst (λ (v : Visit). length (words_of setting history v.act) ≡ 1) (sym e) refl
+
+pub played-words : (setting : Setting) (scripts : Scripts) (history : History) (actor : ℕ) → subs setting ≤ actor
+    → IsPlayed setting scripts history → length (words_read setting actor history) ≡ length (own actor history)
+unfolding words_after
+played-words setting scripts history actor high played =
+    by_fronts (λ front. length (words_read setting actor front) ≡ length (own actor front)) history refl
+    (λ t visit h same. step t visit h same (visit.actor == actor) refl)
+  where
+    step : (t : ℕ) (visit : Visit) → slice_get history t ≡ Some visit
+        → length (words_read setting actor (take t history)) ≡ length (own actor (take t history))
+        → (b : Bool) → (visit.actor == actor) ≡ b → length (words_read setting actor (take t history ++ visit ∷ []))
+        ≡ length (own actor (take t history ++ visit ∷ []))
+    step t visit h same true e =
+        let mine : visit.actor ≡ actor = eqb-true visit.actor actor e in
+        let one : length (words_of setting (take t history) visit.act)
+        ≡ 1 = caller-word setting scripts (take t history) actor visit high
+        (ap (λ a. next setting scripts (take t history) a) (sym mine) ∙ played t visit h) in
+        rw (words-push setting actor (take t history) visit, own-push actor (take t history) visit, e)
+        (omega (
+          arith,
+          one,
+          same,
+          length-append (words_read setting actor (take t history))
+              (words_of setting (take t history) visit.act),
+          length-append (own actor (take t history)) (visit ∷ []),
+        ))
+    step t visit h same false e =
+        rw (words-push setting actor (take t history) visit, own-push actor (take t history) visit, e)
+        (rw (append-nil (words_read setting actor (take t history)), append-nil (own actor (take t history))) same)
+
+-- the most looks that a caller still makes
+unfoldable pub left_of : Setting → List FindCall → Stage → ℕ
+left_of setting [] stage = 0
+left_of setting (call ∷ later) stage = looks_left setting call stage + sum_by
+    (λ (c : FindCall). most_looks setting c.from) later
+
+pub left_at_origin : (setting : Setting) (calls : List FindCall)
+    → left_of setting calls at_origin ≡ sum_by (λ (c : FindCall). most_looks setting c.from) calls
+unfolding left_of
+left_at_origin setting [] = refl
+left_at_origin setting (call ∷ later) = sym (sum_by-cons (λ (c : FindCall). most_looks setting c.from) call later)
+
+stage_left : (setting : Setting) (caller : Caller) (call : FindCall) (later : List FindCall) (stage : Stage)
+    (answer : Option Found) → caller.calls ≡ call ∷ later
+    → left_of setting (with_stage caller call later stage answer).calls
+    (with_stage caller call later stage answer).stage
+    ≤ looks_left setting call stage + sum_by (λ (c : FindCall). most_looks setting c.from) later
+unfolding left_of
+stage_left setting caller call later stage None same =
+    subst (λ calls. left_of setting calls stage ≤ looks_left setting call stage + sum_by
+    (λ (c : FindCall). most_looks setting c.from) later) (sym same) (omega arith)
+stage_left setting caller call later stage (Some found) same = omega (arith, left_at_origin setting later)
+
+-- each word leaves fewer
+pub read_left : (setting : Setting) (caller : Caller) (calls : List FindCall) (word : ℕ) (key : Key)
+    → caller.calls ≡ calls → key_in calls caller.stage ≡ Some key
+    → left_of setting (read_by setting caller calls word).calls
+    (read_by setting caller calls word).stage < left_of setting calls caller.stage
+unfolding left_of
+read_left setting caller [] word key same h = cc
+read_left setting caller (call ∷ later) word key same h =
+    omega (
+      arith,
+      looks-fall setting call caller.stage word key h,
+      stage_left setting caller call later (after_word setting call caller.stage word)
+          (answer_of (after_word setting call caller.stage word)) same,
+    )
+
+pub caller-push : (setting : Setting) (calls : List FindCall) (words : List ℕ) (word : ℕ)
+    → caller_after setting calls (words ++ word ∷ []) ≡ after_read setting (caller_after setting calls words) word
+caller-push setting calls words word = fold-append (after_read setting) (caller_at calls) words (word ∷ [])
+
+-- a caller's look, and the word that it reads
+pub caller-look : (setting : Setting) (scripts : Scripts) (history : History) (actor : ℕ) (visit : Visit)
+    → subs setting ≤ actor → next setting scripts history actor ≡ Some visit
+    → (key : Key) × (next_key (caller_in setting scripts history actor) ≡ Some key) × (visit ≡ look_by actor key)
+caller-look setting scripts history actor visit high h = at_key
+    (next_key (caller_in setting scripts history actor)) refl
+    (sym (next-caller setting scripts history actor high) ∙ h)
+  where
+    at_key : (o : Option Key) → next_key (caller_in setting scripts history actor) ≡ o
+        → option_map (look_by actor) o ≡ Some visit
+        → (key : Key) × (next_key (caller_in setting scripts history actor) ≡ Some key) × (visit ≡ look_by actor key)
+    at_key None e g = cc
+    at_key (Some key) e g = (key, e, cc)
+
+-- so a caller has no look more than the most
+pub caller-few : (setting : Setting) (scripts : Scripts) (history : History) (actor : ℕ) → subs setting ≤ actor
+    → IsPlayed setting scripts history
+    → length (own actor history) + left_of setting (caller_in setting scripts history actor).calls
+    (caller_in setting scripts history actor).stage
+    ≤ sum_by (λ (call : FindCall). most_looks setting call.from) (finds_of setting scripts actor)
+unfolding words_after
+caller-few setting scripts history actor high played =
+    by_fronts (λ front. length (own actor front) + left_of setting (caller_in setting scripts front actor).calls
+    (caller_in setting scripts front actor).stage
+    ≤ sum_by (λ (call : FindCall). most_looks setting call.from) (finds_of setting scripts actor)) history
+    (omega (arith, left_at_origin setting (finds_of setting scripts actor)))
+    (λ t visit h few. step t visit h few (visit.actor == actor) refl)
+  where
+    Few : History → Type 0
+    Few front = length (own actor front) + left_of setting (caller_in setting scripts front actor).calls
+        (caller_in setting scripts front actor).stage
+        ≤ sum_by (λ (call : FindCall). most_looks setting call.from) (finds_of setting scripts actor)
+
+    step : (t : ℕ) (visit : Visit) → slice_get history t ≡ Some visit → Few (take t history) → (b : Bool)
+        → (visit.actor == actor) ≡ b → Few (take t history ++ visit ∷ [])
+    step t visit h few true e = at_look (caller-look setting scripts (take t history) actor visit high
+        (ap (λ a. next setting scripts (take t history) a) (sym (eqb-true visit.actor actor e)) ∙ played t visit h))
+      where
+        at_look : (key : Key) × (next_key (caller_in setting scripts (take t history) actor) ≡ Some key)
+            × (visit ≡ look_by actor key) → Few (take t history ++ visit ∷ [])
+        at_look (key, wanted, is_look) =
+            let word : ℕ = cell setting (take t history) key in
+            let read : words_read setting actor (take t history ++ visit ∷ [])
+            ≡ words_read setting actor (take t history) ++ word ∷ [] =
+            words-push setting actor (take t history) visit
+            ∙ (ap (λ b. words_read setting actor (take t history) ++ cond b
+            (words_of setting (take t history) visit.act) []) e
+            ∙ ap (λ (v : Visit). words_read setting actor (take t history) ++ words_of setting (take t history) v.act)
+            is_look) in
+            let made : own actor (take t history ++ visit ∷ [])
+            ≡ own actor (take t history) ++ visit ∷ [] = own-push actor (take t history) visit
+            ∙ ap (λ b. own actor (take t history) ++ cond b (visit ∷ []) []) e in
+            rw (
+              read,
+              made,
+              caller-push setting (finds_of setting scripts actor)
+                  (words_read setting actor (take t history)) word,
+            )
+            (omega (
+              arith,
+              few,
+              length_push (own actor (take t history)) visit,
+              read_left setting (caller_in setting scripts (take t history) actor)
+                  (caller_in setting scripts (take t history) actor).calls word key refl wanted,
+            ))
+    step t visit h few false e =
+        rw (words-push setting actor (take t history) visit, own-push actor (take t history) visit, e)
+        (rw (append-nil (words_read setting actor (take t history)), append-nil (own actor (take t history))) few)
