@@ -41,7 +41,8 @@ tail-has x c cs h = at_test (x == c)
 pub one-more : (n r : ℕ) → suc n * r ≡ r + n * r
 one-more n r = grind arith
 
-module _ (setting : Setting) (seen : History) (call : FindCall) (most reads chase : ℕ) (room : reads + chase ≤ most) where
+module _ (setting : Setting) (seen : History) (call : FindCall) (most reads chase : ℕ)
+    (room : reads + chase ≤ most) where
   -- the readers of a level: one of them has an address, or the climb goes on
   row-affords : (level r : ℕ) (cs : List ℕ) (rest : List Reader) (weight : ℕ)
       → ((c : ℕ) → has c cs ≡ true → setting.inside level c call.from ≤ r)

@@ -74,7 +74,8 @@ costs : CostUsed → (setting : Setting) (width most_readers sub : ℕ) (history
     → setting.distance (setting.leader level cluster) address.node + way ≤ most)
     → Costs setting sub history level cluster address most
 costs used setting width most_readers sub history from level cluster address most met short known knows =
-    let led = used.ways setting sub history met.few met.tracking.metric met.tracking.gathers met.legal level cluster address
+    let led = used.ways setting sub history met.few met.tracking.metric met.tracking.gathers met.legal level cluster
+    address
     known met.low met.held knows in
     (led.0, led.1, led.2, led.3, short led.1 led.4)
 
@@ -144,7 +145,8 @@ ends-early levels inside setting width most_readers sub history from few trackin
         ⊎ (setting.distance from (standing setting sub history) + setting.threshold level ≤ radius level + 1)
         → has (setting.home level node) (setting.readers level from) ≡ true
     at_reach level node low at_node near (inl is_top) =
-        ap (λ n. has (setting.home n node) (setting.readers n from)) is_top ∙ tracking.whole node from at_node from_inside
+        ap (λ n. has (setting.home n node) (setting.readers n from)) is_top
+        ∙ tracking.whole node from at_node from_inside
     at_reach level node low at_node near (inr reaches) = tracking.read level node from low at_node from_inside
         (omega (
           arith,
@@ -152,7 +154,8 @@ ends-early levels inside setting width most_readers sub history from few trackin
           reaches,
           tracking.metric.detour node (standing setting sub history) from at_node (inside setting sub history few legal)
               from_inside,
-          tracking.metric.both_ways (standing setting sub history) from (inside setting sub history few legal) from_inside,
+          tracking.metric.both_ways (standing setting sub history) from
+              (inside setting sub history few legal) from_inside,
         ))
 
     at_end : Ends setting (setting.distance from (standing setting sub history))
@@ -194,7 +197,8 @@ row-weight setting call level r (c ∷ cs) near = omega (
 rows-weight : (setting : Setting) (width readers : ℕ) (call : FindCall) → IsTracking setting width readers
     → call.from < setting.nodes → (count level : ℕ) → count + level ≤ suc setting.top
     → sum_by (λ (reader : Reader). 2 * way_in setting call reader)
-    (flat_map (λ i. map (λ c. record { level = i; cluster = c }) (setting.readers i call.from)) (numbers_from level count))
+    (flat_map (λ i. map (λ c. record { level = i; cluster = c }) (setting.readers i call.from))
+    (numbers_from level count))
     + 2 * (readers * (width * 2 ^ level)) ≤ 2 * (readers * (width * 2 ^ (count + level)))
 rows-weight setting width readers call tracking inside zero level high =
     let e : 0 + level ≡ level = omega arith in rw e (omega arith)

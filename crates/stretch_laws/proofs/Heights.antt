@@ -5,8 +5,8 @@ use Rattle.std.proofs.lemmas.Bool.Decides.{nat_tests}
 use Rattle.directory.specs.Settings.{Setting}
 use Rattle.stretch_laws.specs.Tracking.{radius, stretch}
 
--- a level whose radius is less than four times the distance, and that is the top level or reaches as far as the distance and
--- what it has gathered
+-- a level whose radius is less than four times the distance, and that is the top level or reaches as far as the
+-- distance and what it has gathered
 pub record Ends (setting : Setting) (d : ℕ) : Type 0 where
   pub level : ℕ
   pub low : level ≤ setting.top
@@ -27,7 +27,8 @@ ends-from setting d halves zero level count small = record {
   small = small;
   reaches = inl (let e : level ≡ setting.top = omega (arith, count) in e);
 }
-ends-from setting d halves (suc fuel) level count small = at_case (cases (d + setting.threshold level) (radius level + 1))
+ends-from setting d halves (suc fuel) level count small =
+    at_case (cases (d + setting.threshold level) (radius level + 1))
     (λ small_next. ends-from setting d halves fuel (suc level) (omega (arith, count)) small_next)
   where
     at_case : (d + setting.threshold level ≤ radius level + 1) ⊎ (radius level + 1 < d + setting.threshold level)

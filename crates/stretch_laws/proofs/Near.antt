@@ -52,10 +52,12 @@ module _ (used : Used) (setting : Setting) (width readers : ℕ) (seen : History
   -- the mark where the subscriber stands is an answer
   stood : (k : Option ℕ) × (answers k (mark_seen setting call.sub seen (standing setting call.sub seen)) ≡ true)
   stood =
-      let its = used.levels setting call.sub seen low tracking.metric tracking.gathers legal setting.top (omega arith) in
+      let its = used.levels setting call.sub seen low tracking.metric tracking.gathers legal setting.top
+      (omega arith) in
       let led = used.addresses setting call.sub seen low tracking.metric tracking.gathers legal setting.top
       (setting.home setting.top its.0) its.1 None pass (omega arith) its.4 tt opens in
-      led-end setting (mark_seen setting call.sub seen) None its.1.node (standing setting call.sub seen) led.0 led.1 led.3
+      led-end setting (mark_seen setting call.sub seen) None its.1.node (standing setting call.sub seen) led.0 led.1
+      led.3
 
   -- so a find that climbs isn't where the subscriber stands
   pub elsewhere : ((p from : ℕ) → mark_seen setting call.sub seen call.from ≢ Coming p from)
@@ -171,7 +173,8 @@ module _ (used : Used) (setting : Setting) (width readers : ℕ) (seen : History
     climbing = λ c h o. climbs-near (tracking.apart call.from (standing setting call.sub seen) inside there_inside
         (elsewhere c h o));
     chasing = λ p from comes.
-        let led = used.comings setting call.sub seen low tracking.metric legal call.from p from pass inside comes opens in (
+        let led = used.comings setting call.sub seen low tracking.metric legal call.from p from pass inside comes opens
+        in (
           led.0,
           led.1,
           led.2,
@@ -201,10 +204,12 @@ near used setting width readers history actor call found tickets low tracking in
     )
 
     sure : (pass : ℕ) → IsOpenAtMost setting call.sub (before (first_of tickets) history) pass
-        → IsAnswered found × (weight_of found ≤ most setting width readers (before (first_of tickets) history) call pass)
+        → IsAnswered found × (weight_of found ≤ most setting width readers (before (first_of tickets) history) call
+        pass)
     sure pass opens = used.stays setting history actor call found tickets
         (most setting width readers (before (first_of tickets) history) call pass) low inside legal
-        (begins-near used setting width readers (before (first_of tickets) history) call low tracking inside legal_seen pass
+        (begins-near used setting width readers (before (first_of tickets) history) call low tracking inside legal_seen
+        pass
         opens) find quiet
 
     still : (standing setting call.sub (through (last_of tickets) history)

@@ -6,6 +6,7 @@ use Rattle.directory.specs.Settings.{Setting, subs}
 use Rattle.directory.specs.Histories.{History, through}
 use Rattle.directory.specs.Legal.{IsLegal}
 use Rattle.directory.specs.Finds.{FindCall, weight_of}
+use Rattle.directory.specs.ScriptLaws.{call_of_valid}
 use Rattle.directory.specs.Looks.{first_of, IsFind, IsQuiet, last_of}
 use Rattle.directory.specs.Orders.{AreValid, finds_of, history_of, IsFindCall, Scripts}
 use Rattle.directory.specs.Outcomes.{found_line, IsMade, outcome_of}
@@ -27,25 +28,6 @@ FindsAreWithin limit setting history =
     → IsLegal setting call.sub history → IsFind setting history actor call found seen
     → IsQuiet history call.sub (first_of seen) (last_of seen)
     → IsAnswered found × IsLimited limit setting call.from call.sub (weight_of found) (through (last_of seen) history)
-
-each_list : {A : Type 0} (P : A → Type 0) (rows : List (List A)) (i : ℕ) → All (λ row. All P row) rows
-    → All P (slice_index_or rows i [])
-each_list P [] i all = All-nil P
-each_list P (row ∷ rows) zero all = All-head (λ r. All P r) row rows all
-each_list P (row ∷ rows) (suc i) all = each_list P rows i (All-tail (λ r. All P r) row rows all)
-
-of_middle : {A : Type 0} (P : A → Type 0) (xs : List A) (x : A) (ys : List A) → All P (xs ++ x ∷ ys) → P x
-of_middle P [] x ys all = All-head P x ys all
-of_middle P (y ∷ xs) x ys all = of_middle P xs x ys (All-tail P y (xs ++ x ∷ ys) all)
-
--- the call of a line is one that a valid script has
-valid_call : (setting : Setting) (scripts : Scripts) (actor : ℕ) (before : List FindCall) (call : FindCall)
-    (later : List FindCall) → AreValid setting scripts → finds_of setting scripts actor ≡ before ++ call ∷ later
-    → IsFindCall setting call
-valid_call setting scripts actor before call later valid script =
-    of_middle (IsFindCall setting) before call later
-    (subst (All (IsFindCall setting)) script
-    (each_list (IsFindCall setting) scripts.finds (actor - subs setting) valid.finds))
 
 -- the line of a find is within the limit
 near_line : (limit : ℕ → ℕ → ℕ) (setting : Setting) (history : History) → FindsAreWithin limit setting history
@@ -71,17 +53,17 @@ made_near limit setting scripts history within valid legal (Moved actor n from t
 made_near limit setting scripts history within valid legal (Switched actor is_off node n ticket) h = tt
 made_near limit setting scripts history within valid legal (FoundBy actor from sub node n level weight first last) h =
     let is : IsFindCall setting (record { from = from; sub = sub }) =
-    valid_call setting scripts actor h.before _ h.later valid h.script in
+    call_of_valid setting scripts actor h.before _ h.later valid h.script in
     near_line limit setting history within actor (record { from = from; sub = sub }) h.found h.seen _ is
     (legal sub is.known) h.find h.tells
 made_near limit setting scripts history within valid legal (OffBy actor from sub node n level weight first last) h =
     let is : IsFindCall setting (record { from = from; sub = sub }) =
-    valid_call setting scripts actor h.before _ h.later valid h.script in
+    call_of_valid setting scripts actor h.before _ h.later valid h.script in
     near_line limit setting history within actor (record { from = from; sub = sub }) h.found h.seen _ is
     (legal sub is.known) h.find h.tells
 made_near limit setting scripts history within valid legal (AgainBy actor from sub why weight first last) h =
     let is : IsFindCall setting (record { from = from; sub = sub }) =
-    valid_call setting scripts actor h.before _ h.later valid h.script in
+    call_of_valid setting scripts actor h.before _ h.later valid h.script in
     near_line limit setting history within actor (record { from = from; sub = sub }) h.found h.seen _ is
     (legal sub is.known) h.find h.tells
 

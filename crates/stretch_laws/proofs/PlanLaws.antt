@@ -14,7 +14,7 @@ use Rattle.directory.specs.declared.answers.Found.{Found}
 use Rattle.region_plan.specs.Matched.{BoundsFinds}
 use Rattle.region_plan.specs.Measures.{degree_of}
 use Rattle.region_plan.specs.Plan.{cluster_in, clusters_of, distance, home, inside, leader, level_at, levels_of, members_of, nodes_of, PlanData, readers, top_of}
-use Rattle.region_plan.specs.Regions.{containing, threshold_of}
+use Rattle.region_plan.specs.Regions.{clusters_with, threshold_of}
 use Rattle.region_plan.specs.Settings.{setting_of}
 use Rattle.stretch_laws.specs.Tracking.{IsNear, IsTracking, QuietFindsAreNear, stretch}
 use Rattle.stretch_laws.specs.Plans.{IsWithinBound, PlanFindsAreNear, PlansTrack}
@@ -34,7 +34,8 @@ threshold-half (suc i) = let e : 2 ^ suc i ≡ 2 * 2 ^ i = omega arith in omega 
 module _ (plan : PlanData) (starts : List ℕ) (bounds : BoundsFinds plan) where
   its-distance : (u v : ℕ) → u < nodes_of plan → v < nodes_of plan
       → (setting_of plan starts).distance u v ≡ distance plan u v
-  its-distance u v h g = ap (λ b. cond (b && nat_lt v (nodes_of plan)) (distance plan u v) 0) (lt-ltb u (nodes_of plan) h)
+  its-distance u v h g = ap (λ b. cond (b && nat_lt v (nodes_of plan)) (distance plan u v) 0)
+      (lt-ltb u (nodes_of plan) h)
       ∙ ap (λ b. cond b (distance plan u v) 0) (lt-ltb v (nodes_of plan) g)
 
   level-below : (i : ℕ) → i ≤ top_of plan → i < levels_of plan
@@ -48,7 +49,7 @@ module _ (plan : PlanData) (starts : List ℕ) (bounds : BoundsFinds plan) where
       cases : (a b : ℕ) → (a < b) ⊎ (b ≤ a)
       cases a b = grind (arith, nat_tests)
 
-      listed : has c (containing (level_at plan i).clusters v) ≡ true
+      listed : has c (clusters_with (level_at plan i).clusters v) ≡ true
       listed = ap (has c) (sym (bounds.matched.read i v (level-below i h) g)) ∙ reads
 
       at_place : (c < clusters_of plan i) ⊎ (clusters_of plan i ≤ c)
@@ -59,7 +60,8 @@ module _ (plan : PlanData) (starts : List ℕ) (bounds : BoundsFinds plan) where
             (clusters_of plan i) (omega arith) (omega (arith, low))) ∙ listed,
       )
       at_place (inr high) =
-          let clash : false ≡ true = sym (passing_over (λ x. has v (cluster_in (level_at plan i).clusters x).members) c 0
+          let clash : false ≡ true = sym (passing_over (λ x. has v (cluster_in (level_at plan i).clusters x).members) c
+          0
           (clusters_of plan i) (omega (arith, high))) ∙ listed in cc
 
   pub plan-tracks : IsTracking (setting_of plan starts) plan.reach (degree_of plan)
@@ -85,7 +87,8 @@ module _ (plan : PlanData) (starts : List ℕ) (bounds : BoundsFinds plan) where
     few = λ i v h g. bounds.read i v;
     led = λ i c v h g reads.
         let its = read-means i c v h g reads in
-        bounds.matched.within i c (leader plan i c) (level-below i h) its.0 (bounds.matched.led i c (level-below i h) its.0);
+        bounds.matched.within i c (leader plan i c) (level-below i h) its.0
+        (bounds.matched.led i c (level-below i h) its.0);
     far = λ i c v h g reads.
         let its = read-means i c v h g reads in
         let lead : leader plan i c < nodes_of plan = bounds.matched.within i c (leader plan i c) (level-below i h) its.0
@@ -100,7 +103,8 @@ module _ (plan : PlanData) (starts : List ℕ) (bounds : BoundsFinds plan) where
       all-read : (u v : ℕ) → u < nodes_of plan → v < nodes_of plan
           → has (home plan (top_of plan) u) (readers plan (top_of plan) v) ≡ true
       all-read u v h g =
-          ap (has (home plan (top_of plan) u)) (bounds.matched.read (top_of plan) v (level-below (top_of plan) (omega arith)) g)
+          ap (has (home plan (top_of plan) u)) (bounds.matched.read (top_of plan) v
+          (level-below (top_of plan) (omega arith)) g)
           ∙ (has-passing (λ x. has v (cluster_in (level_at plan (top_of plan)).clusters x).members)
           (home plan (top_of plan) u) 0 (clusters_of plan (top_of plan)) (omega arith)
           (omega (arith, bounds.matched.homes (top_of plan) u (level-below (top_of plan) (omega arith)) h))

@@ -5,14 +5,16 @@ use trail_laws::{
     entries_tell, levels_stay_near, marks_lead_by_phase, passage_is_open, rest_is_settled,
 };
 
-/// A find that isn't where its subscriber stands meets an address at a level whose radius is less than four times the distance.
+/// A find that isn't where its subscriber stands meets an address at a level whose radius is less
+/// than four times the distance.
 pub fn climb_ends_early()
     ensures { ClimbsEndEarly }
 {
     levels_stay_near();
 }
 
-/// The reading up to a level weighs at most four times its radius, times the width of clusters and the number of readers.
+/// The reading up to a level weighs at most four times its radius, times the width of clusters and
+/// the number of readers.
 pub fn reading_is_bounded()
     ensures { ReadingIsBounded }
 {}
@@ -26,7 +28,8 @@ pub fn old_address_before_commit()
     levels_stay_near();
 }
 
-/// Before the commit of a move, the new address costs at most three times the width, and the distance.
+/// Before the commit of a move, the new address costs at most three times the width, and the
+/// distance.
 pub fn new_address_before_commit()
     ensures { NewBeforeCommit }
 {
@@ -35,7 +38,8 @@ pub fn new_address_before_commit()
     levels_stay_near();
 }
 
-/// Between commit and confirm each address costs at most the width, once more the radius, and twice the passage.
+/// Between commit and confirm each address costs at most the width, once more the radius, and twice
+/// the passage.
 pub fn address_in_passage()
     ensures { InPassage }
 {

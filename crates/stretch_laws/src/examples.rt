@@ -11,8 +11,9 @@ ghost use Rattle.stretch_laws.specs.Tracking.{IsTracking, stretch};
 use crate::plans::plans_track;
 use region_plan::line_has_its_plan;
 
-/// The line of four tracks its subscribers, with clusters 3 radii wide of which a node reads at most 2 at a level: a quiet find
-/// travels at most 137 times its distance. The find from one end to the other travels its distance.
+/// The line of four tracks its subscribers, with clusters 3 radii wide of which a node reads at
+/// most 2 at a level: a quiet find travels at most 137 times its distance. The find from one end to
+/// the other travels its distance.
 pub fn line_tracks()
     ensures tracks { IsTracking line_setting 3 2 }
     ensures times { stretch 3 2 ≡ 137 }
@@ -24,8 +25,9 @@ pub fn line_tracks()
     plans_track();
 }
 
-/// A find from node 0 in each phase of a move: before the commit, by an old address and by the new one; between commit and
-/// confirm; after the confirm, by the new address and by one that isn't erased yet.
+/// A find from node 0 in each phase of a move: before the commit, by an old address and by the new
+/// one; between commit and confirm; after the confirm, by the new address and by one that isn't
+/// erased yet.
 pub fn line_costs()
     ensures before_old { outcome_of line_setting (line_scripts (move_to 2 ∷ []))
         (replicate 1 0 ++ replicate 4 1) ≡ record {

@@ -7,7 +7,8 @@ use trail_laws::{
     quiet_finds_stay_within, rest_is_settled,
 };
 
-/// A quiet find has its answer, and travels at most the stretch times the distance, and twice the open passage.
+/// A quiet find has its answer, and travels at most the stretch times the distance, and twice the
+/// open passage.
 pub fn quiet_finds_are_near()
     ensures { QuietFindsAreNear }
 {

@@ -3,7 +3,7 @@ use Rattle.std.proofs.Common.{◌≡◌, ◌≢◌, ◌⊎◌, inl, inr, ℕ, ze
 use Rattle.std.specs.Prelude.{slice_index}
 use Rattle.std.proofs.lemmas.Bool.{eqb-true, eq-eqb}
 use Rattle.std.proofs.lemmas.List.{get_or_append_left, get_or_at, length-map, map-append}
-use Rattle.node_set.specs.Ascending.{has, passing}
+use Rattle.node_set.specs.Ascending.{has, sift}
 use Rattle.node_set.specs.SetLaws.{has-passing}
 use Rattle.entry_word.specs.declared.mark.PresenceMark.{PresenceMark}
 use Rattle.entry_word.specs.declared.mark.PresenceMark.TheVariants.{Empty, Here, Coming}
@@ -17,7 +17,7 @@ use Rattle.trail_laws.proofs.Links.{IsSound, base-low, stop-inside}
 use Rattle.trail_laws.proofs.ClosedMarks.{IsNext, mark_coming, mark_erasing, mark_passing, rest_mark}
 use Rattle.trail_laws.proofs.ClosedEntries.{entry_erased}
 use Rattle.trail_laws.proofs.Holders.{erased-some, IsNew, IsOld, only-new, rest-some, written-some}
-use Rattle.trail_laws.proofs.Views.{clearing, coming, IsPhase, old_levels, passage, Phase, phase_commits, phase_entry, phase_mark, purge_nodes, purged_nodes, renewed_levels, View, while_clearing}
+use Rattle.trail_laws.proofs.ClosedViews.{clearing, coming, IsPhase, old_levels, passage, Phase, phase_commits, phase_entry, phase_mark, purge_nodes, purged_nodes, renewed_levels, View, while_clearing}
 use Rattle.trail_laws.proofs.Chases.{above, Arrival, arrived, gone_above, longer, passing-fewer, some-out, stop_at, stops-inside, weight_from}
 use Rattle.trail_laws.proofs.Tells.{next-stands, rest-stands, stands}
 use Rattle.trail_laws.proofs.Fine.{fine-clearing, fine-coming, fine-coming_new, fine-new, fine-passing, fine-rest, IsFine}
@@ -45,7 +45,7 @@ above-few setting marks q = omega (
   all_pass 0 setting.nodes,
 )
   where
-    all_pass : (v k : ℕ) → length (passing (λ x. true) v k) ≡ k
+    all_pass : (v k : ℕ) → length (sift (λ x. true) v k) ≡ k
     all_pass v zero = refl
     all_pass v (suc k) = ap suc (all_pass (suc v) k)
 

@@ -1,4 +1,5 @@
--- What isn't a visit of a move changes nothing that leads a find: a switch turns a Here into an Off, or back, where the subscriber rests.
+-- What isn't a visit of a move changes nothing that leads a find: a switch turns a Here into an Off, or back, where the
+-- subscriber rests.
 use Rattle.std.proofs.Common.{◌≡◌, ℕ, zero, suc, ◌<◌, ◌≤◌, ◌^◌, Bool, true, false, cond, not, ◌==◌, ◌&&◌, ◌||◌, List, [], ◌∷◌, ◌++◌, Option, Some, None, length, map, take, fold, refl, sym, ap, ◌∙◌, subst, arith}
 use Rattle.std.specs.Prelude.{filter_map, slice_get}
 use Rattle.std.specs.List.{cons_option}

@@ -4,7 +4,7 @@ use Rattle.std.specs.Prelude.{nat_lt, nat_le, slice_get, slice_index, sum_by}
 use Rattle.std.proofs.lemmas.Bool.{eqb-true, eq-eqb}
 use Rattle.std.proofs.lemmas.Bool.Decides.{nat_tests}
 use Rattle.std.proofs.lemmas.List.Sums.{sum_by-cons}
-use Rattle.node_set.specs.Ascending.{passing}
+use Rattle.node_set.specs.Ascending.{sift}
 use Rattle.entry_word.specs.declared.mark.PresenceMark.{PresenceMark}
 use Rattle.entry_word.specs.declared.mark.PresenceMark.TheVariants.{Empty, Here, Gone, Coming, Off}
 use Rattle.directory.specs.Settings.{Setting}
@@ -17,20 +17,20 @@ use Rattle.trail_laws.proofs.ClosedMarks.{trail_mark}
 
 -- ---- how many pass a test
 pub passing-fewer : (f g : ℕ → Bool) (v k : ℕ) → ((x : ℕ) → f x ≡ true → g x ≡ true)
-    → length (passing f v k) ≤ length (passing g v k)
+    → length (sift f v k) ≤ length (sift g v k)
 passing-fewer f g v zero h = omega arith
 passing-fewer f g v (suc k) h = at_tests (f v) (g v) (h v) (passing-fewer f g (suc v) k h)
   where
-    at_tests : (a b : Bool) → (a ≡ true → b ≡ true) → length (passing f (suc v) k) ≤ length (passing g (suc v) k)
-        → length (cond a (v ∷ passing f (suc v) k) (passing f (suc v) k)) ≤ length
-        (cond b (v ∷ passing g (suc v) k) (passing g (suc v) k))
+    at_tests : (a b : Bool) → (a ≡ true → b ≡ true) → length (sift f (suc v) k) ≤ length (sift g (suc v) k)
+        → length (cond a (v ∷ sift f (suc v) k) (sift f (suc v) k)) ≤ length
+        (cond b (v ∷ sift g (suc v) k) (sift g (suc v) k))
     at_tests true true e more = omega (arith, more)
     at_tests true false e more = let clash : false ≡ true = e refl in cc
     at_tests false true e more = omega (arith, more)
     at_tests false false e more = more
 
 pub passing-less : (f g : ℕ → Bool) (x v k : ℕ) → v ≤ x → x < v + k → ((y : ℕ) → f y ≡ true → g y ≡ true)
-    → f x ≡ false → g x ≡ true → length (passing f v k) < length (passing g v k)
+    → f x ≡ false → g x ≡ true → length (sift f v k) < length (sift g v k)
 passing-less f g x v zero low high h out within = absurd (omega arith)
 passing-less f g x v (suc k) low high h out within = at_place (cases v x)
     (λ l. passing-less f g x (suc v) k l (omega arith) h out within)
@@ -38,26 +38,26 @@ passing-less f g x v (suc k) low high h out within = at_place (cases v x)
     cases : (a b : ℕ) → (a ≡ b) ⊎ ((a == b) ≡ false)
     cases a b = grind (arith, nat_tests)
 
-    at_tests : (a b : Bool) → (a ≡ true → b ≡ true) → length (passing f (suc v) k) < length (passing g (suc v) k)
-        → length (cond a (v ∷ passing f (suc v) k) (passing f (suc v) k)) < length
-        (cond b (v ∷ passing g (suc v) k) (passing g (suc v) k))
+    at_tests : (a b : Bool) → (a ≡ true → b ≡ true) → length (sift f (suc v) k) < length (sift g (suc v) k)
+        → length (cond a (v ∷ sift f (suc v) k) (sift f (suc v) k)) < length
+        (cond b (v ∷ sift g (suc v) k) (sift g (suc v) k))
     at_tests true true e more = omega (arith, more)
     at_tests true false e more = let clash : false ≡ true = e refl in cc
     at_tests false true e more = omega (arith, more)
     at_tests false false e more = more
 
     at_place : (v ≡ x) ⊎ ((v == x) ≡ false) → (suc v ≤ x
-        → length (passing f (suc v) k) < length (passing g (suc v) k))
-        → length (cond (f v) (v ∷ passing f (suc v) k) (passing f (suc v) k)) < length
-        (cond (g v) (v ∷ passing g (suc v) k) (passing g (suc v) k))
+        → length (sift f (suc v) k) < length (sift g (suc v) k))
+        → length (cond (f v) (v ∷ sift f (suc v) k) (sift f (suc v) k)) < length
+        (cond (g v) (v ∷ sift g (suc v) k) (sift g (suc v) k))
     at_place (inl e) more = rw (ap f e ∙ out, ap g e ∙ within) (omega (arith, passing-fewer f g (suc v) k h))
     at_place (inr e) more = at_tests (f v) (g v) (h v) (more (grind (arith, nat_tests)))
 
-all-pass : (v k : ℕ) → length (passing (λ x. true) v k) ≡ k
+all-pass : (v k : ℕ) → length (sift (λ x. true) v k) ≡ k
 all-pass v zero = refl
 all-pass v (suc k) = ap suc (all-pass (suc v) k)
 
-pub some-out : (test : ℕ → Bool) (x n : ℕ) → x < n → test x ≡ false → suc (length (passing test 0 n)) ≤ n
+pub some-out : (test : ℕ → Bool) (x n : ℕ) → x < n → test x ≡ false → suc (length (sift test 0 n)) ≤ n
 some-out test x n low out = omega (
   arith,
   passing-less test (λ y. true) x 0 n (omega arith) (omega arith)
@@ -74,7 +74,7 @@ gone_above number (Coming q from) = false
 gone_above number (Off q) = false
 
 abbrev pub above : Setting → (ℕ → PresenceMark) → ℕ → ℕ
-above setting marks number = length (passing (λ v. gone_above number (marks v)) 0 setting.nodes)
+above setting marks number = length (sift (λ v. gone_above number (marks v)) 0 setting.nodes)
 
 gone_above-less : (p q : ℕ) (mark : PresenceMark) → q ≤ p → gone_above p mark ≡ true → gone_above q mark ≡ true
 gone_above-less p q Empty h e = cc
@@ -286,7 +286,8 @@ cases_eq a b = at_test (a == b) refl
     at_test true e = inl (eqb-true a b e)
     at_test false e = inr (λ same. let clash : (a == b) ≡ true = eq-eqb a b same in cc)
 
--- where a trail is left: a node is one of its exits, from where the marks lead to the end, or its mark is that of the trail
+-- where a trail is left: a node is one of its exits, from where the marks lead to the end, or its mark is that of the
+-- trail
 pub Exits : Setting → (ℕ → PresenceMark) → ℕ → ℕ → ℕ → List Move → ℕ → ℕ → ℕ → Type 0
 Exits setting marks from number last moves most more_hops more_way =
     (i v : ℕ) (known : Option ℕ) → i ≤ length moves → v < setting.nodes → stop_at from moves i ≡ v
@@ -432,7 +433,8 @@ back-leads setting marks last most p to known above_most knows comes answered =
     (arrived setting marks (known_after known (marks to)) last last 0 0 refl
     (answered (known_after known (marks to))))
 
--- before the commit of a move: the node that is come to leads back to where the subscriber stands, no farther than the trail does
+-- before the commit of a move: the node that is come to leads back to where the subscriber stands, no farther than the
+-- trail does
 pub coming-exits : (setting : Setting) (marks : ℕ → PresenceMark) (from number last : ℕ) (moves : List Move)
     (most p to : ℕ) → AreLinked setting from number moves → from < setting.nodes
     → stop_at from moves (length moves) ≡ last → most < p
@@ -467,7 +469,8 @@ coming-exits setting marks from number last moves most p to linked begins ends a
         at_end (inl l) = inr (others v inside other off_to, l)
         at_end (inr e) = absurd (other (sym is_stop ∙ (ap (stop_at from moves) e ∙ ends)))
 
--- between commit and confirm: from the node that was left one hop leads on, and a Coming that isn't known leads there and back
+-- between commit and confirm: from the node that was left one hop leads on, and a Coming that isn't known leads there
+-- and back
 pub left-leads : (setting : Setting) (marks : ℕ → PresenceMark) (left p to : ℕ) (known : Option ℕ)
     → marks left ≡ Gone p to → marks to ≡ Coming p left
     → Arrival setting marks known left to 1 (setting.distance left to + 0)

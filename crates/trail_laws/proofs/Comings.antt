@@ -14,7 +14,8 @@ use Rattle.directory.specs.Standing.{Commit}
 use Rattle.trail_laws.proofs.Links.{base-low, IsSound}
 use Rattle.trail_laws.proofs.ClosedMarks.{mark_coming, mark_erasing, mark_passing, rest_mark, since_top, there, trail_mark}
 use Rattle.trail_laws.proofs.ClosedEntries.{entry_written, new_entry, rest_entry}
-use Rattle.trail_laws.proofs.Views.{clearing, coming, in-levels, IsPhase, old_levels, passage, Phase, phase_commits, phase_entry, phase_mark, purged_nodes, renewed_levels, View, while_clearing}
+use Rattle.trail_laws.proofs.ClosedViews.{clearing, coming, IsPhase, old_levels, passage, Phase, phase_commits, phase_entry, phase_mark, purged_nodes, renewed_levels, View, while_clearing}
+use Rattle.trail_laws.proofs.ClosedWrites.{in-levels}
 use Rattle.trail_laws.proofs.Chases.{Arrival, arrived, IsLeft, last-left, left-leads, longer, stop_at, stops-inside}
 use Rattle.node_set.specs.SetLaws.{has-passing, passing_over}
 use Rattle.trail_laws.proofs.Addresses.{not-taken}
@@ -104,7 +105,8 @@ coming-one setting from marks entries commits off moves v p u low (inr h) comes 
 pub coming-leads_on : (setting : Setting) (from : ℕ) (marks : ℕ → PresenceMark) (entries : ℕ → ℕ → Option Address)
     (commits : List Commit) (off : Bool) (moves : List Move) (v p u : ℕ) (known : Option ℕ) → v < setting.nodes
     → View setting from marks entries commits off moves → marks v ≡ Coming p u → (way : ℕ)
-    × (way ≤ setting.distance u (stands from commits)) × Arrival setting marks known u (stands from commits) setting.nodes way
+    × (way ≤ setting.distance u (stands from commits))
+    × Arrival setting marks known u (stands from commits) setting.nodes way
 coming-leads_on setting from marks entries commits off moves v p u known low (inl h) comes = absurd
     (rest-not_coming setting h.course v p u h.sound (sym (h.marks_are v low) ∙ comes))
 coming-leads_on setting from marks entries commits off moves v p u known low

@@ -12,7 +12,7 @@ use Rattle.directory.specs.Standing.{Commit, commit_by, commits, number, off, st
 use Rattle.trail_laws.specs.Trail.{entry_seen, mark_seen, MarksTell, MarkTells}
 use Rattle.trail_laws.specs.Phases.{IsBeforeCommit, IsPassingFrom, IsSettled, PhasesCover}
 use Rattle.trail_laws.specs.Ways.{StandsInside}
-use Rattle.trail_laws.proofs.Views.{clearing, coming, passage, Phase, phase_commits, View}
+use Rattle.trail_laws.proofs.ClosedViews.{clearing, coming, passage, Phase, phase_commits, View}
 use Rattle.trail_laws.proofs.Laws.{HistoryView, Laws, view}
 
 -- at most one move is begun that isn't committed

@@ -15,8 +15,8 @@ use Rattle.trail_laws.proofs.Tells.{next-stands, rest-stands, stands}
 use Rattle.trail_laws.proofs.Leads.{coming-there, clearing-here, passing-at_to}
 use Rattle.trail_laws.proofs.Prices.{AreLazy, lazy-front, lazy-whole, price-clearing}
 
--- the way from the node of an address, told for each state: before the commit, from an old address and from the new one;
--- between commit and confirm; and after the confirm, from an old address and from one that stays
+-- the way from the node of an address, told for each state: before the commit, from an old address and from the new
+-- one; between commit and confirm; and after the confirm, from an old address and from one that stays
 pub record IsFine (setting : Setting) (marks : ℕ → PresenceMark) (last number : ℕ) (moves : List Move) (level : ℕ)
     (address : Address) (way : ℕ) : Type 0 where
   pub before_old : IsMetric setting → AreLazy setting moves → length moves ≡ suc number → address.number ≤ number
@@ -49,7 +49,8 @@ pub fine-rest : (setting : Setting) (marks : ℕ → PresenceMark) (course : Cou
     → IsFine setting marks last (length (map commit_by course.moves)) course.moves level address
     (weight_from course.moves (base level course.moves))
 fine-rest setting marks course level last address below = fine-short setting marks last
-    (length (map commit_by course.moves)) course.moves level address (weight_from course.moves (base level course.moves))
+    (length (map commit_by course.moves)) course.moves level address
+    (weight_from course.moves (base level course.moves))
     (λ lazy. lazy-whole setting course.moves level below lazy)
     (λ all new. absurd (omega (arith, all, length-map course.moves commit_by)))
 
@@ -88,7 +89,8 @@ fine-coming_new setting from marks course move level sound next begins marks_are
     longer : length (course.moves ++ move ∷ []) ≡ length (map commit_by course.moves) → ⊥
     longer all = omega (arith, all, length-append course.moves (move ∷ []), length-map course.moves commit_by)
 
-    clash : (u : ℕ) → marks (stands from (map commit_by course.moves)) ≡ Coming (length (map commit_by course.moves)) u → ⊥
+    clash : (u : ℕ) → marks (stands from (map commit_by course.moves)) ≡ Coming (length (map commit_by course.moves)) u
+        → ⊥
     clash u comes =
         let there : answers None (Coming (length (map commit_by course.moves)) u) ≡ true =
         sym (ap (answers None) (sym (ap marks (rest-stands course from begins)) ∙ comes))

@@ -10,7 +10,8 @@ use Rattle.directory.specs.Settings.{Setting}
 use Rattle.directory.specs.Courses.{Move, Course, address_node, base}
 use Rattle.directory.specs.Writes.{old_home}
 use Rattle.trail_laws.proofs.ClosedEntries.{entry_erased, entry_written, new_entry, rest_entry}
-use Rattle.trail_laws.proofs.Views.{in-levels, old_levels, renewed_levels}
+use Rattle.trail_laws.proofs.ClosedViews.{old_levels, renewed_levels}
+use Rattle.trail_laws.proofs.ClosedWrites.{in-levels}
 
 -- the address that a level had before the move, and the one that the move writes
 abbrev pub old_address : Course → ℕ → Address

@@ -17,7 +17,8 @@ use Rattle.directory.specs.Puts.{steps_in}
 use Rattle.directory.specs.Parts.{lead}
 use Rattle.trail_laws.specs.Trail.{answers}
 use Rattle.trail_laws.proofs.Links.{start-kept}
-use Rattle.trail_laws.proofs.Views.{legal-view, View}
+use Rattle.trail_laws.proofs.ClosedViews.{View}
+use Rattle.trail_laws.proofs.Views.{legal-view}
 use Rattle.trail_laws.proofs.Tells.{mark-is, MarkIs}
 use Rattle.trail_laws.proofs.Addresses.{entry-placed, IsPlaced}
 use Rattle.trail_laws.proofs.Comings.{coming-leads_on, coming-one, top-has}

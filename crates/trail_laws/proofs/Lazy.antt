@@ -6,7 +6,7 @@ use Rattle.std.proofs.lemmas.List.{append-nil, take_all}
 use Rattle.std.proofs.Math.ListN.{drop_of_length-le}
 use Rattle.directory.specs.Settings.{levels, Setting, start}
 use Rattle.directory.specs.Histories.{History, puts_to}
-use Rattle.directory.specs.Courses.{after_step, after_steps, base, Course, course_at, gathered, highest, MaySteps, Move, move_to, next_move, Step, switch_off, switch_on}
+use Rattle.directory.specs.Courses.{after_step, after_steps, base, Course, course_at, gathered_weight, highest, MaySteps, Move, move_to, next_move, Step, switch_off, switch_on}
 use Rattle.directory.specs.Legal.{IsLegal}
 use Rattle.directory.specs.Puts.{course_in}
 use Rattle.directory.specs.StepLaws.{take-append}
@@ -70,7 +70,7 @@ lazy-whole_move setting course node level sound some below =
     move = next_move setting course node
 
     test : ℕ → Bool
-    test l = nat_le (setting.threshold l) (gathered course l + move.weight)
+    test l = nat_le (setting.threshold l) (gathered_weight course l + move.weight)
 
     at_test : (b : Bool) → nat_le level move.renewed ≡ b
         → weight_from (course.moves ++ move ∷ []) (cond b move.number (base level course.moves))
@@ -82,9 +82,10 @@ lazy-whole_move setting course node level sound some below =
         omega (arith, some level below, nothing)
     at_test false e =
         let high : move.renewed < level = grind (arith, nat_tests, e) in
-        let failed : nat_le (setting.threshold level) (gathered course level + move.weight) ≡ false =
+        let failed : nat_le (setting.threshold level) (gathered_weight course level + move.weight) ≡ false =
         highest-above test (levels setting) level high (omega (arith, below)) in
-        let less : gathered course level + move.weight < setting.threshold level = grind (arith, nat_tests, failed) in
+        let less : gathered_weight course level + move.weight < setting.threshold level =
+        grind (arith, nat_tests, failed) in
         omega (
           arith,
           less,

@@ -2,6 +2,8 @@ mod Links
 mod Fronts
 mod ClosedMarks
 mod ClosedEntries
+mod ClosedViews
+mod ClosedWrites
 mod Views
 mod Chases
 mod Tells
@@ -18,9 +20,11 @@ mod Passing
 mod Passages
 mod Right
 mod Alike
+mod Sure
 mod Quiet
 mod Short
 mod Resting
 mod Covering
 mod Still
 mod RightLines
+mod Listed

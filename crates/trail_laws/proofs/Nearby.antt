@@ -15,7 +15,8 @@ use Rattle.trail_laws.specs.Trail.{IsMetric}
 use Rattle.trail_laws.proofs.Links.{base-low, IsSound, stop-inside}
 use Rattle.trail_laws.proofs.ClosedMarks.{base-with, IsNext}
 use Rattle.trail_laws.proofs.ClosedEntries.{entry_written, new_entry, rest_entry}
-use Rattle.trail_laws.proofs.Views.{clearing, coming, in-levels, IsPhase, old_levels, passage, Phase, phase_commits, phase_entry, purged_nodes, renewed_levels, View, while_clearing}
+use Rattle.trail_laws.proofs.ClosedViews.{clearing, coming, IsPhase, old_levels, passage, Phase, phase_commits, phase_entry, purged_nodes, renewed_levels, View, while_clearing}
+use Rattle.trail_laws.proofs.ClosedWrites.{in-levels}
 use Rattle.trail_laws.proofs.Chases.{weight_from}
 use Rattle.trail_laws.proofs.Tells.{next-stands, rest-stands, stands}
 use Rattle.trail_laws.proofs.Addresses.{not-taken}

@@ -74,7 +74,8 @@ put-cases sub x word (Put (Presence node s) new) put = at_test (x == node) refl
 -- a put adds at most moves, and a Coming adds one
 step-grows : (setting : Setting) (course : Course) (step : Step)
     → length course.moves ≤ length (after_step setting course step).moves
-step-grows setting course (move_to node) = omega (arith, length-append course.moves (next_move setting course node ∷ []))
+step-grows setting course (move_to node) =
+    omega (arith, length-append course.moves (next_move setting course node ∷ []))
 step-grows setting course switch_off = omega arith
 step-grows setting course switch_on = omega arith
 

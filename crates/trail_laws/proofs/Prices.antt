@@ -1,4 +1,5 @@
--- What the ways along the marks weigh: no level has gathered its threshold, so that the trail from its address is short.
+-- What the ways along the marks weigh: no level has gathered its threshold, so that the trail from its address is
+-- short.
 use Rattle.std.proofs.Common.{◌≡◌, ℕ, ◌+◌, ◌*◌, ◌<◌, ◌≤◌, List, [], ◌∷◌, ◌++◌, length, map, take, drop, refl, sym, ap, ◌∙◌, subst, arith, length-append}
 use Rattle.std.specs.Prelude.{sum_by}
 use Rattle.std.proofs.lemmas.List.{drop-append-le, length-map}
@@ -138,13 +139,14 @@ pub price-passing_new : (setting : Setting) (from : ℕ) (marks : ℕ → Presen
     → IsPriced setting marks (stands from (map commit_by (course.moves ++ move ∷ [])))
     (length (map commit_by (course.moves ++ move ∷ []))) (course.moves ++ move ∷ []) level move.to
     (setting.distance move.to move.from + (setting.distance move.from move.to + 0))
-price-passing_new setting from marks course move level sound next begins below marks_are pass metric lazy opens = omega (
-  arith,
-  lazy-front setting course.moves (move ∷ []) level below lazy,
-  passing-pass setting from marks course move pass sound next begins marks_are opens,
-  metric.both_ways move.to move.from next.inside
-      (subst (λ n. n < setting.nodes) (sym next.from) (stop-inside setting course sound)),
-)
+price-passing_new setting from marks course move level sound next begins below marks_are pass metric lazy opens =
+    omega (
+      arith,
+      lazy-front setting course.moves (move ∷ []) level below lazy,
+      passing-pass setting from marks course move pass sound next begins marks_are opens,
+      metric.both_ways move.to move.from next.inside
+          (subst (λ n. n < setting.nodes) (sym next.from) (stop-inside setting course sound)),
+    )
 
 pub price-new : (setting : Setting) (marks : ℕ → PresenceMark) (course : Course) (move : Move)
     (level last number : ℕ) → level ≤ setting.top

@@ -1,5 +1,5 @@
 -- How far the marks lead in each phase, and what rest is.
-use Rattle.std.proofs.Common.{◌≡◌, ◌≢◌, ℕ, ◌<◌, ◌≤◌, Bool, true, false, cond, Some, length, map, refl, sym, ap, ◌∙◌, arith}
+use Rattle.std.proofs.Common.{◌≡◌, ◌≢◌, ℕ, ◌<◌, ◌≤◌, Bool, true, false, cond, Some, length, map, refl, sym, ap, ◌∙◌, arith, inl, inr}
 use Rattle.std.specs.Prelude.{filter_map}
 use Rattle.std.proofs.lemmas.Bool.{eq-eqb}
 use Rattle.std.proofs.lemmas.List.{length-drop, length-map, take_all}
@@ -13,11 +13,12 @@ use Rattle.directory.specs.Puts.{course_in, steps_in}
 use Rattle.directory.specs.Standing.{commit_by, commits, number, standing}
 use Rattle.directory.specs.States.{entry_left, mark_left, write_commit, writes_made}
 use Rattle.trail_laws.specs.Trail.{entry_seen, mark_seen}
-use Rattle.trail_laws.specs.Phases.{AddressesLeadByPhase, IsCurrent, RestIsSettled}
+use Rattle.trail_laws.specs.Phases.{AddressesLeadByPhase, IsCurrent, IsMarked, RestIsSettled}
 use Rattle.trail_laws.proofs.Links.{AreLinked, start-kept, stop-inside}
 use Rattle.trail_laws.proofs.ClosedMarks.{since_top, there, trail_mark}
 use Rattle.trail_laws.proofs.ClosedEntries.{entered, rest_entry}
-use Rattle.trail_laws.proofs.Views.{commits-steps, entries-steps, opens-entries, rest-marks_of, sound-script}
+use Rattle.trail_laws.proofs.ClosedWrites.{commits-steps, entries-steps}
+use Rattle.trail_laws.proofs.Views.{opens-entries, rest-marks_of, sound-script}
 use Rattle.trail_laws.proofs.Tells.{rest-stands, stands}
 use Rattle.trail_laws.proofs.Holders.{IsOld, rest-some}
 use Rattle.trail_laws.proofs.Laws.{Laws, placed}
@@ -50,7 +51,7 @@ not-coming course p u h = at_state course.is_off h
 
 pub rest-settled : Laws → RestIsSettled
 unfolding AreLinked IsOld
-rest-settled laws setting sub history low legal rest = ((all, other), current)
+rest-settled laws setting sub history low legal rest = ((all, other), current, marked)
   where
     done : length (visits setting sub (steps_in (puts_to sub history))) ≤ length (puts_to sub history)
     done = omega (
@@ -99,6 +100,19 @@ rest-settled laws setting sub history low legal rest = ((all, other), current)
         (last_stop (course_in setting sub (puts_to sub history))) Empty))
         (eq-eqb (last_stop (course_in setting sub (puts_to sub history)))
         (last_stop (course_in setting sub (puts_to sub history))) refl)))
+
+    shown : mark_seen setting sub history (standing setting sub history)
+        ≡ there (course_in setting sub (puts_to sub history))
+    shown = ap (mark_seen setting sub history) stood ∙ its_mark
+
+    at_state : (b : Bool) → (course_in setting sub (puts_to sub history)).is_off ≡ b → IsMarked setting sub history
+    at_state true e = inr (shown ∙ (ap (λ b. cond b (Off (length (course_in setting sub (puts_to sub history)).moves))
+        (Here (length (course_in setting sub (puts_to sub history)).moves))) e ∙ ap Off all))
+    at_state false e = inl (shown ∙ (ap (λ b. cond b (Off (length (course_in setting sub (puts_to sub history)).moves))
+        (Here (length (course_in setting sub (puts_to sub history)).moves))) e ∙ ap Here all))
+
+    marked : IsMarked setting sub history
+    marked = at_state (course_in setting sub (puts_to sub history)).is_off refl
 
     other : (from : ℕ) → mark_seen setting sub history (standing setting sub history) ≢ Coming (number sub history) from
     other from comes = not-coming (course_in setting sub (puts_to sub history)) (number sub history) from

@@ -1,4 +1,5 @@
--- The answers of finds are right: what is known grows with the commits, and the mark that answers says where the subscriber stands.
+-- The answers of finds are right: what is known grows with the commits, and the mark that answers says where the
+-- subscriber stands.
 use Rattle.std.proofs.Common.{◌≡◌, ◌⊎◌, inl, inr, ℕ, zero, suc, ◌+◌, ◌-◌, ◌*◌, ◌<◌, ◌≤◌, ◌^◌, Bool, true, false, cond, List, [], ◌∷◌, ◌++◌, Option, Some, None, length, map, fold, refl, sym, ap, ◌∙◌, subst, arith}
 use Rattle.std.specs.Prelude.{All, filter_map, flat_map, slice_get, slice_index}
 use Rattle.std.proofs.lemmas.Bool.Decides.{nat_tests}

@@ -1,13 +1,14 @@
 -- The lines of outcomes are right, since each is made by the looks of a find.
-use Rattle.std.proofs.Common.{◌≡◌, ℕ, zero, suc, ◌-◌, ◌<◌, ◌≤◌, ◌^◌, List, [], ◌∷◌, ◌++◌, sym, subst, arith}
-use Rattle.std.specs.Prelude.{All, Some, slice_get, slice_index_or}
+use Rattle.std.proofs.Common.{◌≡◌, ℕ, zero, suc, ◌<◌, ◌≤◌, ◌^◌, List, [], ◌∷◌, sym, subst, arith}
+use Rattle.std.specs.Prelude.{All, Some, slice_get}
 use Rattle.std.proofs.lemmas.List.Elements.{All-head, All-tail, All-nil, All-cons}
 use Rattle.directory.specs.Settings.{Setting, subs}
 use Rattle.directory.specs.Histories.{History}
 use Rattle.directory.specs.Legal.{IsLegal}
 use Rattle.directory.specs.Finds.{FindCall}
+use Rattle.directory.specs.ScriptLaws.{call_of_valid}
 use Rattle.directory.specs.Looks.{first_of, last_of, IsFind}
-use Rattle.directory.specs.Orders.{AreValid, IsFindCall, Scripts, finds_of, history_of}
+use Rattle.directory.specs.Orders.{AreValid, IsFindCall, Scripts, history_of}
 use Rattle.directory.specs.Outcomes.{IsMade, found_line, outcome_of}
 use Rattle.directory.specs.Statements.{LinesAreMade, OrdersAreDone, OrdersArePlayed, PlayedIsLegal}
 use Rattle.directory.specs.declared.answers.Done.{Done}
@@ -16,27 +17,6 @@ use Rattle.directory.specs.declared.answers.Found.{Found}
 use Rattle.directory.specs.declared.answers.Found.TheVariants.{At, Off as OffAt, Again}
 use Rattle.trail_laws.specs.Answers.{AgainHasItsCause, AnswersAreRight, HasNumber, NumbersNeverFall, ReadsTop}
 use Rattle.trail_laws.specs.Lines.{IsRightLine, NumbersRise, OutcomesAreRight, TellsNumber}
-
--- what holds of all lists of a table holds of each, and of none
-each_list : {A : Type 0} (P : A → Type 0) (rows : List (List A)) (i : ℕ) → All (λ row. All P row) rows
-    → All P (slice_index_or rows i [])
-each_list P [] i all = All-nil P
-each_list P (row ∷ rows) zero all = All-head (λ r. All P r) row rows all
-each_list P (row ∷ rows) (suc i) all = each_list P rows i (All-tail (λ r. All P r) row rows all)
-
--- and of the one in the middle
-of_middle : {A : Type 0} (P : A → Type 0) (xs : List A) (x : A) (ys : List A) → All P (xs ++ x ∷ ys) → P x
-of_middle P [] x ys all = All-head P x ys all
-of_middle P (y ∷ xs) x ys all = of_middle P xs x ys (All-tail P y (xs ++ x ∷ ys) all)
-
--- the call of a line is one that a valid script has
-valid_call : (setting : Setting) (scripts : Scripts) (actor : ℕ) (before : List FindCall) (call : FindCall)
-    (later : List FindCall) → AreValid setting scripts → finds_of setting scripts actor ≡ before ++ call ∷ later
-    → IsFindCall setting call
-valid_call setting scripts actor before call later valid script =
-    of_middle (IsFindCall setting) before call later
-    (subst (All (IsFindCall setting)) script
-    (each_list (IsFindCall setting) scripts.finds (actor - subs setting) valid.finds))
 
 -- the line of a find is right
 right_line : AnswersAreRight → AgainHasItsCause → (setting : Setting) (history : History) (actor : ℕ)
@@ -66,19 +46,19 @@ made_right right cause setting scripts history low reads valid legal (Switched a
 made_right right cause setting scripts history low reads valid legal
     (FoundBy actor from sub node n level weight first last) h =
     let is : IsFindCall setting (record { from = from; sub = sub }) =
-    valid_call setting scripts actor h.before _ h.later valid h.script in
+    call_of_valid setting scripts actor h.before _ h.later valid h.script in
     right_line right cause setting history actor (record { from = from; sub = sub }) h.found h.seen _ low reads is
     (legal sub is.known) h.find h.tells
 made_right right cause setting scripts history low reads valid legal
     (OffBy actor from sub node n level weight first last) h =
     let is : IsFindCall setting (record { from = from; sub = sub }) =
-    valid_call setting scripts actor h.before _ h.later valid h.script in
+    call_of_valid setting scripts actor h.before _ h.later valid h.script in
     right_line right cause setting history actor (record { from = from; sub = sub }) h.found h.seen _ low reads is
     (legal sub is.known) h.find h.tells
 made_right right cause setting scripts history low reads valid legal
     (AgainBy actor from sub why weight first last) h =
     let is : IsFindCall setting (record { from = from; sub = sub }) =
-    valid_call setting scripts actor h.before _ h.later valid h.script in
+    call_of_valid setting scripts actor h.before _ h.later valid h.script in
     right_line right cause setting history actor (record { from = from; sub = sub }) h.found h.seen _ low reads is
     (legal sub is.known) h.find h.tells
 
@@ -151,11 +131,11 @@ numbered setting scripts history valid (Moved actor n from to weight first commi
 numbered setting scripts history valid (Switched actor is_off node n at) s p ticket h told = absurd told
 numbered setting scripts history valid (FoundBy actor from sub node n level weight first last) s p ticket h told =
     told_by setting history actor from h.found h.seen _ sub s p ticket
-    (valid_call setting scripts actor h.before (record { from = from; sub = sub }) h.later valid h.script) h.find
+    (call_of_valid setting scripts actor h.before (record { from = from; sub = sub }) h.later valid h.script) h.find
     h.tells told
 numbered setting scripts history valid (OffBy actor from sub node n level weight first last) s p ticket h told =
     told_by setting history actor from h.found h.seen _ sub s p ticket
-    (valid_call setting scripts actor h.before (record { from = from; sub = sub }) h.later valid h.script) h.find
+    (call_of_valid setting scripts actor h.before (record { from = from; sub = sub }) h.later valid h.script) h.find
     h.tells told
 numbered setting scripts history valid (AgainBy actor from sub why weight first last) s p ticket h told = absurd told
 

@@ -12,7 +12,7 @@ use Rattle.trail_laws.specs.Trail.{entry_seen, mark_seen, MarksTell, MarkTells}
 use Rattle.trail_laws.specs.Ways.{AddressesLeadShortly, ComingsLeadShortly, LevelsStayNear, PassagesAreOpen, StandsInside}
 use Rattle.trail_laws.proofs.Links.{stop-inside}
 use Rattle.trail_laws.proofs.Tells.{next-stands, rest-stands, stands}
-use Rattle.trail_laws.proofs.Views.{clearing, coming, passage as is_passage, Phase, phase_commits, View}
+use Rattle.trail_laws.proofs.ClosedViews.{clearing, coming, passage as is_passage, Phase, phase_commits, View}
 use Rattle.trail_laws.proofs.Comings.{coming-leads_on}
 use Rattle.trail_laws.proofs.Laws.{HistoryView, Laws, placed, view}
 use Rattle.trail_laws.proofs.Lazy.{legal-lazy}
@@ -58,7 +58,8 @@ passages-open laws setting sub history low legal node p from inside comes reache
     coming-opens laws setting sub history node p from low inside legal comes reached
 
 pub addresses-short : Laws → AddressesLeadShortly
-addresses-short laws setting sub history low metric some legal level cluster address known pass below is_some knows opens =
+addresses-short laws setting sub history low metric some legal level cluster address known pass below is_some knows
+    opens =
     let its = placed laws setting sub history low legal level cluster address below is_some in
     let there = its.leads known knows in (
       there.hops,

@@ -23,7 +23,8 @@ use Rattle.trail_laws.specs.Ways.{IsOpenAtMost, PassagesAreOpen, StandsInside}
 use Rattle.trail_laws.specs.Within.{QuietFindsStandStill}
 use Rattle.trail_laws.proofs.Alike.{alike-step, IsSwitching, switching}
 use Rattle.trail_laws.proofs.Passing.{front-legal}
-use Rattle.trail_laws.proofs.Quiet.{last-late, Used}
+use Rattle.trail_laws.proofs.Sure.{Used}
+use Rattle.trail_laws.proofs.Quiet.{last-late}
 use Rattle.trail_laws.proofs.Right.{last-more}
 
 -- what is as it was at another history
@@ -93,16 +94,19 @@ still-until used rested setting sub history (suc k) t low legal within quiet =
         → IsStill setting sub (before t history) (before (k + t) history)
         → IsStill setting sub (before t history) (before (suc k + t) history)
     at_visit (visit, found) still =
-        let more : before (suc (k + t)) history ≡ before (k + t) history ++ visit ∷ [] = take-more history (k + t) visit found in
+        let more : before (suc (k + t)) history ≡ before (k + t) history ++ visit ∷ [] =
+        take-more history (k + t) visit found in
         let e : suc k + t ≡ suc (k + t) = omega arith in
         subst (λ h. IsStill setting sub (before t history) h) (sym (ap (λ n. before n history) e ∙ more))
         (still-step used rested setting sub (before t history) (before (k + t) history) visit low
         (front-legal used.fronts setting sub history (k + t) low legal)
         (subst (IsLegal setting sub) more (front-legal used.fronts setting sub history (suc (k + t)) low legal))
-        (sym (ap (λ o. moves_by sub (before (k + t) history) o) found) ∙ quiet (k + t) (omega arith) (omega arith)) still)
+        (sym (ap (λ o. moves_by sub (before (k + t) history) o) found) ∙ quiet (k + t) (omega arith) (omega arith))
+        still)
 
 -- the last look of a find is a visit of the history
-last-inside : (setting : Setting) (history : History) (actor : ℕ) (call : FindCall) (earliest : ℕ) (stage : Stage) (t : ℕ)
+last-inside : (setting : Setting) (history : History) (actor : ℕ) (call : FindCall) (earliest : ℕ) (stage : Stage)
+    (t : ℕ)
     (later : List ℕ) → AreLooks setting history actor call earliest stage (t ∷ later)
     → last_of (t ∷ later) < length history
 unfolding AreLooks
@@ -141,6 +145,7 @@ stand-still used rested opens inside setting history actor call found (t ∷ lat
       arith,
       opens setting call.sub (through (last_of (t ∷ later)) history) low legal_last
           (standing setting call.sub (before t history)) p u
-          (inside setting call.sub (before t history) low (front-legal used.fronts setting call.sub history t low legal))
+          (inside setting call.sub (before t history) low
+          (front-legal used.fronts setting call.sub history t low legal))
           (still.open_too p u comes same) (same ∙ sym still.count),
     )

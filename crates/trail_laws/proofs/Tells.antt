@@ -13,7 +13,7 @@ use Rattle.directory.specs.Courses.{Move, Course, base, last_stop}
 use Rattle.directory.specs.Standing.{Commit, commit_by}
 use Rattle.trail_laws.proofs.Links.{AreLinked, IsSound, base-low, stop-inside}
 use Rattle.trail_laws.proofs.ClosedMarks.{IsNext, rest_mark, mark_coming, mark_passing, mark_erasing, since_top, there, trail_mark}
-use Rattle.trail_laws.proofs.Views.{IsPhase, Phase, View, clearing, coming, passage, phase_commits, phase_mark}
+use Rattle.trail_laws.proofs.ClosedViews.{clearing, coming, IsPhase, passage, Phase, phase_commits, phase_mark, View}
 use Rattle.trail_laws.proofs.Chases.{IsLeft, last-left, stop_at}
 
 -- where commits say that a subscriber stands

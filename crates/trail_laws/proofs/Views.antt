@@ -1,18 +1,15 @@
 -- What a legal history leaves, in closed form: its subscriber rests, or is in a phase of a move.
-use Rattle.std.proofs.Common.{◌≡◌, ◌⊎◌, inl, inr, ℕ, zero, suc, ◌<◌, ◌≤◌, ◌^◌, Bool, true, false, cond, not, ◌==◌, ◌&&◌, List, [], ◌∷◌, ◌++◌, Option, None, length, map, take, fold, refl, sym, ap, ◌∙◌, subst, arith, append_assoc}
-use Rattle.std.specs.Prelude.{nat_le, filter_map}
+use Rattle.std.proofs.Common.{◌≡◌, ◌⊎◌, inl, inr, ℕ, zero, suc, ◌<◌, ◌≤◌, ◌^◌, Bool, true, false, cond, ◌==◌, List, [], ◌∷◌, ◌++◌, Option, None, length, map, take, fold, refl, sym, ap, ◌∙◌, subst, arith, append_assoc}
+use Rattle.std.specs.Prelude.{filter_map}
 use Rattle.std.proofs.lemmas.Bool.{lt-ltb}
-use Rattle.std.proofs.lemmas.Bool.Decides.{nat_tests}
 use Rattle.std.proofs.lemmas.List.{append-nil, length-map, length-take, take-map, take_all, map-append}
 use Rattle.std.proofs.lemmas.List.Sums.{fold-append}
 use Rattle.std.proofs.lemmas.List.Elements.{filter_map-append}
-use Rattle.node_set.specs.Ascending.{has, passing}
-use Rattle.node_set.specs.SetLaws.{has-passing, passing_over}
 use Rattle.entry_word.specs.Marks.{mark_in}
 use Rattle.entry_word.specs.Addresses.{address_in}
 use Rattle.entry_word.specs.declared.visit.Key.TheVariants.{Presence, Entry}
 use Rattle.entry_word.specs.declared.mark.PresenceMark.{PresenceMark}
-use Rattle.entry_word.specs.declared.mark.PresenceMark.TheVariants.{Empty, Here, Gone, Coming, Off}
+use Rattle.entry_word.specs.declared.mark.PresenceMark.TheVariants.{Empty, Here, Gone, Coming}
 use Rattle.entry_word.specs.declared.address.Address.{Address}
 use Rattle.directory.specs.Settings.{Setting, start, subs}
 use Rattle.directory.specs.Legal.{IsLegal, IsScript}
@@ -20,431 +17,16 @@ use Rattle.directory.specs.Histories.{History, cell, puts_to}
 use Rattle.directory.specs.Puts.{course_in}
 use Rattle.directory.specs.Amid.{IsAmid}
 use Rattle.directory.specs.Statements.{CommitsAreTold, EntriesAreLeft, LegalIsAmid, MarksAreLeft, OffIsTold}
-use Rattle.directory.specs.Courses.{Step, move_to, switch_off, switch_on, Move, Course, course_at, last_stop, next_move, after_step, after_steps, MayMove, MayStep, MaySteps}
-use Rattle.directory.specs.Writes.{Write, mark_at, entry_at, numbers_from, new_address, old_home, erasing, purging, trail, move_writes, step_writes, writes}
+use Rattle.directory.specs.Courses.{Step, move_to, switch_off, switch_on, Move, Course, course_at, next_move, after_step, after_steps, MayMove, MayStep, MaySteps}
+use Rattle.directory.specs.Writes.{Write, mark_at, entry_at, new_address, old_home, erasure_writes, purge_writes, move_writes, step_writes, writes}
 use Rattle.directory.specs.Standing.{Commit, commit_by, commits, off}
 use Rattle.directory.specs.States.{entry_left, mark_left, opening_entry, opening_mark, write_commit, write_off, writes_made}
-use Rattle.trail_laws.proofs.Links.{AreLinked, IsSound, sound-step, sound-steps, start-kept}
+use Rattle.trail_laws.proofs.Links.{AreLinked, IsSound, sound-steps, start-kept}
 use Rattle.trail_laws.proofs.Fronts.{IsFrontOf, nothing_made, is_coming, is_passing, is_erasing, fronts}
-use Rattle.trail_laws.proofs.ClosedMarks.{IsNext, is-next, rest_mark, mark_coming, mark_passing, mark_erasing, marked, marked-append, marked-entries, marked-purges, with_move, marks-rest, since_top, there, trail_mark}
-use Rattle.trail_laws.proofs.ClosedEntries.{rest_entry, entry_written, entry_erased, new_entry, entered, entered-append, entered-levels, entered-purges, entries-rest}
-
--- the levels whose new address a move has written, the levels whose old address it has erased, and the nodes that it has purged
-abbrev pub renewed_levels : Move → List ℕ
-renewed_levels move = numbers_from 0 (suc move.renewed)
-
-abbrev pub old_levels : Setting → Course → Move → List ℕ
-old_levels setting course move = passing (λ level. not (old_home setting course level == setting.home level move.to))
-    0 (suc move.renewed)
-
-abbrev pub purge_nodes : Setting → Course → Move → List ℕ
-purge_nodes setting course move = passing (λ node. has node (trail setting course move) && not (node == move.to)) 0
-    setting.nodes
-
-abbrev pub purged_nodes : Setting → Course → Move → List ℕ
-purged_nodes setting course move = cond (move.renewed == setting.top) (purge_nodes setting course move) []
-
--- a phase of a move
-pub data Phase : Type 0 where
-  coming : (written : List ℕ) → Phase
-  passage : Phase
-  clearing : (erased purged : List ℕ) → Phase
-
-abbrev pub phase_mark : Setting → Course → Move → Phase → ℕ → PresenceMark
-phase_mark setting course move (coming written) v = mark_coming setting course move v
-phase_mark setting course move passage v = mark_passing setting course move v
-phase_mark setting course move (clearing erased purged) v = mark_erasing setting course move purged v
-
-abbrev pub phase_entry : Setting → Course → Move → Phase → ℕ → ℕ → Option Address
-phase_entry setting course move (coming written) level cluster = entry_written setting course move written level
-    cluster
-phase_entry setting course move passage level cluster = entry_written setting course move
-    (renewed_levels move) level cluster
-phase_entry setting course move (clearing erased purged) level cluster = entry_erased setting course move
-    (renewed_levels move) erased level cluster
-
-abbrev pub phase_commits : Course → Move → Phase → List Commit
-phase_commits course move (coming written) = map commit_by course.moves
-phase_commits course move passage = map commit_by (course.moves ++ move ∷ [])
-phase_commits course move (clearing erased purged) = map commit_by (course.moves ++ move ∷ [])
-
--- which phases there are
-pub data IsPhase (setting : Setting) (course : Course) (move : Move) : Phase → Type 0 where
-  while_coming : (j : ℕ) → IsPhase setting course move (coming (take j (renewed_levels move)))
-  while_passing : IsPhase setting course move passage
-  while_clearing : (e p : ℕ) (in_order : (p ≡ 0) ⊎ (take e (old_levels setting course move)
-      ≡ old_levels setting course move))
-      → IsPhase setting course move (clearing (take e (old_levels setting course move))
-      (take p (purged_nodes setting course move)))
-
--- a subscriber that rests: what its marks, its entries, its commits and its last put tell
-pub record IsResting (setting : Setting) (from : ℕ) (marks : ℕ → PresenceMark) (entries : ℕ → ℕ → Option Address)
-    (commits : List Commit) (off : Bool) (moves : List Move) : Type 0 where
-  pub course : Course
-  pub sound : IsSound setting course
-  pub begins : course.start ≡ from
-  pub marks_are : (v : ℕ) → v < setting.nodes → marks v ≡ rest_mark setting course v
-  pub entries_are : (level cluster : ℕ) → level ≤ setting.top
-      → entries level cluster ≡ rest_entry setting course level cluster
-  pub commits_are : commits ≡ map commit_by course.moves
-  pub off_is : off ≡ course.is_off
-  pub moves_are : moves ≡ course.moves
-
--- and one that moves
-pub record IsMoving (setting : Setting) (from : ℕ) (marks : ℕ → PresenceMark) (entries : ℕ → ℕ → Option Address)
-    (commits : List Commit) (off : Bool) (moves : List Move) : Type 0 where
-  pub course : Course
-  pub move : Move
-  pub phase : Phase
-  pub sound : IsSound setting course
-  pub next : IsNext setting course move
-  pub is_phase : IsPhase setting course move phase
-  pub begins : course.start ≡ from
-  pub marks_are : (v : ℕ) → v < setting.nodes → marks v ≡ phase_mark setting course move phase v
-  pub entries_are : (level cluster : ℕ) → level ≤ setting.top
-      → entries level cluster ≡ phase_entry setting course move phase level cluster
-  pub commits_are : commits ≡ phase_commits course move phase
-  pub off_is : off ≡ false
-  pub moves_are : moves ≡ course.moves ++ move ∷ []
-
-abbrev pub View : Setting → ℕ → (ℕ → PresenceMark) → (ℕ → ℕ → Option Address) → List Commit → Bool → List Move
-    → Type 0
-View setting from marks entries commits off moves = IsResting setting from marks entries commits off moves
-    ⊎ IsMoving setting from marks entries commits off moves
-
--- ---- the writes of a move, by lists of levels and nodes
-coming_shape : Setting → Move → List ℕ → List Write
-coming_shape setting move written = mark_at move.to (Coming move.number move.from) ∷ map
-    (new_address setting move) written
-
-passing_shape : Setting → Move → List ℕ → List Write
-passing_shape setting move written = mark_at move.to (Coming move.number move.from) ∷
-    (map (new_address setting move) written ++ mark_at move.from (Gone move.number move.to) ∷ [])
-
-clearing_shape : Setting → Course → Move → List ℕ → List ℕ → List ℕ → List Write
-clearing_shape setting course move written erased purged =
-    mark_at move.to (Coming move.number move.from) ∷ (map (new_address setting move) written
-    ++ (mark_at move.from (Gone move.number move.to) ∷ (mark_at move.to (Here move.number)
-    ∷ (map (λ level. entry_at level (old_home setting course level) None) erased ++ map
-    (λ node. mark_at node Empty) purged))))
-
-coming-marks : (setting : Setting) (course : Course) (move : Move) (written : List ℕ) (v : ℕ)
-    → marked v (rest_mark setting course v) (coming_shape setting move written) ≡ mark_coming setting course move v
-unfolding coming_shape
-coming-marks setting course move written v = marked-entries v (mark_coming setting course move v)
-    (λ level. setting.home level move.to) (λ level. new_entry move) written
-
-passing-marks : (setting : Setting) (course : Course) (move : Move) (written : List ℕ) (v : ℕ)
-    → marked v (rest_mark setting course v) (passing_shape setting move written) ≡ mark_passing setting course move v
-unfolding passing_shape
-passing-marks setting course move written v =
-    marked-append v (mark_coming setting course move v) (map (new_address setting move) written)
-    (mark_at move.from (Gone move.number move.to) ∷ [])
-    ∙ ap (λ m. cond (v == move.from) (Gone move.number move.to) m)
-    (marked-entries v (mark_coming setting course move v) (λ level. setting.home level move.to)
-    (λ level. new_entry move) written)
-
-clearing-marks : (setting : Setting) (course : Course) (move : Move) (written erased purged : List ℕ) (v : ℕ)
-    → marked v (rest_mark setting course v) (clearing_shape setting course move written erased purged)
-    ≡ mark_erasing setting course move purged v
-unfolding clearing_shape
-clearing-marks setting course move written erased purged v =
-    marked-append v (mark_coming setting course move v) (map (new_address setting move) written) _
-    ∙ (ap (λ m. marked v (cond (v == move.to) (Here move.number) (cond (v == move.from) (Gone move.number move.to) m))
-    (map (λ level. entry_at level (old_home setting course level) None) erased ++ map
-    (λ node. mark_at node Empty) purged))
-    (marked-entries v (mark_coming setting course move v) (λ level. setting.home level move.to)
-    (λ level. new_entry move) written)
-    ∙ (marked-append v arrived (map (λ level. entry_at level (old_home setting course level) None) erased)
-    (map (λ node. mark_at node Empty) purged)
-    ∙ (ap (λ m. marked v m (map (λ node. mark_at node Empty) purged))
-    (marked-entries v arrived (λ level. old_home setting course level) (λ level. None) erased)
-    ∙ marked-purges v arrived purged)))
-  where
-    arrived : PresenceMark
-    arrived = cond (v == move.to) (Here move.number) (mark_passing setting course move v)
-
-coming-entries : (setting : Setting) (course : Course) (move : Move) (written : List ℕ) (level cluster : ℕ)
-    → entered level cluster (rest_entry setting course level cluster) (coming_shape setting move written)
-    ≡ entry_written setting course move written level cluster
-unfolding coming_shape
-coming-entries setting course move written level cluster = entered-levels (λ l. setting.home l move.to)
-    (new_entry move) level cluster (rest_entry setting course level cluster) written
-
-passing-entries : (setting : Setting) (course : Course) (move : Move) (written : List ℕ) (level cluster : ℕ)
-    → entered level cluster (rest_entry setting course level cluster) (passing_shape setting move written)
-    ≡ entry_written setting course move written level cluster
-unfolding passing_shape
-passing-entries setting course move written level cluster =
-    entered-append level cluster (rest_entry setting course level cluster) (map (new_address setting move) written)
-    (mark_at move.from (Gone move.number move.to) ∷ [])
-    ∙ entered-levels (λ l. setting.home l move.to) (new_entry move) level cluster
-    (rest_entry setting course level cluster) written
-
-clearing-entries : (setting : Setting) (course : Course) (move : Move) (written erased purged : List ℕ)
-    (level cluster : ℕ)
-    → entered level cluster (rest_entry setting course level cluster)
-    (clearing_shape setting course move written erased purged)
-    ≡ entry_erased setting course move written erased level cluster
-unfolding clearing_shape
-clearing-entries setting course move written erased purged level cluster =
-    entered-append level cluster (rest_entry setting course level cluster) (map (new_address setting move) written) _
-    ∙ (ap (λ e. entered level cluster e (map (λ l. entry_at l (old_home setting course l) None) erased ++ map
-    (λ node. mark_at node Empty) purged))
-    (entered-levels (λ l. setting.home l move.to) (new_entry move) level cluster
-    (rest_entry setting course level cluster) written)
-    ∙ (entered-append level cluster (entry_written setting course move written level cluster)
-    (map (λ l. entry_at l (old_home setting course l) None) erased) (map (λ node. mark_at node Empty) purged)
-    ∙ (entered-purges level cluster _ purged
-    ∙ entered-levels (λ l. old_home setting course l) None level cluster
-    (entry_written setting course move written level cluster) erased)))
-
--- ---- commits, and whether the subscriber is off
-listed : List Write → List Commit
-listed ws = filter_map write_commit ws
-
-none-entries : (cluster : ℕ → ℕ) (address : ℕ → Option Address) (levels : List ℕ)
-    → filter_map write_commit (map (λ level. entry_at level (cluster level) (address level)) levels) ≡ []
-none-entries cluster address [] = refl
-none-entries cluster address (level ∷ levels) = none-entries cluster address levels
-
-none-purges : (nodes : List ℕ) → filter_map write_commit (map (λ node. mark_at node Empty) nodes) ≡ []
-none-purges [] = refl
-none-purges (node ∷ nodes) = none-purges nodes
-
-coming-commits : (setting : Setting) (move : Move) (written : List ℕ)
-    → filter_map write_commit (coming_shape setting move written) ≡ []
-unfolding coming_shape
-coming-commits setting move written = none-entries (λ level. setting.home level move.to)
-    (λ level. new_entry move) written
-
-passing-commits : (setting : Setting) (move : Move) (written : List ℕ)
-    → filter_map write_commit (passing_shape setting move written) ≡ commit_by move ∷ []
-unfolding passing_shape
-passing-commits setting move written =
-    filter_map-append write_commit (map (new_address setting move) written)
-    (mark_at move.from (Gone move.number move.to) ∷ [])
-    ∙ ap (λ cs. cs ++ commit_by move ∷ []) (none-entries (λ level. setting.home level move.to)
-    (λ level. new_entry move) written)
-
-clearing-commits : (setting : Setting) (course : Course) (move : Move) (written erased purged : List ℕ)
-    → filter_map write_commit (clearing_shape setting course move written erased purged) ≡ commit_by move ∷ []
-unfolding clearing_shape
-clearing-commits setting course move written erased purged =
-    filter_map-append write_commit (map (new_address setting move) written) _
-    ∙ (ap (λ cs. cs ++ (commit_by move ∷ filter_map write_commit
-    (map (λ l. entry_at l (old_home setting course l) None) erased ++ map (λ node. mark_at node Empty) purged)))
-    (none-entries (λ level. setting.home level move.to) (λ level. new_entry move) written)
-    ∙ ap (λ cs. commit_by move ∷ cs)
-    (filter_map-append write_commit (map (λ l. entry_at l (old_home setting course l) None) erased)
-    (map (λ node. mark_at node Empty) purged)
-    ∙ (ap (λ cs. cs ++ filter_map write_commit (map (λ node. mark_at node Empty) purged))
-    (none-entries (λ l. old_home setting course l) (λ l. None) erased) ∙ none-purges purged)))
-
-offs : Bool → List Write → Bool
-offs off ws = fold (λ o write. write_off write) off ws
-
-offs-append : (off : Bool) (xs ys : List Write) → fold (λ o write. write_off write) off (xs ++ ys)
-    ≡ fold (λ o write. write_off write) (fold (λ o write. write_off write) off xs) ys
-offs-append off xs ys = fold-append (λ o write. write_off write) off xs ys
-
-on-entries : (cluster : ℕ → ℕ) (address : ℕ → Option Address) (levels : List ℕ)
-    → fold (λ o write. write_off write) false (map (λ level. entry_at level (cluster level) (address level)) levels)
-    ≡ false
-on-entries cluster address [] = refl
-on-entries cluster address (level ∷ levels) = on-entries cluster address levels
-
-on-purges : (nodes : List ℕ) → fold (λ o write. write_off write) false (map (λ node. mark_at node Empty) nodes)
-    ≡ false
-on-purges [] = refl
-on-purges (node ∷ nodes) = on-purges nodes
-
-coming-on : (setting : Setting) (move : Move) (written : List ℕ) (off : Bool)
-    → fold (λ o write. write_off write) off (coming_shape setting move written) ≡ false
-unfolding coming_shape
-coming-on setting move written off = on-entries (λ level. setting.home level move.to)
-    (λ level. new_entry move) written
-
-passing-on : (setting : Setting) (move : Move) (written : List ℕ) (off : Bool)
-    → fold (λ o write. write_off write) off (passing_shape setting move written) ≡ false
-unfolding passing_shape
-passing-on setting move written off = offs-append false (map (new_address setting move) written)
-    (mark_at move.from (Gone move.number move.to) ∷ [])
-
-clearing-on : (setting : Setting) (course : Course) (move : Move) (written erased purged : List ℕ) (off : Bool)
-    → fold (λ o write. write_off write) off (clearing_shape setting course move written erased purged) ≡ false
-unfolding clearing_shape
-clearing-on setting course move written erased purged off =
-    offs-append false (map (new_address setting move) written) _
-    ∙ (offs-append false (map (λ l. entry_at l (old_home setting course l) None) erased)
-    (map (λ node. mark_at node Empty) purged)
-    ∙ (ap (λ o. fold (λ x write. write_off write) o (map (λ node. mark_at node Empty) purged))
-    (on-entries (λ l. old_home setting course l) (λ l. None) erased) ∙ on-purges purged))
-
--- ---- a whole move
-whole-shape : (setting : Setting) (course : Course) (move : Move)
-    → move_writes setting course move ≡ clearing_shape setting course move (renewed_levels move)
-    (old_levels setting course move) (purged_nodes setting course move)
-unfolding clearing_shape
-whole-shape setting course move =
-    ap (λ ws. mark_at move.to (Coming move.number move.from) ∷
-    (map (new_address setting move) (renewed_levels move) ++
-    (mark_at move.from (Gone move.number move.to) ∷
-    (mark_at move.to (Here move.number) ∷ (erasing setting course move ++ ws)))))
-    (at_test (move.renewed == setting.top))
-  where
-    at_test : (b : Bool) → cond b (map (λ node. mark_at node Empty) (purge_nodes setting course move)) []
-        ≡ map (λ node. mark_at node Empty) (cond b (purge_nodes setting course move) [])
-    at_test true = refl
-    at_test false = refl
-
-cases_le : (a b : ℕ) → (a ≤ b) ⊎ (b < a)
-cases_le a b = grind (arith, nat_tests)
-
--- which levels and nodes pass a test
-in-passing : (test : ℕ → Bool) (x n : ℕ) → has x (passing test 0 (suc n)) ≡ (nat_le x n && test x)
-in-passing test x n = elim (cases_le x n) as (λ _. has x (passing test 0 (suc n)) ≡ (nat_le x n && test x)) [
-  | inl low ↦ let e : nat_le x n ≡ true = grind (arith, nat_tests, low) in rw e
-      (has-passing test x 0 (suc n) (omega arith) (omega arith))
-  | inr high ↦ let e : nat_le x n ≡ false = grind (arith, nat_tests, high) in rw e
-      (passing_over test x 0 (suc n) (omega arith))
-]
-
-and-true : (b : Bool) → (b && true) ≡ b
-and-true true = refl
-and-true false = refl
-
-pub in-levels : (level : ℕ) (move : Move) → has level (renewed_levels move) ≡ nat_le level move.renewed
-in-levels level move = in-passing (λ p. true) level move.renewed ∙ and-true (nat_le level move.renewed)
-
--- when all is written the subscriber rests
-pub whole-marks : (setting : Setting) (course : Course) (move : Move) (v : ℕ) → v < setting.nodes
-    → IsSound setting course → IsNext setting course move
-    → mark_erasing setting course move (purged_nodes setting course move) v
-    ≡ rest_mark setting (with_move course move) v
-whole-marks setting course move v low sound next =
-    marks-rest setting course move (purged_nodes setting course move) v sound next
-    (λ e. ap (λ b. has v (cond b (purge_nodes setting course move) [])) e
-    ∙ has-passing (λ node. has node (trail setting course move) && not (node == move.to)) v 0 setting.nodes
-    (omega arith) (omega arith))
-    (λ e. ap (λ b. has v (cond b (purge_nodes setting course move) [])) e)
-
-pub whole-entries : (setting : Setting) (course : Course) (move : Move) (level cluster : ℕ) → IsSound setting course
-    → IsNext setting course move
-    → entry_erased setting course move (renewed_levels move) (old_levels setting course move) level cluster
-    ≡ rest_entry setting (with_move course move) level cluster
-whole-entries setting course move level cluster sound next =
-    entries-rest setting course move (renewed_levels move) (old_levels setting course move) level cluster sound next
-    (in-levels level move)
-    (in-passing (λ l. not (old_home setting course l == setting.home l move.to)) level move.renewed)
-
--- ---- whole steps
-over-again : (b : Bool) (new old mark : PresenceMark) → cond b new (cond b old mark) ≡ cond b new mark
-over-again true new old mark = refl
-over-again false new old mark = refl
-
-marks-step : (setting : Setting) (course : Course) (step : Step) (v : ℕ) → v < setting.nodes → IsSound setting course
-    → MayStep setting course step
-    → marked v (rest_mark setting course v) (step_writes setting course step)
-    ≡ rest_mark setting (after_step setting course step) v
-marks-step setting course (move_to node) v low sound may =
-    ap (marked v (rest_mark setting course v)) (whole-shape setting course (next_move setting course node))
-    ∙ (clearing-marks setting course (next_move setting course node) _ _
-    (purged_nodes setting course (next_move setting course node)) v
-    ∙ whole-marks setting course (next_move setting course node) v low sound (is-next setting course node may))
-marks-step setting course switch_off v low sound may = over-again (v == last_stop course) (Off (length course.moves))
-    (there course) (trail_mark (since_top setting course) v Empty)
-marks-step setting course switch_on v low sound may = over-again (v == last_stop course) (Here (length course.moves))
-    (there course) (trail_mark (since_top setting course) v Empty)
-
-pub marks-steps : (setting : Setting) (course : Course) (steps : List Step) (v : ℕ) → v < setting.nodes
-    → IsSound setting course → MaySteps setting course steps
-    → marked v (rest_mark setting course v) (writes setting course steps)
-    ≡ rest_mark setting (after_steps setting course steps) v
-unfolding writes MaySteps
-marks-steps setting course [] v low sound may = refl
-marks-steps setting course (step ∷ steps) v low sound may =
-    marked-append v (rest_mark setting course v) (step_writes setting course step)
-    (writes setting (after_step setting course step) steps)
-    ∙ (ap (λ m. marked v m (writes setting (after_step setting course step) steps))
-    (marks-step setting course step v low sound may.0)
-    ∙ marks-steps setting (after_step setting course step) steps v low
-    (sound-step setting course step sound may.0) may.1)
-
-entries-step : (setting : Setting) (course : Course) (step : Step) (level cluster : ℕ) → IsSound setting course
-    → MayStep setting course step
-    → entered level cluster (rest_entry setting course level cluster) (step_writes setting course step)
-    ≡ rest_entry setting (after_step setting course step) level cluster
-entries-step setting course (move_to node) level cluster sound may =
-    ap (entered level cluster (rest_entry setting course level cluster))
-    (whole-shape setting course (next_move setting course node))
-    ∙ (clearing-entries setting course (next_move setting course node) _ _
-    (purged_nodes setting course (next_move setting course node)) level cluster
-    ∙ whole-entries setting course (next_move setting course node) level cluster sound
-    (is-next setting course node may))
-entries-step setting course switch_off level cluster sound may = refl
-entries-step setting course switch_on level cluster sound may = refl
-
-pub entries-steps : (setting : Setting) (course : Course) (steps : List Step) (level cluster : ℕ)
-    → IsSound setting course → MaySteps setting course steps
-    → entered level cluster (rest_entry setting course level cluster) (writes setting course steps)
-    ≡ rest_entry setting (after_steps setting course steps) level cluster
-unfolding writes MaySteps
-entries-steps setting course [] level cluster sound may = refl
-entries-steps setting course (step ∷ steps) level cluster sound may =
-    entered-append level cluster (rest_entry setting course level cluster) (step_writes setting course step)
-    (writes setting (after_step setting course step) steps)
-    ∙ (ap (λ m. entered level cluster m (writes setting (after_step setting course step) steps))
-    (entries-step setting course step level cluster sound may.0)
-    ∙ entries-steps setting (after_step setting course step) steps level cluster
-    (sound-step setting course step sound may.0) may.1)
-
-commits-step : (setting : Setting) (course : Course) (step : Step)
-    → map commit_by course.moves ++ filter_map write_commit (step_writes setting course step)
-    ≡ map commit_by (after_step setting course step).moves
-commits-step setting course (move_to node) =
-    ap (λ ws. map commit_by course.moves ++ filter_map write_commit ws)
-    (whole-shape setting course (next_move setting course node))
-    ∙ (ap (λ cs. map commit_by course.moves ++ cs) (clearing-commits setting course
-    (next_move setting course node) _ _ _) ∙ sym (map-append commit_by course.moves
-    (next_move setting course node ∷ [])))
-commits-step setting course switch_off = append-nil (map commit_by course.moves)
-commits-step setting course switch_on = append-nil (map commit_by course.moves)
-
-pub commits-steps : (setting : Setting) (course : Course) (steps : List Step)
-    → map commit_by course.moves ++ filter_map write_commit (writes setting course steps)
-    ≡ map commit_by (after_steps setting course steps).moves
-unfolding writes
-commits-steps setting course [] = append-nil (map commit_by course.moves)
-commits-steps setting course (step ∷ steps) =
-    ap (λ cs. map commit_by course.moves ++ cs) (filter_map-append write_commit (step_writes setting course step)
-    (writes setting (after_step setting course step) steps))
-    ∙ (sym (append_assoc (map commit_by course.moves) (filter_map write_commit (step_writes setting course step))
-    (filter_map write_commit (writes setting (after_step setting course step) steps)))
-    ∙ (ap (λ cs. cs ++ filter_map write_commit (writes setting (after_step setting course step) steps))
-    (commits-step setting course step)
-    ∙ commits-steps setting (after_step setting course step) steps))
-
-off-step : (setting : Setting) (course : Course) (step : Step) → MayStep setting course step
-    → fold (λ o write. write_off write) course.is_off (step_writes setting course step)
-    ≡ (after_step setting course step).is_off
-off-step setting course (move_to node) may =
-    ap (fold (λ o write. write_off write) course.is_off) (whole-shape setting course (next_move setting course node))
-    ∙ (clearing-on setting course (next_move setting course node) _ _ _ course.is_off ∙ sym may.is_on)
-off-step setting course switch_off may = refl
-off-step setting course switch_on may = refl
-
-pub off-steps : (setting : Setting) (course : Course) (steps : List Step) → MaySteps setting course steps
-    → fold (λ o write. write_off write) course.is_off (writes setting course steps)
-    ≡ (after_steps setting course steps).is_off
-unfolding writes MaySteps
-off-steps setting course [] may = refl
-off-steps setting course (step ∷ steps) may =
-    offs-append course.is_off (step_writes setting course step)
-    (writes setting (after_step setting course step) steps)
-    ∙ (ap (λ o. fold (λ x write. write_off write) o (writes setting (after_step setting course step) steps))
-    (off-step setting course step may.0)
-    ∙ off-steps setting (after_step setting course step) steps may.1)
+use Rattle.trail_laws.proofs.ClosedMarks.{is-next, rest_mark, marked, marked-append, trail_mark}
+use Rattle.trail_laws.proofs.ClosedEntries.{rest_entry, entered, entered-append}
+use Rattle.trail_laws.proofs.ClosedViews.{clearing, coming, IsPhase, old_levels, passage, Phase, phase_commits, phase_entry, phase_mark, purge_nodes, purged_nodes, renewed_levels, View, while_clearing, while_coming, while_passing}
+use Rattle.trail_laws.proofs.ClosedWrites.{clearing-commits, clearing-entries, clearing-marks, clearing-on, clearing_shape, coming-commits, coming-entries, coming-marks, coming-on, coming_shape, commits-steps, entries-steps, marks-steps, off-steps, offs-append, passing-commits, passing-entries, passing-marks, passing-on, passing_shape}
 
 -- ---- what writes leave from the opening on
 opens-marks : (setting : Setting) (sub v : ℕ) → sub < subs setting
@@ -578,13 +160,13 @@ taken-addresses : (setting : Setting) (move : Move) (j : ℕ)
 taken-addresses setting move j = take-map (new_address setting move) j (renewed_levels move)
 
 taken-erasures : (setting : Setting) (course : Course) (move : Move) (e : ℕ)
-    → take e (erasing setting course move) ≡ map (λ level. entry_at level (old_home setting course level) None)
+    → take e (erasure_writes setting course move) ≡ map (λ level. entry_at level (old_home setting course level) None)
     (take e (old_levels setting course move))
 taken-erasures setting course move e = take-map (λ level. entry_at level (old_home setting course level) None) e
     (old_levels setting course move)
 
 taken-purges : (setting : Setting) (course : Course) (move : Move) (p : ℕ)
-    → take p (purging setting course move) ≡ map (λ node. mark_at node Empty)
+    → take p (purge_writes setting course move) ≡ map (λ node. mark_at node Empty)
     (take p (purged_nodes setting course move))
 taken-purges setting course move p = at_test (move.renewed == setting.top)
   where
@@ -598,14 +180,14 @@ taken-purges setting course move p = at_test (move.renewed == setting.top)
     at_test false = none-taken {A = Write} p ∙ ap (map (λ node. mark_at node Empty)) (sym (none-taken {A = ℕ} p))
 
 erased-order : (setting : Setting) (course : Course) (move : Move) (e p : ℕ) → (p ≡ 0)
-    ⊎ (take e (erasing setting course move) ≡ erasing setting course move) → (p ≡ 0)
+    ⊎ (take e (erasure_writes setting course move) ≡ erasure_writes setting course move) → (p ≡ 0)
     ⊎ (take e (old_levels setting course move) ≡ old_levels setting course move)
 erased-order setting course move e p (inl none) = inl none
 erased-order setting course move e p (inr whole) =
     inr (take_all e (old_levels setting course move) (omega (
       arith,
       ap length whole,
-      length-take e (erasing setting course move),
+      length-take e (erasure_writes setting course move),
       length-map (old_levels setting course move) (λ level. entry_at level (old_home setting course level) None),
     )))
 
@@ -619,7 +201,7 @@ unfolding coming_shape passing_shape clearing_shape
 amid-move setting sub before node made script may some =
     at_front (fronts (mark_at move.to (Coming move.number move.from)) (mark_at move.from (Gone move.number move.to))
     (mark_at move.to (Here move.number)) (map (new_address setting move) (renewed_levels move))
-    (erasing setting course move) (purging setting course move) made)
+    (erasure_writes setting course move) (purge_writes setting course move) made)
   where
     course : Course
     course = after_steps setting (course_at (start setting sub)) before
@@ -637,8 +219,8 @@ amid-move setting sub before node made script may some =
 
     at_front : IsFrontOf (mark_at move.to (Coming move.number move.from))
         (mark_at move.from (Gone move.number move.to)) (mark_at move.to (Here move.number))
-        (map (new_address setting move) (renewed_levels move)) (erasing setting course move)
-        (purging setting course move) (take made (move_writes setting course move))
+        (map (new_address setting move) (renewed_levels move)) (erasure_writes setting course move)
+        (purge_writes setting course move) (take made (move_writes setting course move))
         → Goal (take made (move_writes setting course move))
     at_front (nothing_made same) = absurd (made-some made some same)
     at_front (is_coming j few same) =
@@ -679,14 +261,14 @@ amid-move setting sub before node made script may some =
         shaped : mark_at move.to (Coming move.number move.from) ∷
             (map (new_address setting move) (renewed_levels move) ++
             (mark_at move.from (Gone move.number move.to) ∷
-            (mark_at move.to (Here move.number) ∷ (take e (erasing setting course move) ++ take p
-            (purging setting course move)))))
+            (mark_at move.to (Here move.number) ∷ (take e (erasure_writes setting course move) ++ take p
+            (purge_writes setting course move)))))
             ≡ clearing_shape setting course move (renewed_levels move) (take e (old_levels setting course move))
             (take p (purged_nodes setting course move))
         shaped = ap (λ ws. mark_at move.to (Coming move.number move.from) ∷
             (map (new_address setting move) (renewed_levels move) ++
             (mark_at move.from (Gone move.number move.to) ∷
-            (mark_at move.to (Here move.number) ∷ (ws ++ take p (purging setting course move))))))
+            (mark_at move.to (Here move.number) ∷ (ws ++ take p (purge_writes setting course move))))))
             (taken-erasures setting course move e)
             ∙ ap (λ ws. mark_at move.to (Coming move.number move.from) ∷
             (map (new_address setting move) (renewed_levels move) ++

@@ -1,7 +1,6 @@
--- What a find in a legal history answers: where its subscriber stands, and whether it is off, at the
--- find's last look. A find is made again only where a visit of its subscriber's moves fell within
--- it.
--- Key laws: `answers_are_right`, `again_has_its_cause`, `numbers_never_fall`.
+-- What a find in a legal history answers: where its subscriber stands, and whether it is off, at
+-- the find's last look. A find is made again only where a visit of its subscriber's moves fell
+-- within it. Key laws: `answers_are_right`, `again_has_its_cause`, `numbers_never_fall`.
 use Rattle.std.specs.Prelude.{◌≡◌, ℕ, ◌<◌, ◌≤◌, ◌^◌, true, false, List}
 use Rattle.node_set.specs.Ascending.{has}
 use Rattle.directory.specs.Settings.{Setting}

@@ -4,3 +4,4 @@ pub mod Ways
 pub mod Within
 pub mod Phases
 pub mod Lines
+pub mod Censuses

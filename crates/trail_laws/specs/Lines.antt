@@ -1,7 +1,7 @@
--- What the lines of an outcome say of the history that they come from. A find that answers names the
--- node where its subscriber stood at the find's last visit; a find that is to be made again had a
--- visit of a move of its subscriber within it.
--- Key law: `outcomes_are_right` (so it is for every order of valid scripts).
+-- What the lines of an outcome say of the history that they come from. A find that answers names
+-- the node where its subscriber stood at the find's last visit; a find that is to be made again had
+-- a visit of a move of its subscriber within it. Key law: `outcomes_are_right` (so it is for every
+-- order of valid scripts).
 use Rattle.std.specs.Prelude.{◌≡◌, ℕ, ◌≤◌, ◌^◌, true, false, All, List, Some, slice_get}
 use Rattle.directory.specs.Settings.{Setting}
 use Rattle.directory.specs.Histories.{History, through}

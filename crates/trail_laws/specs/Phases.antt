@@ -5,7 +5,7 @@
 -- Key laws: `marks_lead_by_phase`, `rest_is_settled`, `phases_cover`.
 use Rattle.std.specs.Prelude.{◌≡◌, ◌≢◌, ◌⊎◌, ℕ, suc, ◌+◌, ◌*◌, ◌<◌, ◌≤◌, ◌^◌, [], length, Option, Some}
 use Rattle.entry_word.specs.declared.address.Address.{Address}
-use Rattle.entry_word.specs.declared.mark.PresenceMark.TheVariants.{Coming}
+use Rattle.entry_word.specs.declared.mark.PresenceMark.TheVariants.{Coming, Here, Off}
 use Rattle.directory.specs.Settings.{Setting}
 use Rattle.directory.specs.Histories.{History, puts_to}
 use Rattle.directory.specs.Courses.{base}
@@ -16,12 +16,12 @@ use Rattle.trail_laws.specs.Trail.{entry_seen, IsLed, IsMetric, KnowsAtMost, mar
 use Rattle.trail_laws.specs.Ways.{GathersSome}
 
 -- how many moves a subscriber has begun
-abbrev pub begun : Setting → ℕ → History → ℕ
-begun setting sub history = length (course_in setting sub (puts_to sub history)).moves
+abbrev pub moves_begun : Setting → ℕ → History → ℕ
+moves_begun setting sub history = length (course_in setting sub (puts_to sub history)).moves
 
 -- a move is begun that isn't committed
 abbrev pub IsBeforeCommit : Setting → ℕ → History → Type 0
-IsBeforeCommit setting sub history = begun setting sub history ≡ suc (number sub history)
+IsBeforeCommit setting sub history = moves_begun setting sub history ≡ suc (number sub history)
 
 -- the last commit came from this node and isn't confirmed
 abbrev pub IsPassingFrom : Setting → ℕ → History → ℕ → Type 0
@@ -31,7 +31,7 @@ IsPassingFrom setting sub history from =
 -- all moves that are begun are committed, and the last one is confirmed
 abbrev pub IsSettled : Setting → ℕ → History → Type 0
 IsSettled setting sub history =
-    (begun setting sub history ≡ number sub history)
+    (moves_begun setting sub history ≡ number sub history)
     × ((from : ℕ) → mark_seen setting sub history (standing setting sub history)
     ≢ Coming (number sub history) from)
 
@@ -77,7 +77,14 @@ AddressesLeadByPhase =
     (standing setting sub history) hops way
     × IsShortByPhase setting sub history level address way
 
--- a subscriber that rests is settled, and all its addresses are current (`rest_is_settled`)
+-- the mark where a subscriber stands says that it is there or off, since its last move
+abbrev pub IsMarked : Setting → ℕ → History → Type 0
+IsMarked setting sub history =
+    (mark_seen setting sub history (standing setting sub history) ≡ Here (number sub history))
+    ⊎ (mark_seen setting sub history (standing setting sub history) ≡ Off (number sub history))
+
+-- a subscriber that rests is settled, all its addresses are current, and its mark says that it is
+-- there or off (`rest_is_settled`)
 abbrev pub RestIsSettled : Type 0
 RestIsSettled =
     (setting : Setting) (sub : ℕ) (history : History) → setting.nodes ≤ 2 ^ 16
@@ -85,6 +92,7 @@ RestIsSettled =
     × ((level cluster : ℕ) (address : Address) → level ≤ setting.top
     → entry_seen setting sub history level cluster ≡ Some address
     → IsCurrent setting sub history level address)
+    × IsMarked setting sub history
 
 -- a subscriber is before a commit, in a passage, or settled (`phases_cover`)
 abbrev pub PhasesCover : Type 0

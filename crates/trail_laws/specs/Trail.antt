@@ -1,7 +1,7 @@
--- What the cells of a subscriber tell, after every legal history and whoever made it: its marks, its
--- addresses, and where the marks lead.
--- Key laws: `marks_tell`, `entries_tell` (what each mark and each address tells),
--- `marks_lead` (from each address the marks lead to where the subscriber stands).
+-- What the cells of a subscriber tell, after every legal history and whoever made it: its marks,
+-- its addresses, and where the marks lead. Key laws: `marks_tell`, `entries_tell` (what each mark
+-- and each address tells), `marks_lead` (from each address the marks lead to where the subscriber
+-- stands).
 use Rattle.std.specs.Prelude.{◌≡◌, ◌≢◌, ◌⊎◌, ℕ, zero, suc, ◌+◌, ◌-◌, ◌<◌, ◌≤◌, ◌^◌, Bool, true, false, length, Option, Some, None, slice_get}
 use Rattle.entry_word.specs.Marks.{mark_in}
 use Rattle.entry_word.specs.Addresses.{address_in}

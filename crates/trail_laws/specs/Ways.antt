@@ -61,7 +61,8 @@ ComingsLeadShortly =
     → IsLegal setting sub history → (node p from pass : ℕ) → node < setting.nodes
     → mark_seen setting sub history node ≡ Coming p from → IsOpenAtMost setting sub history pass
     → (hops : ℕ) × (way : ℕ) × (hops ≤ setting.nodes)
-    × IsLed setting (mark_seen setting sub history) None from (standing setting sub history) hops way
+    × IsLed setting (mark_seen setting sub history) None from (standing setting sub history) hops
+    way
     × (setting.distance node from + way
     ≤ setting.distance node (standing setting sub history) + 2 * pass)
 

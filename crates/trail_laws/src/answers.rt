@@ -4,7 +4,8 @@ ghost use Rattle.trail_laws.specs.Answers.{AgainHasItsCause, AnswersAreRight, Nu
 use crate::marks::{entries_tell, marks_lead, marks_tell};
 use directory::{cell_of_puts, front_is_legal, read_of_legal, steps_begin_at_rest};
 
-/// A find that answers names the node where its subscriber stands at the find's last look, its number, and whether it is off.
+/// A find that answers names the node where its subscriber stands at the find's last look, its
+/// number, and whether it is off.
 pub fn answers_are_right()
     ensures { AnswersAreRight }
 {
@@ -22,7 +23,8 @@ pub fn numbers_never_fall()
     front_is_legal();
 }
 
-/// A quiet find has its answer; where a find is to be made again, a visit of a move of its subscriber fell within it.
+/// A quiet find has its answer; where a find is to be made again, a visit of a move of its
+/// subscriber fell within it.
 pub fn again_has_its_cause()
     ensures quiet { QuietFindsAnswer }
     ensures cause { AgainHasItsCause }

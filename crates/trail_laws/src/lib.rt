@@ -1,13 +1,16 @@
-//! The laws of the trail: what the marks and the addresses of a subscriber tell after every legal history, whoever made it,
-//! where they lead and how far, and what finds answer. Each public function is a law, and does nothing.
+//! The laws of the trail: what the marks and the addresses of a subscriber tell after every legal
+//! history, whoever made it, where they lead and how far, and what finds answer. Each public
+//! function is a law, and does nothing.
 #![tactic(auto)]
 
 mod answers;
+mod censuses;
 mod marks;
 mod outcomes;
 mod ways;
 
 pub use answers::{again_has_its_cause, answers_are_right, numbers_never_fall};
+pub use censuses::censuses_are_right;
 pub use marks::{entries_tell, marks_lead, marks_tell};
 pub use outcomes::outcomes_are_right;
 pub use ways::{

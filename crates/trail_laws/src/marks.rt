@@ -3,8 +3,8 @@ ghost use Rattle.trail_laws.specs.Trail.{AddressesLead, ComingsLead, EntriesTell
 
 use directory::{legal_is_amid, read_of_legal, told_by_writes};
 
-/// What marks tell: a Here and an Off where the subscriber stands, a Gone a move that is committed, a Coming the move under way;
-/// and a Coming stands at one node at most.
+/// What marks tell: a Here and an Off where the subscriber stands, a Gone a move that is committed,
+/// a Coming the move under way; and a Coming stands at one node at most.
 pub fn marks_tell()
     ensures marks { MarksTell }
     ensures one { OneComing }
@@ -14,8 +14,8 @@ pub fn marks_tell()
     told_by_writes();
 }
 
-/// What addresses tell: each is that of a node of the course, at that node's home, and the node has a mark; and at the top level
-/// there is one.
+/// What addresses tell: each is that of a node of the course, at that node's home, and the node has
+/// a mark; and at the top level there is one.
 pub fn entries_tell()
     ensures entries { EntriesTell }
     ensures top { TopHasEntry }
@@ -25,7 +25,8 @@ pub fn entries_tell()
     told_by_writes();
 }
 
-/// From the node of each address, and from the node that a Coming names, the marks lead to where the subscriber stands.
+/// From the node of each address, and from the node that a Coming names, the marks lead to where
+/// the subscriber stands.
 pub fn marks_lead()
     ensures addresses { AddressesLead }
     ensures comings { ComingsLead }

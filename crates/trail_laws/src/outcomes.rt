@@ -4,9 +4,9 @@ ghost use Rattle.trail_laws.specs.Lines.{NumbersRise, OutcomesAreRight};
 use crate::answers::{again_has_its_cause, answers_are_right, numbers_never_fall};
 use directory::{all_scripts_done, each_visit_is_next, every_order_is_legal, lines_are_made};
 
-/// Under every order, each line of a find is right: an answer names the node where its subscriber stood at the find's last visit, and
-/// a find that is to be made again had a visit of a move of its subscriber within it. Of two answers the later one tells no lower
-/// number of their subscriber.
+/// Under every order, each line of a find is right: an answer names the node where its subscriber
+/// stood at the find's last visit, and a find that is to be made again had a visit of a move of its
+/// subscriber within it. Of two answers the later one tells no lower number of their subscriber.
 pub fn outcomes_are_right()
     ensures lines { OutcomesAreRight }
     ensures numbers { NumbersRise }

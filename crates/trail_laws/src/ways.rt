@@ -9,7 +9,8 @@ use directory::{
     steps_begin_at_rest, told_by_writes,
 };
 
-/// Each level has an address at the home of a node that is less than the level's threshold from where the subscriber stands.
+/// Each level has an address at the home of a node that is less than the level's threshold from
+/// where the subscriber stands.
 pub fn levels_stay_near()
     ensures near { LevelsStayNear }
     ensures inside { StandsInside }
@@ -29,7 +30,8 @@ pub fn passage_is_open()
     marks_tell();
 }
 
-/// From the node of each address, and from the node that a Coming names, the marks lead to where the subscriber stands on a short way.
+/// From the node of each address, and from the node that a Coming names, the marks lead to where
+/// the subscriber stands on a short way.
 pub fn marks_lead_shortly()
     ensures addresses { AddressesLeadShortly }
     ensures comings { ComingsLeadShortly }
@@ -40,7 +42,8 @@ pub fn marks_lead_shortly()
     marks_tell();
 }
 
-/// From the node of each address the marks lead to where the subscriber stands on a way that is short in each phase of a move.
+/// From the node of each address the marks lead to where the subscriber stands on a way that is
+/// short in each phase of a move.
 pub fn marks_lead_by_phase()
     ensures { AddressesLeadByPhase }
 {
@@ -89,7 +92,8 @@ pub fn front_of_history_is_legal()
     front_is_legal();
 }
 
-/// While a find is quiet its subscriber stands still, and a passage that is open at its first look is open at its last.
+/// While a find is quiet its subscriber stands still, and a passage that is open at its first look
+/// is open at its last.
 pub fn quiet_finds_stand_still()
     ensures { QuietFindsStandStill }
 {

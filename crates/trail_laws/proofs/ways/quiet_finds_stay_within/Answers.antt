@@ -2,4 +2,15 @@ use Rattle.trail_laws.proofs.Quiet.{quiet-stays}
 use Rattle.trail_laws.proofs.ways.quiet_finds_stay_within.Goals as goal
 
 pub returns : goal.returns
-returns c = quiet-stays (record { cells = c.cell_of_puts.ensures; marks_left = c.read_of_legal.ensures.marks; rests = c.steps_begin_at_rest.ensures; fronts = c.front_is_legal.ensures; marks = c.marks_tell.ensures.marks; addresses = c.marks_lead.ensures.addresses; comings = c.marks_lead.ensures.comings; top = c.entries_tell.ensures.top })
+returns c = quiet-stays (record {
+  cells = c.cell_of_puts.ensures;
+  marks_left = c.read_of_legal.ensures.marks;
+  rests =
+      c.steps_begin_at_rest.ensures;
+  fronts = c.front_is_legal.ensures;
+  marks = c.marks_tell.ensures.marks;
+  addresses =
+      c.marks_lead.ensures.addresses;
+  comings = c.marks_lead.ensures.comings;
+  top = c.entries_tell.ensures.top;
+})

@@ -1,0 +1,96 @@
+-- What a subscriber's cells show in closed form: at rest, and in each phase of a move.
+use Rattle.std.proofs.Common.{◌≡◌, ◌⊎◌, ℕ, suc, ◌<◌, ◌≤◌, Bool, false, cond, not, ◌==◌, ◌&&◌, List, [], ◌∷◌, ◌++◌, Option, map, take}
+use Rattle.node_set.specs.Ascending.{has, sift}
+use Rattle.entry_word.specs.declared.mark.PresenceMark.{PresenceMark}
+use Rattle.entry_word.specs.declared.address.Address.{Address}
+use Rattle.directory.specs.Settings.{Setting}
+use Rattle.directory.specs.Courses.{Move, Course}
+use Rattle.directory.specs.Writes.{numbers_from, old_home, trail}
+use Rattle.directory.specs.Standing.{Commit, commit_by, commits, off}
+use Rattle.trail_laws.proofs.Links.{IsSound}
+use Rattle.trail_laws.proofs.ClosedMarks.{IsNext, rest_mark, mark_coming, mark_passing, mark_erasing}
+use Rattle.trail_laws.proofs.ClosedEntries.{rest_entry, entry_written, entry_erased}
+
+-- the levels whose new address a move has written, the levels whose old address it has erased, and the nodes that it
+-- has purged
+abbrev pub renewed_levels : Move → List ℕ
+renewed_levels move = numbers_from 0 (suc move.renewed)
+
+abbrev pub old_levels : Setting → Course → Move → List ℕ
+old_levels setting course move = sift (λ level. not (old_home setting course level == setting.home level move.to))
+    0 (suc move.renewed)
+
+abbrev pub purge_nodes : Setting → Course → Move → List ℕ
+purge_nodes setting course move = sift (λ node. has node (trail setting course move) && not (node == move.to)) 0
+    setting.nodes
+
+abbrev pub purged_nodes : Setting → Course → Move → List ℕ
+purged_nodes setting course move = cond (move.renewed == setting.top) (purge_nodes setting course move) []
+
+-- a phase of a move
+pub data Phase : Type 0 where
+  coming : (written : List ℕ) → Phase
+  passage : Phase
+  clearing : (erased purged : List ℕ) → Phase
+
+abbrev pub phase_mark : Setting → Course → Move → Phase → ℕ → PresenceMark
+phase_mark setting course move (coming written) v = mark_coming setting course move v
+phase_mark setting course move passage v = mark_passing setting course move v
+phase_mark setting course move (clearing erased purged) v = mark_erasing setting course move purged v
+
+abbrev pub phase_entry : Setting → Course → Move → Phase → ℕ → ℕ → Option Address
+phase_entry setting course move (coming written) level cluster = entry_written setting course move written level
+    cluster
+phase_entry setting course move passage level cluster = entry_written setting course move
+    (renewed_levels move) level cluster
+phase_entry setting course move (clearing erased purged) level cluster = entry_erased setting course move
+    (renewed_levels move) erased level cluster
+
+abbrev pub phase_commits : Course → Move → Phase → List Commit
+phase_commits course move (coming written) = map commit_by course.moves
+phase_commits course move passage = map commit_by (course.moves ++ move ∷ [])
+phase_commits course move (clearing erased purged) = map commit_by (course.moves ++ move ∷ [])
+
+-- which phases there are
+pub data IsPhase (setting : Setting) (course : Course) (move : Move) : Phase → Type 0 where
+  while_coming : (j : ℕ) → IsPhase setting course move (coming (take j (renewed_levels move)))
+  while_passing : IsPhase setting course move passage
+  while_clearing : (e p : ℕ) (in_order : (p ≡ 0) ⊎ (take e (old_levels setting course move)
+      ≡ old_levels setting course move))
+      → IsPhase setting course move (clearing (take e (old_levels setting course move))
+      (take p (purged_nodes setting course move)))
+
+-- a subscriber that rests: what its marks, its entries, its commits and its last put tell
+pub record IsResting (setting : Setting) (from : ℕ) (marks : ℕ → PresenceMark) (entries : ℕ → ℕ → Option Address)
+    (commits : List Commit) (off : Bool) (moves : List Move) : Type 0 where
+  pub course : Course
+  pub sound : IsSound setting course
+  pub begins : course.start ≡ from
+  pub marks_are : (v : ℕ) → v < setting.nodes → marks v ≡ rest_mark setting course v
+  pub entries_are : (level cluster : ℕ) → level ≤ setting.top
+      → entries level cluster ≡ rest_entry setting course level cluster
+  pub commits_are : commits ≡ map commit_by course.moves
+  pub off_is : off ≡ course.is_off
+  pub moves_are : moves ≡ course.moves
+
+-- and one that moves
+pub record IsMoving (setting : Setting) (from : ℕ) (marks : ℕ → PresenceMark) (entries : ℕ → ℕ → Option Address)
+    (commits : List Commit) (off : Bool) (moves : List Move) : Type 0 where
+  pub course : Course
+  pub move : Move
+  pub phase : Phase
+  pub sound : IsSound setting course
+  pub next : IsNext setting course move
+  pub is_phase : IsPhase setting course move phase
+  pub begins : course.start ≡ from
+  pub marks_are : (v : ℕ) → v < setting.nodes → marks v ≡ phase_mark setting course move phase v
+  pub entries_are : (level cluster : ℕ) → level ≤ setting.top
+      → entries level cluster ≡ phase_entry setting course move phase level cluster
+  pub commits_are : commits ≡ phase_commits course move phase
+  pub off_is : off ≡ false
+  pub moves_are : moves ≡ course.moves ++ move ∷ []
+
+abbrev pub View : Setting → ℕ → (ℕ → PresenceMark) → (ℕ → ℕ → Option Address) → List Commit → Bool → List Move
+    → Type 0
+View setting from marks entries commits off moves = IsResting setting from marks entries commits off moves
+    ⊎ IsMoving setting from marks entries commits off moves

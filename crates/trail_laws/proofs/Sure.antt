@@ -1,0 +1,296 @@
+-- What makes a find sure of an answer at each stage: a look keeps it, and what is no put of a move.
+use Rattle.std.proofs.Common.{◌≡◌, ℕ, zero, suc, ◌+◌, ◌*◌, ◌<◌, ◌≤◌, ◌^◌, Bool, true, false, cond, List, [], ◌∷◌, ◌++◌, Option, Some, None, length, refl, sym, ap, ◌∙◌, subst, arith}
+use Rattle.std.specs.Prelude.{slice_get}
+use Rattle.entry_word.specs.Marks.{mark_in}
+use Rattle.entry_word.specs.Addresses.{address_in}
+use Rattle.entry_word.specs.declared.address.Address.{Address}
+use Rattle.entry_word.specs.declared.mark.PresenceMark.{PresenceMark}
+use Rattle.entry_word.specs.declared.mark.PresenceMark.TheVariants.{Empty, Here, Gone, Coming, Off}
+use Rattle.entry_word.specs.declared.visit.Key.{Key}
+use Rattle.entry_word.specs.declared.visit.Key.TheVariants.{Presence, Entry}
+use Rattle.entry_word.specs.declared.visit.Visit.{Visit}
+use Rattle.directory.specs.Settings.{Setting}
+use Rattle.directory.specs.Histories.{before, cell, History}
+use Rattle.directory.specs.Legal.{IsLegal}
+use Rattle.directory.specs.Finds.{after_entry, after_mark, after_origin, after_word, all_readers, at_origin, Chase, chases, climb, climbs, ended, FindCall, hop, is_known, key_of, known_with, Reader, Stage, way_in, weight_of}
+use Rattle.directory.specs.Looks.{moves_at, moves_by}
+use Rattle.directory.specs.Parts.{known_after, lead}
+use Rattle.directory.specs.Standing.{number, standing}
+use Rattle.directory.specs.StepLaws.{slice_get-within, take-more}
+use Rattle.directory.specs.Statements.{CellsOfPuts, FrontsAreLegal, MarksAreLeft, StepsBeginAtRest}
+use Rattle.directory.specs.declared.answers.Found.TheVariants.{At}
+use Rattle.trail_laws.specs.Trail.{AddressesLead, answers, ComingsLead, entry_seen, IsLed, KnowsAtMost, mark_seen, MarksTell, MarkTells, TopHasEntry}
+use Rattle.trail_laws.specs.Answers.{IsAnswered}
+use Rattle.trail_laws.specs.Within.{Affords, AffordsAddress, Begins, EntryAsks}
+use Rattle.trail_laws.proofs.Passing.{front-legal}
+use Rattle.trail_laws.proofs.Right.{gone-known}
+use Rattle.trail_laws.proofs.Alike.{alike-step, IsAlike, led-alike}
+
+-- what makes a find sure of an answer within what is allowed, at a stage
+abbrev pub IsSure : Setting → ℕ → History → FindCall → (ℕ → Type 0) → Stage → Type 0
+IsSure setting sub seen call Within at_origin = Unit {0}
+IsSure setting sub seen call Within (climbs known weight reader later) =
+    KnowsAtMost (number sub seen) known × Affords setting sub seen call Within weight (reader ∷ later)
+IsSure setting sub seen call Within (chases chase node) =
+    (hops : ℕ) × (way : ℕ) × (hops ≤ chase.hops_left)
+    × IsLed setting (mark_seen setting sub seen) chase.known node (standing setting sub seen) hops way
+    × Within (chase.weight + way)
+IsSure setting sub seen call Within (ended found) = IsAnswered found × Within (weight_of found)
+
+-- ---- it stays
+address-alike : (setting : Setting) (sub : ℕ) (one other : History) (call : FindCall) (Within : ℕ → Type 0)
+    → IsAlike setting sub one other → (weight : ℕ) (reader : Reader) (address : Address)
+    → AffordsAddress setting sub one call Within weight reader address
+    → AffordsAddress setting sub other call Within weight reader address
+address-alike setting sub one other call Within alike weight reader address h known knows =
+    let led = h known (subst (λ n. KnowsAtMost n known) alike.count knows) in (
+      led.0,
+      led.1,
+      led.2,
+      subst (λ n. IsLed setting (mark_seen setting sub other) known address.node n led.0 led.1) (sym alike.stands)
+          (led-alike setting (mark_seen setting sub one) (mark_seen setting sub other) alike.marks known address.node
+          (standing setting sub one) led.0 led.1 led.3),
+      led.4,
+    )
+
+entry-alike : (old new : Option Address) (on other_on : Type 0) (there other_there : Address → Type 0) → new ≡ old
+    → (on → other_on) → ((a : Address) → there a → other_there a) → EntryAsks old on there
+    → EntryAsks new other_on other_there
+entry-alike None None on other_on there other_there same f g h = f h
+entry-alike None (Some b) on other_on there other_there same f g h = cc
+entry-alike (Some a) None on other_on there other_there same f g h = cc
+entry-alike (Some a) (Some b) on other_on there other_there same f g h =
+    let is_one : a ≡ b = cc in subst (λ (x : Address). other_there x) is_one (g a h)
+
+affords-alike : (setting : Setting) (sub : ℕ) (one other : History) (call : FindCall) (Within : ℕ → Type 0)
+    → IsAlike setting sub one other → (weight : ℕ) (readers : List Reader)
+    → Affords setting sub one call Within weight readers → Affords setting sub other call Within weight readers
+unfolding Affords
+affords-alike setting sub one other call Within alike weight [] h = h
+affords-alike setting sub one other call Within alike weight (reader ∷ later) h =
+    entry-alike (entry_seen setting sub one reader.level reader.cluster)
+    (entry_seen setting sub other reader.level reader.cluster) _ _ _ _ (alike.entries reader.level reader.cluster)
+    (affords-alike setting sub one other call Within alike (weight + 2 * way_in setting call reader) later)
+    (λ a. address-alike setting sub one other call Within alike weight reader a) h
+
+pub sure-alike : (setting : Setting) (sub : ℕ) (one other : History) (call : FindCall) (Within : ℕ → Type 0)
+    → IsAlike setting sub one other → (stage : Stage) → IsSure setting sub one call Within stage
+    → IsSure setting sub other call Within stage
+sure-alike setting sub one other call Within alike at_origin sure = tt
+sure-alike setting sub one other call Within alike (climbs known weight reader later) sure = (
+  subst (λ n. KnowsAtMost n known) (sym alike.count) sure.0,
+  affords-alike setting sub one other call Within alike weight (reader ∷ later) sure.1,
+)
+sure-alike setting sub one other call Within alike (chases chase node) sure = (
+  sure.0,
+  sure.1,
+  sure.2,
+  subst (λ n. IsLed setting (mark_seen setting sub other) chase.known node n sure.0 sure.1) (sym alike.stands)
+      (led-alike setting (mark_seen setting sub one) (mark_seen setting sub other) alike.marks chase.known node
+      (standing setting sub one) sure.0 sure.1 sure.3),
+  sure.4,
+)
+sure-alike setting sub one other call Within alike (ended found) sure = sure
+
+-- what is used of the laws
+pub record Used : Type 0 where
+  pub cells : CellsOfPuts
+  pub marks_left : MarksAreLeft
+  pub rests : StepsBeginAtRest
+  pub fronts : FrontsAreLegal
+  pub marks : MarksTell
+  pub addresses : AddressesLead
+  pub comings : ComingsLead
+  pub top : TopHasEntry
+
+-- one ticket on, where it is no visit of a move
+pub sure-next : Used → (setting : Setting) (sub : ℕ) (history : History) (call : FindCall) (Within : ℕ → Type 0)
+    (t : ℕ)
+    (stage : Stage) → setting.nodes ≤ 2 ^ 16 → IsLegal setting sub history → t < length history
+    → moves_at sub history t ≡ false → IsSure setting sub (before t history) call Within stage
+    → IsSure setting sub (before (suc t) history) call Within stage
+sure-next used setting sub history call Within t stage low legal within quiet sure =
+    at_visit (slice_get-within history t within)
+  where
+    at_visit : (visit : Visit) × (slice_get history t ≡ Some visit)
+        → IsSure setting sub (before (suc t) history) call Within stage
+    at_visit (visit, found) =
+        let more : before (suc t) history ≡ before t history ++ visit ∷ [] = take-more history t visit found in
+        subst (λ h. IsSure setting sub h call Within stage) (sym more)
+        (sure-alike setting sub (before t history) (before t history ++ visit ∷ []) call Within
+        (alike-step used.cells used.marks_left used.rests setting sub (before t history) visit low
+        (front-legal used.fronts setting sub history t low legal)
+        (subst (IsLegal setting sub) more (front-legal used.fronts setting sub history (suc t) low legal))
+        (sym (ap (λ o. moves_by sub (before t history) o) found) ∙ quiet)) stage sure)
+
+-- and so it is up to a later ticket
+pub sure-until : Used → (setting : Setting) (sub : ℕ) (history : History) (call : FindCall) (Within : ℕ → Type 0)
+    (k t : ℕ) (stage : Stage) → setting.nodes ≤ 2 ^ 16 → IsLegal setting sub history → k + t ≤ length history
+    → ((u : ℕ) → t ≤ u → u < k + t → moves_at sub history u ≡ false)
+    → IsSure setting sub (before t history) call Within stage
+    → IsSure setting sub (before (k + t) history) call Within stage
+sure-until used setting sub history call Within zero t stage low legal within quiet sure =
+    let e : 0 + t ≡ t = omega arith in rw e sure
+sure-until used setting sub history call Within (suc k) t stage low legal within quiet sure =
+    let e : suc k + t ≡ suc (k + t) = omega arith in
+    rw e (sure-next used setting sub history call Within (k + t) stage low legal (omega arith)
+    (quiet (k + t) (omega arith) (omega arith))
+    (sure-until used setting sub history call Within k t stage low legal (omega arith)
+    (λ u h g. quiet u h (omega arith)) sure))
+
+-- ---- one look
+climb-sure : (setting : Setting) (sub : ℕ) (seen : History) (call : FindCall) (Within : ℕ → Type 0) (known : Option ℕ)
+    (weight : ℕ) (readers : List Reader) → KnowsAtMost (number sub seen) known
+    → Affords setting sub seen call Within weight readers
+    → IsSure setting sub seen call Within (climb known weight readers)
+unfolding Affords
+climb-sure setting sub seen call Within known weight [] knows some = absurd some
+climb-sure setting sub seen call Within known weight (reader ∷ later) knows some = (knows, some)
+
+origin-sure : (setting : Setting) (seen : History) (call : FindCall) (Within : ℕ → Type 0) (mark : PresenceMark)
+    → Begins setting seen call Within → mark_seen setting call.sub seen call.from ≡ mark
+    → MarkTells setting call.sub seen call.from mark
+    → IsSure setting call.sub seen call Within (after_origin setting call mark)
+origin-sure setting seen call Within Empty begins same tells =
+    climb-sure setting call.sub seen call Within None 0 (all_readers setting call.from) tt
+    (begins.climbing (λ p from e. other (sym same ∙ e)) (λ p e. here (sym same ∙ e)) (λ p e. off (sym same ∙ e)))
+  where
+    other : {p from : ℕ} → Empty ≡ Coming p from → ⊥
+    other e = cc
+
+    here : {p : ℕ} → Empty ≡ Here p → ⊥
+    here e = cc
+
+    off : {p : ℕ} → Empty ≡ Off p → ⊥
+    off e = cc
+origin-sure setting seen call Within (Here q) begins same tells = (tt, begins.here)
+origin-sure setting seen call Within (Off q) begins same tells = (tt, begins.here)
+origin-sure setting seen call Within (Gone q to) begins same tells =
+    climb-sure setting call.sub seen call Within (Some q) 0 (all_readers setting call.from)
+    (gone-known setting call.sub seen call.from q to tells)
+    (begins.climbing (λ p from e. other (sym same ∙ e)) (λ p e. here (sym same ∙ e)) (λ p e. off (sym same ∙ e)))
+  where
+    other : {p from : ℕ} → Gone q to ≡ Coming p from → ⊥
+    other e = cc
+
+    here : {p : ℕ} → Gone q to ≡ Here p → ⊥
+    here e = cc
+
+    off : {p : ℕ} → Gone q to ≡ Off p → ⊥
+    off e = cc
+origin-sure setting seen call Within (Coming q from) begins same tells =
+    let there = begins.chasing q from same in
+    (there.0, there.1, omega (arith, there.2), there.3, there.4)
+
+entry-sure : (setting : Setting) (seen : History) (call : FindCall) (Within : ℕ → Type 0) (known : Option ℕ)
+    (weight : ℕ) (reader : Reader) (later : List Reader) (entry : Option Address)
+    → KnowsAtMost (number call.sub seen) known
+    → EntryAsks entry (Affords setting call.sub seen call Within (weight + 2 * way_in setting call reader) later)
+    (λ address. AffordsAddress setting call.sub seen call Within weight reader address)
+    → IsSure setting call.sub seen call Within (after_entry setting call known weight reader later entry)
+entry-sure setting seen call Within known weight reader later None knows some =
+    climb-sure setting call.sub seen call Within known (weight + 2 * way_in setting call reader) later knows some
+entry-sure setting seen call Within known weight reader later (Some address) knows some =
+    let there = some known knows in
+    (there.0, there.1, omega (arith, there.2), there.3, there.4)
+
+-- a hop along what leads
+hop-sure : (setting : Setting) (sub : ℕ) (seen : History) (call : FindCall) (Within : ℕ → Type 0)
+    (known level : Option ℕ) (weight hops_left node to hops way : ℕ) → suc hops ≤ hops_left
+    → IsLed setting (mark_seen setting sub seen) known to (standing setting sub seen) hops way
+    → Within (weight + setting.distance node to + way)
+    → IsSure setting sub seen call Within (hop setting known level weight hops_left node to)
+hop-sure setting sub seen call Within known level weight zero node to hops way few led allowed = absurd (omega arith)
+hop-sure setting sub seen call Within known level weight (suc more) node to hops way few led allowed =
+    (hops, way, omega arith, led, allowed)
+
+mark-sure : (setting : Setting) (sub : ℕ) (seen : History) (call : FindCall) (Within : ℕ → Type 0) (chase : Chase)
+    (node : ℕ) (mark : PresenceMark) → mark_seen setting sub seen node ≡ mark → (hops way : ℕ)
+    → hops ≤ chase.hops_left
+    → IsLed setting (mark_seen setting sub seen) chase.known node (standing setting sub seen) hops way
+    → Within (chase.weight + way) → IsSure setting sub seen call Within (after_mark setting chase node mark)
+unfolding IsLed
+mark-sure setting sub seen call Within chase node Empty same zero way few led allowed =
+    let clash : false ≡ true = sym (ap (answers chase.known) same) ∙ led.1 in cc
+mark-sure setting sub seen call Within chase node (Here q) same zero way few led allowed =
+    (tt, subst Within (let e : chase.weight + way ≡ chase.weight = omega (arith, led.2) in e) allowed)
+mark-sure setting sub seen call Within chase node (Off q) same zero way few led allowed =
+    (tt, subst Within (let e : chase.weight + way ≡ chase.weight = omega (arith, led.2) in e) allowed)
+mark-sure setting sub seen call Within chase node (Gone q to) same zero way few led allowed =
+    let clash : false ≡ true = sym (ap (answers chase.known) same) ∙ led.1 in cc
+mark-sure setting sub seen call Within chase node (Coming q from) same zero way few led allowed =
+    subst (λ b. IsSure setting sub seen call Within
+    (cond b (ended (At node q chase.level chase.weight))
+    (hop setting chase.known chase.level chase.weight chase.hops_left node from)))
+    (sym (sym (ap (answers chase.known) same) ∙ led.1))
+    (tt, subst Within (let e : chase.weight + way ≡ chase.weight = omega (arith, led.2) in e) allowed)
+mark-sure setting sub seen call Within chase node Empty same (suc hops) way few led allowed =
+    let clash : None ≡ Some led.0 = sym (ap (lead chase.known) same) ∙ led.2 in cc
+mark-sure setting sub seen call Within chase node (Here q) same (suc hops) way few led allowed =
+    let clash : None ≡ Some led.0 = sym (ap (lead chase.known) same) ∙ led.2 in cc
+mark-sure setting sub seen call Within chase node (Off q) same (suc hops) way few led allowed =
+    let clash : None ≡ Some led.0 = sym (ap (lead chase.known) same) ∙ led.2 in cc
+mark-sure setting sub seen call Within chase node (Gone q to) same (suc hops) way few led allowed =
+    let at_to : Some to ≡ Some led.0 = sym (ap (lead chase.known) same) ∙ led.2 in
+    let is_to : led.0 ≡ to = cc in
+    hop-sure setting sub seen call Within (known_with q chase.known) chase.level chase.weight chase.hops_left node to
+    hops
+    led.1 few
+    (subst (λ n. IsLed setting (mark_seen setting sub seen) (known_with q chase.known) n
+    (standing setting sub seen) hops
+    led.1) is_to
+    (subst (λ k. IsLed setting (mark_seen setting sub seen) k led.0 (standing setting sub seen) hops led.1)
+    (ap (known_after chase.known) same) led.4))
+    (subst (λ n. Within (chase.weight + setting.distance node n + led.1)) is_to
+    (subst Within (let e : chase.weight + way ≡ chase.weight + setting.distance node led.0 + led.1 = omega
+    (arith, led.3)
+    in e) allowed))
+mark-sure setting sub seen call Within chase node (Coming q from) same (suc hops) way few led allowed =
+    at_known (is_known q chase.known) refl
+  where
+    at_known : (b : Bool) → is_known q chase.known ≡ b
+        → IsSure setting sub seen call Within
+        (cond b (ended (At node q chase.level chase.weight))
+        (hop setting chase.known chase.level chase.weight chase.hops_left node from))
+    at_known true e =
+        let clash : None ≡ Some led.0 =
+        sym (ap (lead chase.known) same ∙ ap (λ b. cond b None (Some from)) e) ∙ led.2 in cc
+    at_known false e =
+        let at_from : Some from ≡ Some led.0 =
+        sym (ap (lead chase.known) same ∙ ap (λ b. cond b None (Some from)) e) ∙ led.2 in
+        let is_from : led.0 ≡ from = cc in
+        hop-sure setting sub seen call Within chase.known chase.level chase.weight chase.hops_left node from hops
+        led.1 few
+        (subst (λ n. IsLed setting (mark_seen setting sub seen) chase.known n (standing setting sub seen) hops led.1)
+        is_from
+        (subst (λ k. IsLed setting (mark_seen setting sub seen) k led.0 (standing setting sub seen) hops led.1)
+        (ap (known_after chase.known) same) led.4))
+        (subst (λ n. Within (chase.weight + setting.distance node n + led.1)) is_from
+        (subst Within (let e2 : chase.weight + way ≡ chase.weight + setting.distance node led.0 + led.1 =
+        omega (arith, led.3) in e2) allowed))
+
+pub look-sure : Used → (setting : Setting) (seen : History) (call : FindCall) (Within : ℕ → Type 0) (stage : Stage)
+    (key : Key) → (stage ≡ at_origin → Begins setting seen call Within) → setting.nodes ≤ 2 ^ 16
+    → call.from < setting.nodes → IsLegal setting call.sub seen → IsSure setting call.sub seen call Within stage
+    → key_of call stage ≡ Some key
+    → IsSure setting call.sub seen call Within (after_word setting call stage (cell setting seen key))
+unfolding Affords
+look-sure used setting seen call Within at_origin key begins low inside legal sure wanted =
+    let e : Presence call.from call.sub ≡ key = cc in
+    subst (λ (k : Key). IsSure setting call.sub seen call Within
+    (after_origin setting call (mark_in (cell setting seen k)))) e
+    (origin-sure setting seen call Within (mark_seen setting call.sub seen call.from) (begins refl) refl
+    (used.marks setting call.sub seen low legal call.from inside))
+look-sure used setting seen call Within (climbs known weight reader later) key begins low inside legal sure wanted =
+    let e : Entry reader.level reader.cluster call.sub ≡ key = cc in
+    subst (λ (k : Key). IsSure setting call.sub seen call Within
+    (after_entry setting call known weight reader later (address_in (cell setting seen k)))) e
+    (entry-sure setting seen call Within known weight reader later
+    (entry_seen setting call.sub seen reader.level reader.cluster) sure.0 sure.1)
+look-sure used setting seen call Within (chases chase node) key begins low inside legal sure wanted =
+    let e : Presence node call.sub ≡ key = cc in
+    subst (λ (k : Key). IsSure setting call.sub seen call Within
+    (after_mark setting chase node (mark_in (cell setting seen k)))) e
+    (mark-sure setting call.sub seen call Within chase node (mark_seen setting call.sub seen node) refl sure.0 sure.1
+    sure.2 sure.3 sure.4)
+look-sure used setting seen call Within (ended found) key begins low inside legal sure wanted = cc
