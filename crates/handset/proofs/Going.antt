@@ -10,9 +10,9 @@ use Rattle.region_plan.specs.Kept.{IsKept}
 use Rattle.region_plan.specs.Settings.{setting_of}
 use Rattle.handset.specs.declared.stage.Stage.{Stage}
 use Rattle.handset.specs.declared.stage.Stage.TheVariants.{Resting, Coming, Renewing, Committing, Confirming, Erasing, Purging, Switching}
-use Rattle.handset.specs.Kept.{HandsetData, GoesWith, begun_at}
-use Rattle.handset.specs.Progress.{first_passing, is_old, is_passed, purging_at, purging_from, erasing_at, erasing_from, settled, gone_on}
-use Rattle.handset.specs.Beginning.{gathered_then, gathered_after, is_rest, journey_to, begun}
+use Rattle.handset.specs.Kept.{HandsetData, GoesWith, IsWithin, begun_at}
+use Rattle.handset.specs.Progress.{first_passing, is_old, is_passed, purging_at, purging_from, erasing_at, erasing_from, settle, go_on}
+use Rattle.handset.specs.Beginning.{gathered_then, gathered_after, is_rest, journey_to, begin_move}
 use Rattle.handset.proofs.Lists.{first-inside, highest-low, numbers-from-zero, numbers-count}
 
 -- a stage behind the confirm, or rest
@@ -79,7 +79,7 @@ trail-length true trail to = length-set (replicate (length trail) false) to true
 trail-length false trail to = length-set trail to true
 
 pub goes-settled : (plan : PlanData) (handset : HandsetData) → GoesWith plan handset → handset.last.number
-    ≡ handset.number → GoesWith plan (settled (setting_of plan []) handset)
+    ≡ handset.number → GoesWith plan (settle (setting_of plan []) handset)
 goes-settled plan handset goes done = record {
   addresses = omega (
     arith,
@@ -110,44 +110,34 @@ goes-settled plan handset goes done = record {
     at_test level h true = goes.inside level h
     at_test level h false = goes.to
 
+goes-late : (plan : PlanData) (handset : HandsetData) (next : Stage) → GoesWith plan handset
+    → handset.last.number ≡ begun_at next handset.number → IsWithin (nodes_of plan) handset.last next
+    → GoesWith plan (record handset { stage = next })
+goes-late plan handset next goes counted within = record {
+  addresses = goes.addresses;
+  gathered = goes.gathered;
+  trail = goes.trail;
+  place = goes.place;
+  from = goes.from;
+  to = goes.to;
+  renewed = goes.renewed;
+  inside = goes.inside;
+  light = goes.light;
+  counted = counted;
+  numbered = goes.numbered;
+  stage = within;
+}
+
 pub goes-on : (plan : PlanData) (handset : HandsetData) (next : Stage) → GoesWith plan handset
     → handset.last.number ≡ handset.number → IsLate (nodes_of plan) handset.last next
-    → GoesWith plan (gone_on (setting_of plan []) handset next)
+    → GoesWith plan (go_on (setting_of plan []) handset next)
 goes-on plan handset Resting goes done late = goes-settled plan handset goes done
 goes-on plan handset Coming goes done late = absurd late
 goes-on plan handset (Renewing level) goes done late = absurd late
 goes-on plan handset Committing goes done late = absurd late
 goes-on plan handset Confirming goes done late = absurd late
-goes-on plan handset (Erasing level) goes done late =
-    record {
-      addresses = goes.addresses;
-      gathered = goes.gathered;
-      trail = goes.trail;
-      place = goes.place;
-      from = goes.from;
-      to = goes.to;
-      renewed = goes.renewed;
-      inside = goes.inside;
-      light = goes.light;
-      counted = done;
-      numbered = goes.numbered;
-      stage = late;
-    }
-goes-on plan handset (Purging node) goes done late =
-    record {
-      addresses = goes.addresses;
-      gathered = goes.gathered;
-      trail = goes.trail;
-      place = goes.place;
-      from = goes.from;
-      to = goes.to;
-      renewed = goes.renewed;
-      inside = goes.inside;
-      light = goes.light;
-      counted = done;
-      numbered = goes.numbered;
-      stage = late;
-    }
+goes-on plan handset (Erasing level) goes done late = goes-late plan handset (Erasing level) goes done late
+goes-on plan handset (Purging node) goes done late = goes-late plan handset (Purging node) goes done late
 goes-on plan handset (Switching off) goes done late = absurd late
 
 -- a handset that goes on from a stage behind the commit
@@ -173,7 +163,7 @@ counted-at (Switching off) last number committed same = absurd committed
 
 pub goes-next : (plan : PlanData) (handset after : HandsetData) (stage next : Stage) → GoesWith plan handset
     → handset.stage ≡ stage → IsCommitted stage
-    → IsLate (nodes_of plan) handset.last next → after ≡ gone_on (setting_of plan []) handset next
+    → IsLate (nodes_of plan) handset.last next → after ≡ go_on (setting_of plan []) handset next
     → GoesWith plan after
 goes-next plan handset after stage next goes at committed late same =
     subst (GoesWith plan) (sym same)
@@ -217,7 +207,7 @@ light-weight plan u v kept = at_tests (nat_lt u (nodes_of plan)) (nat_lt v (node
 
 pub goes-begun : (plan : PlanData) (handset : HandsetData) (to : ℕ) → IsKept plan → GoesWith plan handset
     → to < nodes_of plan → handset.stage ≡ Resting
-    → suc handset.number < 2 ^ 32 → GoesWith plan (begun (setting_of plan []) handset to)
+    → suc handset.number < 2 ^ 32 → GoesWith plan (begin_move (setting_of plan []) handset to)
 goes-begun plan handset to kept goes inside rests few =
     let done : handset.last.number ≡ handset.number = goes.counted ∙ ap (λ s. begun_at s handset.number) rests in
     record {

@@ -3,4 +3,7 @@ mod Going
 mod CourseLaws
 mod Writing
 mod Showing
-mod Standing
+mod Keeping
+mod Settling
+mod Made
+mod Begun

@@ -2,7 +2,7 @@
 use Rattle.std.proofs.Common.{◌≡◌, ◌≢◌, ℕ, zero, suc, ◌+◌, ◌-◌, ◌<◌, ◌≤◌, Bool, true, false, cond, List, [], ◌∷◌, ◌++◌, Some, None, length, map, take, drop, refl, sym, ap, ◌∙◌, arith}
 use Rattle.std.proofs.lemmas.Bool.Decides.{nat_tests}
 use Rattle.std.specs.Prelude.{slice_get, get_or, not, nat_le, ◌==◌}
-use Rattle.node_set.specs.Ascending.{passing}
+use Rattle.node_set.specs.Ascending.{sift}
 use Rattle.directory.specs.Courses.{highest}
 use Rattle.directory.specs.Writes.{numbers_from}
 use Rattle.handset.specs.Progress.{first_passing}
@@ -107,44 +107,44 @@ first-inside test x (suc k) y h = at_test (first-inside test (suc x) k y) (test 
       omega (arith, deep.1),
     )
 
-pub passing-none : (test : ℕ → Bool) (x k : ℕ) → first_passing test x k ≡ None → passing test x k ≡ []
+pub passing-none : (test : ℕ → Bool) (x k : ℕ) → first_passing test x k ≡ None → sift test x k ≡ []
 passing-none test x zero h = refl
 passing-none test x (suc k) h = at_test (passing-none test (suc x) k) (test x) h
   where
-    at_test : (first_passing test (suc x) k ≡ None → passing test (suc x) k ≡ []) → (b : Bool)
-        → cond b (Some x) (first_passing test (suc x) k) ≡ None → cond b (x ∷ passing test (suc x) k) (passing test
+    at_test : (first_passing test (suc x) k ≡ None → sift test (suc x) k ≡ []) → (b : Bool)
+        → cond b (Some x) (first_passing test (suc x) k) ≡ None → cond b (x ∷ sift test (suc x) k) (sift test
         (suc x) k) ≡ []
     at_test later true same = cc
     at_test later false same = later same
 
-pub passing-some : (test : ℕ → Bool) (x k y : ℕ) → first_passing test x k ≡ Some y → passing test x k
-    ≡ y ∷ passing test (suc y) (x + k - suc y)
+pub passing-some : (test : ℕ → Bool) (x k y : ℕ) → first_passing test x k ≡ Some y → sift test x k
+    ≡ y ∷ sift test (suc y) (x + k - suc y)
 passing-some test x zero y h = cc
 passing-some test x (suc k) y h = at_test (passing-some test (suc x) k y) (test x) h
   where
-    at_test : (first_passing test (suc x) k ≡ Some y → passing test (suc x) k ≡ y ∷ passing test (suc y)
+    at_test : (first_passing test (suc x) k ≡ Some y → sift test (suc x) k ≡ y ∷ sift test (suc y)
         (suc x + k - suc y)) → (b : Bool) → cond b (Some x) (first_passing test (suc x) k) ≡ Some y
-        → cond b (x ∷ passing test (suc x) k) (passing test (suc x) k) ≡ y ∷ passing test (suc y) (x + suc k - suc y)
+        → cond b (x ∷ sift test (suc x) k) (sift test (suc x) k) ≡ y ∷ sift test (suc y) (x + suc k - suc y)
     at_test later true same =
         let e : x ≡ y = cc in let f : k ≡ x + suc k - suc x = omega arith in
-        ap (λ n. x ∷ passing test (suc x) n) f ∙ ap (λ z. z ∷ passing test (suc z) (x + suc k - suc z)) e
+        ap (λ n. x ∷ sift test (suc x) n) f ∙ ap (λ z. z ∷ sift test (suc z) (x + suc k - suc z)) e
     at_test later false same =
         let f : suc x + k - suc y ≡ x + suc k - suc y = omega arith in
-        later same ∙ ap (λ n. y ∷ passing test (suc y) n) f
+        later same ∙ ap (λ n. y ∷ sift test (suc y) n) f
 
 -- tests and functions that agree on some numbers make the same list
 pub map-passing-same : {A : Type 0} (p q : ℕ → Bool) (f g : ℕ → A) (x k : ℕ)
     → ((y : ℕ) → x ≤ y → y < x + k → p y ≡ q y) → ((y : ℕ) → x ≤ y → y < x + k → f y ≡ g y)
-    → map f (passing p x k) ≡ map g (passing q x k)
+    → map f (sift p x k) ≡ map g (sift q x k)
 map-passing-same p q f g x zero same equal = refl
 map-passing-same p q f g x (suc k) same equal =
-    ap (λ b. map f (cond b (x ∷ passing p (suc x) k) (passing p (suc x) k))) (same x (omega arith) (omega arith))
+    ap (λ b. map f (cond b (x ∷ sift p (suc x) k) (sift p (suc x) k))) (same x (omega arith) (omega arith))
     ∙ at_test (map-passing-same p q f g (suc x) k (λ y h l. same y (omega (arith, h)) (omega (arith, l)))
     (λ y h l. equal y (omega (arith, h)) (omega (arith, l)))) (q x)
   where
-    at_test : map f (passing p (suc x) k) ≡ map g (passing q (suc x) k) → (b : Bool) → map f (cond b (x ∷ passing p
-        (suc x) k) (passing p (suc x) k)) ≡ map g (cond b (x ∷ passing q (suc x) k) (passing q (suc x) k))
-    at_test deep true = ap (λ z. z ∷ map f (passing p (suc x) k)) (equal x (omega arith) (omega arith))
+    at_test : map f (sift p (suc x) k) ≡ map g (sift q (suc x) k) → (b : Bool) → map f (cond b (x ∷ sift p
+        (suc x) k) (sift p (suc x) k)) ≡ map g (cond b (x ∷ sift q (suc x) k) (sift q (suc x) k))
+    at_test deep true = ap (λ z. z ∷ map f (sift p (suc x) k)) (equal x (omega arith) (omega arith))
         ∙ ap (λ zs. g x ∷ zs) deep
     at_test deep false = deep
 

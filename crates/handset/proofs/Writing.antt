@@ -2,11 +2,11 @@
 use Rattle.std.proofs.Common.{◌≡◌, ℕ, suc, ◌+◌, ◌-◌, ◌<◌, ◌≤◌, Bool, true, false, cond, List, [], ◌∷◌, ◌++◌, Option, Some, None, map, refl, sym, ap, ◌∙◌, arith}
 use Rattle.std.specs.Prelude.{get_or, nat_lt, not, ◌==◌, ◌&&◌}
 use Rattle.std.proofs.lemmas.Bool.Decides.{nat_tests}
-use Rattle.node_set.specs.Ascending.{has, passing}
+use Rattle.node_set.specs.Ascending.{has, sift}
 use Rattle.entry_word.specs.declared.mark.PresenceMark.TheVariants.{Empty, Gone, Here, Coming as ComingMark}
 use Rattle.directory.specs.Settings.{Setting, levels}
 use Rattle.directory.specs.Courses.{Course, address_node}
-use Rattle.directory.specs.Writes.{Write, mark_at, entry_at, new_address, numbers_from, old_home, erasing, purging, trail, move_writes}
+use Rattle.directory.specs.Writes.{Write, mark_at, entry_at, new_address, numbers_from, old_home, erasure_writes, purge_writes, trail, move_writes}
 use Rattle.handset.specs.declared.stage.Stage.TheVariants.{Resting, Coming, Renewing, Committing}
 use Rattle.handset.specs.Kept.{HandsetData}
 use Rattle.handset.specs.Progress.{erasure, is_old, is_passed, purge_from, erase_from, commit, renew_from, left_at, first_passing, purging_at, purging_from, erasing_at, erasing_from}
@@ -15,7 +15,7 @@ use Rattle.handset.proofs.Lists.{first-inside, passing-none, passing-some, map-p
 -- the purge
 purge-left : (setting : Setting) (handset : HandsetData) (node : ℕ) (o : Option ℕ)
     → first_passing (is_passed handset) node (setting.nodes - node) ≡ o
-    → map (λ x. mark_at x Empty) (passing (is_passed handset) node (setting.nodes - node))
+    → map (λ x. mark_at x Empty) (sift (is_passed handset) node (setting.nodes - node))
     ≡ left_at setting handset (purging_at o)
 purge-left setting handset node None h = ap (map (λ x. mark_at x Empty)) (passing-none (is_passed handset) node
     (setting.nodes - node) h)
@@ -24,15 +24,15 @@ purge-left setting handset node (Some x) h =
     (setting.nodes - node) x h in
     let e : node + (setting.nodes - node) - suc x ≡ setting.nodes - suc x = omega (arith, inside.0, inside.1) in
     ap (map (λ y. mark_at y Empty)) (passing-some (is_passed handset) node (setting.nodes - node) x h
-    ∙ ap (λ n. x ∷ passing (is_passed handset) (suc x) n) e)
+    ∙ ap (λ n. x ∷ sift (is_passed handset) (suc x) n) e)
 
 pub purging-left : (setting : Setting) (handset : HandsetData) (node : ℕ)
-    → map (λ x. mark_at x Empty) (passing (is_passed handset) node (setting.nodes - node))
+    → map (λ x. mark_at x Empty) (sift (is_passed handset) node (setting.nodes - node))
     ≡ left_at setting handset (purging_from setting handset node)
 purging-left setting handset node = purge-left setting handset node _ refl
 
 ending-left : (setting : Setting) (handset : HandsetData) (b : Bool)
-    → cond b (map (λ x. mark_at x Empty) (passing (is_passed handset) 0 (setting.nodes - 0))) []
+    → cond b (map (λ x. mark_at x Empty) (sift (is_passed handset) 0 (setting.nodes - 0))) []
     ≡ left_at setting handset (cond b (purging_from setting handset 0) Resting)
 ending-left setting handset true = purging-left setting handset 0
 ending-left setting handset false = refl
@@ -55,7 +55,7 @@ erase-left setting handset level (Some x) h =
     ) in
     ap (λ xs. map (erasure setting handset) xs ++ purge_from setting handset 0)
     (passing-some (is_old setting handset) level (suc handset.last.renewed - level) x h
-    ∙ ap (λ n. x ∷ passing (is_old setting handset) (suc x) n) e)
+    ∙ ap (λ n. x ∷ sift (is_old setting handset) (suc x) n) e)
 
 pub erasing-left : (setting : Setting) (handset : HandsetData) (level : ℕ) → erase_from setting handset level
     ≡ left_at setting handset (erasing_from setting handset level)
@@ -93,8 +93,8 @@ pub coming-left : (setting : Setting) (course : Course) (handset : HandsetData) 
     → move_writes setting course handset.last ≡ left_at setting handset Coming
 coming-left setting course handset low addresses trails =
     ap (λ n. mark_at handset.last.to (ComingMark handset.last.number handset.last.from) ∷ (map
-    (new_address setting handset.last) (numbers_from 0 n) ++ commit_with (erasing setting course handset.last ++
-    purging setting course handset.last))) none_less
+    (new_address setting handset.last) (numbers_from 0 n) ++ commit_with (erasure_writes setting course handset.last ++
+    purge_writes setting course handset.last))) none_less
     ∙ ap (λ ws. mark_at handset.last.to (ComingMark handset.last.number handset.last.from) ∷ (map
     (new_address setting handset.last) (numbers_from 0 (suc handset.last.renewed - 0)) ++ commit_with ws)) both
   where
@@ -105,7 +105,7 @@ coming-left setting course handset low addresses trails =
     commit_with ws = mark_at handset.last.from (Gone handset.last.number handset.last.to) ∷
         (mark_at handset.last.to (Here handset.last.number) ∷ ws)
 
-    erased : erasing setting course handset.last ≡ map (erasure setting handset) (passing
+    erased : erasure_writes setting course handset.last ≡ map (erasure setting handset) (sift
         (is_old setting handset) 0 (suc handset.last.renewed - 0))
     erased =
         map-passing-same (λ level. not (old_home setting course level == setting.home level handset.last.to))
@@ -119,9 +119,9 @@ coming-left setting course handset low addresses trails =
           l,
           low,
         )))))
-        ∙ ap (λ n. map (erasure setting handset) (passing (is_old setting handset) 0 n)) none_less
+        ∙ ap (λ n. map (erasure setting handset) (sift (is_old setting handset) 0 n)) none_less
 
-    purged : purging setting course handset.last ≡ purge_from setting handset 0
+    purged : purge_writes setting course handset.last ≡ purge_from setting handset 0
     purged =
         let none : setting.nodes ≡ setting.nodes - 0 = omega arith in
         ap (λ ws. cond (handset.last.renewed == setting.top) ws [])
@@ -130,8 +130,9 @@ coming-left setting course handset low addresses trails =
         (λ x. mark_at x Empty) (λ x. mark_at x Empty) 0 setting.nodes
         (λ node h l. ap (λ b. b && not (node == handset.last.to)) (sym (trails node (omega (arith, l)))))
         (λ node h l. refl)
-        ∙ ap (λ n. map (λ x. mark_at x Empty) (passing (is_passed handset) 0 n)) none)
+        ∙ ap (λ n. map (λ x. mark_at x Empty) (sift (is_passed handset) 0 n)) none)
 
-    both : erasing setting course handset.last ++ purging setting course handset.last ≡ erase_from setting handset 0
-    both = ap (λ ws. ws ++ purging setting course handset.last) erased ∙ ap (λ ws. map (erasure setting handset)
-        (passing (is_old setting handset) 0 (suc handset.last.renewed - 0)) ++ ws) purged
+    both : erasure_writes setting course handset.last ++ purge_writes setting course handset.last ≡ erase_from setting
+        handset 0
+    both = ap (λ ws. ws ++ purge_writes setting course handset.last) erased ∙ ap (λ ws. map (erasure setting handset)
+        (sift (is_old setting handset) 0 (suc handset.last.renewed - 0)) ++ ws) purged

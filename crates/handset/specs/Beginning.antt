@@ -71,8 +71,8 @@ journey_to setting handset to =
       renewed = renewal_in setting handset.gathered (setting.distance handset.place to);
     }
 
-abbrev pub begun : Setting → HandsetData → ℕ → HandsetData
-begun setting handset to =
+abbrev pub begin_move : Setting → HandsetData → ℕ → HandsetData
+begin_move setting handset to =
     let move : Move = journey_to setting handset to in
     record handset {
       stage = Coming;

@@ -3,7 +3,7 @@
 -- Key laws: `Handset::next` gives the next of the directory's visits, and `Handset::made` goes
 -- on to the one after it, by their clauses `stands`.
 use Rattle.std.specs.Prelude.{ℕ, zero, suc, ◌-◌, Bool, true, false, not, nat_lt, ◌==◌, ◌&&◌, if◌then◌else◌, List, [], ◌∷◌, ◌++◌, Option, Some, None, map, option_map, replicate, drop, length, slice_set, slice_index, slice_index_or}
-use Rattle.node_set.specs.Ascending.{passing}
+use Rattle.node_set.specs.Ascending.{sift}
 use Rattle.entry_word.specs.declared.mark.PresenceMark.TheVariants.{Empty, Here, Gone, Coming as ComingMark, Off}
 use Rattle.entry_word.specs.declared.visit.Visit.{Visit}
 use Rattle.directory.specs.Settings.{Setting}
@@ -35,12 +35,12 @@ is_passed handset node = slice_index_or handset.trail node false && not (node ==
 abbrev pub purge_from : Setting → HandsetData → ℕ → List Write
 purge_from setting handset node =
     if handset.last.renewed == setting.top
-    then map (λ x. mark_at x Empty) (passing (is_passed handset) node (setting.nodes - node))
+    then map (λ x. mark_at x Empty) (sift (is_passed handset) node (setting.nodes - node))
     else []
 
 abbrev pub erase_from : Setting → HandsetData → ℕ → List Write
 erase_from setting handset level =
-    map (erasure setting handset) (passing (is_old setting handset) level
+    map (erasure setting handset) (sift (is_old setting handset) level
     (suc handset.last.renewed - level))
     ++ purge_from setting handset 0
 
@@ -84,7 +84,7 @@ left_at setting handset (Erasing level) =
     erasure setting handset level ∷ erase_from setting handset (suc level)
 left_at setting handset (Purging node) =
     mark_at node Empty
-    ∷ map (λ x. mark_at x Empty) (passing (is_passed handset) (suc node) (setting.nodes - suc node))
+    ∷ map (λ x. mark_at x Empty) (sift (is_passed handset) (suc node) (setting.nodes - suc node))
 left_at setting handset (Switching off) = switch_mark handset off ∷ []
 
 -- the visit that comes next
@@ -121,8 +121,8 @@ erasing_from setting handset level =
 
 -- a handset whose move is over: the levels that it renewed have the new node's address, and the
 -- trail has the new node, alone where the top level was renewed
-abbrev pub settled : Setting → HandsetData → HandsetData
-settled setting handset =
+abbrev pub settle : Setting → HandsetData → HandsetData
+settle setting handset =
     record handset {
       stage = Resting;
       addresses = replicate (suc handset.last.renewed) handset.last.to
@@ -134,15 +134,15 @@ settled setting handset =
     }
 
 -- a handset that goes on to a stage behind the confirm
-abbrev pub gone_on : Setting → HandsetData → Stage → HandsetData
-gone_on setting handset Resting = settled setting handset
-gone_on setting handset Coming = record handset { stage = Coming }
-gone_on setting handset (Renewing level) = record handset { stage = Renewing level }
-gone_on setting handset Committing = record handset { stage = Committing }
-gone_on setting handset Confirming = record handset { stage = Confirming }
-gone_on setting handset (Erasing level) = record handset { stage = Erasing level }
-gone_on setting handset (Purging node) = record handset { stage = Purging node }
-gone_on setting handset (Switching off) = record handset { stage = Switching off }
+abbrev pub go_on : Setting → HandsetData → Stage → HandsetData
+go_on setting handset Resting = settle setting handset
+go_on setting handset Coming = record handset { stage = Coming }
+go_on setting handset (Renewing level) = record handset { stage = Renewing level }
+go_on setting handset Committing = record handset { stage = Committing }
+go_on setting handset Confirming = record handset { stage = Confirming }
+go_on setting handset (Erasing level) = record handset { stage = Erasing level }
+go_on setting handset (Purging node) = record handset { stage = Purging node }
+go_on setting handset (Switching off) = record handset { stage = Switching off }
 
 -- a handset after the write that came next at this stage
 abbrev pub after_write : Setting → HandsetData → Stage → HandsetData
@@ -156,9 +156,9 @@ after_write setting handset (Renewing level) =
 after_write setting handset Committing =
     record handset { place = handset.last.to; number = handset.last.number; stage = Confirming }
 after_write setting handset Confirming =
-    gone_on setting handset (erasing_from setting handset 0)
+    go_on setting handset (erasing_from setting handset 0)
 after_write setting handset (Erasing level) =
-    gone_on setting handset (erasing_from setting handset (suc level))
+    go_on setting handset (erasing_from setting handset (suc level))
 after_write setting handset (Purging node) =
-    gone_on setting handset (purging_from setting handset (suc node))
+    go_on setting handset (purging_from setting handset (suc node))
 after_write setting handset (Switching off) = record handset { is_off = off; stage = Resting }

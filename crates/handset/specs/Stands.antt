@@ -7,7 +7,7 @@ use Rattle.std.specs.Prelude.{◌≡◌, ℕ, ◌<◌, ◌≤◌, Bool, true, fa
 use Rattle.node_set.specs.Ascending.{has}
 use Rattle.entry_word.specs.declared.visit.Visit.{Visit}
 use Rattle.directory.specs.Settings.{Setting, levels, start}
-use Rattle.directory.specs.Courses.{Step, move_to, switch_off, switch_on, Move, Course, course_at, last_stop, address_node, gathered, next_move, after_steps}
+use Rattle.directory.specs.Courses.{Step, move_to, switch_off, switch_on, Move, Course, course_at, last_stop, address_node, gathered_weight, next_move, after_steps}
 use Rattle.directory.specs.Writes.{visits, visit_of, trail}
 use Rattle.directory.specs.Puts.{ends_off, mark_put, node_put}
 use Rattle.directory.specs.Standing.{Commit, commit_of}
@@ -98,7 +98,8 @@ pub record StandsAt (setting : Setting) (handset : HandsetData) (stage : Stage) 
       → slice_index handset.addresses level
       ≡ address_node (course_of setting handset.sub over) level
   pub gathered : (level : ℕ) → level < levels setting
-      → slice_index handset.gathered level ≡ gathered (course_of setting handset.sub steps) level
+      → slice_index handset.gathered level ≡ gathered_weight (course_of setting handset.sub steps)
+      level
   pub trail : (to node : ℕ) → node < setting.nodes
       → slice_index_or handset.trail node false
       ≡ has node (trail setting (course_of setting handset.sub over) (next_move setting

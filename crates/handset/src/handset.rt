@@ -10,9 +10,9 @@ ghost use Rattle.region_plan.specs.Plan.{PlanData, home, levels_of, nodes_of};
 ghost use Rattle.region_plan.specs.Kept.{IsKept};
 ghost use Rattle.region_plan.specs.Settings.{setting_of};
 ghost use Rattle.handset.specs.Kept.{GoesWith};
-ghost use Rattle.handset.specs.Progress.{after_write, due, erasing_from, first_passing, gone_on, is_passed, purging_at, settled};
+ghost use Rattle.handset.specs.Progress.{after_write, due, erasing_from, first_passing, go_on, is_passed, purging_at, settle};
 ghost use Rattle.handset.specs.Stands.{StandsFor, switch_to};
-ghost use Rattle.handset.specs.Beginning.{begun, gathered_after, handset_at, move_fault, renewal_in, switch_fault};
+ghost use Rattle.handset.specs.Beginning.{begin_move, gathered_after, handset_at, move_fault, renewal_in, switch_fault};
 
 use crate::fault::{MoveFault, SwitchFault};
 use crate::stage::{Journey, Stage};
@@ -76,7 +76,7 @@ impl Handset {
         ensures faults { MatchResult result (λ _. move_fault plan.now self.old to ≡ None)
             (λ fault. move_fault plan.now self.old to ≡ Some fault) }
         ensures refused { OnErr result (self.new ≡ self.old) }
-        ensures exact { OnOk result (self.new ≡ begun (setting_of plan.now []) self.old to) }
+        ensures exact { OnOk result (self.new ≡ begin_move (setting_of plan.now []) self.old to) }
         ensures goes { GoesWith plan.now self.new }
         ensures stands { OnOk result ((starts : List ℕ) (steps : List Step) (made : ℕ)
             → StandsFor (setting_of plan.now starts) self.old steps made
@@ -326,7 +326,7 @@ impl Handset {
         requires node { to < nodes_of plan.now }
         requires counted { self.old.last.number ≤ self.old.number }
         requires few { self.old.number + 1 < 2 ^ 32 }
-        ensures { self.new ≡ begun (setting_of plan.now []) self.old to }
+        ensures { self.new ≡ begin_move (setting_of plan.now []) self.old to }
     {
         // The call tells the proof that distances are small.
         let _nodes = plan.nodes();
@@ -372,7 +372,7 @@ impl Handset {
     // Goes on to a stage behind the confirm.
     fn go_on(&mut self, plan: &Plan, next: Stage)
         requires goes { GoesWith plan.now self.old }
-        ensures { self.new ≡ gone_on (setting_of plan.now []) self.old next }
+        ensures { self.new ≡ go_on (setting_of plan.now []) self.old next }
     {
         if next.is_rest() {
             self.settle(plan);
@@ -383,7 +383,7 @@ impl Handset {
     // The move is over.
     fn settle(&mut self, plan: &Plan)
         requires goes { GoesWith plan.now self.old }
-        ensures { self.new ≡ record (settled (setting_of plan.now []) self.old) {
+        ensures { self.new ≡ record (settle (setting_of plan.now []) self.old) {
           stage = self.old.stage;
         } }
     {

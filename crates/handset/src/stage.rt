@@ -27,7 +27,8 @@ impl Stage {
     }
 }
 
-/// A move: its number, counted from 1, its two nodes and their distance, and the highest level that it renews.
+/// A move: its number, counted from 1, its two nodes and their distance, and the highest level that
+/// it renews.
 #[derive(Clone, Copy, PartialEq, Eq, Debug)]
 pub struct Journey {
     pub number: u32,

@@ -20,7 +20,7 @@ use Rattle.machine.specs.Stands.{BelongTogether, setting_in}
 use Rattle.machine.specs.Subscribers.{IsSubscriber, begun_steps}
 use Rattle.machine.proofs.Looking.{script-is}
 use Rattle.machine.proofs.ScriptLaws.{calls-few, same-at, steps-are}
-use Rattle.machine.proofs.Written.{Begins, begins, first-visit}
+use Rattle.machine.proofs.Rests.{Begins, begins, first-visit}
 
 -- what is known where a step is left
 pub record Ready (input : Input) (plan : PlanData) (history : History) (sub : ℕ) (old : Subscriber) (script : List Call)
@@ -36,9 +36,11 @@ pub script-of : (input : Input) (plan : PlanData) (distances : DistanceTable) (s
     → script ≡ get_or (seen_input input).scripts sub []
 script-of input plan distances sub held script together low reads same =
     script-is input.scripts.items sub held script
-    (omega (arith, low, together.valid.scripts, length-map input.scripts.items (λ (s : Vec Call Global). s.items))) reads same
+    (omega (arith, low, together.valid.scripts, length-map input.scripts.items (λ (s : Vec Call Global). s.items)))
+    reads same
 
-pub ready : (input : Input) (plan : PlanData) (distances : DistanceTable) (history : History) (sub : ℕ) (old : Subscriber)
+pub ready : (input : Input) (plan : PlanData) (distances : DistanceTable) (history : History) (sub : ℕ)
+    (old : Subscriber)
     (held : Vec Call Global) (script : List Call) (place : ℕ) (default : Call)
     → BelongTogether (seen_input input) plan distances → sub < length input.homes.items
     → IsSubscriber (seen_input input) plan history sub old → due (setting_in (seen_input input) plan) old.handset ≡ None
@@ -56,7 +58,8 @@ ready input plan distances history sub old held script place default together lo
       begin = begins (seen_input input) plan distances history sub old call together low its rests
           (omega (arith, here, short, ap length script_is))
           (same-at script place default call short
-          ∙ (ap (λ s. get_or s place call) script_is ∙ ap (λ i. get_or (get_or (seen_input input).scripts sub []) i call) here));
+          ∙ (ap (λ s. get_or s place call) script_is
+          ∙ ap (λ i. get_or (get_or (seen_input input).scripts sub []) i call) here));
       short = short;
       few = omega (arith, calls-few (seen_input input) sub together.valid, ap length script_is);
       left = omega (arith, here, short, steps);
@@ -84,9 +87,11 @@ pub its-visit : (input : Input) (plan : PlanData) (history : History) (sub : ℕ
     (begun_steps (seen_input input) sub old ++ step_of (get_or script place default) ∷ [])) (length (own sub history))
     → (visit : Visit) × (result ≡ Some visit)
 its-visit input plan history sub old script place subject default result its at same visit =
-    let first = first-visit (setting_in (seen_input input) plan) sub (length (own sub history)) (begun_steps (seen_input input) sub old)
+    let first = first-visit (setting_in (seen_input input) plan) sub (length (own sub history))
+    (begun_steps (seen_input input) sub old)
     (step_of (get_or script place default)) at.begin.all in (
       first.0,
       visit ∙ (ap (λ s. slice_get (visits (setting_in (seen_input input) plan) s
-          (begun_steps (seen_input input) sub old ++ step_of (get_or script place default) ∷ [])) (length (own sub history))) (same ∙ its.its) ∙ first.1),
+          (begun_steps (seen_input input) sub old ++ step_of (get_or script place default) ∷ []))
+          (length (own sub history))) (same ∙ its.its) ∙ first.1),
     )

@@ -23,7 +23,7 @@ use Rattle.region_plan.specs.Plan.{PlanData}
 use Rattle.machine.specs.Scripts.{find_of, most_in, most_of, most_visits, scripts_of, step_of}
 use Rattle.machine.specs.Stands.{setting_in}
 use Rattle.machine.proofs.ScriptLaws.{finds-are, searches-of, steps-are}
-use Rattle.machine.proofs.Written.{OwnGrow}
+use Rattle.machine.proofs.Seen.{OwnGrow}
 
 -- sums over so many numbers from one on
 total : (ℕ → ℕ) → ℕ → ℕ → ℕ
@@ -45,7 +45,8 @@ total-one : (f g : ℕ → ℕ) (x k n : ℕ) → ((a : ℕ) → (x == a) ≡ fa
     → total f k n ≡ suc (total g k n)
 unfolding total
 total-one f g x k zero h one low high = absurd (omega arith)
-total-one f g x k (suc n) h one low high = at_test (x == k) refl (λ later. total-one f g x (suc k) n h one later (omega (arith, high)))
+total-one f g x k (suc n) h one low high =
+    at_test (x == k) refl (λ later. total-one f g x (suc k) n h one later (omega (arith, high)))
   where
     at_test : (b : Bool) → (x == k) ≡ b → (suc k ≤ x → total f (suc k) n ≡ suc (total g (suc k) n))
         → f k + total f (suc k) n ≡ suc (g k + total g (suc k) n)
@@ -67,7 +68,8 @@ own-counts (visit ∷ later) n known =
       own-counts later n (All-tail (λ (v : Visit). v.actor < n) visit later known),
       total-one (λ a. length (own a (visit ∷ later))) (λ a. length (own a later)) visit.actor 0 n
           (λ a e. ap (λ b. length (cond b (visit ∷ own a later) (own a later))) e)
-          (ap (λ b. length (cond b (visit ∷ own visit.actor later) (own visit.actor later))) (eq-eqb visit.actor visit.actor refl))
+          (ap (λ b. length (cond b (visit ∷ own visit.actor later) (own visit.actor later)))
+          (eq-eqb visit.actor visit.actor refl))
           (omega arith) (omega (arith, All-head (λ (v : Visit). v.actor < n) visit later known)),
     )
 
@@ -81,7 +83,8 @@ total-less : (f g : ℕ → ℕ) (x k n : ℕ) → ((a : ℕ) → f a ≤ g a) �
     → total f k n < total g k n
 unfolding total
 total-less f g x k zero h one low high = absurd (omega arith)
-total-less f g x k (suc n) h one low high = at_test (x == k) refl (λ later. total-less f g x (suc k) n h one later (omega (arith, high)))
+total-less f g x k (suc n) h one low high =
+    at_test (x == k) refl (λ later. total-less f g x (suc k) n h one later (omega (arith, high)))
   where
     at_test : (b : Bool) → (x == k) ≡ b → (suc k ≤ x → total f (suc k) n < total g (suc k) n)
         → f k + total f (suc k) n < g k + total g (suc k) n
@@ -112,18 +115,21 @@ MoreIsPlayed = (setting : Setting) (scripts : Scripts) (history : History) (acto
     → next setting scripts history actor ≡ Some visit → IsPlayed setting scripts history
     → IsPlayed setting scripts (history ++ visit ∷ [])
 
-own-most : OwnGrow → TurnsAreFew → ((setting : Setting) (scripts : Scripts) (history : History) (actor : ℕ) (visit : Visit)
+own-most : OwnGrow → TurnsAreFew
+    → ((setting : Setting) (scripts : Scripts) (history : History) (actor : ℕ) (visit : Visit)
     → next setting scripts history actor ≡ Some visit → IsPlayed setting scripts history
     → IsPlayed setting scripts (history ++ visit ∷ []))
     → (setting : Setting) (scripts : Scripts) (history : History) (actor : ℕ)
     → IsPlayed setting scripts [] → IsPlayed setting scripts history
     → length (own actor history) ≤ most_turns setting scripts actor
 own-most grow few more setting scripts history actor none played =
-    (by_fronts (λ front. IsPlayed setting scripts front × (length (own actor front) ≤ most_turns setting scripts actor)) history
+    (by_fronts (λ front. IsPlayed setting scripts front × (length (own actor front) ≤ most_turns setting scripts actor))
+    history
     (none, omega arith) (λ t visit h at. step t visit h at (visit.actor == actor) refl)).1
   where
     step : (t : ℕ) (visit : Visit) → slice_get history t ≡ Some visit
-        → IsPlayed setting scripts (take t history) × (length (own actor (take t history)) ≤ most_turns setting scripts actor)
+        → IsPlayed setting scripts (take t history)
+        × (length (own actor (take t history)) ≤ most_turns setting scripts actor)
         → (b : Bool) → (visit.actor == actor) ≡ b
         → IsPlayed setting scripts (take t history ++ visit ∷ [])
         × (length (own actor (take t history ++ visit ∷ [])) ≤ most_turns setting scripts actor)
@@ -132,12 +138,14 @@ own-most grow few more setting scripts history actor none played =
         let less : length (own visit.actor (take t history)) < most_turns setting scripts visit.actor =
         few setting scripts (take t history) visit.actor visit at.0 wants in
         let mine : length (own actor (take t history)) < most_turns setting scripts actor =
-        subst (λ a. length (own a (take t history)) < most_turns setting scripts a) (eqb-true visit.actor actor e) less in (
+        subst (λ a. length (own a (take t history)) < most_turns setting scripts a)
+        (eqb-true visit.actor actor e) less in (
           more setting scripts (take t history) visit.actor visit wants at.0,
           omega (
             arith,
             mine,
-            ap length (grow actor (take t history) visit ∙ ap (λ b. own actor (take t history) ++ cond b (visit ∷ []) []) e),
+            ap length (grow actor (take t history) visit
+                ∙ ap (λ b. own actor (take t history) ++ cond b (visit ∷ []) []) e),
             length_push (own actor (take t history)) visit,
           ),
         )
@@ -147,7 +155,8 @@ own-most grow few more setting scripts history actor none played =
           omega (
             arith,
             at.1,
-            ap length (grow actor (take t history) visit ∙ (ap (λ b. own actor (take t history) ++ cond b (visit ∷ []) []) e
+            ap length (grow actor (take t history) visit
+                ∙ (ap (λ b. own actor (take t history) ++ cond b (visit ∷ []) []) e
                 ∙ append-nil (own actor (take t history)))),
           ),
         )
@@ -157,7 +166,8 @@ MovesAreShort : Type 0
 MovesAreShort = (setting : Setting) (course : Course) (node : ℕ)
     → length (step_writes setting course (move_to node)) ≤ most_writes setting
 
-step-most : ((setting : Setting) (course : Course) (node : ℕ) → length (step_writes setting course (move_to node)) ≤ most_writes setting)
+step-most : ((setting : Setting) (course : Course) (node : ℕ)
+    → length (step_writes setting course (move_to node)) ≤ most_writes setting)
     → (setting : Setting) (course : Course) (call : Call)
     → length (step_writes setting course (step_of call)) ≤ most_of setting call
 step-most short setting course (calls.Move to) = short setting course to
@@ -165,7 +175,9 @@ step-most short setting course (calls.Find from sub) = omega arith
 step-most short setting course calls.Off = omega arith
 step-most short setting course calls.On = omega arith
 
-steps-most : ((setting : Setting) (course : Course) (node : ℕ) → length (step_writes setting course (move_to node)) ≤ most_writes setting)
+steps-most :
+    ((setting : Setting) (course : Course) (node : ℕ)
+    → length (step_writes setting course (move_to node)) ≤ most_writes setting)
     → (setting : Setting) (course : Course) (script : List Call)
     → length (writes setting course (map step_of script)) ≤ most_in setting script
 unfolding writes
@@ -175,7 +187,8 @@ steps-most short setting course (call ∷ script) =
       arith,
       step-most short setting course call,
       steps-most short setting (after_step setting course (step_of call)) script,
-      length-append (step_writes setting course (step_of call)) (writes setting (after_step setting course (step_of call)) (map step_of script)),
+      length-append (step_writes setting course (step_of call))
+          (writes setting (after_step setting course (step_of call)) (map step_of script)),
       sum_by-cons (most_of setting) call script,
     )
 
@@ -197,24 +210,34 @@ finds-most setting n subs (call ∷ script) all =
     at_call calls.Off its = absurd its
     at_call calls.On its = absurd its
 
-turns-most : ((setting : Setting) (course : Course) (node : ℕ) → length (step_writes setting course (move_to node)) ≤ most_writes setting)
+turns-most :
+    ((setting : Setting) (course : Course) (node : ℕ)
+    → length (step_writes setting course (move_to node)) ≤ most_writes setting)
     → (input : Contents) (plan : PlanData) (actor : ℕ) → IsValid input → actor < length input.scripts
-    → most_turns (setting_in input plan) (scripts_of input) actor ≤ most_in (setting_in input plan) (get_or input.scripts actor [])
+    → most_turns (setting_in input plan) (scripts_of input) actor
+    ≤ most_in (setting_in input plan) (get_or input.scripts actor [])
 turns-most short input plan actor valid low =
     elim (cases actor (length input.homes)) as (λ _. most_turns (setting_in input plan) (scripts_of input) actor
     ≤ most_in (setting_in input plan) (get_or input.scripts actor [])) [
       | inl sub ↦ rw (lt-ltb actor (length input.homes) sub)
           (omega (
             arith,
-            steps-most short (setting_in input plan) (course_at (start (setting_in input plan) actor)) (get_or input.scripts actor []),
-            length-map (writes (setting_in input plan) (course_at (start (setting_in input plan) actor)) (map step_of (get_or input.scripts actor []))) (visit_of actor),
-            ap (λ ss. length (map (visit_of actor) (writes (setting_in input plan) (course_at (start (setting_in input plan) actor)) ss))) (steps-are input actor valid sub),
+            steps-most short (setting_in input plan) (course_at (start (setting_in input plan) actor))
+                (get_or input.scripts actor []),
+            length-map (writes (setting_in input plan) (course_at (start (setting_in input plan) actor))
+                (map step_of (get_or input.scripts actor []))) (visit_of actor),
+            ap (λ ss. length
+                (map (visit_of actor)
+                (writes (setting_in input plan) (course_at (start (setting_in input plan) actor)) ss)))
+                (steps-are input actor valid sub),
           ))
       | inr high ↦ rw (le-ltb actor (length input.homes) high)
           (omega (
             arith,
-            finds-most (setting_in input plan) input.nodes (length input.homes) (get_or input.scripts actor []) (searches-of input actor valid high low),
-            ap (λ fs. sum_by (λ (call : FindCall). most_looks (setting_in input plan) call.from) fs) (finds-are input plan actor high low),
+            finds-most (setting_in input plan) input.nodes (length input.homes) (get_or input.scripts actor [])
+                (searches-of input actor valid high low),
+            ap (λ fs. sum_by (λ (call : FindCall). most_looks (setting_in input plan) call.from) fs)
+                (finds-are input plan actor high low),
           ))
     ]
   where
@@ -222,7 +245,8 @@ turns-most short input plan actor valid low =
     cases a b = grind (arith, nat_tests)
 
 pub room-left : OwnGrow → TurnsAreFew
-    → ((setting : Setting) (course : Course) (node : ℕ) → length (step_writes setting course (move_to node)) ≤ most_writes setting)
+    → ((setting : Setting) (course : Course) (node : ℕ)
+    → length (step_writes setting course (move_to node)) ≤ most_writes setting)
     → ((setting : Setting) (scripts : Scripts) (history : History) (actor : ℕ) (visit : Visit)
     → next setting scripts history actor ≡ Some visit → IsPlayed setting scripts history
     → IsPlayed setting scripts (history ++ visit ∷ []))
@@ -241,7 +265,8 @@ room-left grow few short more input plan history actor visit valid low none play
       total-less (λ a. length (own a history)) (most_turns setting scripts) actor 0 (length input.scripts)
           (λ a. own-most grow few more setting scripts history a none played)
           (few setting scripts history actor visit played wants) (omega arith) (omega (arith, low)),
-      total-most (most_turns setting scripts) (λ a. most_in setting (get_or input.scripts a [])) 0 (length input.scripts) (length input.scripts)
+      total-most (most_turns setting scripts) (λ a. most_in setting (get_or input.scripts a [])) 0
+          (length input.scripts) (length input.scripts)
           (λ a l. turns-most short input plan a valid l) (omega arith),
       total-list (most_in setting) [] input.scripts (λ a. most_in setting (get_or input.scripts a [])) 0
           (λ i l. ap (λ a. most_in setting (get_or input.scripts a [])) (omega arith)),

@@ -25,7 +25,7 @@ use Rattle.machine.specs.Subscribers.{IsSubscriber, begun_steps}
 use Rattle.machine.specs.Machines.{StandsFor, input_at, scripts_at, setting_at}
 use Rattle.machine.proofs.ScriptLaws.{finds-are, steps-are}
 use Rattle.machine.proofs.Steps.{some-write}
-use Rattle.machine.proofs.Written.{next-sub}
+use Rattle.machine.proofs.Seen.{next-sub}
 
 -- a subscriber that is done has begun all its steps
 past-end : {A : Type 0} (xs : List A) (i : ℕ) → slice_get xs i ≡ None → length xs ≤ i
@@ -132,7 +132,8 @@ flat-few f (x ∷ xs) (script ∷ scripts) each within =
 -- a caller has no more answers than finds
 stage-count : (caller : Seeker) (call : FindCall) (later : List FindCall) (stage : Stage) (answer : Option Found)
     → caller.calls ≡ call ∷ later
-    → length (with_stage caller call later stage answer).answers + length (with_stage caller call later stage answer).calls
+    → length (with_stage caller call later stage answer).answers + length
+    (with_stage caller call later stage answer).calls
     ≡ length caller.answers + length caller.calls
 stage-count caller call later stage None same = refl
 stage-count caller call later stage (Some found) same =

@@ -1,8 +1,11 @@
 mod ScriptLaws
 mod Looking
+mod Strangers
 mod Looked
 mod Steps
+mod Seen
 mod Written
+mod Rests
 mod Beginning
 mod Counting
 mod Sums
@@ -11,3 +14,4 @@ mod Opening
 mod Finishing
 mod Ending
 mod RightOutcome
+mod InTurn

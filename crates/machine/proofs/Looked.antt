@@ -99,8 +99,10 @@ looks grow input plan history actor caller walk next_walk key word high its held
           ∙ ap (option_map (look_by actor)) (sym (key-wanted plan seeker walk at) ∙ wants);
       stage = saw
           ∙ (ap (after_word (setting_of plan []) (call_of walk) (stage_of plan walk)) reads
-          ∙ (ap (λ s. after_word (setting_of plan []) (call_of walk) s (cell (setting_in input plan) history key)) at.so_far
-          ∙ ap (λ c. after_word (setting_of plan []) c seeker.stage (cell (setting_in input plan) history key)) at.its));
+          ∙ (ap (λ s. after_word (setting_of plan []) (call_of walk) s (cell (setting_in input plan) history key))
+          at.so_far
+          ∙ ap (λ c. after_word (setting_of plan []) c seeker.stage (cell (setting_in input plan) history key))
+          at.its));
       its = same ∙ at.its;
       seen = grow actor history (look_by actor key)
           ∙ ap (λ b. tickets actor history ++ cond b (length history ∷ []) []) (eq-eqb actor actor refl);
@@ -148,7 +150,8 @@ looked-on read grow count input plan cells history actor ticket old new key walk
 
 -- the find has its answer
 pub looked-up : CallersRead → CallerLinesGrow → CallersCount → (input : Contents) (plan : PlanData) (cells : CellData)
-    (history : History) (actor ticket : ℕ) (old new : Caller) (key : Key) (walk : WalkData) (found : Found) (line : Done)
+    (history : History) (actor ticket : ℕ) (old new : Caller) (key : Key) (walk : WalkData) (found : Found)
+    (line : Done)
     (left : ℕ) → length input.homes ≤ actor
     → Sees input plan cells history → length history ≡ ticket → IsCaller input plan history actor old
     → Looks input plan history actor old key walk → Some found ≡ answer_of (stage_of plan walk)

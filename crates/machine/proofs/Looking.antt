@@ -1,10 +1,9 @@
 -- A caller's look: which cell it is at, which nodes its word names, and how far the caller is after it.
-use Rattle.std.proofs.Common.{◌≡◌, ℕ, zero, suc, ◌+◌, ◌-◌, ◌^◌, ◌<◌, ◌≤◌, Bool, true, false, cond, List, [], ◌∷◌, ◌++◌, length, map, drop, get_or, refl, sym, ap, ◌∙◌, subst, arith, drop-cons, Option}
+use Rattle.std.proofs.Common.{◌≡◌, ℕ, zero, suc, ◌-◌, ◌^◌, ◌<◌, ◌≤◌, true, false, List, [], ◌∷◌, length, map, drop, get_or, refl, sym, ap, ◌∙◌, subst, arith, drop-cons, Option}
 use Rattle.std.specs.Prelude.{All, Some, None, option_map}
 use Rattle.std.proofs.lemmas.Bool.{le-ltb}
 use Rattle.std.proofs.lemmas.Bool.Decides.{nat_tests}
 use Rattle.std.proofs.lemmas.List.{get_or-map, length-map, length-drop}
-use Rattle.node_set.specs.Ascending.{has, passing}
 use Rattle.entry_word.specs.Marks.{mark_in}
 use Rattle.entry_word.specs.Addresses.{address_in}
 use Rattle.entry_word.specs.declared.address.Address.{Address}
@@ -16,25 +15,25 @@ use Rattle.directory.specs.Settings.{Setting, subs}
 use Rattle.directory.specs.Keys.{key_sub}
 use Rattle.directory.specs.Histories.{History, cell}
 use Rattle.directory.specs.Legal.{IsLegal}
-use Rattle.directory.specs.Finds.{FindCall, Reader, Stage, after_word, answer_of, at_origin, chases, climb, climbs, ended, key_of}
+use Rattle.directory.specs.Finds.{FindCall, Stage, after_word, answer_of, at_origin, chases, climbs, ended, key_of}
 use Rattle.directory.specs.Looks.{look_by}
 use Rattle.directory.specs.Orders.{AreValid, Caller as Seeker, IsFindCall, Scripts, after_read, caller_in, finds_of, key_in, next, next_key, read_by, with_stage}
 use Rattle.directory.specs.Statements.{PlayedIsLegal}
 use Rattle.directory.specs.declared.answers.Found.{Found}
 use Rattle.trail_laws.specs.Trail.{EntriesTell, EntryTells, MarkTells, MarksTell}
-use Rattle.region_plan.specs.Plan.{PlanData, cluster_in, clusters_of, level_at, levels_of, nodes_of, readers}
-use Rattle.region_plan.specs.Regions.{containing}
+use Rattle.region_plan.specs.Plan.{PlanData, nodes_of, readers}
 use Rattle.region_plan.specs.Matched.{IsMatched}
 use Rattle.region_plan.specs.Settings.{setting_of}
 use Rattle.visit_log.specs.Numbers.{IsCell, IsPlace}
 use Rattle.walk.specs.declared.progress.Progress.{Progress}
 use Rattle.walk.specs.declared.progress.Progress.TheVariants.{AtOrigin, Chasing, Climbing, Ended}
-use Rattle.walk.specs.Walks.{GoesWith, IsAddressBelow, IsMarkBelow, IsWithin, IsWordBelow, WalkData, call_of, readers_above, readers_at, stage_at, stage_of}
+use Rattle.walk.specs.Walks.{GoesWith, IsAddressBelow, IsMarkBelow, IsWithin, IsWordBelow, WalkData, call_of, readers_above, stage_at, stage_of}
 use Rattle.std.specs.Prelude.{Result, Ok, Err, IfOk, nat_le, if◌then◌else◌}
 use Rattle.std.specs.Result.{is_err, is_ok, result_ok}
 use Rattle.walk.specs.declared.walk.WalkFault.{WalkFault}
 use Rattle.walk.specs.declared.walk.WalkFault.TheVariants.{NoNode, NoSubscriber}
 use Rattle.walk.specs.Walks.{walk_or_fault}
+use Rattle.walk.specs.ReaderLaws.{climb-here, reader-held}
 use Rattle.distances.specs.Table.{DistanceTable}
 use Rattle.net_reader.specs.declared.said.Call.{Call}
 use Rattle.net_reader.specs.declared.said.Call.TheVariants as calls
@@ -100,56 +99,6 @@ never-keyless call (climbs known weight reader later) h k = cc
 never-keyless call (chases chase node) h k = cc
 never-keyless call (ended found) h k = cc
 
--- the readers of a node are clusters of their level
-passing-below : (test : ℕ → Bool) (x k i : ℕ) → i < length (passing test x k) → get_or (passing test x k) i 0 < x + k
-passing-below test x zero i h = absurd (omega (arith, h))
-passing-below test x (suc k) i h = at_test (passing-below test (suc x) k) (test x) i h
-  where
-    at_test : ((j : ℕ) → j < length (passing test (suc x) k) → get_or (passing test (suc x) k) j 0 < suc x + k)
-        → (b : Bool) (j : ℕ) → j < length (cond b (x ∷ passing test (suc x) k) (passing test (suc x) k))
-        → get_or (cond b (x ∷ passing test (suc x) k) (passing test (suc x) k)) j 0 < x + suc k
-    at_test later true zero l = omega arith
-    at_test later true (suc j) l = omega (arith, later j (omega (arith, l)))
-    at_test later false j l = omega (arith, later j l)
-
-reader-below : (plan : PlanData) (level node index : ℕ) → IsMatched plan → level < levels_of plan
-    → node < nodes_of plan → index < length (readers plan level node)
-    → get_or (readers plan level node) index 0 < clusters_of plan level
-reader-below plan level node index matched h l inside =
-    let same : readers plan level node ≡ containing (level_at plan level).clusters node =
-    matched.read level node h l in
-    let here : index < length (containing (level_at plan level).clusters node) =
-    subst (λ rs. index < length rs) same inside in
-    subst (λ rs. get_or rs index 0 < clusters_of plan level) (sym same)
-    (omega (
-      arith,
-      passing-below (λ c. has node (cluster_in (level_at plan level).clusters c).members) 0
-          (length (level_at plan level).clusters) index here,
-    ))
-
--- the climb at a reader
-climb-here : (setting : Setting) (node : ℕ) (known : Option ℕ) (weight level index : ℕ) (later : List Reader)
-    → index < length (setting.readers level node)
-    → climb known weight (drop index (readers_at setting node level) ++ later)
-    ≡ climbs known weight (record { level = level; cluster = get_or (setting.readers level node) index 0 }) (drop
-    (suc index) (readers_at setting node level) ++ later)
-climb-here setting node known weight level index later inside =
-    let count : length (readers_at setting node level) ≡ length (setting.readers level node) =
-    length-map (setting.readers level node) (λ c. record { level = level; cluster = c }) in
-    let short : index < length (readers_at setting node level) = omega (arith, inside, count) in
-    let first : get_or (readers_at setting node level) index (record { level = level; cluster = 0 })
-    ≡ record { level = level; cluster = get_or (setting.readers level node) index 0 } =
-    get_or-map (λ c. record { level = level; cluster = c }) (setting.readers level node) index 0 (record {
-      level =
-          level;
-      cluster = 0;
-    }) inside in
-    ap (λ rs. climb known weight (rs ++ later)) (drop-cons (readers_at setting node level) index (record {
-      level =
-          level;
-      cluster = 0;
-    }) short ∙ ap (λ r. r ∷ drop (suc index) (readers_at setting node level)) first)
-
 -- the cell that a walk wants is one of the plan, of its own subscriber
 unsome : {A : Type 0} (x y : A) → Some x ≡ Some y → x ≡ y
 unsome x y h = cc
@@ -160,7 +109,8 @@ climbing-key : (plan : PlanData) (from sub : ℕ) (known : Option ℕ) (weight l
     (Climbing known weight level index)) ≡ Some key
     → Entry level (get_or (readers plan level from) index 0) sub ≡ key
 climbing-key plan from sub known weight level index key inside wanted =
-    unsome _ _ (sym (ap (λ s. key_of (record { from = from; sub = sub }) s) (climb-here (setting_of plan []) from known weight
+    unsome _ _ (sym
+    (ap (λ s. key_of (record { from = from; sub = sub }) s) (climb-here (setting_of plan []) from known weight
     level index (readers_above (setting_of plan []) from (suc level)) inside)) ∙ wanted)
 
 place-wanted : (plan : PlanData) (from sub : ℕ) (progress : Progress) → IsMatched plan → from < nodes_of plan
@@ -173,7 +123,7 @@ place-wanted plan from sub AtOrigin matched inside within key wanted =
 place-wanted plan from sub (Climbing known weight level index) matched inside within key wanted =
     subst (λ k. IsPlace plan k × (key_sub k ≡ sub))
     (climbing-key plan from sub known weight level index key within.1 wanted)
-    ((within.0, reader-below plan level from index matched within.0 inside within.1), refl)
+    ((within.0, (reader-held plan level from index matched within.0 inside within.1).1), refl)
 place-wanted plan from sub (Chasing chase node) matched inside within key wanted =
     let e : Presence node sub ≡ key = unsome _ _ wanted in
     subst (λ k. IsPlace plan k × (key_sub k ≡ sub)) e (within.0, refl)
@@ -260,14 +210,16 @@ pub walk-at : (plan : PlanData) (script : List Call) (place count from sub : ℕ
     → IsWalking plan (drop place (map find_of script)) at_origin held
 walk-at plan script place count from sub made held low here searches answer goes same =
     let its : IsSearch (nodes_of plan) count (calls.Find from sub) =
-    subst (IsSearch (nodes_of plan) count) (sym (here (calls.Find from sub))) (searches place (calls.Find from sub) low) in
+    subst (IsSearch (nodes_of plan) count) (sym (here (calls.Find from sub)))
+    (searches place (calls.Find from sub) low) in
     let inside : nat_le (nodes_of plan) from ≡ false = grind (arith, nat_tests, its.0) in
     let known : nat_le count sub ≡ false = grind (arith, nat_tests, its.1) in
     let fine : made ≡ Ok (record { from = from; sub = sub; progress = AtOrigin }) = answer
     ∙ (ap (λ b. if b then Err NoNode else if nat_le count sub then Err NoSubscriber
     else Ok (record { from = from; sub = sub; progress = AtOrigin })) inside
     ∙ ap (λ b. if b then Err NoSubscriber else Ok (record { from = from; sub = sub; progress = AtOrigin })) known) in
-    let there : drop place (map find_of script) ≡ (record { from = from; sub = sub }) ∷ drop (suc place) (map find_of script) =
+    let there : drop place (map find_of script)
+    ≡ (record { from = from; sub = sub }) ∷ drop (suc place) (map find_of script) =
     drop-cons (map find_of script) place (record { from = from; sub = sub })
     (omega (arith, low, length-map script find_of))
     ∙ ap (λ x. x ∷ drop (suc place) (map find_of script))
@@ -277,7 +229,8 @@ walk-at plan script place count from sub made held low here searches answer goes
     subst (λ r. IfOk r (GoesWith plan)) fine goes in
     let is_held : held ≡ Some (record { from = from; sub = sub; progress = AtOrigin }) = same ∙ ap result_ok fine in
     subst (λ cs. IsWalking plan cs at_origin held) (sym there)
-    (subst (IsWalking plan (record { from = from; sub = sub } ∷ drop (suc place) (map find_of script)) at_origin) (sym is_held)
+    (subst (IsWalking plan (record { from = from; sub = sub } ∷ drop (suc place) (map find_of script)) at_origin)
+    (sym is_held)
     (refl, refl, goes_on, refl))
 
 -- the find that a caller is at is one of its script
@@ -319,12 +272,15 @@ wanted marks entries legal input plan distances cells history actor caller walk 
     let known : IsFindCall (setting_in input plan) at.call =
     call-known input plan actor (length caller.lines.items) at.call at.later valid high low
     (sym at.calls_are ∙ its.left) in
-    let sub_low : walk.sub < length input.homes = subst (λ (c : FindCall). c.sub < length input.homes) (sym at.its) known.known in
+    let sub_low : walk.sub < length input.homes =
+    subst (λ (c : FindCall). c.sub < length input.homes) (sym at.its) known.known in
     let small : nodes_of plan ≤ 2 ^ 16 = omega (arith, together.matched.metric.few) in
     record {
-      is_cell = cell-wanted plan walk cells.subs key together.matched at.goes (omega (arith, sub_low, sees.hold.subs)) wants;
+      is_cell = cell-wanted plan walk cells.subs key together.matched at.goes
+          (omega (arith, sub_low, sees.hold.subs)) wants;
       is_below = word-wanted marks entries plan input.homes history walk key together.matched small
-          (legal (setting_in input plan) (scripts_of input) history walk.sub small valid sub_low sees.played) at.goes wants;
+          (legal (setting_in input plan) (scripts_of input) history walk.sub small valid sub_low sees.played) at.goes
+          wants;
     }
 
 -- the script that the code reads

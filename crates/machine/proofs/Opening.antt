@@ -40,10 +40,13 @@ sub-opens input plan sub subscriber valid low stands goes its none room =
       handset = subst (λ ss. StandsFor (setting_in input plan) subscriber.handset ss 0) (sym begun) stands;
       goes = goes;
       its = its;
-      lines = none ∙ ap (λ ss. step_lines (setting_in input plan) sub (course_at (start (setting_in input plan) sub)) ss (tickets sub [])) (sym begun);
+      lines = none
+          ∙ ap (λ ss. step_lines (setting_in input plan) sub (course_at (start (setting_in input plan) sub)) ss
+          (tickets sub [])) (sym begun);
       few = omega (arith, ap length none);
       under = λ before step split. absurd (omega (arith, ap length (sym begun ∙ split), length_push before step));
-      room = omega (arith, room, ap length (steps-are input sub valid low), length-map (get_or input.scripts sub []) step_of);
+      room = omega
+          (arith, room, ap length (steps-are input sub valid low), length-map (get_or input.scripts sub []) step_of);
     }
 
 pub caller-opens : (input : Contents) (plan : PlanData) (actor : ℕ) (caller : Caller) (script : List Call)
@@ -54,7 +57,8 @@ unfolding words_after tickets_from
 caller-opens input plan actor caller script high low same walks first none room =
     let finds : finds_of (setting_in input plan) (scripts_of input) actor ≡ map find_of script =
     finds-are input plan actor high low ∙ ap (map find_of) (sym same) in
-    by-parts input plan [] actor (caller_at (finds_of (setting_in input plan) (scripts_of input) actor)) [] caller refl refl
+    by-parts input plan [] actor
+    (caller_at (finds_of (setting_in input plan) (scripts_of input) actor)) [] caller refl refl
     (subst (λ fs. IsWalking plan fs at_origin caller.walk) (sym finds) walks) first none
     (ap (λ n. drop n (finds_of (setting_in input plan) (scripts_of input) actor)) (sym (ap length none)))
     (omega (arith, room, ap length finds, length-map script find_of))
@@ -76,12 +80,16 @@ each-more P xs x n count each last s d low =
     cases a b = grind (arith, nat_tests)
 
 -- the calls of a valid input are inside
-course-inside : (format n here : ℕ) (off : Bool) (script : List Call) → IsCourse format n here off script → AreInside n script
+course-inside : (format n here : ℕ) (off : Bool) (script : List Call) → IsCourse format n here off script
+    → AreInside n script
 course-inside format n here off [] its = All-nil (IsInside n)
-course-inside format n here off (calls.Move to ∷ script) its = All-cons (IsInside n) (calls.Move to) script tt (course-inside format n to off script its.3)
+course-inside format n here off (calls.Move to ∷ script) its =
+    All-cons (IsInside n) (calls.Move to) script tt (course-inside format n to off script its.3)
 course-inside format n here off (calls.Find from sub ∷ script) its = absurd its
-course-inside format n here off (calls.Off ∷ script) its = All-cons (IsInside n) calls.Off script tt (course-inside format n here true script its.2)
-course-inside format n here off (calls.On ∷ script) its = All-cons (IsInside n) calls.On script tt (course-inside format n here false script its.2)
+course-inside format n here off (calls.Off ∷ script) its =
+    All-cons (IsInside n) calls.Off script tt (course-inside format n here true script its.2)
+course-inside format n here off (calls.On ∷ script) its =
+    All-cons (IsInside n) calls.On script tt (course-inside format n here false script its.2)
 
 search-inside : (n subs : ℕ) (script : List Call) → All (IsSearch n subs) script → AreInside n script
 search-inside n subs [] all = All-nil (IsInside n)
@@ -99,8 +107,10 @@ script-inside : (input : Contents) (actor : ℕ) → IsValid input → actor < l
     → AreInside input.nodes (get_or input.scripts actor [])
 script-inside input actor valid low =
     elim (cases actor (length input.homes)) as (λ _. AreInside input.nodes (get_or input.scripts actor [])) [
-      | inl sub ↦ course-inside input.format input.nodes (get_or input.homes actor 0) false (get_or input.scripts actor []) (valid.courses actor sub)
-      | inr high ↦ search-inside input.nodes (length input.homes) (get_or input.scripts actor []) (searches-of input actor valid high low)
+      | inl sub ↦ course-inside input.format input.nodes (get_or input.homes actor 0) false
+          (get_or input.scripts actor []) (valid.courses actor sub)
+      | inr high ↦ search-inside input.nodes (length input.homes) (get_or input.scripts actor [])
+          (searches-of input actor valid high low)
     ]
   where
     cases : (a b : ℕ) → (a < b) ⊎ (b ≤ a)
@@ -113,4 +123,5 @@ scripts-inside input scripts n valid same nodes k d low =
     subst (λ m. AreInside m (get_or scripts k d).items) (sym nodes)
     (subst (AreInside input.nodes) (ap (λ ss. get_or ss k []) same
     ∙ get_or-map (λ (s : Vec Call Global). s.items) scripts k d [] low)
-    (script-inside input k valid (omega (arith, low, ap length same, length-map scripts (λ (s : Vec Call Global). s.items)))))
+    (script-inside input k valid
+    (omega (arith, low, ap length same, length-map scripts (λ (s : Vec Call Global). s.items)))))

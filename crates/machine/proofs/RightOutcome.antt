@@ -1,4 +1,4 @@
--- The lines of a machine's outcome are right.
+-- The lines of a machine's outcome are right, and their numbers rise.
 use Rattle.std.proofs.Common.{◌≡◌, inl, inr, ℕ, ◌≤◌, ◌^◌, List, map, subst, arith}
 use Rattle.std.specs.Prelude.{All}
 use Rattle.node_set.specs.Ascending.{has}
@@ -9,7 +9,7 @@ use Rattle.directory.specs.Histories.{History}
 use Rattle.directory.specs.Orders.{AreValid, IsDone, IsPlayed, Scripts, history_of}
 use Rattle.directory.specs.Outcomes.{outcome_in}
 use Rattle.trail_laws.specs.Answers.{ReadsTop}
-use Rattle.trail_laws.specs.Lines.{IsRightLine, OutcomesAreRight}
+use Rattle.trail_laws.specs.Lines.{IsRightLine, NumbersRise, OutcomesAreRight}
 use Rattle.net_reader.specs.Input.{Contents}
 use Rattle.net_reader.specs.Table.{most_nodes}
 use Rattle.net_reader.specs.Valid.{IsValid}
@@ -19,7 +19,7 @@ use Rattle.region_plan.specs.Settings.{setting_of}
 use Rattle.machine.specs.declared.machine.Machine.{Machine}
 use Rattle.machine.specs.Scripts.{scripts_of}
 use Rattle.machine.specs.Stands.{setting_in}
-use Rattle.machine.specs.Machines.{StandsFor, input_at, scripts_at, setting_at}
+use Rattle.machine.specs.Machines.{StandsFor, TellRisingNumbers, input_at, scripts_at, setting_at}
 
 -- over a matched plan each node reads the home of each node at the top level
 reads-top : (plan : PlanData) (starts : List ℕ) → IsMatched plan → ReadsTop (setting_of plan starts)
@@ -64,4 +64,15 @@ right-outcome right own valid machine history is done =
     (right (setting_at machine) (scripts_at machine) (map (λ (visit : Visit). visit.actor) history)
     (omega (arith, is.together.nodes, few-nodes (input_at machine) is.together.valid))
     (reads-top machine.plan.now (input_at machine).homes is.together.matched)
+    (valid (input_at machine) machine.plan.now is.together.valid is.together.nodes))
+
+-- and later lines tell no lower numbers
+pub rising-outcome : NumbersRise → OrdersAreOwn → ScriptsAreValid → (machine : Machine) (history : History)
+    → StandsFor machine history → ((actor : ℕ) → IsDone (setting_at machine) (scripts_at machine) history actor)
+    → TellRisingNumbers (outcome_in (setting_at machine) (scripts_at machine) history).calls
+rising-outcome rise own valid machine history is done =
+    subst (λ h. TellRisingNumbers (outcome_in (setting_at machine) (scripts_at machine) h).calls)
+    (own (setting_at machine) (scripts_at machine) history is.sees.played done)
+    (rise (setting_at machine) (scripts_at machine) (map (λ (visit : Visit). visit.actor) history)
+    (omega (arith, is.together.nodes, few-nodes (input_at machine) is.together.valid))
     (valid (input_at machine) machine.plan.now is.together.valid is.together.nodes))

@@ -10,7 +10,7 @@ use Rattle.entry_word.specs.declared.mark.PresenceMark.TheVariants.{Empty, Here,
 use Rattle.entry_word.specs.declared.visit.Visit.{Visit}
 use Rattle.directory.specs.Settings.{Setting}
 use Rattle.directory.specs.Courses.{Course, MayStep, MaySteps, Move, Step, after_step, after_steps, last_stop, move_to, next_move, switch_off, switch_on}
-use Rattle.directory.specs.Writes.{Write, erasing, mark_at, move_writes, new_address, numbers_from, purging, step_writes, visit_of, writes}
+use Rattle.directory.specs.Writes.{Write, erasure_writes, mark_at, move_writes, new_address, numbers_from, purge_writes, step_writes, visit_of, writes}
 use Rattle.directory.specs.Outcomes.{step_line, step_lines}
 use Rattle.std.specs.Prelude.{◌==◌}
 use Rattle.directory.specs.declared.answers.Done.TheVariants.{Moved}
@@ -135,14 +135,14 @@ move-commits unpack setting sub course move number from to i visit h =
     ∙ numbers-count 0 (suc move.renewed)) in
     subst (Tells (is_commit visit.act) i) count
     (gone-at sub front (mark_at move.from (Gone move.number move.to))
-    (mark_at move.to (Here move.number) ∷ (erasing setting course move ++ purging setting course move)) (
+    (mark_at move.to (Here move.number) ∷ (erasure_writes setting course move ++ purge_writes setting course move)) (
       says (Coming move.number move.from) false (number, from) refl,
       quiet-map sub (new_address setting move) (λ level. refl)
           (numbers_from 0 (suc move.renewed)),
     )
     (says (Gone move.number move.to) true (number, to) refl) (
       says (Here move.number) false number refl,
-      quiet-append sub (erasing setting course move) (purging setting course move)
+      quiet-append sub (erasure_writes setting course move) (purge_writes setting course move)
           (quiet-map sub _ (λ level. refl) _) (quiet-purge (move.renewed == setting.top) _ (says Empty false tt refl)),
     )
     i visit h)
@@ -159,11 +159,12 @@ commit-grows seen ticket place true tells = get_or_push seen ticket 0 place (tel
 commit-grows seen ticket place false tells =
     elim (cases place (length seen)) as (λ _. get_or (seen ++ ticket ∷ []) place 0 ≡ get_or seen place 0) [
       | inl low ↦ get_or-append seen (ticket ∷ []) 0 place low
-      | inr high ↦ elim (cases (length seen) place) as (λ _. get_or (seen ++ ticket ∷ []) place 0 ≡ get_or seen place 0) [
-        | inl past ↦ get_or_past (seen ++ ticket ∷ []) place 0 (omega (arith, past, length_push seen ticket))
-            ∙ sym (get_or_past seen place 0 (omega (arith, past)))
-        | inr same ↦ absurd (never (tells.alone (omega (arith, high, same))))
-      ]
+      | inr high ↦ elim (cases (length seen) place)
+          as (λ _. get_or (seen ++ ticket ∷ []) place 0 ≡ get_or seen place 0) [
+            | inl past ↦ get_or_past (seen ++ ticket ∷ []) place 0 (omega (arith, past, length_push seen ticket))
+                ∙ sym (get_or_past seen place 0 (omega (arith, past)))
+            | inr same ↦ absurd (never (tells.alone (omega (arith, high, same))))
+          ]
     ]
   where
     cases : (a b : ℕ) → (a < b) ⊎ (b ≤ a)
@@ -186,7 +187,8 @@ pub line-grows : MarksUnpack → (setting : Setting) (sub : ℕ) (course : Cours
 line-grows unpack setting sub course (move_to node) seen ticket visit may small inside some at =
     let move : Move = next_move setting course node in
     let tells : Tells (is_commit visit.act) (length seen) (suc (suc move.renewed)) =
-    move-commits unpack setting sub course move may.few (omega (arith, inside, small)) (omega (arith, may.inside, small))
+    move-commits unpack setting sub course move may.few (omega (arith, inside, small))
+    (omega (arith, may.inside, small))
     (length seen) visit at in
     let first : get_or (seen ++ ticket ∷ []) 0 0 ≡ get_or seen 0 0 = get_or-append seen (ticket ∷ []) 0 0 some in
     let last : get_or (seen ++ ticket ∷ []) (length (seen ++ ticket ∷ []) - 1) 0 ≡ ticket =

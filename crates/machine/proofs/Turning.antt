@@ -1,7 +1,7 @@
 -- What a machine stands for after a visit.
-use Rattle.std.proofs.Common.{◌≡◌, ◌≢◌, ◌⊎◌, inl, inr, ℕ, zero, suc, ◌+◌, ◌<◌, ◌≤◌, ◌==◌, Bool, true, false, cond, List, [], ◌∷◌, ◌++◌, length, map, get_or, refl, sym, ap, ◌∙◌, subst, arith, Vec, Global}
+use Rattle.std.proofs.Common.{◌≡◌, ◌≢◌, inl, inr, ℕ, zero, suc, ◌+◌, ◌<◌, ◌≤◌, ◌==◌, false, cond, List, [], ◌∷◌, ◌++◌, length, map, get_or, refl, sym, ap, ◌∙◌, subst, arith, Vec, Global}
 use Rattle.std.specs.Prelude.{Some, slice_set, vec_capacity}
-use Rattle.std.proofs.lemmas.Bool.{eqb-true, eq-eqb, ne_eqb}
+use Rattle.std.proofs.lemmas.Bool.{cases_eq, ne_eqb}
 use Rattle.std.proofs.lemmas.List.{append-nil, length-map, map_push}
 use Rattle.std.proofs.lemmas.List.Sums.{fold-append}
 use Rattle.std.proofs.lemmas.List.Elements.{All-push}
@@ -30,7 +30,7 @@ use Rattle.machine.specs.Callers.{IsCaller}
 use Rattle.machine.specs.Subscribers.{IsSubscriber, begun_steps}
 use Rattle.machine.specs.Machines.{StandsFor, input_at, scripts_at, setting_at}
 use Rattle.machine.proofs.Looked.{TicketsGrow, by-parts}
-use Rattle.machine.proofs.Written.{OwnGrow}
+use Rattle.machine.proofs.Seen.{OwnGrow}
 
 -- a visit of another changes nothing of a subscriber
 sub-kept : OwnGrow → TicketsGrow → (input : Contents) (plan : PlanData) (history : History) (sub : ℕ)
@@ -38,29 +38,40 @@ sub-kept : OwnGrow → TicketsGrow → (input : Contents) (plan : PlanData) (his
     → IsSubscriber input plan history sub subscriber → IsSubscriber input plan (history ++ visit ∷ []) sub subscriber
 sub-kept own_law ticket_law input plan history sub subscriber visit other its =
     let same : own sub (history ++ visit ∷ []) ≡ own sub history =
-    own_law sub history visit ∙ (ap (λ b. own sub history ++ cond b (visit ∷ []) []) other ∙ append-nil (own sub history)) in
+    own_law sub history visit
+    ∙ (ap (λ b. own sub history ++ cond b (visit ∷ []) []) other ∙ append-nil (own sub history)) in
     let seen : tickets sub (history ++ visit ∷ []) ≡ tickets sub history =
-    ticket_law sub history visit ∙ (ap (λ b. tickets sub history ++ cond b (length history ∷ []) []) other ∙ append-nil (tickets sub history)) in
+    ticket_law sub history visit
+    ∙ (ap (λ b. tickets sub history ++ cond b (length history ∷ []) []) other ∙ append-nil (tickets sub history)) in
     record {
-      handset = subst (λ n. HandsetStands (setting_in input plan) subscriber.handset (begun_steps input sub subscriber) n)
+      handset = subst
+          (λ n. HandsetStands (setting_in input plan) subscriber.handset (begun_steps input sub subscriber) n)
           (sym (ap length same)) its.handset;
       goes = its.goes;
       its = its.its;
-      lines = its.lines ∙ ap (step_lines (setting_in input plan) sub (course_at (start (setting_in input plan) sub)) (begun_steps input sub subscriber)) (sym seen);
+      lines = its.lines
+          ∙ ap (step_lines (setting_in input plan) sub (course_at (start (setting_in input plan) sub))
+          (begun_steps input sub subscriber)) (sym seen);
       few = its.few;
-      under = λ before step split. subst (λ n. length (writes (setting_in input plan) (course_at (start (setting_in input plan) sub)) before) < n)
+      under = λ before step split. subst
+          (λ n. length (writes (setting_in input plan) (course_at (start (setting_in input plan) sub)) before) < n)
           (sym (ap length same)) (its.under before step split);
       room = its.room;
     }
 
 -- nor of a caller
-caller-kept : CallersKept → (input : Contents) (plan : PlanData) (history : History) (actor : ℕ) (caller : Caller) (visit : Visit)
-    → (visit.actor == actor) ≡ false → IsCaller input plan history actor caller → IsCaller input plan (history ++ visit ∷ []) actor caller
+caller-kept : CallersKept
+    → (input : Contents) (plan : PlanData) (history : History) (actor : ℕ) (caller : Caller) (visit : Visit)
+    → (visit.actor == actor) ≡ false → IsCaller input plan history actor caller
+    → IsCaller input plan (history ++ visit ∷ []) actor caller
 caller-kept law input plan history actor caller visit other its =
     let same = law (setting_in input plan) (scripts_of input) history actor visit other in
-    by-parts input plan (history ++ visit ∷ []) actor (caller_in (setting_in input plan) (scripts_of input) history actor)
+    by-parts input plan (history ++ visit ∷ []) actor
+    (caller_in (setting_in input plan) (scripts_of input) history actor)
     (tickets actor history) caller same.0 same.1 its.walk its.first
-    (its.lines ∙ (ap (λ ts. map (answer_line actor ts) (caller_in (setting_in input plan) (scripts_of input) history actor).answers) (sym same.1)
+    (its.lines ∙
+    (ap (λ ts. map (answer_line actor ts) (caller_in (setting_in input plan) (scripts_of input) history actor).answers)
+    (sym same.1)
     ∙ ap (λ (s : Seeker). map (answer_line actor (tickets actor (history ++ visit ∷ []))) s.answers) (sym same.0)))
     its.left its.room
 
@@ -90,50 +101,58 @@ pub sub-turned : OwnGrow → TicketsGrow → CallersKept
     → ((setting : Setting) (scripts : Scripts) (history : History) (actor : ℕ) (visit : Visit)
     → next setting scripts history actor ≡ Some visit → visit.actor ≡ actor)
     → (old : Machine) (history : History) (actor : ℕ) (visit : Visit) (subscriber : Subscriber) (cells : CellData)
-    (subscribers : Vec Subscriber Global) (order : Vec ℕ Global) → StandsFor old history → actor < length (input_at old).homes
+    (subscribers : Vec Subscriber Global) (order : Vec ℕ Global) → StandsFor old history
+    → actor < length (input_at old).homes
     → next (setting_at old) (scripts_at old) history actor ≡ Some visit
     → IsSubscriber (input_at old) old.plan.now (history ++ visit ∷ []) actor subscriber → GoWith old.plan.now cells
     → Hold old.plan.now (input_at old).homes cells (history ++ visit ∷ [])
     → subscribers.items ≡ slice_set old.subscribers.items actor subscriber
     → order.items ≡ old.order.items ++ actor ∷ [] → vec_capacity old.order ≤ vec_capacity order
     → StandsFor (record old { cells = cells; subscribers = subscribers; order = order }) (history ++ visit ∷ [])
-sub-turned own_law ticket_law kept more mine old history actor visit subscriber cells subscribers order stands low wants its goes hold items pushed room =
+sub-turned own_law ticket_law kept more mine old history actor visit subscriber cells subscribers order stands low wants
+    its goes hold items pushed room =
     let is_own : visit.actor ≡ actor = mine (setting_at old) (scripts_at old) history actor visit wants in
     record {
       together = stands.together;
-      sees = record { played = more (setting_at old) (scripts_at old) history actor visit wants stands.sees.played; goes = goes; hold = hold };
-      order = pushed ∙ (ap (λ xs. xs ++ actor ∷ []) stands.order ∙ (ap (λ a. map (λ (v : Visit). v.actor) history ++ a ∷ []) (sym is_own)
+      sees = record {
+        played = more (setting_at old) (scripts_at old) history actor visit wants stands.sees.played;
+        goes = goes;
+        hold = hold;
+      };
+      order = pushed
+          ∙ (ap (λ xs. xs ++ actor ∷ []) stands.order
+          ∙ (ap (λ a. map (λ (v : Visit). v.actor) history ++ a ∷ []) (sym is_own)
           ∙ sym (map_push (λ (v : Visit). v.actor) history visit)));
       known = All-push (λ (v : Visit). v.actor < length (input_at old).scripts) history visit stands.known
           (omega (arith, is_own, low, stands.together.valid.scripts));
       room = omega (arith, stands.room, room);
-      subscribers_count = ap length items ∙ (set-length old.subscribers.items actor subscriber ∙ stands.subscribers_count);
+      subscribers_count = ap length items
+          ∙ (set-length old.subscribers.items actor subscriber ∙ stands.subscribers_count);
       callers_count = stands.callers_count;
-      subscribers = λ s d below. elim (cases s actor) as (λ _. IsSubscriber (input_at old) old.plan.now (history ++ visit ∷ []) s (get_or subscribers.items s d)) [
-        | inl same ↦ subst (λ x. IsSubscriber (input_at old) old.plan.now (history ++ visit ∷ []) s x)
-            (sym (ap (λ xs. get_or xs s d) items ∙ (ap (λ i. get_or (slice_set old.subscribers.items i subscriber) s d) (sym same)
-            ∙ set-same old.subscribers.items s subscriber d (omega (arith, below, stands.subscribers_count)))))
-            (subst (λ a. IsSubscriber (input_at old) old.plan.now (history ++ visit ∷ []) a subscriber) (sym same) its)
-        | inr other ↦ subst (λ x. IsSubscriber (input_at old) old.plan.now (history ++ visit ∷ []) s x)
-            (sym (ap (λ xs. get_or xs s d) items ∙ set-other old.subscribers.items actor s subscriber d (λ e. other (sym e))))
-            (sub-kept own_law ticket_law (input_at old) old.plan.now history s (get_or old.subscribers.items s d) visit
-            (ne_eqb visit.actor s (λ e. other (sym e ∙ is_own))) (stands.subscribers s d below))
-      ];
-      callers = λ c d below. caller-kept kept (input_at old) old.plan.now history (length (input_at old).homes + c) (get_or old.callers.items c d) visit
-          (ne_eqb visit.actor (length (input_at old).homes + c) (λ e. omega (arith, e, is_own, low))) (stands.callers c d below);
+      subscribers =
+          λ s d below.
+          elim (cases_eq s actor) as (λ _. IsSubscriber (input_at old) old.plan.now (history ++ visit ∷ []) s
+          (get_or subscribers.items s d)) [
+            | inl same ↦ subst (λ x. IsSubscriber (input_at old) old.plan.now (history ++ visit ∷ []) s x)
+                (sym (ap (λ xs. get_or xs s d) items
+                ∙ (ap (λ i. get_or (slice_set old.subscribers.items i subscriber) s d) (sym same)
+                ∙ set-same old.subscribers.items s subscriber d (omega (arith, below, stands.subscribers_count)))))
+                (subst (λ a. IsSubscriber (input_at old) old.plan.now (history ++ visit ∷ []) a subscriber)
+                (sym same) its)
+            | inr other ↦ subst (λ x. IsSubscriber (input_at old) old.plan.now (history ++ visit ∷ []) s x)
+                (sym (ap (λ xs. get_or xs s d) items
+                ∙ set-other old.subscribers.items actor s subscriber d (λ e. other (sym e))))
+                (sub-kept own_law ticket_law (input_at old) old.plan.now history s
+                (get_or old.subscribers.items s d) visit
+                (ne_eqb visit.actor s (λ e. other (sym e ∙ is_own))) (stands.subscribers s d below))
+          ];
+      callers = λ c d below. caller-kept kept (input_at old) old.plan.now history (length (input_at old).homes + c)
+          (get_or old.callers.items c d) visit
+          (ne_eqb visit.actor (length (input_at old).homes + c) (λ e. omega (arith, e, is_own, low)))
+          (stands.callers c d below);
       calls = stands.calls;
       total = stands.total;
     }
-  where
-    cases : (a b : ℕ) → (a ≡ b) ⊎ (a ≢ b)
-    cases a b = at_test (a == b) refl
-      where
-        at_test : (t : Bool) → (a == b) ≡ t → (a ≡ b) ⊎ (a ≢ b)
-        at_test true e = inl (eqb-true a b e)
-        at_test false e = inr (λ same. never (a == b) (eq-eqb a b same) e)
-          where
-            never : (t : Bool) → t ≡ true → t ≡ false → ⊥
-            never t h g = cc
 
 hold-look : (plan : PlanData) (starts : List ℕ) (cells : CellData) (history : History) (actor : ℕ) (key : Key)
     → Hold plan starts cells history → Hold plan starts cells (history ++ look_by actor key ∷ [])
@@ -141,7 +160,8 @@ hold-look plan starts cells history actor key hold =
     record {
       subs = hold.subs;
       words = λ at its. hold.words at its
-          ∙ sym (fold-append (λ word (v : Visit). word_after at word v.act) (opening (setting_of plan starts) at) history (look_by actor key ∷ []));
+          ∙ sym (fold-append (λ word (v : Visit). word_after at word v.act)
+          (opening (setting_of plan starts) at) history (look_by actor key ∷ []));
     }
 
 pub caller-turned : OwnGrow → TicketsGrow → CallersKept
@@ -149,14 +169,16 @@ pub caller-turned : OwnGrow → TicketsGrow → CallersKept
     → next setting scripts history actor ≡ Some visit → IsPlayed setting scripts history
     → IsPlayed setting scripts (history ++ visit ∷ []))
     → (old : Machine) (history : History) (actor place : ℕ) (key : Key) (caller : Caller)
-    (callers : Vec Caller Global) (order : Vec ℕ Global) → StandsFor old history → actor ≡ length (input_at old).homes + place
+    (callers : Vec Caller Global) (order : Vec ℕ Global) → StandsFor old history
+    → actor ≡ length (input_at old).homes + place
     → actor < length (input_at old).scripts
     → next (setting_at old) (scripts_at old) history actor ≡ Some (look_by actor key)
     → IsCaller (input_at old) old.plan.now (history ++ look_by actor key ∷ []) actor caller
     → callers.items ≡ slice_set old.callers.items place caller
     → order.items ≡ old.order.items ++ actor ∷ [] → vec_capacity old.order ≤ vec_capacity order
     → StandsFor (record old { callers = callers; order = order }) (history ++ look_by actor key ∷ [])
-caller-turned own_law ticket_law kept more old history actor place key caller callers order stands at low wants its items pushed room =
+caller-turned own_law ticket_law kept more old history actor place key caller callers order stands at low wants its
+    items pushed room =
     let visit : Visit = look_by actor key in
     record {
       together = stands.together;
@@ -165,43 +187,46 @@ caller-turned own_law ticket_law kept more old history actor place key caller ca
         goes = stands.sees.goes;
         hold = hold-look old.plan.now (input_at old).homes old.cells history actor key stands.sees.hold;
       };
-      order = pushed ∙ (ap (λ xs. xs ++ actor ∷ []) stands.order ∙ sym (map_push (λ (v : Visit). v.actor) history visit));
+      order = pushed
+          ∙ (ap (λ xs. xs ++ actor ∷ []) stands.order ∙ sym (map_push (λ (v : Visit). v.actor) history visit));
       known = All-push (λ (v : Visit). v.actor < length (input_at old).scripts) history visit stands.known low;
       room = omega (arith, stands.room, room);
       subscribers_count = stands.subscribers_count;
       callers_count = ap length items ∙ (set-length old.callers.items place caller ∙ stands.callers_count);
-      subscribers = λ s d below. sub-kept own_law ticket_law (input_at old) old.plan.now history s (get_or old.subscribers.items s d) visit
+      subscribers =
+          λ s d below. sub-kept own_law ticket_law (input_at old) old.plan.now history s
+          (get_or old.subscribers.items s d) visit
           (ne_eqb actor s (λ e. omega (arith, e, at, below))) (stands.subscribers s d below);
-      callers = λ c d below. elim (cases c place) as (λ _. IsCaller (input_at old) old.plan.now (history ++ visit ∷ []) (length (input_at old).homes + c) (get_or callers.items c d)) [
-        | inl same ↦ subst (λ x. IsCaller (input_at old) old.plan.now (history ++ visit ∷ []) (length (input_at old).homes + c) x)
-            (sym (ap (λ xs. get_or xs c d) items ∙ (ap (λ i. get_or (slice_set old.callers.items i caller) c d) (sym same)
-            ∙ set-same old.callers.items c caller d (omega (arith, below, stands.callers_count)))))
-            (subst (λ a. IsCaller (input_at old) old.plan.now (history ++ visit ∷ []) a caller) (at ∙ ap (λ i. length (input_at old).homes + i) (sym same)) its)
-        | inr other ↦ subst (λ x. IsCaller (input_at old) old.plan.now (history ++ visit ∷ []) (length (input_at old).homes + c) x)
-            (sym (ap (λ xs. get_or xs c d) items ∙ set-other old.callers.items place c caller d (λ e. other (sym e))))
-            (caller-kept kept (input_at old) old.plan.now history (length (input_at old).homes + c) (get_or old.callers.items c d) visit
-            (ne_eqb actor (length (input_at old).homes + c) (λ e. other (omega (arith, e, at)))) (stands.callers c d below))
-      ];
+      callers = λ c d below.
+          elim (cases_eq c place) as (λ _. IsCaller (input_at old) old.plan.now (history ++ visit ∷ [])
+          (length (input_at old).homes + c) (get_or callers.items c d)) [
+            | inl same ↦ subst
+                (λ x. IsCaller (input_at old) old.plan.now (history ++ visit ∷ []) (length (input_at old).homes + c) x)
+                (sym (ap (λ xs. get_or xs c d) items
+                ∙ (ap (λ i. get_or (slice_set old.callers.items i caller) c d) (sym same)
+                ∙ set-same old.callers.items c caller d (omega (arith, below, stands.callers_count)))))
+                (subst (λ a. IsCaller (input_at old) old.plan.now (history ++ visit ∷ []) a caller)
+                (at ∙ ap (λ i. length (input_at old).homes + i) (sym same)) its)
+            | inr other ↦ subst
+                (λ x. IsCaller (input_at old) old.plan.now (history ++ visit ∷ []) (length (input_at old).homes + c) x)
+                (sym (ap (λ xs. get_or xs c d) items
+                ∙ set-other old.callers.items place c caller d (λ e. other (sym e))))
+                (caller-kept kept (input_at old) old.plan.now history (length (input_at old).homes + c)
+                (get_or old.callers.items c d) visit
+                (ne_eqb actor (length (input_at old).homes + c) (λ e. other (omega (arith, e, at))))
+                (stands.callers c d below))
+          ];
       calls = stands.calls;
       total = stands.total;
     }
-  where
-    cases : (a b : ℕ) → (a ≡ b) ⊎ (a ≢ b)
-    cases a b = at_test (a == b) refl
-      where
-        at_test : (t : Bool) → (a == b) ≡ t → (a ≡ b) ⊎ (a ≢ b)
-        at_test true e = inl (eqb-true a b e)
-        at_test false e = inr (λ same. never (a == b) (eq-eqb a b same) e)
-          where
-            never : (t : Bool) → t ≡ true → t ≡ false → ⊥
-            never t h g = cc
 
 -- what a turn leans on
 pub at-sub : (machine : Machine) (history : History) (actor : ℕ) (x : Subscriber) → StandsFor machine history
     → actor < length (input_at machine).homes → x ≡ get_or machine.subscribers.items actor x
     → IsSubscriber (input_at machine) machine.plan.now history actor x
 at-sub machine history actor x stands low same =
-    subst (λ y. IsSubscriber (input_at machine) machine.plan.now history actor y) (sym same) (stands.subscribers actor x low)
+    subst (λ y. IsSubscriber (input_at machine) machine.plan.now history actor y) (sym same)
+    (stands.subscribers actor x low)
 
 pub at-caller : (machine : Machine) (history : History) (actor place : ℕ) (x : Caller) → StandsFor machine history
     → actor ≡ length (input_at machine).homes + place → actor < length (input_at machine).scripts
@@ -209,7 +234,8 @@ pub at-caller : (machine : Machine) (history : History) (actor place : ℕ) (x :
     → IsCaller (input_at machine) machine.plan.now history actor x
 at-caller machine history actor place x stands at low same =
     subst (λ a. IsCaller (input_at machine) machine.plan.now history a x) (sym at)
-    (subst (λ y. IsCaller (input_at machine) machine.plan.now history (length (input_at machine).homes + place) y) (sym same)
+    (subst (λ y. IsCaller (input_at machine) machine.plan.now history (length (input_at machine).homes + place) y)
+    (sym same)
     (stands.callers place x (omega (arith, at, low, stands.together.valid.scripts))))
 
 pub ticket-is : (machine : Machine) (history : History) (ticket : ℕ) → StandsFor machine history
@@ -223,8 +249,10 @@ set-itself [] i x e h = refl
 set-itself (y ∷ xs) zero x e h = ap (λ z. z ∷ xs) e
 set-itself (y ∷ xs) (suc i) x e h = ap (λ zs. y ∷ zs) (set-itself xs i x e (omega (arith, h)))
 
-pub sub-kept-machine : (old : Machine) (history : History) (actor : ℕ) (x y : Subscriber) (cells : CellData) (subscribers : Vec Subscriber Global)
-    → StandsFor old history → actor < length (input_at old).homes → x ≡ get_or old.subscribers.items actor x → y ≡ x → cells ≡ old.cells
+pub sub-kept-machine : (old : Machine) (history : History) (actor : ℕ) (x y : Subscriber) (cells : CellData)
+    (subscribers : Vec Subscriber Global)
+    → StandsFor old history → actor < length (input_at old).homes → x ≡ get_or old.subscribers.items actor x → y ≡ x
+    → cells ≡ old.cells
     → subscribers.items ≡ slice_set old.subscribers.items actor y
     → StandsFor (record old { cells = cells; subscribers = subscribers }) history
 sub-kept-machine old history actor x y cells subscribers stands low at same kept items =
@@ -239,7 +267,9 @@ sub-kept-machine old history actor x y cells subscribers stands low at same kept
       room = stands.room;
       subscribers_count = ap length its ∙ stands.subscribers_count;
       callers_count = stands.callers_count;
-      subscribers = λ s d below. subst (λ xs. IsSubscriber (input_at old) old.plan.now history s (get_or xs s d)) (sym its) (stands.subscribers s d below);
+      subscribers =
+          λ s d below. subst (λ xs. IsSubscriber (input_at old) old.plan.now history s (get_or xs s d)) (sym its)
+          (stands.subscribers s d below);
       callers = stands.callers;
       calls = stands.calls;
       total = stands.total;
@@ -262,7 +292,9 @@ caller-kept-machine old history place x y callers stands low at same items =
       subscribers_count = stands.subscribers_count;
       callers_count = ap length its ∙ stands.callers_count;
       subscribers = stands.subscribers;
-      callers = λ c d below. subst (λ xs. IsCaller (input_at old) old.plan.now history (length (input_at old).homes + c) (get_or xs c d)) (sym its) (stands.callers c d below);
+      callers = λ c d below. subst
+          (λ xs. IsCaller (input_at old) old.plan.now history (length (input_at old).homes + c) (get_or xs c d))
+          (sym its) (stands.callers c d below);
       calls = stands.calls;
       total = stands.total;
     }

@@ -1,179 +1,44 @@
--- How far a subscriber is after a visit.
-use Rattle.std.proofs.Common.{◌≡◌, ℕ, zero, suc, ◌+◌, ◌-◌, ◌<◌, ◌≤◌, ◌==◌, Bool, true, false, cond, List, [], ◌∷◌, ◌++◌, Option, length, map, take, drop, get_or, refl, sym, ap, ◌∙◌, subst, arith, length-append}
-use Rattle.std.specs.Prelude.{Some, None, slice_get, slice_set, vec_capacity, option_map, unwrap_or}
-use Rattle.std.proofs.lemmas.Bool.{eq-eqb, lt-ltb}
-use Rattle.std.proofs.lemmas.Option.{slice_get_within, slice_get_past, unwrap_or-slice_get}
-use Rattle.std.proofs.lemmas.List.{append-nil, take_all, take-append-drop, length-take-le, length-drop, length_push, length-map, get_or_push, get_or-map, same_from_push}
+-- How far a subscriber is after a visit that goes on with a step.
+use Rattle.std.proofs.Common.{◌≡◌, ℕ, suc, ◌-◌, ◌<◌, ◌≤◌, List, [], ◌∷◌, ◌++◌, length, map, take, drop, get_or, refl, sym, ap, ◌∙◌, subst, arith}
+use Rattle.std.specs.Prelude.{Some, slice_get, slice_set, vec_capacity}
+use Rattle.std.proofs.lemmas.Option.{slice_get_within}
+use Rattle.std.proofs.lemmas.List.{take_all, take-append-drop, length-take-le, length-drop, length_push, length-map, get_or_push}
 use Rattle.std.proofs.Math.Seq.{set-append_seam}
 use Rattle.entry_word.specs.Marks.{MarksUnpack}
 use Rattle.entry_word.specs.declared.visit.Visit.{Visit}
-use Rattle.directory.specs.Settings.{Setting, start, subs}
-use Rattle.directory.specs.Courses.{Course, MayStep, MaySteps, Step, after_steps, course_at, last_stop, move_to, switch_off, switch_on}
+use Rattle.directory.specs.Settings.{Setting, start}
+use Rattle.directory.specs.Courses.{Course, after_steps, course_at}
 use Rattle.directory.specs.Histories.{History, own, tickets}
-use Rattle.directory.specs.Legal.{IsScript}
-use Rattle.directory.specs.Orders.{AreValid, Scripts, next, script_visits, steps_of}
+use Rattle.directory.specs.Orders.{next, steps_of}
 use Rattle.directory.specs.Outcomes.{step_line, step_lines}
-use Rattle.directory.specs.StepLaws.{slice_get-within, take-more, visits-append, visits_in, writes-append}
-use Rattle.directory.specs.Writes.{Write, step_writes, visit_of, visits, writes}
+use Rattle.directory.specs.Writes.{step_writes, visit_of, visits, writes}
 use Rattle.directory.specs.declared.answers.Done.{Done}
-use Rattle.directory.specs.declared.answers.Done.TheVariants.{Moved, Switched}
-use Rattle.net_reader.specs.declared.said.Call.{Call}
-use Rattle.net_reader.specs.declared.said.Call.TheVariants as calls
 use Rattle.net_reader.specs.Input.{Contents}
-use Rattle.net_reader.specs.Valid.{IsCourse, IsValid}
-use Rattle.region_plan.specs.Plan.{PlanData, nodes_of}
-use Rattle.region_plan.specs.Settings.{setting_of}
+use Rattle.region_plan.specs.Plan.{PlanData}
 use Rattle.distances.specs.Table.{DistanceTable}
-use Rattle.handset.specs.Kept.{GoesWith, HandsetData}
-use Rattle.handset.specs.Progress.{due, due_at}
-use Rattle.handset.specs.Stands.{StandsAt, StandsFor, course_of}
-use Rattle.handset.specs.declared.stage.Stage.{Stage}
-use Rattle.handset.specs.declared.stage.Stage.TheVariants.{Resting, Coming, Renewing, Committing, Confirming, Erasing, Purging, Switching}
+use Rattle.handset.specs.Kept.{GoesWith}
+use Rattle.handset.specs.Stands.{StandsFor}
 use Rattle.visit_log.specs.Cells.{CellData, GoWith, Hold}
 use Rattle.machine.specs.declared.subscriber.Subscriber.{Subscriber}
-use Rattle.machine.specs.Scripts.{scripts_of, step_of}
+use Rattle.machine.specs.Scripts.{scripts_of}
 use Rattle.machine.specs.Stands.{BelongTogether, setting_in}
-use Rattle.machine.specs.Subscribers.{IsSubscriber, MayBegin, begun_line, begun_steps, is_commit, line_after}
+use Rattle.machine.specs.Subscribers.{IsSubscriber, begun_steps, is_commit, line_after}
 use Rattle.machine.proofs.Looked.{TicketsGrow}
-use Rattle.machine.proofs.ScriptLaws.{scripts-valid, steps-are}
-use Rattle.machine.proofs.Steps.{line-grows, lines-partial, may-at, some-write}
-
--- an actor's own visits after a visit
-abbrev pub OwnGrow : Type 0
-OwnGrow = (actor : ℕ) (history : History) (visit : Visit)
-    → own actor (history ++ visit ∷ []) ≡ own actor history ++ cond (visit.actor == actor) (visit ∷ []) []
-
--- and its tickets are as many
-abbrev pub TicketsAreOwn : Type 0
-TicketsAreOwn = (actor : ℕ) (history : History)
-    → map (slice_get history) (tickets actor history) ≡ map Some (own actor history)
-
-pub tickets-count : TicketsAreOwn → (actor : ℕ) (history : History)
-    → length (tickets actor history) ≡ length (own actor history)
-tickets-count law actor history =
-    sym (length-map (tickets actor history) (slice_get history))
-    ∙ (ap length (law actor history) ∙ length-map (own actor history) Some)
-
--- whose turn it is
-pub next-sub : (setting : Setting) (scripts : Scripts) (history : History) (actor : ℕ) → actor < subs setting
-    → next setting scripts history actor ≡ slice_get (script_visits setting scripts actor)
-    (length (own actor history))
-next-sub setting scripts history actor low = rw (lt-ltb actor (subs setting) low) refl
-
--- elements of joined lists
-get-left : {A : Type 0} (xs ys : List A) (i : ℕ) (x : A) → slice_get xs i ≡ Some x → slice_get (xs ++ ys) i ≡ Some x
-get-left [] ys i x h = cc
-get-left (y ∷ xs) ys zero x h = h
-get-left (y ∷ xs) ys (suc i) x h = get-left xs ys i x h
-
-get-right : {A : Type 0} (xs ys : List A) (i j : ℕ) → i ≡ length xs + j → slice_get (xs ++ ys) i ≡ slice_get ys j
-get-right [] ys i j h = let e : i ≡ j = omega (arith, h) in ap (slice_get ys) e
-get-right (x ∷ xs) ys zero j h = absurd (omega (arith, h))
-get-right (x ∷ xs) ys (suc i) j h = get-right xs ys i j (omega (arith, h))
-
-actor-of : (sub : ℕ) (ws : List Write) (i : ℕ) (visit : Visit) → slice_get (map (visit_of sub) ws) i ≡ Some visit
-    → visit.actor ≡ sub
-actor-of sub [] i visit h = cc
-actor-of sub (w ∷ ws) zero visit h = let e : visit_of sub w ≡ visit = cc in sym (ap (λ (v : Visit). v.actor) e)
-actor-of sub (w ∷ ws) (suc i) visit h = actor-of sub ws i visit h
-
--- a list that isn't empty has a last element
-pub record HasLast (steps : List Step) : Type 0 where
-  pub before : List Step
-  pub last : Step
-  pub are : steps ≡ before ++ last ∷ []
-
-has-last : (x : Step) (xs : List Step) → HasLast (x ∷ xs)
-has-last x [] = record { before = []; last = x; are = refl }
-has-last x (y ∷ ys) = let deep = has-last y ys in
-    record { before = x ∷ deep.before; last = deep.last; are = ap (λ zs. x ∷ zs) deep.are }
-
-steps-last : (setting : Setting) (sub n : ℕ) (steps : List Step) (visit : Visit)
-    → slice_get (visits setting sub steps) n ≡ Some visit → HasLast steps
-unfolding writes
-steps-last setting sub n [] visit h = cc
-steps-last setting sub n (step ∷ steps) visit h = has-last step steps
-
--- the visits of the first steps of a script are its first visits
-in-script : (setting : Setting) (sub k n : ℕ) (steps : List Step) (visit : Visit)
-    → slice_get (visits setting sub (take k steps)) n ≡ Some visit → slice_get (visits setting sub steps) n ≡ Some visit
-in-script setting sub k n steps visit h =
-    ap (λ ss. slice_get (visits setting sub ss) n) (sym (take-append-drop k steps))
-    ∙ (ap (λ vs. slice_get vs n) (visits-append setting sub (course_at (start setting sub)) (take k steps) (drop k steps))
-    ∙ get-left (visits setting sub (take k steps)) _ n visit h)
-
--- the visits of the last of some steps
-last-visit : (setting : Setting) (sub n : ℕ) (before : List Step) (step : Step) (visit : Visit)
-    → length (writes setting (course_at (start setting sub)) before) ≤ n
-    → slice_get (visits setting sub (before ++ step ∷ [])) n ≡ Some visit
-    → slice_get (map (visit_of sub) (step_writes setting (after_steps setting (course_at (start setting sub)) before) step))
-    (n - length (writes setting (course_at (start setting sub)) before)) ≡ Some visit
-unfolding writes
-last-visit setting sub n before step visit past h =
-    let course : Course = course_at (start setting sub) in
-    let back : n ≡ length (map (visit_of sub) (writes setting course before))
-    + (n - length (writes setting course before)) =
-    omega (arith, past, length-map (writes setting course before) (visit_of sub)) in
-    let only : writes setting (after_steps setting course before) (step ∷ [])
-    ≡ step_writes setting (after_steps setting course before) step =
-    append-nil (step_writes setting (after_steps setting course before) step) in
-    ap (λ ws. slice_get (map (visit_of sub) ws) (n - length (writes setting course before))) (sym only)
-    ∙ (sym (get-right (map (visit_of sub) (writes setting course before))
-    (visits_in setting sub (after_steps setting course before) (step ∷ [])) n (n - length (writes setting course before)) back)
-    ∙ (ap (λ vs. slice_get vs n) (sym (visits-append setting sub course before (step ∷ []))) ∙ h))
-
--- what is known of a subscriber after a visit of its own
-pub record Seen (input : Contents) (plan : PlanData) (history : History) (sub : ℕ) (visit : Visit) : Type 0 where
-  pub turn : next (setting_in input plan) (scripts_of input) history sub ≡ Some visit
-  pub count : length (own sub (history ++ visit ∷ [])) ≡ suc (length (own sub history))
-  pub seen : tickets sub (history ++ visit ∷ []) ≡ tickets sub history ++ length history ∷ []
-
-pub seen-after : OwnGrow → TicketsGrow → (input : Contents) (plan : PlanData) (history : History) (sub k : ℕ)
-    (visit : Visit) → sub < length input.homes
-    → slice_get (visits (setting_in input plan) sub (take k (steps_of (scripts_of input) sub)))
-    (length (own sub history)) ≡ Some visit
-    → Seen input plan history sub visit
-seen-after own_law ticket_law input plan history sub k visit low at =
-    let mine : (visit.actor == sub) ≡ true = eq-eqb visit.actor sub (actor-of sub _ (length (own sub history)) visit at) in
-    record {
-      turn = next-sub (setting_in input plan) (scripts_of input) history sub low
-          ∙ in-script (setting_in input plan) sub k (length (own sub history)) (steps_of (scripts_of input) sub) visit at;
-      count = ap length (own_law sub history visit ∙ ap (λ b. own sub history ++ cond b (visit ∷ []) []) mine)
-          ∙ omega (arith, length_push (own sub history) visit);
-      seen = ticket_law sub history visit ∙ ap (λ b. tickets sub history ++ cond b (length history ∷ []) []) mine;
-    }
-
--- a step of a valid script, where it comes
-step-allowed : (input : Contents) (plan : PlanData) (distances : DistanceTable) (sub k : ℕ) (before : List Step) (step : Step)
-    → BelongTogether input plan distances → sub < length input.homes
-    → take k (steps_of (scripts_of input) sub) ≡ before ++ step ∷ []
-    → MayStep (setting_in input plan) (after_steps (setting_in input plan) (course_at (start (setting_in input plan) sub)) before) step
-    × (last_stop (after_steps (setting_in input plan) (course_at (start (setting_in input plan) sub)) before) < nodes_of plan)
-step-allowed input plan distances sub k before step together low same =
-    let valid : AreValid (setting_in input plan) (scripts_of input) =
-    scripts-valid input plan together.valid together.nodes in
-    let script : IsScript (setting_in input plan) sub (steps_of (scripts_of input) sub) = valid.steps sub low in
-    let whole : steps_of (scripts_of input) sub ≡ before ++ step ∷ drop k (steps_of (scripts_of input) sub) =
-    sym (take-append-drop k (steps_of (scripts_of input) sub))
-    ∙ (ap (λ ss. ss ++ drop k (steps_of (scripts_of input) sub)) same ∙ assoc before step (drop k (steps_of (scripts_of input) sub))) in
-    may-at (setting_in input plan) (course_at (start (setting_in input plan) sub)) before step
-    (drop k (steps_of (scripts_of input) sub))
-    (subst (MaySteps (setting_in input plan) (course_at (start (setting_in input plan) sub))) whole script.allowed)
-    script.begins
-  where
-    assoc : (xs : List Step) (x : Step) (ys : List Step) → (xs ++ x ∷ []) ++ ys ≡ xs ++ x ∷ ys
-    assoc [] x ys = refl
-    assoc (y ∷ xs) x ys = ap (λ zs. y ∷ zs) (assoc xs x ys)
+use Rattle.machine.proofs.Steps.{line-grows, lines-partial}
+use Rattle.machine.proofs.Seen.{HasLast, OwnGrow, Seen, TicketsAreOwn, last-visit, seen-after, step-allowed, steps-last, tickets-count}
 
 -- the lines of a subscriber with a step under way, now and a visit later
-pub record Under (input : Contents) (plan : PlanData) (history : History) (sub : ℕ) (old : Subscriber) (visit : Visit) : Type 0 where
+pub record Under (input : Contents) (plan : PlanData) (history : History) (sub : ℕ) (old : Subscriber)
+    (visit : Visit) : Type 0 where
   pub rows : List Done
   pub row : Done
   pub are : old.lines.items ≡ rows ++ row ∷ []
-  pub then : step_lines (setting_in input plan) sub (course_at (start (setting_in input plan) sub)) (begun_steps input sub old)
+  pub then : step_lines (setting_in input plan) sub (course_at (start (setting_in input plan) sub))
+      (begun_steps input sub old)
       (tickets sub history ++ length history ∷ []) ≡ rows ++ line_after row (is_commit visit.act) (length history) ∷ []
 
-pub under-way : MarksUnpack → TicketsAreOwn → (input : Contents) (plan : PlanData) (distances : DistanceTable) (history : History) (sub : ℕ)
+pub under-way : MarksUnpack → TicketsAreOwn
+    → (input : Contents) (plan : PlanData) (distances : DistanceTable) (history : History) (sub : ℕ)
     (old : Subscriber) (visit : Visit) → BelongTogether input plan distances → sub < length input.homes
     → IsSubscriber input plan history sub old
     → slice_get (visits (setting_in input plan) sub (begun_steps input sub old)) (length (own sub history)) ≡ Some visit
@@ -181,14 +46,17 @@ pub under-way : MarksUnpack → TicketsAreOwn → (input : Contents) (plan : Pla
 under-way unpack own_law input plan distances history sub old visit together low its at =
     let setting : Setting = setting_in input plan in
     let course : Course = course_at (start setting sub) in
-    let split : HasLast (begun_steps input sub old) = steps-last setting sub (length (own sub history)) (begun_steps input sub old) visit at in
-    let past : length (writes setting course split.before) < length (own sub history) = its.under split.before split.last split.are in
+    let split : HasLast (begun_steps input sub old) =
+    steps-last setting sub (length (own sub history)) (begun_steps input sub old) visit at in
+    let past : length (writes setting course split.before) < length (own sub history) =
+    its.under split.before split.last split.are in
     let after : Course = after_steps setting course split.before in
     let count : length (tickets sub history) ≡ length (own sub history) = tickets-count own_law sub history in
     let n : ℕ = length (writes setting course split.before) in
     let p : List ℕ = drop n (tickets sub history) in
     let size : length p ≡ length (own sub history) - n = length-drop n (tickets sub history) ∙ ap (λ k. k - n) count in
-    let front : length (take n (tickets sub history)) ≡ n = length-take-le n (tickets sub history) (omega (arith, past, count)) in
+    let front : length (take n (tickets sub history)) ≡ n =
+    length-take-le n (tickets sub history) (omega (arith, past, count)) in
     let here : slice_get (map (visit_of sub) (step_writes setting after split.last)) (length p) ≡ Some visit =
     ap (slice_get (map (visit_of sub) (step_writes setting after split.last))) size
     ∙ last-visit setting sub (length (own sub history)) split.before split.last visit (omega (arith, past))
@@ -199,8 +67,10 @@ under-way unpack own_law input plan distances history sub old visit together low
       slice_get_within (map (visit_of sub) (step_writes setting after split.last)) (length p) visit here,
       length-map (step_writes setting after split.last) (visit_of sub),
     ) in
-    let may = step-allowed input plan distances sub (length old.lines.items) split.before split.last together low split.are in
-    let parts : tickets sub history ≡ take n (tickets sub history) ++ p = sym (take-append-drop n (tickets sub history)) in
+    let may = step-allowed input plan distances sub
+    (length old.lines.items) split.before split.last together low split.are in
+    let parts : tickets sub history ≡ take n (tickets sub history) ++ p =
+    sym (take-append-drop n (tickets sub history)) in
     record {
       rows = step_lines setting sub course split.before (take n (tickets sub history));
       row = step_line setting sub after split.last p;
@@ -208,14 +78,18 @@ under-way unpack own_law input plan distances history sub old visit together low
           ∙ (ap (λ ss. step_lines setting sub course ss (tickets sub history)) split.are
           ∙ (ap (step_lines setting sub course (split.before ++ split.last ∷ [])) parts
           ∙ (lines-partial setting sub course split.before split.last (take n (tickets sub history)) p front
-          ∙ ap (λ q. step_lines setting sub course split.before (take n (tickets sub history)) ++ step_line setting sub after split.last q ∷ [])
+          ∙ ap (λ q. step_lines setting sub course split.before (take n (tickets sub history))
+          ++ step_line setting sub after split.last q ∷ [])
           (take_all (length (step_writes setting after split.last)) p (omega (arith, room))))));
       then = ap (λ ss. step_lines setting sub course ss (tickets sub history ++ length history ∷ [])) split.are
           ∙ (ap (step_lines setting sub course (split.before ++ split.last ∷ []))
           (ap (λ ts. ts ++ length history ∷ []) parts ∙ assoc (take n (tickets sub history)) p (length history))
-          ∙ (lines-partial setting sub course split.before split.last (take n (tickets sub history)) (p ++ length history ∷ []) front
-          ∙ (ap (λ q. step_lines setting sub course split.before (take n (tickets sub history)) ++ step_line setting sub after split.last q ∷ [])
-          (take_all (length (step_writes setting after split.last)) (p ++ length history ∷ []) (omega (arith, room, length_push p (length history))))
+          ∙ (lines-partial setting sub course split.before split.last (take n (tickets sub history))
+          (p ++ length history ∷ []) front
+          ∙ (ap (λ q. step_lines setting sub course split.before (take n (tickets sub history))
+          ++ step_line setting sub after split.last q ∷ [])
+          (take_all (length (step_writes setting after split.last)) (p ++ length history ∷ [])
+          (omega (arith, room, length_push p (length history))))
           ∙ ap (λ l. step_lines setting sub course split.before (take n (tickets sub history)) ++ l ∷ [])
           (line-grows unpack setting sub after split.last p (length history) visit may.0
           (omega (arith, together.matched.metric.few)) may.1 (omega (arith, size, past)) here))));
@@ -227,18 +101,23 @@ under-way unpack own_law input plan distances history sub old visit together low
 
 -- so a step goes on
 pub written-on : MarksUnpack → OwnGrow → TicketsGrow → TicketsAreOwn → (input : Contents) (plan : PlanData)
-    (distances : DistanceTable) (after : CellData) (history : History) (sub ticket last : ℕ) (old new : Subscriber) (visit : Visit) (line default : Done)
+    (distances : DistanceTable) (after : CellData) (history : History) (sub ticket last : ℕ) (old new : Subscriber)
+    (visit : Visit) (line default : Done)
     → BelongTogether input plan distances → sub < length input.homes → length history ≡ ticket
     → IsSubscriber input plan history sub old
-    → slice_get (visits (setting_in input plan) old.handset.sub (begun_steps input sub old)) (length (own sub history)) ≡ Some visit
+    → slice_get (visits (setting_in input plan) old.handset.sub (begun_steps input sub old)) (length (own sub history))
+    ≡ Some visit
     → StandsFor (setting_in input plan) new.handset (begun_steps input sub old) (suc (length (own sub history)))
     → GoesWith plan new.handset → new.handset.sub ≡ old.handset.sub
     → new.lines.items ≡ slice_set old.lines.items last line → vec_capacity old.lines ≤ vec_capacity new.lines
-    → suc last ≡ length old.lines.items → line ≡ line_after (get_or old.lines.items last default) (is_commit visit.act) ticket
+    → suc last ≡ length old.lines.items
+    → line ≡ line_after (get_or old.lines.items last default) (is_commit visit.act) ticket
     → GoWith plan after → Hold plan input.homes after (history ++ visit ∷ [])
     → (v : Visit) × (next (setting_in input plan) (scripts_of input) history sub ≡ Some v)
-    × IsSubscriber input plan (history ++ v ∷ []) sub new × GoWith plan after × Hold plan input.homes after (history ++ v ∷ [])
-written-on unpack own_law ticket_law tell input plan distances after history sub ticket last old new visit line default together low place its at
+    × IsSubscriber input plan (history ++ v ∷ []) sub new × GoWith plan after
+    × Hold plan input.homes after (history ++ v ∷ [])
+written-on unpack own_law ticket_law tell input plan distances after history sub ticket last old new visit line default
+    together low place its at
     stands goes same lines room last_is line_is go hold =
     let setting : Setting = setting_in input plan in
     let course : Course = course_at (start setting sub) in
@@ -272,258 +151,6 @@ written-on unpack own_law ticket_law tell input plan distances after history sub
             ∙ ap (λ ss. step_lines setting sub course ss (tickets sub (history ++ visit ∷ []))) steps)));
         few = omega (arith, longer, its.few);
         under = λ before step split. omega (arith, its.under before step (steps ∙ split), seen.count);
-        room = omega (arith, its.room, room);
-      },
-      go,
-      hold,
-    )
-
--- a handset at rest
-pub record Rests (setting : Setting) (handset : HandsetData) (steps : List Step) (made : ℕ) : Type 0 where
-  pub place : handset.place ≡ last_stop (after_steps setting (course_at (start setting handset.sub)) steps)
-  pub number : handset.number ≡ length (after_steps setting (course_at (start setting handset.sub)) steps).moves
-  pub is_off : handset.is_off ≡ (after_steps setting (course_at (start setting handset.sub)) steps).is_off
-  pub all : made ≡ length (writes setting (course_at (start setting handset.sub)) steps)
-
-none-of : {A B : Type 0} (f : A → B) (o : Option A) → option_map f o ≡ None → o ≡ None
-none-of f None h = refl
-none-of f (Some x) h = cc
-
-stage-rests : (setting : Setting) (handset : HandsetData) (stage : Stage) → due_at setting handset stage ≡ None
-    → stage ≡ Resting
-stage-rests setting handset Resting h = refl
-stage-rests setting handset Coming h = cc
-stage-rests setting handset (Renewing level) h = cc
-stage-rests setting handset Committing h = cc
-stage-rests setting handset Confirming h = cc
-stage-rests setting handset (Erasing level) h = cc
-stage-rests setting handset (Purging node) h = cc
-stage-rests setting handset (Switching off) h = cc
-
-pub rests : (setting : Setting) (handset : HandsetData) (steps : List Step) (made : ℕ)
-    → StandsFor setting handset steps made → due setting handset ≡ None → Rests setting handset steps made
-rests setting handset steps made stands none =
-    let still : handset.stage ≡ Resting =
-    stage-rests setting handset handset.stage (none-of (visit_of handset.sub) (due_at setting handset handset.stage) none) in
-    let at : StandsAt setting handset Resting steps made =
-    subst (λ stage. StandsAt setting handset stage steps made) still stands in
-    let over : at.over ≡ steps = sym (append-nil at.over) ∙ sym at.begun in
-    record {
-      place = at.place ∙ ap (λ ss. last_stop (course_of setting handset.sub ss)) over;
-      number = at.number ∙ ap (λ ss. length (course_of setting handset.sub ss).moves) over;
-      is_off = at.is_off ∙ ap (λ ss. (course_of setting handset.sub ss).is_off) over;
-      all = omega (
-        arith,
-        at.few,
-        ap length at.left,
-        length-drop made (visits setting handset.sub steps),
-        length-map (writes setting (course_at (start setting handset.sub)) steps) (visit_of handset.sub),
-      );
-    }
-
--- a call that is a step
-abbrev IsStep : Call → Type 0
-IsStep (calls.Move to) = Unit {0}
-IsStep (calls.Find from sub) = ⊥
-IsStep calls.Off = Unit {0}
-IsStep calls.On = Unit {0}
-
--- a step that may come may begin
-may-begin : (plan : PlanData) (starts : List ℕ) (handset : HandsetData) (steps : List Step) (made : ℕ) (call : Call)
-    → Rests (setting_of plan starts) handset steps made → IsStep call
-    → MayStep (setting_of plan starts) (after_steps (setting_of plan starts) (course_at (start (setting_of plan starts) handset.sub)) steps) (step_of call)
-    → MayBegin plan handset call
-may-begin plan starts handset steps made (calls.Move to) at its may =
-    (may.inside, λ same. may.moving (same ∙ at.place), at.is_off ∙ may.is_on, omega (arith, may.few, at.number))
-may-begin plan starts handset steps made (calls.Find from sub) at its may = absurd its
-may-begin plan starts handset steps made calls.Off at its may = at.is_off ∙ may
-may-begin plan starts handset steps made calls.On at its may = at.is_off ∙ may
-
--- a subscriber's script has no finds
-course-steps : (format n here : ℕ) (off : Bool) (script : List Call) (k : ℕ) (d : Call)
-    → IsCourse format n here off script → k < length script → IsStep (get_or script k d)
-course-steps format n here off [] k d its low = absurd (omega (arith, low))
-course-steps format n here off (calls.Move to ∷ script) zero d its low = tt
-course-steps format n here off (calls.Find from sub ∷ script) k d its low = absurd its
-course-steps format n here off (calls.Off ∷ script) zero d its low = tt
-course-steps format n here off (calls.On ∷ script) zero d its low = tt
-course-steps format n here off (calls.Move to ∷ script) (suc k) d its low =
-    course-steps format n to off script k d its.3 (omega (arith, low))
-course-steps format n here off (calls.Off ∷ script) (suc k) d its low =
-    course-steps format n here true script k d its.2 (omega (arith, low))
-course-steps format n here off (calls.On ∷ script) (suc k) d its low =
-    course-steps format n here false script k d its.2 (omega (arith, low))
-
--- the step of the call at a place of a script
-step-at : (input : Contents) (sub k : ℕ) (call : Call) → IsValid input → sub < length input.homes
-    → k < length (get_or input.scripts sub []) → call ≡ get_or (get_or input.scripts sub []) k call
-    → slice_get (steps_of (scripts_of input) sub) k ≡ Some (step_of call)
-step-at input sub k call valid low short same =
-    let script : List Call = get_or input.scripts sub [] in
-    let found = slice_get-within (map step_of script) k (omega (arith, short, length-map script step_of)) in
-    let is : found.0 ≡ step_of call =
-    ap (λ o. unwrap_or o (step_of call)) (sym found.1)
-    ∙ (unwrap_or-slice_get (map step_of script) k (step_of call)
-    ∙ (get_or-map step_of script k call (step_of call) short ∙ ap step_of (sym same))) in
-    ap (λ ss. slice_get ss k) (steps-are input sub valid low) ∙ (found.1 ∙ ap Some is)
-
--- the call that a subscriber at rest begins
-pub record Begins (input : Contents) (plan : PlanData) (history : History) (sub : ℕ) (old : Subscriber) (call : Call) : Type 0 where
-  pub may : MayBegin plan old.handset call
-  pub line : (ticket : ℕ) → begun_line plan old.handset call ticket
-      ≡ step_line (setting_in input plan) sub (after_steps (setting_in input plan) (course_at (start (setting_in input plan) sub)) (begun_steps input sub old))
-      (step_of call) (ticket ∷ [])
-  pub more : take (suc (length old.lines.items)) (steps_of (scripts_of input) sub) ≡ begun_steps input sub old ++ step_of call ∷ []
-  pub all : length (own sub history) ≡ length (writes (setting_in input plan) (course_at (start (setting_in input plan) sub)) (begun_steps input sub old))
-
-first-line : (plan : PlanData) (starts : List ℕ) (handset : HandsetData) (steps : List Step) (made sub : ℕ) (call : Call) (ticket : ℕ)
-    → Rests (setting_of plan starts) handset steps made → handset.sub ≡ sub → IsStep call
-    → begun_line plan handset call ticket
-    ≡ step_line (setting_of plan starts) sub (after_steps (setting_of plan starts) (course_at (start (setting_of plan starts) sub)) steps)
-    (step_of call) (ticket ∷ [])
-first-line plan starts handset steps made sub call ticket at same its =
-    at_call call its
-  where
-    course : Course
-    course = after_steps (setting_of plan starts) (course_at (start (setting_of plan starts) handset.sub)) steps
-
-    swap : (step : Step) → step_line (setting_of plan starts) handset.sub (after_steps (setting_of plan starts)
-        (course_at (start (setting_of plan starts) handset.sub)) steps) step (ticket ∷ [])
-        ≡ step_line (setting_of plan starts) sub (after_steps (setting_of plan starts)
-        (course_at (start (setting_of plan starts) sub)) steps) step (ticket ∷ [])
-    swap step = ap (λ s. step_line (setting_of plan starts) s (after_steps (setting_of plan starts)
-        (course_at (start (setting_of plan starts) s)) steps) step (ticket ∷ [])) same
-
-    at_call : (c : Call) → IsStep c → begun_line plan handset c ticket
-        ≡ step_line (setting_of plan starts) sub (after_steps (setting_of plan starts)
-        (course_at (start (setting_of plan starts) sub)) steps) (step_of c) (ticket ∷ [])
-    at_call (calls.Move to) its =
-        ap (λ n. Moved handset.sub (suc n) handset.place to ((setting_of plan starts).distance handset.place to) ticket 0 ticket) at.number
-        ∙ (ap (λ p. Moved handset.sub (suc (length (after_steps (setting_of plan starts) (course_at (start (setting_of plan starts) handset.sub)) steps).moves)) p to
-        ((setting_of plan starts).distance p to) ticket 0 ticket) at.place ∙ swap (move_to to))
-    at_call (calls.Find from found) its = absurd its
-    at_call calls.Off its =
-        ap (λ n. Switched handset.sub true handset.place n ticket) at.number
-        ∙ (ap (λ p. Switched handset.sub true p (length (after_steps (setting_of plan starts) (course_at (start (setting_of plan starts) handset.sub)) steps).moves) ticket) at.place
-        ∙ swap switch_off)
-    at_call calls.On its =
-        ap (λ n. Switched handset.sub false handset.place n ticket) at.number
-        ∙ (ap (λ p. Switched handset.sub false p (length (after_steps (setting_of plan starts) (course_at (start (setting_of plan starts) handset.sub)) steps).moves) ticket) at.place
-        ∙ swap switch_on)
-
-pub begins : (input : Contents) (plan : PlanData) (distances : DistanceTable) (history : History) (sub : ℕ) (old : Subscriber) (call : Call)
-    → BelongTogether input plan distances → sub < length input.homes → IsSubscriber input plan history sub old
-    → due (setting_in input plan) old.handset ≡ None → length old.lines.items < length (get_or input.scripts sub [])
-    → call ≡ get_or (get_or input.scripts sub []) (length old.lines.items) call
-    → Begins input plan history sub old call
-begins input plan distances history sub old call together low its none short same =
-    let setting : Setting = setting_in input plan in
-    let at : Rests setting old.handset (begun_steps input sub old) (length (own sub history)) =
-    rests setting old.handset (begun_steps input sub old) (length (own sub history)) its.handset none in
-    let is_step : IsStep call = subst IsStep (sym same)
-    (course-steps input.format input.nodes (get_or input.homes sub 0) false (get_or input.scripts sub []) (length old.lines.items) call
-    (together.valid.courses sub low) short) in
-    let more : take (suc (length old.lines.items)) (steps_of (scripts_of input) sub) ≡ begun_steps input sub old ++ step_of call ∷ [] =
-    take-more (steps_of (scripts_of input) sub) (length old.lines.items) (step_of call)
-    (step-at input sub (length old.lines.items) call together.valid low short same) in
-    let allowed = step-allowed input plan distances sub (suc (length old.lines.items)) (begun_steps input sub old) (step_of call) together low more in
-    record {
-      may = may-begin plan input.homes old.handset (begun_steps input sub old) (length (own sub history)) call at is_step
-          (subst (λ s. MayStep setting (after_steps setting (course_at (start setting s)) (begun_steps input sub old)) (step_of call)) (sym its.its) allowed.0);
-      line = λ ticket. first-line plan input.homes old.handset (begun_steps input sub old) (length (own sub history)) sub call ticket at its.its is_step;
-      more = more;
-      all = at.all ∙ ap (λ s. length (writes setting (course_at (start setting s)) (begun_steps input sub old))) its.its;
-    }
-
--- nothing is left where each step is done
-pub all-written : (input : Contents) (plan : PlanData) (history : History) (sub : ℕ) (old : Subscriber)
-    → IsValid input → sub < length input.homes → IsSubscriber input plan history sub old
-    → due (setting_in input plan) old.handset ≡ None → length old.lines.items ≡ length (get_or input.scripts sub [])
-    → next (setting_in input plan) (scripts_of input) history sub ≡ None
-all-written input plan history sub old valid low its none same =
-    let setting : Setting = setting_in input plan in
-    let at : Rests setting old.handset (begun_steps input sub old) (length (own sub history)) =
-    rests setting old.handset (begun_steps input sub old) (length (own sub history)) its.handset none in
-    let whole : begun_steps input sub old ≡ steps_of (scripts_of input) sub =
-    take_all (length old.lines.items) (steps_of (scripts_of input) sub)
-    (omega (arith, same, ap length (steps-are input sub valid low), length-map (get_or input.scripts sub []) step_of)) in
-    let count : length (own sub history) ≡ length (writes setting (course_at (start setting sub)) (steps_of (scripts_of input) sub)) =
-    at.all ∙ (ap (λ s. length (writes setting (course_at (start setting s)) (begun_steps input sub old))) its.its
-    ∙ ap (λ ss. length (writes setting (course_at (start setting sub)) ss)) whole) in
-    next-sub setting (scripts_of input) history sub low
-    ∙ slice_get_past (script_visits setting (scripts_of input) sub) (length (own sub history))
-    (omega (arith, count, length-map (writes setting (course_at (start setting sub)) (steps_of (scripts_of input) sub)) (visit_of sub)))
-
--- the first visit of a step
-one-step : (setting : Setting) (course : Course) (step : Step)
-    → length (writes setting course (step ∷ [])) ≡ length (step_writes setting course step)
-unfolding writes
-one-step setting course step = ap length (append-nil (step_writes setting course step))
-
-pub first-visit : (setting : Setting) (sub n : ℕ) (steps : List Step) (step : Step)
-    → n ≡ length (writes setting (course_at (start setting sub)) steps)
-    → (visit : Visit) × (slice_get (visits setting sub (steps ++ step ∷ [])) n ≡ Some visit)
-first-visit setting sub n steps step all =
-    let course : Course = course_at (start setting sub) in
-    slice_get-within (visits setting sub (steps ++ step ∷ [])) n
-    (omega (
-      arith,
-      all,
-      some-write setting (after_steps setting course steps) step,
-      length-map (writes setting course (steps ++ step ∷ [])) (visit_of sub),
-      ap length (writes-append setting course steps (step ∷ [])),
-      length-append (writes setting course steps) (writes setting (after_steps setting course steps) (step ∷ [])),
-      one-step setting (after_steps setting course steps) step,
-    ))
-
-pub written-first : OwnGrow → TicketsGrow → TicketsAreOwn → (input : Contents) (plan : PlanData)
-    (after : CellData) (history : History) (sub ticket : ℕ) (old new : Subscriber) (call : Call) (visit : Visit) (line : Done)
-    → sub < length input.homes → length history ≡ ticket → IsSubscriber input plan history sub old → Begins input plan history sub old call
-    → slice_get (visits (setting_in input plan) old.handset.sub (begun_steps input sub old ++ step_of call ∷ [])) (length (own sub history)) ≡ Some visit
-    → StandsFor (setting_in input plan) new.handset (begun_steps input sub old ++ step_of call ∷ []) (suc (length (own sub history)))
-    → GoesWith plan new.handset → new.handset.sub ≡ old.handset.sub
-    → new.lines.items ≡ old.lines.items ++ line ∷ [] → vec_capacity old.lines ≤ vec_capacity new.lines
-    → line ≡ begun_line plan old.handset call ticket → length old.lines.items < length (steps_of (scripts_of input) sub)
-    → GoWith plan after → Hold plan input.homes after (history ++ visit ∷ [])
-    → (v : Visit) × (next (setting_in input plan) (scripts_of input) history sub ≡ Some v)
-    × IsSubscriber input plan (history ++ v ∷ []) sub new × GoWith plan after × Hold plan input.homes after (history ++ v ∷ [])
-written-first own_law ticket_law tell input plan after history sub ticket old new call visit line low place its begin at stands goes same
-    lines room line_is short go hold =
-    let setting : Setting = setting_in input plan in
-    let course : Course = course_at (start setting sub) in
-    let longer : length new.lines.items ≡ suc (length old.lines.items) =
-    omega (arith, ap length lines, length_push old.lines.items line) in
-    let steps : begun_steps input sub new ≡ begun_steps input sub old ++ step_of call ∷ [] =
-    ap (λ k. take k (steps_of (scripts_of input) sub)) longer ∙ begin.more in
-    let here : slice_get (visits setting sub (take (suc (length old.lines.items)) (steps_of (scripts_of input) sub))) (length (own sub history)) ≡ Some visit =
-    ap (λ ss. slice_get (visits setting sub ss) (length (own sub history))) begin.more
-    ∙ (ap (λ s. slice_get (visits setting s (begun_steps input sub old ++ step_of call ∷ [])) (length (own sub history))) (sym its.its) ∙ at) in
-    let seen : Seen input plan history sub visit =
-    seen-after own_law ticket_law input plan history sub (suc (length old.lines.items)) visit low here in
-    let last : Course = after_steps setting course (begun_steps input sub old) in
-    let count : length (tickets sub history) ≡ length (writes setting course (begun_steps input sub old)) =
-    tickets-count tell sub history ∙ begin.all in (
-      visit,
-      seen.turn,
-      record {
-        handset = subst (λ ss. StandsFor setting new.handset ss (length (own sub (history ++ visit ∷ [])))) (sym steps)
-            (subst (StandsFor setting new.handset (begun_steps input sub old ++ step_of call ∷ [])) (sym seen.count) stands);
-        goes = goes;
-        its = same ∙ its.its;
-        lines = lines
-            ∙ (ap (λ ls. ls ++ line ∷ []) its.lines
-            ∙ (ap (λ l. step_lines setting sub course (begun_steps input sub old) (tickets sub history) ++ l ∷ [])
-            (line_is ∙ (begin.line ticket
-            ∙ (ap (λ t. step_line setting sub last (step_of call) (t ∷ [])) (sym place)
-            ∙ ap (step_line setting sub last (step_of call)) (sym (take_all (length (step_writes setting last (step_of call))) (length history ∷ [])
-            (some-write setting last (step_of call)))))))
-            ∙ (sym (lines-partial setting sub course (begun_steps input sub old) (step_of call) (tickets sub history) (length history ∷ []) count)
-            ∙ (ap (step_lines setting sub course (begun_steps input sub old ++ step_of call ∷ [])) (sym seen.seen)
-            ∙ ap (λ ss. step_lines setting sub course ss (tickets sub (history ++ visit ∷ []))) (sym steps)))));
-        few = omega (arith, longer, short);
-        under = λ before step split.
-            let both = same_from_push (begun_steps input sub old) before (step_of call) step (sym steps ∙ split) in
-            omega (arith, ap (λ ss. length (writes setting course ss)) both.0, begin.all, seen.count);
         room = omega (arith, its.room, room);
       },
       go,

@@ -3,12 +3,15 @@
 -- keeps the actor of each ticket.
 -- Key laws: `Machine::new` (it stands for no visits), `turn` (for a turn more), `finish` (for all
 -- visits) and `outcome`, by their clauses.
-use Rattle.std.specs.Prelude.{◌≡◌, ℕ, ◌+◌, ◌<◌, ◌≤◌, [], ◌∷◌, ◌++◌, All, Some, None, length, map, slice_index_or, vec_capacity}
+use Rattle.std.specs.Prelude.{◌≡◌, ℕ, ◌+◌, ◌<◌, ◌≤◌, List, [], ◌∷◌, ◌++◌, All, Some, None, length, map, slice_get, slice_index_or, vec_capacity}
 use Rattle.entry_word.specs.declared.visit.Visit.{Visit}
 use Rattle.directory.specs.Settings.{Setting}
 use Rattle.directory.specs.Histories.{History}
 use Rattle.directory.specs.Orders.{Scripts, next}
 use Rattle.directory.specs.Outcomes.{Outcome as Result}
+use Rattle.directory.specs.declared.answers.Done.{Done}
+use Rattle.directory.specs.declared.answers.Done.TheVariants.{Moved, Switched, Found as FoundBy, Off as OffBy, Again as AgainBy}
+use Rattle.trail_laws.specs.Lines.{TellsNumber}
 use Rattle.net_reader.specs.Input.{Contents}
 use Rattle.net_reader.specs.Seen.{seen_input}
 use Rattle.net_reader.specs.Valid.{count_calls}
@@ -52,7 +55,8 @@ pub record StandsFor (machine : Machine) (history : History) : Type 0 where
   pub calls : machine.calls.items ≡ []
   pub total : count_calls (input_at machine).scripts ≤ vec_capacity machine.calls
 
--- a turn makes the actor's next visit, or none is left, and the machine stands for what it stood for
+-- a turn makes the actor's next visit, or none is left, and the machine stands for what it stood
+-- for
 abbrev pub HasTurned : Machine → Machine → History → ℕ → Turn → Type 0
 HasTurned old new history actor Finished =
     (next (setting_at old) (scripts_at old) history actor ≡ None) × StandsFor new history
@@ -70,3 +74,28 @@ IsSame old new =
 -- what an outcome says
 abbrev pub result_of : Outcome → Result
 result_of outcome = record { calls = outcome.calls.items; order = outcome.order.items }
+
+-- of two lines that tell a number of a subscriber, whoever looked for it, the one with the later
+-- last visit tells no lower number
+abbrev pub TellRisingNumbers : List Done → Type 0
+TellRisingNumbers calls =
+    (i j : ℕ) (one other : Done) → slice_get calls i ≡ Some one → slice_get calls j ≡ Some other
+    → (sub p q earlier later : ℕ) → TellsNumber one sub p earlier
+    → TellsNumber other sub q later → earlier ≤ later → p ≤ q
+
+-- the actor of a line
+abbrev pub actor_of : Done → ℕ
+actor_of (Moved actor number from to weight first commit last) = actor
+actor_of (Switched actor off node number ticket) = actor
+actor_of (FoundBy actor from sub node number level weight first last) = actor
+actor_of (OffBy actor from sub node number level weight first last) = actor
+actor_of (AgainBy actor from sub why weight first last) = actor
+
+-- of two lines of an actor that tell numbers, the one that comes later has the later last visit, so
+-- that along one actor's finds of a subscriber the numbers never fall
+abbrev pub TellInTurn : List Done → Type 0
+TellInTurn calls =
+    (i j : ℕ) (one other : Done) → i ≤ j → slice_get calls i ≡ Some one
+    → slice_get calls j ≡ Some other → actor_of one ≡ actor_of other
+    → (sub s p q earlier later : ℕ) → TellsNumber one sub p earlier → TellsNumber other s q later
+    → earlier ≤ later

@@ -95,7 +95,8 @@ pub record IsSubscriber (input : Contents) (plan : PlanData) (history : History)
   -- the step under way has made a visit
   pub under : (before : List Step) (step : Step)
       → begun_steps input sub subscriber ≡ before ++ step ∷ []
-      → length (writes (setting_in input plan) (course_at (start (setting_in input plan) sub)) before)
+      → length (writes (setting_in input plan)
+      (course_at (start (setting_in input plan) sub)) before)
       < length (own sub history)
   pub room : length (steps_of (scripts_of input) sub) ≤ vec_capacity subscriber.lines
 

@@ -21,7 +21,8 @@ use trail_laws::{entries_tell, marks_tell};
 use visit_log::PlainCells;
 use walk::Walk;
 
-/// A caller: the walk of the find that it is at, if one is left, the ticket of that find's first look, and the lines of
+/// A caller: the walk of the find that it is at, if one is left, the ticket of that find's first
+/// look, and the lines of
 /// the finds that are done.
 #[derive(Drop)]
 pub struct Caller {
@@ -39,7 +40,8 @@ impl Caller {
         plan: &Plan,
     ) -> Result<Caller, OutOfMemory>
         requires searches { All (IsSearch (nodes_of plan.now) subs) script.now }
-        ensures walk { IfOk result (λ caller. IsWalking plan.now (map find_of script.now) at_origin caller.walk) }
+        ensures walk { IfOk result
+            (λ caller. IsWalking plan.now (map find_of script.now) at_origin caller.walk) }
         ensures first { IfOk result (λ caller. caller.first ≡ None) }
         ensures lines { IfOk result (λ caller. caller.lines.items ≡ []) }
         ensures room { IfOk result (λ caller. length script.now ≤ vec_capacity caller.lines) }
@@ -64,10 +66,13 @@ impl Caller {
         requires together { BelongTogether (seen_input input.now) plan.now distances.now }
         requires high { length input.now.homes.items ≤ actor }
         requires low { actor < length input.now.scripts.items }
-        requires stands { (history : History) × Sees (seen_input input.now) plan.now cells.now history
-            × (length history ≡ ticket) × IsCaller (seen_input input.now) plan.now history actor self.old }
+        requires stands { (history : History)
+            × Sees (seen_input input.now) plan.now cells.now history
+            × (length history ≡ ticket)
+            × IsCaller (seen_input input.now) plan.now history actor self.old }
         ensures { (history : History) → Sees (seen_input input.now) plan.now cells.now history
-            → length history ≡ ticket → IsCaller (seen_input input.now) plan.now history actor self.old
+            → length history ≡ ticket
+            → IsCaller (seen_input input.now) plan.now history actor self.old
             → HasLooked (seen_input input.now) plan.now history actor self.old self.new result }
     {
         marks_tell();
@@ -75,7 +80,7 @@ impl Caller {
         every_order_is_legal();
         lines_grow();
         own_after();
-        let Some(mut walk) = self.walk else {
+        let Some(walk) = &mut self.walk else {
             return Turn::Finished;
         };
         let Some(key) = walk.next(plan) else {
@@ -84,7 +89,6 @@ impl Caller {
         walk.saw(plan, distances, cells.look(plan, key));
         let first = self.first.unwrap_or(ticket);
         let Some(found) = walk.answer() else {
-            self.walk = Some(walk);
             self.first = Some(first);
             return Turn::Visited;
         };

@@ -1,4 +1,5 @@
-//! The directory at work: the actors of an input, each with its script, and the visits that they make in any order.
+//! The directory at work: the actors of an input, each with its script, and the visits that they
+//! make in any order.
 #![tactic(auto)]
 
 mod caller;

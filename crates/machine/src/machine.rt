@@ -1,5 +1,5 @@
 //! The directory at work in one order of turns.
-ghost use Rattle.std.specs.Prelude.{All, ◌≡◌, ◌++◌, ◌+◌, ◌-◌, ◌<◌, ◌≤◌, ◌↔◌, ℕ, List, [], IfOk, None, drop, length, map, replicate, slice_index_or, vec_len, flat_map, vec_capacity};
+ghost use Rattle.std.specs.Prelude.{All, ◌≡◌, ◌∷◌, ◌++◌, ◌+◌, ◌-◌, ◌<◌, ◌≤◌, ◌↔◌, ℕ, List, [], IfOk, None, drop, length, map, replicate, slice_index_or, vec_len, flat_map, vec_capacity};
 ghost use Rattle.directory.specs.Histories.{History};
 ghost use Rattle.directory.specs.Orders.{after_turn, after_turns, history_of, last_turns, most_turns, next, IsDone};
 ghost use Rattle.directory.specs.Outcomes.{outcome_in};
@@ -7,7 +7,7 @@ ghost use Rattle.net_reader.specs.Seen.{seen_input};
 ghost use Rattle.net_reader.specs.Valid.{count_calls};
 ghost use Rattle.trail_laws.specs.Lines.{IsRightLine};
 ghost use Rattle.machine.specs.Callers.{IsCaller};
-ghost use Rattle.machine.specs.Machines.{HasTurned, IsSame, StandsFor, result_of, scripts_at, setting_at};
+ghost use Rattle.machine.specs.Machines.{HasTurned, IsSame, StandsFor, TellInTurn, TellRisingNumbers, result_of, scripts_at, setting_at};
 ghost use Rattle.machine.specs.Stands.{BelongTogether};
 ghost use Rattle.machine.specs.Subscribers.{IsSubscriber};
 ghost use Rattle.machine.specs.declared.caller.Caller.{Caller};
@@ -20,8 +20,8 @@ use crate::room::most_visits;
 use crate::subscriber::Subscriber;
 use crate::turn::Turn;
 use directory::{
-    Done, each_visit_is_next, lines_grow, moves_are_short, next_is_own, order_of_history,
-    own_after, turns_are_few,
+    Done, each_visit_is_next, lines_are_made, lines_grow, moves_are_short, next_is_own,
+    order_of_history, own_after, tickets_tell, turns_are_few,
 };
 use distances::Distances;
 use net_graph::OutOfMemory;
@@ -31,7 +31,8 @@ use std::alloc::{AllocError, Global};
 use trail_laws::outcomes_are_right;
 use visit_log::PlainCells;
 
-/// The actors of an input at work: the subscribers, then the callers, and the cells that they visit.
+/// The actors of an input at work: the subscribers, then the callers, and the cells that they
+/// visit.
 #[derive(Drop)]
 pub struct Machine<'a> {
     input: &'a Input,
@@ -44,7 +45,8 @@ pub struct Machine<'a> {
     order: Vec<u32>,
 }
 
-/// What became of each call, by actor and in the order of its script, and whose visit each ticket was.
+/// What became of each call, by actor and in the order of its script, and whose visit each ticket
+/// was.
 #[derive(Debug, Drop)]
 pub struct Outcome {
     pub calls: Vec<Done>,
@@ -60,7 +62,8 @@ impl<'a> Machine<'a> {
         distances: &'a Distances,
     ) -> Result<Machine<'a>, OutOfMemory>
         requires together { BelongTogether (seen_input input.now) plan.now distances.now }
-        ensures made { IfOk result (λ machine. (machine.input.now ≡ input.now) × (machine.plan.now ≡ plan.now)
+        ensures made { IfOk result
+            (λ machine. (machine.input.now ≡ input.now) × (machine.plan.now ≡ plan.now)
             × (machine.distances.now ≡ distances.now)) }
         ensures stands { IfOk result (λ machine. StandsFor machine []) }
     {
@@ -81,15 +84,18 @@ impl<'a> Machine<'a> {
         })
     }
 
-    /// An actor's next visit, if it has one left; else nothing changes.
+    /// An actor's next visit, if it has one left; else nothing changes. An actor that the input
+    /// doesn't have has none.
     pub fn turn(&mut self, actor: u32) -> Turn
         requires stands { (history : History) × StandsFor self.old history }
-        requires known { actor < length self.old.input.now.scripts.items }
         ensures finished { (history : History) → StandsFor self.old history
-            → ((result ≡ Finished) ↔ (next (setting_at self.old) (scripts_at self.old) history actor ≡ None)) }
-        ensures still { result ≡ Finished → (self.new.cells ≡ self.old.cells) × (self.new.order ≡ self.old.order) }
+            → ((result ≡ Finished)
+            ↔ (next (setting_at self.old) (scripts_at self.old) history actor ≡ None)) }
+        ensures still { result ≡ Finished
+            → (self.new.cells ≡ self.old.cells) × (self.new.order ≡ self.old.order) }
         ensures stands { (history : History) → StandsFor self.old history
-            → StandsFor self.new (after_turn (setting_at self.old) (scripts_at self.old) history actor) }
+            → StandsFor self.new
+            (after_turn (setting_at self.old) (scripts_at self.old) history actor) }
         ensures same { IsSame self.old self.new }
     {
         self.act(actor)
@@ -117,11 +123,21 @@ impl<'a> Machine<'a> {
             × ((actor : ℕ) → IsDone (setting_at self) (scripts_at self) history actor) }
         ensures result { (history : History) → StandsFor self.entry history
             → ((actor : ℕ) → IsDone (setting_at self.entry) (scripts_at self.entry) history actor)
-            → result_of result ≡ outcome_in (setting_at self.entry) (scripts_at self.entry) history }
+            → result_of result
+            ≡ outcome_in (setting_at self.entry) (scripts_at self.entry) history }
         ensures right { (history : History) → StandsFor self.entry history
             → ((actor : ℕ) → IsDone (setting_at self.entry) (scripts_at self.entry) history actor)
             → All (IsRightLine (setting_at self.entry) history) (result_of result).calls }
+        ensures numbers { (history : History) → StandsFor self.entry history
+            → ((actor : ℕ) → IsDone (setting_at self.entry) (scripts_at self.entry) history actor)
+            → TellRisingNumbers (result_of result).calls }
+        ensures in_turn { (history : History) → StandsFor self.entry history
+            → ((actor : ℕ) → IsDone (setting_at self.entry) (scripts_at self.entry) history actor)
+            → TellInTurn (result_of result).calls }
     {
+        lines_are_made();
+        lines_grow();
+        tickets_tell();
         outcomes_are_right();
         order_of_history();
         scripts_are_valid();
@@ -144,7 +160,6 @@ impl<'a> Machine<'a> {
     // The visits that are left of an actor.
     fn finish_actor(&mut self, actor: u32)
         requires stands { (history : History) × StandsFor self.old history }
-        requires known { actor < length self.old.input.now.scripts.items }
         ensures stands { (history : History) → StandsFor self.old history → StandsFor self.new
             (after_turns (setting_at self.old) (scripts_at self.old) history
             (replicate (most_turns (setting_at self.old) (scripts_at self.old) actor) actor)) }
@@ -158,15 +173,16 @@ impl<'a> Machine<'a> {
     // A turn, as the parts make it.
     fn act(&mut self, actor: u32) -> Turn
         requires stands { (history : History) × StandsFor self.old history }
-        requires known { actor < length self.old.input.now.scripts.items }
         ensures turned { (history : History) → StandsFor self.old history
             → HasTurned self.old self.new history actor result }
         ensures same { IsSame self.old self.new }
     {
         if (actor as usize) < self.subscribers.len() {
             self.write(actor)
-        } else {
+        } else if (actor as usize) < self.input.scripts.len() {
             self.look(actor)
+        } else {
+            Turn::Finished
         }
     }
 
@@ -196,9 +212,7 @@ impl<'a> Machine<'a> {
         match turn {
             Turn::Finished => Turn::Finished,
             Turn::Visited => {
-                if self.order.push(actor).is_err() {
-                    unreachable!()
-                }
+                log(&mut self.order, actor);
                 Turn::Visited
             }
         }
@@ -232,12 +246,21 @@ impl<'a> Machine<'a> {
         match turn {
             Turn::Finished => Turn::Finished,
             Turn::Visited => {
-                if self.order.push(actor).is_err() {
-                    unreachable!()
-                }
+                log(&mut self.order, actor);
                 Turn::Visited
             }
         }
+    }
+}
+
+// Logs whose visit the next ticket is.
+fn log(order: &mut Vec<u32>, actor: u32)
+    requires room { length order.old.items < vec_capacity order.old }
+    ensures items { order.new.items ≡ order.old.items ++ actor ∷ [] }
+    ensures capacity { vec_capacity order.old ≤ vec_capacity order.new }
+{
+    if order.push(actor).is_err() {
+        unreachable!()
     }
 }
 
@@ -249,9 +272,12 @@ fn subscribers_of(
     distances: &Distances,
 ) -> Result<Vec<Subscriber>, OutOfMemory>
     requires together { BelongTogether (seen_input input.now) plan.now distances.now }
-    ensures count { IfOk result (λ subscribers. vec_len subscribers ≡ length input.now.homes.items) }
-    ensures each { IfOk result (λ subscribers. (s : ℕ) (d : Subscriber) → s < length input.now.homes.items
-        → IsSubscriber (seen_input input.now) plan.now [] s (slice_index_or subscribers.items s d)) }
+    ensures count { IfOk result
+        (λ subscribers. vec_len subscribers ≡ length input.now.homes.items) }
+    ensures each { IfOk result
+        (λ subscribers. (s : ℕ) (d : Subscriber) → s < length input.now.homes.items
+        → IsSubscriber (seen_input input.now) plan.now [] s
+        (slice_index_or subscribers.items s d)) }
 {
     let mut subscribers = Vec::new(alloc);
     for sub in 0..input.homes.len() as u32 {
@@ -271,7 +297,8 @@ fn callers_of(
     requires together { BelongTogether (seen_input input.now) plan.now distances.now }
     ensures count { IfOk result (λ callers. vec_len callers ≡ input.now.callers) }
     ensures each { IfOk result (λ callers. (c : ℕ) (d : Caller) → c < input.now.callers
-        → IsCaller (seen_input input.now) plan.now [] (length input.now.homes.items + c) (slice_index_or callers.items c d)) }
+        → IsCaller (seen_input input.now) plan.now [] (length input.now.homes.items + c)
+        (slice_index_or callers.items c d)) }
 {
     let subs = input.homes.len();
     let mut callers = Vec::new(alloc);
@@ -284,7 +311,8 @@ fn callers_of(
 
 // How many calls scripts have.
 fn count_calls(scripts: &[Vec<Call>]) -> Result<usize, OutOfMemory>
-    ensures { IfOk result (λ count. count ≡ count_calls (map (λ script. script.items) scripts.now)) }
+    ensures { IfOk result
+        (λ count. count ≡ count_calls (map (λ script. script.items) scripts.now)) }
 {
     let mut count = 0usize;
     for script in scripts {
@@ -306,9 +334,11 @@ fn push_lines(calls: &mut Vec<Done>, lines: &[Done])
 
 // The lines of all subscribers behind others.
 fn push_steps(calls: &mut Vec<Done>, subscribers: &[Subscriber])
-    requires room { length calls.old.items + length (flat_map (λ one. one.lines.items) subscribers.now)
+    requires room { length calls.old.items + length
+        (flat_map (λ one. one.lines.items) subscribers.now)
         ≤ vec_capacity calls.old }
-    ensures items { calls.new.items ≡ calls.old.items ++ flat_map (λ one. one.lines.items) subscribers.now }
+    ensures items { calls.new.items
+        ≡ calls.old.items ++ flat_map (λ one. one.lines.items) subscribers.now }
     ensures capacity { vec_capacity calls.old ≤ vec_capacity calls.new }
 {
     'subscribers: for subscriber in subscribers {
@@ -320,7 +350,8 @@ fn push_steps(calls: &mut Vec<Done>, subscribers: &[Subscriber])
 fn push_finds(calls: &mut Vec<Done>, callers: &[Caller])
     requires room { length calls.old.items + length (flat_map (λ one. one.lines.items) callers.now)
         ≤ vec_capacity calls.old }
-    ensures items { calls.new.items ≡ calls.old.items ++ flat_map (λ one. one.lines.items) callers.now }
+    ensures items { calls.new.items
+        ≡ calls.old.items ++ flat_map (λ one. one.lines.items) callers.now }
     ensures capacity { vec_capacity calls.old ≤ vec_capacity calls.new }
 {
     'callers: for caller in callers {

@@ -25,7 +25,8 @@ fn most_of(plan: &Plan, call: Call) -> u64
 // The most visits of a script.
 pub fn most_of_script(plan: &Plan, script: &[Call]) -> Result<u64, OutOfMemory>
     requires inside { AreInside (nodes_of plan.now) script.now }
-    ensures { IfOk result (λ most. (starts : List ℕ) → most ≡ most_in (setting_of plan.now starts) script.now) }
+    ensures { IfOk result
+        (λ most. (starts : List ℕ) → most ≡ most_in (setting_of plan.now starts) script.now) }
 {
     let mut most = 0u64;
     for call in script {

@@ -44,7 +44,8 @@ impl Subscriber {
         plan: &Plan,
     ) -> Result<Subscriber, OutOfMemory>
         requires node { home < nodes_of plan.now }
-        ensures handset { IfOk result (λ subscriber. (starts : List ℕ) → slice_index starts sub ≡ home
+        ensures handset { IfOk result
+            (λ subscriber. (starts : List ℕ) → slice_index starts sub ≡ home
             → StandsFor (setting_of plan.now starts) subscriber.handset [] 0) }
         ensures goes { IfOk result (λ subscriber. GoesWith plan.now subscriber.handset) }
         ensures its { IfOk result (λ subscriber. subscriber.handset.sub ≡ sub) }
@@ -69,11 +70,15 @@ impl Subscriber {
     ) -> Turn
         requires together { BelongTogether (seen_input input.now) plan.now distances.now }
         requires low { sub < length input.now.homes.items }
-        requires stands { (history : History) × Sees (seen_input input.now) plan.now cells.old history
-            × (length history ≡ ticket) × IsSubscriber (seen_input input.now) plan.now history sub self.old }
+        requires stands { (history : History)
+            × Sees (seen_input input.now) plan.now cells.old history
+            × (length history ≡ ticket)
+            × IsSubscriber (seen_input input.now) plan.now history sub self.old }
         ensures { (history : History) → Sees (seen_input input.now) plan.now cells.old history
-            → length history ≡ ticket → IsSubscriber (seen_input input.now) plan.now history sub self.old
-            → HasWritten (seen_input input.now) plan.now history sub self.old self.new cells.old cells.new result }
+            → length history ≡ ticket
+            → IsSubscriber (seen_input input.now) plan.now history sub self.old
+            → HasWritten (seen_input input.now) plan.now history sub self.old self.new
+            cells.old cells.new result }
     {
         own_after();
         tickets_tell();
@@ -99,11 +104,15 @@ impl Subscriber {
         requires together { BelongTogether (seen_input input.now) plan.now distances.now }
         requires low { sub < length input.now.homes.items }
         requires rests { due (setting_of plan.now []) self.old.handset ≡ None }
-        requires stands { (history : History) × Sees (seen_input input.now) plan.now cells.old history
-            × (length history ≡ ticket) × IsSubscriber (seen_input input.now) plan.now history sub self.old }
+        requires stands { (history : History)
+            × Sees (seen_input input.now) plan.now cells.old history
+            × (length history ≡ ticket)
+            × IsSubscriber (seen_input input.now) plan.now history sub self.old }
         ensures { (history : History) → Sees (seen_input input.now) plan.now cells.old history
-            → length history ≡ ticket → IsSubscriber (seen_input input.now) plan.now history sub self.old
-            → HasWritten (seen_input input.now) plan.now history sub self.old self.new cells.old cells.new result }
+            → length history ≡ ticket
+            → IsSubscriber (seen_input input.now) plan.now history sub self.old
+            → HasWritten (seen_input input.now) plan.now history sub self.old self.new
+            cells.old cells.new result }
     {
         own_after();
         tickets_tell();
@@ -142,7 +151,8 @@ fn make(handset: &mut Handset, plan: &Plan, cells: &mut PlainCells) -> Option<Vi
         → StandsFor (setting_of plan.now starts) handset.new steps (suc made)) }
     ensures hold { OnSome result ((starts : List ℕ) (history : History)
         → Hold plan.now starts cells.old history
-        → (visit : Visit) → result ≡ Some visit → Hold plan.now starts cells.new (history ++ visit ∷ [])) }
+        → (visit : Visit) → result ≡ Some visit
+        → Hold plan.now starts cells.new (history ++ visit ∷ [])) }
 {
     let visit = handset.next(plan)?;
     handset.made(plan);
@@ -198,10 +208,12 @@ fn begin_step(
 fn switch(handset: &mut Handset, off: bool, ticket: u64) -> Done
     requires rests { (plan : PlanData) × (due (setting_of plan []) handset.old ≡ None) }
     requires other { handset.old.is_off ≡ not off }
-    ensures line { result ≡ Switched handset.old.sub off handset.old.place handset.old.number ticket }
+    ensures line { result
+        ≡ Switched handset.old.sub off handset.old.place handset.old.number ticket }
     ensures goes { (plan : PlanData) → GoesWith plan handset.old → GoesWith plan handset.new }
     ensures its { handset.new.sub ≡ handset.old.sub }
-    ensures stands { (setting : Setting) (steps : List Step) (made : ℕ) → StandsFor setting handset.old steps made
+    ensures stands { (setting : Setting) (steps : List Step) (made : ℕ)
+        → StandsFor setting handset.old steps made
         → StandsFor setting handset.new (steps ++ switch_to off ∷ []) made }
 {
     if handset.switch(off).is_err() {

@@ -1,4 +1,4 @@
-// A subscriber that moves and a caller that finds it, over the line 0 - 1 - 2 - 3 of unit weights.
+// Whole runs of a few actors: what becomes of their calls, and whose turns are idle.
 ghost use Rattle.std.specs.Prelude.{◌≡◌, ◌<◌, ℕ, [], IfOk, length};
 ghost use Rattle.directory.specs.Orders.{IsDone};
 ghost use Rattle.directory.specs.Histories.{History};
@@ -8,17 +8,20 @@ ghost use Rattle.region_plan.specs.Matched.{BoundsFinds};
 ghost use Rattle.region_plan.specs.Plan.{nodes_of};
 ghost use Rattle.machine.specs.Machines.{StandsFor, scripts_at, setting_at};
 
-use crate::{Machine, Turn};
-use directory::all_scripts_done;
+use crate::{Machine, Outcome, Turn};
+use directory::{Done, Why, all_scripts_done};
 use distances::Distances;
-use net_graph::{Graph, GraphFault};
+use net_graph::Graph;
 use net_reader::{Input, MAX_BYTES, inputs_are_valid, read_input};
 use region_plan::Plan;
 use std::alloc::{AllocError, Global};
 use std::test::Fail;
 
-const TEXT: &str =
-    "track 1\nnodes 4\nk 2\nedge 0 1 1\nedge 1 2 1\nedge 2 3 1\nsub 3\ncallers 1\nmove 0 2\nfind 1 3 0\n";
+// The line 0 - 1 - 2 - 3 of unit weights, with one subscriber at 3 and one caller, actor 1.
+const LINE: &str = "nodes 4\nk 2\nedge 0 1 1\nedge 1 2 1\nedge 2 3 1\nsub 3\ncallers 1\n";
+
+// Two nodes, three subscribers at 0, 1 and 1, and 64 callers, of which actor 66 is the last.
+const CROWD: &str = "nodes 2\nk 2\nedge 0 1 1\nsub 0\nsub 1\nsub 1\ncallers 64\n";
 
 // The input of a text.
 fn input_of(alloc: Global, text: &[u8]) -> Result<Input, Fail>
@@ -50,36 +53,156 @@ fn plan_of(alloc: Global, input: &Input) -> Result<(Plan, Distances), Fail>
     Ok((plan, distances))
 }
 
-// The visits that are left of all actors, from the first on.
-fn finish(machine: &mut Machine<'_>)
+// The turns of an order, and the visits that are left.
+fn play(machine: &mut Machine<'_>, order: &[u32])
     requires { StandsFor machine.old [] }
     ensures { (history : History) × StandsFor machine.new history
         × ((actor : ℕ) → IsDone (setting_at machine.new) (scripts_at machine.new) history actor) }
 {
     all_scripts_done();
+    'order: for actor in order {
+        machine.turn(*actor);
+    }
     machine.finish();
+}
+
+// What becomes of these calls, of this format, over a network with its actors.
+fn outcome_of(alloc: Global, format: &str, network: &str, calls: &str) -> Result<Outcome, Fail> {
+    let mut text = String::from_str(alloc, format)?;
+    text.push_str(network)?;
+    text.push_str(calls)?;
+    let input = input_of(alloc, text.as_bytes())?;
+    let (plan, distances) = plan_of(alloc, &input)?;
+    let mut machine = Machine::new(alloc, &input, &plan, &distances)?;
+    play(&mut machine, &input.order);
+    Ok(machine.outcome())
 }
 
 #[test]
 fn a_move_and_a_find(rt: HostRuntime) -> Result<(), Fail> {
-    let alloc = rt.alloc();
-    let input = input_of(alloc, TEXT.as_bytes())?;
-    let (plan, distances) = plan_of(alloc, &input)?;
-    let mut machine = Machine::new(alloc, &input, &plan, &distances)?;
-    finish(&mut machine);
-    let outcome = machine.outcome();
-    assert_eq!(rt; outcome.calls.len(), 2);
+    let outcome = outcome_of(rt.alloc(), "track 1\n", LINE, "move 0 2\nfind 1 3 0\n")?;
+    let wanted = [
+        Done::Moved {
+            actor: 0,
+            number: 1,
+            from: 3,
+            to: 2,
+            weight: 1,
+            first: 0,
+            commit: 3,
+            last: 5,
+        },
+        Done::Found {
+            actor: 1,
+            from: 3,
+            sub: 0,
+            node: 2,
+            number: 1,
+            level: Some(0),
+            weight: 5,
+            first: 6,
+            last: 8,
+        },
+    ];
+    assert_eq!(rt; outcome.calls.as_slice(), wanted.as_slice());
+    assert_eq!(rt;
+        outcome.order.as_slice(),
+        [0, 0, 0, 0, 0, 0, 1, 1, 1].as_slice()
+    );
     Ok(())
 }
 
 #[test]
-fn turns(rt: HostRuntime) -> Result<(), Fail> {
+fn a_find_of_a_subscriber_that_is_off(rt: HostRuntime) -> Result<(), Fail> {
+    let outcome = outcome_of(rt.alloc(), "track 2\n", LINE, "off 0\nfind 1 2 0\n")?;
+    let wanted = [
+        Done::Switched {
+            actor: 0,
+            off: true,
+            node: 3,
+            number: 0,
+            ticket: 0,
+        },
+        Done::Off {
+            actor: 1,
+            from: 2,
+            sub: 0,
+            node: 3,
+            number: 0,
+            level: Some(0),
+            weight: 5,
+            first: 1,
+            last: 4,
+        },
+    ];
+    assert_eq!(rt; outcome.calls.as_slice(), wanted.as_slice());
+    Ok(())
+}
+
+// The find's third look meets a node that the second move has purged.
+#[test]
+fn a_find_that_meets_a_purge(rt: HostRuntime) -> Result<(), Fail> {
+    let calls = "move 0 2\nmove 0 0\nfind 1 3 0\norder 0 0 0 0 0 0 1 1 0 0 0 0 0 0 0 0 1\n";
+    let outcome = outcome_of(rt.alloc(), "track 1\n", LINE, calls)?;
+    let wanted = Done::Again {
+        actor: 1,
+        from: 3,
+        sub: 0,
+        why: Why::Empty { node: 2 },
+        weight: 5,
+        first: 6,
+        last: 16,
+    };
+    assert_eq!(rt; outcome.calls.get(2).copied(), Some(wanted));
+    assert_eq!(rt; outcome.order.len(), 17);
+    Ok(())
+}
+
+#[test]
+fn a_crowd(rt: HostRuntime) -> Result<(), Fail> {
+    let outcome = outcome_of(rt.alloc(), "track 1\n", CROWD, "move 1 0\nfind 66 0 2\n")?;
+    let wanted = [
+        Done::Moved {
+            actor: 1,
+            number: 1,
+            from: 1,
+            to: 0,
+            weight: 1,
+            first: 0,
+            commit: 2,
+            last: 4,
+        },
+        Done::Found {
+            actor: 66,
+            from: 0,
+            sub: 2,
+            node: 1,
+            number: 0,
+            level: Some(0),
+            weight: 1,
+            first: 5,
+            last: 7,
+        },
+    ];
+    assert_eq!(rt; outcome.calls.as_slice(), wanted.as_slice());
+    assert_eq!(rt;
+        outcome.order.as_slice(),
+        [1, 1, 1, 1, 1, 66, 66, 66].as_slice()
+    );
+    Ok(())
+}
+
+// A subscriber without calls, a caller with one, and an actor that isn't there.
+#[test]
+fn idle_turns(rt: HostRuntime) -> Result<(), Fail> {
     let alloc = rt.alloc();
-    let input = input_of(alloc, TEXT.as_bytes())?;
+    let text = "track 1\nnodes 2\nk 2\nedge 0 1 1\nsub 1\ncallers 1\nfind 1 0 0\n";
+    let input = input_of(alloc, text.as_bytes())?;
     let (plan, distances) = plan_of(alloc, &input)?;
-    assert!(rt; input.scripts.len() == 2);
     let mut machine = Machine::new(alloc, &input, &plan, &distances)?;
-    assert!(rt; machine.turn(0) == Turn::Visited);
+    assert!(rt; machine.turn(0) == Turn::Finished);
+    assert!(rt; machine.turn(1) == Turn::Visited);
+    assert!(rt; machine.turn(2) == Turn::Finished);
     let _cells = machine.cells();
     Ok(())
 }

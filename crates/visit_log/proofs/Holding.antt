@@ -1,5 +1,5 @@
 -- What plain cells hold after a put.
-use Rattle.std.proofs.Common.{◌≡◌, ℕ, ◌<◌, Bool, true, false, cond, List, [], ◌∷◌, ◌++◌, length, refl, sym, ap, ◌∙◌, subst, arith}
+use Rattle.std.proofs.Common.{◌≡◌, ℕ, ◌<◌, Bool, true, false, cond, List, [], ◌∷◌, ◌++◌, length, refl, sym, ap, ◌∙◌, subst}
 use Rattle.std.specs.Prelude.{get_or, slice_set, ◌↔◌}
 use Rattle.std.proofs.lemmas.List.{get_or-set_same, get_or-set_other}
 use Rattle.entry_word.specs.declared.visit.Key.{Key}
@@ -10,9 +10,9 @@ use Rattle.directory.specs.Settings.{Setting}
 use Rattle.directory.specs.Histories.{History, cell, word_after}
 use Rattle.region_plan.specs.Plan.{PlanData}
 use Rattle.region_plan.specs.Settings.{setting_of}
-use Rattle.visit_log.specs.Numbers.{cell_number, IsCell}
-use Rattle.visit_log.specs.Cells.{CellData, GoWith, word_of, Hold}
-use Rattle.visit_log.proofs.Places.{cell-below, cell-apart}
+use Rattle.visit_log.specs.Numbers.{IsCell}
+use Rattle.visit_log.specs.Cells.{CellData, GoWith, Hold, slot_of, word_of}
+use Rattle.visit_log.proofs.Places.{slot-apart, slot-within}
 
 -- a cell after a put
 abbrev pub CellAfter : Type 0
@@ -24,34 +24,30 @@ SameKey = (one other : Key) → (same_key one other ≡ true) ↔ (one ≡ other
 
 pub word-after : SameKey → (plan : PlanData) (cells : CellData) (key other : Key) (word : ℕ) → GoWith plan cells
     → IsCell plan cells.subs key → IsCell plan cells.subs other
-    → word_of plan (record cells { words = slice_set cells.words (cell_number plan cells.subs key) word }) other
+    → word_of plan (record cells { words = slice_set cells.words (slot_of plan key) word }) other
     ≡ cond (same_key other key) word (word_of plan cells other)
 word-after law plan cells key other word goes mine its = at_test (same_key other key) refl
   where
     at_test : (b : Bool) → same_key other key ≡ b → get_or (slice_set cells.words
-        (cell_number plan cells.subs key) word) (cell_number plan cells.subs other) 0
+        (slot_of plan key) word) (slot_of plan other) 0
         ≡ cond b word (word_of plan cells other)
     at_test true test =
         let same : other ≡ key = (law other key).0 test in
-        let inside : cell_number plan cells.subs key < length cells.words = omega (
-          arith,
-          goes.words,
-          cell-below plan cells.subs key mine,
-        ) in
-        ap (λ k. get_or (slice_set cells.words (cell_number plan cells.subs key) word)
-        (cell_number plan cells.subs k) 0) same
-        ∙ get_or-set_same cells.words (cell_number plan cells.subs key) word 0 inside
+        let inside : slot_of plan key < length cells.words = slot-within plan cells key goes mine in
+        ap (λ k. get_or (slice_set cells.words (slot_of plan key) word)
+        (slot_of plan k) 0) same
+        ∙ get_or-set_same cells.words (slot_of plan key) word 0 inside
     at_test false test =
-        let apart : cell_number plan cells.subs other ≡ cell_number plan cells.subs key → ⊥ =
-        λ e. (let yes : same_key other key ≡ true = (law other key).1 (cell-apart plan cells.subs other key its mine
+        let apart : slot_of plan other ≡ slot_of plan key → ⊥ =
+        λ e. (let yes : same_key other key ≡ true = (law other key).1 (slot-apart plan cells.subs other key its mine
         e) in cc) in
-        get_or-set_other cells.words (cell_number plan cells.subs key) (cell_number plan cells.subs other) word 0
+        get_or-set_other cells.words (slot_of plan key) (slot_of plan other) word 0
         apart
 
 pub hold-after : SameKey → CellAfter → (plan : PlanData) (starts : List ℕ) (cells : CellData) (history : History)
     (actor word : ℕ) (key : Key) → GoWith plan cells → IsCell plan cells.subs key
     → Hold plan starts cells history
-    → Hold plan starts (record cells { words = slice_set cells.words (cell_number plan cells.subs key) word })
+    → Hold plan starts (record cells { words = slice_set cells.words (slot_of plan key) word })
     (history ++ record { actor = actor; act = Put key word } ∷ [])
 hold-after law after plan starts cells history actor word key goes mine hold = record {
   subs = hold.subs;

@@ -10,8 +10,8 @@ use Rattle.entry_word.specs.declared.visit.Key.TheVariants.{Presence, Entry}
 use Rattle.directory.specs.Keys.{same_key, key_sub, opening}
 use Rattle.region_plan.specs.Plan.{PlanData, home, levels_of}
 use Rattle.region_plan.specs.Settings.{setting_of}
-use Rattle.visit_log.specs.Numbers.{cell_number, IsPlace, IsCell}
-use Rattle.visit_log.specs.Cells.{CellData, GoWith, word_of, opened}
+use Rattle.visit_log.specs.Numbers.{IsPlace, IsCell}
+use Rattle.visit_log.specs.Cells.{CellData, GoWith, open_word, slot_of, word_of}
 use Rattle.visit_log.proofs.Holding.{SameKey, word-after}
 
 -- tests of one number more
@@ -38,7 +38,7 @@ equal-means t n h = grind (arith, nat_tests)
 
 -- the mark that is put first
 first-opened : (plan : PlanData) (sub start : ℕ) (key : Key) (word : ℕ) → cond (same_key key (Presence start sub))
-    (mark_word (Here 0)) word ≡ opened plan sub start 0 key word
+    (mark_word (Here 0)) word ≡ open_word plan sub start 0 key word
 first-opened plan sub start (Presence node other) word = refl
 first-opened plan sub start (Entry level cluster other) word =
     sym (ap (λ b. cond (b && (cluster == home plan level start && other == sub)) (address_word (Some
@@ -56,7 +56,7 @@ more-opened : (plan : PlanData) (sub start level cluster : ℕ) (key : Key) (wor
     → cond (same_key key (Entry level cluster sub)) (address_word (Some (record {
       number = 0;
       node = start;
-    }))) (opened plan sub start level key word) ≡ opened plan sub start (level + 1) key word
+    }))) (open_word plan sub start level key word) ≡ open_word plan sub start (level + 1) key word
 more-opened plan sub start level cluster (Presence node other) word same = refl
 more-opened plan sub start level cluster (Entry l c other) word same = at_test (l == level) refl
   where
@@ -90,9 +90,8 @@ pub set-first : SameKey → (plan : PlanData) (cells : CellData) (sub start word
     → GoWith plan cells → IsCell plan cells.subs (Presence start sub) → word ≡ mark_word (Here 0)
     → IsCell plan cells.subs key
     → word_of plan (record cells {
-      words = slice_set cells.words (cell_number plan cells.subs
-          (Presence start sub)) word;
-    }) key ≡ opened plan sub start 0 key (word_of plan cells key)
+      words = slice_set cells.words (slot_of plan (Presence start sub)) word;
+    }) key ≡ open_word plan sub start 0 key (word_of plan cells key)
 set-first law plan cells sub start word key goes mine same its =
     word-after law plan cells (Presence start sub) key word goes mine its
     ∙ (ap (λ w. cond (same_key key (Presence start sub)) w (word_of plan cells key)) same
@@ -101,11 +100,10 @@ set-first law plan cells sub start word key goes mine same its =
 pub set-more : SameKey → (plan : PlanData) (cells : CellData) (sub start level cluster word old : ℕ) (key : Key)
     → GoWith plan cells → IsCell plan cells.subs (Entry level cluster sub)
     → word ≡ address_word (Some (record { number = 0; node = start })) → cluster ≡ home plan level start
-    → IsCell plan cells.subs key → word_of plan cells key ≡ opened plan sub start level key old
+    → IsCell plan cells.subs key → word_of plan cells key ≡ open_word plan sub start level key old
     → word_of plan (record cells {
-      words = slice_set cells.words (cell_number plan cells.subs
-          (Entry level cluster sub)) word;
-    }) key ≡ opened plan sub start (level + 1) key old
+      words = slice_set cells.words (slot_of plan (Entry level cluster sub)) word;
+    }) key ≡ open_word plan sub start (level + 1) key old
 set-more law plan cells sub start level cluster word old key goes mine same at its so_far =
     word-after law plan cells (Entry level cluster sub) key word goes mine its
     ∙ (ap (λ w. cond (same_key key (Entry level cluster sub)) w (word_of plan cells key)) same
@@ -118,7 +116,7 @@ set-more law plan cells sub start level cluster word old key goes mine same at i
 -- the opening words of one subscriber more
 pub opened-more : (plan : PlanData) (starts : List ℕ) (sub start : ℕ) (key : Key) → 1 ≤ levels_of plan
     → IsPlace plan key → sub < length starts → start ≡ get_or starts sub 0
-    → opened plan sub start (levels_of plan) key (cond (nat_lt (key_sub key) sub) (opening
+    → open_word plan sub start (levels_of plan) key (cond (nat_lt (key_sub key) sub) (opening
     (setting_of plan starts) key) 0)
     ≡ cond (nat_lt (key_sub key) (sub + 1)) (opening (setting_of plan starts) key) 0
 opened-more plan starts sub start (Presence node other) some place inside begins = at_test (other == sub) refl

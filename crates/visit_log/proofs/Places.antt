@@ -9,6 +9,7 @@ use Rattle.entry_word.specs.declared.visit.Key.{Key}
 use Rattle.entry_word.specs.declared.visit.Key.TheVariants.{Presence, Entry}
 use Rattle.directory.specs.Keys.{key_sub}
 use Rattle.region_plan.specs.Plan.{PlanData, Level, no_level, nodes_of, levels_of, clusters_of}
+use Rattle.visit_log.specs.Cells.{CellData, GoWith, slot_of, width_of}
 use Rattle.visit_log.specs.Numbers.{clusters_below, all_clusters, place_of, cell_number, cell_count, IsPlace, IsCell}
 
 -- the clusters of a level come before those of each later one, and are among all
@@ -112,3 +113,21 @@ cell-apart plan subs key other h l same =
     number-apart (place_of plan key) (place_of plan other) subs (key_sub key)
     (key_sub other) h.known l.known same in
     same-key plan key other h.place l.place both.0 both.1
+
+-- slots of cells
+pub slot-within : (plan : PlanData) (cells : CellData) (key : Key) → GoWith plan cells → IsCell plan cells.subs key
+    → slot_of plan key < length cells.words
+slot-within plan cells key goes h =
+    omega (
+      arith,
+      goes.words,
+      number-below (key_sub key) cells.subs (width_of plan) (place_of plan key) h.known (place-below plan key h.place),
+    )
+
+pub slot-apart : (plan : PlanData) (subs : ℕ) (key other : Key) → IsCell plan subs key → IsCell plan subs other
+    → slot_of plan key ≡ slot_of plan other → key ≡ other
+slot-apart plan subs key other h l same =
+    let both : (key_sub key ≡ key_sub other) × (place_of plan key ≡ place_of plan other) =
+    number-apart (key_sub key) (key_sub other) (width_of plan) (place_of plan key) (place_of plan other)
+    (place-below plan key h.place) (place-below plan other l.place) same in
+    same-key plan key other h.place l.place both.1 both.0

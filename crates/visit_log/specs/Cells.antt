@@ -1,31 +1,42 @@
--- Plain cells: the word of each cell by its number, and for each level the place of its first
--- cluster.
+-- Plain cells: the words of all cells, those of a subscriber side by side, and for each level the
+-- place of its first cluster.
 -- Key laws: `PlainCells::look` and `put`, by their clauses `history` (they hold what a history
 -- leaves).
-use Rattle.std.specs.Prelude.{◌≡◌, ℕ, ◌+◌, ◌<◌, ◌==◌, ◌&&◌, nat_lt, if◌then◌else◌, Some, List, length, slice_index}
+use Rattle.std.specs.Prelude.{◌≡◌, ℕ, ◌+◌, ◌*◌, ◌<◌, ◌==◌, ◌&&◌, nat_lt, if◌then◌else◌, Some, List, length, slice_index}
 use Rattle.entry_word.specs.declared.visit.Key.{Key}
 use Rattle.entry_word.specs.declared.visit.Key.TheVariants.{Presence, Entry}
 use Rattle.entry_word.specs.declared.mark.PresenceMark.TheVariants.{Here}
 use Rattle.entry_word.specs.Marks.{mark_word}
 use Rattle.entry_word.specs.Addresses.{address_word}
 use Rattle.directory.specs.Histories.{History, cell}
+use Rattle.directory.specs.Keys.{key_sub}
 use Rattle.region_plan.specs.Plan.{PlanData, clusters_of, home, levels_of, nodes_of}
 use Rattle.region_plan.specs.Settings.{setting_of}
-use Rattle.visit_log.specs.Numbers.{clusters_below, cell_number, cell_count, IsCell}
+use Rattle.visit_log.specs.Numbers.{all_clusters, clusters_below, place_of, IsCell}
 
 -- what contracts see of plain cells
 pub record CellData : Type 0 where
   pub subs : ℕ
+  pub width : ℕ
   pub firsts : List ℕ
   pub words : List ℕ
+
+-- how many cells a subscriber has
+abbrev pub width_of : PlanData → ℕ
+width_of plan = nodes_of plan + all_clusters plan
+
+-- the place of a cell's word: subscriber by subscriber, and then by node or cluster
+abbrev pub slot_of : PlanData → Key → ℕ
+slot_of plan key = key_sub key * width_of plan + place_of plan key
 
 -- plain cells go with a plan: they have a word for each of its cells, and the places of its
 -- clusters
 pub record GoWith (plan : PlanData) (cells : CellData) : Type 0 where
+  pub width : cells.width ≡ width_of plan
   pub levels : length cells.firsts ≡ levels_of plan
   pub firsts : (level : ℕ) → level < levels_of plan
       → slice_index cells.firsts level ≡ nodes_of plan + clusters_below plan level
-  pub words : length cells.words ≡ cell_count plan cells.subs
+  pub words : length cells.words ≡ cells.subs * width_of plan
 
 -- each home of a plan is a cluster of its level
 abbrev pub AreHomes : PlanData → Type 0
@@ -35,7 +46,7 @@ AreHomes plan =
 
 -- the word of a cell
 abbrev pub word_of : PlanData → CellData → Key → ℕ
-word_of plan cells key = slice_index cells.words (cell_number plan cells.subs key)
+word_of plan cells key = slice_index cells.words (slot_of plan key)
 
 -- plain cells hold what a history leaves in the cells of subscribers that start at these nodes
 pub record Hold (plan : PlanData) (starts : List ℕ) (cells : CellData)
@@ -46,9 +57,9 @@ pub record Hold (plan : PlanData) (starts : List ℕ) (cells : CellData)
 
 -- the word of a cell once a subscriber is put at its start node, and its address at the homes of
 -- that node below a level
-abbrev pub opened : PlanData → ℕ → ℕ → ℕ → Key → ℕ → ℕ
-opened plan sub start limit (Presence node other) word =
+abbrev pub open_word : PlanData → ℕ → ℕ → ℕ → Key → ℕ → ℕ
+open_word plan sub start limit (Presence node other) word =
     if node == start && other == sub then mark_word (Here 0) else word
-opened plan sub start limit (Entry level cluster other) word =
+open_word plan sub start limit (Entry level cluster other) word =
     if nat_lt level limit && (cluster == home plan level start && other == sub)
     then address_word (Some (record { number = 0; node = start })) else word

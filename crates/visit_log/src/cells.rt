@@ -1,14 +1,14 @@
 //! Plain cells: one word of memory for each cell.
-ghost use Rattle.std.specs.Prelude.{◌≡◌, ◌+◌, ◌<◌, ◌≤◌, ◌++◌, ◌∷◌, [], ℕ, List, All, IfOk, length, replicate, slice_set};
+ghost use Rattle.std.specs.Prelude.{◌≡◌, ◌+◌, ◌*◌, ◌<◌, ◌≤◌, ◌++◌, ◌∷◌, [], ℕ, List, All, IfOk, length, replicate, slice_set};
 ghost use Rattle.entry_word.specs.declared.visit.Act.TheVariants.{Put};
 ghost use Rattle.entry_word.specs.declared.visit.Key.{Key};
 ghost use Rattle.directory.specs.Histories.{History, cell};
 ghost use Rattle.region_plan.specs.Plan.{levels_of, nodes_of};
 ghost use Rattle.region_plan.specs.Settings.{setting_of};
-ghost use Rattle.visit_log.specs.Numbers.{IsCell, cell_count, cell_number};
-ghost use Rattle.visit_log.specs.Cells.{AreHomes, GoWith, Hold, opened, word_of};
+ghost use Rattle.visit_log.specs.Numbers.{IsCell};
+ghost use Rattle.visit_log.specs.Cells.{AreHomes, GoWith, Hold, open_word, slot_of, width_of, word_of};
 
-use crate::numbers::{cell_count, cell_numbers, clusters_below};
+use crate::numbers::clusters_below;
 use directory::{cell_after, same_key_means};
 use entry_word::{Address, Key, PresenceMark, pack_address, pack_mark};
 use net_graph::OutOfMemory;
@@ -20,6 +20,7 @@ use std::marker::Model;
 #[derive(Drop)]
 pub struct PlainCells {
     subs: u32,
+    width: u32,
     firsts: Vec<u32>,
     words: Vec<u64>,
 }
@@ -29,7 +30,12 @@ impl Model for PlainCells {
 
     ghost Value = { CellData };
 
-    ghost view = { λ c. record { subs = c.subs; firsts = c.firsts.items; words = c.words.items } };
+    ghost view = { λ c. record {
+      subs = c.subs;
+      width = c.width;
+      firsts = c.firsts.items;
+      words = c.words.items;
+    } };
 }
 
 impl PlainCells {
@@ -61,7 +67,6 @@ impl PlainCells {
             → Hold plan.now starts self.now history
             → result ≡ cell (setting_of plan.now starts) history key }
     {
-        cell_numbers();
         self.words[self.index(plan, key)]
     }
 
@@ -70,7 +75,7 @@ impl PlainCells {
         requires goes { GoWith plan.now self.old }
         requires cell { IsCell plan.now self.old.subs key }
         ensures words { self.new ≡ record self.old {
-          words = slice_set self.old.words (cell_number plan.now self.old.subs key) word;
+          words = slice_set self.old.words (slot_of plan.now key) word;
         } }
         ensures goes { GoWith plan.now self.new }
         ensures history { (starts : List ℕ) (history : History) (actor : ℕ)
@@ -88,11 +93,10 @@ impl PlainCells {
         requires goes { GoWith plan.now self.old }
         requires cell { IsCell plan.now self.old.subs key }
         ensures words { self.new ≡ record self.old {
-          words = slice_set self.old.words (cell_number plan.now self.old.subs key) word;
+          words = slice_set self.old.words (slot_of plan.now key) word;
         } }
         ensures goes { GoWith plan.now self.new }
     {
-        cell_numbers();
         let index = self.index(plan, key);
         self.words[index] = word;
     }
@@ -103,15 +107,17 @@ impl PlainCells {
         ensures goes { IfOk result (GoWith plan.now) }
         ensures subs { IfOk result (λ cells. cells.subs ≡ subs) }
         ensures words { IfOk result (λ cells. cells.words
-            ≡ replicate (cell_count plan.now subs) 0) }
+            ≡ replicate (subs * width_of plan.now) 0) }
     {
         let mut firsts = Vec::with_capacity(alloc, plan.levels() as usize)?;
         for level in 0..plan.levels() {
             firsts.push(plan.nodes() + clusters_below(plan, level))?;
         }
-        let words = vec![in alloc; 0u64; cell_count(plan, subs) as usize]?;
+        let width = plan.nodes() + clusters_below(plan, plan.levels());
+        let words = vec![in alloc; 0u64; subs as usize * width as usize]?;
         Ok(PlainCells {
             subs,
+            width,
             firsts,
             words,
         })
@@ -126,7 +132,7 @@ impl PlainCells {
         ensures goes { GoWith plan.now self.new }
         ensures subs { self.new.subs ≡ self.old.subs }
         ensures words { (key : Key) → IsCell plan.now self.old.subs key
-            → word_of plan.now self.new key ≡ opened plan.now sub home (levels_of plan.now) key
+            → word_of plan.now self.new key ≡ open_word plan.now sub home (levels_of plan.now) key
             (word_of plan.now self.old key) }
     {
         same_key_means();
@@ -153,16 +159,17 @@ impl PlainCells {
     fn index(&self, plan: &Plan, key: Key) -> usize
         requires goes { GoWith plan.now self.now }
         requires cell { IsCell plan.now self.now.subs key }
-        ensures { result ≡ cell_number plan.now self.now.subs key }
+        ensures place { result ≡ slot_of plan.now key }
+        ensures within { result < length self.now.words }
     {
-        let subs = self.subs as usize;
+        let width = self.width as usize;
         match key {
-            Key::Presence { node, sub } => node as usize * subs + sub as usize,
+            Key::Presence { node, sub } => sub as usize * width + node as usize,
             Key::Entry {
                 level,
                 cluster,
                 sub,
-            } => (self.firsts[level as usize] as usize + cluster as usize) * subs + sub as usize,
+            } => sub as usize * width + self.firsts[level as usize] as usize + cluster as usize,
         }
     }
 }

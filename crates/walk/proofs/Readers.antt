@@ -1,52 +1,37 @@
 -- The readers of a node: clusters that contain it, few at each level, and one after another in the climb.
-use Rattle.std.proofs.Common.{◌≡◌, ℕ, zero, suc, ◌+◌, ◌-◌, ◌*◌, ◌^◌, ◌<◌, ◌≤◌, Bool, true, false, cond, List, [], ◌∷◌, ◌++◌, length, map, drop, refl, sym, ap, ◌∙◌, subst, arith, drop-cons, Option}
+use Rattle.std.proofs.Common.{◌≡◌, ℕ, zero, suc, ◌+◌, ◌-◌, ◌*◌, ◌^◌, ◌<◌, ◌≤◌, Bool, true, false, cond, List, [], ◌∷◌, ◌++◌, length, map, drop, refl, sym, ap, ◌∙◌, subst, arith, Option}
 use Rattle.std.proofs.Math.Nat.{mul-le-mul, pow-le-pow_right}
 use Rattle.std.proofs.lemmas.List.Sums.{fold-append}
 use Rattle.std.specs.Prelude.{get_or, Some, None, flat_map, ◌==◌}
 use Rattle.std.proofs.lemmas.Bool.Decides.{nat_tests}
-use Rattle.std.proofs.lemmas.List.{get_or-map, length-map, drop_all}
-use Rattle.node_set.specs.Ascending.{has, passing}
+use Rattle.std.proofs.lemmas.List.{length-map, drop_all}
+use Rattle.node_set.specs.Ascending.{has, sift}
 use Rattle.directory.specs.Settings.{Setting, levels}
 use Rattle.directory.specs.Writes.{numbers_from}
 use Rattle.entry_word.specs.Addresses.{address_in}
 use Rattle.entry_word.specs.declared.address.Address.{Address}
 use Rattle.entry_word.specs.declared.visit.Key.TheVariants.{Entry}
-use Rattle.directory.specs.Finds.{FindCall, Reader, after_entry, after_word, answer_of, at_origin, climb, climbs, find, key_of}
+use Rattle.directory.specs.Finds.{FindCall, Reader, after_entry, after_word, answer_of, at_origin, find, key_of}
 use Rattle.region_plan.specs.Plan.{PlanData, no_level, level_at, cluster_in, clusters_of, inside, levels_of, members_of, nodes_of, readers}
-use Rattle.region_plan.specs.Regions.{containing}
 use Rattle.region_plan.specs.Kept.{IsKept, IsSized}
 use Rattle.region_plan.specs.Matched.{IsMatched, IsWithinReach}
 use Rattle.region_plan.specs.Settings.{setting_of}
 use Rattle.walk.specs.declared.progress.Progress.{Progress}
 use Rattle.walk.specs.declared.progress.Progress.TheVariants.{AtOrigin, Chasing, Climbing, Ended}
 use Rattle.walk.specs.Walks.{GoesWith, IsWithin, IsWordBelow, StandsFor, WalkData, call_of, reader_in, readers_at, readers_above, stage_at, stage_of}
+use Rattle.walk.specs.ReaderLaws.{climb-here}
 
--- numbers that pass a test
-passing-at : (test : ℕ → Bool) (x k i : ℕ) → i < length (passing test x k) → (test (get_or (passing test x k) i 0)
-    ≡ true) × (get_or (passing test x k) i 0 < x + k)
-passing-at test x zero i h = absurd (omega (arith, h))
-passing-at test x (suc k) i h = at_test (passing-at test (suc x) k) (test x) refl i h
-  where
-    at_test : ((j : ℕ) → j < length (passing test (suc x) k) → (test (get_or (passing test (suc x) k) j 0) ≡ true)
-        × (get_or (passing test (suc x) k) j 0 < suc x + k))
-        → (b : Bool) → test x ≡ b → (j : ℕ) → j < length (cond b (x ∷ passing test (suc x) k) (passing test
-        (suc x) k))
-        → (test (get_or (cond b (x ∷ passing test (suc x) k) (passing test (suc x) k)) j 0) ≡ true)
-        × (get_or (cond b (x ∷ passing test (suc x) k) (passing test (suc x) k)) j 0 < x + suc k)
-    at_test later true same zero l = (same, omega arith)
-    at_test later true same (suc j) l = let deep = later j (omega (arith, l)) in (deep.0, omega (arith, deep.1))
-    at_test later false same j l = let deep = later j l in (deep.0, omega (arith, deep.1))
-
-passing-short : (test : ℕ → Bool) (x k : ℕ) → length (passing test x k) ≤ k
+-- there are few of the numbers that pass a test
+passing-short : (test : ℕ → Bool) (x k : ℕ) → length (sift test x k) ≤ k
 passing-short test x zero = omega arith
 passing-short test x (suc k) = at_test (test x) (passing-short test (suc x) k)
   where
-    at_test : (b : Bool) → length (passing test (suc x) k) ≤ k → length (cond b (x ∷ passing test (suc x) k)
-        (passing test (suc x) k)) ≤ suc k
+    at_test : (b : Bool) → length (sift test (suc x) k) ≤ k → length (cond b (x ∷ sift test (suc x) k)
+        (sift test (suc x) k)) ≤ suc k
     at_test true h = omega (arith, h)
     at_test false h = omega (arith, h)
 
--- there are few readers, and each contains the node
+-- so there are few readers
 pub readers-few : (plan : PlanData) (level node : ℕ) → IsMatched plan → IsKept plan → level < levels_of plan
     → node < nodes_of plan → length (readers plan level node) ≤ 1024
 readers-few plan level node matched kept h l =
@@ -59,44 +44,6 @@ readers-few plan level node matched kept h l =
       sized.clusters,
       kept.metric.few,
     ))
-
-pub reader-held : (plan : PlanData) (level node index : ℕ) → IsMatched plan → level < levels_of plan
-    → node < nodes_of plan → index < length (readers plan level node)
-    → (has node (members_of plan level (get_or (readers plan level node) index 0)) ≡ true)
-    × (get_or (readers plan level node) index 0 < clusters_of plan level)
-reader-held plan level node index matched h l inside =
-    let same : readers plan level node ≡ containing (level_at plan level).clusters node =
-    matched.read level node h l in
-    let here : index < length (containing (level_at plan level).clusters node) =
-    subst (λ rs. index < length rs) same inside in
-    let both = passing-at (λ c. has node (cluster_in (level_at plan level).clusters c).members) 0 (length
-    (level_at plan level).clusters) index here in (
-      ap (λ rs. has node (members_of plan level (get_or rs index 0))) same ∙ both.0,
-      subst (λ rs. get_or rs index 0 < clusters_of plan level) (sym same) (omega (arith, both.1)),
-    )
-
--- the climb at a reader
-pub climb-here : (setting : Setting) (node : ℕ) (known : Option ℕ) (weight level index : ℕ) (later : List Reader)
-    → index < length (setting.readers level node)
-    → climb known weight (drop index (readers_at setting node level) ++ later)
-    ≡ climbs known weight (record { level = level; cluster = get_or (setting.readers level node) index 0 }) (drop
-    (suc index) (readers_at setting node level) ++ later)
-climb-here setting node known weight level index later inside =
-    let count : length (readers_at setting node level) ≡ length (setting.readers level node) =
-    length-map (setting.readers level node) (λ c. record { level = level; cluster = c }) in
-    let short : index < length (readers_at setting node level) = omega (arith, inside, count) in
-    let first : get_or (readers_at setting node level) index (record { level = level; cluster = 0 })
-    ≡ record { level = level; cluster = get_or (setting.readers level node) index 0 } =
-    get_or-map (λ c. record { level = level; cluster = c }) (setting.readers level node) index 0 (record {
-      level =
-          level;
-      cluster = 0;
-    }) inside in
-    ap (λ rs. climb known weight (rs ++ later)) (drop-cons (readers_at setting node level) index (record {
-      level =
-          level;
-      cluster = 0;
-    }) short ∙ ap (λ r. r ∷ drop (suc index) (readers_at setting node level)) first)
 
 -- the readers of a level and those above
 pub readers-spent : (setting : Setting) (node level index : ℕ) → length (setting.readers level node) ≤ index

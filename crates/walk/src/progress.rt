@@ -2,7 +2,8 @@
 
 use directory::Found;
 
-/// What a find keeps as it chases: the greatest number of a Gone that it read, the level that it climbed to, its weight
+/// What a find keeps as it chases: the greatest number of a Gone that it read, the level that it
+/// climbed to, its weight
 /// so far, and how many hops it has left.
 #[derive(Clone, Copy, PartialEq, Eq, Debug)]
 pub struct Chase {
@@ -12,7 +13,8 @@ pub struct Chase {
     pub hops_left: u32,
 }
 
-/// At its origin; at the entry of a reader, by level and place among the readers; chasing at a node; or ended.
+/// At its origin; at the entry of a reader, by level and place among the readers; chasing at a
+/// node; or ended.
 #[derive(Clone, Copy, PartialEq, Eq, Debug)]
 pub enum Progress {
     AtOrigin,

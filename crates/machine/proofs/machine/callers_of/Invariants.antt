@@ -8,5 +8,6 @@ use Rattle.machine.proofs.machine.callers_of.Given as goal
 abbrev pub invariant-loop-caller : goal.invariant-loop-caller
 invariant-loop-caller l = record {
   count : vec_len l.callers ≡ l.caller;
-  each : (c : ℕ) (d : Caller) → c < l.caller → IsCaller (seen_input l.input) l.plan [] (length l.input.homes.items + c) (get_or l.callers.items c d);
+  each : (c : ℕ) (d : Caller) → c < l.caller
+      → IsCaller (seen_input l.input) l.plan [] (length l.input.homes.items + c) (get_or l.callers.items c d);
 }

@@ -9,16 +9,21 @@ use Rattle.machine.proofs.machine.subscribers_of.Goals as goal
 
 pub loop-sub-preserved : goal.loop-sub-preserved
 loop-sub-preserved c =
-    let low : c.loop-sub.sub < length c.args.input.now.homes.items = omega (arith, c.loop-sub-test.true, c.len-sub-end.ensures) in
+    let low : c.loop-sub.sub < length c.args.input.now.homes.items =
+    omega (arith, c.loop-sub-test.true, c.len-sub-end.ensures) in
     record {
       count = omega (arith, c.in_ok-push.ensures.len, c.loop-sub.invariant.count);
-      each = λ s d below. subst (λ (xs : List Subscriber). IsSubscriber (seen_input c.args.input.now) c.args.plan.now [] s (get_or xs s d))
+      each = λ s d below. subst
+          (λ (xs : List Subscriber). IsSubscriber (seen_input c.args.input.now) c.args.plan.now [] s (get_or xs s d))
           (sym c.in_ok-push.ensures.items)
-          (each-more (λ i x. IsSubscriber (seen_input c.args.input.now) c.args.plan.now [] i x) c.loop-sub.subscribers.items c.in_ok-new.field-0 c.loop-sub.sub
+          (each-more (λ i x. IsSubscriber (seen_input c.args.input.now) c.args.plan.now [] i x)
+          c.loop-sub.subscribers.items c.in_ok-new.field-0 c.loop-sub.sub
           (omega (arith, c.loop-sub.invariant.count)) c.loop-sub.invariant.each
-          (sub-opens (seen_input c.args.input.now) c.args.plan.now c.loop-sub.sub c.in_ok-new.field-0 c.requires.together.valid low
+          (sub-opens (seen_input c.args.input.now) c.args.plan.now c.loop-sub.sub c.in_ok-new.field-0
+          c.requires.together.valid low
           (c.in_ok-new.ensures.handset c.args.input.now.homes.items
-          (same-at c.args.input.now.homes.items c.loop-sub.sub 0 c.index-in-loop-sub.result.now low ∙ sym c.index-in-loop-sub.ensures))
+          (same-at c.args.input.now.homes.items c.loop-sub.sub 0 c.index-in-loop-sub.result.now low
+          ∙ sym c.index-in-loop-sub.ensures))
           c.in_ok-new.ensures.goes c.in_ok-new.ensures.its c.in_ok-new.ensures.lines
           (omega (
             arith,

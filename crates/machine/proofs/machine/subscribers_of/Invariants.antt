@@ -8,5 +8,6 @@ use Rattle.machine.proofs.machine.subscribers_of.Given as goal
 abbrev pub invariant-loop-sub : goal.invariant-loop-sub
 invariant-loop-sub l = record {
   count : vec_len l.subscribers ≡ l.sub;
-  each : (s : ℕ) (d : Subscriber) → s < l.sub → IsSubscriber (seen_input l.input) l.plan [] s (get_or l.subscribers.items s d);
+  each : (s : ℕ) (d : Subscriber) → s < l.sub
+      → IsSubscriber (seen_input l.input) l.plan [] s (get_or l.subscribers.items s d);
 }

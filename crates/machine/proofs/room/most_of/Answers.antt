@@ -4,4 +4,5 @@ use Rattle.machine.specs.Scripts.{most_of}
 use Rattle.machine.proofs.room.most_of.Goals as goal
 
 pub returns-in-Move : goal.returns-in-Move
-returns-in-Move c = λ starts. c.most_writes.ensures starts ∙ ap (most_of (setting_of c.args.plan.now starts)) (sym c.in-Move.is)
+returns-in-Move c = λ starts. c.most_writes.ensures starts
+    ∙ ap (most_of (setting_of c.args.plan.now starts)) (sym c.in-Move.is)

@@ -8,10 +8,13 @@ use Rattle.machine.proofs.room.most_visits.Goals as goal
 
 pub loop-script-preserved : goal.loop-script-preserved
 loop-script-preserved c = λ starts.
-    let sum = added _ _ c.in_ok-most.most c.checked_add.result _ c.ok_or.result c.checked_add.ensures c.ok_or.ensures.value c.in_ok-most.was in
+    let sum = added _ _ c.in_ok-most.most c.checked_add.result _ c.ok_or.result c.checked_add.ensures
+    c.ok_or.ensures.value c.in_ok-most.was in
     let here = c.in_ok-more.ensures starts ∙ (ap (most_in (setting_of c.args.plan.now starts)) c.deref.ensures.value
     ∙ ap (λ (s : Vec Call Global). most_in (setting_of c.args.plan.now starts) s.items) c.script-item.is) in
-    let step = visits-more (most_in (setting_of c.args.plan.now starts)) c.args.scripts.now c.loop-script.script-index c.script-item.result c.loop-script-test.true in
+    let step = visits-more
+    (most_in (setting_of c.args.plan.now starts)) c.args.scripts.now c.loop-script.script-index c.script-item.result
+    c.loop-script-test.true in
     let next : c.loop-script.script-index + 1 ≡ suc c.loop-script.script-index = omega arith in
     omega (
       arith,
@@ -19,9 +22,11 @@ loop-script-preserved c = λ starts.
       c.loop-script.invariant starts,
       here,
       step,
-      ap (λ i. most_visits (setting_of c.args.plan.now starts) (map (λ (s : Vec Call Global). s.items) (take i c.args.scripts.now))) next,
+      ap (λ i. most_visits (setting_of c.args.plan.now starts)
+          (map (λ (s : Vec Call Global). s.items) (take i c.args.scripts.now))) next,
     )
 
 pub returns : goal.returns
-returns c = λ starts. c.loop-script.invariant starts ∙ ap (λ xs. most_visits (setting_of c.args.plan.now starts) (map (λ (s : Vec Call Global). s.items) xs))
+returns c = λ starts. c.loop-script.invariant starts
+    ∙ ap (λ xs. most_visits (setting_of c.args.plan.now starts) (map (λ (s : Vec Call Global). s.items) xs))
     (take_all c.loop-script.script-index c.args.scripts.now c.loop-script-test.false)

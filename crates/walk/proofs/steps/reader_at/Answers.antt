@@ -1,7 +1,8 @@
 use Rattle.std.proofs.Common.{◌<◌, ap, subst, sym, ◌∙◌, get_or}
 use Rattle.node_set.specs.Ascending.{has}
 use Rattle.region_plan.specs.Plan.{clusters_of, members_of}
-use Rattle.walk.proofs.Readers.{readers-few, reader-held}
+use Rattle.walk.specs.ReaderLaws.{reader-held}
+use Rattle.walk.proofs.Readers.{readers-few}
 use Rattle.walk.proofs.steps.reader_at.Goals as goal
 
 pub returns-clause-few : goal.returns-clause-few

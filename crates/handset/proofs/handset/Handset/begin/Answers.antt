@@ -2,7 +2,7 @@ use Rattle.std.proofs.Common.{◌≡◌, ◌++◌, ◌∷◌, [], arith, ◌∙�
 use Rattle.directory.specs.Courses.{move_to}
 use Rattle.region_plan.specs.Settings.{setting_of}
 use Rattle.handset.specs.Stands.{StandsFor}
-use Rattle.handset.proofs.Standing.{begin-stands}
+use Rattle.handset.proofs.Begun.{begin-stands}
 use Rattle.handset.specs.Kept.{GoesWith, HandsetData}
 use Rattle.handset.proofs.Going.{goes-begun, resting-means}
 use Rattle.handset.proofs.handset.Handset.begin.Goals as goal

@@ -3,7 +3,7 @@ use Rattle.region_plan.specs.Plan.{nodes_of}
 use Rattle.region_plan.specs.Settings.{setting_of}
 use Rattle.handset.specs.Stands.{StandsFor}
 use Rattle.handset.proofs.Going.{erasing-is-late, purging-is-late}
-use Rattle.handset.proofs.Standing.{made-stands, fits-plan, going-on}
+use Rattle.handset.proofs.Made.{made-stands, fits-plan, going-on}
 use Rattle.handset.proofs.handset.Handset.made.Goals as goal
 
 pub returns-clause-stands : goal.returns-clause-stands

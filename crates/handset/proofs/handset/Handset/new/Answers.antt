@@ -1,7 +1,7 @@
 use Rattle.std.proofs.Common.{[], arith, subst, sym, refl}
 use Rattle.region_plan.specs.Settings.{setting_of}
 use Rattle.handset.specs.Stands.{StandsFor}
-use Rattle.handset.proofs.Standing.{new-stands}
+use Rattle.handset.proofs.Begun.{new-stands}
 use Rattle.handset.proofs.handset.Handset.new.Goals as goal
 
 pub returns-clause-stands : goal.returns-clause-stands

@@ -1,6 +1,6 @@
 use Rattle.std.proofs.Common.{◌∙◌}
 use Rattle.region_plan.specs.Settings.{setting_of}
-use Rattle.handset.proofs.Standing.{next-stands}
+use Rattle.handset.proofs.Made.{next-stands}
 use Rattle.handset.proofs.handset.Handset.next.Goals as goal
 
 pub returns-clause-stands : goal.returns-clause-stands

@@ -3,7 +3,7 @@ use Rattle.handset.specs.declared.stage.Stage.TheVariants.{Switching}
 use Rattle.handset.specs.Kept.{HandsetData}
 use Rattle.handset.specs.Stands.{StandsFor, switch_to}
 use Rattle.handset.proofs.Going.{resting-means}
-use Rattle.handset.proofs.Standing.{switch-stands}
+use Rattle.handset.proofs.Begun.{switch-stands}
 use Rattle.handset.proofs.handset.Handset.switch.Goals as goal
 
 pub returns-clause-stands : goal.returns-clause-stands

@@ -48,7 +48,8 @@ returns-in_default-answer c = λ history sees place its.
     (sym c.in_default-answer.is ∙ c.answer.ensures c.args.plan.now c.saw.ensures.goes)
     (ap (λ f. record c.args.self.now { walk = Some c.saw.new.self; first = Some f }) c.unwrap_or-first.ensures)
 
-script-here : (c : After-len) → c.as_slice-script.result.now ≡ get_or (seen_input c.args.input.now).scripts c.args.actor []
+script-here : (c : After-len)
+    → c.as_slice-script.result.now ≡ get_or (seen_input c.args.input.now).scripts c.args.actor []
 script-here c = script-is c.args.input.now.scripts.items c.args.actor c.index.result.now c.as_slice-script.result.now
     c.requires.low c.index.ensures c.as_slice-script.ensures.value
 
@@ -96,16 +97,23 @@ returns c = λ history sees place its.
     (sym c.in-Some-answer.is ∙ c.answer.ensures c.args.plan.now c.saw.ensures.goes)
     (λ call later left. c.line_of-line.ensures
     ∙ (ap (λ f. found_line c.args.actor f c.in-Some-answer.found c.unwrap_or-first.result c.args.ticket)
-    (call-at (seen_input c.args.input.now) c.args.plan.now c.args.actor c.len.result c.as_slice-script.result.now call later _
+    (call-at (seen_input c.args.input.now) c.args.plan.now c.args.actor c.len.result c.as_slice-script.result.now call
+    later _
     c.requires.high low script (omega (
       arith,
       c.len.ensures,
       ap length script,
       place-low (seen_input c.args.input.now) c.args.plan.now history c.args.actor c.args.self.now
           c.in-Some.walk c.requires.high low its c.in-Some.is,
-    )) (left ∙ ap (λ n. drop n (finds_of (setting_in (seen_input c.args.input.now) c.args.plan.now) (scripts_of (seen_input c.args.input.now)) c.args.actor)) count))
+    )) (left ∙ ap
+    (λ n. drop n
+    (finds_of (setting_in (seen_input c.args.input.now) c.args.plan.now)
+    (scripts_of (seen_input c.args.input.now)) c.args.actor)) count))
     ∙ ap (λ f. found_line c.args.actor call c.in-Some-answer.found f c.args.ticket) c.unwrap_or-first.ensures))
-    lines (omega (arith, c.len-2.ensures, ap length lines, length_push c.args.self.now.lines.items c.line_of-line.result)) (omega (arith, c.push.ensures.capacity)) refl
+    lines (omega
+    (arith, c.len-2.ensures, ap length lines, length_push c.args.self.now.lines.items c.line_of-line.result))
+    (omega (arith, c.push.ensures.capacity)) refl
     (subst (λ fs. IsWalking c.args.plan.now (drop c.len-2.result fs) at_origin c.walk_at-self.result)
-    (ap (map find_of) script ∙ sym (finds-are (seen_input c.args.input.now) c.args.plan.now c.args.actor c.requires.high low))
+    (ap (map find_of) script
+    ∙ sym (finds-are (seen_input c.args.input.now) c.args.plan.now c.args.actor c.requires.high low))
     c.walk_at-self.ensures)

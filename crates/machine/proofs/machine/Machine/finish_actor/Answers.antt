@@ -11,7 +11,8 @@ pub turns-smaller : goal.turns-smaller
 turns-smaller c =
     let far = c.turns.invariant.stands c.requires.stands.0 c.requires.stands.1 in
     smaller c.turns_are_few.ensures.few c.next_is_own.ensures c.turns.self c.turn.new.self
-    (after_turns (setting_at c.args.self.now) (scripts_at c.args.self.now) c.requires.stands.0 (replicate far.0 c.args.actor))
+    (after_turns (setting_at c.args.self.now) (scripts_at c.args.self.now) c.requires.stands.0
+    (replicate far.0 c.args.actor))
     c.args.actor c.turn.ensures.same far.1 (c.turn.ensures.stands (after_turns (setting_at c.args.self.now)
     (scripts_at c.args.self.now) c.requires.stands.0 (replicate far.0 c.args.actor)) far.1)
     (λ none. let e : Visited ≡ Finished = (c.in-Visited.ensures.finished (after_turns (setting_at c.args.self.now)

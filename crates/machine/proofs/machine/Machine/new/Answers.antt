@@ -13,18 +13,23 @@ use Rattle.machine.proofs.machine.Machine.new.Goals as goal
 
 pub most_visits-requires : goal.most_visits-requires
 most_visits-requires c = record {
-  inside = subst (λ (xs : List (Vec Call Global)). (k : ℕ) (d : Vec Call Global) → k < length xs → AreInside (nodes_of c.args.plan.now) (get_or xs k d).items)
+  inside = subst
+      (λ (xs : List (Vec Call Global)). (k : ℕ) (d : Vec Call Global) → k < length xs
+      → AreInside (nodes_of c.args.plan.now) (get_or xs k d).items)
       (sym c.deref-2.ensures.value)
-      (scripts-inside (seen_input c.args.input.now) c.args.input.now.scripts.items (nodes_of c.args.plan.now) c.requires.together.valid refl c.requires.together.nodes);
+      (scripts-inside (seen_input c.args.input.now) c.args.input.now.scripts.items
+      (nodes_of c.args.plan.now) c.requires.together.valid refl c.requires.together.nodes);
 }
 
 pub returns-clause-stands : goal.returns-clause-stands
 returns-clause-stands c = record {
   together = c.requires.together;
   sees = record {
-    played = none-played (setting_in (seen_input c.args.input.now) c.args.plan.now) (scripts_of (seen_input c.args.input.now));
+    played = none-played (setting_in (seen_input c.args.input.now) c.args.plan.now)
+        (scripts_of (seen_input c.args.input.now));
     goes = c.in_ok-cells.ensures.goes;
-    hold = subst (λ hs. Hold c.args.plan.now hs c.in_ok-cells.cells []) c.deref.ensures.value c.in_ok-cells.ensures.opening;
+    hold = subst
+        (λ hs. Hold c.args.plan.now hs c.in_ok-cells.cells []) c.deref.ensures.value c.in_ok-cells.ensures.opening;
   };
   order = c.in_ok-order.ensures.items;
   known = All-nil (λ (v : Visit). v.actor < length (seen_input c.args.input.now).scripts);
@@ -32,7 +37,8 @@ returns-clause-stands c = record {
     arith,
     c.in_ok-most_visits.ensures c.args.input.now.homes.items,
     c.in_ok-order.ensures.exact,
-    ap (λ xs. most_visits (setting_in (seen_input c.args.input.now) c.args.plan.now) (map (λ (s : Vec Call Global). s.items) xs)) c.deref-2.ensures.value,
+    ap (λ xs. most_visits (setting_in (seen_input c.args.input.now) c.args.plan.now)
+        (map (λ (s : Vec Call Global). s.items) xs)) c.deref-2.ensures.value,
   );
   subscribers_count = omega (arith, c.in_ok-subscribers.ensures.count);
   callers_count = omega (arith, c.in_ok-callers.ensures.count);

@@ -2,11 +2,12 @@ use Rattle.std.proofs.Common.{subst, sym, ◌≡◌, ◌++◌, [], ℕ, List, le
 use Rattle.std.specs.Prelude.{All, flat_map}
 use Rattle.directory.specs.declared.answers.Done.{Done}
 use Rattle.directory.specs.Outcomes.{Outcome, outcome_in}
-use Rattle.machine.specs.Machines.{scripts_at, setting_at}
+use Rattle.machine.specs.Machines.{TellInTurn, TellRisingNumbers, scripts_at, setting_at}
 use Rattle.machine.specs.declared.caller.Caller.{Caller}
 use Rattle.machine.specs.declared.subscriber.Subscriber.{Subscriber}
 use Rattle.trail_laws.specs.Lines.{IsRightLine}
-use Rattle.machine.proofs.RightOutcome.{right-outcome}
+use Rattle.machine.proofs.InTurn.{outcome-in-turn}
+use Rattle.machine.proofs.RightOutcome.{right-outcome, rising-outcome}
 use Rattle.machine.proofs.Ending.{lines-all, room-for_both}
 use Rattle.machine.proofs.machine.Machine.outcome.Goals as goal
 
@@ -51,9 +52,11 @@ push_finds-requires c =
 pub returns-clause-result : goal.returns-clause-result
 returns-clause-result c history is done =
     let steps : c.push_steps.new.calls.items ≡ [] ++ of_steps c.args.self.subscribers.items =
-    c.push_steps.ensures.items ∙ ap2 (λ (xs ys : List Done). xs ++ ys) c.args.self.calls.items [] (of_steps c.deref.result.now)
+    c.push_steps.ensures.items
+    ∙ ap2 (λ (xs ys : List Done). xs ++ ys) c.args.self.calls.items [] (of_steps c.deref.result.now)
     (of_steps c.args.self.subscribers.items) is.calls (ap of_steps c.deref.ensures.value) in
-    let finds : c.push_finds.new.calls.items ≡ of_steps c.args.self.subscribers.items ++ of_finds c.args.self.callers.items =
+    let finds : c.push_finds.new.calls.items
+    ≡ of_steps c.args.self.subscribers.items ++ of_finds c.args.self.callers.items =
     c.push_finds.ensures.items ∙ ap2 (λ (xs ys : List Done). xs ++ ys) c.push_steps.new.calls.items
     (of_steps c.args.self.subscribers.items) (of_finds c.deref-2.result.now) (of_finds c.args.self.callers.items) steps
     (ap of_finds c.deref-2.ensures.value) in
@@ -68,3 +71,15 @@ returns-clause-right c history is done =
     (sym (ap (λ (o : Outcome). o.calls) (returns-clause-result c history is done)))
     (right-outcome c.outcomes_are_right.ensures.lines c.order_of_history.ensures.done c.scripts_are_valid.ensures
     c.args.self history is done)
+
+pub returns-clause-numbers : goal.returns-clause-numbers
+returns-clause-numbers c history is done =
+    subst TellRisingNumbers (sym (ap (λ (o : Outcome). o.calls) (returns-clause-result c history is done)))
+    (rising-outcome c.outcomes_are_right.ensures.numbers c.order_of_history.ensures.done c.scripts_are_valid.ensures
+    c.args.self history is done)
+
+pub returns-clause-in_turn : goal.returns-clause-in_turn
+returns-clause-in_turn c history is done =
+    subst TellInTurn (sym (ap (λ (o : Outcome). o.calls) (returns-clause-result c history is done)))
+    (outcome-in-turn c.lines_are_made.ensures.follow c.lines_grow.ensures.count c.tickets_tell.ensures.ascend
+    (setting_at c.args.self) (scripts_at c.args.self) history is.sees.played)

@@ -1,50 +1,51 @@
-use Rattle.std.proofs.Common.{◌≡◌, ◌∷◌, ◌++◌, [], sym, ap, ◌∙◌, arith, refl}
-use Rattle.std.specs.Prelude.{if◌then◌else◌}
+use Rattle.std.proofs.Common.{[], arith, refl}
 use Rattle.net_reader.specs.Seen.{seen_input}
 use Rattle.machine.specs.Machines.{scripts_at, setting_at}
-use Rattle.machine.proofs.Beginning.{on-err}
 use Rattle.machine.proofs.Counting.{room-left}
-use Rattle.machine.proofs.Looking.{ok-of}
 use Rattle.machine.proofs.Turning.{at-sub, sub-kept-machine, sub-turned, ticket-is}
 use Rattle.machine.proofs.machine.Machine.write.Goals as goal
 
-pub unreachable-requires : goal.unreachable-requires
-unreachable-requires c =
+pub log-requires : goal.log-requires
+log-requires c =
     let history = c.requires.stands.0 in
     let stands = c.requires.stands.1 in
     let tick = ticket-is c.args.self.now history c.len-ticket.result stands (omega (arith, c.len-ticket.ensures)) in
-    let its = at-sub c.args.self.now history c.args.actor c.index_mut.result.now stands c.requires.known c.index_mut.ensures.value in
+    let its = at-sub c.args.self.now history c.args.actor c.index_mut.result.now stands c.requires.known
+    c.index_mut.ensures.value in
     let done = c.in-Visited.ensures history stands.sees tick its in
-    let full = on-err _ c.push.result (sym c.is_err.ensures.value ∙ c.if-is_err.true) c.push.ensures.full in
-    let left = room-left c.own_after.ensures.visits c.turns_are_few.ensures.few c.moves_are_short.ensures c.each_visit_is_next.ensures.more
+    let left = room-left c.own_after.ensures.visits c.turns_are_few.ensures.few c.moves_are_short.ensures
+    c.each_visit_is_next.ensures.more
     (seen_input c.args.self.now.input.now) c.args.self.now.plan.now history c.args.actor done.0 stands.together.valid
     (omega (arith, c.requires.known, stands.together.valid.scripts))
-    (c.each_visit_is_next.ensures.part (setting_at c.args.self.now) (scripts_at c.args.self.now) []) stands.sees.played stands.known done.1 in
-    omega (arith, full, left, stands.room, tick, c.len-ticket.ensures)
+    (c.each_visit_is_next.ensures.part (setting_at c.args.self.now) (scripts_at c.args.self.now) []) stands.sees.played
+    stands.known done.1 in
+    record { room = omega (arith, left, stands.room, tick, c.len-ticket.ensures) }
 
 pub returns-in-Finished-clause-turned : goal.returns-in-Finished-clause-turned
 returns-in-Finished-clause-turned c = λ history stands.
     let tick = ticket-is c.args.self.now history c.len-ticket.result stands (omega (arith, c.len-ticket.ensures)) in
-    let its = at-sub c.args.self.now history c.args.actor c.index_mut.result.now stands c.requires.known c.index_mut.ensures.value in
+    let its = at-sub c.args.self.now history c.args.actor c.index_mut.result.now stands c.requires.known
+    c.index_mut.ensures.value in
     let done = c.in-Finished.ensures history stands.sees tick its in (
       done.0,
-      sub-kept-machine c.args.self.now history c.args.actor c.index_mut.result.now c.write-turn.new.self c.write-turn.new.cells _ stands c.requires.known
+      sub-kept-machine c.args.self.now history c.args.actor c.index_mut.result.now c.write-turn.new.self
+          c.write-turn.new.cells _ stands c.requires.known
           c.index_mut.ensures.value done.1 done.2 refl,
       done.2,
       refl,
     )
 
-pub returns-else-is_err-clause-turned : goal.returns-else-is_err-clause-turned
-returns-else-is_err-clause-turned c = λ history stands.
+pub returns-in-Visited-clause-turned : goal.returns-in-Visited-clause-turned
+returns-in-Visited-clause-turned c = λ history stands.
     let tick = ticket-is c.args.self.now history c.len-ticket.result stands (omega (arith, c.len-ticket.ensures)) in
-    let its = at-sub c.args.self.now history c.args.actor c.index_mut.result.now stands c.requires.known c.index_mut.ensures.value in
-    let done = c.in-Visited.ensures history stands.sees tick its in
-    let pushed : c.push.new.self.items ≡ c.args.self.now.order.items ++ c.args.actor ∷ [] =
-    c.push.ensures.items ∙ ap (λ b. if b then c.args.self.now.order.items ++ c.args.actor ∷ []
-    else c.args.self.now.order.items) (ok-of c.push.result (sym c.is_err.ensures.value ∙ c.if-is_err.false)) in (
+    let its = at-sub c.args.self.now history c.args.actor c.index_mut.result.now stands c.requires.known
+    c.index_mut.ensures.value in
+    let done = c.in-Visited.ensures history stands.sees tick its in (
       done.0,
       done.1,
-      sub-turned c.own_after.ensures.visits c.own_after.ensures.tickets c.lines_grow.ensures.kept c.each_visit_is_next.ensures.more
-          c.next_is_own.ensures c.args.self.now history c.args.actor done.0 c.write-turn.new.self c.write-turn.new.cells _ _ stands c.requires.known
-          done.1 done.2 done.3 done.4 refl pushed (omega (arith, c.push.ensures.capacity)),
+      sub-turned c.own_after.ensures.visits c.own_after.ensures.tickets c.lines_grow.ensures.kept
+          c.each_visit_is_next.ensures.more
+          c.next_is_own.ensures c.args.self.now history c.args.actor done.0 c.write-turn.new.self c.write-turn.new.cells
+          _ _ stands c.requires.known
+          done.1 done.2 done.3 done.4 refl c.log.ensures.items (omega (arith, c.log.ensures.capacity)),
     )

@@ -1,7 +1,7 @@
 use Rattle.std.proofs.Common.{◌≡◌}
 use Rattle.entry_word.specs.declared.visit.Key.{Key}
 use Rattle.visit_log.specs.Numbers.{IsCell}
-use Rattle.visit_log.specs.Cells.{GoWith, opened, word_of}
+use Rattle.visit_log.specs.Cells.{GoWith, open_word, word_of}
 use Rattle.visit_log.proofs.cells.PlainCells.open.Given as goal
 
 abbrev pub invariant-loop-level : goal.invariant-loop-level
@@ -9,5 +9,5 @@ invariant-loop-level l = record {
   goes : GoWith l.plan l.self;
   subs : l.self.subs ≡ l.fn.self.subs;
   words : (key : Key) → IsCell l.plan l.fn.self.subs key → word_of l.plan l.self key
-      ≡ opened l.plan l.sub l.home l.level key (word_of l.plan l.fn.self key);
+      ≡ open_word l.plan l.sub l.home l.level key (word_of l.plan l.fn.self key);
 }

@@ -1,0 +1,231 @@
+-- What a handset stands for goes on with each step that it begins.
+use Rattle.std.proofs.Common.{◌≡◌, ℕ, suc, ◌+◌, ◌<◌, ◌≤◌, Bool, true, false, cond, List, [], ◌∷◌, ◌++◌, length, map, fold, take, drop, replicate, refl, sym, ap, ◌∙◌, subst, arith, length-append}
+use Rattle.std.specs.Prelude.{get_or, nat_le, slice_set, ◌==◌, ◌||◌}
+use Rattle.std.proofs.lemmas.Bool.Decides.{nat_tests}
+use Rattle.std.proofs.lemmas.List.{append-nil, take-append-le, get_or-set_same, get_or-set_other, get_or-replicate, length-replicate}
+use Rattle.node_set.specs.Ascending.{has}
+use Rattle.entry_word.specs.declared.mark.PresenceMark.TheVariants.{Off, Here}
+use Rattle.directory.specs.Settings.{Setting, levels, start}
+use Rattle.directory.specs.Courses.{Step, move_to, switch_off, switch_on, Move, Course, last_stop, gathered_weight, renewal, next_move}
+use Rattle.directory.specs.Writes.{visit_of, visits, step_writes, trail, mark_at, move_writes, writes}
+use Rattle.region_plan.specs.Plan.{PlanData, nodes_of, levels_of}
+use Rattle.handset.specs.declared.stage.Stage.TheVariants.{Resting, Coming, Switching}
+use Rattle.handset.specs.Kept.{HandsetData}
+use Rattle.handset.specs.Progress.{left_at}
+use Rattle.handset.specs.Beginning.{begin_move, handset_at, journey_to, renewal_in, gathered_then}
+use Rattle.handset.specs.Stands.{course_of, switch_to, commits_in, Shows, StandsAt, StandsFor}
+use Rattle.handset.proofs.Lists.{highest-low, drop-spent, highest-same, numbers-from-zero}
+use Rattle.handset.proofs.CourseLaws.{course-more, visits-more}
+use Rattle.handset.proofs.Settling.{AddressLaw, GatheredLaw}
+use Rattle.handset.proofs.Writing.{coming-left}
+
+-- what a handset at rest stands for
+at_rest : (setting : Setting) (handset : HandsetData) (steps : List Step) (made : ℕ) → handset.stage ≡ Resting
+    → StandsFor setting handset steps made → StandsAt setting handset Resting steps made
+at_rest setting handset steps made rests f = subst (λ s. StandsAt setting handset s steps made) rests f
+
+-- a switch
+switch-is : (setting : Setting) (course : Course) (off : Bool) → step_writes setting course (switch_to off)
+    ≡ mark_at (last_stop course) (cond off (Off (length course.moves)) (Here (length course.moves))) ∷ []
+switch-is setting course true = refl
+switch-is setting course false = refl
+
+switch-writes : (setting : Setting) (handset : HandsetData) (steps : List Step) (made : ℕ) (off : Bool)
+    → StandsAt setting handset Resting steps made
+    → map (visit_of handset.sub) (step_writes setting (course_of setting handset.sub steps) (switch_to off))
+    ≡ map (visit_of handset.sub) (left_at setting handset (Switching off))
+switch-writes setting handset steps made off f =
+    let over : course_of setting handset.sub steps ≡ course_of setting handset.sub f.over =
+    ap (course_of setting handset.sub) (f.begun ∙ append-nil f.over) in
+    ap (map (visit_of handset.sub)) (switch-is setting (course_of setting handset.sub steps) off)
+    ∙ (ap (λ (c : Course). visit_of handset.sub
+    (mark_at (last_stop c) (cond off (Off (length c.moves)) (Here (length c.moves)))) ∷ []) over
+    ∙ (ap (λ node. visit_of handset.sub (mark_at node (cond off (Off (length (course_of setting handset.sub
+    f.over).moves)) (Here (length (course_of setting handset.sub f.over).moves)))) ∷ []) (sym f.place)
+    ∙ ap (λ n. visit_of handset.sub (mark_at handset.place (cond off (Off n) (Here n))) ∷ []) (sym f.number)))
+
+switch-gathered : (setting : Setting) (sub : ℕ) (steps : List Step) (off : Bool) (level : ℕ)
+    → gathered_weight (course_of setting sub (steps ++ switch_to off ∷ [])) level
+    ≡ gathered_weight (course_of setting sub steps) level
+switch-gathered setting sub steps true level =
+    ap (λ c. gathered_weight c level) (course-more setting sub steps switch_off)
+switch-gathered setting sub steps false level =
+    ap (λ c. gathered_weight c level) (course-more setting sub steps switch_on)
+
+-- a step that begins changes nothing that is shown
+begun-shows : (setting : Setting) (handset after : HandsetData) (steps : List Step) (made : ℕ) (step : Step)
+    → after.sub ≡ handset.sub → after.place ≡ handset.place → after.number ≡ handset.number
+    → after.is_off ≡ handset.is_off → made ≤ length (visits setting handset.sub steps)
+    → Shows setting handset (take made (visits setting handset.sub steps))
+    → Shows setting after (take made (visits setting handset.sub (steps ++ step ∷ [])))
+begun-shows setting handset after steps made step sub place number off few shows =
+    let same : take made (visits setting handset.sub (steps ++ step ∷ []))
+    ≡ take made (visits setting handset.sub steps) =
+    ap (take made) (visits-more setting handset.sub steps step)
+    ∙ take-append-le made (visits setting handset.sub steps) (map (visit_of handset.sub) (step_writes setting
+    (course_of setting handset.sub steps) step)) few in
+    subst (Shows setting after) (sym same)
+    (record {
+      place = place ∙ (shows.place ∙ ap (λ s. fold (λ node commit. commit.to) (start setting s) (commits_in
+          (take made (visits setting handset.sub steps)))) (sym sub));
+      number = number ∙ shows.number;
+      is_off = off ∙ shows.is_off;
+    })
+
+pub switch-stands : (setting : Setting) (handset : HandsetData) (steps : List Step) (made : ℕ) (off : Bool)
+    → handset.stage ≡ Resting → StandsFor setting handset steps made
+    → StandsFor setting (record handset { stage = Switching off }) (steps ++ switch_to off ∷ []) made
+switch-stands setting handset steps made off rests stands = begins (at_rest setting handset steps made rests stands)
+  where
+    begins : StandsAt setting handset Resting steps made → StandsFor setting (record handset {
+      stage =
+          Switching off;
+    }) (steps ++ switch_to off ∷ []) made
+    begins f =
+        record {
+          over = f.over;
+          begun = ap (λ xs. xs ++ switch_to off ∷ []) (f.begun ∙ append-nil f.over);
+          move = tt;
+          place = f.place;
+          number = f.number;
+          is_off = f.is_off;
+          addresses = f.addresses;
+          gathered = λ level h. f.gathered level h ∙ sym (switch-gathered setting handset.sub steps off level);
+          trail = f.trail;
+          shows = begun-shows setting handset (record handset { stage = Switching off }) steps made
+              (switch_to off) refl refl refl refl f.few f.shows;
+          few = subst (λ vs. made ≤ length vs) (sym (visits-more setting handset.sub steps (switch_to off)))
+              (omega (
+                arith,
+                f.few,
+                length-append (visits setting handset.sub steps) (map (visit_of handset.sub)
+                    (step_writes setting (course_of setting handset.sub steps) (switch_to off))),
+              ));
+          left = ap (drop made) (visits-more setting handset.sub steps (switch_to off))
+              ∙ (drop-spent made (visits setting handset.sub steps) (map (visit_of handset.sub)
+              (step_writes setting (course_of setting handset.sub steps) (switch_to off))) f.few f.left
+              ∙ switch-writes setting handset steps made off f);
+        }
+
+-- a move
+same-move : (a b c d e f g h : ℕ) (to : ℕ) → a ≡ b → c ≡ d → e ≡ f → g ≡ h
+    → (let move : Move = record { number = a; from = c; to = to; weight = e; renewed = g } in move)
+    ≡ record { number = b; from = d; to = to; weight = f; renewed = h }
+same-move a b c d e f g h to p q r s = cc
+
+same-renewal : (setting : Setting) (course : Course) (xs : List ℕ) (weight other : ℕ) → weight ≡ other
+    → ((level : ℕ) → level < levels setting → get_or xs level 0 ≡ gathered_weight course level)
+    → renewal_in setting xs weight ≡ renewal setting course other
+same-renewal setting course xs weight other same kept =
+    highest-same (λ level. nat_le (setting.threshold level) (get_or xs level 0 + weight)) (λ level. nat_le
+    (setting.threshold level) (gathered_weight course level + other)) (levels setting)
+    (λ level h. ap (λ w. nat_le (setting.threshold level) (w + weight)) (kept level h)
+    ∙ ap (λ w. nat_le (setting.threshold level) (gathered_weight course level + w)) same)
+
+pub begin-stands : (setting : Setting) (handset : HandsetData) (steps : List Step) (made to : ℕ)
+    → AddressLaw setting → GatheredLaw setting
+    → length handset.gathered ≡ levels setting
+    → handset.stage ≡ Resting → handset.is_off ≡ false → StandsFor setting handset steps made
+    → StandsFor setting (begin_move setting handset to) (steps ++ move_to to ∷ []) made
+begin-stands setting handset steps made to address_law gathered_law count rests is_on stands =
+    begins (at_rest setting handset steps made rests stands)
+  where
+    move : Move
+    move = journey_to setting handset to
+
+    low : move.renewed ≤ setting.top
+    low = highest-low (λ level. nat_le (setting.threshold level) (get_or handset.gathered level 0 + move.weight))
+        setting.top
+
+    begins : StandsAt setting handset Resting steps made → StandsFor setting (begin_move setting handset to)
+        (steps ++ move_to to ∷ []) made
+    begins f =
+        let before : Course = course_of setting handset.sub f.over in
+        let over : steps ≡ f.over = f.begun ∙ append-nil f.over in
+        let kept : (level : ℕ) → level < levels setting
+        → get_or handset.gathered level 0 ≡ gathered_weight before level =
+        λ level h. f.gathered level h ∙ ap (λ xs. gathered_weight (course_of setting handset.sub xs) level) over in
+        let far : setting.distance handset.place to ≡ setting.distance (last_stop before) to =
+        ap (λ n. setting.distance n to) f.place in
+        let is_move : move ≡ next_move setting before to = same-move _ _ _ _ _ _ _ _ to
+        (ap suc f.number) f.place far (same-renewal setting before handset.gathered _ _ far kept) in
+        let all : map (visit_of handset.sub) (move_writes setting (course_of setting handset.sub steps)
+        (next_move setting (course_of setting handset.sub steps) to)) ≡ map (visit_of handset.sub)
+        (left_at setting (begin_move setting handset to) Coming) =
+        ap (λ xs. map (visit_of handset.sub) (move_writes setting (course_of setting handset.sub xs)
+        (next_move setting (course_of setting handset.sub xs) to))) over
+        ∙ (ap (λ m. map (visit_of handset.sub) (move_writes setting before m)) (sym is_move)
+        ∙ ap (map (visit_of handset.sub)) (coming-left setting before (begin_move setting handset to) low f.addresses
+        (λ node h. f.trail to node h ∙ ap (λ m. has node (trail setting before m)) (sym is_move)))) in
+        record {
+          over = f.over;
+          begun = ap (λ xs. xs ++ move_to to ∷ []) over;
+          move = (is_move, sym f.is_off ∙ is_on);
+          place = f.place;
+          number = f.number;
+          is_off = f.is_off;
+          addresses = f.addresses;
+          gathered = λ level h.
+              numbers-from-zero (λ k. gathered_then (get_or handset.gathered k 0) move.renewed move.weight k)
+              (length handset.gathered) level (omega (arith, h, count))
+              ∙ (ap (λ m. gathered_then (get_or handset.gathered level 0) m.renewed m.weight level) is_move
+              ∙ (ap (λ w. gathered_then w (next_move setting before to).renewed (setting.distance
+              (last_stop before) to) level) (kept level h)
+              ∙ sym (ap (λ xs. gathered_weight (course_of setting handset.sub (xs ++ move_to to ∷ [])) level) over
+              ∙ (ap (λ c. gathered_weight c level) (course-more setting handset.sub f.over (move_to to))
+              ∙ gathered_law (start setting handset.sub) f.over to level))));
+          trail = f.trail;
+          shows = begun-shows setting handset (begin_move setting handset to) steps made
+              (move_to to) refl refl refl refl f.few f.shows;
+          few = subst (λ vs. made ≤ length vs) (sym (visits-more setting handset.sub steps (move_to to)))
+              (omega (
+                arith,
+                f.few,
+                length-append (visits setting handset.sub steps) (map (visit_of handset.sub)
+                    (step_writes setting (course_of setting handset.sub steps) (move_to to))),
+              ));
+          left = ap (drop made) (visits-more setting handset.sub steps (move_to to))
+              ∙ (drop-spent made (visits setting handset.sub steps) (map (visit_of handset.sub)
+              (step_writes setting (course_of setting handset.sub steps) (move_to to))) f.few f.left
+              ∙ all);
+        }
+
+-- a handset at rest at its home
+pub new-stands : (setting : Setting) (plan : PlanData) (sub home : ℕ) → setting.nodes ≡ nodes_of plan
+    → levels setting ≡ levels_of plan → start setting sub ≡ home → home < nodes_of plan
+    → StandsFor setting (handset_at plan sub home) [] 0
+unfolding writes
+new-stands setting plan sub home nodes count starts inside = record {
+  over = [];
+  begun = refl;
+  move = tt;
+  place = sym starts;
+  number = refl;
+  is_off = refl;
+  addresses = λ level h. get_or-replicate (levels_of plan) level home 0 (omega (arith, h, count)) ∙ sym starts;
+  gathered = λ level h. get_or-replicate (levels_of plan) level 0 0 (omega (arith, h, count));
+  trail = λ to node h. at_start node (omega (arith, h, nodes));
+  shows = record { place = sym starts; number = refl; is_off = refl };
+  few = omega arith;
+  left = refl;
+}
+  where
+    at_test : (node : ℕ) → node < nodes_of plan → (b : Bool) → (node == home) ≡ b → get_or (slice_set (replicate
+        (nodes_of plan) false) home true) node false ≡ (b || false)
+    at_test node h true test =
+        let same : node ≡ home = grind (arith, nat_tests) in
+        ap (λ n. get_or (slice_set (replicate (nodes_of plan) false) home true) n false) same
+        ∙ get_or-set_same (replicate (nodes_of plan) false) home true false (omega (
+          arith,
+          inside,
+          length-replicate
+              (nodes_of plan) false,
+        ))
+    at_test node h false test =
+        let other : node ≡ home → ⊥ = λ e. (let t : (node == home) ≡ true = grind (arith, nat_tests) in cc) in
+        get_or-set_other (replicate (nodes_of plan) false) home node true false other
+        ∙ get_or-replicate (nodes_of plan) node false false h
+
+    at_start : (node : ℕ) → node < nodes_of plan → get_or (slice_set (replicate
+        (nodes_of plan) false) home true) node false ≡ (node == start setting sub || false)
+    at_start node h = at_test node h (node == home) refl ∙ ap (λ n. node == n || false) (sym starts)

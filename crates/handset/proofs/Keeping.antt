@@ -1,0 +1,97 @@
+-- What a handset stands for at a stage, and at the stages that follow it.
+use Rattle.std.proofs.Common.{◌≡◌, ℕ, ◌^◌, ◌<◌, ◌≤◌, false, List, ◌++◌, length, map, take, drop, ap, ◌∙◌}
+use Rattle.std.specs.Prelude.{get_or}
+use Rattle.node_set.specs.Ascending.{has}
+use Rattle.directory.specs.Settings.{Setting, levels}
+use Rattle.directory.specs.Courses.{Step, Move, Course, address_node, gathered_weight, next_move}
+use Rattle.directory.specs.Writes.{visit_of, visits, trail}
+use Rattle.handset.specs.declared.stage.Stage.{Stage}
+use Rattle.handset.specs.Kept.{HandsetData}
+use Rattle.handset.specs.Progress.{left_at}
+use Rattle.handset.specs.Stands.{IsNext, Shows, StandsAt, StandsFor, course_of, number_at, place_at, under_way}
+
+-- what a handset and its setting have in common
+pub record Fits (setting : Setting) (handset : HandsetData) : Type 0 where
+  pub addresses : length handset.addresses ≡ levels setting
+  pub gathered : length handset.gathered ≡ levels setting
+  pub trail : length handset.trail ≡ setting.nodes
+  pub to : handset.last.to < setting.nodes
+  pub renewed : handset.last.renewed ≤ setting.top
+  pub low : setting.nodes ≤ 2 ^ 16
+  pub from : handset.last.from < setting.nodes
+  pub numbered : handset.last.number < 2 ^ 32
+  pub number : handset.number < 2 ^ 32
+
+-- what a handset stands for at a stage, but for the visits that it has made
+pub record Keeps (setting : Setting) (handset : HandsetData) (stage : Stage) (steps : List Step) : Type 0 where
+  pub over : List Step
+  pub begun : steps ≡ over ++ under_way handset.last stage
+  pub move : IsNext setting (course_of setting handset.sub over) handset.last stage
+  pub place : handset.place ≡ place_at (course_of setting handset.sub over) handset.last stage
+  pub number : handset.number ≡ number_at (course_of setting handset.sub over) handset.last stage
+  pub is_off : handset.is_off ≡ (course_of setting handset.sub over).is_off
+  pub addresses : (level : ℕ) → level < levels setting
+      → get_or handset.addresses level 0 ≡ address_node (course_of setting handset.sub over) level
+  pub gathered : (level : ℕ) → level < levels setting
+      → get_or handset.gathered level 0 ≡ gathered_weight (course_of setting handset.sub steps) level
+  pub trail : (to node : ℕ) → node < setting.nodes
+      → get_or handset.trail node false
+      ≡ has node (trail setting (course_of setting handset.sub over) (next_move setting
+      (course_of setting handset.sub over) to))
+
+pub keeps-of : (setting : Setting) (handset : HandsetData) (stage : Stage) (steps : List Step) (made : ℕ)
+    → StandsAt setting handset stage steps made → Keeps setting handset stage steps
+keeps-of setting handset stage steps made f = record {
+  over = f.over;
+  begun = f.begun;
+  move = f.move;
+  place = f.place;
+  number = f.number;
+  is_off = f.is_off;
+  addresses = f.addresses;
+  gathered = f.gathered;
+  trail = f.trail;
+}
+
+pub stands-of : (setting : Setting) (handset : HandsetData) (stage : Stage) (steps : List Step) (made : ℕ)
+    → Keeps setting handset stage steps → Shows setting handset (take made (visits setting handset.sub steps))
+    → made ≤ length (visits setting handset.sub steps)
+    → drop made (visits setting handset.sub steps)
+    ≡ map (visit_of handset.sub) (left_at setting (record handset { stage = stage }) stage)
+    → StandsFor setting (record handset { stage = stage }) steps made
+stands-of setting handset stage steps made f shows few left = record {
+  over = f.over;
+  begun = f.begun;
+  move = f.move;
+  place = f.place;
+  number = f.number;
+  is_off = f.is_off;
+  addresses = f.addresses;
+  gathered = f.gathered;
+  trail = f.trail;
+  shows = record { place = shows.place; number = shows.number; is_off = shows.is_off };
+  few = few;
+  left = left;
+}
+
+-- at two stages a step is as far, but for its visits
+abbrev pub AreAlike : Setting → Move → Stage → Stage → Type 0
+AreAlike setting move stage next =
+    (under_way move stage ≡ under_way move next)
+    × ((course : Course) → IsNext setting course move stage → IsNext setting course move next)
+    × ((course : Course) → place_at course move stage ≡ place_at course move next)
+    × ((course : Course) → number_at course move stage ≡ number_at course move next)
+
+pub keeps-on : (setting : Setting) (handset : HandsetData) (stage next : Stage) (steps : List Step)
+    → AreAlike setting handset.last stage next → Keeps setting handset stage steps → Keeps setting handset next steps
+keeps-on setting handset stage next steps alike f = record {
+  over = f.over;
+  begun = f.begun ∙ ap (λ under. f.over ++ under) alike.0;
+  move = alike.1 (course_of setting handset.sub f.over) f.move;
+  place = f.place ∙ alike.2 (course_of setting handset.sub f.over);
+  number = f.number ∙ alike.3 (course_of setting handset.sub f.over);
+  is_off = f.is_off;
+  addresses = f.addresses;
+  gathered = f.gathered;
+  trail = f.trail;
+}

@@ -1,0 +1,244 @@
+-- What a handset stands for goes on with each of its writes.
+use Rattle.std.proofs.Common.{◌≡◌, ℕ, suc, ◌+◌, ◌^◌, ◌<◌, ◌≤◌, Bool, true, false, cond, List, [], Some, None, length, map, take, drop, refl, sym, ap, ◌∙◌, subst, arith}
+use Rattle.std.specs.Prelude.{nat_lt, slice_get, IsSome, option_map}
+use Rattle.std.proofs.lemmas.List.{append-nil}
+use Rattle.node_set.specs.Ascending.{has}
+use Rattle.entry_word.specs.declared.mark.PresenceMark.TheVariants.{Empty, Gone, Off, Here, Coming as ComingMark}
+use Rattle.entry_word.specs.declared.visit.Visit.{Visit}
+use Rattle.directory.specs.Settings.{Setting}
+use Rattle.directory.specs.Courses.{Step, Course, last_stop, address_node, next_move, after_step}
+use Rattle.directory.specs.Writes.{visit_of, visits, trail}
+use Rattle.region_plan.specs.Plan.{PlanData}
+use Rattle.handset.specs.declared.stage.Stage.{Stage}
+use Rattle.handset.specs.declared.stage.Stage.TheVariants.{Resting, Coming, Renewing, Committing, Confirming, Erasing, Purging, Switching}
+use Rattle.region_plan.specs.Kept.{IsKept}
+use Rattle.region_plan.specs.Settings.{setting_of}
+use Rattle.handset.specs.Kept.{HandsetData, GoesWith, begun_at}
+use Rattle.handset.specs.Progress.{renew_from, erase_from, due_at, due, left_at, go_on, after_write, erasing_from, purging_from}
+use Rattle.handset.specs.Stands.{course_of, switch_to, Shows, StandsAt, StandsFor}
+use Rattle.handset.proofs.Lists.{drop-head, drop-tail, drop-inside, drop-none}
+use Rattle.handset.proofs.Going.{IsLate}
+use Rattle.handset.proofs.Showing.{Unpacks, mark-shown, entry-shown, commit-shown}
+use Rattle.handset.proofs.CourseLaws.{course-more}
+use Rattle.handset.proofs.Keeping.{Fits, Keeps, keeps-of, keeps-on, stands-of}
+use Rattle.handset.proofs.Settling.{AddressLaw, settled-stands}
+use Rattle.handset.proofs.Writing.{purging-left, erasing-left, renewing-left, renewing-first}
+
+-- the next visit is the first of those that are left
+head-due : (setting : Setting) (handset : HandsetData) (stage : Stage) (n : ℕ) (vs : List Visit)
+    → drop n vs ≡ map (visit_of handset.sub) (left_at setting handset stage) → slice_get vs n
+    ≡ option_map (visit_of handset.sub) (due_at setting handset stage)
+head-due setting handset Resting n vs h = drop-none n vs h
+head-due setting handset Coming n vs h = drop-head n vs _ _ h
+head-due setting handset (Renewing level) n vs h = drop-head n vs _ _ h
+head-due setting handset Committing n vs h = drop-head n vs _ _ h
+head-due setting handset Confirming n vs h = drop-head n vs _ _ h
+head-due setting handset (Erasing level) n vs h = drop-head n vs _ _ h
+head-due setting handset (Purging node) n vs h = drop-head n vs _ _ h
+head-due setting handset (Switching off) n vs h = drop-head n vs _ _ h
+
+pub next-stands : (setting : Setting) (handset : HandsetData) (steps : List Step) (made : ℕ)
+    → StandsFor setting handset steps made
+    → due setting handset ≡ slice_get (visits setting handset.sub steps) made
+next-stands setting handset steps made stands = sym (head-due setting handset handset.stage made
+    (visits setting handset.sub steps) stands.left)
+
+-- a handset that goes on behind the confirm
+gone-on-stands : (setting : Setting) (handset : HandsetData) (next : Stage) (nodes : ℕ) (steps : List Step)
+    (made : ℕ) → AddressLaw setting → Fits setting handset
+    → Keeps setting handset Confirming steps → Shows setting handset (take made (visits setting handset.sub steps))
+    → IsLate nodes handset.last next → made ≤ length (visits setting handset.sub steps)
+    → drop made (visits setting handset.sub steps) ≡ map (visit_of handset.sub) (left_at setting handset next)
+    → StandsFor setting (go_on setting handset next) steps made
+gone-on-stands setting handset Resting nodes steps made law fits f shows late few left =
+    settled-stands setting handset steps made law fits f shows few left
+gone-on-stands setting handset Coming nodes steps made law fits f shows late few left = absurd late
+gone-on-stands setting handset (Renewing level) nodes steps made law fits f shows late few left = absurd late
+gone-on-stands setting handset Committing nodes steps made law fits f shows late few left = absurd late
+gone-on-stands setting handset Confirming nodes steps made law fits f shows late few left = absurd late
+gone-on-stands setting handset (Erasing level) nodes steps made law fits f shows late few left =
+    stands-of setting handset (Erasing level) steps made
+    (keeps-on setting handset Confirming (Erasing level) steps (refl, λ c m. m, λ c. refl, λ c. refl) f) shows few left
+gone-on-stands setting handset (Purging node) nodes steps made law fits f shows late few left =
+    stands-of setting handset (Purging node) steps made
+    (keeps-on setting handset Confirming (Purging node) steps (refl, λ c m. m, λ c. refl, λ c. refl) f) shows few left
+gone-on-stands setting handset (Switching off) nodes steps made law fits f shows late few left = absurd late
+
+-- a handset goes on before the commit
+renewing-stands : (setting : Setting) (handset : HandsetData) (level : ℕ) (steps : List Step) (made : ℕ)
+    → Keeps setting handset Coming steps → Shows setting handset (take made (visits setting handset.sub steps))
+    → made ≤ length (visits setting handset.sub steps)
+    → drop made (visits setting handset.sub steps)
+    ≡ map (visit_of handset.sub) (renew_from setting handset (suc level))
+    → StandsFor setting (after_write setting handset (Renewing level)) steps made
+renewing-stands setting handset level steps made f shows few left = at_test (nat_lt level handset.last.renewed) refl
+  where
+    left_then : (b : Bool) → nat_lt level handset.last.renewed ≡ b → drop made (visits setting handset.sub steps)
+        ≡ map (visit_of handset.sub) (left_at setting handset (cond b (Renewing (suc level)) Committing))
+    left_then b same = left ∙ ap (map (visit_of handset.sub)) (renewing-left setting handset level
+        ∙ ap (λ t. left_at setting handset (cond t (Renewing (suc level)) Committing)) same)
+
+    at_test : (b : Bool) → nat_lt level handset.last.renewed ≡ b → StandsFor setting (record handset {
+      stage = cond b (Renewing (suc level)) Committing;
+    }) steps made
+    at_test true same = stands-of setting handset (Renewing (suc level)) steps made
+        (keeps-on setting handset Coming (Renewing (suc level)) steps (refl, λ c m. m, λ c. refl, λ c. refl) f) shows
+        few
+        (left_then true same)
+    at_test false same = stands-of setting handset Committing steps made
+        (keeps-on setting handset Coming Committing steps (refl, λ c m. m, λ c. refl, λ c. refl) f) shows few
+        (left_then false same)
+
+-- a switch leaves the course but for whether it is off
+switched-is : (setting : Setting) (course : Course) (off : Bool)
+    → after_step setting course (switch_to off) ≡ record course { is_off = off }
+switched-is setting course true = refl
+switched-is setting course false = refl
+
+switched-stands : (setting : Setting) (handset : HandsetData) (off : Bool) (steps : List Step) (made : ℕ)
+    → StandsAt setting handset (Switching off) steps made
+    → Shows setting (record handset { is_off = off; stage = Resting })
+    (take (suc made) (visits setting handset.sub steps))
+    → StandsFor setting (record handset { is_off = off; stage = Resting }) steps (suc made)
+switched-stands setting handset off steps made f shows = record {
+  over = steps;
+  begun = sym (append-nil steps);
+  move = tt;
+  place = f.place ∙ sym (ap last_stop course_is);
+  number = f.number ∙ sym (ap (λ c. length c.moves) course_is);
+  is_off = sym (ap (λ c. c.is_off) course_is);
+  addresses = λ level h. f.addresses level h ∙ sym (ap (λ c. address_node c level) course_is);
+  gathered = f.gathered;
+  trail = λ to node h.
+      f.trail to node h ∙ sym (ap (λ c. has node (trail setting c (next_move setting c to))) course_is);
+  shows = shows;
+  few = drop-inside made _ _ _ f.left;
+  left = drop-tail made _ _ _ f.left;
+}
+  where
+    before : Course
+    before = course_of setting handset.sub f.over
+
+    course_is : course_of setting handset.sub steps ≡ record before { is_off = off }
+    course_is = ap (course_of setting handset.sub) f.begun
+        ∙ (course-more setting handset.sub f.over (switch_to off) ∙ switched-is setting before off)
+
+-- a handset after the write that came next
+after-stands : (setting : Setting) (handset : HandsetData) (stage : Stage) (nodes : ℕ) (steps : List Step)
+    (made : ℕ) → Unpacks → AddressLaw setting → Fits setting handset
+    → ((level : ℕ) → IsLate nodes handset.last (erasing_from setting handset level)) → ((node : ℕ)
+    → IsLate nodes handset.last (purging_from setting handset node))
+    → (stage ≡ Resting → ⊥) → StandsAt setting handset stage steps made
+    → StandsFor setting (after_write setting handset stage) steps (suc made)
+after-stands setting handset Resting nodes steps made unpacks law fits erasing purging going f = absurd (going refl)
+after-stands setting handset Coming nodes steps made unpacks law fits erasing purging going f =
+    stands-of setting handset (Renewing 0) steps (suc made)
+    (keeps-on setting handset Coming (Renewing 0) steps (refl, λ c m. m, λ c. refl, λ c. refl)
+    (keeps-of setting handset Coming steps made f))
+    (mark-shown unpacks setting handset (visits setting handset.sub steps) made handset.last.to
+    (ComingMark handset.last.number handset.last.from) _ f.left
+    (fits.numbered, omega (arith, fits.low, fits.from)) refl (f.is_off ∙ f.move.1) f.shows)
+    (drop-inside made _ _ _ f.left)
+    (drop-tail made _ _ _ f.left ∙ ap (map (visit_of handset.sub)) (renewing-first setting handset))
+after-stands setting handset (Renewing level) nodes steps made unpacks law fits erasing purging going f =
+    renewing-stands setting handset level steps (suc made)
+    (keeps-on setting handset (Renewing level) Coming steps (refl, λ c m. m, λ c. refl, λ c. refl)
+    (keeps-of setting handset (Renewing level) steps made f))
+    (entry-shown setting handset (visits setting handset.sub steps) made level _
+    (Some (record { number = handset.last.number; node = handset.last.to }))
+    (map (visit_of handset.sub) (renew_from setting handset (suc level))) f.left (f.is_off ∙ f.move.1) f.shows)
+    (drop-inside made _ _ _ f.left) (drop-tail made _ _ _ f.left)
+after-stands setting handset Committing nodes steps made unpacks law fits erasing purging going f =
+    record {
+      over = f.over;
+      begun = f.begun;
+      move = f.move;
+      place = refl;
+      number = refl;
+      is_off = f.is_off;
+      addresses = f.addresses;
+      gathered = f.gathered;
+      trail = f.trail;
+      shows =
+          let first : handset.last.number ≡ suc (length (course_of setting handset.sub f.over).moves) =
+          ap (λ m. m.number) f.move.0 in
+          let more : handset.last.number ≡ handset.number + 1 = omega (arith, first, f.number) in
+          commit-shown unpacks setting handset _ (visits setting handset.sub steps) made handset.last.from
+          (Gone handset.last.number handset.last.to) _ f.left
+          (fits.numbered, omega (arith, fits.low, fits.to)) refl refl more (f.is_off ∙ f.move.1) f.shows;
+      few = drop-inside made _ _ _ f.left;
+      left = drop-tail made _ _ _ f.left;
+    }
+after-stands setting handset Confirming nodes steps made unpacks law fits erasing purging going f =
+    gone-on-stands setting handset (erasing_from setting handset 0) nodes steps (suc made) law fits
+    (keeps-of setting handset Confirming steps made f)
+    (mark-shown unpacks setting handset (visits setting handset.sub steps) made handset.last.to
+    (Here handset.last.number) _ f.left fits.numbered refl (f.is_off ∙ f.move.1) f.shows)
+    (erasing 0) (drop-inside made _ _ _ f.left) (drop-tail made _ _ _ f.left ∙ ap (map (visit_of handset.sub))
+    (erasing-left setting handset 0))
+after-stands setting handset (Erasing level) nodes steps made unpacks law fits erasing purging going f =
+    gone-on-stands setting handset (erasing_from setting handset (suc level)) nodes steps (suc made) law fits
+    (keeps-on setting handset (Erasing level) Confirming steps (refl, λ c m. m, λ c. refl, λ c. refl)
+    (keeps-of setting handset (Erasing level) steps made f))
+    (entry-shown setting handset (visits setting handset.sub steps) made level _ None (map (visit_of handset.sub)
+    (erase_from setting handset (suc level))) f.left (f.is_off ∙ f.move.1) f.shows)
+    (erasing (suc level)) (drop-inside made _ _ _ f.left) (drop-tail made _ _ _ f.left
+    ∙ ap (map (visit_of handset.sub)) (erasing-left setting handset (suc level)))
+after-stands setting handset (Purging node) nodes steps made unpacks law fits erasing purging going f =
+    gone-on-stands setting handset (purging_from setting handset (suc node)) nodes steps (suc made) law fits
+    (keeps-on setting handset (Purging node) Confirming steps (refl, λ c m. m, λ c. refl, λ c. refl)
+    (keeps-of setting handset (Purging node) steps made f))
+    (mark-shown unpacks setting handset (visits setting handset.sub steps) made node Empty _ f.left tt refl
+    (f.is_off ∙ f.move.1) f.shows)
+    (purging (suc node)) (drop-inside made _ _ _ f.left) (drop-tail made _ _ _ f.left
+    ∙ ap (map (visit_of handset.sub)) (purging-left setting handset (suc node)))
+after-stands setting handset (Switching true) nodes steps made unpacks law fits erasing purging going f =
+    let same : handset.number ≡ handset.number + 0 = omega arith in
+    switched-stands setting handset true steps made f
+    (commit-shown unpacks setting handset _ (visits setting handset.sub steps) made handset.place (Off handset.number) _
+    f.left fits.number refl refl same refl f.shows)
+after-stands setting handset (Switching false) nodes steps made unpacks law fits erasing purging going f =
+    let same : handset.number ≡ handset.number + 0 = omega arith in
+    switched-stands setting handset false steps made f
+    (commit-shown unpacks setting handset _ (visits setting handset.sub steps) made handset.place
+    (Here handset.number) _
+    f.left fits.number refl refl same refl f.shows)
+
+pub made-stands : (setting : Setting) (handset : HandsetData) (nodes : ℕ) (steps : List Step) (made : ℕ) → Unpacks
+    → AddressLaw setting → Fits setting handset
+    → ((level : ℕ) → IsLate nodes handset.last (erasing_from setting handset level)) → ((node : ℕ)
+    → IsLate nodes handset.last (purging_from setting handset node))
+    → (handset.stage ≡ Resting → ⊥) → StandsFor setting handset steps made
+    → StandsFor setting (after_write setting handset handset.stage) steps (suc made)
+made-stands setting handset nodes steps made unpacks law fits erasing purging going f =
+    after-stands setting handset handset.stage nodes steps made unpacks law fits erasing purging going f
+
+few-commits : (stage : Stage) (last number : ℕ) → last ≡ begun_at stage number → last < 2 ^ 32 → number < 2 ^ 32
+few-commits Resting last number same few = omega (arith, same, few)
+few-commits Coming last number same few = omega (arith, same, few)
+few-commits (Renewing level) last number same few = omega (arith, same, few)
+few-commits Committing last number same few = omega (arith, same, few)
+few-commits Confirming last number same few = omega (arith, same, few)
+few-commits (Erasing level) last number same few = omega (arith, same, few)
+few-commits (Purging node) last number same few = omega (arith, same, few)
+few-commits (Switching off) last number same few = omega (arith, same, few)
+
+pub fits-plan : (plan : PlanData) (starts : List ℕ) (handset : HandsetData) → IsKept plan → GoesWith plan handset
+    → Fits (setting_of plan starts) handset
+fits-plan plan starts handset kept goes = record {
+  addresses = omega (arith, goes.addresses, kept.some);
+  gathered = omega (arith, goes.gathered, kept.some);
+  trail = goes.trail;
+  to = goes.to;
+  renewed = omega (arith, goes.renewed, kept.some);
+  low = omega (arith, kept.metric.few);
+  from = goes.from;
+  numbered = goes.numbered;
+  number = few-commits handset.stage handset.last.number handset.number goes.counted goes.numbered;
+}
+
+-- a handset that has a write left isn't at rest
+pub going-on : (plan : PlanData) (handset : HandsetData) → IsSome (due (setting_of plan []) handset)
+    → handset.stage ≡ Resting → ⊥
+going-on plan handset some rests = let impossible = subst (λ s. IsSome (option_map (visit_of handset.sub) (due_at
+    (setting_of plan []) handset s))) rests some in cc

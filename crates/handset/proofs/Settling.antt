@@ -1,0 +1,144 @@
+-- What a handset stands for when its move is over.
+use Rattle.std.proofs.Common.{◌≡◌, ℕ, suc, ◌+◌, ◌<◌, ◌≤◌, Bool, true, false, cond, List, [], ◌∷◌, ◌++◌, length, take, drop, replicate, refl, sym, ap, ◌∙◌, arith, length-append}
+use Rattle.std.specs.Prelude.{get_or, nat_le, nat_lt, slice_set, ◌==◌, ◌||◌}
+use Rattle.std.proofs.lemmas.Bool.Decides.{nat_tests}
+use Rattle.std.proofs.lemmas.List.{append-nil, get_or-set_same, get_or-set_other, get_or-replicate, length-replicate}
+use Rattle.node_set.specs.Ascending.{has}
+use Rattle.directory.specs.Settings.{Setting, start}
+use Rattle.directory.specs.Courses.{Step, move_to, Course, course_at, last_stop, address_node, gathered_weight, next_move, after_step, after_steps}
+use Rattle.directory.specs.Writes.{visits, trail}
+use Rattle.handset.specs.declared.stage.Stage.TheVariants.{Confirming}
+use Rattle.handset.specs.Kept.{HandsetData}
+use Rattle.handset.specs.Progress.{settle}
+use Rattle.handset.specs.Stands.{course_of, Shows, StandsFor}
+use Rattle.handset.proofs.Going.{readdressed}
+use Rattle.handset.proofs.CourseLaws.{course-more, place-after, trail-after}
+use Rattle.handset.proofs.Keeping.{Fits, Keeps}
+
+-- the law of the levels
+abbrev pub AddressLaw : Setting → Type 0
+AddressLaw setting = (first : ℕ) (steps : List Step) (node level : ℕ)
+    → address_node (after_step setting (after_steps setting (course_at first) steps) (move_to node)) level
+    ≡ cond (nat_le level (next_move setting (after_steps setting (course_at first) steps) node).renewed) node
+    (address_node (after_steps setting (course_at first) steps) level)
+
+abbrev pub GatheredLaw : Setting → Type 0
+GatheredLaw setting = (first : ℕ) (steps : List Step) (node level : ℕ)
+    → gathered_weight (after_step setting (after_steps setting (course_at first) steps) (move_to node)) level
+    ≡ cond (nat_le level (next_move setting (after_steps setting (course_at first) steps) node).renewed) 0
+    (gathered_weight (after_steps setting (course_at first) steps) level
+    + setting.distance (last_stop (after_steps setting (course_at first) steps)) node)
+
+-- the tests of a level that is renewed
+turned : (a b x y : ℕ) → cond (nat_lt a b) x y ≡ cond (nat_le b a) y x
+turned a b x y = at_tests (nat_lt a b) (nat_le b a) refl refl
+  where
+    at_tests : (s t : Bool) → nat_lt a b ≡ s → nat_le b a ≡ t → cond s x y ≡ cond t y x
+    at_tests true true h l = absurd (let one : a < b = grind (arith, nat_tests) in
+        let two : b ≤ a = grind (arith, nat_tests) in omega arith)
+    at_tests true false h l = refl
+    at_tests false true h l = refl
+    at_tests false false h l = absurd (let one : b ≤ a = grind (arith, nat_tests) in
+        let two : a < b = grind (arith, nat_tests) in omega arith)
+
+-- where the highest level is the top, the top is renewed
+top-renewed : (top renewed : ℕ) → renewed ≤ top → (renewed == top) ≡ nat_le top renewed
+top-renewed top renewed h = at_tests (renewed == top) (nat_le top renewed) refl refl
+  where
+    at_tests : (s t : Bool) → (renewed == top) ≡ s → nat_le top renewed ≡ t → s ≡ t
+    at_tests true true a b = refl
+    at_tests true false a b = absurd (let one : renewed ≡ top = grind (arith, nat_tests) in
+        let two : renewed < top = grind (arith, nat_tests) in omega arith)
+    at_tests false true a b = absurd (let two : top ≤ renewed = grind (arith, nat_tests) in
+        let one : renewed ≡ top = omega arith in let e : (renewed == top) ≡ true = grind (arith, nat_tests) in cc)
+    at_tests false false a b = refl
+
+-- the trail that is kept after a move
+marked : (trail : List Bool) (renews : Bool) (to node : ℕ) → to < length trail → node < length trail
+    → get_or (slice_set (cond renews (replicate (length trail) false) trail) to true) node false
+    ≡ (cond renews false (get_or trail node false) || node == to)
+marked trail renews to node h l = at_test (node == to) refl
+  where
+    count : length (cond renews (replicate (length trail) false) trail) ≡ length trail
+    count = elim renews as (λ b. length (cond b (replicate (length trail) false) trail)
+        ≡ length trail) [ true ↦ length-replicate (length trail) false | false ↦ refl ]
+
+    kept : get_or (cond renews (replicate (length trail) false) trail) node false ≡ cond renews false
+        (get_or trail node false)
+    kept = elim renews as (λ b. get_or (cond b (replicate (length trail) false) trail) node false
+        ≡ cond b false (get_or trail node false)) [
+          | true ↦ get_or-replicate
+              (length trail) node false false l
+          | false ↦ refl
+        ]
+
+    with_true : (b : Bool) → true ≡ (b || true)
+    with_true true = refl
+    with_true false = refl
+
+    with_false : (b : Bool) → b ≡ (b || false)
+    with_false true = refl
+    with_false false = refl
+
+    at_test : (b : Bool) → (node == to) ≡ b → get_or (slice_set (cond renews (replicate
+        (length trail) false) trail) to true) node false ≡ (cond renews false (get_or trail node false) || b)
+    at_test true test =
+        let same : node ≡ to = grind (arith, nat_tests) in
+        let inside : to < length (cond renews (replicate (length trail) false) trail) = omega (arith, h, count) in
+        ap (λ n. get_or (slice_set (cond renews (replicate (length trail) false) trail) to true) n false) same
+        ∙ (get_or-set_same (cond renews (replicate (length trail) false) trail) to true false inside
+        ∙ with_true (cond renews false (get_or trail node false)))
+    at_test false test =
+        let other : node ≡ to → ⊥ = λ e. (let t : (node == to) ≡ true = grind (arith, nat_tests) in cc) in
+        get_or-set_other (cond renews (replicate (length trail) false) trail) to node true false other
+        ∙ (kept ∙ with_false (cond renews false (get_or trail node false)))
+
+-- a move that is over
+pub settled-stands : (setting : Setting) (handset : HandsetData) (steps : List Step) (made : ℕ) → AddressLaw setting
+    → Fits setting handset → Keeps setting handset Confirming steps
+    → Shows setting handset (take made (visits setting handset.sub steps))
+    → made ≤ length (visits setting handset.sub steps) → drop made (visits setting handset.sub steps) ≡ []
+    → StandsFor setting (settle setting handset) steps made
+settled-stands setting handset steps made law fits f shows few left = record {
+  over = steps;
+  begun = sym (append-nil steps);
+  move = tt;
+  place = f.place ∙ sym (ap last_stop course_is ∙ place-after setting before handset.last.to);
+  number = f.number ∙ (ap (λ m. m.number) f.move.0 ∙ sym (ap (λ c. length c.moves) course_is
+      ∙ (let e : length (before.moves ++ next_move setting before handset.last.to ∷ [])
+      ≡ suc (length before.moves) = omega (
+        arith,
+        length-append before.moves
+            (next_move setting before handset.last.to ∷ []),
+      ) in e)));
+  is_off = f.is_off ∙ sym (ap (λ c. c.is_off) course_is);
+  addresses = λ level h.
+      readdressed handset.addresses handset.last.renewed handset.last.to level (omega (arith, h, fits.addresses))
+      ∙ (turned handset.last.renewed level (get_or handset.addresses level 0) handset.last.to
+      ∙ (ap (λ n. cond (nat_le level handset.last.renewed) handset.last.to n) (f.addresses level h)
+      ∙ (ap (λ r. cond (nat_le level r) handset.last.to (address_node before level)) (ap (λ m. m.renewed) f.move.0)
+      ∙ sym (ap (λ c. address_node c level) course_is
+      ∙ law (start setting handset.sub) f.over handset.last.to level))));
+  gathered = f.gathered;
+  trail = λ to node h.
+      ap (λ b. get_or (slice_set (cond b (replicate (length handset.trail) false) handset.trail) handset.last.to
+      true) node false)
+      (top-renewed setting.top handset.last.renewed fits.renewed ∙ ap (λ m. nat_le setting.top m.renewed) f.move.0)
+      ∙ (marked handset.trail (nat_le setting.top (next_move setting before handset.last.to).renewed)
+      handset.last.to node (omega (arith, fits.to, fits.trail)) (omega (arith, h, fits.trail))
+      ∙ (ap (λ b. cond (nat_le setting.top (next_move setting before handset.last.to).renewed) false b || node ==
+      handset.last.to) (f.trail handset.last.to node h)
+      ∙ sym (ap (λ c. has node (trail setting c (next_move setting c to))) course_is
+      ∙ trail-after setting handset.sub f.over handset.last.to to node (nat_le setting.top
+      (next_move setting before handset.last.to).renewed) refl)));
+  shows = record { place = shows.place; number = shows.number; is_off = shows.is_off };
+  few = few;
+  left = left;
+}
+  where
+    before : Course
+    before = course_of setting handset.sub f.over
+
+    course_is : course_of setting handset.sub steps ≡ after_step setting before (move_to handset.last.to)
+    course_is = ap (course_of setting handset.sub) f.begun ∙ course-more setting handset.sub f.over
+        (move_to handset.last.to)

@@ -1,0 +1,263 @@
+-- The lines of an actor's finds come in the order of their last visits.
+use Rattle.std.proofs.Common.{◌≡◌, ◌⊎◌, inl, inr, ℕ, zero, suc, ◌+◌, ◌<◌, ◌≤◌, List, [], ◌∷◌, ◌++◌, length, map, take, drop, fold, get_or, refl, sym, ap, ◌∙◌, subst, arith, Option}
+use Rattle.std.specs.Prelude.{Some, None, flat_map, slice_get}
+use Rattle.node_set.specs.Ascending.{IsAscending, IsBelowAll}
+use Rattle.directory.specs.Settings.{Setting, start, subs}
+use Rattle.directory.specs.Statements.{CallersCount, FindsFollow}
+use Rattle.directory.specs.Courses.{Course, Step, after_step, course_at, move_to, switch_off, switch_on}
+use Rattle.directory.specs.Finds.{FindCall, Stage, after_word, answer_of}
+use Rattle.directory.specs.Histories.{History, tickets, words_read}
+use Rattle.directory.specs.Orders.{Answer, Caller as Seeker, IsPlayed, Scripts, after_read, caller_at, caller_in, finds_of, read_by, steps_of, with_stage}
+use Rattle.directory.specs.Outcomes.{FollowEachOther, answer_line, caller_lines, found_line, outcome_in, step_line, step_lines, sub_lines}
+use Rattle.directory.specs.Writes.{numbers_from, step_writes}
+use Rattle.directory.specs.declared.answers.Done.{Done}
+use Rattle.directory.specs.declared.answers.Found.{Found}
+use Rattle.directory.specs.declared.answers.Found.TheVariants.{At, Off as OffAt, Again}
+use Rattle.trail_laws.specs.Lines.{TellsNumber}
+use Rattle.machine.specs.Machines.{TellInTurn, actor_of}
+
+-- where an element of joined lists lies
+append-at : {A : Type 0} (xs ys : List A) (i : ℕ) (y : A) → slice_get (xs ++ ys) i ≡ Some y
+    → (slice_get xs i ≡ Some y) ⊎ ((k : ℕ) × (i ≡ length xs + k) × (slice_get ys k ≡ Some y))
+append-at [] ys i y h = inr (i, omega arith, h)
+append-at (x ∷ xs) ys zero y h = inl h
+append-at (x ∷ xs) ys (suc i) y h = elim (append-at xs ys i y h) [
+  | inl here ↦ inl here
+  | inr there ↦ inr (there.0, omega (arith, there.1), there.2)
+]
+
+-- the answers of a caller come one after another, and their last looks have been made
+follow-above : (place : ℕ) (answers : List Answer) (j : ℕ) (b : Answer) → FollowEachOther place answers
+    → slice_get answers j ≡ Some b → place ≤ b.last
+unfolding FollowEachOther
+follow-above place [] j b follows at = cc
+follow-above place (a ∷ answers) zero b follows at =
+    let same : a ≡ b = cc in
+    subst (λ (x : Answer). place ≤ x.last) same (omega (arith, follows.0, follows.1))
+follow-above place (a ∷ answers) (suc j) b follows at =
+    omega (arith, follow-above (suc a.last) answers j b follows.2 at, follows.0, follows.1)
+
+follow-last : (place : ℕ) (answers : List Answer) (i j : ℕ) (a b : Answer) → FollowEachOther place answers
+    → i ≤ j → slice_get answers i ≡ Some a → slice_get answers j ≡ Some b → a.last ≤ b.last
+unfolding FollowEachOther
+follow-last place [] i j a b follows le at_a at_b = cc
+follow-last place (x ∷ answers) zero zero a b follows le at_a at_b =
+    let one : x ≡ a = cc in
+    let two : x ≡ b = cc in
+    let same : a.last ≡ b.last = ap (λ (y : Answer). y.last) (sym one ∙ two) in omega (arith, same)
+follow-last place (x ∷ answers) zero (suc j) a b follows le at_a at_b =
+    let one : x ≡ a = cc in
+    let same : x.last ≡ a.last = ap (λ (y : Answer). y.last) one in
+    omega (arith, same, follow-above (suc x.last) answers j b follows.2 at_b)
+follow-last place (x ∷ answers) (suc i) zero a b follows le at_a at_b = absurd (omega (arith, le))
+follow-last place (x ∷ answers) (suc i) (suc j) a b follows le at_a at_b =
+    follow-last (suc x.last) answers i j a b follows.2 (omega (arith, le)) at_a at_b
+
+abbrev AreLooked : ℕ → List Answer → Type 0
+AreLooked next answers = (i : ℕ) (a : Answer) → slice_get answers i ≡ Some a → a.last < next
+
+looked-on : (caller : Seeker) (call : FindCall) (later : List FindCall) (stage : Stage) (answer : Option Found)
+    → AreLooked caller.next caller.answers
+    → AreLooked (with_stage caller call later stage answer).next (with_stage caller call later stage answer).answers
+looked-on caller call later stage None h = λ i a at. omega (arith, h i a at)
+looked-on caller call later stage (Some found) h = λ i a at.
+    elim (append-at caller.answers _ i a at) [
+      | inl here ↦ omega (arith, h i a here)
+      | inr there ↦ one there.0 a there.2
+    ]
+  where
+    one : (k : ℕ) (a : Answer) → slice_get ((let b : Answer = record {
+      call = call;
+      found = found;
+      first = caller.first;
+      last = caller.next;
+    } in b) ∷ []) k ≡ Some a → a.last < suc caller.next
+    one zero a at = let same : caller.next ≡ a.last = cc in omega (arith, same)
+    one (suc k) a at = cc
+
+looked-more : (setting : Setting) (caller : Seeker) (calls : List FindCall) (word : ℕ)
+    → AreLooked caller.next caller.answers
+    → AreLooked (read_by setting caller calls word).next (read_by setting caller calls word).answers
+looked-more setting caller [] word h = h
+looked-more setting caller (call ∷ later) word h =
+    looked-on caller call later (after_word setting call caller.stage word)
+    (answer_of (after_word setting call caller.stage word)) h
+
+looked-all : (setting : Setting) (words : List ℕ) (caller : Seeker) → AreLooked caller.next caller.answers
+    → AreLooked (fold (after_read setting) caller words).next (fold (after_read setting) caller words).answers
+looked-all setting [] caller h = h
+looked-all setting (word ∷ words) caller h =
+    looked-all setting words (after_read setting caller word) (looked-more setting caller caller.calls word h)
+
+-- later tickets are higher
+get-above : (x : ℕ) (xs : List ℕ) (j : ℕ) → IsBelowAll x xs → j < length xs → x < get_or xs j 0
+get-above x [] j below short = absurd (omega (arith, short))
+get-above x (y ∷ ys) zero below short = below.0
+get-above x (y ∷ ys) (suc j) below short = get-above x ys j below.1 (omega (arith, short))
+
+get-rising : (xs : List ℕ) (i j : ℕ) → IsAscending xs → i ≤ j → j < length xs → get_or xs i 0 ≤ get_or xs j 0
+get-rising [] i j ascending le short = absurd (omega (arith, short))
+get-rising (x ∷ xs) zero zero ascending le short = omega arith
+get-rising (x ∷ xs) zero (suc j) ascending le short =
+    omega (arith, get-above x xs j ascending.0 (omega (arith, short)))
+get-rising (x ∷ xs) (suc i) zero ascending le short = absurd (omega (arith, le))
+get-rising (x ∷ xs) (suc i) (suc j) ascending le short =
+    get-rising xs i j ascending.1 (omega (arith, le)) (omega (arith, short))
+
+-- so the lines of one caller are in turn
+map-at : {A B : Type 0} (f : A → B) (xs : List A) (i : ℕ) (y : B) → slice_get (map f xs) i ≡ Some y
+    → (x : A) × (slice_get xs i ≡ Some x) × (f x ≡ y)
+map-at f [] i y h = cc
+map-at f (x ∷ xs) zero y h = let same : f x ≡ y = cc in (x, refl, same)
+map-at f (x ∷ xs) (suc i) y h = map-at f xs i y h
+
+line-last : (caller : ℕ) (call : FindCall) (found : Found) (first last s q ticket : ℕ)
+    → TellsNumber (found_line caller call found first last) s q ticket → last ≡ ticket
+line-last caller call (At node number level weight) first last s q ticket told = told.2
+line-last caller call (OffAt node number level weight) first last s q ticket told = told.2
+line-last caller call (Again why weight) first last s q ticket told = absurd told
+
+line-actor : (caller : ℕ) (call : FindCall) (found : Found) (first last : ℕ)
+    → actor_of (found_line caller call found first last) ≡ caller
+line-actor caller call (At node number level weight) first last = refl
+line-actor caller call (OffAt node number level weight) first last = refl
+line-actor caller call (Again why weight) first last = refl
+
+abbrev AreInTurn : Done → Done → Type 0
+AreInTurn one other = (sub s p q earlier later : ℕ) → TellsNumber one sub p earlier → TellsNumber other s q later
+    → earlier ≤ later
+
+abbrev pub TicketsAscend : Type 0
+TicketsAscend = (actor : ℕ) (history : History) → IsAscending (tickets actor history)
+
+caller-in-turn : FindsFollow → CallersCount → TicketsAscend → (setting : Setting) (scripts : Scripts)
+    (history : History) → IsPlayed setting scripts history → (actor i j : ℕ) (one other : Done)
+    → subs setting ≤ actor → i ≤ j → slice_get (caller_lines setting scripts history actor) i ≡ Some one
+    → slice_get (caller_lines setting scripts history actor) j ≡ Some other → AreInTurn one other
+caller-in-turn follow count ascend setting scripts history played actor i j one other high le at_one at_other
+    sub s p q earlier later told_one told_other =
+    let seen : List ℕ = tickets actor history in
+    let seeker : Seeker = caller_in setting scripts history actor in
+    let a = map-at (answer_line actor seen) seeker.answers i one at_one in
+    let b = map-at (answer_line actor seen) seeker.answers j other at_other in
+    let order : a.0.last ≤ b.0.last =
+    follow-last 0 seeker.answers i j a.0 b.0 (follow setting scripts history actor high played) le a.1 b.1 in
+    let looked : b.0.last < seeker.next = looked-all setting (words_read setting actor history)
+    (caller_at (finds_of setting scripts actor)) (λ k x at. cc) j b.0 b.1 in
+    omega (
+      arith,
+      line-last actor a.0.call a.0.found (get_or seen a.0.first 0) (get_or seen a.0.last 0) sub p earlier
+          (subst (λ (l : Done). TellsNumber l sub p earlier) (sym a.2) told_one),
+      line-last actor b.0.call b.0.found (get_or seen b.0.first 0) (get_or seen b.0.last 0) s q later
+          (subst (λ (l : Done). TellsNumber l s q later) (sym b.2) told_other),
+      get-rising seen a.0.last b.0.last (ascend actor history) order
+          (omega (arith, looked, (count setting scripts history actor high played).0)),
+    )
+
+line-of-caller : (setting : Setting) (scripts : Scripts) (history : History) (actor i : ℕ) (line : Done)
+    → slice_get (caller_lines setting scripts history actor) i ≡ Some line → actor_of line ≡ actor
+line-of-caller setting scripts history actor i line at =
+    let seen : List ℕ = tickets actor history in
+    let a = map-at (answer_line actor seen) (caller_in setting scripts history actor).answers i line at in
+    sym (ap actor_of a.2)
+    ∙ line-actor actor a.0.call a.0.found (get_or seen a.0.first 0) (get_or seen a.0.last 0)
+
+got-within : {A : Type 0} (xs : List A) (i : ℕ) (y : A) → slice_get xs i ≡ Some y → i < length xs
+got-within [] i y h = cc
+got-within (x ∷ xs) zero y h = omega arith
+got-within (x ∷ xs) (suc i) y h = omega (arith, got-within xs i y h)
+
+-- the lines of each actor lie together
+block-above : (f : ℕ → List Done) (x k : ℕ) → ((a i : ℕ) (y : Done) → x ≤ a → slice_get (f a) i ≡ Some y
+    → actor_of y ≡ a) → (i : ℕ) (y : Done) → slice_get (flat_map f (numbers_from x k)) i ≡ Some y → x ≤ actor_of y
+block-above f x zero each i y h = cc
+block-above f x (suc k) each i y h = elim (append-at (f x) (flat_map f (numbers_from (suc x) k)) i y h) [
+  | inl here ↦ omega (arith, each x i y (omega arith) here)
+  | inr there ↦
+      omega (arith, block-above f (suc x) k (λ a n z low. each a n z (omega (arith, low))) there.0 y there.2)
+]
+
+all-in-turn : (f : ℕ → List Done) (x k : ℕ) → ((a i : ℕ) (y : Done) → x ≤ a → slice_get (f a) i ≡ Some y
+    → actor_of y ≡ a)
+    → ((a i j : ℕ) (one other : Done) → x ≤ a → i ≤ j → slice_get (f a) i ≡ Some one
+    → slice_get (f a) j ≡ Some other → AreInTurn one other)
+    → (i j : ℕ) (one other : Done) → i ≤ j → slice_get (flat_map f (numbers_from x k)) i ≡ Some one
+    → slice_get (flat_map f (numbers_from x k)) j ≡ Some other → actor_of one ≡ actor_of other → AreInTurn one other
+all-in-turn f x zero each order i j one other le at_one at_other same = cc
+all-in-turn f x (suc k) each order i j one other le at_one at_other same =
+    at_parts (append-at (f x) (flat_map f (numbers_from (suc x) k)) i one at_one)
+    (append-at (f x) (flat_map f (numbers_from (suc x) k)) j other at_other)
+    (λ m n low a b. all-in-turn f (suc x) k (λ c i y h. each c i y (omega (arith, h)))
+    (λ c i j y z h. order c i j y z (omega (arith, h))) m n one other low a b same)
+  where
+    rest : List Done
+    rest = flat_map f (numbers_from (suc x) k)
+
+    at_parts : (slice_get (f x) i ≡ Some one) ⊎ ((m : ℕ) × (i ≡ length (f x) + m) × (slice_get rest m ≡ Some one))
+        → (slice_get (f x) j ≡ Some other) ⊎ ((n : ℕ) × (j ≡ length (f x) + n) × (slice_get rest n ≡ Some other))
+        → ((m n : ℕ) → m ≤ n → slice_get rest m ≡ Some one → slice_get rest n ≡ Some other → AreInTurn one other)
+        → AreInTurn one other
+    at_parts (inl a) (inl b) later = order x i j one other (omega arith) le a b
+    at_parts (inl a) (inr b) later = absurd (omega (
+      arith,
+      same,
+      each x i one (omega arith) a,
+      block-above f (suc x) k (λ c i y h. each c i y (omega (arith, h))) b.0 other b.2,
+    ))
+    at_parts (inr a) (inl b) later = absurd (omega (arith, le, a.1, got-within (f x) j other b))
+    at_parts (inr a) (inr b) later = later a.0 b.0 (omega (arith, le, a.1, b.1)) a.2 b.2
+
+-- the lines of subscribers tell no numbers
+step-untold : (setting : Setting) (sub : ℕ) (course : Course) (step : Step) (seen : List ℕ) (s q ticket : ℕ)
+    → TellsNumber (step_line setting sub course step seen) s q ticket → ⊥
+step-untold setting sub course (move_to node) seen s q ticket told = told
+step-untold setting sub course switch_off seen s q ticket told = told
+step-untold setting sub course switch_on seen s q ticket told = told
+
+steps-untold : (setting : Setting) (sub : ℕ) (course : Course) (steps : List Step) (seen : List ℕ) (i : ℕ)
+    (line : Done) (s q ticket : ℕ) → slice_get (step_lines setting sub course steps seen) i ≡ Some line
+    → TellsNumber line s q ticket → ⊥
+unfolding step_lines
+steps-untold setting sub course [] seen i line s q ticket at told = cc
+steps-untold setting sub course (step ∷ steps) seen zero line s q ticket at told =
+    let first : List ℕ = take (length (step_writes setting course step)) seen in
+    let same : step_line setting sub course step first ≡ line = cc in
+    step-untold setting sub course step first s q ticket
+    (subst (λ (l : Done). TellsNumber l s q ticket) (sym same) told)
+steps-untold setting sub course (step ∷ steps) seen (suc i) line s q ticket at told =
+    steps-untold setting sub (after_step setting course step) steps
+    (drop (length (step_writes setting course step)) seen) i line s q ticket at told
+
+subs-untold : (setting : Setting) (scripts : Scripts) (history : History) (some : List ℕ) (i : ℕ) (line : Done)
+    (s q ticket : ℕ) → slice_get (flat_map (sub_lines setting scripts history) some) i ≡ Some line
+    → TellsNumber line s q ticket → ⊥
+subs-untold setting scripts history [] i line s q ticket at told = cc
+subs-untold setting scripts history (sub ∷ some) i line s q ticket at told = elim
+    (append-at (sub_lines setting scripts history sub) (flat_map (sub_lines setting scripts history) some) i line at) [
+      | inl here ↦ steps-untold setting sub (course_at (start setting sub)) (steps_of scripts sub)
+          (tickets sub history) i line s q ticket here told
+      | inr there ↦ subs-untold setting scripts history some there.0 line s q ticket there.2 told
+    ]
+
+-- so all lines are in turn
+pub outcome-in-turn : FindsFollow → CallersCount → TicketsAscend → (setting : Setting) (scripts : Scripts)
+    (history : History) → IsPlayed setting scripts history → TellInTurn (outcome_in setting scripts history).calls
+outcome-in-turn follow count ascend setting scripts history played i j one other le at_one at_other same
+    sub s p q earlier later told_one told_other =
+    at_parts (append-at steps finds i one at_one) (append-at steps finds j other at_other)
+  where
+    steps : List Done
+    steps = flat_map (sub_lines setting scripts history) (numbers_from 0 (subs setting))
+
+    finds : List Done
+    finds = flat_map (caller_lines setting scripts history) (numbers_from (subs setting) (length scripts.finds))
+
+    at_parts : (slice_get steps i ≡ Some one) ⊎ ((m : ℕ) × (i ≡ length steps + m) × (slice_get finds m ≡ Some one))
+        → (slice_get steps j ≡ Some other) ⊎ ((n : ℕ) × (j ≡ length steps + n) × (slice_get finds n ≡ Some other))
+        → earlier ≤ later
+    at_parts (inl a) b = absurd (subs-untold setting scripts history _ i one sub p earlier a told_one)
+    at_parts (inr a) (inl b) = absurd (subs-untold setting scripts history _ j other s q later b told_other)
+    at_parts (inr a) (inr b) = all-in-turn (caller_lines setting scripts history) (subs setting) (length scripts.finds)
+        (λ actor k line high. line-of-caller setting scripts history actor k line)
+        (λ actor m n x y high. caller-in-turn follow count ascend setting scripts history played actor m n x y high)
+        a.0 b.0 one other (omega (arith, le, a.1, b.1)) a.2 b.2 same sub s p q earlier later told_one told_other

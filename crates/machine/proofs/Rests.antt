@@ -1,0 +1,335 @@
+-- A subscriber at rest: that nothing is left, or how far it is after the first visit of its next step.
+use Rattle.std.proofs.Common.{◌≡◌, ℕ, zero, suc, ◌<◌, ◌≤◌, Bool, true, false, List, [], ◌∷◌, ◌++◌, Option, length, map, take, get_or, refl, sym, ap, ◌∙◌, subst, arith, length-append}
+use Rattle.std.specs.Prelude.{Some, None, slice_get, vec_capacity, option_map, unwrap_or}
+use Rattle.std.proofs.lemmas.Option.{slice_get_past, unwrap_or-slice_get}
+use Rattle.std.proofs.lemmas.List.{append-nil, take_all, length-drop, length_push, length-map, get_or-map, same_from_push}
+use Rattle.entry_word.specs.declared.visit.Visit.{Visit}
+use Rattle.directory.specs.Settings.{Setting, start}
+use Rattle.directory.specs.Courses.{Course, MayStep, Step, after_steps, course_at, last_stop, move_to, switch_off, switch_on}
+use Rattle.directory.specs.Histories.{History, own, tickets}
+use Rattle.directory.specs.Orders.{next, script_visits, steps_of}
+use Rattle.directory.specs.Outcomes.{step_line, step_lines}
+use Rattle.directory.specs.StepLaws.{slice_get-within, take-more, writes-append}
+use Rattle.directory.specs.Writes.{step_writes, visit_of, visits, writes}
+use Rattle.directory.specs.declared.answers.Done.{Done}
+use Rattle.directory.specs.declared.answers.Done.TheVariants.{Moved, Switched}
+use Rattle.net_reader.specs.declared.said.Call.{Call}
+use Rattle.net_reader.specs.declared.said.Call.TheVariants as calls
+use Rattle.net_reader.specs.Input.{Contents}
+use Rattle.net_reader.specs.Valid.{IsCourse, IsValid}
+use Rattle.region_plan.specs.Plan.{PlanData}
+use Rattle.region_plan.specs.Settings.{setting_of}
+use Rattle.distances.specs.Table.{DistanceTable}
+use Rattle.handset.specs.Kept.{GoesWith, HandsetData}
+use Rattle.handset.specs.Progress.{due, due_at}
+use Rattle.handset.specs.Stands.{StandsAt, StandsFor, course_of}
+use Rattle.handset.specs.declared.stage.Stage.{Stage}
+use Rattle.handset.specs.declared.stage.Stage.TheVariants.{Resting, Coming, Renewing, Committing, Confirming, Erasing, Purging, Switching}
+use Rattle.visit_log.specs.Cells.{CellData, GoWith, Hold}
+use Rattle.machine.specs.declared.subscriber.Subscriber.{Subscriber}
+use Rattle.machine.specs.Scripts.{scripts_of, step_of}
+use Rattle.machine.specs.Stands.{BelongTogether, setting_in}
+use Rattle.machine.specs.Subscribers.{IsSubscriber, MayBegin, begun_line, begun_steps}
+use Rattle.machine.proofs.Looked.{TicketsGrow}
+use Rattle.machine.proofs.ScriptLaws.{steps-are}
+use Rattle.machine.proofs.Steps.{lines-partial, some-write}
+use Rattle.machine.proofs.Seen.{OwnGrow, Seen, TicketsAreOwn, next-sub, seen-after, step-allowed, tickets-count}
+
+-- a handset at rest
+pub record Rests (setting : Setting) (handset : HandsetData) (steps : List Step) (made : ℕ) : Type 0 where
+  pub place : handset.place ≡ last_stop (after_steps setting (course_at (start setting handset.sub)) steps)
+  pub number : handset.number ≡ length (after_steps setting (course_at (start setting handset.sub)) steps).moves
+  pub is_off : handset.is_off ≡ (after_steps setting (course_at (start setting handset.sub)) steps).is_off
+  pub all : made ≡ length (writes setting (course_at (start setting handset.sub)) steps)
+
+none-of : {A B : Type 0} (f : A → B) (o : Option A) → option_map f o ≡ None → o ≡ None
+none-of f None h = refl
+none-of f (Some x) h = cc
+
+stage-rests : (setting : Setting) (handset : HandsetData) (stage : Stage) → due_at setting handset stage ≡ None
+    → stage ≡ Resting
+stage-rests setting handset Resting h = refl
+stage-rests setting handset Coming h = cc
+stage-rests setting handset (Renewing level) h = cc
+stage-rests setting handset Committing h = cc
+stage-rests setting handset Confirming h = cc
+stage-rests setting handset (Erasing level) h = cc
+stage-rests setting handset (Purging node) h = cc
+stage-rests setting handset (Switching off) h = cc
+
+pub rests : (setting : Setting) (handset : HandsetData) (steps : List Step) (made : ℕ)
+    → StandsFor setting handset steps made → due setting handset ≡ None → Rests setting handset steps made
+rests setting handset steps made stands none =
+    let still : handset.stage ≡ Resting =
+    stage-rests setting handset handset.stage
+    (none-of (visit_of handset.sub) (due_at setting handset handset.stage) none) in
+    let at : StandsAt setting handset Resting steps made =
+    subst (λ stage. StandsAt setting handset stage steps made) still stands in
+    let over : at.over ≡ steps = sym (append-nil at.over) ∙ sym at.begun in
+    record {
+      place = at.place ∙ ap (λ ss. last_stop (course_of setting handset.sub ss)) over;
+      number = at.number ∙ ap (λ ss. length (course_of setting handset.sub ss).moves) over;
+      is_off = at.is_off ∙ ap (λ ss. (course_of setting handset.sub ss).is_off) over;
+      all = omega (
+        arith,
+        at.few,
+        ap length at.left,
+        length-drop made (visits setting handset.sub steps),
+        length-map (writes setting (course_at (start setting handset.sub)) steps) (visit_of handset.sub),
+      );
+    }
+
+-- a call that is a step
+abbrev IsStep : Call → Type 0
+IsStep (calls.Move to) = Unit {0}
+IsStep (calls.Find from sub) = ⊥
+IsStep calls.Off = Unit {0}
+IsStep calls.On = Unit {0}
+
+-- a step that may come may begin
+may-begin : (plan : PlanData) (starts : List ℕ) (handset : HandsetData) (steps : List Step) (made : ℕ) (call : Call)
+    → Rests (setting_of plan starts) handset steps made → IsStep call
+    → MayStep (setting_of plan starts)
+    (after_steps (setting_of plan starts) (course_at (start (setting_of plan starts) handset.sub)) steps) (step_of call)
+    → MayBegin plan handset call
+may-begin plan starts handset steps made (calls.Move to) at its may =
+    (may.inside, λ same. may.moving (same ∙ at.place), at.is_off ∙ may.is_on, omega (arith, may.few, at.number))
+may-begin plan starts handset steps made (calls.Find from sub) at its may = absurd its
+may-begin plan starts handset steps made calls.Off at its may = at.is_off ∙ may
+may-begin plan starts handset steps made calls.On at its may = at.is_off ∙ may
+
+-- a subscriber's script has no finds
+course-steps : (format n here : ℕ) (off : Bool) (script : List Call) (k : ℕ) (d : Call)
+    → IsCourse format n here off script → k < length script → IsStep (get_or script k d)
+course-steps format n here off [] k d its low = absurd (omega (arith, low))
+course-steps format n here off (calls.Move to ∷ script) zero d its low = tt
+course-steps format n here off (calls.Find from sub ∷ script) k d its low = absurd its
+course-steps format n here off (calls.Off ∷ script) zero d its low = tt
+course-steps format n here off (calls.On ∷ script) zero d its low = tt
+course-steps format n here off (calls.Move to ∷ script) (suc k) d its low =
+    course-steps format n to off script k d its.3 (omega (arith, low))
+course-steps format n here off (calls.Off ∷ script) (suc k) d its low =
+    course-steps format n here true script k d its.2 (omega (arith, low))
+course-steps format n here off (calls.On ∷ script) (suc k) d its low =
+    course-steps format n here false script k d its.2 (omega (arith, low))
+
+-- the step of the call at a place of a script
+step-at : (input : Contents) (sub k : ℕ) (call : Call) → IsValid input → sub < length input.homes
+    → k < length (get_or input.scripts sub []) → call ≡ get_or (get_or input.scripts sub []) k call
+    → slice_get (steps_of (scripts_of input) sub) k ≡ Some (step_of call)
+step-at input sub k call valid low short same =
+    let script : List Call = get_or input.scripts sub [] in
+    let found = slice_get-within (map step_of script) k (omega (arith, short, length-map script step_of)) in
+    let is : found.0 ≡ step_of call =
+    ap (λ o. unwrap_or o (step_of call)) (sym found.1)
+    ∙ (unwrap_or-slice_get (map step_of script) k (step_of call)
+    ∙ (get_or-map step_of script k call (step_of call) short ∙ ap step_of (sym same))) in
+    ap (λ ss. slice_get ss k) (steps-are input sub valid low) ∙ (found.1 ∙ ap Some is)
+
+-- the call that a subscriber at rest begins
+pub record Begins (input : Contents) (plan : PlanData) (history : History) (sub : ℕ) (old : Subscriber)
+    (call : Call) : Type 0 where
+  pub may : MayBegin plan old.handset call
+  pub line : (ticket : ℕ) → begun_line plan old.handset call ticket
+      ≡ step_line (setting_in input plan) sub
+      (after_steps (setting_in input plan) (course_at (start (setting_in input plan) sub)) (begun_steps input sub old))
+      (step_of call) (ticket ∷ [])
+  pub more : take (suc (length old.lines.items)) (steps_of (scripts_of input) sub)
+      ≡ begun_steps input sub old ++ step_of call ∷ []
+  pub all : length (own sub history)
+      ≡ length (writes (setting_in input plan) (course_at (start (setting_in input plan) sub))
+      (begun_steps input sub old))
+
+first-line : (plan : PlanData) (starts : List ℕ) (handset : HandsetData) (steps : List Step) (made sub : ℕ)
+    (call : Call) (ticket : ℕ)
+    → Rests (setting_of plan starts) handset steps made → handset.sub ≡ sub → IsStep call
+    → begun_line plan handset call ticket
+    ≡ step_line (setting_of plan starts) sub
+    (after_steps (setting_of plan starts) (course_at (start (setting_of plan starts) sub)) steps)
+    (step_of call) (ticket ∷ [])
+first-line plan starts handset steps made sub call ticket at same its =
+    at_call call its
+  where
+    course : Course
+    course = after_steps (setting_of plan starts) (course_at (start (setting_of plan starts) handset.sub)) steps
+
+    swap : (step : Step) → step_line (setting_of plan starts) handset.sub (after_steps (setting_of plan starts)
+        (course_at (start (setting_of plan starts) handset.sub)) steps) step (ticket ∷ [])
+        ≡ step_line (setting_of plan starts) sub (after_steps (setting_of plan starts)
+        (course_at (start (setting_of plan starts) sub)) steps) step (ticket ∷ [])
+    swap step = ap (λ s. step_line (setting_of plan starts) s (after_steps (setting_of plan starts)
+        (course_at (start (setting_of plan starts) s)) steps) step (ticket ∷ [])) same
+
+    at_call : (c : Call) → IsStep c → begun_line plan handset c ticket
+        ≡ step_line (setting_of plan starts) sub (after_steps (setting_of plan starts)
+        (course_at (start (setting_of plan starts) sub)) steps) (step_of c) (ticket ∷ [])
+    at_call (calls.Move to) its =
+        ap (λ n. Moved handset.sub (suc n) handset.place to
+        ((setting_of plan starts).distance handset.place to) ticket 0 ticket) at.number
+        ∙ (ap (λ p. Moved handset.sub
+        (suc (length
+        (after_steps (setting_of plan starts) (course_at (start (setting_of plan starts) handset.sub)) steps).moves)) p
+        to
+        ((setting_of plan starts).distance p to) ticket 0 ticket) at.place ∙ swap (move_to to))
+    at_call (calls.Find from found) its = absurd its
+    at_call calls.Off its =
+        ap (λ n. Switched handset.sub true handset.place n ticket) at.number
+        ∙ (ap (λ p. Switched handset.sub true p
+        (length (after_steps (setting_of plan starts)
+        (course_at (start (setting_of plan starts) handset.sub)) steps).moves) ticket) at.place
+        ∙ swap switch_off)
+    at_call calls.On its =
+        ap (λ n. Switched handset.sub false handset.place n ticket) at.number
+        ∙ (ap (λ p. Switched handset.sub false p
+        (length (after_steps (setting_of plan starts)
+        (course_at (start (setting_of plan starts) handset.sub)) steps).moves) ticket) at.place
+        ∙ swap switch_on)
+
+pub begins : (input : Contents) (plan : PlanData) (distances : DistanceTable) (history : History) (sub : ℕ)
+    (old : Subscriber) (call : Call)
+    → BelongTogether input plan distances → sub < length input.homes → IsSubscriber input plan history sub old
+    → due (setting_in input plan) old.handset ≡ None → length old.lines.items < length (get_or input.scripts sub [])
+    → call ≡ get_or (get_or input.scripts sub []) (length old.lines.items) call
+    → Begins input plan history sub old call
+begins input plan distances history sub old call together low its none short same =
+    let setting : Setting = setting_in input plan in
+    let at : Rests setting old.handset (begun_steps input sub old) (length (own sub history)) =
+    rests setting old.handset (begun_steps input sub old) (length (own sub history)) its.handset none in
+    let is_step : IsStep call = subst IsStep (sym same)
+    (course-steps input.format input.nodes (get_or input.homes sub 0) false (get_or input.scripts sub [])
+    (length old.lines.items) call
+    (together.valid.courses sub low) short) in
+    let more : take (suc (length old.lines.items)) (steps_of (scripts_of input) sub)
+    ≡ begun_steps input sub old ++ step_of call ∷ [] =
+    take-more (steps_of (scripts_of input) sub) (length old.lines.items) (step_of call)
+    (step-at input sub (length old.lines.items) call together.valid low short same) in
+    let allowed =
+    step-allowed input plan distances sub (suc (length old.lines.items)) (begun_steps input sub old)
+    (step_of call) together low more in
+    record {
+      may = may-begin plan input.homes old.handset (begun_steps input sub old)
+          (length (own sub history)) call at is_step
+          (subst (λ s. MayStep setting (after_steps setting (course_at (start setting s)) (begun_steps input sub old))
+          (step_of call)) (sym its.its) allowed.0);
+      line = λ ticket. first-line plan input.homes old.handset (begun_steps input sub old)
+          (length (own sub history)) sub call ticket at its.its is_step;
+      more = more;
+      all = at.all
+          ∙ ap (λ s. length (writes setting (course_at (start setting s)) (begun_steps input sub old))) its.its;
+    }
+
+-- nothing is left where each step is done
+pub all-written : (input : Contents) (plan : PlanData) (history : History) (sub : ℕ) (old : Subscriber)
+    → IsValid input → sub < length input.homes → IsSubscriber input plan history sub old
+    → due (setting_in input plan) old.handset ≡ None → length old.lines.items ≡ length (get_or input.scripts sub [])
+    → next (setting_in input plan) (scripts_of input) history sub ≡ None
+all-written input plan history sub old valid low its none same =
+    let setting : Setting = setting_in input plan in
+    let at : Rests setting old.handset (begun_steps input sub old) (length (own sub history)) =
+    rests setting old.handset (begun_steps input sub old) (length (own sub history)) its.handset none in
+    let whole : begun_steps input sub old ≡ steps_of (scripts_of input) sub =
+    take_all (length old.lines.items) (steps_of (scripts_of input) sub)
+    (omega (
+      arith,
+      same,
+      ap length (steps-are input sub valid low),
+      length-map (get_or input.scripts sub []) step_of,
+    )) in
+    let count : length (own sub history)
+    ≡ length (writes setting (course_at (start setting sub)) (steps_of (scripts_of input) sub)) =
+    at.all ∙ (ap (λ s. length (writes setting (course_at (start setting s)) (begun_steps input sub old))) its.its
+    ∙ ap (λ ss. length (writes setting (course_at (start setting sub)) ss)) whole) in
+    next-sub setting (scripts_of input) history sub low
+    ∙ slice_get_past (script_visits setting (scripts_of input) sub) (length (own sub history))
+    (omega (
+      arith,
+      count,
+      length-map (writes setting (course_at (start setting sub)) (steps_of (scripts_of input) sub)) (visit_of sub),
+    ))
+
+-- the first visit of a step
+one-step : (setting : Setting) (course : Course) (step : Step)
+    → length (writes setting course (step ∷ [])) ≡ length (step_writes setting course step)
+unfolding writes
+one-step setting course step = ap length (append-nil (step_writes setting course step))
+
+pub first-visit : (setting : Setting) (sub n : ℕ) (steps : List Step) (step : Step)
+    → n ≡ length (writes setting (course_at (start setting sub)) steps)
+    → (visit : Visit) × (slice_get (visits setting sub (steps ++ step ∷ [])) n ≡ Some visit)
+first-visit setting sub n steps step all =
+    let course : Course = course_at (start setting sub) in
+    slice_get-within (visits setting sub (steps ++ step ∷ [])) n
+    (omega (
+      arith,
+      all,
+      some-write setting (after_steps setting course steps) step,
+      length-map (writes setting course (steps ++ step ∷ [])) (visit_of sub),
+      ap length (writes-append setting course steps (step ∷ [])),
+      length-append (writes setting course steps) (writes setting (after_steps setting course steps) (step ∷ [])),
+      one-step setting (after_steps setting course steps) step,
+    ))
+
+pub written-first : OwnGrow → TicketsGrow → TicketsAreOwn → (input : Contents) (plan : PlanData)
+    (after : CellData) (history : History) (sub ticket : ℕ) (old new : Subscriber) (call : Call) (visit : Visit)
+    (line : Done)
+    → sub < length input.homes → length history ≡ ticket → IsSubscriber input plan history sub old
+    → Begins input plan history sub old call
+    → slice_get (visits (setting_in input plan) old.handset.sub (begun_steps input sub old ++ step_of call ∷ []))
+    (length (own sub history)) ≡ Some visit
+    → StandsFor (setting_in input plan) new.handset (begun_steps input sub old ++ step_of call ∷ [])
+    (suc (length (own sub history)))
+    → GoesWith plan new.handset → new.handset.sub ≡ old.handset.sub
+    → new.lines.items ≡ old.lines.items ++ line ∷ [] → vec_capacity old.lines ≤ vec_capacity new.lines
+    → line ≡ begun_line plan old.handset call ticket → length old.lines.items < length (steps_of (scripts_of input) sub)
+    → GoWith plan after → Hold plan input.homes after (history ++ visit ∷ [])
+    → (v : Visit) × (next (setting_in input plan) (scripts_of input) history sub ≡ Some v)
+    × IsSubscriber input plan (history ++ v ∷ []) sub new × GoWith plan after
+    × Hold plan input.homes after (history ++ v ∷ [])
+written-first own_law ticket_law tell input plan after history sub ticket old new call visit line low place its begin at
+    stands goes same
+    lines room line_is short go hold =
+    let setting : Setting = setting_in input plan in
+    let course : Course = course_at (start setting sub) in
+    let longer : length new.lines.items ≡ suc (length old.lines.items) =
+    omega (arith, ap length lines, length_push old.lines.items line) in
+    let steps : begun_steps input sub new ≡ begun_steps input sub old ++ step_of call ∷ [] =
+    ap (λ k. take k (steps_of (scripts_of input) sub)) longer ∙ begin.more in
+    let here : slice_get (visits setting sub (take (suc (length old.lines.items)) (steps_of (scripts_of input) sub)))
+    (length (own sub history)) ≡ Some visit =
+    ap (λ ss. slice_get (visits setting sub ss) (length (own sub history))) begin.more
+    ∙ (ap (λ s. slice_get (visits setting s (begun_steps input sub old ++ step_of call ∷ []))
+    (length (own sub history))) (sym its.its) ∙ at) in
+    let seen : Seen input plan history sub visit =
+    seen-after own_law ticket_law input plan history sub (suc (length old.lines.items)) visit low here in
+    let last : Course = after_steps setting course (begun_steps input sub old) in
+    let count : length (tickets sub history) ≡ length (writes setting course (begun_steps input sub old)) =
+    tickets-count tell sub history ∙ begin.all in (
+      visit,
+      seen.turn,
+      record {
+        handset = subst (λ ss. StandsFor setting new.handset ss (length (own sub (history ++ visit ∷ [])))) (sym steps)
+            (subst (StandsFor setting new.handset (begun_steps input sub old ++ step_of call ∷ []))
+            (sym seen.count) stands);
+        goes = goes;
+        its = same ∙ its.its;
+        lines = lines
+            ∙ (ap (λ ls. ls ++ line ∷ []) its.lines
+            ∙ (ap (λ l. step_lines setting sub course (begun_steps input sub old) (tickets sub history) ++ l ∷ [])
+            (line_is ∙ (begin.line ticket
+            ∙ (ap (λ t. step_line setting sub last (step_of call) (t ∷ [])) (sym place)
+            ∙ ap (step_line setting sub last (step_of call))
+            (sym (take_all (length (step_writes setting last (step_of call))) (length history ∷ [])
+            (some-write setting last (step_of call)))))))
+            ∙ (sym (lines-partial setting sub course (begun_steps input sub old) (step_of call) (tickets sub history)
+            (length history ∷ []) count)
+            ∙ (ap (step_lines setting sub course (begun_steps input sub old ++ step_of call ∷ [])) (sym seen.seen)
+            ∙ ap (λ ss. step_lines setting sub course ss (tickets sub (history ++ visit ∷ []))) (sym steps)))));
+        few = omega (arith, longer, short);
+        under = λ before step split.
+            let both = same_from_push (begun_steps input sub old) before (step_of call) step (sym steps ∙ split) in
+            omega (arith, ap (λ ss. length (writes setting course ss)) both.0, begin.all, seen.count);
+        room = omega (arith, its.room, room);
+      },
+      go,
+      hold,
+    )

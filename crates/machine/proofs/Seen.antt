@@ -1,0 +1,157 @@
+-- What is known of a subscriber after a visit of its own: whose turn it was, and which step the visit belongs to.
+use Rattle.std.proofs.Common.{◌≡◌, ℕ, zero, suc, ◌+◌, ◌-◌, ◌<◌, ◌≤◌, ◌==◌, true, cond, List, [], ◌∷◌, ◌++◌, length, map, take, drop, refl, sym, ap, ◌∙◌, subst, arith}
+use Rattle.std.specs.Prelude.{Some, slice_get}
+use Rattle.std.proofs.lemmas.Bool.{eq-eqb, lt-ltb}
+use Rattle.std.proofs.lemmas.List.{append-nil, take-append-drop, length_push, length-map}
+use Rattle.entry_word.specs.declared.visit.Visit.{Visit}
+use Rattle.directory.specs.Settings.{Setting, start, subs}
+use Rattle.directory.specs.Courses.{Course, MayStep, MaySteps, Step, after_steps, course_at, last_stop}
+use Rattle.directory.specs.Histories.{History, own, tickets}
+use Rattle.directory.specs.Legal.{IsScript}
+use Rattle.directory.specs.Orders.{AreValid, Scripts, next, script_visits, steps_of}
+use Rattle.directory.specs.StepLaws.{visits-append, visits_in}
+use Rattle.directory.specs.Writes.{Write, step_writes, visit_of, visits, writes}
+use Rattle.net_reader.specs.Input.{Contents}
+use Rattle.region_plan.specs.Plan.{PlanData, nodes_of}
+use Rattle.distances.specs.Table.{DistanceTable}
+use Rattle.machine.specs.Scripts.{scripts_of}
+use Rattle.machine.specs.Stands.{BelongTogether, setting_in}
+use Rattle.machine.proofs.Looked.{TicketsGrow}
+use Rattle.machine.proofs.ScriptLaws.{scripts-valid}
+use Rattle.machine.proofs.Steps.{may-at}
+
+-- an actor's own visits after a visit
+abbrev pub OwnGrow : Type 0
+OwnGrow = (actor : ℕ) (history : History) (visit : Visit)
+    → own actor (history ++ visit ∷ []) ≡ own actor history ++ cond (visit.actor == actor) (visit ∷ []) []
+
+-- and its tickets are as many
+abbrev pub TicketsAreOwn : Type 0
+TicketsAreOwn = (actor : ℕ) (history : History)
+    → map (slice_get history) (tickets actor history) ≡ map Some (own actor history)
+
+pub tickets-count : TicketsAreOwn → (actor : ℕ) (history : History)
+    → length (tickets actor history) ≡ length (own actor history)
+tickets-count law actor history =
+    sym (length-map (tickets actor history) (slice_get history))
+    ∙ (ap length (law actor history) ∙ length-map (own actor history) Some)
+
+-- whose turn it is
+pub next-sub : (setting : Setting) (scripts : Scripts) (history : History) (actor : ℕ) → actor < subs setting
+    → next setting scripts history actor ≡ slice_get (script_visits setting scripts actor)
+    (length (own actor history))
+next-sub setting scripts history actor low = rw (lt-ltb actor (subs setting) low) refl
+
+-- elements of joined lists
+get-left : {A : Type 0} (xs ys : List A) (i : ℕ) (x : A) → slice_get xs i ≡ Some x → slice_get (xs ++ ys) i ≡ Some x
+get-left [] ys i x h = cc
+get-left (y ∷ xs) ys zero x h = h
+get-left (y ∷ xs) ys (suc i) x h = get-left xs ys i x h
+
+get-right : {A : Type 0} (xs ys : List A) (i j : ℕ) → i ≡ length xs + j → slice_get (xs ++ ys) i ≡ slice_get ys j
+get-right [] ys i j h = let e : i ≡ j = omega (arith, h) in ap (slice_get ys) e
+get-right (x ∷ xs) ys zero j h = absurd (omega (arith, h))
+get-right (x ∷ xs) ys (suc i) j h = get-right xs ys i j (omega (arith, h))
+
+actor-of : (sub : ℕ) (ws : List Write) (i : ℕ) (visit : Visit) → slice_get (map (visit_of sub) ws) i ≡ Some visit
+    → visit.actor ≡ sub
+actor-of sub [] i visit h = cc
+actor-of sub (w ∷ ws) zero visit h = let e : visit_of sub w ≡ visit = cc in sym (ap (λ (v : Visit). v.actor) e)
+actor-of sub (w ∷ ws) (suc i) visit h = actor-of sub ws i visit h
+
+-- a list that isn't empty has a last element
+pub record HasLast (steps : List Step) : Type 0 where
+  pub before : List Step
+  pub last : Step
+  pub are : steps ≡ before ++ last ∷ []
+
+has-last : (x : Step) (xs : List Step) → HasLast (x ∷ xs)
+has-last x [] = record { before = []; last = x; are = refl }
+has-last x (y ∷ ys) = let deep = has-last y ys in
+    record { before = x ∷ deep.before; last = deep.last; are = ap (λ zs. x ∷ zs) deep.are }
+
+pub steps-last : (setting : Setting) (sub n : ℕ) (steps : List Step) (visit : Visit)
+    → slice_get (visits setting sub steps) n ≡ Some visit → HasLast steps
+unfolding writes
+steps-last setting sub n [] visit h = cc
+steps-last setting sub n (step ∷ steps) visit h = has-last step steps
+
+-- the visits of the first steps of a script are its first visits
+in-script : (setting : Setting) (sub k n : ℕ) (steps : List Step) (visit : Visit)
+    → slice_get (visits setting sub (take k steps)) n ≡ Some visit → slice_get (visits setting sub steps) n ≡ Some visit
+in-script setting sub k n steps visit h =
+    ap (λ ss. slice_get (visits setting sub ss) n) (sym (take-append-drop k steps))
+    ∙ (ap (λ vs. slice_get vs n)
+    (visits-append setting sub (course_at (start setting sub)) (take k steps) (drop k steps))
+    ∙ get-left (visits setting sub (take k steps)) _ n visit h)
+
+-- the visits of the last of some steps
+pub last-visit : (setting : Setting) (sub n : ℕ) (before : List Step) (step : Step) (visit : Visit)
+    → length (writes setting (course_at (start setting sub)) before) ≤ n
+    → slice_get (visits setting sub (before ++ step ∷ [])) n ≡ Some visit
+    → slice_get (map (visit_of sub)
+    (step_writes setting (after_steps setting (course_at (start setting sub)) before) step))
+    (n - length (writes setting (course_at (start setting sub)) before)) ≡ Some visit
+unfolding writes
+last-visit setting sub n before step visit past h =
+    let course : Course = course_at (start setting sub) in
+    let back : n ≡ length (map (visit_of sub) (writes setting course before))
+    + (n - length (writes setting course before)) =
+    omega (arith, past, length-map (writes setting course before) (visit_of sub)) in
+    let only : writes setting (after_steps setting course before) (step ∷ [])
+    ≡ step_writes setting (after_steps setting course before) step =
+    append-nil (step_writes setting (after_steps setting course before) step) in
+    ap (λ ws. slice_get (map (visit_of sub) ws) (n - length (writes setting course before))) (sym only)
+    ∙ (sym (get-right (map (visit_of sub) (writes setting course before))
+    (visits_in setting sub (after_steps setting course before) (step ∷ [])) n
+    (n - length (writes setting course before)) back)
+    ∙ (ap (λ vs. slice_get vs n) (sym (visits-append setting sub course before (step ∷ []))) ∙ h))
+
+-- what is known of a subscriber after a visit of its own
+pub record Seen (input : Contents) (plan : PlanData) (history : History) (sub : ℕ) (visit : Visit) : Type 0 where
+  pub turn : next (setting_in input plan) (scripts_of input) history sub ≡ Some visit
+  pub count : length (own sub (history ++ visit ∷ [])) ≡ suc (length (own sub history))
+  pub seen : tickets sub (history ++ visit ∷ []) ≡ tickets sub history ++ length history ∷ []
+
+pub seen-after : OwnGrow → TicketsGrow → (input : Contents) (plan : PlanData) (history : History) (sub k : ℕ)
+    (visit : Visit) → sub < length input.homes
+    → slice_get (visits (setting_in input plan) sub (take k (steps_of (scripts_of input) sub)))
+    (length (own sub history)) ≡ Some visit
+    → Seen input plan history sub visit
+seen-after own_law ticket_law input plan history sub k visit low at =
+    let mine : (visit.actor == sub) ≡ true =
+    eq-eqb visit.actor sub (actor-of sub _ (length (own sub history)) visit at) in
+    record {
+      turn = next-sub (setting_in input plan) (scripts_of input) history sub low
+          ∙ in-script (setting_in input plan) sub k (length (own sub history))
+          (steps_of (scripts_of input) sub) visit at;
+      count = ap length (own_law sub history visit ∙ ap (λ b. own sub history ++ cond b (visit ∷ []) []) mine)
+          ∙ omega (arith, length_push (own sub history) visit);
+      seen = ticket_law sub history visit ∙ ap (λ b. tickets sub history ++ cond b (length history ∷ []) []) mine;
+    }
+
+-- a step of a valid script, where it comes
+pub step-allowed : (input : Contents) (plan : PlanData) (distances : DistanceTable) (sub k : ℕ) (before : List Step)
+    (step : Step)
+    → BelongTogether input plan distances → sub < length input.homes
+    → take k (steps_of (scripts_of input) sub) ≡ before ++ step ∷ []
+    → MayStep (setting_in input plan)
+    (after_steps (setting_in input plan) (course_at (start (setting_in input plan) sub)) before) step
+    × (last_stop (after_steps (setting_in input plan) (course_at (start (setting_in input plan) sub)) before)
+    < nodes_of plan)
+step-allowed input plan distances sub k before step together low same =
+    let valid : AreValid (setting_in input plan) (scripts_of input) =
+    scripts-valid input plan together.valid together.nodes in
+    let script : IsScript (setting_in input plan) sub (steps_of (scripts_of input) sub) = valid.steps sub low in
+    let whole : steps_of (scripts_of input) sub ≡ before ++ step ∷ drop k (steps_of (scripts_of input) sub) =
+    sym (take-append-drop k (steps_of (scripts_of input) sub))
+    ∙ (ap (λ ss. ss ++ drop k (steps_of (scripts_of input) sub)) same
+    ∙ assoc before step (drop k (steps_of (scripts_of input) sub))) in
+    may-at (setting_in input plan) (course_at (start (setting_in input plan) sub)) before step
+    (drop k (steps_of (scripts_of input) sub))
+    (subst (MaySteps (setting_in input plan) (course_at (start (setting_in input plan) sub))) whole script.allowed)
+    script.begins
+  where
+    assoc : (xs : List Step) (x : Step) (ys : List Step) → (xs ++ x ∷ []) ++ ys ≡ xs ++ x ∷ ys
+    assoc [] x ys = refl
+    assoc (y ∷ xs) x ys = ap (λ zs. y ∷ zs) (assoc xs x ys)
