@@ -1,0 +1,103 @@
+-- Words of different nodes are different, and what a view says of the words of its node stays while
+-- these words stay.
+use Rattle.std.proofs.Common.{◌≡◌, ◌≢◌, ℕ, suc, ◌+◌, ◌*◌, ◌<◌, List, set, refl, sym, ap, ◌∙◌, arith, Some, get_or-set_other}
+use Rattle.std.specs.Prelude.{slice_index}
+use Rattle.entry_word.specs.declared.visit.Key.{Key}
+use Rattle.directory.specs.Keys.{key_node}
+use Rattle.directory.specs.Histories.{History}
+use Rattle.region_plan.specs.Plan.{PlanData}
+use Rattle.visit_log.specs.Numbers.{IsCell, cell_number}
+use Rattle.station.specs.Setup.{Setup, setting_in, nodes_in, subs_in, IsCellOf, lock_word, tally_word, cell_word}
+use Rattle.station.specs.Views.{IsSound}
+use Rattle.station.specs.Rule.{IsKept, IsViewOf}
+use Rattle.station.specs.declared.view.View.{View}
+
+-- different cells have different numbers
+abbrev pub NumbersApart : Type 0
+NumbersApart = (plan : PlanData) (subs : ℕ) (key other : Key) → IsCell plan subs key → IsCell plan subs other
+    → cell_number plan subs key ≡ cell_number plan subs other → key ≡ other
+
+-- a word of a node: its lock word, its tally word, or the word of a cell that lies there
+pub data IsWordAt (setup : Setup) (node i : ℕ) : Type 0 where
+  is_lock : i ≡ lock_word node → IsWordAt setup node i
+  is_tally : i ≡ tally_word setup node → IsWordAt setup node i
+  is_cell : (key : Key) → IsCellOf setup key → key_node (setting_in setup) key ≡ node → i ≡ cell_word setup key
+      → IsWordAt setup node i
+
+pub behind : (n x c : ℕ) → x < n → suc (2 * n + c) ≢ suc x
+behind n x c h e = omega arith
+
+pub behind_tally : (n x c : ℕ) → x < n → suc (2 * n + c) ≢ suc (n + x)
+behind_tally n x c h e = omega arith
+
+pub same_number : (n c d : ℕ) → suc (2 * n + c) ≡ suc (2 * n + d) → c ≡ d
+same_number n c d e = omega arith
+
+pub apart : NumbersApart → (setup : Setup) (x y i k : ℕ) → x < nodes_in setup → y < nodes_in setup → x ≢ y
+    → IsWordAt setup x i → IsWordAt setup y k → i ≢ k
+apart law setup x y i k inx iny ne (is_lock a) (is_lock b) e = ne (omega arith)
+apart law setup x y i k inx iny ne (is_lock a) (is_tally b) e = omega arith
+apart law setup x y i k inx iny ne (is_lock a) (is_cell key cell at b) e =
+    behind (nodes_in setup) x (cell_number setup.plan (subs_in setup) key) inx (sym b ∙ (sym e ∙ a))
+apart law setup x y i k inx iny ne (is_tally a) (is_lock b) e = omega arith
+apart law setup x y i k inx iny ne (is_tally a) (is_tally b) e = ne (omega arith)
+apart law setup x y i k inx iny ne (is_tally a) (is_cell key cell at b) e =
+    behind_tally (nodes_in setup) x (cell_number setup.plan (subs_in setup) key) inx (sym b ∙ (sym e ∙ a))
+apart law setup x y i k inx iny ne (is_cell key cell at a) (is_lock b) e =
+    behind (nodes_in setup) y (cell_number setup.plan (subs_in setup) key) iny (sym a ∙ (e ∙ b))
+apart law setup x y i k inx iny ne (is_cell key cell at a) (is_tally b) e =
+    behind_tally (nodes_in setup) y (cell_number setup.plan (subs_in setup) key) iny (sym a ∙ (e ∙ b))
+apart law setup x y i k inx iny ne (is_cell key cell at a) (is_cell other cell' at' b) e =
+    let same = law setup.plan (subs_in setup) key other cell cell'
+    (same_number (nodes_in setup) (cell_number setup.plan (subs_in setup) key) (cell_number setup.plan
+    (subs_in setup) other) (sym a ∙ (e ∙ b))) in
+    ne (sym at ∙ (ap (key_node (setting_in setup)) same ∙ at'))
+
+-- a write of a word of one node leaves the words of others
+pub else_where : NumbersApart → (setup : Setup) (ws : List ℕ) (x y i k new : ℕ) → x < nodes_in setup
+    → y < nodes_in setup → x ≢ y
+    → IsWordAt setup x i → IsWordAt setup y k → slice_index (set ws i new) k ≡ slice_index ws k
+else_where law setup ws x y i k new inx iny ne a b =
+    get_or-set_other ws i k new 0 (λ e. apart law setup x y i k inx iny ne a b (sym e))
+
+-- two views are never inside one node
+pub one_inside : (setup : Setup) (s : Rattle.atomic_table.specs.Table.State
+    Rattle.entry_word.specs.declared.visit.Act.Act View) (o : IsKept setup s)
+    (j k node : ℕ) (v u : View) → IsViewOf s.views j v → IsViewOf s.views k u → v.inside ≡ Some node
+    → u.inside ≡ Some node → k ≡ j
+one_inside setup s o j k node v u at at' inv inu =
+    let one = o.views j v at in let other = o.views k u at' in
+    let a = one.inside node inv in let b = other.inside node inu in
+    let same : v.low ≡ u.low = omega (arith, a.lock, b.lock) in
+    let mine = (one.owner_is v.low (omega (arith, a.alone))).0 in
+    let theirs = (other.owner_is u.low (omega (arith, b.alone))).0 in
+    sym theirs ∙ (ap o.owner (sym same) ∙ mine)
+
+-- what the rule says of a view stays while the words of its node stay
+pub resound : (setup : Setup) (ws new : List ℕ) (history : History) (owner : ℕ → ℕ) (k : ℕ) (u : View)
+    → IsSound setup ws history owner k u
+    → ((node i : ℕ) → u.inside ≡ Some node → IsWordAt setup node i → slice_index new i ≡ slice_index ws i)
+    → IsSound setup new history owner k u
+resound setup ws new history owner k u o same =
+    record {
+      setup_is = o.setup_is;
+      has = o.has;
+      owner_is = o.owner_is;
+      inside = λ node is. let h = o.inside node is in
+          record {
+            known = h.known;
+            alone = h.alone;
+            lock = same node (lock_word node) is (is_lock refl) ∙ h.lock;
+            last = h.last;
+            tally = λ owes. same node (tally_word setup node) is (is_tally refl) ∙ h.tally owes;
+          };
+      unwritten = λ key is. let h = o.unwritten key is in
+          record {
+            cell = h.cell;
+            inside = h.inside;
+            drawn = h.drawn;
+            word = same (key_node (setting_in setup) key) (cell_word setup key) h.inside
+                (is_cell key h.cell refl refl) ∙ h.word;
+          };
+      outside = o.outside;
+    }

@@ -1,0 +1,212 @@
+-- A ticket is drawn.
+use Rattle.std.proofs.Common.{◌≡◌, ◌≢◌, ℕ, suc, ◌+◌, ◌%◌, ◌^◌, ◌<◌, ◌≤◌, Bool, true, false, true≢false, [], ◌∷◌, ◌++◌, length, set, drop, refl, sym, ap, ◌∙◌, subst, inl, inr, ⊎_elim, arith, Option, Some, get_or-set_other, get_or-set_same, length-set, length-append}
+use Rattle.std.specs.Prelude.{slice_index}
+use mathlib.Core.Option.{some, none, some-injective}
+use mathlib.Core.Logic.{dite}
+use native.Mathlib.Decide.{ℕ_discrete}
+use lib.ListN.{get_elem?}
+use Rattle.atomic_table.specs.Table.{step, keeps, Allows}
+use Rattle.atomic_table.proofs.Lists.{at_set, set_here, set_else}
+use Rattle.entry_word.specs.declared.visit.Key.{Key}
+use Rattle.entry_word.specs.declared.visit.Act.{Act}
+use Rattle.entry_word.specs.declared.visit.Act.TheVariants.{Look, Put, Census}
+use Rattle.entry_word.specs.declared.visit.Visit.{Visit}
+use Rattle.directory.specs.Settings.{Setting}
+use Rattle.directory.specs.Keys.{act_node, key_node}
+use Rattle.directory.specs.Histories.{History, cell, changes_here, own}
+use Rattle.station.specs.Setup.{Setup, setting_in}
+use Rattle.station.specs.Views.{IsSound, IsInside, StandsFor, visits_at}
+use Rattle.station.specs.Rule.{IsKept, IsViewOf}
+use Rattle.station.specs.Plays.{Seat, visit_by, key_put, word_before, drawn, DrawsTicket}
+use Rattle.station.specs.Visits.{MayDraw}
+use Rattle.station.specs.declared.view.View.{View}
+use Rattle.station.proofs.Fronts.{front-longer, front-itself, own-other, own-mine}
+use Rattle.station.proofs.Staying.{SameKey}
+use Rattle.station.proofs.Steps.{St, with, owned, seat_below}
+use Rattle.station.proofs.Turning.{written_here, tallied_here, no_key, same_some, some_not_none}
+use Rattle.station.proofs.Reading.{alone}
+use Rattle.station.proofs.Writing.{still_held}
+use Rattle.station.proofs.Growing.{cell-push, word-unput, census-push, at-push, few_visits, no_wrap}
+use Rattle.station.proofs.Lawful.{legal_more, puts-seen}
+
+drop_all : (history : History) (visit : Visit) → drop (suc (length history)) (history ++ visit ∷ []) ≡ []
+drop_all [] visit = refl
+drop_all (x ∷ xs) visit = drop_all xs visit
+
+put_node : (setting : Setting) (act : Act) (key : Key) → key_put act ≡ Some key
+    → key_node setting key ≡ act_node setting act
+put_node setting (Look other) key e = absurd (no_key key e)
+put_node setting (Put other word) key e = sym (ap (λ (o : Option Key). key_node setting
+    (Rattle.std.specs.Prelude.unwrap_or o key)) e)
+put_node setting (Census node) key e = absurd (no_key key e)
+
+put_before : (setup : Setup) (history : History) (act : Act) (key : Key) → key_put act ≡ Some key
+    → cell (setting_in setup) history key ≡ word_before setup history act
+put_before setup history (Look other) key e = absurd (no_key key e)
+put_before setup history (Put other word) key e = sym (ap (λ (o : Option Key). cell (setting_in setup) history
+    (Rattle.std.specs.Prelude.unwrap_or o key)) e)
+put_before setup history (Census node) key e = absurd (no_key key e)
+
+same_act : (act other : Act) → Some act ≡ Some other → act ≡ other
+same_act act other e = ap (λ (o : Option Act). Rattle.std.specs.Prelude.unwrap_or o act) e
+
+pub grows : SameKey → (s : St) (id x new : ℕ) (v : View) (act : Act) (o : IsKept v.setup s)
+    → IsViewOf s.views id v → MayDraw v x act
+    → new ≡ suc (length o.history) → IsKept v.setup (with (set s.words 0 new) s id (drawn v x act o.history))
+grows law s id x new v act o me may is =
+    let setup = v.setup in
+    let setting = setting_in setup in
+    let ws = set s.words 0 new in
+    let history = o.history in
+    let visit : Visit = visit_by v act in
+    let longer : History = history ++ visit ∷ [] in
+    let w = drawn v x act history in
+    let was = o.views id v me in
+    let here = was.inside x may.inside in
+    let near = seat_below s.views id v me in
+    let wide : 0 < length s.words = omega (arith, o.size) in
+    let others = alone setup s o id x v me may.inside in
+    let stands : StandsFor v v.low = (omega arith, omega (arith, here.alone)) in
+    let mine = was.owner_is v.low stands in
+    let words : (k : ℕ) → slice_index ws (suc k) ≡ slice_index s.words (suc k) = λ k. get_or-set_other s.words 0
+    (suc k) new 0 (λ e. omega arith) in
+    record {
+      history = longer;
+      owner = o.owner;
+      lies = o.lies;
+      size = length-set s.words 0 new ∙ o.size;
+      some_actors = o.some_actors;
+      tickets = get_or-set_same s.words 0 new 0 wide ∙ (is ∙ sym (omega (arith, length-append history (visit ∷ []))));
+      views = λ k u there. ⊎_elim
+          (λ (t : (k ≡ id) × (w ≡ u)). subst (λ (y : View). IsSound setup ws longer o.owner k y) t.1
+          (subst (λ (i : ℕ). IsSound setup ws longer o.owner i w) (sym t.0) record {
+            setup_is = λ _. refl;
+            has = record {
+              seen = front-itself longer;
+              told = front-longer v.told history
+                  (visit ∷ []) was.has.told;
+              visits = λ _ _. refl;
+              had = front-itself longer;
+              kept = λ _ _. refl;
+            };
+            owner_is = was.owner_is;
+            inside = λ node at. let e : x ≡ node = same_some x node (sym may.inside ∙ at) in
+                subst (λ (y : ℕ). IsInside setup ws longer w y) e record {
+                  known = here.known;
+                  alone = here.alone;
+                  lock = words x ∙ here.lock;
+                  last = λ _. ap (λ l. visits_at setting x l) (drop_all history visit);
+                  tally = λ _. words _ ∙ o.tallies x here.known (tallied_here setup s o id x v me others
+                      (λ due _. true≢false (sym due ∙ may.clear)));
+                };
+            unwritten = λ key put. let node = put_node setting act key put ∙ may.at in record {
+              cell = may.cell key put;
+              inside = may.inside ∙ ap (λ (n : ℕ). Some n) (sym node);
+              drawn = refl;
+              word = words _ ∙ (o.cells key (may.cell key put) (written_here setup s o id x v key me others node
+                  (λ had. no_key key (sym may.unwritten ∙ had)))
+                  ∙ put_before setup history act key put);
+            };
+            outside = λ out. absurd (some_not_none x (sym may.inside ∙ out));
+          }))
+          (λ (t : (k ≢ id) × (get_elem? s.views k ≡ some u)). let old = o.views k u t.1 in record {
+            setup_is = old.setup_is;
+            has = record {
+              seen = front-longer u.seen history (visit ∷ []) old.has.seen;
+              told = front-longer u.told history (visit ∷ []) old.has.told;
+              visits = λ actor st. own-other actor history visit (λ e. t.0 (sym (old.owner_is actor st).0
+                  ∙ (ap o.owner (sym e) ∙ mine.0)))
+                  ∙ old.has.visits actor st;
+              had = front-longer u.had history (visit ∷ []) old.has.had;
+              kept = λ actor st. own-other actor history visit (λ e. t.0 (sym (old.owner_is actor st).0
+                  ∙ (ap o.owner (sym e) ∙ mine.0)))
+                  ∙ old.has.kept actor st;
+            };
+            owner_is = old.owner_is;
+            inside = λ node at. let h = old.inside node at in record {
+              known = h.known;
+              alone = h.alone;
+              lock = words node ∙ h.lock;
+              last = λ d. at-push setting node u.drawn history visit
+                  (λ e. others k u t.0 t.1 (at ∙ ap (λ (n : ℕ). Some n) (sym e ∙ may.at))) (h.last d);
+              tally = λ due. words _ ∙ h.tally due;
+            };
+            unwritten = λ key put. let h = old.unwritten key put in
+                record { cell = h.cell; inside = h.inside; drawn = h.drawn; word = words _ ∙ h.word };
+            outside = old.outside;
+          })
+          (at_set s.views id k w u there);
+      actors = λ actor below. owned s o.owner id actor v w me refl refl near (o.actors actor below);
+      known = λ actor above. own-other actor history visit (λ e. omega (arith, mine.1, above, e)) ∙ o.known actor above;
+      few = λ actor. dite (ℕ_discrete v.low actor)
+          (λ e. let same : own actor history ≡ own actor v.seen = subst (λ
+          (a : ℕ). own a history ≡ own a v.seen) e (was.has.visits v.low stands) in
+          let little : length (own actor v.seen) < 2 ^ 56 = subst (λ (a : ℕ). length
+          (own a v.seen) < 2 ^ 56) e may.few in
+          few_more (own actor history) visit (own actor longer) (own-mine actor history visit e) (subst (λ
+          (l : History). length l < 2 ^ 56) (sym same) little))
+          (λ ne. subst (λ (l : History). length l ≤ 2 ^ 56) (sym (own-other actor history visit ne)) (o.few actor));
+      locks = λ node actor known names. still_held s o.owner id node actor v w me refl refl
+          (o.locks node actor known (sym (words node) ∙ names));
+      cells = λ key known quiet. words _ ∙ (o.cells key known (λ k u there put. dite (ℕ_discrete k id)
+          (λ e. let same : u ≡ v = some-injective u v (sym there ∙ (ap (get_elem? s.views) e ∙ me)) in
+          no_key key (sym may.unwritten ∙ (ap (λ (y : View). y.unwritten) (sym same) ∙ put)))
+          (λ ne. quiet k u (set_else s.views id k w ne ∙ there) put))
+          ∙ sym (cell-push setting key history visit
+          ∙ word-unput law key (cell setting history key) act (quiet id w (set_here s.views id w near))));
+      tallies = λ node known quiet. words _ ∙ (o.tallies node known (λ k u there due at. dite (ℕ_discrete k id)
+          (λ e. let same : u ≡ v = some-injective u v (sym there ∙ (ap (get_elem? s.views) e ∙ me)) in
+          true≢false (sym due ∙ (ap (λ (y : View). y.owes) same ∙ may.clear)))
+          (λ ne. quiet k u (set_else s.views id k w ne ∙ there) due at))
+          ∙ sym (ap length (census-push law setting history node visit (dite (ℕ_discrete x node)
+          (λ e. inr (calm (changes_here setting history act) (λ due. quiet id w (set_here s.views id w near) due
+          (may.inside ∙ ap (λ (n : ℕ). Some n) e))))
+          (λ ne. inl (λ e. ne (sym may.at ∙ e)))))));
+      legal = λ sub known. legal_more v sub history act may.may was.has.seen (was.has.visits v.low stands)
+          (o.legal sub known);
+    }
+  where
+    few_more : (xs : History) (y : Visit) (zs : History) → zs ≡ xs ++ y ∷ [] → length xs < 2 ^ 56 → length zs ≤ 2 ^ 56
+    few_more xs y zs e h = subst (λ (l : History). length l ≤ 2 ^ 56) (sym e) (up (length xs) (length
+        (xs ++ y ∷ [])) (2 ^ 56) (length-append xs (y ∷ [])) h)
+      where
+        up : (a b c : ℕ) → b ≡ a + 1 → a < c → b ≤ c
+        up a b c e h = omega arith
+
+    calm : (b : Bool) → (b ≡ true → ⊥) → b ≡ false
+    calm true h = absurd (h refl)
+    calm false h = refl
+
+pub draws : SameKey → (n id x : ℕ) (m : Seat) (act : Act) → MayDraw m.0 x act
+    → Allows (IsKept m.0.setup) n id m 0 (λ y. (y + 1) % 2 ^ 64) (DrawsTicket (step n 0 1 0 none) m)
+draws law n id x m act may s o wide me small =
+    let v = m.0 in
+    let found = slice_index s.words 0 in
+    let was = o.views id v me in
+    let here = was.inside x may.inside in
+    let stands : StandsFor v v.low = (omega arith, omega (arith, here.alone)) in
+    let new : (found + 1) % 2 ^ 64 ≡ suc (length o.history) =
+    ap (λ (k : ℕ). (k + 1) % 2 ^ 64) o.tickets
+    ∙ no_wrap (length o.history) (few_visits v.setup.actors o.history o.some_actors o.known o.few) in (
+      drawn v x act o.history,
+      keeps,
+      tt,
+      grows law s id x ((found + 1) % 2 ^ 64) v act o me may new,
+      λ node other at meant.
+          let a : x ≡ node = same_some x node (sym may.inside ∙ at) in
+          let b : act ≡ other = same_act act other (sym may.intended ∙ meant) in (
+            record {
+              earlier = o.history;
+              count = sym o.tickets;
+              few = omega (arith, o.tickets, few_visits v.setup.actors o.history o.some_actors o.known o.few);
+              seen = was.has.seen;
+              visits = was.has.visits v.low stands;
+              puts = λ known. puts-seen (setting_in v.setup) v.low v.seen o.history was.has.seen
+                  (was.has.visits v.low stands) (o.legal v.low known);
+              view = λ i. drawn v (a i) (b i) o.history;
+              legal = λ sub known. legal_more v sub o.history act may.may was.has.seen
+                  (was.has.visits v.low stands) (o.legal sub known);
+            },
+            refl,
+          ),
+    )

@@ -1,0 +1,93 @@
+-- How the passes of all actors tell the order of all tickets.
+use Rattle.std.proofs.Common.{◌≡◌, ◌≢◌, ℕ, zero, suc, ◌≤◌, ◌==◌, eq-eqb, ne_eqb, List, [], ◌∷◌, ◌++◌, length, map, take, drop, get_or, refl, sym, ap, ◌∙◌, subst, arith, Option, Some, length-append}
+use Rattle.std.specs.Prelude.{slice_get, slice_index, if◌then◌else◌, unwrap_or}
+use mathlib.Core.Logic.{dite}
+use native.Mathlib.Decide.{ℕ_discrete, dec_le}
+use Rattle.node_set.specs.Ascending.{has}
+use Rattle.entry_word.specs.declared.visit.Visit.{Visit}
+use Rattle.directory.specs.Histories.{History, IsFront, own, tickets}
+use Rattle.station.specs.Passes.{PassData, actor_of}
+use Rattle.station.specs.Closing.{IsMissing}
+use Rattle.station.specs.Plays.{longer}
+use Rattle.station.proofs.Fronts.{front-rest, front-longer}
+use Rattle.station.proofs.Growing.{own-nil}
+use Rattle.station.proofs.Joining.{longer_one, longer_other}
+
+pub front-through : (xs ys zs : List Visit) → IsFront xs ys → IsFront ys zs → IsFront xs zs
+front-through xs ys zs f g =
+    subst (λ (l : List Visit). IsFront xs l) (sym (front-rest ys zs g)) (front-longer xs ys (drop (length ys) zs) f)
+
+-- the longer of a front and its whole is the whole
+pub longer-whole : (xs zs : List Visit) → IsFront xs zs → longer xs zs ≡ zs
+longer-whole xs zs f = dite (dec_le (length zs) (length xs))
+    (λ h. longer_one xs zs h ∙ same (drop (length xs) zs) (front-rest xs zs f) h)
+    (λ h. longer_other xs zs (omega arith))
+  where
+    same : (rest : List Visit) → zs ≡ xs ++ rest → length zs ≤ length xs → xs ≡ zs
+    same [] e h = sym (e ∙ Rattle.std.proofs.lemmas.List.append-nil xs)
+    same (r ∷ rest) e h = absurd (omega (arith, ap length e, length-append xs (r ∷ rest), h))
+
+-- the last of the first passes
+pub last_left : (all left : List PassData) (pass : PassData) → left ++ pass ∷ [] ≡ take (length (left ++ pass ∷ [])) all
+    → (left ≡ take (length left) all) × (slice_get all (length left) ≡ Some pass)
+last_left [] [] pass e = absurd (omega (arith, ap length e))
+last_left [] (x ∷ left) pass e = absurd (omega (arith, ap length e))
+last_left (y ∷ all) [] pass e = (refl, ap (λ (l : List PassData). Some (get_or l 0 y)) (sym e))
+last_left (y ∷ all) (x ∷ left) pass e =
+    let t = last_left all left pass (ap (drop 1) e) in
+    let first : x ≡ y = ap (λ (l : List PassData). get_or l 0 x) e in
+    ((λ i. first i ∷ t.0 i), t.1)
+
+pub same_pass : (p q : PassData) → Some p ≡ Some q → p ≡ q
+same_pass p q e = ap (λ (o : Option PassData). unwrap_or o p) e
+
+-- an actor that isn't missing has a pass
+pub find_pass : (passes : List PassData) (actor : ℕ) → ¬ IsMissing passes actor
+    → (k : ℕ) × (pass : PassData) × (slice_get passes k ≡ Some pass) × (actor_of pass ≡ actor)
+find_pass [] actor there = absurd (there (λ k pass e is. nothing k pass e))
+  where
+    nothing : (k : ℕ) (pass : PassData) → slice_get [] k ≡ Some pass → ⊥
+    nothing zero pass e = cc
+    nothing (suc k) pass e = cc
+find_pass (x ∷ passes) actor there = go (λ h. find_pass passes actor h) (ℕ_discrete (actor_of x) actor)
+  where
+    go : (¬ IsMissing passes actor → (k : ℕ) × (pass : PassData) × (slice_get passes k ≡ Some pass) ×
+        (actor_of pass ≡ actor))
+        → Dec (actor_of x ≡ actor) → (k : ℕ) × (pass : PassData) × (slice_get (x ∷ passes) k ≡ Some pass) ×
+        (actor_of pass ≡ actor)
+    go later (yes e) = (0, x, refl, e)
+    go later (no ne) = let t = later (λ missing. there (λ k pass e. shift missing k pass e)) in (suc t.0, t.1, t.2, t.3)
+      where
+        shift : IsMissing passes actor → (k : ℕ) (pass : PassData) → slice_get (x ∷ passes) k ≡ Some pass
+            → actor_of pass ≢ actor
+        shift missing zero pass e is = ne (ap (λ (o : Option PassData). actor_of (unwrap_or o x)) e ∙ is)
+        shift missing (suc k) pass e is = missing k pass e is
+
+-- who has a visit has a visit of its own
+pub own_there : (history : History) (i : ℕ) (visit : Visit) → slice_get history i ≡ Some visit
+    → own visit.actor history ≢ []
+own_there [] zero visit e none-own = cc
+own_there [] (suc i) visit e none-own = cc
+own_there (x ∷ later) zero visit e none-own =
+    (own-nil visit.actor x later none-own).0 (ap (λ (o : Option Visit). (unwrap_or o x).actor) e)
+own_there (x ∷ later) (suc i) visit e none-own = own_there later i visit e (own-nil visit.actor x later none-own).1
+
+pub order_is : (order : List ℕ) (history : History) → length order ≡ length history
+    → ((i : ℕ) (visit : Visit) → slice_get history i ≡ Some visit → slice_index order i ≡ visit.actor)
+    → order ≡ map (λ (visit : Visit). visit.actor) history
+order_is [] [] count all = refl
+order_is [] (x ∷ history) count all = absurd (omega arith)
+order_is (o ∷ order) [] count all = absurd (omega arith)
+order_is (o ∷ order) (x ∷ history) count all =
+    let rest = order_is order history (omega arith) (λ i visit e. all (suc i) visit e) in
+    let first : o ≡ x.actor = all 0 x refl in
+    λ i. first i ∷ rest i
+
+-- a pass more is stamped
+pub stamp_more : (old new : List ℕ) (i : ℕ) (visit : Visit) (actor : ℕ) (history : History)
+    → has i (tickets actor history) ≡ (visit.actor == actor)
+    → slice_index new i ≡ (if has i (tickets actor history) then actor else slice_index old i)
+    → (visit.actor ≢ actor → slice_index old i ≡ visit.actor) → slice_index new i ≡ visit.actor
+stamp_more old new i visit actor history told is other = dite (ℕ_discrete visit.actor actor)
+    (λ e. is ∙ (ap (λ b. if b then actor else slice_index old i) (told ∙ eq-eqb visit.actor actor e) ∙ sym e))
+    (λ ne. is ∙ (ap (λ b. if b then actor else slice_index old i) (told ∙ ne_eqb visit.actor actor ne) ∙ other ne))

@@ -1,0 +1,95 @@
+-- Histories that begin with others, and what is filtered from them.
+use Rattle.std.proofs.Common.{◌≡◌, ◌≢◌, ℕ, zero, suc, ◌+◌, ◌<◌, ◌≤◌, eqb, eqb-true, ne_eqb, eq-eqb, Bool, true, false, cond, ◌==◌, List, [], ◌∷◌, ◌++◌, length, take, drop, refl, sym, ap, ◌∙◌, subst, arith, append_assoc, length-append}
+use Rattle.std.proofs.lemmas.List.{append-nil, take-append-drop, take_all}
+use Rattle.std.proofs.lemmas.List.Elements.{filter-append}
+use Rattle.std.proofs.Math.Seq.{take-append_seam}
+use Rattle.entry_word.specs.declared.visit.Visit.{Visit}
+use Rattle.directory.specs.Histories.{IsFront, own}
+
+module _ {A : Type 0} where
+  -- a list that goes on with nothing
+  pub goes_on-nil : (xs ys : List A) → xs ++ ys ≡ xs → ys ≡ []
+  goes_on-nil [] ys e = e
+  goes_on-nil (x ∷ xs) ys e = goes_on-nil xs ys (ap (drop 1) e)
+
+  -- of two fronts of one list the shorter is a front of the longer
+  pub split_at : (xs ps ys qs : List A) → xs ++ ps ≡ ys ++ qs → length xs ≤ length ys
+      → (mid : List A) × (ys ≡ xs ++ mid) × (ps ≡ mid ++ qs)
+  split_at [] ps ys qs e short = (ys, refl, e)
+  split_at (x ∷ xs) ps [] qs e short = absurd (omega arith)
+  split_at (x ∷ xs) ps (y ∷ ys) qs e short =
+      let first : x ≡ y = ap (λ (l : List A). Rattle.std.proofs.Common.get_or l 0 x) e in
+      let t = split_at xs ps ys qs (ap (drop 1) e) (omega arith) in
+      (t.0, (λ i. sym first i ∷ t.1 i), t.2)
+
+pub front-append : (xs ys : List Visit) → IsFront xs (xs ++ ys)
+front-append xs ys = sym (take-append_seam xs ys)
+
+pub front-itself : (xs : List Visit) → IsFront xs xs
+front-itself xs = sym (take_all (length xs) xs (omega arith))
+
+-- what a history has beyond a front
+pub front-rest : (xs zs : List Visit) → IsFront xs zs → zs ≡ xs ++ drop (length xs) zs
+front-rest xs zs f = sym (take-append-drop (length xs) zs) ∙ ap (λ l. l ++ drop (length xs) zs) (sym f)
+
+pub front-longer : (xs zs more : List Visit) → IsFront xs zs → IsFront xs (zs ++ more)
+front-longer xs zs more f =
+    let rest = drop (length xs) zs in
+    let same : zs ++ more ≡ xs ++ (rest ++ more) = ap (λ l. l ++ more) (front-rest xs zs f)
+    ∙ append_assoc xs rest more in
+    subst (λ l. xs ≡ take (length xs) l) (sym same) (front-append xs (rest ++ more))
+
+-- of two fronts of one history the shorter is a front of the other
+pub front-of_longer : (xs ys zs : List Visit) → IsFront xs zs → IsFront ys zs → length xs ≤ length ys → IsFront xs ys
+front-of_longer xs ys zs f g short =
+    let t = split_at xs (drop (length xs) zs) ys (drop (length ys) zs) (sym (front-rest xs zs f)
+    ∙ front-rest ys zs g) short in
+    subst (λ l. xs ≡ take (length xs) l) (sym t.1) (front-append xs t.0)
+
+-- an actor's own visits: none is beyond a front that has all of them
+pub own-append : (actor : ℕ) (xs ys : List Visit) → own actor (xs ++ ys) ≡ own actor xs ++ own actor ys
+own-append actor xs ys = filter-append (λ (v : Visit). v.actor == actor) xs ys
+
+pub own-beyond : (actor : ℕ) (xs zs : List Visit) → IsFront xs zs → own actor zs ≡ own actor xs
+    → own actor (drop (length xs) zs) ≡ []
+own-beyond actor xs zs f same = goes_on-nil (own actor xs) (own actor (drop (length xs) zs))
+    (sym (own-append actor xs (drop (length xs) zs)) ∙ (ap (own actor) (sym (front-rest xs zs f)) ∙ same))
+
+-- a visit of another adds nothing, and a visit of one's own adds itself
+pub own-other : (actor : ℕ) (history : List Visit) (visit : Visit) → visit.actor ≢ actor
+    → own actor (history ++ visit ∷ []) ≡ own actor history
+own-other actor history visit other = own-append actor history (visit ∷ [])
+    ∙ (ap (λ b. own actor history ++ cond b (visit ∷ []) []) (ne_eqb visit.actor actor other)
+    ∙ append-nil (own actor history))
+
+pub own-mine : (actor : ℕ) (history : List Visit) (visit : Visit) → visit.actor ≡ actor
+    → own actor (history ++ visit ∷ []) ≡ own actor history ++ visit ∷ []
+own-mine actor history visit mine = own-append actor history (visit ∷ [])
+    ∙ ap (λ b. own actor history ++ cond b (visit ∷ []) []) (eq-eqb visit.actor actor mine)
+
+-- a front of a front keeps all own visits of the longer, where it has all
+pub own-between : (actor : ℕ) (xs ys zs : List Visit) → IsFront xs zs → IsFront ys zs → length xs ≤ length ys
+    → own actor zs ≡ own actor xs → own actor zs ≡ own actor ys
+own-between actor xs ys zs f g short same =
+    let t = split_at xs (drop (length xs) zs) ys (drop (length ys) zs) (sym (front-rest xs zs f)
+    ∙ front-rest ys zs g) short in
+    let nothing = own-beyond actor xs zs f same in
+    let both : own actor t.0 ++ own actor (drop (length ys) zs) ≡ [] = sym (own-append actor t.0 (drop
+    (length ys) zs)) ∙ (ap (own actor) (sym t.2) ∙ nothing) in
+    let mid : own actor t.0 ≡ [] = first-nil (own actor t.0) (own actor (drop (length ys) zs)) both in
+    same ∙ (sym (append-nil (own actor xs)) ∙ (ap (λ l. own actor xs ++ l) (sym mid)
+    ∙ (sym (own-append actor xs t.0) ∙ ap (own actor) (sym t.1))))
+  where
+    first-nil : (ps qs : List Visit) → ps ++ qs ≡ [] → ps ≡ []
+    first-nil [] qs e = refl
+    first-nil (a ∷ ps) qs e = absurd (omega (arith, ap length e))
+
+-- an actor with no visit has none in a front
+pub own-none_longer : (actor : ℕ) (xs zs : List Visit) → IsFront xs zs → own actor zs ≡ [] → own actor xs ≡ []
+own-none_longer actor xs zs f none-there =
+    first-nil (own actor xs) (own actor (drop (length xs) zs))
+    (sym (own-append actor xs (drop (length xs) zs)) ∙ (ap (own actor) (sym (front-rest xs zs f)) ∙ none-there))
+  where
+    first-nil : (ps qs : List Visit) → ps ++ qs ≡ [] → ps ≡ []
+    first-nil [] qs e = refl
+    first-nil (p ∷ ps) qs e = absurd (omega (arith, ap length e))

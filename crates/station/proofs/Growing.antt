@@ -1,0 +1,175 @@
+-- A ticket is drawn: the history has one visit more.
+use Rattle.std.proofs.Common.{◌≡◌, ◌≢◌, ◌⊎◌, ℕ, zero, suc, ◌+◌, ◌*◌, ◌%◌, ◌^◌, ◌<◌, ◌≤◌, ◌==◌, eq-eqb, ne_eqb, Bool, true, false, true≢false, not, cond, [], ◌∷◌, ◌++◌, length, drop, refl, sym, ap, ◌∙◌, inl, inr, arith, Some, None}
+use Rattle.std.specs.Prelude.{if◌then◌else◌}
+use Rattle.std.proofs.lemmas.List.Elements.{filter-append}
+use Rattle.std.proofs.lemmas.List.Sums.{fold-append}
+use mathlib.Core.Logic.{dite}
+use native.Mathlib.Decide.{ℕ_discrete, dec_le}
+use Rattle.node_set.specs.Ascending.{sift}
+use Rattle.entry_word.specs.Marks.{mark_in, says_here}
+use Rattle.entry_word.specs.declared.visit.Key.{Key}
+use Rattle.entry_word.specs.declared.visit.Key.TheVariants.{Presence, Entry}
+use Rattle.entry_word.specs.declared.visit.Act.{Act}
+use Rattle.entry_word.specs.declared.visit.Act.TheVariants.{Look, Put, Census}
+use Rattle.entry_word.specs.declared.visit.Visit.{Visit}
+use Rattle.directory.specs.Settings.{Setting, subs}
+use Rattle.directory.specs.Keys.{act_node, same_key, opening}
+use Rattle.directory.specs.Histories.{History, cell, changes_here, is_put_for, own, puts_to, word_after}
+use Rattle.directory.specs.Census.{census}
+use Rattle.station.specs.Views.{visits_at}
+use Rattle.station.specs.Plays.{key_put}
+use Rattle.station.proofs.Staying.{SameKey, word-elsewhere}
+
+pub cell-push : (setting : Setting) (key : Key) (history : History) (visit : Visit)
+    → cell setting (history ++ visit ∷ []) key ≡ word_after key (cell setting history key) visit.act
+cell-push setting key history visit = fold-append (λ w (v : Visit). word_after key w v.act)
+    (opening setting key) history (visit ∷ [])
+
+-- an act leaves the cells that it doesn't put into
+pub word-unput : SameKey → (key : Key) (word : ℕ) (act : Act) → key_put act ≢ Some key → word_after key word act ≡ word
+word-unput law key word (Look other) ne = refl
+word-unput law key word (Put other new) ne = go (same_key key other) refl
+  where
+    go : (b : Bool) → same_key key other ≡ b → (if b then new else word) ≡ word
+    go true e = absurd (ne (ap (λ (k : Key). Some k) (sym ((law key other).0 e))))
+    go false e = refl
+word-unput law key word (Census node) ne = refl
+
+-- a look and a census change no cell
+pub word-same : (key : Key) (word : ℕ) (act : Act) → key_put act ≡ None → word_after key word act ≡ word
+word-same key word (Look other) e = refl
+word-same key word (Put other new) e = absurd (nothing other e)
+  where
+    nothing : (k : Key) → Some k ≡ None → ⊥
+    nothing k e = cc
+word-same key word (Census node) e = refl
+
+-- the census stays where an act is elsewhere, or changes nobody's being here
+here-same : SameKey → (setting : Setting) (history : History) (node sub : ℕ) (act : Act)
+    → (act_node setting act ≢ node) ⊎ (changes_here setting history act ≡ false)
+    → says_here (mark_in (word_after (Presence node sub) (cell setting history (Presence node sub)) act))
+    ≡ says_here (mark_in (cell setting history (Presence node sub)))
+here-same law setting history node sub act (inl away) =
+    ap (λ w. says_here (mark_in w)) (word-elsewhere law setting (Presence node sub) (cell setting history
+    (Presence node sub)) act away)
+here-same law setting history node sub (Look key) (inr calm) = refl
+here-same law setting history node sub (Census at) (inr calm) = refl
+here-same law setting history node sub (Put (Entry level cluster other) word) (inr calm) = refl
+here-same law setting history node sub (Put (Presence at other) word) (inr calm) = go (same_key
+    (Presence node sub) (Presence at other)) refl
+  where
+    was : Key → Bool
+    was key = says_here (mark_in (cell setting history key))
+
+    alike : (a b : Bool) → (if a then not b else b) ≡ false → b ≡ a
+    alike true true e = refl
+    alike true false e = sym e
+    alike false b e = e
+
+    go : (b : Bool) → same_key (Presence node sub) (Presence at other) ≡ b
+        → says_here (mark_in (if b then word else cell setting history (Presence node sub)))
+        ≡ says_here (mark_in (cell setting history (Presence node sub)))
+    go true e = alike (says_here (mark_in (cell setting history (Presence at other)))) (says_here (mark_in word)) calm
+        ∙ ap (λ (k : Key). says_here (mark_in (cell setting history k))) (sym ((law (Presence node sub)
+        (Presence at other)).0 e))
+    go false e = refl
+
+pub census-push : SameKey → (setting : Setting) (history : History) (node : ℕ) (visit : Visit)
+    → (act_node setting visit.act ≢ node) ⊎ (changes_here setting history visit.act ≡ false)
+    → census setting (history ++ visit ∷ []) node ≡ census setting history node
+census-push law setting history node visit calm =
+    let same : (sub : ℕ) → says_here (mark_in (cell setting (history ++ visit ∷ []) (Presence node sub)))
+    ≡ says_here (mark_in (cell setting history (Presence node sub))) =
+    λ sub. ap (λ w. says_here (mark_in w)) (cell-push setting (Presence node sub) history visit)
+    ∙ here-same law setting history node sub visit.act calm in
+    λ i. sift (λ sub. same sub i) 0 (subs setting)
+
+-- no visit is at a node, still, after one elsewhere
+pub at-push : (setting : Setting) (node count : ℕ) (history : History) (visit : Visit)
+    → act_node setting visit.act ≢ node
+    → visits_at setting node (drop count history) ≡ []
+    → visits_at setting node (drop count (history ++ visit ∷ [])) ≡ []
+at-push setting node zero history visit away none-there =
+    filter-append (λ (v : Visit). act_node setting v.act == node) history (visit ∷ [])
+    ∙ (ap (λ l. l ++ visits_at setting node (visit ∷ [])) none-there
+    ∙ ap (λ b. cond b (visit ∷ []) []) (ne_eqb (act_node setting visit.act) node away))
+at-push setting node (suc count) [] visit away none-there = nothing count
+  where
+    nothing : (k : ℕ) → visits_at setting node (drop k []) ≡ []
+    nothing zero = refl
+    nothing (suc k) = refl
+at-push setting node (suc count) (first ∷ later) visit away none-there = at-push setting node count later visit
+    away none-there
+
+-- the puts to a subscriber: those of a legal history are its own
+pub puts-append : (sub : ℕ) (xs ys : History) → puts_to sub (xs ++ ys) ≡ puts_to sub xs ++ puts_to sub ys
+puts-append sub xs ys = filter-append (λ (v : Visit). is_put_for sub v.act) xs ys
+
+-- how many visits there are, at most
+abbrev pub total_own : ℕ → History → ℕ
+total_own zero history = 0
+total_own (suc count) history = total_own count history + length (own count history)
+
+own-first : (actor : ℕ) (visit : Visit) (later : History)
+    → length (own actor (visit ∷ later)) ≡ cond (visit.actor == actor) 1 0 + length (own actor later)
+own-first actor visit later = go (visit.actor == actor)
+  where
+    go : (b : Bool) → length (cond b (visit ∷ own actor later) (own actor later)) ≡ cond b 1 0 + length
+        (own actor later)
+    go true = omega arith
+    go false = omega arith
+
+total-first : (count : ℕ) (visit : Visit) (later : History) → visit.actor < count
+    → suc (total_own count later) ≤ total_own count (visit ∷ later)
+total-first zero visit later h = absurd (omega arith)
+total-first (suc count) visit later h = dite (ℕ_discrete visit.actor count)
+    (λ e. omega (
+      arith,
+      own-first count visit later,
+      ap {B = ℕ} (λ b. cond b 1 0)
+          (eq-eqb visit.actor count e),
+      total-later count visit later,
+    ))
+    (λ ne. omega (arith, own-first count visit later, total-first count visit later (omega arith)))
+  where
+    total-later : (k : ℕ) (visit : Visit) (later : History) → total_own k later ≤ total_own k (visit ∷ later)
+    total-later zero visit later = omega arith
+    total-later (suc k) visit later = omega (arith, total-later k visit later, own-first k visit later)
+
+pub own-nil : (actor : ℕ) (visit : Visit) (later : History) → own actor (visit ∷ later) ≡ []
+    → (visit.actor ≢ actor) × (own actor later ≡ [])
+own-nil actor visit later e = go (visit.actor == actor) refl e
+  where
+    go : (b : Bool) → (visit.actor == actor) ≡ b → cond b (visit ∷ own actor later) (own actor later) ≡ []
+        → (visit.actor ≢ actor) × (own actor later ≡ [])
+    go true is f = absurd (omega (arith, ap length f))
+    go false is f = ((λ same. true≢false (sym (eq-eqb visit.actor actor same) ∙ is)), f)
+
+pub length-total : (count : ℕ) (history : History) → ((actor : ℕ) → count ≤ actor → own actor history ≡ [])
+    → length history ≤ total_own count history
+length-total count [] all = omega arith
+length-total count (visit ∷ later) all =
+    let here : visit.actor < count = dite (dec_le count visit.actor) (λ h. absurd
+    ((own-nil visit.actor visit later (all visit.actor h)).0 refl)) (λ h. omega arith) in
+    omega (
+      arith,
+      total-first count visit later here,
+      length-total count later (λ actor h.
+          (own-nil actor visit later (all actor h)).1),
+    )
+
+total-most : (count most : ℕ) (history : History) → ((actor : ℕ) → length (own actor history) ≤ most)
+    → total_own count history ≤ count * most
+total-most zero most history all = omega arith
+total-most (suc count) most history all = omega (arith, total-most count most history all, all count)
+
+pub few_visits : (count : ℕ) (history : History) → count ≤ 128 → ((actor : ℕ) → count ≤ actor → own actor history ≡ [])
+    → ((actor : ℕ) → length (own actor history) ≤ 2 ^ 56) → length history ≤ 2 ^ 63
+few_visits count history few all most = bound count (omega
+    (arith, length-total count history all, total-most count (2 ^ 56) history most))
+  where
+    bound : (k : ℕ) → length history ≤ count * 2 ^ 56 → length history ≤ 2 ^ 63
+    bound k h = omega arith
+
+pub no_wrap : (n : ℕ) → n ≤ 2 ^ 63 → (n + 1) % 2 ^ 64 ≡ suc n
+no_wrap n h = omega arith

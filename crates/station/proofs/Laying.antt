@@ -1,0 +1,141 @@
+-- The words of the opening, laid one after another.
+use Rattle.std.proofs.Common.{◌≡◌, ◌≢◌, ◌⊎◌, ℕ, zero, suc, ◌+◌, ◌*◌, ◌<◌, ◌≤◌, ◌==◌, eqb, eq-eqb, ne_eqb, Bool, true, false, cond, List, [], ◌∷◌, ◌++◌, length, take, get_or, refl, sym, ap, ◌∙◌, subst, inl, inr, ⊎_elim, arith, length-append, add-one}
+use Rattle.std.specs.Prelude.{slice_index, nat_lt, sum_by, ◌&&◌, if◌then◌else◌}
+use Rattle.std.proofs.lemmas.List.{take_all}
+use Rattle.std.proofs.lemmas.List.Sums.{sum_by_more}
+use Rattle.std.proofs.Common.{lt-ltb}
+use Rattle.node_set.specs.Ascending.{sift}
+use Rattle.entry_word.specs.declared.visit.Key.{Key}
+use Rattle.entry_word.specs.declared.visit.Key.TheVariants.{Presence}
+use Rattle.entry_word.specs.Marks.{mark_in, says_here, mark_word}
+use Rattle.entry_word.specs.declared.mark.PresenceMark.TheVariants.{Empty, Here}
+use Rattle.directory.specs.Settings.{Setting, subs, start}
+use Rattle.directory.specs.Histories.{cell}
+use Rattle.directory.specs.Census.{census}
+use Rattle.region_plan.specs.Plan.{PlanData, Level, levels_of, clusters_of, no_level}
+use Rattle.visit_log.specs.Numbers.{cell_number, clusters_below, all_clusters}
+use Rattle.station.specs.Setup.{Setup, setting_in, nodes_in, subs_in, IsCellOf, lock_word, tally_word, cell_word}
+use Rattle.station.specs.Opening.{AreLaid}
+use Rattle.station.proofs.Apart.{NumbersApart, behind, behind_tally, same_number}
+
+at_push : (ws : List ℕ) (x i : ℕ) → i < length (ws ++ x ∷ [])
+    → ((i < length ws) × (slice_index (ws ++ x ∷ []) i ≡ slice_index ws i)) ⊎ ((length ws ≡ i) × (slice_index
+    (ws ++ x ∷ []) i ≡ x))
+at_push [] x zero h = inr (refl, refl)
+at_push [] x (suc i) h = absurd (omega arith)
+at_push (w ∷ ws) x zero h = inl (omega arith, refl)
+at_push (w ∷ ws) x (suc i) h = ⊎_elim (λ t. inl (omega arith, t.1)) (λ t. inr (ap suc t.0, t.1)) (at_push ws x i
+    (omega arith))
+
+laid_push : (setup : Setup) (ws : List ℕ) (x : ℕ) → AreLaid setup ws
+    → (length ws ≡ 0 → x ≡ 0)
+    → ((node : ℕ) → node < nodes_in setup → length ws ≡ lock_word node → x ≡ 0)
+    → ((node : ℕ) → node < nodes_in setup → length ws ≡ tally_word setup node
+    → x ≡ length (census (setting_in setup) [] node))
+    → ((key : Key) → IsCellOf setup key → length ws ≡ cell_word setup key → x ≡ cell (setting_in setup) [] key)
+    → AreLaid setup (ws ++ x ∷ [])
+laid_push setup ws x o first lock tally cell_is =
+    record {
+      ticket = λ h. ⊎_elim (λ t. t.1 ∙ o.ticket t.0) (λ t. t.1 ∙ first t.0) (at_push ws x 0 h);
+      locks = λ node known h. ⊎_elim (λ t. t.1 ∙ o.locks node known t.0) (λ t. t.1
+          ∙ lock node known t.0) (at_push ws x (lock_word node) h);
+      tallies = λ node known h. ⊎_elim (λ t. t.1 ∙ o.tallies node known t.0) (λ t. t.1
+          ∙ tally node known t.0) (at_push ws x (tally_word setup node) h);
+      cells = λ key known h. ⊎_elim (λ t. t.1 ∙ o.cells key known t.0) (λ t. t.1
+          ∙ cell_is key known t.0) (at_push ws x (cell_word setup key) h);
+    }
+
+pub laid_nil : (setup : Setup) → AreLaid setup []
+laid_nil setup = record {
+  ticket = λ h. absurd (omega arith);
+  locks = λ node known h. absurd (omega arith);
+  tallies = λ node known h. absurd (omega arith);
+  cells = λ key known h. absurd (none (2 * nodes_in setup + cell_number setup.plan (subs_in setup) key) h);
+}
+  where
+    none : (k : ℕ) → suc k < 0 → ⊥
+    none k h = omega arith
+
+zero_cell : (n c : ℕ) → 0 ≡ suc (2 * n + c) → ⊥
+zero_cell n c e = omega arith
+
+pub laid_ticket : (setup : Setup) (ws : List ℕ) → length ws ≡ 0 → AreLaid setup ws → AreLaid setup (ws ++ 0 ∷ [])
+laid_ticket setup ws none o = laid_push setup ws 0 o (λ _. refl) (λ node known e. absurd (omega arith))
+    (λ node known e. absurd (omega arith))
+    (λ key known e. absurd (zero_cell (nodes_in setup) (cell_number setup.plan (subs_in setup) key) (sym none ∙ e)))
+
+pub laid_lock : (setup : Setup) (ws : List ℕ) (k : ℕ) → k < nodes_in setup → length ws ≡ suc k → AreLaid setup ws
+    → AreLaid setup (ws ++ 0 ∷ [])
+laid_lock setup ws k known at o = laid_push setup ws 0 o (λ _. refl) (λ node _ e. refl) (λ node _ e. absurd
+    (omega arith))
+    (λ key _ e. absurd (behind (nodes_in setup) k (cell_number setup.plan (subs_in setup) key) known (sym e ∙ at)))
+
+pub laid_tally : (setup : Setup) (ws : List ℕ) (k x : ℕ) → k < nodes_in setup → length ws ≡ suc (nodes_in setup + k)
+    → x ≡ length (census (setting_in setup) [] k) → AreLaid setup ws → AreLaid setup (ws ++ x ∷ [])
+laid_tally setup ws k x known at is o = laid_push setup ws x o (λ e. absurd (omega arith))
+    (λ node inside e. absurd (omega arith))
+    (λ node inside e. let same : k ≡ node = omega arith in
+    subst (λ (y : ℕ). x ≡ length (census (setting_in setup) [] y)) same is)
+    (λ key _ e. absurd (behind_tally (nodes_in setup) k (cell_number setup.plan (subs_in setup) key) known (sym e
+    ∙ at)))
+
+pub laid_cell : NumbersApart → (setup : Setup) (ws : List ℕ) (x : ℕ) (key : Key) → IsCellOf setup key
+    → length ws ≡ cell_word setup key
+    → x ≡ cell (setting_in setup) [] key → AreLaid setup ws → AreLaid setup (ws ++ x ∷ [])
+laid_cell law setup ws x key known at is o = laid_push setup ws x o
+    (λ e. absurd (zero_cell (nodes_in setup) (cell_number setup.plan (subs_in setup) key) (sym e ∙ at)))
+    (λ node inside e. absurd (behind (nodes_in setup) node (cell_number setup.plan (subs_in setup) key) inside
+    (sym at ∙ e)))
+    (λ node inside e. absurd (behind_tally (nodes_in setup) node (cell_number setup.plan
+    (subs_in setup) key) inside (sym at ∙ e)))
+    (λ other inside e. let same : key ≡ other = law setup.plan (subs_in setup) key other known inside (same_number
+    (nodes_in setup) _ _ (sym at ∙ e)) in
+    subst (λ (k : Key). x ≡ cell (setting_in setup) [] k) same is)
+
+-- who starts at a node
+
+pub passing-more : (f : ℕ → Bool) (v k : ℕ)
+    → length (sift f v (suc k)) ≡ length (sift f v k) + cond (f (v + k)) 1 0
+passing-more f v zero = first (f v) (f (v + 0)) (ap f (omega arith))
+  where
+    first : (a b : Bool) → a ≡ b → length (cond a (v ∷ []) []) ≡ 0 + cond b 1 0
+    first true b e = subst (λ x. 1 ≡ 0 + cond x 1 0) e refl
+    first false b e = subst (λ x. 0 ≡ 0 + cond x 1 0) e refl
+passing-more f v (suc k) = go (f v) (passing-more f (suc v) k) (ap f (omega arith))
+  where
+    go : (b : Bool) → length (sift f (suc v) (suc k)) ≡ length (sift f (suc v) k) + cond (f (suc v + k)) 1 0
+        → f (suc v + k) ≡ f (v + suc k)
+        → length (cond b (v ∷ sift f (suc v) (suc k)) (sift f (suc v) (suc k)))
+        ≡ length (cond b (v ∷ sift f (suc v) k) (sift f (suc v) k)) + cond (f (v + suc k)) 1 0
+    go true ih e = omega (arith, ih, ap {B = ℕ} (λ b. cond b 1 0) e)
+    go false ih e = omega (arith, ih, ap {B = ℕ} (λ b. cond b 1 0) e)
+
+pub starts-at : (setting : Setting) (node sub : ℕ) → sub < subs setting
+    → says_here (mark_in (cell setting [] (Presence node sub))) ≡ (node == start setting sub)
+starts-at setting node sub known = go (node == start setting sub) (nat_lt sub (subs setting)) (lt-ltb sub
+    (subs setting) known)
+  where
+    go : (b c : Bool) → c ≡ true → says_here (mark_in (mark_word (if c && b then Here 0 else Empty))) ≡ b
+    go true true e = refl
+    go false true e = refl
+    go b false e = absurd (Rattle.std.proofs.Common.true≢false (sym e))
+
+pub count-more : (setting : Setting) (node sub count : ℕ) → sub < subs setting
+    → count ≡ length (sift (λ s. says_here (mark_in (cell setting [] (Presence node s)))) 0 sub)
+    → count + cond (node == start setting sub) 1 0
+    ≡ length (sift (λ s. says_here (mark_in (cell setting [] (Presence node s)))) 0 (sub + 1))
+count-more setting node sub count known is =
+    let f : ℕ → Bool = λ s. says_here (mark_in (cell setting [] (Presence node s))) in
+    let here : f (0 + sub) ≡ (node == start setting sub) = ap f (omega arith) ∙ starts-at setting node sub known in
+    let more = passing-more f 0 sub in
+    subst (λ (k : ℕ). count + cond (node == start setting sub) 1 0 ≡ length (sift f 0 k)) (sym (add-one sub))
+    (omega (arith, is, more, ap {B = ℕ} (λ b. cond b 1 0) here))
+
+-- the clusters below the next level
+pub clusters-more : (plan : PlanData) (level : ℕ) → level < levels_of plan
+    → clusters_below plan (level + 1) ≡ clusters_below plan level + clusters_of plan level
+clusters-more plan level known = sum_by_more (λ (l : Level). length l.clusters) plan.levels level no_level known
+
+pub clusters-all : (plan : PlanData) (level : ℕ) → levels_of plan ≤ level
+    → clusters_below plan level ≡ all_clusters plan
+clusters-all plan level known = ap (sum_by (λ (l : Level). length l.clusters)) (take_all level plan.levels known)

@@ -1,0 +1,400 @@
+-- What a handset puts next, and how it moves the tally of its node.
+use Rattle.std.proofs.Common.{◌≡◌, ◌≢◌, ℕ, zero, suc, ◌+◌, ◌^◌, ◌<◌, ◌≤◌, ◌==◌, eq-eqb, ne_eqb, Bool, true, false, true≢false, not, cond, List, [], ◌∷◌, ◌++◌, length, take, refl, sym, ap, ◌∙◌, subst, arith, Option, Some, None, length-append}
+use Rattle.std.specs.Prelude.{slice_get, IfSome, option_map, ◌&&◌, if◌then◌else◌, unwrap_or}
+use mathlib.Core.Logic.{dite}
+use native.Mathlib.Decide.{ℕ_discrete}
+use Rattle.node_set.specs.Ascending.{sift}
+use Rattle.entry_word.specs.Marks.{mark_in, says_here}
+use Rattle.entry_word.specs.declared.mark.PresenceMark.TheVariants.{Empty, Here, Gone, Coming as ComingMark}
+use Rattle.entry_word.specs.declared.visit.Key.{Key}
+use Rattle.entry_word.specs.declared.visit.Key.TheVariants.{Presence, Entry}
+use Rattle.entry_word.specs.declared.visit.Act.TheVariants.{Put}
+use Rattle.entry_word.specs.declared.visit.Visit.{Visit}
+use Rattle.directory.specs.Settings.{Setting, subs}
+use Rattle.directory.specs.Keys.{key_sub, key_node}
+use Rattle.directory.specs.Histories.{History, cell, changes_here, own, puts_to}
+use Rattle.directory.specs.Census.{census}
+use Rattle.directory.specs.Legal.{ArePuts, IsLegal, IsScript}
+use Rattle.directory.specs.Statements.{ScriptsAreLegal}
+use Rattle.directory.specs.Writes.{Write, mark_at, entry_at, visit_of, visits, write_key, write_word, new_address}
+use Rattle.region_plan.specs.Plan.{PlanData, nodes_of, levels_of}
+use Rattle.region_plan.specs.Settings.{setting_of}
+use Rattle.visit_log.specs.Numbers.{IsPlace}
+use Rattle.visit_log.specs.Cells.{AreHomes}
+use Rattle.handset.specs.Kept.{GoesWith, HandsetData, IsWithin}
+use Rattle.handset.specs.Progress.{after_write, due, due_at, erasing_from, erasure, go_on, purging_from, switch_mark}
+use Rattle.handset.specs.Stands.{StandsFor}
+use Rattle.handset.specs.declared.stage.Stage.{Stage}
+use Rattle.handset.specs.declared.stage.Stage.TheVariants.{Resting, Coming, Renewing, Committing, Confirming, Erasing, Purging, Switching}
+use Rattle.station.specs.Setup.{Setup, setting_in, subs_in, IsCellOf}
+use Rattle.station.specs.Handsets.{IsHandsetOf, Moves, moves_here, put_of}
+use Rattle.station.specs.Plays.{entered}
+use Rattle.station.specs.Visits.{HasVisited, MayDraw}
+use Rattle.station.specs.Passes.{PassData}
+use Rattle.station.specs.declared.view.View.{View}
+use Rattle.station.proofs.Growing.{cell-push, puts-append}
+
+-- a put that is due: into a cell of its subscriber
+pub record IsDue (plan : PlanData) (sub : ℕ) (visit : Visit) : Type 0 where
+  pub key : Key
+  pub word : ℕ
+  pub act : visit.act ≡ Put key word
+  pub actor : visit.actor ≡ sub
+  pub key_of : key_sub key ≡ sub
+  pub place : IsPlace plan key
+
+key-of_write : (sub : ℕ) (w : Write) → key_sub (write_key sub w) ≡ sub
+key-of_write sub (mark_at node mark) = refl
+key-of_write sub (entry_at level cluster address) = refl
+
+from_write : (plan : PlanData) (sub : ℕ) (w : Write) (visit : Visit) → Some (visit_of sub w) ≡ Some visit
+    → IsPlace plan (write_key sub w)
+    → IsDue plan sub visit
+from_write plan sub w visit e place =
+    let same : visit_of sub w ≡ visit = ap (λ o. unwrap_or o (visit_of sub w)) e in
+    subst (λ (v : Visit). IsDue plan sub v) same
+    record {
+      key = write_key sub w;
+      word = write_word w;
+      act = refl;
+      actor = refl;
+      key_of = key-of_write sub w;
+      place = place;
+    }
+
+due_by : (plan : PlanData) (handset : HandsetData) (visit : Visit) → GoesWith plan handset → AreHomes plan
+    → (stage : Stage)
+    → IsWithin (nodes_of plan) handset.last stage
+    → option_map (visit_of handset.sub) (due_at (setting_of plan []) handset stage) ≡ Some visit
+    → IsDue plan handset.sub visit
+due_by plan handset visit g homes Resting within e = absurd (nothing visit e)
+  where
+    nothing : (v : Visit) → None ≡ Some v → ⊥
+    nothing v e = cc
+due_by plan handset visit g homes Coming within e =
+    from_write plan handset.sub (mark_at handset.last.to
+    (ComingMark handset.last.number handset.last.from)) visit e g.to
+due_by plan handset visit g homes (Renewing level) within e =
+    let low : level < levels_of plan = omega (arith, within, g.renewed) in
+    from_write plan handset.sub (new_address (setting_of plan []) handset.last level) visit e
+    (low, homes level handset.last.to low g.to)
+due_by plan handset visit g homes Committing within e =
+    from_write plan handset.sub (mark_at handset.last.from (Gone handset.last.number handset.last.to)) visit e g.from
+due_by plan handset visit g homes Confirming within e =
+    from_write plan handset.sub (mark_at handset.last.to (Here handset.last.number)) visit e g.to
+due_by plan handset visit g homes (Erasing level) within e =
+    let low : level < levels_of plan = omega (arith, within, g.renewed) in
+    from_write plan handset.sub (erasure (setting_of plan []) handset level) visit e (
+      low,
+      homes level _ low
+          (g.inside level low),
+    )
+due_by plan handset visit g homes (Purging node) within e = from_write plan handset.sub
+    (mark_at node Empty) visit e within
+due_by plan handset visit g homes (Switching off) within e = from_write plan handset.sub
+    (switch_mark handset off) visit e g.place
+
+pub due_is : (plan : PlanData) (handset : HandsetData) (visit : Visit) → GoesWith plan handset → AreHomes plan
+    → due (setting_of plan []) handset ≡ Some visit → IsDue plan handset.sub visit
+due_is plan handset visit g homes e = due_by plan handset visit g homes handset.stage g.stage e
+
+-- one put more of a script
+pub one-more : (xs : List Visit) (k : ℕ) (x : Visit) → slice_get xs k ≡ Some x → take k xs ++ x ∷ [] ≡ take (suc k) xs
+one-more [] k x e = absurd (nothing x k e)
+  where
+    nothing : (v : Visit) (k : ℕ) → slice_get [] k ≡ Some v → ⊥
+    nothing v zero e = cc
+    nothing v (suc k) e = cc
+one-more (y ∷ ys) zero x e = ap (λ o. unwrap_or o y ∷ []) (sym e)
+one-more (y ∷ ys) (suc k) x e = ap (λ l. y ∷ l) (one-more ys k x e)
+
+put-alone : (sub : ℕ) (history : History) (key : Key) (word actor : ℕ) → key_sub key ≡ sub
+    → puts_to sub (history ++ record { actor = actor; act = Put key word } ∷ []) ≡ puts_to sub history ++ record {
+      actor = actor;
+      act = Put key word;
+    } ∷ []
+put-alone sub history key word actor e =
+    let visit : Visit = record { actor = actor; act = Put key word } in
+    puts-append sub history (visit ∷ []) ∙ ap (λ b. puts_to sub history ++ cond b (visit ∷ []) []) (eq-eqb
+    (key_sub key) sub e)
+
+-- the next put of a handset keeps what its pass has seen legal
+pub due_legal : ScriptsAreLegal → (setup : Setup) (view : View) (handset : HandsetData) (key : Key) (word : ℕ)
+    → (setting_in setup).nodes ≤ 2 ^ 16
+    → (h : IsHandsetOf setup view handset)
+    → slice_get (visits (setting_in setup) handset.sub h.steps) (length (puts_to view.low view.seen)) ≡ Some
+    (record { actor = view.low; act = Put key word })
+    → key_sub key ≡ view.low
+    → IsLegal (setting_in setup) view.low (view.seen ++ record { actor = view.low; act = Put key word } ∷ [])
+due_legal law setup view handset key word low h next mine =
+    let setting = setting_in setup in
+    let visit : Visit = record { actor = view.low; act = Put key word } in
+    let made = length (puts_to view.low view.seen) in
+    let vs = visits setting view.low h.steps in
+    let next' : slice_get vs made ≡ Some visit = subst (λ (s : ℕ). slice_get
+    (visits setting s h.steps) made ≡ Some visit) h.sub next in
+    let puts : puts_to view.low (view.seen ++ visit ∷ []) ≡ take (suc made) vs =
+    put-alone view.low view.seen key word view.low mine ∙ (ap (λ l. l ++ visit ∷ []) h.made
+    ∙ one-more vs made visit next') in
+    subst (λ (l : List Visit). ArePuts setting view.low l) (sym puts) (law setting view.low h.steps
+    (suc made) low h.script)
+
+-- the handset after its put is the handset of the pass after its visit
+pub handset_after : (setup : Setup) (view after : View) (handset new : HandsetData) (key : Key) (word : ℕ)
+    (earlier : History)
+    → (h : IsHandsetOf setup view handset)
+    → slice_get (visits (setting_in setup) handset.sub h.steps) (length (puts_to view.low view.seen)) ≡ Some
+    (record { actor = view.low; act = Put key word })
+    → key_sub key ≡ view.low → after.low ≡ view.low
+    → after.seen ≡ earlier ++ record { actor = view.low; act = Put key word } ∷ []
+    → puts_to view.low earlier ≡ puts_to view.low view.seen → GoesWith setup.plan new → new.sub ≡ handset.sub
+    → StandsFor (setting_in setup) new h.steps (suc (length (puts_to view.low view.seen))) → IsHandsetOf setup after new
+handset_after setup view after handset new key word earlier h next mine low seen puts goes sub stands =
+    let setting = setting_in setup in
+    let visit : Visit = record { actor = view.low; act = Put key word } in
+    let made = length (puts_to view.low view.seen) in
+    let vs = visits setting view.low h.steps in
+    let next' : slice_get vs made ≡ Some visit = subst (λ (s : ℕ). slice_get
+    (visits setting s h.steps) made ≡ Some visit) h.sub next in
+    let now : puts_to after.low after.seen ≡ puts_to view.low view.seen ++ visit ∷ [] =
+    (λ i. puts_to (low i) (seen i)) ∙ (put-alone view.low earlier key word view.low mine
+    ∙ ap (λ l. l ++ visit ∷ []) puts) in
+    let count : length (puts_to after.low after.seen) ≡ suc made = ap length now
+    ∙ omega (arith, length-append (puts_to view.low view.seen) (visit ∷ [])) in
+    let whole : puts_to after.low after.seen ≡ take (suc made) vs = now ∙ (ap (λ l. l ++ visit ∷ []) h.made
+    ∙ one-more vs made visit next') in
+    record {
+      goes = goes;
+      sub = sub ∙ (h.sub ∙ sym low);
+      steps = h.steps;
+      script = subst (λ (s : ℕ). IsScript setting s h.steps) (sym low) h.script;
+      stands = subst (λ (k : ℕ). StandsFor setting new h.steps k) (sym count) stands;
+      made = whole ∙ (λ i. take (back count i) (visits setting (back low i) h.steps));
+    }
+  where
+    back : {a b : ℕ} → a ≡ b → b ≡ a
+    back e = sym e
+
+-- a census gains one, or loses one
+
+pub passing-gains : (f g : ℕ → Bool) (v n k : ℕ) → v ≤ k → k < v + n → ((s : ℕ) → s ≢ k → f s ≡ g s)
+    → f k ≡ false → g k ≡ true
+    → length (sift g v n) ≡ length (sift f v n) + 1
+passing-gains f g v zero k low high same off on = absurd (omega arith)
+passing-gains f g v (suc n) k low high same off on =
+    dite (ℕ_discrete v k)
+    (λ e. here (f v) (g v) (ap f e ∙ off) (ap g e ∙ on) (alike (suc v) n (λ s h. same s (λ q. omega (arith, e, q, h)))))
+    (λ ne. later (f v) (g v) (same v ne) (passing-gains f g (suc v) n k (omega arith) (omega arith) same off on))
+  where
+    alike : (w m : ℕ) → ((s : ℕ) → w ≤ s → f s ≡ g s) → length (sift f w m) ≡ length (sift g w m)
+    alike w zero all = refl
+    alike w (suc m) all = one (f w) (g w) (all w (omega arith)) (alike (suc w) m (λ s h. all s (omega arith)))
+      where
+        one : (a b : Bool) → a ≡ b → length (sift f (suc w) m) ≡ length (sift g (suc w) m)
+            → length (cond a (w ∷ sift f (suc w) m) (sift f (suc w) m)) ≡ length (cond b (w ∷ sift g
+            (suc w) m) (sift g (suc w) m))
+        one true true e h = ap suc h
+        one false false e h = h
+        one true false e h = absurd (true≢false e)
+        one false true e h = absurd (true≢false (sym e))
+
+    here : (a b : Bool) → a ≡ false → b ≡ true → length (sift f (suc v) n) ≡ length (sift g (suc v) n)
+        → length (cond b (v ∷ sift g (suc v) n) (sift g (suc v) n)) ≡ length (cond a (v ∷ sift f
+        (suc v) n) (sift f (suc v) n)) + 1
+    here false true x y h = omega (arith, h)
+    here true b x y h = absurd (true≢false x)
+    here false false x y h = absurd (true≢false (sym y))
+
+    later : (a b : Bool) → a ≡ b → length (sift g (suc v) n) ≡ length (sift f (suc v) n) + 1
+        → length (cond b (v ∷ sift g (suc v) n) (sift g (suc v) n)) ≡ length (cond a (v ∷ sift f
+        (suc v) n) (sift f (suc v) n)) + 1
+    later true true e h = omega (arith, h)
+    later false false e h = h
+    later true false e h = absurd (true≢false e)
+    later false true e h = absurd (true≢false (sym e))
+
+pub passing-short : (f : ℕ → Bool) (v n : ℕ) → length (sift f v n) ≤ n
+passing-short f v zero = omega arith
+passing-short f v (suc n) = go (f v) (passing-short f (suc v) n)
+  where
+    go : (b : Bool) → length (sift f (suc v) n) ≤ n
+        → length (cond b (v ∷ sift f (suc v) n) (sift f (suc v) n)) ≤ suc n
+    go true h = omega arith
+    go false h = omega arith
+
+put-here : (setting : Setting) (earlier : History) (node sub word actor : ℕ)
+    → says_here (mark_in (cell setting (earlier ++ record {
+      actor = actor;
+      act = Put
+          (Presence node sub) word;
+    } ∷ []) (Presence node sub))) ≡ says_here (mark_in word)
+put-here setting earlier node sub word actor =
+    ap (λ w. says_here (mark_in w)) (cell-push setting (Presence node sub) earlier
+    (record { actor = actor; act = Put (Presence node sub) word })
+    ∙ hit (node == node) (sub == sub) (eq-eqb node node refl) (eq-eqb sub sub refl))
+  where
+    hit : (a b : Bool) → a ≡ true → b ≡ true → (if a && b then word else cell setting earlier
+        (Presence node sub)) ≡ word
+    hit true true x y = refl
+    hit true false x y = absurd (true≢false (sym y))
+    hit false b x y = absurd (true≢false (sym x))
+
+put-else : (setting : Setting) (earlier : History) (node sub word actor s : ℕ) → s ≢ sub
+    → says_here (mark_in (cell setting (earlier ++ record {
+      actor = actor;
+      act = Put
+          (Presence node sub) word;
+    } ∷ []) (Presence node s)))
+    ≡ says_here (mark_in (cell setting earlier (Presence node s)))
+put-else setting earlier node sub word actor s ne =
+    ap (λ w. says_here (mark_in w)) (cell-push setting (Presence node s) earlier
+    (record { actor = actor; act = Put (Presence node sub) word })
+    ∙ miss (node == node) (s == sub) (ne_eqb s sub ne))
+  where
+    miss : (a b : Bool) → b ≡ false → (if a && b then word else cell setting earlier
+        (Presence node s)) ≡ cell setting earlier (Presence node s)
+    miss true false x = refl
+    miss true true x = absurd (true≢false x)
+    miss false b x = refl
+
+abbrev was_here : Setting → History → ℕ → ℕ → Bool
+was_here setting earlier node sub = says_here (mark_in (cell setting earlier (Presence node sub)))
+
+census-gains : (setting : Setting) (earlier : History) (node sub word actor : ℕ) → sub < subs setting
+    → was_here setting earlier node sub ≡ false
+    → says_here (mark_in word) ≡ true
+    → length (census setting (earlier ++ record {
+      actor = actor;
+      act = Put
+          (Presence node sub) word;
+    } ∷ []) node) ≡ length (census setting earlier node) + 1
+census-gains setting earlier node sub word actor known off on =
+    let later : History = earlier ++ record { actor = actor; act = Put (Presence node sub) word } ∷ [] in
+    passing-gains (was_here setting earlier node) (was_here setting later node) 0 (subs setting) sub (omega arith)
+    (omega arith)
+    (λ s ne. sym (put-else setting earlier node sub word actor s ne)) off
+    (put-here setting earlier node sub word actor ∙ on)
+
+census-loses : (setting : Setting) (earlier : History) (node sub word actor : ℕ) → sub < subs setting
+    → was_here setting earlier node sub ≡ true
+    → says_here (mark_in word) ≡ false
+    → length (census setting (earlier ++ record {
+      actor = actor;
+      act = Put
+          (Presence node sub) word;
+    } ∷ []) node) + 1 ≡ length (census setting earlier node)
+census-loses setting earlier node sub word actor known on off =
+    let later : History = earlier ++ record { actor = actor; act = Put (Presence node sub) word } ∷ [] in
+    sym (passing-gains (was_here setting later node) (was_here setting earlier node) 0 (subs setting) sub
+    (omega arith) (omega arith)
+    (λ s ne. put-else setting earlier node sub word actor s ne) (put-here setting earlier node sub word actor ∙ off) on)
+
+-- the tally that a put owes
+pub moves : (setup : Setup) (view : View) (earlier : History) (node old new actor : ℕ) (key : Key)
+    → key_sub key < subs_in setup
+    → key_node (setting_in setup) key ≡ node
+    → view.seen ≡ earlier ++ record { actor = actor; act = Put key new } ∷ []
+    → view.owes ≡ changes_here (setting_in setup) earlier (Put key new)
+    → view.tally ≡ length (census (setting_in setup) earlier node)
+    → old ≡ cell (setting_in setup) earlier key → Moves setup view node key old new
+moves setup view earlier node old new actor (Entry level cluster sub) known at seen owes tally is =
+    record {
+      owes = owes;
+      more = λ due _. absurd (true≢false (sym due
+          ∙ owes));
+      less = λ due _. absurd (true≢false (sym due ∙ owes));
+    }
+moves setup view earlier node old new actor (Presence place sub) known at seen owes tally is =
+    let setting = setting_in setup in
+    let word : view.owes ≡ moves_here (Presence place sub) old new = owes
+    ∙ ap (λ w. moves_here (Presence place sub) w new) (sym is) in
+    record {
+      owes = word;
+      more = λ due on.
+          let off : was_here setting earlier place sub ≡ false = gained (was_here setting earlier place sub)
+          (says_here (mark_in new)) (sym owes ∙ due) on in
+          ap (λ (h : History). length (census setting h node)) seen
+          ∙ (subst (λ (n : ℕ). length (census setting (earlier ++ record {
+            actor = actor;
+            act = Put
+                (Presence place sub) new;
+          } ∷ []) n) ≡ length (census setting earlier n) + 1) at
+          (census-gains setting earlier place sub new actor known off on)
+          ∙ ap (λ (k : ℕ). k + 1) (sym tally));
+      less = λ due off.
+          let on : was_here setting earlier place sub ≡ true = lost (was_here setting earlier place sub)
+          (says_here (mark_in new)) (sym owes ∙ due) off in
+          ap (λ (h : History). length (census setting h node) + 1) seen
+          ∙ (subst (λ (n : ℕ). length (census setting (earlier ++ record {
+            actor = actor;
+            act = Put
+                (Presence place sub) new;
+          } ∷ []) n) + 1 ≡ length (census setting earlier n)) at
+          (census-loses setting earlier place sub new actor known on off)
+          ∙ sym tally);
+    }
+  where
+    gained : (a b : Bool) → (if a then not b else b) ≡ true → b ≡ true → a ≡ false
+    gained true true e h = sym e
+    gained true false e h = absurd (true≢false (sym h))
+    gained false b e h = refl
+
+    lost : (a b : Bool) → (if a then not b else b) ≡ true → b ≡ false → a ≡ true
+    lost true b e h = refl
+    lost false true e h = sym h
+    lost false false e h = absurd (true≢false (sym e))
+
+pub census-short : (setting : Setting) (history : History) (node : ℕ)
+    → length (census setting history node) ≤ subs setting
+census-short setting history node = passing-short (λ s. says_here (mark_in (cell setting history
+    (Presence node s)))) 0 (subs setting)
+
+key_same : (key other : Key) → Some key ≡ Some other → key ≡ other
+key_same key other e = ap (λ (o : Option Key). unwrap_or o key) e
+
+pub may_put : (view : View) (node : ℕ) (key : Key) (word : ℕ) → view.has_drawn ≡ false → view.unwritten ≡ None
+    → view.owes ≡ false
+    → node ≡ key_node (setting_in view.setup) key → length (own view.low view.seen) < 2 ^ 56
+    → IsCellOf view.setup key → key_sub key ≡ view.low
+    → IsLegal (setting_in view.setup) view.low (view.seen ++ put_of view.low key word ∷ [])
+    → MayDraw (entered view node (Put key word)) node (Put key word)
+may_put view node key word undrawn unwritten clear at few cell mine legal = record {
+  inside = refl;
+  intended = refl;
+  undrawn = undrawn;
+  unwritten = unwritten;
+  clear = clear;
+  at = sym at;
+  few = few;
+  cell = λ other e. subst (λ (k : Key). IsCellOf view.setup k) (key_same key other e) cell;
+  may = (mine, legal);
+}
+
+-- a write leaves whose handset it is
+go_on-sub : (setting : Setting) (handset : HandsetData) (stage : Stage)
+    → (go_on setting handset stage).sub ≡ handset.sub
+go_on-sub setting handset Resting = refl
+go_on-sub setting handset Coming = refl
+go_on-sub setting handset (Renewing level) = refl
+go_on-sub setting handset Committing = refl
+go_on-sub setting handset Confirming = refl
+go_on-sub setting handset (Erasing level) = refl
+go_on-sub setting handset (Purging node) = refl
+go_on-sub setting handset (Switching off) = refl
+
+pub write-sub : (setting : Setting) (handset : HandsetData) (stage : Stage)
+    → (after_write setting handset stage).sub ≡ handset.sub
+write-sub setting handset Resting = refl
+write-sub setting handset Coming = refl
+write-sub setting handset (Renewing level) = refl
+write-sub setting handset Committing = refl
+write-sub setting handset Confirming = go_on-sub setting handset (erasing_from setting handset 0)
+write-sub setting handset (Erasing level) = go_on-sub setting handset (erasing_from setting handset (suc level))
+write-sub setting handset (Purging node) = go_on-sub setting handset (purging_from setting handset (suc node))
+write-sub setting handset (Switching off) = refl
+
+pub visited_due : (o : Option Visit) (sub : ℕ) (key : Key) (word ticket : ℕ) (old new : PassData)
+    → o ≡ Some (put_of sub key word)
+    → HasVisited old (Put key word) ticket new → IfSome o (λ visit. HasVisited old visit.act ticket new)
+visited_due o sub key word ticket old new e h = subst (λ (p : Option Visit). IfSome p
+    (λ visit. HasVisited old visit.act ticket new)) (sym e) h

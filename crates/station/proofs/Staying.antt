@@ -1,0 +1,66 @@
+-- What stays while no visit is at a node: its cells and its census.
+use Rattle.std.proofs.Common.{◌≡◌, ◌≢◌, ◌↔◌, ℕ, ◌==◌, eq-eqb, Bool, true, false, cond, List, [], ◌∷◌, length, drop, refl, sym, ap, ◌∙◌, arith, true≢false}
+use Rattle.std.specs.Prelude.{fold, if◌then◌else◌}
+use Rattle.std.proofs.lemmas.List.Sums.{fold-append}
+use Rattle.node_set.specs.Ascending.{sift}
+use Rattle.entry_word.specs.Marks.{mark_in, says_here}
+use Rattle.entry_word.specs.declared.visit.Key.{Key}
+use Rattle.entry_word.specs.declared.visit.Key.TheVariants.{Presence}
+use Rattle.entry_word.specs.declared.visit.Act.{Act}
+use Rattle.entry_word.specs.declared.visit.Act.TheVariants.{Look, Put, Census}
+use Rattle.entry_word.specs.declared.visit.Visit.{Visit}
+use Rattle.directory.specs.Settings.{Setting, subs}
+use Rattle.directory.specs.Keys.{act_node, key_node, same_key, opening}
+use Rattle.directory.specs.Histories.{History, IsFront, cell, word_after}
+use Rattle.directory.specs.Census.{census}
+use Rattle.station.specs.Views.{visits_at}
+use Rattle.station.proofs.Fronts.{front-rest}
+
+-- the test of keys means that they are the same
+abbrev pub SameKey : Type 0
+SameKey = (one other : Key) → (same_key one other ≡ true) ↔ (one ≡ other)
+
+-- an act at another node leaves a cell
+pub word-elsewhere : SameKey → (setting : Setting) (key : Key) (word : ℕ) (act : Act)
+    → act_node setting act ≢ key_node setting key → word_after key word act ≡ word
+word-elsewhere law setting key word (Look other) ne = refl
+word-elsewhere law setting key word (Put other new) ne = go (same_key key other) refl
+  where
+    go : (b : Bool) → same_key key other ≡ b → (if b then new else word) ≡ word
+    go true e = absurd (ne (ap (key_node setting) (sym ((law key other).0 e))))
+    go false e = refl
+word-elsewhere law setting key word (Census node) ne = refl
+
+cell-rest : SameKey → (setting : Setting) (key : Key) (node word : ℕ) (rest : List Visit) → key_node setting key ≡ node
+    → visits_at setting node rest ≡ [] → fold (λ w (v : Visit). word_after key w v.act) word rest ≡ word
+cell-rest law setting key node word [] at none-there = refl
+cell-rest law setting key node word (visit ∷ rest) at none-there =
+    go (λ f. cell-rest law setting key node word rest at f) (act_node setting visit.act == node) refl none-there
+  where
+    go : (visits_at setting node rest ≡ [] → fold (λ w (v : Visit). word_after key w v.act) word rest ≡ word)
+        → (b : Bool) → (act_node setting visit.act == node) ≡ b
+        → cond b (visit ∷ visits_at setting node rest) (visits_at setting node rest) ≡ []
+        → fold (λ w (v : Visit). word_after key w v.act) (word_after key word visit.act) rest ≡ word
+    go later true e f = absurd (omega (arith, ap length f))
+    go later false e f =
+        let away : act_node setting visit.act ≢ key_node setting key = λ same. true≢false (sym (eq-eqb
+        (act_node setting visit.act) node (same ∙ at)) ∙ e) in
+        let first = word-elsewhere law setting key word visit.act away in
+        ap (λ w. fold (λ w (v : Visit). word_after key w v.act) w rest) first ∙ later f
+
+pub cell-stays : SameKey → (setting : Setting) (key : Key) (node : ℕ) (seen history : History) → IsFront seen history
+    → key_node setting key ≡ node → visits_at setting node (drop (length seen) history) ≡ []
+    → cell setting history key ≡ cell setting seen key
+cell-stays law setting key node seen history front at none-there =
+    let rest = drop (length seen) history in
+    ap (λ h. cell setting h key) (front-rest seen history front)
+    ∙ (fold-append (λ w (v : Visit). word_after key w v.act) (opening setting key) seen rest
+    ∙ cell-rest law setting key node (cell setting seen key) rest at none-there)
+
+pub census-stays : SameKey → (setting : Setting) (node : ℕ) (seen history : History) → IsFront seen history
+    → visits_at setting node (drop (length seen) history) ≡ []
+    → census setting history node ≡ census setting seen node
+census-stays law setting node seen history front none-there =
+    let same : (sub : ℕ) → cell setting history (Presence node sub) ≡ cell setting seen (Presence node sub) =
+    λ sub. cell-stays law setting (Presence node sub) node seen history front refl none-there in
+    λ i. sift (λ sub. says_here (mark_in (same sub i))) 0 (subs setting)

@@ -1,0 +1,127 @@
+-- The steps that leave the history as it is keep the rule.
+use Rattle.std.proofs.Common.{◌≡◌, ◌≢◌, ◌⊎◌, ℕ, zero, suc, ◌<◌, true, List, [], ◌∷◌, length, set, refl, sym, ap, ◌∙◌, subst, inl, inr, ⊎_elim, arith, Option, Some, None}
+use Rattle.std.specs.Prelude.{slice_index}
+use mathlib.Core.Option.{some, none, some-injective}
+use mathlib.Core.Logic.{dite}
+use native.Mathlib.Decide.{ℕ_discrete}
+use lib.ListN.{get_elem?}
+use Rattle.atomic_table.specs.Table.{State}
+use Rattle.atomic_table.proofs.Lists.{at_set, set_here, set_else}
+use Rattle.entry_word.specs.declared.visit.Key.{Key}
+use Rattle.entry_word.specs.declared.visit.Act.{Act}
+use Rattle.directory.specs.Keys.{key_node}
+use Rattle.directory.specs.Histories.{cell}
+use Rattle.directory.specs.Census.{census}
+use Rattle.station.specs.Setup.{Setup, setting_in, nodes_in, IsCellOf, lock_word, tally_word, cell_word}
+use Rattle.station.specs.Views.{IsSound}
+use Rattle.station.specs.Rule.{IsKept, IsViewOf, IsOwned, IsHeld}
+use Rattle.station.specs.declared.view.View.{View}
+use Rattle.station.proofs.Apart.{IsWordAt, is_lock, is_tally, is_cell, resound}
+
+abbrev pub St : Type 0
+St = State Act View
+
+abbrev pub with : List ℕ → St → ℕ → View → St
+with ws s j w = record { words = ws; homes = s.homes; views = set s.views j w }
+
+-- the view of a seat after one of them is replaced
+pub seat_apart : (s : St) (j k : ℕ) (w u : View) → k ≢ j → IsViewOf (set s.views j w) k u → IsViewOf s.views k u
+seat_apart s j k w u ne at = sym (set_else s.views j k w ne) ∙ at
+
+-- each actor keeps its seat
+pub owned : (s : St) (owner : ℕ → ℕ) (j actor : ℕ) (v w : View) → IsViewOf s.views j v → w.low ≡ v.low → w.high ≡ v.high
+    → j < length s.views → IsOwned s.views owner actor → IsOwned (set s.views j w) owner actor
+owned s owner j actor v w me low high near o = dite (ℕ_discrete (owner actor) j)
+    (λ e. let same : o.0 ≡ v = some-injective o.0 v (sym o.1 ∙ (ap (get_elem? s.views) e ∙ me)) in
+    let l : o.0.low ≡ v.low = ap (λ (x : View). x.low) same in
+    let h : o.0.high ≡ v.high = ap (λ (x : View). x.high) same in
+    let st = o.2 in
+    (w, subst (λ k. IsViewOf (set s.views j w) k w) (sym e) (set_here s.views j w near), (omega arith, omega arith)))
+    (λ ne. (o.0, set_else s.views j (owner actor) w ne ∙ o.1, o.2))
+
+-- there is a view at a seat only below the count of seats
+pub seat_below : (views : List View) (j : ℕ) (v : View) → IsViewOf views j v → j < length views
+seat_below [] j v e = absurd (mathlib.Core.Option.some-ne-none v (sym e))
+seat_below (x ∷ xs) zero v e = omega arith
+seat_below (x ∷ xs) (suc j) v e = omega (arith, seat_below xs j v e)
+
+-- a seat's view and a word of the node that it is inside are replaced
+pub record Changes (setup : Setup) (s : St) (o : IsKept setup s) (j x : ℕ) (v w : View) (new : List ℕ) : Type 0 where
+  pub me : IsViewOf s.views j v
+  pub known : x < nodes_in setup
+  pub before : (v.inside ≡ None) ⊎ (v.inside ≡ Some x)
+  pub low : w.low ≡ v.low
+  pub high : w.high ≡ v.high
+  pub size : length new ≡ length s.words
+  pub first : slice_index new 0 ≡ slice_index s.words 0
+  pub elsewhere : (y k : ℕ) → y < nodes_in setup → x ≢ y → IsWordAt setup y k
+      → slice_index new k ≡ slice_index s.words k
+  pub mine : IsSound setup new o.history o.owner j w
+  -- nobody else is inside the node
+  pub alone : (k : ℕ) (u : View) → k ≢ j → IsViewOf s.views k u → u.inside ≢ Some x
+  pub lock : (actor : ℕ) → slice_index new (lock_word x) ≡ suc actor → IsHeld (set s.views j w) o.owner x actor
+  pub cells : (key : Key) → IsCellOf setup key → key_node (setting_in setup) key ≡ x → w.unwritten ≢ Some key
+      → slice_index new (cell_word setup key) ≡ cell (setting_in setup) o.history key
+  pub tally : (w.owes ≡ true → w.inside ≢ Some x)
+      → slice_index new (tally_word setup x) ≡ length (census (setting_in setup) o.history x)
+
+pub no_some : (x : ℕ) → None ≡ Some x → ⊥
+no_some x e = cc
+
+other_node : (v : View) (x y : ℕ) → x ≢ y → (v.inside ≡ None) ⊎ (v.inside ≡ Some x) → v.inside ≢ Some y
+other_node v x y ne (inl out) e = no_some y (sym out ∙ e)
+other_node v x y ne (inr there) e = let same : Some x ≡ Some y = sym there ∙ e in
+    ne (ap (λ (o : Option ℕ). Rattle.std.specs.Prelude.unwrap_or o x) same)
+
+pub changed : (setup : Setup) (s : St) (o : IsKept setup s) (j x : ℕ) (v w : View) (new : List ℕ)
+    → Changes setup s o j x v w new → IsKept setup (with new s j w)
+changed setup s o j x v w new c =
+    let near = seat_below s.views j v c.me in
+    record {
+      history = o.history;
+      owner = o.owner;
+      lies = o.lies;
+      size = c.size ∙ o.size;
+      some_actors = o.some_actors;
+      tickets = c.first ∙ o.tickets;
+      views = λ k u at. ⊎_elim
+          (λ (t : (k ≡ j) × (w ≡ u)). subst (λ (y : View). IsSound setup new o.history o.owner k y) t.1
+          (subst (λ (i : ℕ). IsSound setup new o.history o.owner i w) (sym t.0) c.mine))
+          (λ (t : (k ≢ j) × (get_elem? s.views k ≡ some u)). let was = o.views k u t.1 in
+          resound setup s.words new o.history o.owner k u was (λ node i is word.
+          c.elsewhere node i (was.inside node is).known (λ e. c.alone k u t.0 t.1 (is
+          ∙ ap (λ (n : ℕ). Some n) (sym e))) word))
+          (at_set s.views j k w u at);
+      actors = λ actor below. owned s o.owner j actor v w c.me c.low c.high near (o.actors actor below);
+      known = o.known;
+      few = o.few;
+      locks = λ node actor inside is. dite (ℕ_discrete x node)
+          (λ e. subst (λ (n : ℕ). IsHeld (set s.views j w) o.owner n actor) e (c.lock actor (ap (λ
+          (n : ℕ). slice_index new (lock_word n)) e ∙ is)))
+          (λ ne. let t = o.locks node actor inside (sym (c.elsewhere node (lock_word node) inside ne
+          (is_lock refl)) ∙ is) in
+          let away : o.owner actor ≢ j = λ e. other_node v x node ne c.before
+          (ap (λ (y : View). y.inside) (some-injective v t.0 (sym c.me ∙ (ap (get_elem? s.views) (sym e) ∙ t.1)))
+          ∙ t.2) in
+          (t.0, set_else s.views j (o.owner actor) w away ∙ t.1, t.2, t.3));
+      cells = λ key known quiet. dite (ℕ_discrete x (key_node (setting_in setup) key))
+          (λ e. c.cells key known (sym e) (quiet j w (set_here s.views j w near)))
+          (λ ne. c.elsewhere (key_node (setting_in setup) key) (cell_word setup key) (o.lies key known) ne
+          (is_cell key known refl refl) ∙ o.cells key known (λ k u at is.
+          dite (ℕ_discrete k j)
+          (λ e. let same : u ≡ v = some-injective u v (sym at ∙ (ap (get_elem? s.views) e ∙ c.me)) in
+          other_node v x (key_node (setting_in setup) key) ne c.before (ap (λ (y : View). y.inside) (sym same)
+          ∙ ((o.views k u at).unwritten key is).inside))
+          (λ away. quiet k u (set_else s.views j k w away ∙ at) is)));
+      tallies = λ node known quiet. dite (ℕ_discrete x node)
+          (λ e. subst (λ (n : ℕ). slice_index new (tally_word setup n) ≡ length (census
+          (setting_in setup) o.history n)) e
+          (c.tally (λ owes is. quiet j w (set_here s.views j w near) owes (is ∙ ap (λ (n : ℕ). Some n) e))))
+          (λ ne. c.elsewhere node (tally_word setup node) known ne (is_tally refl)
+          ∙ o.tallies node known (λ k u at owes is.
+          dite (ℕ_discrete k j)
+          (λ e. let same : u ≡ v = some-injective u v (sym at ∙ (ap (get_elem? s.views) e ∙ c.me)) in
+          other_node v x node ne c.before (ap (λ (y : View). y.inside) (sym same) ∙ is))
+          (λ away. quiet k u (set_else s.views j k w away ∙ at) owes is)));
+      legal = o.legal;
+    }

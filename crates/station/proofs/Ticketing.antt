@@ -1,0 +1,281 @@
+-- The tickets that a pass keeps.
+use Rattle.std.specs.Prelude.{◌||◌, slice_get, unwrap_or}
+use Rattle.node_set.specs.Ascending.{has}
+use Rattle.std.proofs.Common.{get_or, add-one, Some, ne_eqb, ◌≡◌, ◌≢◌, ℕ, zero, suc, ◌+◌, ◌^◌, ◌<◌, ◌≤◌, ◌==◌, eq-eqb, Bool, true, false, cond, List, [], ◌∷◌, ◌++◌, length, take, drop, refl, sym, ap, ◌∙◌, subst, arith, Option, None, length-append}
+use Rattle.std.proofs.lemmas.List.{append-nil}
+use Rattle.std.proofs.Math.Seq.{take-append_seam}
+use Rattle.atomic_table.specs.Table.{Me}
+use Rattle.entry_word.specs.declared.visit.Act.{Act}
+use Rattle.entry_word.specs.declared.visit.Visit.{Visit}
+use Rattle.directory.specs.Histories.{History, IsFront, before, own, tickets, tickets_from}
+use Rattle.directory.specs.Legal.{IsLegal}
+use Rattle.station.specs.Setup.{Setup, setting_in, subs_in}
+use Rattle.station.specs.Plays.{Draws, drawn, entered, gone, visit_by}
+use Rattle.station.specs.Passes.{IsPass, PassData}
+use Rattle.station.specs.Visits.{HasLeft, HasVisited}
+use Rattle.station.specs.declared.view.View.{View}
+use Rattle.station.proofs.Fronts.{front-rest, own-beyond}
+use Rattle.station.proofs.Growing.{own-nil}
+
+from-append : (actor t : ℕ) (xs ys : History)
+    → tickets_from actor t (xs ++ ys) ≡ tickets_from actor t xs ++ tickets_from actor (t + length xs) ys
+unfolding tickets_from
+from-append actor t [] ys = ap (λ (k : ℕ). tickets_from actor k ys) (omega arith)
+from-append actor t (x ∷ xs) ys = go (x.actor == actor) (from-append actor (suc t) xs ys
+    ∙ ap (λ (k : ℕ). tickets_from actor (suc t) xs ++ tickets_from actor k ys) (omega arith))
+  where
+    go : (b : Bool) → tickets_from actor (suc t) (xs ++ ys) ≡ tickets_from actor (suc t) xs ++ tickets_from actor
+        (t + suc (length xs)) ys
+        → cond b (t ∷ tickets_from actor (suc t) (xs ++ ys)) (tickets_from actor (suc t) (xs ++ ys))
+        ≡ cond b (t ∷ tickets_from actor (suc t) xs) (tickets_from actor (suc t) xs) ++ tickets_from actor
+        (t + suc (length xs)) ys
+    go true h = ap (λ l. t ∷ l) h
+    go false h = h
+
+from-none : (actor t : ℕ) (xs : History) → own actor xs ≡ [] → tickets_from actor t xs ≡ []
+unfolding tickets_from
+from-none actor t [] e = refl
+from-none actor t (x ∷ xs) e = let n = own-nil actor x xs e in
+    ap (λ b. cond b (t ∷ tickets_from actor (suc t) xs) (tickets_from actor (suc t) xs))
+    (Rattle.std.proofs.Common.ne_eqb x.actor actor n.0) ∙ from-none actor (suc t) xs n.1
+
+from-count : (actor t : ℕ) (xs : History) → length (tickets_from actor t xs) ≡ length (own actor xs)
+unfolding tickets_from
+from-count actor t [] = refl
+from-count actor t (x ∷ xs) = go (x.actor == actor) (from-count actor (suc t) xs)
+  where
+    go : (b : Bool) → length (tickets_from actor (suc t) xs) ≡ length (own actor xs)
+        → length (cond b (t ∷ tickets_from actor (suc t) xs) (tickets_from actor (suc t) xs)) ≡ length (cond b
+        (x ∷ own actor xs) (own actor xs))
+    go true h = ap suc h
+    go false h = h
+
+pub tickets-count : (actor : ℕ) (history : History) → length (tickets actor history) ≡ length (own actor history)
+tickets-count actor history = from-count actor 0 history
+
+-- a front that has all visits of an actor has all its tickets
+pub tickets-same : (actor : ℕ) (xs zs : History) → IsFront xs zs → own actor zs ≡ own actor xs
+    → tickets actor zs ≡ tickets actor xs
+tickets-same actor xs zs front same =
+    let rest = drop (length xs) zs in
+    ap (tickets actor) (front-rest xs zs front) ∙ (from-append actor 0 xs rest
+    ∙ (ap (λ l. tickets actor xs ++ l) (from-none actor (0 + length xs) rest (own-beyond actor xs zs front same))
+    ∙ append-nil (tickets actor xs)))
+
+from-one : (actor t : ℕ) (visit : Visit) → visit.actor ≡ actor → tickets_from actor t (visit ∷ []) ≡ t ∷ []
+unfolding tickets_from
+from-one actor t visit mine = ap (λ b. cond b (t ∷ []) []) (eq-eqb visit.actor actor mine)
+
+pub tickets-mine : (actor : ℕ) (zs : History) (visit : Visit) → visit.actor ≡ actor
+    → tickets actor (zs ++ visit ∷ []) ≡ tickets actor zs ++ length zs ∷ []
+tickets-mine actor zs visit mine = from-append actor 0 zs (visit ∷ [])
+    ∙ ap (λ l. tickets actor zs ++ l) (from-one actor (0 + length zs) visit mine ∙ ap (λ (k : ℕ). k ∷ []) (omega arith))
+
+-- a pass has room for one visit more
+pub own_few : (me : Me Act View) (actor seen spare : ℕ) (kept : List ℕ) (room : ℕ)
+    → IsPass me actor seen spare kept room → 1 ≤ spare
+    → length (own me.0.low me.0.seen) < 2 ^ 56
+own_few me actor seen spare kept room p h =
+    subst (λ (a : ℕ). length (own a me.0.seen) < 2 ^ 56) (sym p.low)
+    (below (length (own actor me.0.seen)) (length kept) spare (2 ^ 56) (sym (tickets-count actor me.0.seen)
+    ∙ sym (ap length p.tickets_are)) p.few h)
+  where
+    below : (a b c d : ℕ) → a ≡ b → b + c ≤ d → 1 ≤ c → a < d
+    below a b c d e f g = omega arith
+
+-- what a pass is once it has made a visit
+pub pass_after : (me new : Me Act View) (actor seen spare left ticket : ℕ) (kept : List ℕ) (room : ℕ)
+    (earlier : History) (act : Act)
+    → IsPass me actor seen spare kept room → left + 1 ≡ spare → length earlier ≡ ticket
+    → IsFront me.0.seen earlier → own me.0.low earlier ≡ own me.0.low me.0.seen
+    → new.1 ≡ [] → new.0.low ≡ me.0.low → new.0.high ≡ me.0.high → new.0.is_spent ≡ me.0.is_spent
+    → new.0.has_drawn ≡ false → new.0.unwritten ≡ None → new.0.owes ≡ false
+    → new.0.seen ≡ earlier ++ record { actor = me.0.low; act = act } ∷ []
+    → IsPass new actor (suc ticket) left (kept ++ ticket ∷ []) room
+pass_after me new actor seen spare left ticket kept room earlier act p less count front visits slots low high real
+    undrawn unwritten clear seen_is =
+    let visit : Visit = record { actor = me.0.low; act = act } in
+    let own_same : own actor earlier ≡ own actor me.0.seen = subst (λ
+    (a : ℕ). own a earlier ≡ own a me.0.seen) p.low visits in
+    let all = tickets-same actor me.0.seen earlier front own_same in
+    let one = length-append kept (ticket ∷ []) in
+    record {
+      slots = slots;
+      low = low ∙ p.low;
+      high = high ∙ p.high;
+      real = real ∙ p.real;
+      undrawn = undrawn;
+      unwritten = unwritten;
+      clear = clear;
+      seen_is = sym (ap length seen_is ∙ omega (arith, length-append earlier (visit ∷ []), count));
+      tickets_are = (ap (λ l. l ++ ticket ∷ []) p.tickets_are
+          ∙ ap (λ (k : ℕ). tickets actor me.0.seen ++ k ∷ []) (sym count))
+          ∙ (ap (λ l. l ++ length earlier ∷ []) (sym all) ∙ (sym (tickets-mine actor earlier visit p.low)
+          ∙ ap (tickets actor) (sym seen_is)));
+      room_is = omega (arith, p.room_is, one, less);
+      few = omega (arith, p.few, one, less);
+    }
+
+pub left_by : (there new : View) → new ≡ gone there → there.unwritten ≡ None → there.owes ≡ false → HasLeft there new
+left_by there new e unwritten clear = subst (λ (v : View). HasLeft there v) (sym e) record {
+  low = refl;
+  high = refl;
+  real = refl;
+  setup = refl;
+  seen = refl;
+  lost = refl;
+  inside = refl;
+  undrawn = refl;
+  unwritten = unwritten;
+  clear = clear;
+}
+
+-- from the pass before to the pass after a whole visit
+pub pass_done : (me one two new : Me Act View) (actor seen spare left node ticket : ℕ) (kept : List ℕ) (room : ℕ)
+    (act : Act)
+    → IsPass me actor seen spare kept room → left + 1 ≡ spare → one ≡ (entered me.0 node act, me.1)
+    → Draws one.0 node act ticket two.0 → HasLeft two.0 new.0 → new.1 ≡ me.1
+    → IsPass new actor (suc ticket) left (kept ++ ticket ∷ []) room
+pass_done me one two new actor seen spare left node ticket kept room act p less turn d gone_by slots =
+    let v = me.0 in
+    let there : two.0 ≡ drawn (entered v node act) node act d.earlier = d.view
+    ∙ ap (λ (m : Me Act View). drawn m.0 node act d.earlier) turn in
+    pass_after me new actor seen spare left ticket kept room d.earlier act p less d.count
+    (subst (λ (l : History). IsFront l d.earlier) (ap (λ (m : Me Act View). m.0.seen) turn) d.seen)
+    (subst (λ (m : Me Act View). own m.0.low d.earlier ≡ own m.0.low m.0.seen) turn d.visits)
+    (slots ∙ p.slots)
+    (gone_by.low ∙ ap (λ (x : View). x.low) there)
+    (gone_by.high ∙ ap (λ (x : View). x.high) there)
+    (gone_by.real ∙ ap (λ (x : View). x.is_spent) there)
+    gone_by.undrawn gone_by.unwritten gone_by.clear
+    (gone_by.seen ∙ ap (λ (x : View). x.seen) there)
+
+pub visit_done : (old new : PassData) (one two : Me Act View) (node ticket : ℕ) (act : Act)
+    → one.0 ≡ entered old.view node act → Draws one.0 node act ticket two.0 → HasLeft two.0 new.view
+    → new.table ≡ old.table → new.seat ≡ old.seat → new.spare + 1 ≡ old.spare → HasVisited old act ticket new
+visit_done old new one two node ticket act turn d gone_by table seat less =
+    let v = old.view in
+    let there : two.0 ≡ drawn (entered v node act) node act d.earlier = d.view
+    ∙ ap (λ (m : View). drawn m node act d.earlier) turn in
+    let setup : one.0.setup ≡ v.setup = ap (λ (x : View). x.setup) turn in
+    record {
+      earlier = d.earlier;
+      count = d.count;
+      begins = subst (λ (l : History). IsFront l d.earlier) (ap (λ (x : View). x.seen) turn) d.seen;
+      visits = subst (λ (x : View). own x.low d.earlier ≡ own x.low x.seen) turn d.visits;
+      seen = gone_by.seen ∙ ap (λ (x : View). x.seen) there;
+      legal = subst (λ (l : History). (sub : ℕ) → sub < subs_in v.setup
+          → IsLegal (setting_in v.setup) sub l) (sym gone_by.seen)
+          (subst (λ (s : Setup). (sub : ℕ) → sub < subs_in s → IsLegal (setting_in s) sub two.0.seen) setup d.legal);
+      outside = gone_by.inside;
+      lost = gone_by.lost ∙ ap (λ (x : View). x.lost) there;
+      spare = less;
+      same = record {
+        table = table;
+        seat = seat;
+        setup = gone_by.setup ∙ ap (λ (x : View). x.setup) there;
+        actor = gone_by.low ∙ ap (λ (x : View). x.low) there;
+      };
+    }
+
+pub pass_is : (me : Me Act View) (actor seen seen' spare : ℕ) (kept kept' : List ℕ) (room room' : ℕ)
+    → IsPass me actor seen spare kept room
+    → seen' ≡ seen → kept' ≡ kept → room' ≡ room → IsPass me actor seen' spare kept' room'
+pass_is me actor seen seen' spare kept kept' room room' p a b c =
+    subst (λ (x : ℕ). IsPass me actor x spare kept' room') (sym a)
+    (subst (λ (x : List ℕ). IsPass me actor seen spare x room') (sym b) (subst (λ
+    (x : ℕ). IsPass me actor seen spare kept x) (sym c) p))
+
+-- what a visit has seen before its own ticket
+pub before_own : (old new : PassData) (act : Act) (ticket : ℕ) → (h : HasVisited old act ticket new)
+    → before ticket new.view.seen ≡ h.earlier
+before_own old new act ticket h =
+    ap (λ (k : ℕ). take k new.view.seen) (sym h.count)
+    ∙ (ap (take (length h.earlier)) h.seen ∙ take-append_seam h.earlier (visit_by old.view act ∷ []))
+
+pub seen_done : (v one two new : View) (node ticket : ℕ) (act : Act) → one ≡ entered v node act
+    → (d : Draws one node act ticket two)
+    → HasLeft two new → new.seen ≡ d.earlier ++ visit_by v act ∷ []
+seen_done v one two new node ticket act turn d left = left.seen ∙ (ap (λ (x : View). x.seen) d.view
+    ∙ ap (λ (x : View). d.earlier ++ visit_by x act ∷ []) turn)
+
+-- tickets are those of visits
+from-below : (actor t : ℕ) (xs : History) (k d : ℕ) → k < length (tickets_from actor t xs)
+    → get_or (tickets_from actor t xs) k d < t + length xs
+unfolding tickets_from
+from-below actor t [] k d h = absurd (omega arith)
+from-below actor t (x ∷ xs) k d h =
+    go (λ j g. from-below actor (suc t) xs j d g) (x.actor == actor) k h
+  where
+    go : ((j : ℕ) → j < length (tickets_from actor (suc t) xs)
+        → get_or (tickets_from actor (suc t) xs) j d < suc t + length xs)
+        → (b : Bool) (j : ℕ) → j < length (cond b (t ∷ tickets_from actor (suc t) xs) (tickets_from actor (suc t) xs))
+        → get_or (cond b (t ∷ tickets_from actor (suc t) xs) (tickets_from actor (suc t) xs)) j d < t + suc (length xs)
+    go later true zero g = omega arith
+    go later true (suc j) g = omega (arith, later j (omega arith))
+    go later false j g = omega (arith, later j g)
+
+pub tickets-below : (actor : ℕ) (history : History) (k d : ℕ) → k < length (tickets actor history)
+    → get_or (tickets actor history) k d < length history
+tickets-below actor history k d h = omega (arith, from-below actor 0 history k d h)
+
+-- whose ticket it is
+from-has : (actor t i : ℕ) (xs : History) (visit : Visit) → slice_get xs i ≡ Some visit
+    → has (t + i) (tickets_from actor t xs) ≡ (visit.actor == actor)
+unfolding tickets_from
+from-has actor t i [] visit e = absurd (nothing i e)
+  where
+    nothing : (k : ℕ) → slice_get [] k ≡ Some visit → ⊥
+    nothing zero f = cc
+    nothing (suc k) f = cc
+from-has actor t zero (x ∷ xs) visit e =
+    go (x.actor == actor) (first-above actor (suc t) xs (t + 0) (omega arith))
+    ∙ ap (λ (o : Option Visit). (unwrap_or o x).actor == actor) e
+  where
+    go : (b : Bool) → has (t + 0) (tickets_from actor (suc t) xs) ≡ false
+        → has (t + 0) (cond b (t ∷ tickets_from actor (suc t) xs) (tickets_from actor (suc t) xs)) ≡ b
+    go true h = ap (λ c. c || has (t + 0) (tickets_from actor (suc t) xs)) (eq-eqb (t + 0) t (omega arith))
+    go false h = h
+
+    first-above : (a s : ℕ) (ys : History) (y : ℕ) → y < s → has y (tickets_from a s ys) ≡ false
+    first-above a s [] y h = refl
+    first-above a s (v ∷ ys) y h = step (v.actor == a) (first-above a (suc s) ys y (omega arith))
+      where
+        step : (b : Bool) → has y (tickets_from a (suc s) ys) ≡ false
+            → has y (cond b (s ∷ tickets_from a (suc s) ys) (tickets_from a (suc s) ys)) ≡ false
+        step true g = ap (λ c. c || has y (tickets_from a (suc s) ys)) (ne_eqb y s (λ q. omega (arith, q, h))) ∙ g
+        step false g = g
+from-has actor t (suc i) (x ∷ xs) visit e =
+    go (x.actor == actor) (ap (λ (k : ℕ). has k (tickets_from actor (suc t) xs)) (omega arith)
+    ∙ from-has actor (suc t) i xs visit e)
+  where
+    go : (b : Bool) → has (t + suc i) (tickets_from actor (suc t) xs) ≡ (visit.actor == actor)
+        → has (t + suc i) (cond b (t ∷ tickets_from actor (suc t) xs) (tickets_from actor (suc t) xs)) ≡
+        (visit.actor == actor)
+    go true h = ap (λ c. c || has (t + suc i) (tickets_from actor (suc t) xs)) (ne_eqb (t + suc i) t (λ q. omega
+        (arith, q))) ∙ h
+    go false h = h
+
+pub tickets-has : (actor i : ℕ) (history : History) (visit : Visit) → slice_get history i ≡ Some visit
+    → has i (tickets actor history) ≡ (visit.actor == actor)
+tickets-has actor i history visit e = ap (λ (k : ℕ). has k (tickets actor history)) (omega arith)
+    ∙ from-has actor 0 i history visit e
+
+-- one ticket more
+pub has-taken : (x k : ℕ) (xs : List ℕ) (d : ℕ) → k < length xs
+    → has x (take (k + 1) xs) ≡ (has x (take k xs) || (x == get_or xs k d))
+has-taken x k xs d h = ap (λ (n : ℕ). has x (take n xs)) (add-one k) ∙ go x k xs h
+  where
+    flat : (b : Bool) → (b || false) ≡ b
+    flat true = refl
+    flat false = refl
+
+    shift : (a b c : Bool) → (a || (b || c)) ≡ ((a || b) || c)
+    shift true b c = refl
+    shift false b c = refl
+
+    go : (y j : ℕ) (ys : List ℕ) → j < length ys → has y (take (suc j) ys) ≡ (has y (take j ys) || (y == get_or ys j d))
+    go y j [] g = absurd (omega arith)
+    go y zero (z ∷ zs) g = flat (y == z)
+    go y (suc j) (z ∷ zs) g = ap (λ b. (y == z) || b) (go y j zs (omega arith))
+        ∙ shift (y == z) (has y (take j zs)) (y == get_or zs j d)

@@ -1,0 +1,282 @@
+-- The turn at a node: it is won or lost, and given back.
+use Rattle.std.proofs.Common.{◌≡◌, ◌≢◌, ℕ, suc, ◌-◌, ◌<◌, ◌≤◌, ◌==◌, true, false, true≢false, List, length, set, refl, sym, ap, ◌∙◌, subst, inl, inr, ⊎_elim, arith, Option, Some, None, get_or-set_other, get_or-set_same, length-set}
+use Rattle.std.specs.Prelude.{slice_index}
+use Rattle.std.proofs.lemmas.List.{set-get_or}
+use mathlib.Core.Option.{some, none, some-injective}
+use mathlib.Core.Logic.{dite}
+use native.Mathlib.Decide.{ℕ_discrete}
+use lib.ListN.{get_elem?}
+use prog.Atomic.{either}
+use Rattle.atomic_table.specs.Table.{State, Me, Step, step, keeps, Valid, carried_after, stepped, Allows}
+use Rattle.atomic_table.proofs.Lists.{at_set, set_here, set_else, exchanged}
+use Rattle.entry_word.specs.declared.visit.Key.{Key}
+use Rattle.entry_word.specs.declared.visit.Act.{Act}
+use Rattle.directory.specs.Keys.{key_node}
+use Rattle.station.specs.Setup.{Setup, setting_in, nodes_in, lock_word, tally_word, cell_word}
+use Rattle.station.specs.Views.{IsSound, IsInside}
+use Rattle.station.specs.Rule.{IsKept, IsViewOf, IsHeld, IsWritten, IsTallied}
+use Rattle.station.specs.Plays.{Seat, entered, beaten, Turns, gone, Leaves}
+use Rattle.station.specs.declared.view.View.{View}
+use Rattle.station.proofs.Apart.{NumbersApart, is_lock, else_where, one_inside, behind}
+use Rattle.station.proofs.Steps.{St, with, owned, seat_below, changed, no_some}
+
+-- a view is in no node and has no duty
+pub record IsIdle (view : View) : Type 0 where
+  pub out : view.inside ≡ None
+  pub unwritten : view.unwritten ≡ None
+
+-- what is unwritten, or owed, at a node where nobody else is
+pub written_here : (setup : Setup) (s : St) (o : IsKept setup s) (j x : ℕ) (v : View) (key : Key) → IsViewOf s.views j v
+    → ((k : ℕ) (u : View) → k ≢ j → IsViewOf s.views k u → u.inside ≢ Some x)
+    → key_node (setting_in setup) key ≡ x → v.unwritten ≢ Some key → IsWritten s.views key
+written_here setup s o j x v key me alone at mine k u there is = dite (ℕ_discrete k j)
+    (λ e. let same : u ≡ v = some-injective u v (sym there ∙ (ap (get_elem? s.views) e ∙ me)) in
+    mine (ap (λ (y : View). y.unwritten) (sym same) ∙ is))
+    (λ ne. alone k u ne there (((o.views k u there).unwritten key is).inside ∙ ap (λ (n : ℕ). Some n) at))
+
+pub tallied_here : (setup : Setup) (s : St) (o : IsKept setup s) (j x : ℕ) (v : View) → IsViewOf s.views j v
+    → ((k : ℕ) (u : View) → k ≢ j → IsViewOf s.views k u → u.inside ≢ Some x)
+    → (v.owes ≡ true → v.inside ≢ Some x) → IsTallied s.views x
+tallied_here setup s o j x v me alone mine k u there owes is = dite (ℕ_discrete k j)
+    (λ e. let same : u ≡ v = some-injective u v (sym there ∙ (ap (get_elem? s.views) e ∙ me)) in
+    mine (ap (λ (y : View). y.owes) (sym same) ∙ owes) (ap (λ (y : View). y.inside) (sym same) ∙ is))
+    (λ ne. alone k u ne there is)
+
+-- the view of a seat changes in what the rule doesn't speak of
+pub restated : (setup : Setup) (s : St) (o : IsKept setup s) (j : ℕ) (v w : View) → IsViewOf s.views j v
+    → w.low ≡ v.low → w.high ≡ v.high → w.inside ≡ v.inside → w.unwritten ≡ v.unwritten → w.owes ≡ v.owes
+    → IsSound setup s.words o.history o.owner j w → IsKept setup (with s.words s j w)
+restated setup s o j v w me low high inside unwritten owes mine =
+    let near = seat_below s.views j v me in
+    record {
+      history = o.history;
+      owner = o.owner;
+      lies = o.lies;
+      size = o.size;
+      some_actors = o.some_actors;
+      tickets = o.tickets;
+      views = λ k u at. ⊎_elim
+          (λ (t : (k ≡ j) × (w ≡ u)). subst (λ (y : View). IsSound setup s.words o.history o.owner k y) t.1
+          (subst (λ (i : ℕ). IsSound setup s.words o.history o.owner i w) (sym t.0) mine))
+          (λ (t : (k ≢ j) × (get_elem? s.views k ≡ some u)). o.views k u t.1)
+          (at_set s.views j k w u at);
+      actors = λ actor below. owned s o.owner j actor v w me low high near (o.actors actor below);
+      known = o.known;
+      few = o.few;
+      locks = λ node actor known is. let t = o.locks node actor known is in dite (ℕ_discrete (o.owner actor) j)
+          (λ e. let same : t.0 ≡ v = some-injective t.0 v (sym t.1 ∙ (ap (get_elem? s.views) e ∙ me)) in (
+            w,
+            subst (λ k. IsViewOf (set s.views j w) k w) (sym e) (set_here s.views j w near),
+            inside ∙ (ap (λ (y : View). y.inside) (sym same) ∙ t.2),
+            low ∙ (ap (λ (y : View). y.low) (sym same) ∙ t.3),
+          ))
+          (λ ne. (t.0, set_else s.views j (o.owner actor) w ne ∙ t.1, t.2, t.3));
+      cells = λ key known quiet. o.cells key known (λ k u at is. dite (ℕ_discrete k j)
+          (λ e. let same : u ≡ v = some-injective u v (sym at ∙ (ap (get_elem? s.views) e ∙ me)) in
+          quiet j w (set_here s.views j w near) (unwritten ∙ (ap (λ (y : View). y.unwritten) (sym same) ∙ is)))
+          (λ ne. quiet k u (set_else s.views j k w ne ∙ at) is));
+      tallies = λ node known quiet. o.tallies node known (λ k u at due is. dite (ℕ_discrete k j)
+          (λ e. let same : u ≡ v = some-injective u v (sym at ∙ (ap (get_elem? s.views) e ∙ me)) in
+          quiet j w (set_here s.views j w near) (owes ∙ (ap (λ (y : View). y.owes) (sym same) ∙ due))
+          (inside ∙ (ap (λ (y : View). y.inside) (sym same) ∙ is)))
+          (λ ne. quiet k u (set_else s.views j k w ne ∙ at) due is));
+      legal = o.legal;
+    }
+
+-- the turn
+
+pub some_not_none : (x : ℕ) → Some x ≡ None → ⊥
+some_not_none x e = cc
+
+pub same_some : (x y : ℕ) → Some x ≡ Some y → x ≡ y
+same_some x y e = ap (λ (o : Option ℕ). Rattle.std.specs.Prelude.unwrap_or o x) e
+
+pub no_key : (key : Key) → None ≡ Some key → ⊥
+no_key key e = cc
+
+entering : NumbersApart → (setup : Setup) (s : St) (o : IsKept setup s) (j x : ℕ) (v : View) (act : Act)
+    → IsViewOf s.views j v
+    → x < nodes_in setup → v.high ≡ suc v.low → IsIdle v → slice_index s.words (lock_word x) ≡ 0
+    → IsKept setup (with (set s.words (lock_word x) (suc v.low)) s j (entered v x act))
+entering law setup s o j x v act me known alone idle free =
+    let new = set s.words (lock_word x) (suc v.low) in
+    let w = entered v x act in
+    let was = o.views j v me in
+    let near = seat_below s.views j v me in
+    let wide : lock_word x < length s.words = omega (arith, o.size) in
+    let nobody : (k : ℕ) (u : View) → IsViewOf s.views k u → u.inside ≢ Some x =
+    λ k u at is. let h = (o.views k u at).inside x is in omega (arith, h.lock, free) in
+    let others : (k : ℕ) (u : View) → k ≢ j → IsViewOf s.views k u → u.inside ≢ Some x = λ k u ne at. nobody k u at in
+    changed setup s o j x v w new record {
+      me = me;
+      known = known;
+      before = inl idle.out;
+      low = refl;
+      high = refl;
+      size = length-set s.words (lock_word x) (suc v.low);
+      first = get_or-set_other s.words (lock_word x) 0 (suc v.low) 0 (λ e. omega arith);
+      elsewhere = λ y k iny ne word. else_where law setup s.words x y (lock_word x) k (suc v.low) known iny ne
+          (is_lock refl) word;
+      mine = record {
+        setup_is = was.setup_is;
+        has = record {
+          seen = was.has.seen;
+          told = was.has.told;
+          visits = was.has.visits;
+          had = was.has.had;
+          kept =
+              was.has.kept;
+        };
+        owner_is = was.owner_is;
+        inside = λ node is. let e : x ≡ node = same_some x node is in
+            subst (λ (n : ℕ). IsInside setup new o.history w n) e record {
+              known = known;
+              alone = alone;
+              lock = get_or-set_same s.words (lock_word x) (suc v.low) 0 wide;
+              last = λ drawn. absurd (true≢false (sym drawn ∙ (was.outside idle.out).0));
+              tally = λ owes. absurd (true≢false (sym owes ∙ (was.outside idle.out).1));
+            };
+        unwritten = λ key is. absurd (no_key key (sym idle.unwritten ∙ is));
+        outside = λ is. absurd (some_not_none x is);
+      };
+      alone = others;
+      lock = λ actor is. let e : suc v.low ≡ suc actor = sym (get_or-set_same s.words (lock_word x)
+          (suc v.low) 0 wide) ∙ is in
+          let low : v.low ≡ actor = omega arith in
+          let mine : o.owner actor ≡ j = ap o.owner (sym low) ∙ (was.owner_is v.low (omega arith)).0 in
+          (w, subst (λ k. IsViewOf (set s.views j w) k w) (sym mine) (set_here s.views j w near), refl, low);
+      cells = λ key cell at quiet.
+          get_or-set_other s.words (lock_word x) (cell_word setup key) (suc v.low) 0 (behind (nodes_in setup) x _ known)
+          ∙ o.cells key cell (written_here setup s o j x v key me others at quiet);
+      tally = λ quiet.
+          get_or-set_other s.words (lock_word x) (tally_word setup x) (suc v.low) 0 (λ e. omega arith)
+          ∙ o.tallies x known (tallied_here setup s o j x v me others (λ owes is. nobody j v me is));
+    }
+
+pub turns : NumbersApart → (setup : Setup) (n id x : ℕ) (m : Seat) (act : Act) → x < nodes_in setup
+    → m.0.high ≡ suc m.0.low → IsIdle m.0
+    → Allows (IsKept setup) n id m (lock_word x) (λ y. either (y == 0) (suc m.0.low) y)
+    (Turns (step n (lock_word x) 0 (suc m.0.low) (some act)) m)
+turns law setup n id x m act known alone idle s o wide me small =
+    let word = slice_index s.words (lock_word x) in
+    let Goes : ℕ → Type 0 = λ k. (w : View) × (a : Rattle.atomic_table.specs.Table.Act Act) × Valid s.homes m.1 a
+    × IsKept setup (stepped s (lock_word x) k id m.1 w a)
+    × Turns (step n (lock_word x) 0 (suc m.0.low) (some act)) m word (w, carried_after m.1 a) in
+    exchanged word 0 (suc m.0.low) Goes
+    (λ free. (
+      entered m.0 x act,
+      keeps,
+      tt,
+      entering law setup s o id x m.0 act me known alone idle free,
+      λ node other at said.
+          let a : x ≡ node = omega arith in let b : act ≡ other = some-injective act other said in
+          ((λ _. λ i. (entered m.0 (a i) (b i), m.1)), (λ not. absurd (not free))),
+    ))
+    (λ taken. let was = o.views id m.0 me in
+    let w = beaten m.0 x word in
+    let b : ℕ = word - 1 in
+    let held : IsHeld s.views o.owner x b = o.locks x b known (omega arith) in
+    let theirs = o.views (o.owner b) held.0 held.1 in
+    let there = theirs.inside x held.2 in
+    let low = held.3 in let high = there.alone in
+    let below : b < setup.actors = (theirs.owner_is b (omega arith, omega arith)).1 in
+    let few : word ≤ 128 = omega (arith, below, o.some_actors) in
+    let other : word ≢ suc m.0.low = λ e.
+    let mine : o.owner b ≡ id = ap o.owner (omega arith) ∙ (was.owner_is m.0.low (omega arith, omega arith)).0 in
+    let same : held.0 ≡ m.0 = some-injective held.0 m.0 (sym held.1 ∙ (ap (get_elem? s.views) mine ∙ me)) in
+    some_not_none x (sym held.2 ∙ (ap (λ (y : View). y.inside) same ∙ idle.out)) in (
+      w,
+      keeps,
+      tt,
+      subst (λ (ws : List ℕ). IsKept setup (with ws s id w)) (sym (set-get_or s.words (lock_word x) 0))
+          (restated setup s o id m.0 w me refl refl refl refl refl record {
+            setup_is = was.setup_is;
+            has = record {
+              seen = was.has.seen;
+              told = was.has.told;
+              visits = was.has.visits;
+              had = was.has.had;
+              kept = was.has.kept;
+            };
+            owner_is = was.owner_is;
+            inside = λ node is. absurd (no_some node (sym idle.out ∙ is));
+            unwritten = λ key is. absurd (no_key key (sym idle.unwritten ∙ is));
+            outside = was.outside;
+          }),
+      λ node said-act at said. let a : x ≡ node = omega arith in
+          ((λ is. absurd (taken is)), λ _. ((λ i. (beaten m.0 (a i) word, m.1)), other, few)),
+    ))
+
+-- the node is left
+
+pub leaves : NumbersApart → (setup : Setup) (n id x : ℕ) (m : Seat) → m.0.inside ≡ Some x → m.0.unwritten ≡ None
+    → m.0.owes ≡ false
+    → Allows (IsKept setup) n id m (lock_word x) (λ _. 0) (λ _. Leaves (step n (lock_word x) 0 0 none) m 0)
+leaves law setup n id x m there unwritten owes s o wide me small =
+    let v = m.0 in
+    let new = set s.words (lock_word x) 0 in
+    let w = gone v in
+    let was = o.views id v me in
+    let here = was.inside x there in
+    let known = here.known in
+    let near : lock_word x < length s.words = omega (arith, o.size, known) in
+    let others : (k : ℕ) (u : View) → k ≢ id → IsViewOf s.views k u → u.inside ≢ Some x =
+    λ k u ne at is. ne (one_inside setup s o id k x v u me at there is) in (
+      w,
+      keeps,
+      tt,
+      changed setup s o id x v w new record {
+        me = me;
+        known = known;
+        before = inr there;
+        low = refl;
+        high = refl;
+        size = length-set s.words (lock_word x) 0;
+        first = get_or-set_other s.words (lock_word x) 0 0 0 (λ e. omega arith);
+        elsewhere = λ y k iny ne word. else_where law setup s.words x y (lock_word x) k 0 known iny ne
+            (is_lock refl) word;
+        mine = record {
+          setup_is = was.setup_is;
+          has = record {
+            seen = was.has.seen;
+            told = was.has.told;
+            visits = was.has.visits;
+            had = was.has.had;
+            kept
+                = was.has.kept;
+          };
+          owner_is = was.owner_is;
+          inside = λ node is. absurd (no_some node is);
+          unwritten = λ key is. absurd (no_key key (sym unwritten ∙ is));
+          outside = λ is. (refl, owes);
+        };
+        alone = others;
+        lock = λ actor is. let e : 0 ≡ suc actor = sym (get_or-set_same s.words (lock_word x) 0 0 near) ∙ is in
+            absurd (omega arith);
+        cells = λ key cell at quiet.
+            get_or-set_other s.words (lock_word x) (cell_word setup key) 0 0 (behind (nodes_in setup) x _ known)
+            ∙ o.cells key cell (written_here setup s o id x v key me others at quiet);
+        tally = λ quiet.
+            get_or-set_other s.words (lock_word x) (tally_word setup x) 0 0 (λ e. omega arith)
+            ∙ o.tallies x known (tallied_here setup s o id x v me others (λ due is. true≢false (sym due ∙ owes)));
+      },
+      refl,
+    )
+
+pub turns_at : NumbersApart → (setup : Setup) (n id x i new : ℕ) (m : Seat) (act : Act) → x < nodes_in setup
+    → m.0.high ≡ suc m.0.low → IsIdle m.0
+    → i ≡ lock_word x → new ≡ suc m.0.low
+    → Allows (IsKept setup) n id m i (λ y. either (y == 0) new y) (Turns (step n i 0 new (some act)) m)
+turns_at law setup n id x i new m act known alone idle at is =
+    let P : ℕ → ℕ → Type 0 = λ k w. Allows (IsKept setup) n id m k (λ y. either (y == 0) w y) (Turns (step n k 0 w
+    (some act)) m) in
+    subst (λ (k : ℕ). P k new) (sym at) (subst (λ (w : ℕ). P (lock_word x) w) (sym is)
+    (turns law setup n id x m act known alone idle))
+
+pub leaves_at : NumbersApart → (setup : Setup) (n id x i : ℕ) (m : Seat) → m.0.inside ≡ Some x
+    → m.0.unwritten ≡ None → m.0.owes ≡ false
+    → i ≡ lock_word x
+    → Allows (IsKept setup) n id m i (λ _. 0) (λ _. Leaves (step n i 0 0 none) m 0)
+leaves_at law setup n id x i m there unwritten owes at =
+    subst (λ (k : ℕ). Allows (IsKept setup) n id m k (λ _. 0) (λ _. Leaves (step n k 0 0 none) m 0)) (sym at)
+    (leaves law setup n id x m there unwritten owes)

@@ -1,0 +1,194 @@
+-- Stores: a put is written, and a tally.
+use Rattle.std.proofs.Common.{◌≡◌, ◌≢◌, ℕ, suc, ◌+◌, ◌*◌, ◌<◌, true≢false, length, set, refl, sym, ap, ◌∙◌, subst, inr, arith, Option, Some, get_or-set_other, get_or-set_same, length-set}
+use Rattle.std.specs.Prelude.{slice_index}
+use mathlib.Core.Option.{none, some-injective}
+use mathlib.Core.Logic.{dite}
+use native.Mathlib.Decide.{ℕ_discrete}
+use lib.ListN.{get_elem?}
+use Rattle.atomic_table.specs.Table.{step, keeps, Allows}
+use Rattle.atomic_table.proofs.Lists.{set_here}
+use Rattle.entry_word.specs.declared.visit.Key.{Key}
+use Rattle.directory.specs.Keys.{key_node}
+use Rattle.directory.specs.Histories.{cell}
+use Rattle.directory.specs.Census.{census}
+use Rattle.visit_log.specs.Numbers.{IsCell, cell_number, cell_count}
+use Rattle.region_plan.specs.Plan.{PlanData}
+use Rattle.station.specs.Setup.{Setup, setting_in, nodes_in, subs_in, IsCellOf, lock_word, tally_word, cell_word, word_count}
+use Rattle.station.specs.Views.{IsInside}
+use Rattle.station.specs.Rule.{IsKept, IsViewOf, IsHeld}
+use Rattle.station.specs.Plays.{Seat, written, tallied, Writes, Tallies}
+use Rattle.station.specs.Visits.{HasTurn}
+use Rattle.station.specs.declared.view.View.{View}
+use Rattle.station.proofs.Apart.{NumbersApart, is_tally, is_cell, else_where, behind, behind_tally, same_number}
+use Rattle.station.proofs.Staying.{SameKey}
+use Rattle.station.proofs.Steps.{St, seat_below, changed}
+use Rattle.station.proofs.Turning.{written_here, tallied_here, no_key, same_some}
+use Rattle.station.proofs.Reading.{cell_seen, census_seen, alone}
+
+-- a cell's number is below the count of cells
+abbrev pub NumbersBelow : Type 0
+NumbersBelow = (plan : PlanData) (subs : ℕ) (key : Key) → IsCell plan subs key
+    → cell_number plan subs key < cell_count plan subs
+
+pub cell_below : NumbersBelow → (setup : Setup) (key : Key) → IsCellOf setup key
+    → cell_word setup key < word_count setup
+cell_below law setup key known = step_up (nodes_in setup) _ _ (law setup.plan (subs_in setup) key known)
+  where
+    step_up : (n c d : ℕ) → c < d → suc (2 * n + c) < suc (2 * n + d)
+    step_up n c d h = omega arith
+
+key_same : (key other : Key) → Some key ≡ Some other → key ≡ other
+key_same key other e = ap (λ (o : Option Key). Rattle.std.specs.Prelude.unwrap_or o key) e
+
+-- who is inside a node when another of its words changes
+pub still_held : (s : St) (o : ℕ → ℕ) (j x actor : ℕ) (v w : View) → IsViewOf s.views j v → w.inside ≡ v.inside
+    → w.low ≡ v.low
+    → IsHeld s.views o x actor → IsHeld (set s.views j w) o x actor
+still_held s o j x actor v w me inside low t = dite (ℕ_discrete (o actor) j)
+    (λ e. let same : t.0 ≡ v = some-injective t.0 v (sym t.1 ∙ (ap (get_elem? s.views) e ∙ me)) in (
+      w,
+      subst (λ k. IsViewOf (set s.views j w) k w) (sym e) (set_here s.views j w (seat_below s.views j v me)),
+      inside ∙ (ap (λ (y : View). y.inside) (sym same) ∙ t.2),
+      low ∙ (ap (λ (y : View). y.low) (sym same) ∙ t.3),
+    ))
+    (λ ne. (t.0, Rattle.atomic_table.proofs.Lists.set_else s.views j (o actor) w ne ∙ t.1, t.2, t.3))
+
+pub writes : NumbersApart → NumbersBelow → SameKey → (n id i new : ℕ) (m : Seat) (key : Key) → m.0.unwritten ≡ Some key
+    → IsCellOf m.0.setup key → i ≡ cell_word m.0.setup key → HasTurn m.0 (key_node (setting_in m.0.setup) key)
+    → new ≡ cell (setting_in m.0.setup) m.0.seen key
+    → Allows (IsKept m.0.setup) n id m i (λ _. new) (λ _. Writes (step n i new 0 none) m new)
+writes law below same n id i new m key put known at turn is s o wide me small =
+    let v = m.0 in
+    let setup = v.setup in
+    let x = key_node (setting_in setup) key in
+    let ws = set s.words i new in
+    let w = written v in
+    let was = o.views id v me in
+    let here = was.inside x turn.inside in
+    let near : i < length s.words = subst (λ (k : ℕ). i < k) (sym o.size) (subst (λ (k : ℕ). k < word_count setup)
+    (sym at) (cell_below below setup key known)) in
+    let others = alone setup s o id x v me turn.inside in
+    let word : slice_index ws i ≡ cell (setting_in setup) o.history key =
+    get_or-set_same s.words i new 0 near ∙ (is ∙ sym (cell_seen same setup s o id v key me turn)) in
+    let not_lock : lock_word x ≢ i = λ e. behind (nodes_in setup) x _ here.known (sym (e ∙ at)) in
+    let not_tally : tally_word setup x ≢ i = λ e. behind_tally (nodes_in setup) x _ here.known (sym (e ∙ at)) in (
+      w,
+      keeps,
+      tt,
+      changed setup s o id x v w ws record {
+        me = me;
+        known = here.known;
+        before = inr turn.inside;
+        low = refl;
+        high = refl;
+        size = length-set s.words i new;
+        first = get_or-set_other s.words i 0 new 0 (λ e. first_apart (e ∙ at));
+        elsewhere = λ y k iny ne word. else_where law setup s.words x y i k new here.known iny ne
+            (is_cell key known refl at) word;
+        mine = record {
+          setup_is = was.setup_is;
+          has = record {
+            seen = was.has.seen;
+            told = was.has.told;
+            visits = was.has.visits;
+            had = was.has.had;
+            kept
+                = was.has.kept;
+          };
+          owner_is = was.owner_is;
+          inside = λ node there. let e : x ≡ node = same_some x node (sym turn.inside ∙ there) in
+              subst (λ (k : ℕ). IsInside setup ws o.history w k) e record {
+                known = here.known;
+                alone = here.alone;
+                lock = get_or-set_other s.words i (lock_word x) new 0 not_lock ∙ here.lock;
+                last = here.last;
+                tally = λ owes. get_or-set_other s.words i (tally_word setup x) new 0 not_tally ∙ here.tally owes;
+              };
+          unwritten = λ other there. absurd (no_key other there);
+          outside = was.outside;
+        };
+        alone = others;
+        lock = λ actor names. still_held s o.owner id x actor v w me refl refl
+            (o.locks x actor here.known (sym (get_or-set_other s.words i (lock_word x) new 0 not_lock) ∙ names));
+        cells = λ other cell_there there quiet. dite (ℕ_discrete (cell_word setup other) i)
+            (λ e. let same_is : key ≡ other = law setup.plan (subs_in setup) key other known cell_there
+            (same_number (nodes_in setup) _ _ (sym at ∙ sym e)) in
+            subst (λ (k : Key). slice_index ws (cell_word setup k) ≡ cell (setting_in setup) o.history k) same_is
+            (ap (slice_index ws) (sym at) ∙ word))
+            (λ ne. get_or-set_other s.words i (cell_word setup other) new 0 ne
+            ∙ o.cells other cell_there (written_here setup s o id x v other me others there (λ had.
+            ne (ap (cell_word setup) (key_same other key (sym had ∙ put)) ∙ sym at))));
+        tally = λ quiet. get_or-set_other s.words i (tally_word setup x) new 0 not_tally
+            ∙ o.tallies x here.known (tallied_here setup s o id x v me others quiet);
+      },
+      refl,
+    )
+  where
+    first_apart : {c : ℕ} → 0 ≡ suc c → ⊥
+    first_apart e = omega arith
+
+pub tallies : NumbersApart → SameKey → (n id x i new : ℕ) (m : Seat) → HasTurn m.0 x → i ≡ tally_word m.0.setup x
+    → new ≡ length (census (setting_in m.0.setup) m.0.seen x)
+    → Allows (IsKept m.0.setup) n id m i (λ _. new) (λ _. Tallies (step n i new 0 none) m new)
+tallies law same n id x i new m turn at is s o wide me small =
+    let v = m.0 in
+    let setup = v.setup in
+    let ws = set s.words i new in
+    let w = tallied v in
+    let was = o.views id v me in
+    let here = was.inside x turn.inside in
+    let near : i < length s.words = omega (arith, o.size, here.known, at) in
+    let others = alone setup s o id x v me turn.inside in
+    let not_lock : lock_word x ≢ i = λ e. omega (arith, here.known, at, e) in
+    let not_cell : (key : Key) → cell_word setup key ≢ i = λ key e. behind_tally (nodes_in setup) x _ here.known
+    (e ∙ at) in (
+      w,
+      keeps,
+      tt,
+      changed setup s o id x v w ws record {
+        me = me;
+        known = here.known;
+        before = inr turn.inside;
+        low = refl;
+        high = refl;
+        size = length-set s.words i new;
+        first = get_or-set_other s.words i 0 new 0 (λ e. omega (arith, at, e));
+        elsewhere = λ y k iny ne word. else_where law setup s.words x y i k new here.known iny ne (is_tally at) word;
+        mine = record {
+          setup_is = was.setup_is;
+          has = record {
+            seen = was.has.seen;
+            told = was.has.told;
+            visits = was.has.visits;
+            had = was.has.had;
+            kept
+                = was.has.kept;
+          };
+          owner_is = was.owner_is;
+          inside = λ node there. let e : x ≡ node = same_some x node (sym turn.inside ∙ there) in
+              subst (λ (k : ℕ). IsInside setup ws o.history w k) e record {
+                known = here.known;
+                alone = here.alone;
+                lock = get_or-set_other s.words i (lock_word x) new 0 not_lock ∙ here.lock;
+                last = here.last;
+                tally = λ owes. absurd (true≢false (sym owes));
+              };
+          unwritten = λ key there. let h = was.unwritten key there in
+              record {
+                cell = h.cell;
+                inside = h.inside;
+                drawn = h.drawn;
+                word = get_or-set_other s.words i (cell_word setup key) new 0 (not_cell key) ∙ h.word;
+              };
+          outside = λ out. ((was.outside out).0, refl);
+        };
+        alone = others;
+        lock = λ actor names. still_held s o.owner id x actor v w me refl refl
+            (o.locks x actor here.known (sym (get_or-set_other s.words i (lock_word x) new 0 not_lock) ∙ names));
+        cells = λ key known there quiet. get_or-set_other s.words i (cell_word setup key) new 0 (not_cell key)
+            ∙ o.cells key known (written_here setup s o id x v key me others there quiet);
+        tally = λ quiet. ap (slice_index ws) (sym at) ∙ (get_or-set_same s.words i new 0 near
+            ∙ (is ∙ sym (ap length (census_seen same setup s o id x v me turn))));
+      },
+      refl,
+    )

@@ -1,0 +1,5 @@
+use Rattle.station.specs.Closing.{ArePresent}
+use Rattle.station.proofs.closing.missing.Given as goal
+
+abbrev pub invariant-loop-actor : goal.invariant-loop-actor
+invariant-loop-actor l = ArePresent l.actor l.passes

@@ -1,0 +1,22 @@
+use Rattle.std.proofs.Common.{◌≡◌, ◌+◌, ◌*◌, ◌<◌, ℕ, [], ◌∷◌, rules, arith, sym, ap, ◌∙◌, subst, length, length-append}
+use Rattle.region_plan.specs.Plan.{nodes_of}
+use Rattle.entry_word.specs.declared.visit.Key.TheVariants.{Entry}
+use Rattle.station.specs.Opening.{AreLaid, setup_of}
+use Rattle.station.specs.Setup.{cell_word, IsCellOf}
+use Rattle.station.proofs.Laying.{laid_cell}
+use Rattle.station.proofs.opening.lay_level.Goals as goal
+
+-- src/opening.rt:148:9
+pub loop-sub-preserved : goal.loop-sub-preserved
+loop-sub-preserved c =
+    let setup = setup_of c.args.plan.now c.args.homes.now 0 in
+    let key = Entry c.args.level c.loop-cluster.cluster c.loop-sub.sub in
+    let items = c.in_ok-push.ensures.items in
+    let was = c.loop-sub.invariant in
+    let is_cell : IsCellOf setup key = record { place = search rules; known = search rules } in
+    let at : length c.loop-sub.words.items ≡ cell_word setup key = omega (arith, was.1) in (
+      subst (AreLaid setup) (sym items) (laid_cell c.cell_numbers.ensures.apart setup c.loop-sub.words.items
+          c.look-word.result key is_cell at (c.look-word.ensures.history c.args.homes.now [] c.requires.hold) was.0),
+      ap length items
+          ∙ omega (arith, was.1, length-append c.loop-sub.words.items (c.look-word.result ∷ [])),
+    )

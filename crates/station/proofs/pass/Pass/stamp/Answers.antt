@@ -1,0 +1,79 @@
+use Rattle.std.proofs.Common.{arith, ap, sym, ◌∙◌, ◌≡◌, ◌<◌, ◌≤◌, ◌+◌, ◌==◌, Bool, true, false, ℕ, List, get_or, set, length, take, subst, refl, eq-eqb, ne_eqb, get_or-set_same, get_or-set_other, length-set}
+use Rattle.std.specs.Prelude.{slice_index, ◌||◌, if◌then◌else◌}
+use mathlib.Core.Logic.{dite}
+use native.Mathlib.Decide.{ℕ_discrete}
+use Rattle.node_set.specs.Ascending.{has}
+use Rattle.directory.specs.Histories.{tickets}
+use Rattle.station.proofs.Ticketing.{tickets-below, has-taken}
+use Rattle.station.proofs.pass.Pass.stamp.Goals as goal
+
+pub write_at-requires : goal.write_at-requires
+write_at-requires c =
+    let p = c.self.invariant in
+    let k = c.loop-k.k in
+    let list = tickets c.self.inside.actor c.self.inside.seat.me.0.seen in
+    let near : k < length list =
+    omega (arith, c.loop-k-test.true, c.len-k-end.ensures, ap length p.tickets_are, c.self.inside.tickets.ok) in
+    let is : c.index.result.now ≡ get_or list k c.index.result.now =
+    c.index.ensures ∙ ap (λ (l : List ℕ). get_or l k c.index.result.now) p.tickets_are in
+    let below = tickets-below c.self.inside.actor c.self.inside.seat.me.0.seen k c.index.result.now near in
+    let room : length c.self.inside.seat.me.0.seen ≤ length c.args.order.now =
+    subst (λ q. length q.view.seen ≤ length c.args.order.now) (sym c.self.view_is) c.requires.room in
+    omega (arith, is, below, room, c.loop-k.invariant.size)
+
+stamped : (order list : List ℕ) (old : ℕ → ℕ) (at actor k : ℕ) (d : ℕ) → at ≡ get_or list k d → k < length list
+    → at < length order
+    → ((i : ℕ) → slice_index order i ≡ (if has i (take k list) then actor else old i))
+    → (i : ℕ) → slice_index (set order at actor) i ≡ (if has i (take (k + 1) list) then actor else old i)
+stamped order list old at actor k d is near inside all i =
+    dite (ℕ_discrete i at)
+    (λ e. ap (slice_index (set order at actor)) e ∙ (get_or-set_same order at actor 0 inside
+    ∙ sym (ap {B = ℕ} (λ b. if b then actor else old i) (has-taken i k list d near
+    ∙ hit (has i (take k list)) (i == get_or list k d) (eq-eqb i (get_or list k d) (e ∙ is))))))
+    (λ ne. get_or-set_other order at i actor 0 ne ∙ (all i
+    ∙ sym (ap {B = ℕ} (λ b. if b then actor else old i) (has-taken i k list d near
+    ∙ miss (has i (take k list)) (i == get_or list k d) (ne_eqb i (get_or list k d) (λ q. ne (q ∙ sym is)))))))
+  where
+    hit : (a b : Bool) → b ≡ true → (a || b) ≡ true
+    hit true b e = refl
+    hit false b e = e
+
+    miss : (a b : Bool) → b ≡ false → (a || b) ≡ a
+    miss true b e = refl
+    miss false b e = e
+
+pub loop-k-preserved : goal.loop-k-preserved
+loop-k-preserved c =
+    let p = c.self.invariant in
+    let k = c.loop-k.k in
+    let list = tickets c.self.inside.actor c.self.inside.seat.me.0.seen in
+    let near : k < length list =
+    omega (arith, c.loop-k-test.true, c.len-k-end.ensures, ap length p.tickets_are, c.self.inside.tickets.ok) in
+    let is : c.index.result.now ≡ get_or list k c.index.result.now =
+    c.index.ensures ∙ ap (λ (l : List ℕ). get_or l k c.index.result.now) p.tickets_are in
+    let below = tickets-below c.self.inside.actor c.self.inside.seat.me.0.seen k c.index.result.now near in
+    let room : length c.self.inside.seat.me.0.seen ≤ length c.args.order.now =
+    subst (λ q. length q.view.seen ≤ length c.args.order.now) (sym c.self.view_is) c.requires.room in
+    let inside : c.index.result.now < length c.loop-k.order = omega (arith, is, below, room, c.loop-k.invariant.size) in
+    let told = c.self.view_is in
+    let low : c.args.self.now.view.low ≡ c.self.inside.actor = sym (ap (λ q. q.view.low) told) ∙ p.low in
+    let lists : tickets c.args.self.now.view.low c.args.self.now.view.seen ≡ list =
+    ap (λ q. tickets q.view.low q.view.seen) (sym told)
+    ∙ ap (λ (a : ℕ). tickets a c.self.inside.seat.me.0.seen) p.low in
+    let Stamped : ℕ → List ℕ → List ℕ → ℕ → Type 0 = λ actor l order n. (i : ℕ)
+    → slice_index order i ≡ (if has i (take n l) then actor else slice_index c.args.order.now i) in
+    let was : Stamped c.self.inside.actor list c.loop-k.order k =
+    subst (λ (a : ℕ). Stamped a list c.loop-k.order k) low
+    (subst (λ (l : List ℕ). Stamped c.args.self.now.view.low l c.loop-k.order k) lists
+    c.loop-k.invariant.stamped) in
+    let next = stamped c.loop-k.order list (λ i. slice_index c.args.order.now i) c.index.result.now
+    c.self.inside.actor k
+    c.index.result.now is near inside was in
+    record {
+      size = ap length c.write_at.ensures ∙ (length-set c.loop-k.order c.index.result.now c.self.inside.actor
+          ∙ c.loop-k.invariant.size);
+      stamped = subst (λ (a : ℕ). Stamped a (tickets c.args.self.now.view.low c.args.self.now.view.seen)
+          c.write_at.new.order (k + 1)) (sym low)
+          (subst (λ (l : List ℕ). Stamped c.self.inside.actor l c.write_at.new.order (k + 1)) (sym lists)
+          (subst (λ (o : List ℕ). Stamped c.self.inside.actor list o (k + 1)) (sym c.write_at.ensures) next));
+    }

@@ -1,0 +1,20 @@
+use Rattle.std.proofs.Common.{subst, sym, ap, ◌∙◌, ◌<◌, refl}
+use Rattle.entry_word.specs.declared.visit.Act.TheVariants.{Census}
+use Rattle.station.specs.Setup.{nodes_in}
+use Rattle.station.specs.Plays.{entered}
+use Rattle.station.proofs.Wholes.{with_view}
+use Rattle.station.proofs.tracker.Tracker.enter.Goals as goal
+
+pub returns : goal.returns
+returns c = let t = c.in_ok-turn.ensures in let p = c.pass.view_is in record {
+  stay = (
+    record {
+      actor = sym (ap (λ m. m.0.low) t.turn ∙ c.pass.invariant.low);
+      inside = ap (λ m. m.0.inside) t.turn;
+      known = subst (λ s. c.args.node < nodes_in s) (sym (ap (λ m. m.0.setup) t.turn ∙ (ap (λ q. q.view.setup) p
+          ∙ c.requires.of.setup))) c.requires.node;
+    },
+    with_view c.args.pass.now _ _ (λ v. entered v c.args.node (Census c.args.node)) p t.table t.id refl (ap
+        (λ m. m.0) t.turn),
+  );
+}

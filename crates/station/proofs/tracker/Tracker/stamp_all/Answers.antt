@@ -1,0 +1,74 @@
+use Rattle.std.proofs.Common.{arith, ap, sym, ◌∙◌, ◌≡◌, ◌<◌, ◌+◌, ◌++◌, ◌∷◌, [], ℕ, List, take, length, length-append, subst}
+use Rattle.std.specs.Prelude.{slice_get, slice_index, option_to_list, if◌then◌else◌}
+use mathlib.Core.Logic.{dite}
+use native.Mathlib.Decide.{ℕ_discrete, dec_le}
+use Rattle.node_set.specs.Ascending.{has}
+use Rattle.directory.specs.Histories.{History, own, tickets}
+use Rattle.station.specs.Passes.{PassData, IsNoteOf, actor_of}
+use Rattle.station.specs.Plays.{longer}
+use Rattle.station.proofs.Ending.{find_pass, last_left, longer-whole, order_is, own_there, same_pass, stamp_more}
+use Rattle.station.proofs.Ticketing.{tickets-has}
+use Rattle.station.proofs.tracker.Tracker.stamp_all.Goals as goal
+
+pub loop-pass-preserved : goal.loop-pass-preserved
+loop-pass-preserved c =
+    let all : List PassData = c.args.passes.items in
+    let d = c.loop-pass.invariant in
+    let whole : History = c.args.longest.now.view.seen in
+    let left : List PassData = c.pop.new.self.items in
+    let pass : PassData = c.in-Some.pass in
+    let popped : c.loop-pass.passes.items ≡ left ++ pass ∷ [] = c.pop.ensures.items
+    ∙ ap (λ o. left ++ option_to_list o) c.in-Some.is in
+    let count : length c.loop-pass.passes.items ≡ length left + 1 = ap length popped ∙ length-append left (pass ∷ []) in
+    let t = last_left all left pass (sym popped ∙ (d.left ∙ ap (λ (l : List PassData). take (length l) all) popped)) in
+    let heard = c.hear.ensures.heard in
+    let note : c.copy-note.result.view.seen ≡ whole = c.copy-note.ensures.seen ∙ d.same in
+    let seen : c.hear.new.pass.view.seen ≡ whole = heard.seen ∙ (ap (longer pass.view.seen) note
+    ∙ longer-whole pass.view.seen whole (c.requires.gathered.seen (length left) pass t.1)) in
+    let mine : own (actor_of pass) whole ≡ own (actor_of pass) pass.view.seen = ap (own (actor_of pass))
+    (sym seen) ∙ heard.visits in
+    record {
+      left = t.0;
+      of = subst (IsNoteOf c.args.self.now) (sym c.copy-note.ensures.same) d.of;
+      same = ap (λ n. n.view.seen) c.copy-note.ensures.same ∙ d.same;
+      size = c.stamp.ensures.size ∙ d.size;
+      visits = λ j p h e. dite (ℕ_discrete j (length left))
+          (λ is. let same = same_pass pass p (sym t.1 ∙ (ap (slice_get all) (sym is) ∙ e)) in
+          subst (λ (q : PassData). own (actor_of q) whole ≡ own (actor_of q) q.view.seen) same mine)
+          (λ ne. d.visits j p (omega arith) e);
+      stamped = λ i j visit p there h e is.
+          stamp_more c.loop-pass.order c.stamp.new.order i visit (actor_of pass) whole (tickets-has
+          (actor_of pass) i whole visit there)
+          (subst (λ (a : ℕ). slice_index c.stamp.new.order i ≡ (if has i
+          (tickets a whole) then a else slice_index c.loop-pass.order i)) heard.same.actor
+          (subst (λ (l : History). slice_index c.stamp.new.order i ≡ (if has i (tickets
+          (actor_of c.hear.new.pass) l) then actor_of c.hear.new.pass else slice_index c.loop-pass.order i)) seen
+          (c.stamp.ensures.stamped i)))
+          (λ ne. dite (ℕ_discrete j (length left))
+          (λ at. let same = same_pass pass p (sym t.1 ∙ (ap (slice_get all) (sym at) ∙ e)) in
+          absurd (ne (is ∙ ap actor_of (sym same))))
+          (λ further. d.stamped i j visit p there (omega arith) e is));
+    }
+
+pub returns : goal.returns
+returns c =
+    let all : List PassData = c.args.passes.items in
+    let d = c.loop-pass.invariant in
+    let whole : History = c.args.longest.now.view.seen in
+    let g = c.requires.gathered in
+    let empty : length c.loop-pass.passes.items ≡ 0 =
+    omega (arith, c.in_default.ensures.cases, c.loop-pass.passes.ok) in record {
+      order = record {
+        history = whole;
+        actors = order_is c.loop-pass.order whole (d.size ∙ c.requires.room) (λ i visit there.
+            let known : visit.actor < c.args.self.now.setup.actors = dite
+            (dec_le c.args.self.now.setup.actors visit.actor)
+            (λ above. absurd (own_there whole i visit there (g.known visit.actor above))) (λ h. omega arith) in
+            let f = find_pass all visit.actor (c.requires.present visit.actor known) in
+            d.stamped i f.0 visit f.1 there (omega (arith, empty)) f.2 (sym f.3));
+        seen = g.seen;
+        visits = λ k pass e. d.visits k pass (omega (arith, empty)) e;
+        known = g.known;
+        legal = g.legal;
+      };
+    }

@@ -1,0 +1,42 @@
+use Rattle.std.proofs.Common.{rules, arith, subst, sym, ap, ◌∙◌, ◌≡◌, ◌≤◌, ◌^◌, length}
+use Rattle.atomic_table.specs.Table.{Allows, step}
+use mathlib.Core.Option.{none}
+use Rattle.station.specs.Setup.{setting_in, nodes_in}
+use Rattle.station.specs.Rule.{IsKept}
+use Rattle.station.specs.Plays.{Learns}
+use Rattle.station.proofs.Joining.{hears, learns, longer_long}
+use Rattle.station.proofs.tracker.Tracker.take_in.Goals as goal
+
+pub join_seat-requires : goal.join_seat-requires
+join_seat-requires c =
+    let one = c.longest.view_is in let two = c.self.view_is in let three = c.note.view_is in (
+      search rules,
+      search rules,
+      c.note.invariant.slots,
+      omega
+          (arith, c.self.invariant.words),
+      hears _ _ _ c.longest.inside.seat.me.0 c.note.inside.seat.me.0
+          c.note.invariant.low c.note.invariant.high c.note.invariant.inside,
+    )
+
+pub load-requires : goal.load-requires
+load-requires c =
+    let m = c.join_seat.new.seat.me in
+    let old = c.longest.inside.seat.me.0 in
+    let note = c.note.inside.seat.me.0 in
+    let one = c.longest.view_is in let two = c.self.view_is in
+    let joined = c.join_seat.ensures.2 in
+    let e : m.0.setup ≡ c.self.inside.table.shared.key = ap (λ q. q.0.setup) joined ∙ (ap (λ q. q.view.setup) one
+    ∙ (c.requires.of.setup ∙ sym (ap (λ t. t.setup) two))) in
+    let few : (setting_in m.0.setup).nodes ≤ 2 ^ 16 = omega
+    (arith, c.self.invariant.nodes_are, c.self.invariant.few_nodes, ap nodes_in e) in
+    let long = longer_long old.seen note.seen in
+    let slots = c.self.inside.table.shared.table_id.slots in (
+      search rules,
+      omega (arith, c.self.invariant.words),
+      subst (λ k. Allows
+          (IsKept k) slots c.join_seat.new.seat.id m 0 (λ y. y) (Learns (step slots 0 0 0 none) m)) e
+          (learns c.front_of_history_is_legal.ensures slots c.join_seat.new.seat.id 0 m few
+          (omega (arith, long, ap (λ q. length q.0.told) joined, ap (λ q. length q.0.seen) joined))
+          (omega (arith, long, ap (λ q. length q.0.had) joined, ap (λ q. length q.0.seen) joined))),
+    )

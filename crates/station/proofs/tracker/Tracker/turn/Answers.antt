@@ -1,0 +1,45 @@
+use Rattle.std.proofs.Common.{rules, arith, sym, ap, ◌∙◌, ◌≡◌, ◌≢◌, suc, ℕ, ◌+◌, ◌-◌, ◌<◌, refl}
+use Rattle.station.specs.Plays.{beaten}
+use Rattle.station.specs.Setup.{nodes_in}
+use Rattle.station.proofs.Turning.{turns_at}
+use Rattle.station.proofs.tracker.Tracker.turn.Goals as goal
+
+pub compare_exchange_with-found-requires : goal.compare_exchange_with-found-requires
+compare_exchange_with-found-requires c =
+    let m = c.args.seat.now.me in
+    let setup = c.self.inside.table.shared.key in
+    let view = c.self.view_is in
+    let known : c.args.node < nodes_in setup = search rules in (
+      search rules,
+      omega (arith, c.self.invariant.words, known),
+      turns_at c.cell_numbers.ensures.apart setup _ _
+          c.args.node (c.args.node + 1) _ m c.args.act.now known (omega (arith, c.requires.low, c.requires.high))
+          (record { out = c.requires.outside; unwritten = c.requires.unwritten }) (omega arith) (omega
+          (arith, c.requires.low)),
+    )
+
+pub returns-then-found-eq0-clause-turn : goal.returns-then-found-eq0-clause-turn
+returns-then-found-eq0-clause-turn c = (c.compare_exchange_with-found.ensures.2 c.args.node c.args.act.now
+    (omega arith) refl).0 c.if-found-eq0.true
+
+pub overflow_cast-result : goal.overflow_cast-result
+overflow_cast-result c = omega (
+  arith,
+  ((c.compare_exchange_with-found.ensures.2 c.args.node c.args.act.now
+      (omega arith) refl).1 c.if-found-eq0.false).2,
+)
+
+pub returns-clause-turn : goal.returns-clause-turn
+returns-clause-turn c =
+    let found = c.compare_exchange_with-found.result in
+    let t = (c.compare_exchange_with-found.ensures.2 c.args.node c.args.act.now
+    (omega arith) refl).1 c.if-found-eq0.false in
+    let some : found ≡ suc (found - 1) = up found c.if-found-eq0.false in (
+      refl,
+      (λ e. t.1 (some ∙ ap suc (e ∙ sym c.requires.low))),
+      t.0
+          ∙ ap (λ (k : ℕ). (beaten c.args.seat.now.me.0 c.args.node k, c.args.seat.now.me.1)) some,
+    )
+  where
+    up : (k : ℕ) → k ≢ 0 → k ≡ suc (k - 1)
+    up k ne = omega arith

@@ -1,0 +1,93 @@
+use Rattle.std.proofs.Common.{arith, subst, sym, ap, ◌∙◌, ◌≡◌, ◌<◌, ◌++◌, ◌∷◌, [], length, suc, ℕ, Some}
+use Rattle.entry_word.specs.declared.visit.Act.TheVariants.{Put}
+use Rattle.directory.specs.Histories.{puts_to}
+use Rattle.directory.specs.Keys.{key_node}
+use Rattle.directory.specs.Legal.{IsLegal}
+use Rattle.handset.specs.Kept.{GoesWith}
+use Rattle.handset.specs.Stands.{StandsFor}
+use Rattle.region_plan.specs.Settings.{setting_of}
+use Rattle.station.specs.Setup.{Setup, setting_in, subs_in, IsCellOf}
+use Rattle.station.specs.Plays.{entered}
+use Rattle.station.specs.Handsets.{IsHandsetOf, put_of}
+use Rattle.station.specs.Visits.{MayDraw}
+use Rattle.station.specs.declared.view.View.{View}
+use Rattle.station.proofs.Putting.{may_put, handset_after, visited_due, write-sub}
+use Rattle.station.proofs.Ticketing.{own_few, pass_done, visit_done, pass_is, seen_done}
+use Rattle.station.proofs.tracker.Tracker.visit_put.Goals as goal
+
+pub make_put-ticket-requires-clause-may : goal.make_put-ticket-requires-clause-may
+make_put-ticket-requires-clause-may c =
+    let v : View = c.pass.inside.seat.me.0 in
+    let key = c.next_put-key.result.0 in
+    let word = c.next_put-key.result.1 in
+    let node = c.node_of-node.result in
+    let told = c.pass.view_is in
+    let setup : v.setup ≡ c.args.self.now.setup = ap (λ q. q.view.setup) told ∙ c.requires.of.setup in
+    let back = sym setup in
+    let sub : c.args.handset.now.sub ≡ v.low = c.requires.handset.sub ∙ sym (ap (λ q. q.view.low) told) in
+    let spare : 0 < c.pass.inside.spare = omega (arith, c.requires.spare, ap (λ q. q.spare) told) in
+    let h : IsHandsetOf c.args.self.now.setup v c.args.handset.now = subst (λ
+    (q : View). IsHandsetOf c.args.self.now.setup q c.args.handset.now) (sym (ap
+    (λ q. q.view) told)) c.requires.handset in
+    let known = c.next_put-key.ensures.cell (subst (λ (s : ℕ). s < subs_in c.args.self.now.setup)
+    (sym h.sub) h.script.known) in
+    subst (λ (q : View). MayDraw q node (Put key word)) (sym (ap (λ m. m.0) c.in_ok-turn.ensures.turn))
+    (may_put v node key word c.pass.invariant.undrawn c.pass.invariant.unwritten c.pass.invariant.clear
+    (c.node_of-node.ensures.node ∙ ap (λ (s : Setup). key_node (setting_in s) key) back)
+    (own_few c.pass.inside.seat.me _ _ _ _ _ c.pass.invariant spare)
+    (subst (λ (s : Setup). IsCellOf s key) back known)
+    (c.next_put-key.ensures.sub ∙ sub)
+    (subst (λ (s : Setup). IsLegal (setting_in s) v.low (v.seen ++ put_of v.low key word ∷ [])) back
+    (c.next_put-key.ensures.legal v h)))
+
+pub invariant_of-pass-2 : goal.invariant_of-pass-2
+invariant_of-pass-2 c =
+    let made = c.make_put-ticket.ensures.made in
+    let kept = c.keep_ticket.ensures in
+    let slots = c.make_put-ticket.ensures.slots ∙ ap (λ m. m.1) c.in_ok-turn.ensures.turn in
+    pass_is c.make_put-ticket.new.seat.me _ _ _ _ _ _ _ _
+    (pass_done c.pass.inside.seat.me c.turn.new.seat.me
+    (made.there, []) c.make_put-ticket.new.seat.me c.pass.inside.actor c.pass.inside.seen c.pass.inside.spare
+    c.keep_ticket.new.spare
+    c.node_of-node.result c.make_put-ticket.result c.pass.inside.tickets.items _
+    (Put c.next_put-key.result.0 c.next_put-key.result.1) c.pass.invariant kept.spare c.in_ok-turn.ensures.turn
+    made.draws made.left slots)
+    kept.seen kept.tickets kept.room
+
+pub returns : goal.returns
+returns c =
+    let key = c.next_put-key.result.0 in
+    let word = c.next_put-key.result.1 in
+    let setup = c.args.self.now.setup in
+    let old = c.args.pass.now in
+    let told = c.pass.view_is in
+    let h = c.requires.handset in
+    let made = c.make_put-ticket.ensures.made in
+    let turn = ap (λ m. m.0) c.in_ok-turn.ensures.turn
+    ∙ ap (λ q. entered q.view c.node_of-node.result (Put key word)) told in
+    let table = c.make_put-ticket.ensures.table ∙ (c.in_ok-turn.ensures.table ∙ ap (λ q. q.table) told) in
+    let seat = c.make_put-ticket.ensures.id ∙ (c.in_ok-turn.ensures.id ∙ ap (λ q. q.seat) told) in
+    let less = c.keep_ticket.ensures.spare ∙ ap (λ q. q.spare) told in
+    let visited = visit_done old _ c.turn.new.seat.me
+    (made.there, []) c.node_of-node.result c.make_put-ticket.result
+    (Put key word) turn made.draws made.left table seat less in
+    let made_count = length (puts_to old.view.low old.view.seen) in
+    let low = subst (λ (s : Setup). old.view.low < subs_in s) (sym c.requires.of.setup) h.script.known in
+    let puts = subst (λ (v : View). v.low < subs_in v.setup
+    → puts_to v.low made.draws.earlier ≡ puts_to v.low v.seen) turn made.draws.puts low in
+    record {
+      made = (
+        visited_due _ c.args.handset.now.sub key word c.make_put-ticket.result old _ c.next_put-key.ensures.due visited,
+        c.made.ensures.exact,
+        handset_after setup old.view c.make_put-ticket.new.seat.me.0 c.args.handset.now c.made.new.self key word
+            made.draws.earlier h (c.next_put-key.ensures.next old.view h
+            ∙ ap (λ (a : ℕ). Some (put_of a key word)) h.sub) (c.next_put-key.ensures.sub ∙ h.sub)
+            visited.same.actor (seen_done old.view _ _ _ _ _ _ turn made.draws made.left) puts (subst
+            (λ p. GoesWith p c.made.new.self) c.requires.plan c.made.ensures.goes)
+            (ap (λ q. q.sub) c.made.ensures.exact ∙ write-sub
+            (setting_of c.args.plan.now []) c.args.handset.now c.args.handset.now.stage)
+            (subst (λ p. StandsFor (setting_of p setup.homes) c.made.new.self h.steps (suc made_count)) c.requires.plan
+            (c.made.ensures.stands setup.homes h.steps made_count (subst (λ p. StandsFor
+            (setting_of p setup.homes) c.args.handset.now h.steps made_count) (sym c.requires.plan) h.stands))),
+      );
+    }

@@ -1,0 +1,9 @@
+pub mod Setup
+pub mod Views
+pub mod Rule
+pub mod Plays
+pub mod Opening
+pub mod Passes
+pub mod Visits
+pub mod Handsets
+pub mod Closing

@@ -1,0 +1,218 @@
+-- What each step tells its seat: of the step, the seat before, the number found and the seat after.
+use Rattle.std.specs.Prelude.{◌≡◌, ◌≢◌, ℕ, suc, ◌^◌, ◌<◌, ◌≤◌, true, false, [], ◌∷◌, ◌++◌, length, nat_lt, if◌then◌else◌, Option, Some, None}
+use mathlib.Core.Option.{some}
+use Rattle.atomic_table.specs.Table.{Me, State, Step}
+use Rattle.entry_word.specs.declared.visit.Key.{Key}
+use Rattle.entry_word.specs.declared.visit.Act.{Act}
+use Rattle.entry_word.specs.declared.visit.Act.TheVariants.{Look, Put, Census}
+use Rattle.entry_word.specs.declared.visit.Visit.{Visit}
+use Rattle.directory.specs.Keys.{key_sub}
+use Rattle.directory.specs.Histories.{History, IsFront, cell, changes_here, own, puts_to}
+use Rattle.directory.specs.Legal.{IsLegal}
+use Rattle.directory.specs.Census.{census}
+use Rattle.station.specs.Setup.{Setup, setting_in, subs_in, IsCellOf, lock_word, tally_word, cell_word}
+use Rattle.station.specs.Views.{StandsFor}
+use Rattle.station.specs.Rule.{IsKept, IsViewOf}
+use Rattle.station.specs.declared.view.View.{View}
+
+-- a view with its slots, of which it has none
+abbrev pub Seat : Type 0
+Seat = Me Act View
+
+abbrev pub Play : Type 1
+Play = Step Act → Seat → ℕ → Seat → Type 0
+
+-- the view inside a node where it means to do an act, and the view that lost the turn
+abbrev pub entered : View → ℕ → Act → View
+entered view node act = record view { inside = Some node; intended = Some act }
+
+abbrev pub beaten : View → ℕ → ℕ → View
+beaten view node word = record view { lost = view.lost ++ record { node = node; word = word } ∷ [] }
+
+-- the turn is won where the lock word was 0; where it wasn't, it names another actor
+abbrev pub Turns : Play
+Turns step before found after =
+    (node : ℕ) (act : Act) → step.word ≡ lock_word node → step.said ≡ some act
+    → (found ≡ 0 → after ≡ (entered before.0 node act, before.1))
+    × (found ≢ 0 → (after ≡ (beaten before.0 node found, before.1))
+    × (found ≢ suc before.0.low) × (found ≤ 128))
+
+-- the view of the first seat stands for all actors
+abbrev pub first_view : Setup → View
+first_view setup =
+    record {
+      setup = setup;
+      is_spent = false;
+      low = 0;
+      high = setup.actors;
+      seen = [];
+      told = [];
+      had = [];
+      inside = None;
+      intended = None;
+      has_drawn = false;
+      drawn = 0;
+      unwritten = None;
+      before = 0;
+      owes = false;
+      tally = 0;
+      lost = [];
+    }
+
+-- the first actor of a view is dealt to a new seat
+abbrev pub left_over : View → View
+left_over view = record view { low = suc view.low }
+
+abbrev pub dealt : View → View
+dealt view = record view { high = suc view.low }
+
+-- a note of what a view has seen: it stands for nobody and is in no node
+abbrev pub noted : View → View
+noted view =
+    record view {
+      low = 0;
+      high = 0;
+      inside = None;
+      intended = None;
+      has_drawn = false;
+      unwritten = None;
+      owes = false;
+      lost = [];
+    }
+
+-- the longer of two histories
+abbrev pub longer : History → History → History
+longer one other = if nat_lt (length one) (length other) then other else one
+
+-- a view that takes a note in, and what the note is left with
+abbrev pub heard : View → View → View
+heard view note =
+    record view { seen = longer view.seen note.seen; told = note.seen; had = view.seen }
+
+abbrev pub no_setup : Setup
+no_setup =
+    record {
+      plan = record {
+        k = 0;
+        reach = 0;
+        distances = record { nodes = 0; cells = [] };
+        levels = [];
+      };
+      homes = [];
+      actors = 0;
+    }
+
+abbrev pub spent : View
+spent = record (noted (first_view no_setup)) { is_spent = true }
+
+-- what was told, and what was seen before, are fronts of what is seen, which is legal; and the
+-- visits of a view's own actor are those that it had seen, and all are those of known actors
+pub record IsLearned (view : View) : Type 0 where
+  pub told : IsFront view.told view.seen
+  pub had : IsFront view.had view.seen
+  pub visits : (actor : ℕ) → StandsFor view actor → own actor view.seen ≡ own actor view.had
+  pub known : (actor : ℕ) → view.setup.actors ≤ actor → own actor view.seen ≡ []
+  pub legal : (sub : ℕ) → sub < subs_in view.setup → IsLegal (setting_in view.setup) sub view.seen
+
+abbrev pub Learns : Play
+Learns step before found after = (after ≡ before) × IsLearned before.0
+
+-- the visit that an act is, and what it puts
+abbrev pub visit_by : View → Act → Visit
+visit_by view act = record { actor = view.low; act = act }
+
+abbrev pub key_put : Act → Option Key
+key_put (Look key) = None
+key_put (Put key word) = Some key
+key_put (Census node) = None
+
+abbrev pub word_before : Setup → History → Act → ℕ
+word_before setup history (Look key) = 0
+word_before setup history (Put key word) = cell (setting_in setup) history key
+word_before setup history (Census node) = 0
+
+-- a view may do an act: a put is for its own actor, and keeps the history legal
+abbrev pub MayDo : View → Act → Type 0
+MayDo view (Look key) = Unit {0}
+MayDo view (Put key word) =
+    (key_sub key ≡ view.low)
+    × IsLegal (setting_in view.setup) view.low (view.seen ++ visit_by view (Put key word) ∷ [])
+MayDo view (Census node) = Unit {0}
+
+-- the view once it has drawn the ticket of an act at a node, after these visits of all
+abbrev pub drawn : View → ℕ → Act → History → View
+drawn view node act earlier =
+    record view {
+      seen = earlier ++ visit_by view act ∷ [];
+      had = earlier ++ visit_by view act ∷ [];
+      has_drawn = true;
+      drawn = suc (length earlier);
+      unwritten = key_put act;
+      before = word_before view.setup earlier act;
+      owes = changes_here (setting_in view.setup) earlier act;
+      tally = length (census (setting_in view.setup) earlier node);
+    }
+
+-- a ticket is drawn: the number found counts the visits of all, which go on from those that the
+-- view has seen with none of its own; and the history is legal with the visit
+pub record Draws (before : View) (node : ℕ) (act : Act) (found : ℕ) (after : View) : Type 0 where
+  pub earlier : History
+  pub count : length earlier ≡ found
+  pub few : found ≤ 2 ^ 63
+  pub seen : IsFront before.seen earlier
+  pub visits : own before.low earlier ≡ own before.low before.seen
+  pub puts : before.low < subs_in before.setup
+      → puts_to before.low earlier ≡ puts_to before.low before.seen
+  pub view : after ≡ drawn before node act earlier
+  pub legal : (sub : ℕ) → sub < subs_in before.setup
+      → IsLegal (setting_in before.setup) sub after.seen
+
+abbrev pub DrawsTicket : Play
+DrawsTicket step before found after =
+    (node : ℕ) (act : Act) → before.0.inside ≡ Some node → before.0.intended ≡ Some act
+    → Draws before.0 node act found after.0 × (after.1 ≡ before.1)
+
+-- a cell is read, as it is after what the view has seen, or before the put that isn't written
+abbrev pub ReadsCell : Play
+ReadsCell step before found after =
+    (after ≡ before) × ((key : Key) → IsCellOf before.0.setup key
+    → step.word ≡ cell_word before.0.setup key
+    → (before.0.unwritten ≡ None → found ≡ cell (setting_in before.0.setup) before.0.seen key)
+    × (before.0.unwritten ≡ Some key → found ≡ before.0.before))
+
+-- a tally is read, as it is after what the view has seen, or as it was before
+abbrev pub ReadsTally : Play
+ReadsTally step before found after =
+    (after ≡ before) × ((node : ℕ) → step.word ≡ tally_word before.0.setup node
+    → (before.0.owes ≡ false
+    → found ≡ length (census (setting_in before.0.setup) before.0.seen node))
+    × (before.0.owes ≡ true → found ≡ before.0.tally))
+
+-- the put is written; the tally is written; the node is left
+abbrev pub written : View → View
+written view = record view { unwritten = None }
+
+abbrev pub tallied : View → View
+tallied view = record view { owes = false }
+
+abbrev pub gone : View → View
+gone view = record view { inside = None; intended = None; has_drawn = false }
+
+abbrev pub Writes : Play
+Writes step before found after = after ≡ (written before.0, before.1)
+
+abbrev pub Tallies : Play
+Tallies step before found after = after ≡ (tallied before.0, before.1)
+
+abbrev pub Leaves : Play
+Leaves step before found after = after ≡ (gone before.0, before.1)
+
+-- the rule holds, and a seat has the view
+pub record IsWitnessed (view : View) : Type 0 where
+  pub state : State Act View
+  pub seat : ℕ
+  pub kept : IsKept view.setup state
+  pub view_is : IsViewOf state.views seat view
+
+abbrev pub Witnesses : Play
+Witnesses step before found after = (after ≡ before) × IsWitnessed before.0

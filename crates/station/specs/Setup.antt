@@ -1,0 +1,49 @@
+-- What a tracker is told when it is made, and where its words lie: first the ticket word, which
+-- counts the visits; then a lock word for each node; then a tally word for each node; then the
+-- cells, by their numbers.
+use Rattle.std.specs.Prelude.{ℕ, suc, ◌+◌, ◌*◌, ◌<◌, List, length}
+use Rattle.entry_word.specs.declared.visit.Key.{Key}
+use Rattle.directory.specs.Settings.{Setting}
+use Rattle.directory.specs.Keys.{key_node}
+use Rattle.region_plan.specs.Plan.{PlanData, nodes_of}
+use Rattle.region_plan.specs.Settings.{setting_of}
+use Rattle.visit_log.specs.Numbers.{cell_count, cell_number, IsCell}
+
+-- the plan, the start nodes of the subscribers, and how many actors there are: the subscribers
+-- first, and then the callers
+pub record Setup : Type 0 where
+  pub plan : PlanData
+  pub homes : List ℕ
+  pub actors : ℕ
+
+-- the setting, how many nodes and subscribers there are, and whether a key names a cell
+abbrev pub setting_in : Setup → Setting
+setting_in setup = setting_of setup.plan setup.homes
+
+abbrev pub nodes_in : Setup → ℕ
+nodes_in setup = nodes_of setup.plan
+
+abbrev pub subs_in : Setup → ℕ
+subs_in setup = length setup.homes
+
+abbrev pub IsCellOf : Setup → Key → Type 0
+IsCellOf setup key = IsCell setup.plan (subs_in setup) key
+
+-- each cell lies at a node
+abbrev pub CellsLie : Setup → Type 0
+CellsLie setup = (key : Key) → IsCellOf setup key → key_node (setting_in setup) key < nodes_in setup
+
+-- the places of the lock word and the tally word of a node, and of the word of a cell; and how
+-- many words there are
+abbrev pub lock_word : ℕ → ℕ
+lock_word node = suc node
+
+abbrev pub tally_word : Setup → ℕ → ℕ
+tally_word setup node = suc (nodes_in setup + node)
+
+abbrev pub cell_word : Setup → Key → ℕ
+cell_word setup key =
+    suc (2 * nodes_in setup + cell_number setup.plan (subs_in setup) key)
+
+abbrev pub word_count : Setup → ℕ
+word_count setup = suc (2 * nodes_in setup + cell_count setup.plan (subs_in setup))

@@ -1,0 +1,62 @@
+-- What one view knows, and what the rule says of it. A view stands for the actors from the lowest
+-- on, up to another: for one of them while the tracker is open. A note's view stands for none.
+-- What an actor has visited is what its view has seen of it.
+use Rattle.std.specs.Prelude.{◌≡◌, ℕ, suc, ◌<◌, ◌≤◌, true, false, List, [], drop, Some, None, slice_index, ◌==◌}
+use Rattle.std.specs.List.{filter}
+use Rattle.entry_word.specs.declared.visit.Key.{Key}
+use Rattle.entry_word.specs.declared.visit.Visit.{Visit}
+use Rattle.directory.specs.Settings.{Setting}
+use Rattle.directory.specs.Keys.{act_node, key_node}
+use Rattle.directory.specs.Histories.{History, IsFront, own}
+use Rattle.station.specs.Setup.{Setup, setting_in, nodes_in, IsCellOf, lock_word, tally_word, cell_word}
+use Rattle.station.specs.declared.view.View.{View}
+
+-- the visits at a node
+abbrev pub visits_at : Setting → ℕ → History → List Visit
+visits_at setting node history = filter (λ visit. act_node setting visit.act == node) history
+
+-- a view stands for an actor
+abbrev pub StandsFor : View → ℕ → Type 0
+StandsFor view actor = (view.low ≤ actor) × (actor < view.high)
+
+-- what a view has seen, what it had seen before it was told more, and what it was told, are fronts
+-- of the history; and all visits of the actors that it stands for are among what it has seen, and
+-- among what it had seen
+pub record HasSeen (history : History) (view : View) : Type 0 where
+  pub seen : IsFront view.seen history
+  pub told : IsFront view.told history
+  pub had : IsFront view.had history
+  pub visits : (actor : ℕ) → StandsFor view actor → own actor history ≡ own actor view.seen
+  pub kept : (actor : ℕ) → StandsFor view actor → own actor history ≡ own actor view.had
+
+-- a view is inside a node: it stands for one actor, the lock word names that actor, and once it has
+-- drawn its ticket there, no later visit is at the node
+pub record IsInside (setup : Setup) (words : List ℕ) (history : History) (view : View)
+    (node : ℕ) : Type 0 where
+  pub known : node < nodes_in setup
+  pub alone : view.high ≡ suc view.low
+  pub lock : slice_index words (lock_word node) ≡ suc view.low
+  pub last : view.has_drawn ≡ true
+      → visits_at (setting_in setup) node (drop view.drawn history) ≡ []
+  pub tally : view.owes ≡ true → slice_index words (tally_word setup node) ≡ view.tally
+
+-- a view has a put that isn't written: into a cell of the node that it is inside, once it has drawn
+-- its ticket there, and the cell holds the word before the put
+pub record HasUnwritten (setup : Setup) (words : List ℕ) (view : View) (key : Key) : Type 0 where
+  pub cell : IsCellOf setup key
+  pub inside : view.inside ≡ Some (key_node (setting_in setup) key)
+  pub drawn : view.has_drawn ≡ true
+  pub word : slice_index words (cell_word setup key) ≡ view.before
+
+-- what the rule says of the view of a seat: it holds the one setup, unless it is spent; the seat is
+-- the owner of its actors; and it draws its ticket, and owes a tally, only inside a node
+pub record IsSound (setup : Setup) (words : List ℕ) (history : History) (owner : ℕ → ℕ)
+    (seat : ℕ) (view : View) : Type 0 where
+  pub setup_is : view.is_spent ≡ false → view.setup ≡ setup
+  pub has : HasSeen history view
+  pub owner_is : (actor : ℕ) → StandsFor view actor
+      → (owner actor ≡ seat) × (actor < setup.actors)
+  pub inside : (node : ℕ) → view.inside ≡ Some node
+      → IsInside setup words history view node
+  pub unwritten : (key : Key) → view.unwritten ≡ Some key → HasUnwritten setup words view key
+  pub outside : view.inside ≡ None → (view.has_drawn ≡ false) × (view.owes ≡ false)

@@ -1,0 +1,101 @@
+-- What a visit needs, and what it does to a view and to a pass.
+use Rattle.std.specs.Prelude.{◌≡◌, ◌≢◌, ℕ, suc, ◌+◌, ◌^◌, ◌<◌, ◌≤◌, true, false, List, [], ◌∷◌, ◌++◌, length, if◌then◌else◌, Some, None}
+use Rattle.std.specs.Int.{bit_at}
+use Rattle.node_set.specs.Ascending.{has}
+use Rattle.entry_word.specs.declared.visit.Key.{Key}
+use Rattle.entry_word.specs.declared.visit.Act.{Act}
+use Rattle.directory.specs.Keys.{act_node}
+use Rattle.directory.specs.Histories.{History, IsFront, own}
+use Rattle.directory.specs.Legal.{IsLegal}
+use Rattle.station.specs.Setup.{setting_in, subs_in, IsCellOf}
+use Rattle.station.specs.Plays.{Draws, MayDo, key_put, longer, visit_by, beaten}
+use Rattle.station.specs.Passes.{NoteData, PassData, actor_of}
+use Rattle.station.specs.declared.turns.Held.{Held}
+use Rattle.station.specs.declared.view.View.{View}
+
+-- a view may draw the ticket of an act at a node
+pub record MayDraw (view : View) (node : ℕ) (act : Act) : Type 0 where
+  pub inside : view.inside ≡ Some node
+  pub intended : view.intended ≡ Some act
+  pub undrawn : view.has_drawn ≡ false
+  pub unwritten : view.unwritten ≡ None
+  pub clear : view.owes ≡ false
+  pub at : act_node (setting_in view.setup) act ≡ node
+  pub few : length (own view.low view.seen) < 2 ^ 56
+  pub cell : (key : Key) → key_put act ≡ Some key → IsCellOf view.setup key
+  pub may : MayDo view act
+
+-- a view has drawn its ticket at a node, and has seen nothing since
+pub record HasTurn (view : View) (node : ℕ) : Type 0 where
+  pub inside : view.inside ≡ Some node
+  pub has_drawn : view.has_drawn ≡ true
+  pub drawn : view.drawn ≡ length view.seen
+
+-- a view has left the node where it drew its ticket, and has written all
+pub record HasLeft (there new : View) : Type 0 where
+  pub low : new.low ≡ there.low
+  pub high : new.high ≡ there.high
+  pub real : new.is_spent ≡ there.is_spent
+  pub setup : new.setup ≡ there.setup
+  pub seen : new.seen ≡ there.seen
+  pub lost : new.lost ≡ there.lost
+  pub inside : new.inside ≡ None
+  pub undrawn : new.has_drawn ≡ false
+  pub unwritten : new.unwritten ≡ None
+  pub clear : new.owes ≡ false
+
+-- from inside the node: the ticket is drawn, what the act says is done, and the node is left
+pub record Makes (before : View) (node : ℕ) (act : Act) (ticket : ℕ) (after : View) : Type 0 where
+  pub there : View
+  pub draws : Draws before node act ticket there
+  pub left : HasLeft there after
+
+-- two states of one pass, but for what it has seen and lost
+pub record IsSamePass (old new : PassData) : Type 0 where
+  pub table : new.table ≡ old.table
+  pub seat : new.seat ≡ old.seat
+  pub setup : new.view.setup ≡ old.view.setup
+  pub actor : actor_of new ≡ actor_of old
+
+-- a pass has made a visit, with this ticket: what it has seen goes on to the visit, which is the
+-- last, and is legal for each subscriber; the visit is its own, and no other one is new
+pub record HasVisited (old : PassData) (act : Act) (ticket : ℕ) (new : PassData) : Type 0 where
+  pub earlier : History
+  pub count : length earlier ≡ ticket
+  pub begins : IsFront old.view.seen earlier
+  pub visits : own (actor_of old) earlier ≡ own (actor_of old) old.view.seen
+  pub seen : new.view.seen ≡ earlier ++ visit_by old.view act ∷ []
+  pub legal : (sub : ℕ) → sub < subs_in old.view.setup
+      → IsLegal (setting_in old.view.setup) sub new.view.seen
+  pub outside : new.view.inside ≡ None
+  pub lost : new.view.lost ≡ old.view.lost
+  pub spare : new.spare + 1 ≡ old.spare
+  pub same : IsSamePass old new
+
+-- a pass has lost a turn at a node to another actor, and nothing else has changed
+pub record HasLost (old : PassData) (place : ℕ) (held : Held) (new : PassData) : Type 0 where
+  pub node : held.node ≡ place
+  pub other : held.by ≢ actor_of old
+  pub turn : new ≡ record old { view = beaten old.view place (suc held.by) }
+
+-- a number has a bit for each subscriber of a census, and no other, and there are so many
+pub record IsCensus (census : List ℕ) (who count : ℕ) : Type 0 where
+  pub bits : (sub : ℕ) → bit_at who sub ≡ (if has sub census then 1 else 0)
+  pub length_is : count ≡ length census
+
+-- a pass has heard a note: what it has seen is the longer of what it had seen and what was noted,
+-- and goes on from both,
+-- by known actors alone, and is legal; its own visits, its spare and the node that it is inside
+-- are as before
+pub record HasHeard (old : PassData) (note : NoteData) (new : PassData) : Type 0 where
+  pub same : IsSamePass old new
+  pub spare : new.spare ≡ old.spare
+  pub inside : new.view.inside ≡ old.view.inside
+  pub lost : new.view.lost ≡ old.view.lost
+  pub seen : new.view.seen ≡ longer old.view.seen note.view.seen
+  pub begins : IsFront old.view.seen new.view.seen
+  pub told : IsFront note.view.seen new.view.seen
+  pub visits : own (actor_of old) new.view.seen ≡ own (actor_of old) old.view.seen
+  pub known : (actor : ℕ) → old.view.setup.actors ≤ actor → own actor new.view.seen ≡ []
+  pub legal : (sub : ℕ) → sub < subs_in old.view.setup
+      → IsLegal (setting_in old.view.setup) sub new.view.seen

@@ -1,0 +1,208 @@
+// Passes over the line 0 - 1 - 2 - 3 of unit weights: a subscriber at node 3, and two callers.
+ghost use Rattle.std.specs.Prelude.{◌≡◌, ◌+◌, ◌<◌, ◌≤◌, ◌∷◌, [], length, suc, IfOk, OnOk};
+ghost use Rattle.station.specs.Handsets.{IsHandsetOf};
+ghost use Rattle.station.specs.Setup.{nodes_in, subs_in};
+ghost use Rattle.region_plan.specs.Matched.{BoundsFinds};
+ghost use Rattle.region_plan.specs.Plan.{nodes_of};
+ghost use Rattle.station.specs.Opening.{setup_of};
+ghost use Rattle.station.specs.Passes.{AreFresh, IsFree, fresh_view};
+
+use crate::{Held, Note, Pass, Tracker};
+use distances::Distances;
+use entry_word::{Key, PresenceMark, pack_mark};
+use handset::Handset;
+use net_graph::{Edge, Graph};
+use region_plan::Plan;
+use std::alloc::Global;
+use std::test::Fail;
+use std::thread::join;
+
+fn edge(a: u32, b: u32) -> Edge
+    ensures { result ≡ record { a = a; b = b; weight = 1 } }
+{
+    Edge { a, b, weight: 1 }
+}
+
+// The plan of the line of four, and its distances.
+fn line_of_four(alloc: Global) -> Result<(Plan, Distances), Fail>
+    ensures bounding { IfOk result (λ pair. BoundsFinds pair.0) }
+    ensures copy { IfOk result (λ pair. pair.0.distances ≡ pair.1) }
+    ensures nodes { IfOk result (λ pair. nodes_of pair.0 ≡ 4) }
+{
+    let graph = Graph::new(alloc, 4, &[edge(0, 1), edge(1, 2), edge(2, 3)])?;
+    let distances = Distances::new(alloc, &graph)?;
+    let plan = Plan::build(alloc, &graph, &distances, 2)?;
+    Ok((plan, distances))
+}
+
+// A tracker with its passes, each with room for nine visits: of the subscriber, and of the callers.
+fn open(alloc: Global, plan: &Plan) -> Result<(Tracker, Pass, Pass, Pass), Fail>
+    requires bounding { BoundsFinds plan.now }
+    requires nodes { nodes_of plan.now ≡ 4 }
+    ensures setup { IfOk result (λ all. all.0.setup ≡ setup_of plan.now (3 ∷ []) 3) }
+    ensures first { IfOk result (λ all. IsFree all.0 9 all.1) }
+    ensures own { IfOk result (λ all. all.1.view ≡ fresh_view all.0.setup 0) }
+    ensures second { IfOk result (λ all. IsFree all.0 9 all.2) }
+    ensures third { IfOk result (λ all. IsFree all.0 9 all.3) }
+{
+    let (tracker, mut passes) = Tracker::new(alloc, plan, &[3], 2)?;
+    let third = next_pass(&tracker, &mut passes, 2)?;
+    let second = next_pass(&tracker, &mut passes, 1)?;
+    let first = next_pass(&tracker, &mut passes, 0)?;
+    Ok((tracker, first, second, third))
+}
+
+// The last of some fresh passes, with room for nine visits.
+fn next_pass(tracker: &Tracker, passes: &mut Vec<Pass>, actor: u32) -> Result<Pass, Fail>
+    requires fresh { AreFresh tracker.now passes.old.items }
+    requires count { length passes.old.items ≡ actor + 1 }
+    ensures fresh { AreFresh tracker.now passes.new.items }
+    ensures count { length passes.new.items ≡ actor }
+    ensures free { IfOk result (IsFree tracker.now 9) }
+    ensures own { IfOk result (λ pass. pass.view ≡ fresh_view tracker.now.setup actor) }
+{
+    let Some(mut pass) = passes.pop() else {
+        return Err("a pass is there".into());
+    };
+    pass.reserve(9)?;
+    Ok(pass)
+}
+
+#[test]
+fn held_by_its_own_node_alone(rt: HostRuntime) -> Result<(), Fail> {
+    let (plan, _) = line_of_four(rt.alloc())?;
+    let (tracker, _, mut one, mut other) = open(rt.alloc(), &plan)?;
+    let Ok(stay) = tracker.enter(&mut one, 2) else {
+        panic!(rt; "nobody is inside")
+    };
+    let key = Key::Presence { node: 2, sub: 0 };
+    let held = tracker.visit_look(&mut other, &plan, key).err();
+    assert!(rt; held == Some(Held { node: 2, by: 1 }));
+    let here = Key::Presence { node: 3, sub: 0 };
+    let looked = tracker.visit_look(&mut other, &plan, here).ok();
+    assert!(rt;
+        looked.map(|l| (l.ticket, l.word)) == Some((0, pack_mark(PresenceMark::Here { number: 0 })))
+    );
+    tracker.leave(&mut one, stay);
+    let looked = tracker.visit_look(&mut other, &plan, key).ok();
+    assert!(rt; looked.map(|l| (l.ticket, l.word)) == Some((1, 0)));
+    assert!(rt; one.seen() == 0 && other.seen() == 2 && other.spare() == 7);
+    assert!(rt; one.actor() == 1 && other.actor() == 2);
+    Ok(())
+}
+
+fn sends<T: Send>() {}
+
+fn shares<T: Sync>() {}
+
+#[test]
+fn threads_may_have_them(_rt: HostRuntime) -> Result<(), Fail> {
+    shares::<Tracker>();
+    sends::<Tracker>();
+    sends::<Pass>();
+    sends::<Note>();
+    Ok(())
+}
+
+// The handset of the subscriber, which has begun to move to node 2.
+fn moving(alloc: Global, plan: &Plan, distances: &Distances) -> Result<Handset, Fail>
+    requires belongs { plan.now.distances ≡ distances.now }
+    requires nodes { nodes_of plan.now ≡ 4 }
+    ensures own { IfOk result (IsHandsetOf (setup_of plan.now (3 ∷ []) 3)
+        (fresh_view (setup_of plan.now (3 ∷ []) 3) 0)) }
+{
+    let mut handset = Handset::new(alloc, 0, 3, plan)?;
+    match handset.begin(plan, distances, 2) {
+        Ok(()) => Ok(handset),
+        Err(_) => Err("the move begins".into()),
+    }
+}
+
+// Makes the next put, and answers its ticket.
+fn put(
+    tracker: &Tracker,
+    pass: &mut Pass,
+    plan: &Plan,
+    handset: &mut Handset,
+    left: u64,
+) -> Result<u64, Fail>
+    requires free { IsFree tracker.now (suc left) pass.old }
+    requires plan { plan.now ≡ tracker.now.setup.plan }
+    requires own { IsHandsetOf tracker.now.setup pass.old.view handset.old }
+    ensures free { OnOk result (IsFree tracker.now left pass.new) }
+    ensures own { OnOk result (IsHandsetOf tracker.now.setup pass.new.view handset.new) }
+{
+    if handset.next(plan).is_none() {
+        return Err("a put is left".into());
+    }
+    match tracker.visit_put(pass, plan, handset) {
+        Ok(ticket) => Ok(ticket),
+        Err(_) => Err("nobody is inside".into()),
+    }
+}
+
+#[test]
+fn a_put_and_a_census(rt: HostRuntime) -> Result<(), Fail> {
+    let (plan, distances) = line_of_four(rt.alloc())?;
+    let (tracker, mut own, mut one, _) = open(rt.alloc(), &plan)?;
+    let mut handset = moving(rt.alloc(), &plan, &distances)?;
+    assert_eq!(rt; put(&tracker, &mut own, &plan, &mut handset, 8)?, 0);
+    let seen = tracker.visit_census(&mut one, 3).ok();
+    assert!(rt; seen.map(|c| (c.ticket, c.who, c.count)) == Some((1, 1, 1)));
+    Ok(())
+}
+
+#[test]
+fn a_note_is_heard(rt: HostRuntime) -> Result<(), Fail> {
+    let (plan, _) = line_of_four(rt.alloc())?;
+    let (tracker, mut own, mut one, _) = open(rt.alloc(), &plan)?;
+    assert!(rt; tracker.visit_census(&mut one, 3).is_ok());
+    let note = tracker.note(&mut one);
+    tracker.hear(&mut own, note);
+    assert!(rt; own.seen() == 1 && one.seen() == 1);
+    Ok(())
+}
+
+#[test]
+fn closed_with_all_passes(rt: HostRuntime) -> Result<(), Fail> {
+    let (plan, _) = line_of_four(rt.alloc())?;
+    let (tracker, passes) = Tracker::new(rt.alloc(), &plan, &[3], 1)?;
+    let Ok(order) = tracker.close(rt.alloc(), passes) else {
+        panic!(rt; "all passes are there")
+    };
+    assert!(rt; order.is_empty());
+    Ok(())
+}
+
+// Looks at a node, and answers how many visits are then seen.
+fn look(tracker: &Tracker, plan: &Plan, mut pass: Pass, node: u32) -> u64
+    requires free { IsFree tracker.now 1 pass }
+    requires plan { plan.now ≡ tracker.now.setup.plan }
+    requires subs { 1 ≤ subs_in tracker.now.setup }
+    requires node { node < nodes_in tracker.now.setup }
+{
+    let key = Key::Presence { node, sub: 0 };
+    let _ = tracker.visit_look(&mut pass, plan, key);
+    pass.seen()
+}
+
+#[test]
+fn two_threads(rt: HostRuntime) -> Result<(), Fail> {
+    let (plan, _) = line_of_four(rt.alloc())?;
+    let (tracker, _, one, other) = open(rt.alloc(), &plan)?;
+    let shared = &tracker;
+    let map = &plan;
+    let (a, b) = join(
+        &rt,
+        || -> u64
+            requires { IsFree shared.now 1 one × (map.now ≡ shared.now.setup.plan)
+                × (1 ≤ subs_in shared.now.setup) × (1 < nodes_in shared.now.setup) }
+        { look(shared, map, one, 1) },
+        || -> u64
+            requires { IsFree shared.now 1 other × (map.now ≡ shared.now.setup.plan)
+                × (1 ≤ subs_in shared.now.setup) × (2 < nodes_in shared.now.setup) }
+        { look(shared, map, other, 2) },
+    );
+    assert!(rt; (a == 1 && b == 2) || (a == 2 && b == 1));
+    Ok(())
+}

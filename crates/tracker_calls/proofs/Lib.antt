@@ -1,0 +1,6 @@
+mod Longer
+mod Looks
+mod Wanted
+mod Rightly
+mod Walked
+mod Stepping

@@ -1,0 +1,67 @@
+-- An answer tells rightly: the laws of the trail and of the stretch, in what the pass has seen.
+use Rattle.std.proofs.Common.{◌≡◌, ℕ, suc, ◌<◌, ◌≤◌, ◌^◌, List, [], ◌∷◌, length, sym, ◌∙◌, arith}
+use Rattle.std.specs.Prelude.{flat_map}
+use Rattle.node_set.specs.Ascending.{has}
+use Rattle.node_set.specs.SetLaws.{has-passing}
+use Rattle.directory.specs.Settings.{Setting}
+use Rattle.directory.specs.Histories.{History, IsFront, through, words_at}
+use Rattle.directory.specs.Finds.{FindCall, ended, find}
+use Rattle.directory.specs.Legal.{IsLegal}
+use Rattle.directory.specs.Looks.{IsFind, last_of}
+use Rattle.directory.specs.Standing.{number}
+use Rattle.directory.specs.declared.answers.Found.{Found}
+use Rattle.directory.specs.declared.answers.Found.TheVariants.{At, Off, Again}
+use Rattle.region_plan.specs.Matched.{IsMatched}
+use Rattle.region_plan.specs.Plan.{PlanData, cluster_in, clusters_of, home, level_at, top_of}
+use Rattle.region_plan.specs.Settings.{setting_of}
+use Rattle.station.specs.Passes.{PassData}
+use Rattle.station.specs.Setup.{Setup, nodes_in, setting_in}
+use Rattle.stretch_laws.specs.Plans.{PlanFindsAreNear}
+use Rattle.trail_laws.specs.Answers.{AnswersAreRight, HasNumber, IsRight, QuietFindsAnswer, ReadsTop}
+use Rattle.tracker_calls.specs.Answers.{TellsRightly}
+use Rattle.tracker_calls.proofs.Longer.{number-front}
+
+-- over a matched plan each node reads the home of each node at the top level
+reads-top : (plan : PlanData) (starts : List ℕ) → IsMatched plan → ReadsTop (setting_of plan starts)
+reads-top plan starts matched u v below_u below_v =
+    rw (
+      matched.read (top_of plan) v (omega (arith, matched.some)) below_v,
+      has-passing (λ c. has v (cluster_in (level_at plan (top_of plan)).clusters c).members)
+          (home plan (top_of plan) u) 0 (clusters_of plan (top_of plan)) (omega arith)
+          (omega (arith, matched.homes (top_of plan) u (omega (arith, matched.some)) below_u)),
+    )
+    (matched.whole v u below_v below_u)
+
+-- a find that has its answer has made a look
+pub looked-once : (setting : Setting) (history : History) (call : FindCall) (found : Found) (made : List ℕ)
+    → find setting call (flat_map (words_at setting history) made) ≡ ended found → 1 ≤ length made
+looked-once setting history call found [] h = cc
+looked-once setting history call found (t ∷ made) h = omega arith
+
+-- the number of a right answer
+its-number : (setting : Setting) (history : History) (sub last q : ℕ) (found : Found)
+    → IsRight setting history sub found last → HasNumber found q → q ≡ number sub (through last history)
+its-number setting history sub last q (At node p level weight) right its = sym its ∙ right.1
+its-number setting history sub last q (Off node p level weight) right its = sym its ∙ right.1
+its-number setting history sub last q (Again why weight) right its = absurd its
+
+pub tells-rightly : AnswersAreRight → QuietFindsAnswer → PlanFindsAreNear → (setup : Setup) (old : PassData)
+    (seen : History) (actor : ℕ) (call : FindCall) (found : Found) (made : List ℕ) → IsMatched setup.plan
+    → call.from < nodes_in setup → IsLegal (setting_in setup) call.sub seen
+    → IsFind (setting_in setup) seen actor call found made → IsFront old.view.seen seen
+    → length old.view.seen ≤ last_of made → TellsRightly setup old call found made seen
+tells-rightly answers answer near setup old seen actor call found made matched from legal its front late =
+    let small : nodes_in setup ≤ 2 ^ 16 = omega (arith, matched.metric.few) in
+    let right : IsRight (setting_in setup) seen call.sub found (last_of made) =
+    answers (setting_in setup) seen actor call found made small from legal its in
+    record {
+      right = right;
+      quiet = answer (setting_in setup) seen actor call found made small
+          (reads-top setup.plan setup.homes matched) from legal its;
+      near = λ bounds quiet. near setup.plan setup.homes seen actor call found made small bounds from legal its quiet;
+      newer = λ q is. omega (
+        arith,
+        its-number (setting_in setup) seen call.sub (last_of made) q found right is,
+        number-front call.sub (suc (last_of made)) old.view.seen seen front (omega (arith, late)),
+      );
+    }

@@ -1,0 +1,198 @@
+-- How far a walk over the tracker has come.
+use Rattle.std.proofs.Common.{◌≡◌, ℕ, ◌-◌, ◌<◌, ◌≤◌, List, [], ◌∷◌, ◌++◌, Some, None, length, refl, sym, ap, ◌∙◌, subst, arith, append_assoc, length-append}
+use Rattle.std.specs.Prelude.{flat_map, slice_get}
+use Rattle.std.proofs.lemmas.List.{append-nil, get_or_push, length-take}
+use Rattle.entry_word.specs.declared.visit.Key.{Key}
+use Rattle.entry_word.specs.declared.visit.Act.TheVariants.{Look}
+use Rattle.directory.specs.Settings.{Setting}
+use Rattle.directory.specs.Histories.{History, IsFront, before, cell, tickets, words_at}
+use Rattle.directory.specs.Finds.{FindCall, Stage, after_word, at_origin, ended, find, key_of, looks_left, most_looks}
+use Rattle.directory.specs.Looks.{AreLooks, IsFind, last_of, look_by}
+use Rattle.directory.specs.declared.answers.Found.{Found}
+use Rattle.region_plan.specs.Matched.{IsMatched}
+use Rattle.station.specs.Passes.{PassData, actor_of}
+use Rattle.station.specs.Setup.{Setup, nodes_in, setting_in, subs_in}
+use Rattle.stretch_laws.specs.Plans.{PlanFindsAreNear}
+use Rattle.trail_laws.specs.Answers.{AnswersAreRight, QuietFindsAnswer}
+use Rattle.walk.specs.Walks.{GoesWith, WalkData, call_of, stage_of}
+use Rattle.tracker_calls.specs.Added.{HasAdded, HasTried}
+use Rattle.tracker_calls.specs.Finds.{HasFound, HasLookedOn}
+use Rattle.tracker_calls.proofs.Longer.{get-last, tickets-more}
+use Rattle.tracker_calls.proofs.Looks.{looks-more}
+use Rattle.tracker_calls.proofs.Rightly.{looked-once, tells-rightly}
+use Rattle.tracker_calls.proofs.Wanted.{legal-seen}
+
+-- the looks so far, the walk that stands for their words, and room for all that are left
+pub record IsWalked (setup : Setup) (begun : PassData) (call : FindCall) (pass : PassData)
+    (walk : WalkData) : Type 0 where
+  pub made : List ℕ
+  pub added : HasAdded setup begun made pass
+  pub looks : AreLooks (setting_in setup) pass.view.seen (actor_of begun) call 0 at_origin made
+  pub stage : stage_of setup.plan walk
+      ≡ find (setting_in setup) call (flat_map (words_at (setting_in setup) pass.view.seen) made)
+  pub late : 1 ≤ length made → length begun.view.seen ≤ last_of made
+  pub goes : GoesWith setup.plan walk
+  pub its : call_of walk ≡ call
+  pub room : looks_left (setting_in setup) call (stage_of setup.plan walk) ≤ pass.spare
+
+abbrev pub Itself : Type 0
+Itself = (history : History) → IsFront history history
+
+abbrev pub Longer : Type 0
+Longer = (history more : History) → IsFront history (history ++ more)
+
+abbrev pub Through : Type 0
+Through = (one two three : History) → IsFront one two → IsFront two three → IsFront one three
+
+abbrev pub LooksFall : Type 0
+LooksFall = (setting : Setting) (call : FindCall) (stage : Stage) (word : ℕ) (key : Key)
+    → key_of call stage ≡ Some key
+    → looks_left setting call (after_word setting call stage word) < looks_left setting call stage
+
+no-looks : (setting : Setting) (history : History) (actor : ℕ) (call : FindCall)
+    → AreLooks setting history actor call 0 at_origin []
+unfolding AreLooks
+no-looks setting history actor call = tt
+
+pub walked-first : Itself → (setup : Setup) (pass : PassData) (walk : WalkData) → GoesWith setup.plan walk
+    → stage_of setup.plan walk ≡ at_origin → pass.view.inside ≡ None
+    → most_looks (setting_in setup) walk.from ≤ pass.spare → IsWalked setup pass (call_of walk) pass walk
+walked-first itself setup pass walk goes origin outside room =
+    record {
+      made = [];
+      added = record {
+        begins = itself pass.view.seen;
+        visits = sym (append-nil _);
+        legal = λ h. absurd (omega (arith, h));
+        spare = omega arith;
+        outside = outside;
+        same = record { table = refl; seat = refl; setup = refl; actor = refl };
+      };
+      looks = no-looks (setting_in setup) pass.view.seen (actor_of pass) (call_of walk);
+      stage = origin;
+      late = λ h. absurd (omega (arith, h));
+      goes = goes;
+      its = refl;
+      room = subst (λ s. looks_left (setting_in setup) (call_of walk) s ≤ pass.spare) (sym origin) room;
+    }
+
+-- the last of some tickets and one more
+last-push : (made : List ℕ) (ticket : ℕ) → last_of (made ++ ticket ∷ []) ≡ ticket
+last-push made ticket =
+    let at : length made ≡ length (made ++ ticket ∷ []) - 1 = omega (arith, length-append made (ticket ∷ [])) in
+    get_or_push made ticket 0 (length (made ++ ticket ∷ []) - 1) at
+
+front-short : (xs zs : History) → IsFront xs zs → length xs ≤ length zs
+front-short xs zs front = omega (arith, ap length front, length-take (length xs) zs)
+
+pub walked-on : Longer → Through → LooksFall → (setup : Setup) (begun : PassData) (call : FindCall)
+    (pass new : PassData) (walk moved : WalkData) (key : Key) → pass.view.setup ≡ setup
+    → (at : IsWalked setup begun call pass walk)
+    → key_of (call_of walk) (stage_of setup.plan walk) ≡ Some key
+    → HasLookedOn setup pass walk key new moved → IsWalked setup begun call new moved
+walked-on longer through fall setup begun call pass new walk moved key told at wanted looked =
+    let setting : Setting = setting_in setup in
+    let visited = looked.visited in
+    let mine : actor_of pass ≡ actor_of begun = at.added.same.actor in
+    let visit = look_by (actor_of pass) key in
+    let front : IsFront pass.view.seen new.view.seen =
+    through pass.view.seen visited.earlier new.view.seen visited.begins
+    (subst (IsFront visited.earlier) (sym visited.seen) (longer visited.earlier (visit ∷ []))) in
+    let late : length pass.view.seen ≤ looked.ticket =
+    omega (arith, visited.count, front-short pass.view.seen visited.earlier visited.begins) in
+    let last : slice_get new.view.seen looked.ticket ≡ Some visit =
+    ap (slice_get new.view.seen) (sym visited.count)
+    ∙ (ap (λ (l : History). slice_get l (length visited.earlier)) visited.seen ∙ get-last visited.earlier visit) in
+    let wants : key_of call (stage_of setup.plan walk) ≡ Some key =
+    subst (λ c. key_of c (stage_of setup.plan walk) ≡ Some key) at.its wanted in
+    let more = looks-more setting pass.view.seen new.view.seen (actor_of begun) call key looked.ticket front late
+    (subst (λ a. slice_get new.view.seen looked.ticket ≡ Some (look_by a key)) mine last)
+    at.made 0 at_origin (omega arith) at.looks (subst (λ s. key_of call s ≡ Some key) at.stage wants) in
+    let word = cell setting (before looked.ticket new.view.seen) key in
+    let stage : stage_of setup.plan moved ≡ after_word setting call (stage_of setup.plan walk) word =
+    looked.stage ∙ ap (λ c. after_word setting c (stage_of setup.plan walk) word) at.its in
+    let one = length-append at.made (looked.ticket ∷ []) in
+    record {
+      made = at.made ++ looked.ticket ∷ [];
+      added = record {
+        begins = through begun.view.seen pass.view.seen new.view.seen at.added.begins front;
+        visits = subst (λ a. tickets a new.view.seen
+            ≡ tickets a pass.view.seen ++ looked.ticket ∷ []) mine
+            (ap (tickets (actor_of pass)) visited.seen
+            ∙ (tickets-more (actor_of pass) pass.view.seen visited.earlier visit visited.begins visited.visits refl
+            ∙ ap (λ t. tickets (actor_of pass) pass.view.seen ++ t ∷ [])
+            visited.count))
+            ∙ (ap (λ l. l ++ looked.ticket ∷ []) at.added.visits ∙ append_assoc _ at.made (looked.ticket ∷ []));
+        legal = λ some. legal-seen setup pass new (Look key) looked.ticket told visited;
+        spare = omega (arith, visited.spare, at.added.spare, one);
+        outside = visited.outside;
+        same = record {
+          table = visited.same.table ∙ at.added.same.table;
+          seat = visited.same.seat ∙ at.added.same.seat;
+          setup = visited.same.setup ∙ at.added.same.setup;
+          actor = visited.same.actor ∙ at.added.same.actor;
+        };
+      };
+      looks = more.0;
+      stage = stage ∙ (ap (λ s. after_word setting call s word) at.stage ∙ sym more.1);
+      late = λ some. omega (
+        arith,
+        last-push at.made looked.ticket,
+        late,
+        front-short begun.view.seen pass.view.seen at.added.begins,
+      );
+      goes = looked.goes;
+      its = looked.call ∙ at.its;
+      room = omega (
+        arith,
+        fall setting call (stage_of setup.plan walk) word key wants,
+        ap (looks_left setting call) stage,
+        at.room,
+        visited.spare,
+      );
+    }
+
+-- turns that are lost leave a walk where it was
+pub walked-tried : (setup : Setup) (begun : PassData) (call : FindCall) (pass tried : PassData) (walk : WalkData)
+    → HasTried pass tried → IsWalked setup begun call pass walk → IsWalked setup begun call tried walk
+walked-tried setup begun call pass tried walk same at =
+    subst (λ (q : PassData). IsWalked setup begun call q walk) (sym same) (record {
+      made = at.made;
+      added = record {
+        begins = at.added.begins;
+        visits = at.added.visits;
+        legal = at.added.legal;
+        spare = at.added.spare;
+        outside = at.added.outside;
+        same = record {
+          table = at.added.same.table;
+          seat = at.added.same.seat;
+          setup = at.added.same.setup;
+          actor = at.added.same.actor;
+        };
+      };
+      looks = at.looks;
+      stage = at.stage;
+      late = at.late;
+      goes = at.goes;
+      its = at.its;
+      room = at.room;
+    })
+
+-- a walk that has its answer has made its find
+pub walked-out : AnswersAreRight → QuietFindsAnswer → PlanFindsAreNear → (setup : Setup) (begun : PassData)
+    (call : FindCall) (pass : PassData) (walk : WalkData) (found : Found) → IsMatched setup.plan
+    → call.from < nodes_in setup → call.sub < subs_in setup → IsWalked setup begun call pass walk
+    → stage_of setup.plan walk ≡ ended found → HasFound setup begun call found pass
+walked-out answers answer near setup begun call pass walk found matched from known at ends =
+    let all = sym at.stage ∙ ends in
+    let some : 1 ≤ length at.made = looked-once (setting_in setup) pass.view.seen call found at.made all in
+    let its : IsFind (setting_in setup) pass.view.seen (actor_of begun) call found at.made =
+    record { looks = at.looks; answer = all } in
+    record {
+      made = at.made;
+      added = at.added;
+      find = its;
+      tells = tells-rightly answers answer near setup begun pass.view.seen (actor_of begun) call found at.made matched
+          from (at.added.legal some call.sub known) its at.added.begins (at.late some);
+    }

@@ -1,0 +1,27 @@
+use Rattle.std.proofs.Common.{arith, refl}
+use Rattle.tracker_calls.proofs.Stepping.{next-visit, stepped}
+use Rattle.tracker_calls.proofs.moves.move_step.Goals as goal
+
+pub returns-then-spare-eq0 : goal.returns-then-spare-eq0
+returns-then-spare-eq0 c = record {
+  step = (
+    (
+      next-visit c.args.tracker.now.setup c.args.plan.now c.args.handset.now c.next.result c.requires.plan
+          c.next.ensures.exact c.if-is_none.ensures,
+      omega (arith, c.spare.ensures, c.if-spare-eq0.true),
+      refl,
+      refl,
+    ),
+    refl,
+  );
+}
+
+pub returns-in-Ok : goal.returns-in-Ok
+returns-in-Ok c =
+    let made = c.in-Ok.ensures.made in record {
+      step = stepped c.args.tracker.now.setup c.args.plan.now c.args.pass.now c.visit_put.new.pass c.args.handset.now
+          c.visit_put.new.handset c.in-Ok.ticket c.requires.plan
+          (next-visit c.args.tracker.now.setup c.args.plan.now c.args.handset.now c.next.result c.requires.plan
+          c.next.ensures.exact c.if-is_none.ensures)
+          (omega (arith, c.spare.ensures, c.if-spare-eq0.false)) made.0 made.1 made.2;
+    }

@@ -1,0 +1,41 @@
+use Rattle.std.proofs.Common.{subst, ap, ◌∙◌, ◌≡◌, []}
+use Rattle.entry_word.specs.declared.visit.Act.TheVariants.{Look}
+use Rattle.directory.specs.Finds.{after_word}
+use Rattle.region_plan.specs.Matched.{IsMatched}
+use Rattle.region_plan.specs.Settings.{setting_of}
+use Rattle.station.specs.Setup.{setting_in, subs_in}
+use Rattle.walk.specs.Walks.{GoesWith, call_of, stage_of}
+use Rattle.tracker_calls.proofs.Wanted.{cell-wanted, word-seen}
+use Rattle.tracker_calls.proofs.walking.look_on.Goals as goal
+
+pub visit_look-requires-clause-cell : goal.visit_look-requires-clause-cell
+visit_look-requires-clause-cell c =
+    cell-wanted c.args.tracker.now.setup.plan c.args.walk.now (subs_in c.args.tracker.now.setup) c.args.key
+    (subst IsMatched c.requires.plan c.requires.matched) c.requires.goes c.requires.known c.requires.wanted
+
+pub saw-requires-clause-word : goal.saw-requires-clause-word
+saw-requires-clause-word c =
+    let looked = c.in_ok-looked.ensures.looked in
+    word-seen c.marks_tell.ensures.marks c.entries_tell.ensures.entries c.front_of_history_is_legal.ensures
+    c.args.tracker.now.setup c.args.plan.now c.args.pass.now c.visit_look.new.pass (Look c.args.key)
+    c.in_ok-looked.looked.ticket c.in_ok-looked.looked.word c.args.walk.now c.args.key c.requires.plan
+    c.requires.matched c.requires.of.setup looked.0 looked.1 c.requires.known c.requires.goes c.requires.wanted
+
+pub returns : goal.returns
+returns c =
+    let setup = c.args.tracker.now.setup in
+    let looked = c.in_ok-looked.ensures.looked in
+    let stage : stage_of setup.plan c.saw.new.self ≡ after_word (setting_in setup) (call_of c.args.walk.now)
+    (stage_of setup.plan c.args.walk.now) c.in_ok-looked.looked.word =
+    subst (λ p. stage_of p c.saw.new.self ≡ after_word (setting_of p []) (call_of c.args.walk.now)
+    (stage_of p c.args.walk.now) c.in_ok-looked.looked.word) c.requires.plan c.saw.ensures.stage in record {
+      looked = record {
+        ticket = c.in_ok-looked.looked.ticket;
+        visited = looked.0;
+        stage = stage
+            ∙ ap (after_word (setting_in setup) (call_of c.args.walk.now) (stage_of setup.plan c.args.walk.now))
+            looked.1;
+        call = c.saw.ensures.call;
+        goes = subst (λ p. GoesWith p c.saw.new.self) c.requires.plan c.saw.ensures.goes;
+      };
+    }

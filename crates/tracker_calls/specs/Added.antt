@@ -1,0 +1,24 @@
+-- What a whole call adds to what its pass has seen: its own visits alone, with these tickets.
+use Rattle.std.specs.Prelude.{◌≡◌, ℕ, ◌+◌, ◌<◌, ◌≤◌, List, ◌++◌, length, None}
+use Rattle.directory.specs.Histories.{IsFront, tickets}
+use Rattle.directory.specs.Legal.{IsLegal}
+use Rattle.station.specs.Passes.{PassData, actor_of}
+use Rattle.station.specs.Setup.{Setup, setting_in, subs_in}
+use Rattle.station.specs.Visits.{IsSamePass}
+
+-- the pass has made visits with these tickets, its next own ones: what it has seen goes on from
+-- what it had seen, and is legal where it made one; each has used one of its spare; and it is in
+-- no node
+pub record HasAdded (setup : Setup) (old : PassData) (made : List ℕ) (new : PassData) : Type 0 where
+  pub begins : IsFront old.view.seen new.view.seen
+  pub visits : tickets (actor_of old) new.view.seen
+      ≡ tickets (actor_of old) old.view.seen ++ made
+  pub legal : 1 ≤ length made → (sub : ℕ) → sub < subs_in setup
+      → IsLegal (setting_in setup) sub new.view.seen
+  pub spare : new.spare + length made ≡ old.spare
+  pub outside : new.view.inside ≡ None
+  pub same : IsSamePass old new
+
+-- the pass has lost turns, and nothing else has changed
+abbrev pub HasTried : PassData → PassData → Type 0
+HasTried old new = new ≡ record old { view = record old.view { lost = new.view.lost } }

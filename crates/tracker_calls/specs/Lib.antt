@@ -1,0 +1,4 @@
+pub mod Added
+pub mod Moves
+pub mod Finds
+pub mod Answers

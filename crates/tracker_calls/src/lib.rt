@@ -1,0 +1,12 @@
+//! Whole calls for the callers' own threads: finds and moves over the shared tracker.
+#![tactic(auto)]
+
+mod finds;
+mod moves;
+mod walking;
+
+pub use finds::{FindFault, FindRefusal, find, find_now};
+pub use moves::{StepFault, move_step};
+
+#[cfg(test)]
+mod tests;
