@@ -7,5 +7,11 @@ pub drop-moved : (bytes left rest : List ℕ) (at count : ℕ) → drop at bytes
     → left ≡ take count (take count left ++ rest) ++ drop (at + count) bytes
 drop-moved bytes left rest at count same within =
     let front : count ≤ length (take count left) = simp length-take (omega arith) in
-    rw (take-append-le count (take count left) rest front, take_all count (take count left) (simp length-take (omega arith)), sym (drop-drop count at bytes), same)
+    rw (
+      take-append-le count (take count left) rest front,
+      take_all count (take count left) (simp length-take (omega
+          arith)),
+      sym (drop-drop count at bytes),
+      same,
+    )
     (sym (take-append-drop count left))

@@ -1,5 +1,5 @@
--- What one call of a source or of a sink may answer, and what the count of its faults does. The largest count is
--- 2^64-1, where it stands still.
+-- What one call of a source or of a sink may answer, and what the count of its faults does. The
+-- largest count is 2^64-1, where it stands still.
 use Rattle.std.specs.Prelude.{◌≡◌, ◌⊎◌, ℕ, ◌<◌, ◌≤◌}
 use Rattle.outside.specs.declared.source.Took.{Took}
 use Rattle.outside.specs.declared.source.Took.TheVariants.{Got, End}
@@ -13,10 +13,10 @@ abbrev pub HasFaulted : ℕ → ℕ → Type 0
 HasFaulted before now = (before < now) ⊎ (now ≡ 18446744073709551615)
 
 -- how many bytes a read took
-abbrev pub taken : Took → ℕ
-taken (Got count) = count
-taken End = 0
-taken took.Failed = 0
+abbrev pub count_taken : Took → ℕ
+count_taken (Got count) = count
+count_taken End = 0
+count_taken took.Failed = 0
 
 -- a read that takes bytes takes at least one, and no more than there is room for
 abbrev pub TakesWithin : Took → ℕ → Type 0
@@ -24,23 +24,25 @@ TakesWithin (Got count) room = (1 ≤ count) × (count ≤ room)
 TakesWithin End room = Unit {0}
 TakesWithin took.Failed room = Unit {0}
 
--- a read fails only where the count of faults rose, and leaves the count as it was where it doesn't fail
+-- a read fails only where the count of faults rose, and leaves the count as it was where it doesn't
+-- fail
 abbrev pub CountsRead : Took → ℕ → ℕ → Type 0
 CountsRead (Got count) before now = now ≡ before
 CountsRead End before now = now ≡ before
 CountsRead took.Failed before now = (before ≤ now) × HasFaulted before now
 
 -- how many bytes a write gave away
-abbrev pub given : Gave → ℕ
-given (Wrote count) = count
-given gave.Failed = 0
+abbrev pub count_given : Gave → ℕ
+count_given (Wrote count) = count
+count_given gave.Failed = 0
 
 -- a write that gives bytes gives at least one, and no more than there are
 abbrev pub GivesWithin : Gave → ℕ → Type 0
 GivesWithin (Wrote count) length = (1 ≤ count) × (count ≤ length)
 GivesWithin gave.Failed length = Unit {0}
 
--- a write fails only where the count of faults rose, and leaves the count as it was where it doesn't fail
+-- a write fails only where the count of faults rose, and leaves the count as it was where it
+-- doesn't fail
 abbrev pub CountsWrite : Gave → ℕ → ℕ → Type 0
 CountsWrite (Wrote count) before now = now ≡ before
 CountsWrite gave.Failed before now = (before ≤ now) × HasFaulted before now

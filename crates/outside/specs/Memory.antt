@@ -1,5 +1,6 @@
--- The state of a source and of a sink in memory, as contracts see it, and what one call of each does: it fails where
--- its number is among those that were named, and else moves as many bytes as it may.
+-- The state of a source and of a sink in memory, as contracts see it, and what one call of each
+-- does: it fails where its number is among those that were named, and else moves as many bytes as
+-- it may.
 use Rattle.std.specs.Prelude.{ℕ, ◌+◌, List, min}
 
 -- a source with these bytes left, after so many calls

@@ -1,7 +1,7 @@
 // What a sink for bytes is.
 ghost use Rattle.std.specs.Prelude.{◌≡◌, ◌<◌, ℕ, List, Option, length, take};
 ghost use Rattle.outside.specs.Bytes.{append_known};
-ghost use Rattle.outside.specs.Calls.{given, GivesWithin, CountsWrite};
+ghost use Rattle.outside.specs.Calls.{count_given, GivesWithin, CountsWrite};
 
 /// What one call of [`Sink::write`] answers.
 #[derive(Clone, Copy, Debug, PartialEq, Eq)]
@@ -24,6 +24,7 @@ pub trait Sink {
     fn write(&mut self, piece: &[u8]) -> Gave
         requires { 0 < length piece.now }
         ensures within { GivesWithin result (length piece.now) }
-        ensures bytes { written self.new ≡ append_known (written self.old) (take (given result) piece.now) }
+        ensures bytes { written self.new
+            ≡ append_known (written self.old) (take (count_given result) piece.now) }
         ensures count { CountsWrite result (faults self.old) (faults self.new) };
 }

@@ -1,7 +1,7 @@
 // What a source of bytes is.
 ghost use Rattle.std.specs.Prelude.{◌≡◌, ◌<◌, ℕ, List, Option, length, take, drop};
 ghost use Rattle.outside.specs.Bytes.{prepend_known, IsAtEnd};
-ghost use Rattle.outside.specs.Calls.{taken, TakesWithin, CountsRead};
+ghost use Rattle.outside.specs.Calls.{count_taken, TakesWithin, CountsRead};
 
 /// What one call of [`Source::read`] answers.
 #[derive(Clone, Copy, Debug, PartialEq, Eq)]
@@ -22,12 +22,14 @@ pub trait Source {
     /// The bytes that are left, where the source tells them.
     ghost left: { Self → Option (List ℕ) };
 
-    /// Moves bytes that are left to the front of the buffer. What the call didn't fill stays as it was.
+    /// Moves bytes that are left to the front of the buffer. What the call didn't fill stays as it
+    /// was.
     fn read(&mut self, into: &mut [u8]) -> Took
         requires { 0 < length into.old }
         ensures within { TakesWithin result (length into.old) }
-        ensures bytes { left self.old ≡ prepend_known (take (taken result) into.new) (left self.new) }
-        ensures rest { drop (taken result) into.new ≡ drop (taken result) into.old }
+        ensures bytes { left self.old ≡ prepend_known (take (count_taken result) into.new) (left
+            self.new) }
+        ensures rest { drop (count_taken result) into.new ≡ drop (count_taken result) into.old }
         ensures end { result ≡ Took.End → IsAtEnd (left self.old) }
         ensures count { CountsRead result (faults self.old) (faults self.new) };
 }

@@ -4,7 +4,7 @@ ghost use Rattle.outside.specs.Bytes.{prepend_known, append_known, IsAtEnd};
 ghost use Rattle.std.specs.Io.KnownBytes.{Consumes, Appends};
 ghost use Rattle.std.specs.Io.KnownBytes.{IsAtEnd as IsReaderAtEnd};
 ghost use Rattle.outside.specs.declared.source.Took.{Took};
-ghost use Rattle.outside.specs.Calls.{taken, given, TakesWithin, GivesWithin, CountsRead, CountsWrite};
+ghost use Rattle.outside.specs.Calls.{count_taken, count_given, TakesWithin, GivesWithin, CountsRead, CountsWrite};
 
 use crate::copy::copy_front;
 use crate::{Gave, Sink, Source, Took};
@@ -14,7 +14,8 @@ const BUFFER: usize = 16384;
 
 /// A source over a reader. Each error of the reader is a fault, and a read of 0 bytes is the end.
 ///
-/// std says nothing of the part of a buffer that a read didn't fill, so the source reads into a buffer of its own.
+/// std says nothing of the part of a buffer that a read didn't fill, so the source reads into a
+/// buffer of its own.
 #[derive(Drop)]
 pub struct StdSource<R: Read> {
     reader: R,
@@ -44,11 +45,12 @@ impl<R: Read> Source for StdSource<R> {
     fn read(&mut self, into: &mut [u8]) -> Took
         requires { 0 < length into.old }
         ensures within { TakesWithin result (length into.old) }
-        ensures bytes { None ≡ prepend_known (take (taken result) into.new) None }
-        ensures rest { drop (taken result) into.new ≡ drop (taken result) into.old }
+        ensures bytes { None ≡ prepend_known (take (count_taken result) into.new) None }
+        ensures rest { drop (count_taken result) into.new ≡ drop (count_taken result) into.old }
         ensures count { CountsRead result self.old.faults self.new.faults }
         ensures end { result ≡ Took.End → IsAtEnd None }
-        ensures passes { Consumes (R.remaining self.old.reader) (R.remaining self.new.reader) (take (taken result) into.new) }
+        ensures passes { Consumes (R.remaining self.old.reader) (R.remaining self.new.reader) (take
+            (count_taken result) into.new) }
         ensures ends { result ≡ Took.End → IsReaderAtEnd (R.remaining self.new.reader) }
     {
         let room = into.len().min(BUFFER);
@@ -68,7 +70,8 @@ impl<R: Read> Source for StdSource<R> {
     }
 }
 
-/// A sink over a writer, flushed at each call. Each error of the writer is a fault, and so is a write of 0 bytes.
+/// A sink over a writer, flushed at each call. Each error of the writer is a fault, and so is a
+/// write of 0 bytes.
 #[derive(Drop)]
 pub struct StdSink<W: Write> {
     writer: W,
@@ -88,7 +91,8 @@ impl<W: Write> StdSink<W> {
     fn push(&mut self, piece: &[u8]) -> std::io::Result<usize>
         ensures within { IfOk result (λ count. count ≤ length piece.now) }
         ensures same { self.new.faults ≡ self.old.faults }
-        ensures passes { IfOk result (λ count. Appends (W.contents self.old.writer) (W.contents self.new.writer) (take count piece.now)) }
+        ensures passes { IfOk result (λ count. Appends (W.contents self.old.writer) (W.contents
+            self.new.writer) (take count piece.now)) }
     {
         let count = self.writer.write(piece)?;
         self.writer.flush()?;
@@ -104,9 +108,11 @@ impl<W: Write> Sink for StdSink<W> {
     fn write(&mut self, piece: &[u8]) -> Gave
         requires { 0 < length piece.now }
         ensures within { GivesWithin result (length piece.now) }
-        ensures bytes { None ≡ append_known None (take (given result) piece.now) }
+        ensures bytes { None ≡ append_known None (take (count_given result) piece.now) }
         ensures count { CountsWrite result self.old.faults self.new.faults }
-        ensures passes { result ≢ Gave.Failed → Appends (W.contents self.old.writer) (W.contents self.new.writer) (take (given result) piece.now) }
+        ensures passes { result ≢ Gave.Failed
+            → Appends (W.contents self.old.writer) (W.contents self.new.writer) (take (count_given
+            result) piece.now) }
     {
         match self.push(piece) {
             Ok(count) if count > 0 => Gave::Wrote(count),

@@ -64,7 +64,8 @@ fn source_over_a_reader(rt: HostRuntime) {
     assert_eq!(rt; StdSource::new(Broken).read(&mut buffer), Took::Failed);
 }
 
-// A read of more than the source's own buffer takes what that holds, and the next one goes on behind it.
+// A read of more than the source's own buffer takes what that holds, and the next one goes on
+// behind it.
 #[test]
 fn source_over_a_long_reader(rt: HostRuntime) -> Result<(), Fail> {
     let alloc = rt.alloc();

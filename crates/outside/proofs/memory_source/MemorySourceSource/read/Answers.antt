@@ -8,4 +8,5 @@ returns-clause-bytes c =
     let left = ap (λ (s : SourceState). s.left) c.self.view_is in
     let rest : drop c.self.inside.at c.self.inside.bytes.items ≡ c.split_at.result.1.now = search rules in
     let within : c.min-count.result ≤ length c.split_at.result.1.now = omega arith in
-    ap Some (sym left ∙ rest ∙ rw c.copy_front.ensures (drop-moved c.self.inside.bytes.items c.split_at.result.1.now (drop c.min-count.result c.args.into.now) c.self.inside.at c.min-count.result rest within))
+    ap Some (sym left ∙ rest ∙ rw c.copy_front.ensures (drop-moved c.self.inside.bytes.items c.split_at.result.1.now
+    (drop c.min-count.result c.args.into.now) c.self.inside.at c.min-count.result rest within))

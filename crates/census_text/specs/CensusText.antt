@@ -1,0 +1,41 @@
+-- The text of a census: for each node at which some subscriber is, ascending, a line with their
+-- count and their numbers; then `end` and the sum of the counts. Who is at a node is told by a
+-- function, so that a text is the same whether it is told by cells or by the history that left
+-- them. Key laws: `census`, by its clause `history` (the text is that of the directory's census).
+use Rattle.std.specs.Prelude.{ℕ, zero, suc, ◌+◌, Bool, List, [], ◌∷◌, length, codes}
+use Rattle.node_set.specs.Ascending.{sift}
+use Rattle.entry_word.specs.Marks.{mark_in, says_here}
+use Rattle.entry_word.specs.declared.visit.Key.TheVariants.{Presence}
+use Rattle.region_plan.specs.Plan.{PlanData}
+use Rattle.visit_log.specs.Cells.{CellData, word_of}
+use Rattle.outside.specs.Texts.{◌then◌, field, fields}
+
+-- whether the presence cell of a subscriber at a node says that it is there
+abbrev pub is_there : PlanData → CellData → ℕ → ℕ → Bool
+is_there plan cells node sub = says_here (mark_in (word_of plan cells (Presence node sub)))
+
+-- the subscribers that are at a node, by their cells
+abbrev pub presence_at : PlanData → CellData → ℕ → List ℕ
+presence_at plan cells node = sift (is_there plan cells node) 0 cells.subs
+
+-- the line of a node: none, where nobody is there
+abbrev pub node_line : ℕ → List ℕ → List ℕ
+node_line node [] = []
+node_line node (sub ∷ subs) =
+    codes "node" then field node then codes " count" then field (length (sub ∷ subs))
+    then codes " subs" then fields (sub ∷ subs) then 10 ∷ []
+
+-- the lines of the first nodes
+abbrev pub node_lines : (ℕ → List ℕ) → ℕ → List ℕ
+node_lines who zero = []
+node_lines who (suc node) = node_lines who node then node_line node (who node)
+
+-- how many are at the first nodes
+abbrev pub count_below : (ℕ → List ℕ) → ℕ → ℕ
+count_below who zero = 0
+count_below who (suc node) = count_below who node + length (who node)
+
+-- the text of a census of so many nodes
+abbrev pub census_text_of : (ℕ → List ℕ) → ℕ → List ℕ
+census_text_of who nodes =
+    node_lines who nodes then codes "end" then field (count_below who nodes) then 10 ∷ []

@@ -1,0 +1,9 @@
+//! The text of a census, as docs/FORMATS.md tells it.
+#![tactic(auto)]
+
+mod lines;
+
+pub use lines::census;
+
+#[cfg(test)]
+mod tests;
