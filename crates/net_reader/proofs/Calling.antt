@@ -15,27 +15,40 @@ use Rattle.net_reader.proofs.Measured.{at-1, at-2, at-3, at-4, at-5, at-6, at-7}
 use Rattle.net_reader.proofs.Standing.{make, with_call, script_of-push}
 
 -- one call more of a course
-pub course-push : (format n here : ℕ) (off : Bool) (script : List Call) (call : Call) → IsCourse format n here off script → IsCourse format n (place_after here script) (off_after off script) (call ∷ []) → IsCourse format n here off (script ++ call ∷ [])
+pub course-push : (format n here : ℕ) (off : Bool) (script : List Call) (call : Call)
+    → IsCourse format n here off script → IsCourse format n (place_after here script) (off_after off script) (call ∷
+    []) → IsCourse format n here off (script ++ call ∷ [])
 course-push format n here off [] call h last = last
-course-push format n here off (acts.Move to ∷ script) call h last = (h.0, h.1, h.2, course-push format n to off script call h.3 last)
+course-push format n here off (acts.Move to ∷ script) call h last =
+    (h.0, h.1, h.2, course-push format n to off script call h.3 last)
 course-push format n here off (acts.Find from sub ∷ script) call h last = absurd h
-course-push format n here off (acts.Off ∷ script) call h last = (h.0, h.1, course-push format n here true script call h.2 last)
-course-push format n here off (acts.On ∷ script) call h last = (h.0, h.1, course-push format n here false script call h.2 last)
+course-push format n here off (acts.Off ∷ script) call h last =
+    (h.0, h.1, course-push format n here true script call h.2 last)
+course-push format n here off (acts.On ∷ script) call h last =
+    (h.0, h.1, course-push format n here false script call h.2 last)
 
-course-with : (mine : Bool) (format n here : ℕ) (script : List Call) (call : Call) → IsCourse format n here false script → (mine ≡ true → IsCourse format n (place_after here script) (off_after false script) (call ∷ [])) → IsCourse format n here false (with_call mine script call)
+course-with : (mine : Bool) (format n here : ℕ) (script : List Call) (call : Call)
+    → IsCourse format n here false script → (mine ≡ true
+    → IsCourse format n (place_after here script) (off_after false script) (call ∷ []))
+    → IsCourse format n here false (with_call mine script call)
 course-with true format n here script call h last = course-push format n here false script call h (last refl)
 course-with false format n here script call h last = h
 
-search-with : (mine : Bool) (n subs : ℕ) (script : List Call) (call : Call) → All (IsSearch n subs) script → (mine ≡ true → IsSearch n subs call) → All (IsSearch n subs) (with_call mine script call)
-search-with true n subs script call h last = All-append (IsSearch n subs) script (call ∷ []) h (All-cons (IsSearch n subs) call [] (last refl) (All-nil (IsSearch n subs)))
+search-with : (mine : Bool) (n subs : ℕ) (script : List Call) (call : Call) → All (IsSearch n subs) script
+    → (mine ≡ true → IsSearch n subs call) → All (IsSearch n subs) (with_call mine script call)
+search-with true n subs script call h last =
+    All-append (IsSearch n subs) script (call ∷ []) h (All-cons (IsSearch n subs) call [] (last refl) (All-nil
+    (IsSearch n subs)))
 search-with false n subs script call h last = h
 
 pub record IsCalling (said : Said) : Type 0 where
   pub no_calls : said.place ≤ 6 → said.calls ≡ []
   pub no_order : said.place ≤ 7 → said.order ≡ []
   pub few : length said.calls ≤ most_calls said.format
-  pub courses : (s : ℕ) → s < length said.homes → IsCourse said.format said.nodes (get_or said.homes s 0) false (script_of s said.calls)
-  pub searches : (a : ℕ) → length said.homes ≤ a → All (IsSearch said.nodes (length said.homes)) (script_of a said.calls)
+  pub courses : (s : ℕ) → s < length said.homes
+      → IsCourse said.format said.nodes (get_or said.homes s 0) false (script_of s said.calls)
+  pub searches : (a : ℕ) → length said.homes ≤ a
+      → All (IsSearch said.nodes (length said.homes)) (script_of a said.calls)
   pub order : All (λ actor. actor < actors said) said.order
 
 -- nobody has called yet
@@ -44,14 +57,20 @@ quiet said none no_order = record {
   no_calls = λ le. none;
   no_order = λ le. no_order;
   few = omega (arith, ap (λ (calls : List Spoken). length calls) none);
-  courses = λ s below. subst (λ (calls : List Spoken). IsCourse said.format said.nodes (get_or said.homes s 0) false (script_of s calls)) (sym none) tt;
-  searches = λ a above. subst (λ (calls : List Spoken). All (IsSearch said.nodes (length said.homes)) (script_of a calls)) (sym none) (All-nil (IsSearch said.nodes (length said.homes)));
-  order = subst (λ (xs : List ℕ). All (λ actor. actor < actors said) xs) (sym no_order) (All-nil (λ actor. actor < actors said));
+  courses = λ s below. subst (λ (calls : List Spoken). IsCourse said.format said.nodes (get_or said.homes s 0) false
+      (script_of s calls)) (sym none) tt;
+  searches = λ a above. subst (λ (calls : List Spoken). All (IsSearch said.nodes (length said.homes)) (script_of a
+      calls)) (sym none) (All-nil (IsSearch said.nodes (length said.homes)));
+  order = subst (λ (xs : List ℕ). All (λ actor. actor < actors said) xs) (sym no_order) (All-nil (λ actor. actor <
+      actors said));
 }
 
 -- one call more: what it adds to a course where a subscriber makes it, and to a search where a caller does
-call-kept : (said : Said) (actor : ℕ) (call : Call) → IsCalling said → said.place ≤ 7 → length said.calls < most_calls said.format
-    → ((s : ℕ) → s < length said.homes → eqb actor s ≡ true → IsCourse said.format said.nodes (place_after (get_or said.homes s 0) (script_of s said.calls)) (off_after false (script_of s said.calls)) (call ∷ []))
+call-kept : (said : Said) (actor : ℕ) (call : Call) → IsCalling said → said.place ≤ 7
+    → length said.calls < most_calls said.format
+    → ((s : ℕ) → s < length said.homes → eqb actor s ≡ true
+    → IsCourse said.format said.nodes (place_after (get_or said.homes s 0) (script_of s said.calls)) (off_after
+    false (script_of s said.calls)) (call ∷ []))
     → ((a : ℕ) → length said.homes ≤ a → eqb actor a ≡ true → IsSearch said.nodes (length said.homes) call)
     → IsCalling (call_said said actor call)
 call-kept said actor call m early few course search = record {
@@ -59,11 +78,15 @@ call-kept said actor call m early few course search = record {
   no_order = λ le. m.no_order early;
   few = omega (arith, few, length-append said.calls (make actor call ∷ []));
   courses = λ s below.
-      subst (λ (script : List Call). IsCourse said.format said.nodes (get_or said.homes s 0) false script) (sym (script_of-push s said.calls (make actor call)))
-      (course-with (eqb actor s) said.format said.nodes (get_or said.homes s 0) (script_of s said.calls) call (m.courses s below) (course s below));
+      subst (λ (script : List Call). IsCourse said.format said.nodes (get_or said.homes s 0) false script) (sym
+      (script_of-push s said.calls (make actor call)))
+      (course-with (eqb actor s) said.format said.nodes (get_or said.homes s 0) (script_of s said.calls) call
+      (m.courses s below) (course s below));
   searches = λ a above.
-      subst (λ (script : List Call). All (IsSearch said.nodes (length said.homes)) script) (sym (script_of-push a said.calls (make actor call)))
-      (search-with (eqb actor a) said.nodes (length said.homes) (script_of a said.calls) call (m.searches a above) (search a above));
+      subst (λ (script : List Call). All (IsSearch said.nodes (length said.homes)) script) (sym (script_of-push a
+      said.calls (make actor call)))
+      (search-with (eqb actor a) said.nodes (length said.homes) (script_of a said.calls) call (m.searches a above)
+      (search a above));
   order = m.order;
 }
 
@@ -74,50 +97,92 @@ same x y e = grind (arith, nat_tests)
 no-caller : (sub n subs a : ℕ) (call : Call) → sub < subs → subs ≤ a → eqb sub a ≡ true → IsSearch n subs call
 no-caller sub n subs a call lt le e = let is = same sub a e in absurd (omega (arith, is, lt, le))
 
-calling-heard : (said found : Said) (word : Word) → IsCalling said → may_stand said.place (place_of_word word) ≡ true → Heard said word found → IsCalling found
+calling-heard : (said found : Said) (word : Word) → IsCalling said → may_stand said.place (place_of_word word) ≡ true
+    → Heard said word found → IsCalling found
 calling-heard said found words.Track m p h =
     let early = at-1 said.place p in
-    subst IsCalling h.2 (quiet (record said { place = 1; format = h.0 }) (m.no_calls (omega (arith, early))) (m.no_order (omega (arith, early))))
+    subst IsCalling h.2 (quiet (record said {
+      place =
+          1;
+      format = h.0;
+    }) (m.no_calls (omega (arith, early))) (m.no_order (omega (arith, early))))
 calling-heard said found words.Nodes m p h =
     let early = at-2 said.place p in
-    subst IsCalling h.3 (quiet (record said { place = 2; nodes = h.0 }) (m.no_calls (omega (arith, early))) (m.no_order (omega (arith, early))))
+    subst IsCalling h.3 (quiet (record said {
+      place =
+          2;
+      nodes = h.0;
+    }) (m.no_calls (omega (arith, early))) (m.no_order (omega (arith, early))))
 calling-heard said found words.K m p h =
     let early = at-3 said.place p in
-    subst IsCalling h.2 (quiet (record said { place = 3; k = h.0 }) (m.no_calls (omega (arith, early))) (m.no_order (omega (arith, early))))
+    subst IsCalling h.2 (quiet (record said {
+      place =
+          3;
+      k = h.0;
+    }) (m.no_calls (omega (arith, early))) (m.no_order (omega (arith, early))))
 calling-heard said found words.Edge m p h =
     let early = at-4 said.place p in
-    subst IsCalling h.3 (quiet (record said { place = 4; edges = said.edges ++ h.0 ∷ [] }) (m.no_calls (omega (arith, early))) (m.no_order (omega (arith, early))))
+    subst IsCalling h.3 (quiet (record said {
+      place =
+          4;
+      edges = said.edges ++ h.0 ∷ [];
+    }) (m.no_calls (omega (arith, early))) (m.no_order (omega (arith, early))))
 calling-heard said found words.Sub m p h =
     let early = at-5 said.place p in
-    subst IsCalling h.3 (quiet (record said { place = 5; homes = said.homes ++ h.0 ∷ [] }) (m.no_calls (omega (arith, early))) (m.no_order (omega (arith, early))))
+    subst IsCalling h.3 (quiet (record said {
+      place =
+          5;
+      homes = said.homes ++ h.0 ∷ [];
+    }) (m.no_calls (omega (arith, early))) (m.no_order (omega (arith, early))))
 calling-heard said found words.Callers m p h =
     let early = at-6 said.place p in
-    subst IsCalling h.2 (quiet (record said { place = 6; callers = h.0 }) (m.no_calls (omega (arith, early))) (m.no_order (omega (arith, early))))
+    subst IsCalling h.2 (quiet (record said {
+      place =
+          6;
+      callers = h.0;
+    }) (m.no_calls (omega (arith, early))) (m.no_order (omega (arith, early))))
 calling-heard said found words.Move m p h =
     let sub = h.0 in
     let to = h.1 in
     let is = h.2 in
-    let course : (s : ℕ) → s < length said.homes → eqb sub s ≡ true → IsCourse said.format said.nodes (place_after (get_or said.homes s 0) (script_of s said.calls)) (off_after false (script_of s said.calls)) (acts.Move to ∷ []) = λ s below e.
-    subst (λ (x : ℕ). IsCourse said.format said.nodes (place_after (get_or said.homes x 0) (script_of x said.calls)) (off_after false (script_of x said.calls)) (acts.Move to ∷ [])) (same sub s e) (is.3, is.2, is.4, tt) in
-    subst IsCalling h.3 (call-kept said sub (acts.Move to) m (at-7 said.place p) is.0 course (λ a above e. no-caller sub said.nodes (length said.homes) a (acts.Move to) is.1 above e))
+    let course : (s : ℕ) → s < length said.homes → eqb sub s ≡ true
+    → IsCourse said.format said.nodes (place_after (get_or said.homes s 0) (script_of s said.calls)) (off_after
+    false (script_of s said.calls)) (acts.Move to ∷ []) = λ s below e.
+    subst (λ (x : ℕ). IsCourse said.format said.nodes (place_after (get_or said.homes x 0) (script_of x said.calls))
+    (off_after false (script_of x said.calls)) (acts.Move to ∷ [])) (same sub s e) (is.3, is.2, is.4, tt) in
+    subst IsCalling h.3 (call-kept said sub (acts.Move to) m (at-7 said.place p) is.0 course (λ a above e. no-caller
+    sub said.nodes (length said.homes) a (acts.Move to) is.1 above e))
 calling-heard said found words.Find m p h =
     let caller = h.0 in
     let is = h.3 in
-    let none : (s : ℕ) → s < length said.homes → eqb caller s ≡ true → IsCourse said.format said.nodes (place_after (get_or said.homes s 0) (script_of s said.calls)) (off_after false (script_of s said.calls)) (acts.Find h.1 h.2 ∷ []) = λ s below e.
+    let none : (s : ℕ) → s < length said.homes → eqb caller s ≡ true
+    → IsCourse said.format said.nodes (place_after (get_or said.homes s 0) (script_of s said.calls)) (off_after
+    false (script_of s said.calls)) (acts.Find h.1 h.2 ∷ []) = λ s below e.
     let found = same caller s e in absurd (omega (arith, found, below, is.1)) in
-    subst IsCalling h.4 (call-kept said caller (acts.Find h.1 h.2) m (at-7 said.place p) is.0 none (λ a above e. (is.3, is.4)))
+    subst IsCalling h.4 (call-kept said caller (acts.Find h.1 h.2) m (at-7 said.place p) is.0 none (λ a above e. (
+      is.3,
+      is.4,
+    )))
 calling-heard said found words.Off m p h =
     let sub = h.0 in
     let is = h.1 in
-    let course : (s : ℕ) → s < length said.homes → eqb sub s ≡ true → IsCourse said.format said.nodes (place_after (get_or said.homes s 0) (script_of s said.calls)) (off_after false (script_of s said.calls)) (acts.Off ∷ []) = λ s below e.
-    subst (λ (x : ℕ). IsCourse said.format said.nodes (place_after (get_or said.homes x 0) (script_of x said.calls)) (off_after false (script_of x said.calls)) (acts.Off ∷ [])) (same sub s e) (is.2, is.3, tt) in
-    subst IsCalling h.2 (call-kept said sub acts.Off m (at-7 said.place p) is.0 course (λ a above e. no-caller sub said.nodes (length said.homes) a acts.Off is.1 above e))
+    let course : (s : ℕ) → s < length said.homes → eqb sub s ≡ true
+    → IsCourse said.format said.nodes (place_after (get_or said.homes s 0) (script_of s said.calls)) (off_after
+    false (script_of s said.calls)) (acts.Off ∷ []) = λ s below e.
+    subst (λ (x : ℕ). IsCourse said.format said.nodes (place_after (get_or said.homes x 0) (script_of x said.calls))
+    (off_after false (script_of x said.calls)) (acts.Off ∷ [])) (same sub s e) (is.2, is.3, tt) in
+    subst IsCalling h.2 (call-kept said sub acts.Off m (at-7 said.place p) is.0 course (λ a above e. no-caller sub
+    said.nodes (length said.homes) a acts.Off is.1 above e))
 calling-heard said found words.On m p h =
     let sub = h.0 in
     let is = h.1 in
-    let course : (s : ℕ) → s < length said.homes → eqb sub s ≡ true → IsCourse said.format said.nodes (place_after (get_or said.homes s 0) (script_of s said.calls)) (off_after false (script_of s said.calls)) (acts.On ∷ []) = λ s below e.
-    subst (λ (x : ℕ). IsCourse said.format said.nodes (place_after (get_or said.homes x 0) (script_of x said.calls)) (off_after false (script_of x said.calls)) (acts.On ∷ [])) (same sub s e) (is.2, is.3, tt) in
-    subst IsCalling h.2 (call-kept said sub acts.On m (at-7 said.place p) is.0 course (λ a above e. no-caller sub said.nodes (length said.homes) a acts.On is.1 above e))
+    let course : (s : ℕ) → s < length said.homes → eqb sub s ≡ true
+    → IsCourse said.format said.nodes (place_after (get_or said.homes s 0) (script_of s said.calls)) (off_after
+    false (script_of s said.calls)) (acts.On ∷ []) = λ s below e.
+    subst (λ (x : ℕ). IsCourse said.format said.nodes (place_after (get_or said.homes x 0) (script_of x said.calls))
+    (off_after false (script_of x said.calls)) (acts.On ∷ [])) (same sub s e) (is.2, is.3, tt) in
+    subst IsCalling h.2 (call-kept said sub acts.On m (at-7 said.place p) is.0 course (λ a above e. no-caller sub
+    said.nodes (length said.homes) a acts.On is.1 above e))
 calling-heard said found words.Order m p h =
     let next : IsCalling (record said { place = 8; order = said.order ++ h.0 }) = record {
       no_calls = λ le. absurd (omega (arith, le));
@@ -132,5 +197,6 @@ calling-heard said found words.Order m p h =
 pub begins-calling : IsCalling nothing
 begins-calling = quiet nothing refl refl
 
-pub keeps-calling : (said found : Said) (word : Word) (ns : List ℕ) → IsCalling said → may_stand said.place (place_of_word word) ≡ true → verdict (row_of said word ns) ≡ Ok found → IsCalling found
+pub keeps-calling : (said found : Said) (word : Word) (ns : List ℕ) → IsCalling said
+    → may_stand said.place (place_of_word word) ≡ true → verdict (row_of said word ns) ≡ Ok found → IsCalling found
 keeps-calling said found word ns m p e = calling-heard said found word m p (heard said found word ns e)

@@ -1,6 +1,7 @@
 -- A reader's answer is what the bytes say that it stands for.
 use Rattle.std.proofs.Common.{◌≡◌, ℕ, ◌≤◌, ◌<◌, ◌+◌, ◌^◌, Bool, true, false, cond, eqb, inl, inr, List, ◌++◌, Result, Ok, Err, ap, subst, sym, refl, ◌∙◌, arith}
 use Rattle.std.specs.Result.{is_err, OnOk}
+use Rattle.net_graph.specs.Network.{Network}
 use Rattle.net_reader.specs.declared.fault.InputFault.{InputFault}
 use Rattle.net_reader.specs.declared.fault.ReadRefusal.{ReadRefusal}
 use Rattle.net_reader.specs.declared.fault.ReadRefusal.TheVariants as refusals
@@ -10,35 +11,50 @@ use Rattle.net_reader.specs.declared.scan.Scan.{Scan}
 use Rattle.net_reader.specs.Said.{Said}
 use Rattle.net_reader.specs.Input.{IsAnswer, read}
 use Rattle.net_reader.specs.Seen.{seen_known, seen_scan, seen_input, Answers, Finishes, IsWell}
-use Rattle.net_reader.specs.Reading.{HasRoom, IsRead, IsSoundReader, ReaderValue, StandsFor}
+use Rattle.net_reader.specs.Reading.{HasRoom, IsReadWithGraph, IsSoundReader, ReaderValue, StandsFor}
 use Rattle.net_reader.specs.Sound.{IsSound}
-use Rattle.net_reader.specs.Steps.{ReaderState, fed, finished, fresh_reader}
+use Rattle.net_reader.specs.Steps.{ReaderState, after_bytes, end_result, fresh_reader}
 use Rattle.net_reader.proofs.Feeding.{fed-append, lines-read}
 use Rattle.net_reader.proofs.Folding.{holds_of_read}
 use Rattle.net_reader.proofs.Measured.{IsMeasured, begins-measured, keeps-measured}
 use Rattle.net_reader.proofs.TextRead.{text_read}
 
 -- a reader that hasn't failed has read some bytes
-pub going : (failed : Bool) (scan : Scan) → IsSoundReader failed scan → failed ≡ false → (bytes : List ℕ) × IsWell scan.fault scan.known × (seen_scan scan ≡ fed fresh_reader bytes)
+pub going : (failed : Bool) (scan : Scan) → IsSoundReader failed scan → failed ≡ false
+    → (bytes : List ℕ) × IsWell scan.fault scan.known × (seen_scan scan ≡ after_bytes fresh_reader bytes)
 going failed scan (inl f) e = cc
 going failed scan (inr stands) e = stands
 
 -- the lines still fit their count
-pub room : (reader : ReaderValue) (more : ℕ) → HasRoom reader more → reader.failed ≡ false → reader.state.lines + more < 2 ^ 32
+pub room : (reader : ReaderValue) (more : ℕ) → HasRoom reader more → reader.failed ≡ false
+    → reader.state.lines + more < 2 ^ 32
 room reader more (inl failed) e = cc
 room reader more (inr stands) e =
     omega (arith, lines-read stands.0, ap (λ (r : ReaderState). r.lines) stands.1.read, stands.2)
 
 -- a piece more
-pub fed_sound : {E : Type 0} (failed : Bool) (result : Result (Unit {0}) E) (old new : Scan) (piece : List ℕ) → failed ≡ is_err result → (bytes : List ℕ) × IsWell old.fault old.known × (seen_scan old ≡ fed fresh_reader bytes) → OnOk result (seen_scan new ≡ fed (seen_scan old) piece) → OnOk result (IsWell new.fault new.known) → IsSoundReader failed new
+pub fed_sound : {E : Type 0} (failed : Bool) (result : Result (Unit {0}) E) (old new : Scan) (piece : List ℕ)
+    → failed ≡ is_err result → (bytes : List ℕ) × IsWell old.fault old.known
+    × (seen_scan old ≡ after_bytes fresh_reader bytes)
+    → OnOk result (seen_scan new ≡ after_bytes (seen_scan old) piece) → OnOk result (IsWell new.fault new.known)
+    → IsSoundReader failed new
 fed_sound failed (Ok done) old new piece e stands read well =
-    inr (stands.0 ++ piece, well, read ∙ ap (λ r. fed r piece) stands.2 ∙ sym (fed-append fresh_reader stands.0 piece))
+    inr (
+      stands.0 ++ piece,
+      well,
+      read ∙ ap (λ r. after_bytes r piece) stands.2
+          ∙ sym (fed-append fresh_reader stands.0 piece),
+    )
 fed_sound failed (Err fault) old new piece e stands read well = inl e
 
-pub fed_stands : {E : Type 0} (reader : ReaderValue) (failed : Bool) (result : Result (Unit {0}) E) (old new : Scan) (piece : List ℕ) → failed ≡ is_err result → seen_scan old ≡ reader.state → OnOk result (seen_scan new ≡ fed (seen_scan old) piece) → OnOk result ((bytes : List ℕ) → StandsFor reader bytes → StandsFor (record { failed = failed; state = seen_scan new }) (bytes ++ piece))
+pub fed_stands : {E : Type 0} (reader : ReaderValue) (failed : Bool) (result : Result (Unit {0}) E) (old new : Scan)
+    (piece : List ℕ) → failed ≡ is_err result → seen_scan old ≡ reader.state
+    → OnOk result (seen_scan new ≡ after_bytes (seen_scan old) piece)
+    → OnOk result ((bytes : List ℕ) → StandsFor reader bytes
+    → StandsFor (record { failed = failed; state = seen_scan new }) (bytes ++ piece))
 fed_stands reader failed (Ok done) old new piece e same read = λ bytes stands. record {
   going = e;
-  read = read ∙ ap (λ r. fed r piece) (same ∙ stands.read) ∙ sym (fed-append fresh_reader bytes piece);
+  read = read ∙ ap (λ r. after_bytes r piece) (same ∙ stands.read) ∙ sym (fed-append fresh_reader bytes piece);
 }
 fed_stands reader failed (Err fault) old new piece e same read = tt
 
@@ -47,24 +63,37 @@ nodes-few : (two : Bool) → cond two 1024 256 ≤ 1024
 nodes-few true = omega arith
 nodes-few false = omega arith
 
-pub sound : (scan : Scan) (known : Known) (lines : ℕ) → (bytes : List ℕ) × IsWell scan.fault scan.known × (seen_scan scan ≡ fed fresh_reader bytes) → Finishes (Ok (known, lines)) (finished (seen_scan scan)) → IsSound (seen_known known)
+pub sound : (scan : Scan) (known : Known) (lines : ℕ)
+    → (bytes : List ℕ) × IsWell scan.fault scan.known × (seen_scan scan ≡ after_bytes fresh_reader bytes)
+    → Finishes (Ok (known, lines)) (end_result (seen_scan scan)) → IsSound (seen_known known)
 sound scan known lines stands h =
-    let is : read stands.0 ≡ Ok (seen_known known, lines) = sym (text_read stands.0) ∙ ap finished (sym stands.2) ∙ h.0 in
+    let is : read stands.0 ≡ Ok (seen_known known, lines) = sym (text_read stands.0) ∙ ap end_result (sym stands.2)
+    ∙ h.0 in
     let m = holds_of_read IsMeasured begins-measured keeps-measured stands.0 (seen_known known, lines) is in
-    record { some = m.0.some (omega (arith, m.1)); few = omega (arith, m.0.few, nodes-few (eqb known.format 2)); edges = m.0.edges }
+    record {
+      some = m.0.some (omega (arith, m.1));
+      few =
+          omega (arith, m.0.few, nodes-few (eqb known.format 2));
+      edges = m.0.edges;
+    }
 
 -- the answer of a reader in a state that these bytes lead to
-pub answered : (bytes : List ℕ) (result : Result Input ReadRefusal) (found : Result (Said × ℕ) InputFault) → found ≡ read bytes → Answers result found → IsRead bytes result
-answered bytes (Ok input) found e h = subst (λ (r : Result (Said × ℕ) InputFault). IsAnswer r (Ok (seen_input input))) e h
-answered bytes (Err (refusals.Fault fault)) found e h = subst (λ (r : Result (Said × ℕ) InputFault). IsAnswer r (Err fault)) e h
+pub answered : (bytes : List ℕ) (result : Result (Input × Network) ReadRefusal) (found : Result (Said × ℕ) InputFault)
+    → found ≡ read bytes → Answers result found → IsReadWithGraph bytes result
+answered bytes (Ok made) found e h =
+    (subst (λ (r : Result (Said × ℕ) InputFault). IsAnswer r (Ok (seen_input made.0))) e h.0, h.1)
+answered bytes (Err (refusals.Fault fault)) found e h =
+    subst (λ (r : Result (Said × ℕ) InputFault). IsAnswer r (Err fault)) e h
 answered bytes (Err refusals.OutOfMemory) found e h = tt
 
-pub refused : (bytes : List ℕ) (refusal : ReadRefusal) (found : Result (Said × ℕ) InputFault) → found ≡ read bytes → Finishes (Err refusal) found → IsRead bytes (Err refusal)
+pub refused : (bytes : List ℕ) (refusal : ReadRefusal) (found : Result (Said × ℕ) InputFault) → found ≡ read bytes
+    → Finishes (Err refusal) found → IsReadWithGraph bytes (Err refusal)
 refused bytes (refusals.Fault fault) found e h =
     let is : read bytes ≡ Err fault = sym e ∙ h in
     subst (λ (r : Result (Said × ℕ) InputFault). IsAnswer r (Err fault)) (sym is) refl
 refused bytes refusals.OutOfMemory found e h = tt
 
 -- what the state that these bytes lead to says
-pub finished_is : (reader : ReaderValue) (state : ReaderState) (bytes : List ℕ) → reader.state ≡ state → StandsFor reader bytes → finished state ≡ read bytes
-finished_is reader state bytes e stands = ap finished (sym e ∙ stands.read) ∙ text_read bytes
+pub finished_is : (reader : ReaderValue) (state : ReaderState) (bytes : List ℕ) → reader.state ≡ state
+    → StandsFor reader bytes → end_result state ≡ read bytes
+finished_is reader state bytes e stands = ap end_result (sym e ∙ stands.read) ∙ text_read bytes

@@ -18,17 +18,39 @@ with_call said actor call = record said { place = 7; calls = said.calls ++ recor
 
 -- what a line with a word, after what was said, says where it is taken
 abbrev pub Heard : Said → Word → Said → Type 0
-Heard said words.Track found = (format : ℕ) × ((format ≡ 1) ⊎ (format ≡ 2)) × (record said { place = 1; format = format } ≡ found)
-Heard said words.Nodes found = (n : ℕ) × (1 ≤ n) × (n ≤ most_nodes said.format) × (record said { place = 2; nodes = n } ≡ found)
-Heard said words.K found = (k : ℕ) × ((1 ≤ k) × (k ≤ 8) × (256 < said.nodes → 2 ≤ k)) × (record said { place = 3; k = k } ≡ found)
-Heard said words.Edge found = (edge : Edge) × IsEdge said.nodes edge × (length said.edges < 32768) × (record said { place = 4; edges = said.edges ++ edge ∷ [] } ≡ found)
-Heard said words.Sub found = (node : ℕ) × (node < said.nodes) × (subs said < 64) × (record said { place = 5; homes = said.homes ++ node ∷ [] } ≡ found)
+Heard said words.Track found = (format : ℕ) × ((format ≡ 1) ⊎ (format ≡ 2)) × (record said {
+  place = 1;
+  format = format;
+} ≡ found)
+Heard said words.Nodes found = (n : ℕ) × (1 ≤ n) × (n ≤ most_nodes said.format) × (record said { place = 2; nodes = n }
+    ≡ found)
+Heard said words.K found = (k : ℕ) × ((1 ≤ k) × (k ≤ 8) × (256 < said.nodes
+    → 2 ≤ k)) × (record said { place = 3; k = k } ≡ found)
+Heard said words.Edge found = (edge : Edge) × IsEdge said.nodes edge × (length said.edges < 32768) × (record said {
+  place = 4;
+  edges = said.edges ++ edge ∷ [];
+} ≡ found)
+Heard said words.Sub found = (node : ℕ) × (node < said.nodes) × (subs said < 64) × (record said {
+  place = 5;
+  homes =
+      said.homes ++ node ∷ [];
+} ≡ found)
 Heard said words.Callers found = (callers : ℕ) × (callers ≤ 64) × (record said { place = 6; callers = callers } ≡ found)
-Heard said words.Move found = (sub : ℕ) × (to : ℕ) × ((length said.calls < most_calls said.format) × (sub < subs said) × (to < said.nodes) × (is_off said sub ≡ false) × (to ≢ place_of said sub)) × (with_call said sub (calls.Move to) ≡ found)
-Heard said words.Find found = (caller : ℕ) × (from : ℕ) × (sub : ℕ) × ((length said.calls < most_calls said.format) × (subs said ≤ caller) × (caller < actors said) × (from < said.nodes) × (sub < subs said)) × (with_call said caller (calls.Find from sub) ≡ found)
-Heard said words.Off found = (sub : ℕ) × ((length said.calls < most_calls said.format) × (sub < subs said) × (said.format ≡ 2) × (is_off said sub ≡ false)) × (with_call said sub calls.Off ≡ found)
-Heard said words.On found = (sub : ℕ) × ((length said.calls < most_calls said.format) × (sub < subs said) × (said.format ≡ 2) × (is_off said sub ≡ true)) × (with_call said sub calls.On ≡ found)
-Heard said words.Order found = (numbers : List ℕ) × All (λ actor. actor < actors said) numbers × (record said { place = 8; order = said.order ++ numbers } ≡ found)
+Heard said words.Move found = (sub : ℕ) × (to : ℕ) × ((length said.calls < most_calls said.format) × (sub < subs said)
+    × (to < said.nodes) × (is_off said sub ≡ false) × (to ≢ place_of said sub)) × (with_call said sub (calls.Move to) ≡
+    found)
+Heard said words.Find found = (caller : ℕ) × (from : ℕ) × (sub : ℕ) × ((length said.calls < most_calls said.format) ×
+    (subs said ≤ caller) × (caller < actors said) × (from < said.nodes) × (sub < subs said)) × (with_call said caller
+    (calls.Find from sub) ≡ found)
+Heard said words.Off found = (sub : ℕ) × ((length said.calls < most_calls said.format) × (sub < subs said) ×
+    (said.format ≡ 2) × (is_off said sub ≡ false)) × (with_call said sub calls.Off ≡ found)
+Heard said words.On found = (sub : ℕ) × ((length said.calls < most_calls said.format) × (sub < subs said) ×
+    (said.format ≡ 2) × (is_off said sub ≡ true)) × (with_call said sub calls.On ≡ found)
+Heard said words.Order found = (numbers : List ℕ) × All (λ actor. actor < actors said) numbers × (record said {
+  place =
+      8;
+  order = said.order ++ numbers;
+} ≡ found)
 
 -- a row that is taken has no fault
 record Taken (row : Row) (found : Said) : Type 0 where
@@ -39,13 +61,16 @@ record Taken (row : Row) (found : Said) : Type 0 where
   nowhere : row.nowhere ≡ false
   next : row.next ≡ found
 
-taken-go : (a b c d e : Bool) (next found : Said) → verdict (Some (record { too_large = a; too_many = b; unknown = c; switched = d; nowhere = e; next = next })) ≡ Ok found → Taken (record { too_large = a; too_many = b; unknown = c; switched = d; nowhere = e; next = next }) found
+taken-go : (a b c d e : Bool) (next found : Said)
+    → verdict (Some (record { too_large = a; too_many = b; unknown = c; switched = d; nowhere = e; next = next })) ≡ Ok
+    found → Taken (record { too_large = a; too_many = b; unknown = c; switched = d; nowhere = e; next = next }) found
 taken-go true b c d e next found h = cc
 taken-go false true c d e next found h = cc
 taken-go false false true d e next found h = cc
 taken-go false false false true e next found h = cc
 taken-go false false false false true next found h = cc
-taken-go false false false false false next found h = record { large = refl; many = refl; unknown = refl; switched = refl; nowhere = refl; next = cc }
+taken-go false false false false false next found h =
+    record { large = refl; many = refl; unknown = refl; switched = refl; nowhere = refl; next = cc }
 
 taken : (row : Row) (found : Said) → verdict (Some row) ≡ Ok found → Taken row found
 taken row found h = taken-go row.too_large row.too_many row.unknown row.switched row.nowhere row.next found h
@@ -58,11 +83,13 @@ taken-some : (row : Option Row) (found : Said) → verdict row ≡ Ok found → 
 taken-some None found h = cc
 taken-some (Some row) found h = taken row found h
 
-taken-if : (none : Bool) (row : Row) (found : Said) → verdict (cond none None (Some row)) ≡ Ok found → (none ≡ false) × Taken row found
+taken-if : (none : Bool) (row : Row) (found : Said) → verdict (cond none None (Some row)) ≡ Ok found
+    → (none ≡ false) × Taken row found
 taken-if true row found h = cc
 taken-if false row found h = (refl, taken row found h)
 
-taken-then : (some : Bool) (row : Row) (found : Said) → verdict (cond some (Some row) None) ≡ Ok found → (some ≡ true) × Taken row found
+taken-then : (some : Bool) (row : Row) (found : Said) → verdict (cond some (Some row) None) ≡ Ok found
+    → (some ≡ true) × Taken row found
 taken-then true row found h = (refl, taken row found h)
 taken-then false row found h = cc
 
@@ -87,8 +114,15 @@ format-go false false n e f h = cc
 k-go : (k n : ℕ) → eqb k 0 ≡ false → (ltb 8 k || (eqb k 1 && ltb 256 n)) ≡ false → (1 ≤ k) × (k ≤ 8) × (256 < n → 2 ≤ k)
 k-go k n e f = (grind (arith, nat_tests), grind (arith, nat_tests), λ wide. grind (arith, nat_tests, wide))
 
-is-edge : (n a b w : ℕ) → eqb w 0 ≡ false → ltb 1048576 w ≡ false → (leb n a || leb n b) ≡ false → IsEdge n (record { a = a; b = b; weight = w })
-is-edge n a b w e f g = record { a_below = grind (arith, nat_tests); b_below = grind (arith, nat_tests); positive = grind (arith, nat_tests); light = grind (arith, nat_tests) }
+is-edge : (n a b w : ℕ) → eqb w 0 ≡ false → ltb 1048576 w ≡ false → (leb n a || leb n b) ≡ false
+    → IsEdge n (record { a = a; b = b; weight = w })
+is-edge n a b w e f g = record {
+  a_below = grind (arith, nat_tests);
+  b_below = grind (arith, nat_tests);
+  positive =
+      grind (arith, nat_tests);
+  light = grind (arith, nat_tests);
+}
 
 other : (x y : ℕ) → eqb x y ≡ false → y ≢ x
 other x y e = λ same. grind (arith, nat_tests, same)
@@ -100,14 +134,16 @@ not-false false e = cc
 two-go : (n : ℕ) → eqb n 2 ≡ true → n ≡ 2
 two-go n e = grind (arith, nat_tests)
 
-all-below : (n : ℕ) (numbers : List ℕ) → list_any (λ actor. leb n actor) numbers ≡ false → All (λ actor. actor < n) numbers
+all-below : (n : ℕ) (numbers : List ℕ) → list_any (λ actor. leb n actor) numbers ≡ false
+    → All (λ actor. actor < n) numbers
 all-below n [] e = All-nil (λ actor. actor < n)
 all-below n (a ∷ numbers) e =
     let both = one_of (leb n a) (list_any (λ actor. leb n actor) numbers) e in
     All-cons (λ actor. actor < n) a numbers (below n a both.0) (all-below n numbers both.1)
 
 -- what each word's line says
-pub heard : (said found : Said) (word : Word) (ns : List ℕ) → verdict (row_of said word ns) ≡ Ok found → Heard said word found
+pub heard : (said found : Said) (word : Word) (ns : List ℕ) → verdict (row_of said word ns) ≡ Ok found
+    → Heard said word found
 heard said found words.Track [] h = cc
 heard said found words.Track (format ∷ []) h =
     let t = taken-then (eqb format 1 || eqb format 2) _ found h in
@@ -127,8 +163,13 @@ heard said found words.Edge [] h = cc
 heard said found words.Edge (a ∷ []) h = cc
 heard said found words.Edge (a ∷ b ∷ []) h = cc
 heard said found words.Edge (a ∷ b ∷ w ∷ []) h =
-    let t = taken-if (eqb w 0) _ found h in
-    (record { a = a; b = b; weight = w }, is-edge said.nodes a b w t.0 t.1.large t.1.unknown, below 32768 (length said.edges) t.1.many, t.1.next)
+    let t = taken-if (eqb w 0) _ found h in (
+      record { a = a; b = b; weight = w },
+      is-edge said.nodes a b w t.0 t.1.large t.1.unknown,
+      below 32768 (length
+          said.edges) t.1.many,
+      t.1.next,
+    )
 heard said found words.Edge (a ∷ b ∷ c ∷ d ∷ ns) h = cc
 heard said found words.Sub [] h = cc
 heard said found words.Sub (node ∷ []) h =
@@ -144,8 +185,19 @@ heard said found words.Move [] h = cc
 heard said found words.Move (a ∷ []) h = cc
 heard said found words.Move (sub ∷ to ∷ []) h =
     let t = taken-some (move_row said (sub ∷ to ∷ [])) found h in
-    let unknown = one_of (leb (subs said) sub) (leb said.nodes to) t.unknown in
-    (sub, to, (below (most_calls said.format) (length said.calls) t.many, below (subs said) sub unknown.0, below said.nodes to unknown.1, t.switched, other (place_of said sub) to t.nowhere), t.next)
+    let unknown = one_of (leb (subs said) sub) (leb said.nodes to) t.unknown in (
+      sub,
+      to,
+      (
+        below (most_calls said.format) (length said.calls) t.many,
+        below (subs said) sub unknown.0,
+        below
+            said.nodes to unknown.1,
+        t.switched,
+        other (place_of said sub) to t.nowhere,
+      ),
+      t.next,
+    )
 heard said found words.Move (a ∷ b ∷ c ∷ ns) h = cc
 heard said found words.Find [] h = cc
 heard said found words.Find (a ∷ []) h = cc
@@ -154,18 +206,48 @@ heard said found words.Find (caller ∷ from ∷ sub ∷ []) h =
     let t = taken-some (find_row said (caller ∷ from ∷ sub ∷ [])) found h in
     let last = one_of _ (leb (subs said) sub) t.unknown in
     let third = one_of _ (leb said.nodes from) last.0 in
-    let second = one_of (ltb caller (subs said)) (leb (actors said) caller) third.0 in
-    (caller, from, sub, (below (most_calls said.format) (length said.calls) t.many, at_most caller (subs said) second.0, below (actors said) caller second.1, below said.nodes from third.1, below (subs said) sub last.1), t.next)
+    let second = one_of (ltb caller (subs said)) (leb (actors said) caller) third.0 in (
+      caller,
+      from,
+      sub,
+      (
+        below (most_calls said.format) (length said.calls) t.many,
+        at_most caller (subs said)
+            second.0,
+        below (actors said) caller second.1,
+        below said.nodes from third.1,
+        below (subs said) sub last.1,
+      ),
+      t.next,
+    )
 heard said found words.Find (a ∷ b ∷ c ∷ d ∷ ns) h = cc
 heard said found words.Off [] h = cc
 heard said found words.Off (sub ∷ []) h =
-    let t = taken-then (eqb said.format 2) _ found h in
-    (sub, (below (most_calls said.format) (length said.calls) t.1.many, below (subs said) sub t.1.unknown, two-go said.format t.0, t.1.switched), t.1.next)
+    let t = taken-then (eqb said.format 2) _ found h in (
+      sub,
+      (
+        below (most_calls said.format) (length said.calls) t.1.many,
+        below (subs said) sub t.1.unknown,
+        two-go
+            said.format t.0,
+        t.1.switched,
+      ),
+      t.1.next,
+    )
 heard said found words.Off (a ∷ b ∷ ns) h = cc
 heard said found words.On [] h = cc
 heard said found words.On (sub ∷ []) h =
-    let t = taken-then (eqb said.format 2) _ found h in
-    (sub, (below (most_calls said.format) (length said.calls) t.1.many, below (subs said) sub t.1.unknown, two-go said.format t.0, not-false (is_off said sub) t.1.switched), t.1.next)
+    let t = taken-then (eqb said.format 2) _ found h in (
+      sub,
+      (
+        below (most_calls said.format) (length said.calls) t.1.many,
+        below (subs said) sub t.1.unknown,
+        two-go
+            said.format t.0,
+        not-false (is_off said sub) t.1.switched,
+      ),
+      t.1.next,
+    )
 heard said found words.On (a ∷ b ∷ ns) h = cc
 heard said found words.Order ns h =
     let t = taken-if (eqb (length ns) 0) _ found h in

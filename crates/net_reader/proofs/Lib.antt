@@ -1,10 +1,11 @@
 mod Standing
+mod Scripts
+mod Running
 mod Feeding
 mod Packed
 mod Arity
 mod LineRead
 mod TextRead
-mod Scripts
 mod Ending
 mod OneInput
 mod Heard

@@ -12,10 +12,15 @@ use Rattle.net_reader.specs.Input.{Contents, IsAnswer, IsInput, read}
 one_apart : (n : ℕ) (edges : List Edge) (v w : ℕ) → IsFirstApart n edges v → IsFirstApart n edges w → v ≡ w
 one_apart n edges v w p q = elim (cases_lt v w) [
   | inl lt ↦ let reached = q.first v lt in absurd (p.apart reached.steps reached.walk)
-  | inr ge ↦ elim (cases_lt w v) [ inl lt ↦ let reached = p.first w lt in absurd (q.apart reached.steps reached.walk) | inr le ↦ omega arith ]
+  | inr ge ↦ elim (cases_lt w v) [
+    | inl lt ↦ let reached =
+        p.first w lt in absurd (q.apart reached.steps reached.walk)
+    | inr le ↦ omega arith
+  ]
 ]
 
-one_answer : (found : Result (Said × ℕ) InputFault) (one other : Result Contents InputFault) → IsAnswer found one → IsAnswer found other → one ≡ other
+one_answer : (found : Result (Said × ℕ) InputFault) (one other : Result Contents InputFault) → IsAnswer found one
+    → IsAnswer found other → one ≡ other
 one_answer (Err fault) one other p q = p ∙ sym q
 one_answer (Ok found) (Ok one) (Ok other) p q = let same : one ≡ other = p.0 ∙ sym q.0 in ap Ok same
 one_answer (Ok found) (Ok one) (Err fault) p q =
@@ -28,5 +33,6 @@ one_answer (Ok found) (Err one) (Err other) p q =
     let same : one ≡ other = p.1 ∙ ap fault node ∙ sym q.1 in
     ap Err same
 
-pub text_says_one : (bytes : List ℕ) (one other : Result Contents InputFault) → IsInput bytes one → IsInput bytes other → one ≡ other
+pub text_says_one : (bytes : List ℕ) (one other : Result Contents InputFault) → IsInput bytes one → IsInput bytes other
+    → one ≡ other
 text_says_one bytes one other p q = one_answer (read bytes) one other p q

@@ -33,7 +33,9 @@ script-at f m i lt = let none : 0 + i ≡ i = omega arith in script-from f 0 m i
 abbrev total : ℕ → ℕ → List Spoken → ℕ
 total from m calls = count_calls (map (λ actor. script_of actor calls) (numbers_from from m))
 
-script-cons : (mine : Bool) (d : Spoken) (rest : List Spoken) → length (map (λ (x : Spoken). x.call) (cond mine (d ∷ rest) rest)) ≡ cond mine 1 0 + length (map (λ (x : Spoken). x.call) rest)
+script-cons : (mine : Bool) (d : Spoken) (rest : List Spoken)
+    → length (map (λ (x : Spoken). x.call) (cond mine (d ∷ rest) rest)) ≡ cond mine 1 0 + length (map (λ (x : Spoken).
+    x.call) rest)
 script-cons true d rest = omega arith
 script-cons false d rest = omega arith
 
@@ -48,8 +50,13 @@ hits-none actor from (suc m) lt =
     let rest = hits-none actor (from + 1) m (omega arith) in
     grind (arith, nat_tests, rest)
 
-hits-go : (mine : Bool) (actor from m : ℕ) → eqb actor from ≡ mine → hits actor (from + 1) m ≤ 1 → cond mine 1 0 + hits actor (from + 1) m ≤ 1
-hits-go true actor from m e h = let less : actor < from + 1 = grind (arith, nat_tests) in omega (arith, hits-none actor (from + 1) m less)
+hits-go : (mine : Bool) (actor from m : ℕ) → eqb actor from ≡ mine → hits actor (from + 1) m ≤ 1
+    → cond mine 1 0 + hits actor (from + 1) m ≤ 1
+hits-go true actor from m e h = let less : actor < from + 1 = grind (arith, nat_tests) in omega (
+  arith,
+  hits-none actor
+      (from + 1) m less,
+)
 hits-go false actor from m e h = omega (arith, h)
 
 hits-few : (actor from m : ℕ) → hits actor from m ≤ 1
@@ -60,10 +67,16 @@ total-none : (from m : ℕ) → total from m [] ≡ 0
 total-none from zero = refl
 total-none from (suc m) = omega (arith, total-none (from + 1) m)
 
-total-cons : (from m : ℕ) (d : Spoken) (calls : List Spoken) → total from m (d ∷ calls) ≡ hits d.actor from m + total from m calls
+total-cons : (from m : ℕ) (d : Spoken) (calls : List Spoken)
+    → total from m (d ∷ calls) ≡ hits d.actor from m + total from m calls
 total-cons from zero d calls = refl
 total-cons from (suc m) d calls =
-    omega (arith, total-cons (from + 1) m d calls, script-cons (eqb d.actor from) d (filter (λ (x : Spoken). eqb x.actor from) calls))
+    omega (
+      arith,
+      total-cons (from + 1) m d calls,
+      script-cons (eqb d.actor from) d (filter (λ (x : Spoken). eqb
+          x.actor from) calls),
+    )
 
 total-few : (from m : ℕ) (calls : List Spoken) → total from m calls ≤ length calls
 total-few from m [] = omega (arith, total-none from m)
@@ -71,7 +84,8 @@ total-few from m (d ∷ calls) = omega (arith, total-cons from m d calls, hits-f
 
 -- ---- all together
 
-valid_of : (said : Said) → IsMeasured said → IsCalling said → 6 ≤ said.place → ((v : ℕ) → v < said.nodes → IsReached said.edges everywhere 0 v) → IsValid (contents_of said)
+valid_of : (said : Said) → IsMeasured said → IsCalling said → 6 ≤ said.place
+    → ((v : ℕ) → v < said.nodes → IsReached said.edges everywhere 0 v) → IsValid (contents_of said)
 valid_of said m c late connected =
     let script : ℕ → List Call = λ actor. script_of actor said.calls in
     let count = length-scripts script 0 (actors said) in
@@ -90,15 +104,18 @@ valid_of said m c late connected =
       callers = m.callers;
       scripts = count;
       courses = λ s below.
-          subst (λ (calls : List Call). IsCourse said.format said.nodes (get_or said.homes s 0) false calls) (sym (script-at script (actors said) s (omega (arith, below)))) (c.courses s below);
+          subst (λ (calls : List Call). IsCourse said.format said.nodes (get_or said.homes s 0) false calls) (sym
+          (script-at script (actors said) s (omega (arith, below)))) (c.courses s below);
       searches = λ a above below.
-          subst (λ (calls : List Call). All (IsSearch said.nodes (length said.homes)) calls) (sym (script-at script (actors said) a (omega (arith, below, count)))) (c.searches a above);
+          subst (λ (calls : List Call). All (IsSearch said.nodes (length said.homes)) calls) (sym (script-at script
+          (actors said) a (omega (arith, below, count)))) (c.searches a above);
       few_calls = omega (arith, total-few 0 (actors said) said.calls, c.few);
       order = subst (λ (n : ℕ). All (λ actor. actor < n) said.order) (sym count) c.order;
       connected = connected;
     }
 
-valid-go : (found : Result (Said × ℕ) InputFault) (bytes : List ℕ) (contents : Contents) → read bytes ≡ found → IsAnswer found (Ok contents) → IsValid contents
+valid-go : (found : Result (Said × ℕ) InputFault) (bytes : List ℕ) (contents : Contents) → read bytes ≡ found
+    → IsAnswer found (Ok contents) → IsValid contents
 valid-go (Err fault) bytes contents e h = cc
 valid-go (Ok found) bytes contents e h =
     let m = holds_of_read IsMeasured begins-measured keeps-measured bytes found e in

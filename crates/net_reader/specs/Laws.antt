@@ -6,8 +6,11 @@ use Rattle.net_reader.specs.Valid.{IsValid}
 
 -- a text says one thing: one input, or one fault
 abbrev pub TextSaysOne : Type 0
-TextSaysOne = (bytes : List ℕ) (one other : Result Contents InputFault) → IsInput bytes one → IsInput bytes other → one ≡ other
+TextSaysOne =
+    (bytes : List ℕ) (one other : Result Contents InputFault) → IsInput bytes one
+    → IsInput bytes other → one ≡ other
 
 -- each input that a text says is valid
 abbrev pub InputsAreValid : Type 0
-InputsAreValid = (bytes : List ℕ) (contents : Contents) → IsInput bytes (Ok contents) → IsValid contents
+InputsAreValid =
+    (bytes : List ℕ) (contents : Contents) → IsInput bytes (Ok contents) → IsValid contents

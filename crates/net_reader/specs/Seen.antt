@@ -1,5 +1,6 @@
 -- What the code keeps, as the steps see it.
 use Rattle.std.specs.Prelude.{◌≡◌, ℕ, ◌<◌, ◌≤◌, Bool, false, List, length, map, Option, Some, None, Result, Ok, Err, slice_index, slice_index_or}
+use Rattle.net_graph.specs.Network.{IsGraphOf, Network}
 use Rattle.net_reader.specs.declared.fault.InputCause.{InputCause}
 use Rattle.net_reader.specs.declared.fault.InputFault.{InputFault}
 use Rattle.net_reader.specs.declared.fault.ReadRefusal.{ReadRefusal}
@@ -32,12 +33,16 @@ seen_known known =
       order = known.order.items;
     }
 
--- where each subscriber is and whether it is off are kept beside its home and the calls, and no other actor moves
-pub record Stands (homes : List ℕ) (calls : List Spoken) (places : List ℕ) (off : List Bool) : Type 0 where
+-- where each subscriber is and whether it is off are kept beside its home and the calls, and no
+-- other actor moves
+pub record Stands (homes : List ℕ) (calls : List Spoken) (places : List ℕ)
+    (off : List Bool) : Type 0 where
   pub places_count : length places ≡ length homes
   pub off_count : length off ≡ length homes
-  pub place : (s : ℕ) → s < length homes → slice_index places s ≡ place_after (slice_index homes s) (script_of s calls)
-  pub is_off : (s : ℕ) → s < length homes → slice_index_or off s false ≡ off_after false (script_of s calls)
+  pub place : (s : ℕ) → s < length homes
+      → slice_index places s ≡ place_after (slice_index homes s) (script_of s calls)
+  pub is_off : (s : ℕ) → s < length homes
+      → slice_index_or off s false ≡ off_after false (script_of s calls)
   pub no_moves : (s here : ℕ) → length homes ≤ s → place_after here (script_of s calls) ≡ here
   pub no_switches : (s : ℕ) → length homes ≤ s → off_after false (script_of s calls) ≡ false
 
@@ -91,8 +96,10 @@ seen_input input =
       order = input.order.items;
     }
 
--- what the code answers is what the text says, unless memory ran out
-abbrev pub Answers : Result Input ReadRefusal → Result (Said × ℕ) InputFault → Type 0
-Answers (Ok input) read = IsAnswer read (Ok (seen_input input))
+-- what the code answers is what the text says, with the graph of the network, unless memory ran out
+abbrev pub Answers : Result (Input × Network) ReadRefusal → Result (Said × ℕ) InputFault → Type 0
+Answers (Ok found) read =
+    IsAnswer read (Ok (seen_input found.0))
+    × IsGraphOf found.0.nodes found.0.edges.items found.1
 Answers (Err (refusals.Fault fault)) read = IsAnswer read (Err fault)
 Answers (Err refusals.OutOfMemory) read = Unit {0}

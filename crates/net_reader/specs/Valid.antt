@@ -7,8 +7,9 @@ use Rattle.net_reader.specs.declared.said.Call.TheVariants as calls
 use Rattle.net_reader.specs.Input.{Contents}
 use Rattle.net_reader.specs.Table.{most_nodes, most_calls}
 
--- the script of a subscriber that is here, and off or not, among n nodes: moves go to another node of the network and are
--- made while it is on; switches come in the second format alone, each turns it round, and it looks for nobody
+-- the script of a subscriber that is here, and off or not, among n nodes: moves go to another node
+-- of the network and are made while it is on; switches come in the second format alone, each turns
+-- it round, and it looks for nobody
 abbrev pub IsCourse : ℕ → ℕ → ℕ → Bool → List Call → Type 0
 IsCourse format n here off [] = Unit {0}
 IsCourse format n here off (calls.Move to ∷ script) =
@@ -31,8 +32,9 @@ abbrev pub count_calls : List (List Call) → ℕ
 count_calls [] = 0
 count_calls (script ∷ scripts) = length script + count_calls scripts
 
--- the measures are within the format's limits, and what names a node, a subscriber or an actor names one that there is;
--- each actor has one script, subscribers move and switch alone, callers find alone, and the network is connected
+-- the measures are within the format's limits, and what names a node, a subscriber or an actor
+-- names one that there is; each actor has one script, subscribers move and switch alone, callers
+-- find alone, and the network is connected
 pub record IsValid (input : Contents) : Type 0 where
   pub format : (input.format ≡ 1) ⊎ (input.format ≡ 2)
   pub some : 1 ≤ input.nodes
@@ -48,7 +50,8 @@ pub record IsValid (input : Contents) : Type 0 where
   pub callers : input.callers ≤ 64
   pub scripts : length input.scripts ≡ length input.homes + input.callers
   pub courses : (s : ℕ) → s < length input.homes
-      → IsCourse input.format input.nodes (slice_index input.homes s) false (slice_index_or input.scripts s [])
+      → IsCourse input.format input.nodes (slice_index input.homes s) false
+      (slice_index_or input.scripts s [])
   pub searches : (a : ℕ) → length input.homes ≤ a → a < length input.scripts
       → All (IsSearch input.nodes (length input.homes)) (slice_index_or input.scripts a [])
   pub few_calls : count_calls input.scripts ≤ most_calls input.format

@@ -1,5 +1,5 @@
 //! What an input says.
-ghost use Rattle.std.specs.Prelude.{◌≡◌, ◌≤◌, ◌<◌, ◌^◌, map, IfOk, Ok};
+ghost use Rattle.std.specs.Prelude.{◌≡◌, [], map, IfOk, Ok};
 ghost use Rattle.net_reader.specs.Said.{script_of};
 ghost use Rattle.net_reader.specs.Input.{numbers_from};
 ghost use Rattle.net_reader.specs.Seen.{seen_known, IsKept, Answers};
@@ -24,41 +24,44 @@ pub struct Input {
     pub order: Vec<u32>,
 }
 
-// The calls of one actor.
-fn script_of(alloc: Global, actor: u32, calls: &[Spoken]) -> Result<Vec<Call>, AllocError>
-    ensures { IfOk result (λ script. script.items ≡ script_of actor calls.now) }
+// So many scripts without a call.
+fn empty_scripts(alloc: Global, actors: u32) -> Result<Vec<Vec<Call>>, AllocError>
+    ensures { IfOk result (λ scripts. map (λ script. script.items) scripts.items
+        ≡ map (λ actor. script_of actor []) (numbers_from 0 actors)) }
 {
-    let mut script = Vec::new(alloc);
-    for spoken in calls {
-        if spoken.actor == actor {
-            script.push(spoken.call)?;
-        }
-    }
-    Ok(script)
-}
-
-fn scripts_of(alloc: Global, actors: u32, calls: &[Spoken]) -> Result<Vec<Vec<Call>>, AllocError>
-    ensures { IfOk result (λ scripts. map (λ script. script.items) scripts.items ≡ map (λ actor. script_of actor calls.now) (numbers_from 0 actors)) }
-{
-    let mut scripts = Vec::new(alloc);
-    for actor in 0..actors {
-        let script = script_of(alloc, actor, calls)?;
-        scripts.push(script)?;
+    let mut scripts = Vec::with_capacity(alloc, actors as usize)?;
+    for _ in 0..actors {
+        scripts.push(Vec::new(alloc))?;
     }
     Ok(scripts)
 }
 
-// The input that was read, where each node has a walk from node 0.
-pub(crate) fn answer(alloc: Global, known: Known, lines: u32) -> Result<Input, ReadRefusal>
+// The script of each actor: its calls, in the order of the text.
+fn scripts_of(alloc: Global, actors: u32, calls: &[Spoken]) -> Result<Vec<Vec<Call>>, AllocError>
+    ensures { IfOk result (λ scripts. map (λ script. script.items) scripts.items
+        ≡ map (λ actor. script_of actor calls.now) (numbers_from 0 actors)) }
+{
+    let mut scripts = empty_scripts(alloc, actors)?;
+    for spoken in calls {
+        let actor = spoken.actor as usize;
+        if actor < scripts.len() {
+            scripts[actor].push(spoken.call)?;
+        }
+    }
+    Ok(scripts)
+}
+
+// The input that was read and the graph of its network, where each node has a walk from node 0.
+pub(crate) fn answer(alloc: Global, known: Known, lines: u32) -> Result<(Input, Graph), ReadRefusal>
     requires kept { IsKept known }
     requires sound { IsSound (seen_known known) }
     ensures { Answers result (Ok (seen_known known, lines)) }
 {
     match Graph::new(alloc, known.nodes, &known.edges) {
-        Ok(_) => {
+        Ok(graph) => {
             let actors = known.homes.len() as u32 + known.callers;
             let scripts = scripts_of(alloc, actors, &known.calls)?;
-            Ok(Input {
+            let input = Input {
                 format: known.format,
                 nodes: known.nodes,
                 k: known.k,
@@ -67,7 +70,8 @@ pub(crate) fn answer(alloc: Global, known: Known, lines: u32) -> Result<Input, R
                 callers: known.callers,
                 scripts,
                 order: known.order,
-            })
+            };
+            Ok((input, graph))
         }
         Err(GraphFault::Apart { node }) => Err(ReadRefusal::Fault(InputFault {
             line: lines,

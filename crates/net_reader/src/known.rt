@@ -1,7 +1,7 @@
 //! What the lines have said so far.
 ghost use Rattle.std.specs.Prelude.{◌≡◌, ◌≤◌, ◌^◌, ◌++◌, length, nat_le, not, Some, IfOk, IsTrue};
 ghost use Rattle.std.specs.List.{list_any};
-ghost use Rattle.net_reader.specs.Table.{spoken, row_of, verdict, track_row, nodes_row, k_row, edge_row, sub_row, callers_row, move_row, find_row, off_row, on_row, order_row, most_calls, most_nodes};
+ghost use Rattle.net_reader.specs.Table.{judge_word, row_of, verdict, track_row, nodes_row, k_row, edge_row, sub_row, callers_row, move_row, find_row, off_row, on_row, order_row, most_calls, most_nodes};
 ghost use Rattle.net_reader.specs.Said.{nothing};
 ghost use Rattle.net_reader.specs.Steps.{word_in};
 ghost use Rattle.net_reader.specs.Seen.{seen_known, IsKept, Judges};
@@ -52,8 +52,10 @@ fn most_calls(format: u32) -> usize
 // Adds these numbers where all of them are below the limit, and says whether they are.
 fn push_known(order: &mut Vec<u32>, limit: u64, numbers: &[u64]) -> Result<bool, AllocError>
     requires { limit ≤ 2 ^ 32 }
-    ensures known { IfOk result (λ known. known ≡ not (list_any (λ number. nat_le limit number) numbers.now)) }
-    ensures taken { IfOk result (λ known. IsTrue known → order.new.items ≡ order.old.items ++ numbers.now) }
+    ensures known { IfOk result (λ known. known
+        ≡ not (list_any (λ number. nat_le limit number) numbers.now)) }
+    ensures taken { IfOk result (λ known. IsTrue known → order.new.items
+        ≡ order.old.items ++ numbers.now) }
 {
     for &number in numbers {
         if number >= limit {
@@ -354,7 +356,8 @@ impl Known {
     /// What a line with this word and these numbers says.
     pub(crate) fn hear(&mut self, packed: u64, numbers: &[u64]) -> Result<(), Stop>
         requires { IsKept self.old }
-        ensures { Judges result self.new (spoken (seen_known self.old) (word_in packed) (Some numbers.now)) }
+        ensures { Judges result self.new (judge_word (seen_known self.old) (word_in packed) (Some
+            numbers.now)) }
     {
         let Some(word) = word_in(packed) else {
             return Err(Stop::Fault(InputCause::Form));

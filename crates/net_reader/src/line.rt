@@ -2,12 +2,17 @@
 ghost use Rattle.std.specs.Prelude.{◌≡◌, ◌≤◌, IfOk, OnOk, true, length, take, fold};
 ghost use Rattle.std.specs.List.{list_all};
 ghost use Rattle.net_reader.specs.Lines.{is_blank};
-ghost use Rattle.net_reader.specs.Steps.{LineState, pack, more, more_digits, close, put, fresh, is_plain};
+ghost use Rattle.net_reader.specs.declared.line.Open.TheVariants.{Number, Word};
+ghost use Rattle.net_reader.specs.Steps.{IsRun, LineState, pack, more, more_digits, close, put, fresh, is_inside, is_plain};
 ghost use Rattle.net_reader.specs.Seen.{seen_line};
 
+use memchr::memchr2;
 use std::alloc::{AllocError, Global};
 
 const MAX_DIGITS: u32 = 18;
+
+// A number of fewer than 18 digits is below this.
+const MOST_VALUE: u64 = 100_000_000_000_000_000;
 
 const MAX_NUMBERS: usize = 65;
 
@@ -57,7 +62,7 @@ fn pack(packed: u64, byte: u8) -> u64
 fn more_digits(count: u32, value: u64, byte: u8) -> Open
     ensures { result ≡ more_digits count value byte }
 {
-    if byte.is_ascii_digit() && count < MAX_DIGITS && value < 100_000_000_000_000_000 {
+    if byte.is_ascii_digit() && count < MAX_DIGITS && value < MOST_VALUE {
         Open::Number {
             count: count + 1,
             value: 10 * value + u64::from(byte - b'0'),
@@ -91,19 +96,63 @@ fn more(field: Open, byte: u8) -> Open
     }
 }
 
-// The bytes at the front that neither end a field nor a line, and what they make of the field at the end.
-pub(crate) fn plain_run(start: Open, piece: &[u8]) -> (Open, usize)
+// Whether the byte doesn't end a line.
+fn is_inside(byte: u8) -> bool
+    ensures { result ≡ is_inside byte }
+{
+    byte != b'\n' && byte != b'\r'
+}
+
+// The digits at the front that go on with a number: how many digits it has then, its value, and how
+// many more they are.
+#[tactic(auto, unfolding(crate::specs::Steps::more, crate::specs::Steps::more_digits))]
+fn digit_run(count: u32, value: u64, piece: &[u8]) -> (u32, u64, usize)
+    ensures within { result.2 ≤ length piece.now }
+    ensures plain { list_all is_plain (take result.2 piece.now) ≡ true }
+    ensures read { Number result.0 result.1
+        ≡ fold more (Number count value) (take result.2 piece.now) }
+{
+    let mut digits = count;
+    let mut number = value;
+    let mut taken = 0;
+    'digits: while taken < piece.len()
+        && piece[taken].is_ascii_digit()
+        && digits < MAX_DIGITS
+        && number < MOST_VALUE
+    {
+        number = 10 * number + u64::from(piece[taken] - b'0');
+        digits += 1;
+        taken += 1;
+    }
+    (digits, number, taken)
+}
+
+// The bytes at the front that go on with a word: what it is packed into then, and how many more
+// they are.
+#[tactic(auto, unfolding(crate::specs::Steps::more))]
+fn word_run(packed: u64, piece: &[u8]) -> (u64, usize)
     ensures within { result.1 ≤ length piece.now }
     ensures plain { list_all is_plain (take result.1 piece.now) ≡ true }
-    ensures read { result.0 ≡ fold more start (take result.1 piece.now) }
+    ensures read { Word result.0 ≡ fold more (Word packed) (take result.1 piece.now) }
 {
-    let mut field = start;
-    let mut count = 0;
-    'bytes: while count < piece.len() && piece[count] > b' ' {
-        field = more(field, piece[count]);
-        count += 1;
+    let mut word = packed;
+    let mut taken = 0;
+    'letters: while taken < piece.len() && piece[taken] > b' ' {
+        word = pack(word, piece[taken]);
+        taken += 1;
     }
-    (field, count)
+    (word, taken)
+}
+
+// How many bytes at the front don't end the line.
+fn rest_of_line(piece: &[u8]) -> usize
+    ensures within { result ≤ length piece.now }
+    ensures inside { list_all is_inside (take result piece.now) ≡ true }
+{
+    match memchr2(b'\n', b'\r', piece) {
+        Some(count) => count,
+        None => piece.len(),
+    }
 }
 
 impl Line {
@@ -118,6 +167,7 @@ impl Line {
     }
 
     // Ends the field at the end.
+    #[inline(always)]
     #[tactic(auto, unfolding(crate::specs::Steps::close_as))]
     pub(crate) fn close(&mut self) -> Result<(), AllocError>
         ensures { OnOk result (seen_line self.new ≡ close (seen_line self.old)) }
@@ -139,6 +189,7 @@ impl Line {
     }
 
     // One byte more.
+    #[inline(always)]
     #[tactic(auto, unfolding(crate::specs::Steps::put))]
     pub(crate) fn put(&mut self, byte: u8) -> Result<(), AllocError>
         ensures { OnOk result (seen_line self.new ≡ put (seen_line self.old) byte) }
@@ -149,6 +200,59 @@ impl Line {
             self.field = more(self.field, byte);
             Ok(())
         }
+    }
+
+    // What the field at the end is behind the bytes at the front that only go on with it, and what
+    // stands behind them.
+    fn go_on<'a>(&self, piece: &'a [u8]) -> (Open, &'a [u8])
+        ensures { IsRun (seen_line self.now) (record (seen_line self.now) { open_field = result.0 })
+            piece.now result.1.now }
+    {
+        let (field, taken) = match self.field {
+            Open::Number { count, value } => {
+                let (count, value, taken) = digit_run(count, value, piece);
+                (Open::Number { count, value }, taken)
+            }
+            Open::Word { packed } => {
+                let (packed, taken) = word_run(packed, piece);
+                (Open::Word { packed }, taken)
+            }
+            Open::Comment => (Open::Comment, rest_of_line(piece)),
+            Open::Wrong => (Open::Wrong, rest_of_line(piece)),
+            field => (field, 0),
+        };
+        (field, piece.split_at(taken).1)
+    }
+
+    // Reads the bytes at the front that don't end the line, and gives those behind.
+    pub(crate) fn run<'a>(&mut self, piece: &'a [u8]) -> Result<&'a [u8], AllocError>
+        ensures { IfOk result (λ rest. IsRun (seen_line self.old) (seen_line self.new) piece.now
+            rest.now) }
+    {
+        let mut rest = piece;
+        'bytes: while let [byte, after @ ..] = rest {
+            if !is_inside(*byte) {
+                break;
+            }
+            rest = self.read(*byte, after)?;
+        }
+        Ok(rest)
+    }
+
+    // Reads a byte that doesn't end the line and those that only go on with its field, and gives
+    // those behind.
+    #[inline(always)]
+    fn read<'a>(&mut self, byte: u8, after: &'a [u8]) -> Result<&'a [u8], AllocError>
+        ensures { IfOk result (λ rest. IsRun (put (seen_line self.old) byte) (seen_line self.new)
+            after.now rest.now) }
+    {
+        self.put(byte)?;
+        if is_blank(byte) {
+            return Ok(after);
+        }
+        let (field, behind) = self.go_on(after);
+        self.field = field;
+        Ok(behind)
     }
 
     pub(crate) fn clear(&mut self)

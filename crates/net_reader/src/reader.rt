@@ -1,20 +1,21 @@
 //! A reader that takes an input piece by piece.
 ghost use Rattle.std.specs.Prelude.{◌≡◌, ◌≤◌, ◌++◌, ℕ, List, [], length, IfOk, OnOk, IsErr, Err, true};
 ghost use Rattle.net_reader.specs.declared.fault.ReadRefusal.TheVariants.{OutOfMemory};
-ghost use Rattle.net_reader.specs.Reading.{HasRoom, IsRead, StandsFor, most_bytes};
+ghost use Rattle.net_reader.specs.Reading.{HasRoom, IsRead, IsReadWithGraph, StandsFor, most_bytes};
 
 use crate::fault::ReadRefusal;
 use crate::input::{Input, answer};
 use crate::scan::Scan;
+use net_graph::Graph;
 use std::alloc::{AllocError, Global};
 use std::marker::Model;
 
 /// How many bytes an input may have.
 pub const MAX_BYTES: usize = 4_194_304;
 
-/// A reader of an input. It stands for the bytes that were fed to it, whatever pieces they came in, and keeps what
-/// their lines say and none of the bytes: a line of any length costs no memory. After want of memory it has failed, and
-/// stands for no bytes.
+/// A reader of an input. It stands for the bytes that were fed to it, whatever pieces they came in,
+/// and keeps what their lines say and none of the bytes: a line of any length costs no memory.
+/// After want of memory it has failed, and stands for no bytes.
 #[derive(Debug, Drop)]
 pub struct Reader {
     failed: bool,
@@ -46,7 +47,8 @@ impl Reader {
     /// Reads one piece more. Where memory runs out the reader has failed from then on.
     pub fn feed(&mut self, piece: &[u8]) -> Result<(), AllocError>
         requires { HasRoom self.old (length piece.now) }
-        ensures fed { OnOk result ((bytes : List ℕ) → StandsFor self.old bytes → StandsFor self.new (bytes ++ piece.now)) }
+        ensures fed { OnOk result ((bytes : List ℕ) → StandsFor self.old bytes
+            → StandsFor self.new (bytes ++ piece.now)) }
         ensures failed { IsErr result → self.new.failed ≡ true }
         ensures still { self.old.failed ≡ true → (self.new.failed ≡ true) × IsErr result }
     {
@@ -61,6 +63,18 @@ impl Reader {
     /// The input that the bytes say that the reader stands for, or their first fault.
     pub fn end(self, alloc: Global) -> Result<Input, ReadRefusal>
         ensures input { (bytes : List ℕ) → StandsFor self bytes → IsRead bytes result }
+        ensures failed { self.failed ≡ true → result ≡ Err OutOfMemory }
+    {
+        match self.end_with_graph(alloc) {
+            Ok((input, _)) => Ok(input),
+            Err(refusal) => Err(refusal),
+        }
+    }
+
+    /// The same, and the graph of the input's network, which is made to see that each node has a
+    /// walk from node 0.
+    pub fn end_with_graph(self, alloc: Global) -> Result<(Input, Graph), ReadRefusal>
+        ensures input { (bytes : List ℕ) → StandsFor self bytes → IsReadWithGraph bytes result }
         ensures failed { self.failed ≡ true → result ≡ Err OutOfMemory }
     {
         if self.failed {

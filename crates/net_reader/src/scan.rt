@@ -1,17 +1,19 @@
-//! What is read of an input so far, byte by byte: it keeps what the lines said, and no byte of them.
-ghost use Rattle.std.specs.Prelude.{◌≡◌, ◌<◌, ◌≤◌, ◌+◌, ◌^◌, length, IfOk, OnOk, None, nat_lt};
-ghost use Rattle.net_reader.specs.Steps.{end_line, line_ended, released, byte_read, next, fed, finished, fresh_reader, number_of_place};
+//! What is read of an input so far, byte by byte: it keeps what the lines said, and no byte of
+//! them.
+ghost use Rattle.std.specs.Prelude.{◌≡◌, ◌<◌, ◌≤◌, ◌+◌, ◌^◌, length, IfOk, OnOk, None, nat_lt, true, if◌then◌else◌};
+ghost use Rattle.net_reader.specs.Steps.{end_line, past_line, release, byte_read, next, after_bytes, end_result, fresh_reader, number_of_place};
 ghost use Rattle.net_reader.specs.Seen.{seen_line, seen_known, seen_scan, IsKept, Finishes, IsWell, Judges};
 
 use crate::fault::{InputCause, InputFault, ReadRefusal};
 use crate::known::Known;
-use crate::line::{Line, Open, plain_run};
+use crate::line::{Line, Open};
 use crate::stop::Stop;
 use crate::word::Place;
 use std::alloc::{AllocError, Global};
 
-// What was read so far: what the whole lines said or their first fault, how many lines have begun, whether one hasn't
-// ended, whether that one ends with a carriage return, and what it is without it.
+// What was read so far: what the whole lines said or their first fault, how many lines have begun,
+// whether one hasn't ended, whether that one ends with a carriage return, and what it is without
+// it.
 #[derive(Debug, Drop)]
 pub(crate) struct Scan {
     pub(crate) fault: Option<InputFault>,
@@ -23,9 +25,9 @@ pub(crate) struct Scan {
 }
 
 // The line with the carriage return that was held back.
-#[tactic(auto, unfolding(crate::specs::Steps::released))]
+#[tactic(auto, unfolding(crate::specs::Steps::release))]
 fn release(held: bool, line: &mut Line) -> Result<(), AllocError>
-    ensures { OnOk result (seen_line line.new ≡ released held (seen_line line.old)) }
+    ensures { OnOk result (seen_line line.new ≡ release held (seen_line line.old)) }
 {
     if held { line.put(b'\r') } else { Ok(()) }
 }
@@ -72,11 +74,12 @@ impl Scan {
     }
 
     // The end of a line.
-    #[tactic(auto, unfolding(crate::specs::Steps::line_ended))]
+    #[tactic(auto, unfolding(crate::specs::Steps::past_line))]
     fn end_of_line(&mut self) -> Result<(), AllocError>
         requires going { self.old.fault ≡ None }
         requires well { IsWell self.old.fault self.old.known }
-        ensures read { OnOk result (seen_scan self.new ≡ line_ended (seen_scan self.old) (seen_known self.old.known)) }
+        ensures read { OnOk result (seen_scan self.new
+            ≡ past_line (seen_scan self.old) (seen_known self.old.known)) }
         ensures well { OnOk result (IsWell self.new.fault self.new.known) }
     {
         self.begun = false;
@@ -95,18 +98,30 @@ impl Scan {
         Ok(())
     }
 
-    // One byte more.
-    fn byte(&mut self, byte: u8) -> Result<(), AllocError>
-        requires going { self.old.fault ≡ None }
-        requires well { IsWell self.old.fault self.old.known }
-        requires room { self.old.lines + 1 < 2 ^ 32 }
-        ensures read { OnOk result (seen_scan self.new ≡ byte_read (seen_scan self.old) (seen_known self.old.known) byte) }
-        ensures well { OnOk result (IsWell self.new.fault self.new.known) }
+    // One line more has begun where none had.
+    fn begin(&mut self)
+        requires { self.old.lines + 1 < 2 ^ 32 }
+        ensures { self.new ≡ record self.old {
+          lines = if self.old.begun then self.old.lines else self.old.lines + 1;
+          begun = true;
+        } }
     {
         if !self.begun {
             self.lines += 1;
             self.begun = true;
         }
+    }
+
+    // One byte more.
+    fn byte(&mut self, byte: u8) -> Result<(), AllocError>
+        requires going { self.old.fault ≡ None }
+        requires well { IsWell self.old.fault self.old.known }
+        requires room { self.old.lines + 1 < 2 ^ 32 }
+        ensures read { OnOk result (seen_scan self.new
+            ≡ byte_read (seen_scan self.old) (seen_known self.old.known) byte) }
+        ensures well { OnOk result (IsWell self.new.fault self.new.known) }
+    {
+        self.begin();
         if byte == b'\n' {
             return self.end_of_line();
         }
@@ -134,32 +149,39 @@ impl Scan {
         self.byte(byte)
     }
 
-    // Reads the bytes at the front that only go on with a field, and answers those behind.
-    fn skip<'a>(&mut self, piece: &'a [u8]) -> &'a [u8]
-        requires { IsWell self.old.fault self.old.known }
-        ensures read { fed (seen_scan self.new) result.now ≡ fed (seen_scan self.old) piece.now }
-        ensures shorter { length result.now ≤ length piece.now }
-        ensures well { IsWell self.new.fault self.new.known }
-        ensures lines { self.new.lines ≡ self.old.lines }
+    // Reads the bytes at the front that don't end a line, and gives those behind.
+    fn skip<'a>(&mut self, piece: &'a [u8]) -> Result<&'a [u8], AllocError>
+        requires well { IsWell self.old.fault self.old.known }
+        requires room { self.old.lines + 1 < 2 ^ 32 }
+        ensures read { IfOk result (λ rest. after_bytes (seen_scan self.new) rest.now
+            ≡ after_bytes (seen_scan self.old) piece.now) }
+        ensures shorter { IfOk result (λ rest. length rest.now ≤ length piece.now) }
+        ensures lines { IfOk result (λ rest. self.new.lines + length rest.now ≤ self.old.lines +
+            length piece.now) }
+        ensures well { IfOk result (λ rest. IsWell self.new.fault self.new.known) }
     {
-        if self.fault.is_some() || !self.begun || self.held {
-            return piece;
+        if self.fault.is_some() || self.held {
+            return Ok(piece);
         }
-        let (field, count) = plain_run(self.line.field, piece);
-        self.line.field = field;
-        piece.split_at(count).1
+        let rest = self.line.run(piece)?;
+        if rest.len() == piece.len() {
+            return Ok(rest);
+        }
+        self.begin();
+        Ok(rest)
     }
 
     // So many bytes more.
     pub(crate) fn read(&mut self, piece: &[u8]) -> Result<(), AllocError>
         requires well { IsWell self.old.fault self.old.known }
         requires room { self.old.lines + length piece.now < 2 ^ 32 }
-        ensures read { OnOk result (seen_scan self.new ≡ fed (seen_scan self.old) piece.now) }
+        ensures read { OnOk result
+            (seen_scan self.new ≡ after_bytes (seen_scan self.old) piece.now) }
         ensures well { OnOk result (IsWell self.new.fault self.new.known) }
     {
         let mut rest = piece;
-        'bytes: while !rest.is_empty() {
-            rest = self.skip(rest);
+        'bytes: while !rest.is_empty() && self.fault.is_none() {
+            rest = self.skip(rest)?;
             if let [byte, after @ ..] = rest {
                 self.step(*byte)?;
                 rest = after;
@@ -169,10 +191,10 @@ impl Scan {
     }
 
     // What the text said that ends here.
-    #[tactic(auto, unfolding(crate::specs::Steps::finished))]
+    #[tactic(auto, unfolding(crate::specs::Steps::end_result))]
     pub(crate) fn finish(mut self) -> Result<(Known, u32), ReadRefusal>
         requires well { IsWell self.fault self.known }
-        ensures read { Finishes result (finished (seen_scan self)) }
+        ensures read { Finishes result (end_result (seen_scan self)) }
     {
         if self.fault.is_none() && self.begun {
             self.end_of_line()?;

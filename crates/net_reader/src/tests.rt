@@ -65,7 +65,8 @@ fn read_in_pieces(alloc: Global, text: &[u8], most: usize) -> Result<Input, Fail
 fn two_scripts(rt: HostRuntime) -> Result<(), Fail> {
     let alloc = rt.alloc();
     let text =
-        b"track 1\r\n# a comment\n\nnodes 2\nk 2\n  edge 0\t1 005 \nsub 1\ncallers 1\nmove 0 0\nfind 1 0 0\nmove 0 1\norder 0 1\norder 1";
+        b"track 1\r\n# a comment\n\nnodes 2\nk 2\n  edge 0\t1 005 \nsub 1\ncallers 1\nmove 0 0\n\
+            find 1 0 0\nmove 0 1\norder 0 1\norder 1";
     for most in [1, 7, 64, 1_000] {
         let input = read_in_pieces(alloc, text, most)?;
         let measures = (input.format, input.nodes, input.k, input.callers);

@@ -1,3 +1,3 @@
-mod ManyLines
-mod Members
+mod Digits
+mod Parts
 mod Pieces

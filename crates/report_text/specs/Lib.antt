@@ -1,4 +1,3 @@
-pub mod Texts
 pub mod PlanText
 pub mod ReportText
 pub mod Written

@@ -1,5 +1,5 @@
--- The text of a report: a line for each call, the actors of the tickets on lines of 64, and the number of visits; and the line
--- that refuses an input. Computed: `example_lines`.
+-- The text of a report: a line for each call, the actors of the tickets on lines of 64, and the
+-- number of visits; and the line that refuses an input. Computed: `example_lines`.
 use Rattle.std.specs.Prelude.{ℕ, zero, suc, Bool, List, [], ◌∷◌, ◌++◌, map, length, take, drop, Option, Some, None, if◌then◌else◌, codes}
 use Rattle.std.specs.List.{concat}
 use Rattle.directory.specs.declared.answers.Done.{Done}
@@ -10,7 +10,7 @@ use Rattle.directory.specs.Outcomes.{Outcome}
 use Rattle.net_reader.specs.declared.fault.InputCause.{InputCause}
 use Rattle.net_reader.specs.declared.fault.InputCause.TheVariants as causes
 use Rattle.net_reader.specs.declared.fault.InputFault.{InputFault}
-use Rattle.report_text.specs.Texts.{◌then◌, field, fields}
+use Rattle.outside.specs.Texts.{◌then◌, field, fields}
 
 -- the level of a find that climbed, or a dash
 abbrev pub level_field : Option ℕ → List ℕ

@@ -1,12 +1,20 @@
 //! A line that is written piece by piece into memory that was taken before.
-ghost use Rattle.std.specs.Prelude.{◌≡◌, ◌+◌, ◌*◌, ◌≤◌, ◌++◌, List, ℕ, [], length, IfOk};
-ghost use Rattle.report_text.specs.Texts.{field, fields};
+ghost use Rattle.std.specs.Prelude.{◌≡◌, ◌+◌, ◌*◌, ◌<◌, ◌≤◌, ◌++◌, List, ℕ, [], length, IfOk};
+ghost use Rattle.outside.specs.Texts.{field, fields};
 
 use itoa::Buffer;
 use std::alloc::{AllocError, Global};
 use std::marker::Model;
 
 const ROOM: usize = 4_096;
+
+// The digit of a number below ten.
+fn digit(number: u64) -> u8
+    requires { number < 10 }
+    ensures { result ≡ 48 + number }
+{
+    b'0' + number as u8
+}
 
 // A line that isn't at its end, in room for 4,096 bytes.
 #[derive(Debug, Drop)]
@@ -58,8 +66,42 @@ impl Line {
         }
     }
 
+    // Bytes behind what stands there.
+    fn bytes_more(&mut self, bytes: &[u8])
+        requires { length self.old + length bytes.now ≤ 4096 }
+        ensures text { self.new ≡ self.old ++ bytes.now }
+        ensures long { length self.new ≡ length self.old + length bytes.now }
+    {
+        match self.bytes.extend_from_slice(bytes) {
+            Ok(()) => {}
+            Err(_) => unreachable!(),
+        }
+    }
+
     // A blank and a number.
     pub(crate) fn number(&mut self, number: u64)
+        requires { length self.old + 41 ≤ 4096 }
+        ensures text { self.new ≡ self.old ++ field number }
+        ensures long { length self.new ≤ length self.old + 41 }
+    {
+        if number < 10 {
+            self.bytes_more(&[b' ', digit(number)]);
+        } else if number < 100 {
+            self.bytes_more(&[b' ', digit(number / 10), digit(number % 10)]);
+        } else if number < 1_000 {
+            self.bytes_more(&[
+                b' ',
+                digit(number / 10 / 10),
+                digit(number / 10 % 10),
+                digit(number % 10),
+            ]);
+        } else {
+            self.long_number(number);
+        }
+    }
+
+    // A blank and a number of any length.
+    fn long_number(&mut self, number: u64)
         requires { length self.old + 41 ≤ 4096 }
         ensures text { self.new ≡ self.old ++ field number }
         ensures long { length self.new ≤ length self.old + 41 }

@@ -1,114 +1,258 @@
-// The text of a plan.
-ghost use Rattle.std.specs.Prelude.{◌≡◌, ◌<◌, ◌++◌, IfOk, OnOk, string_bytes};
-ghost use Rattle.region_plan.specs.Plan.{level_at, cluster_at, nodes_of, levels_of, clusters_of};
+//! The text of a plan, part by part.
+ghost use Rattle.std.specs.Prelude.{◌≡◌, ◌<◌, ◌≤◌, ◌+◌, ◌-◌, ◌*◌, ◌++◌, [], length, take, drop, true, false, IfOk};
+ghost use Rattle.region_plan.specs.Plan.{level_at, cluster_at, members_of, nodes_of, levels_of, clusters_of};
 ghost use Rattle.region_plan.specs.Kept.{IsKept};
-ghost use Rattle.report_text.specs.Texts.{fields};
-ghost use Rattle.report_text.specs.PlanText.{ascending_members, cluster_line, clusters_text, homes_line, level_text, levels_text, plan_text_of};
+ghost use Rattle.outside.specs.Texts.{fields};
+ghost use Rattle.report_text.specs.PlanText.{cluster_head, level_line, plan_line, plan_text_of};
+ghost use Rattle.report_text.specs.Written.{IsPart, IsStage, plan_left};
+ghost use Rattle.report_text.specs.declared.plan.Stage.TheVariants.{Measures, Level, Cluster, Members, Homes};
 
+use crate::line::Line;
 use region_plan::Plan;
 use std::alloc::{AllocError, Global};
+use std::marker::Model;
 
-// The members of a cluster, ascending.
-fn push_members(text: &mut String, plan: &Plan, level: u32, cluster: u32) -> Result<(), AllocError>
-    requires level { level < levels_of plan.now }
-    requires cluster { cluster < clusters_of plan.now level }
-    ensures { OnOk result (string_bytes text.new ≡ string_bytes text.old ++ fields (ascending_members (nodes_of plan.now) (cluster_at plan.now level cluster))) }
-{
-    for node in 0..plan.nodes() {
-        if plan.member(level, cluster, node) {
-            write!(text, " {node}")?;
-        }
-    }
-    Ok(())
+// A part has no more numbers of a list than this.
+const MOST_IN_A_PART: usize = 64;
+
+/// What the next part begins with.
+#[derive(Clone, Copy, Debug)]
+enum Stage {
+    Measures,
+    Level {
+        level: u32,
+    },
+    Cluster {
+        level: u32,
+        cluster: u32,
+    },
+    Members {
+        level: u32,
+        cluster: u32,
+        from: usize,
+    },
+    Homes {
+        level: u32,
+        from: u32,
+    },
+    Done,
 }
 
-// The line of a cluster.
-fn push_cluster(text: &mut String, plan: &Plan, level: u32, cluster: u32) -> Result<(), AllocError>
-    requires level { level < levels_of plan.now }
-    requires cluster { cluster < clusters_of plan.now level }
-    ensures { OnOk result (string_bytes text.new ≡ string_bytes text.old ++ cluster_line (nodes_of plan.now) cluster (cluster_at plan.now level cluster)) }
+// The line that measures the plan.
+fn write_measures(line: &mut Line, plan: &Plan) -> Stage
+    requires { line.old ≡ [] }
+    ensures { IsPart plan.now Measures result line.new }
 {
-    let phase = plan.phase_of(level, cluster);
-    let leader = plan.leader(level, cluster);
-    let depth = plan.depth(level, cluster);
-    write!(
-        text,
-        "cluster {cluster} phase {phase} leader {leader} depth {depth} members"
-    )?;
-    push_members(text, plan, level, cluster)?;
-    text.push_str("\n")?;
-    Ok(())
+    line.labelled("plan nodes", u64::from(plan.nodes()));
+    line.labelled(" k", u64::from(plan.k()));
+    line.labelled(" levels", u64::from(plan.levels()));
+    line.labelled(" degree", u64::from(plan.degree()));
+    line.labelled(" stretch", plan.stretch());
+    line.word("\n");
+    Stage::Level { level: 0 }
 }
 
-// The lines of all clusters of a level.
-fn push_clusters(text: &mut String, plan: &Plan, level: u32) -> Result<(), AllocError>
-    requires { level < levels_of plan.now }
-    ensures { OnOk result (string_bytes text.new ≡ string_bytes text.old ++ clusters_text (nodes_of plan.now) 0 (level_at plan.now level).clusters) }
-{
-    for cluster in 0..plan.clusters(level) {
-        push_cluster(text, plan, level, cluster)?;
-    }
-    Ok(())
-}
-
-// The line of the homes of a level.
-fn push_homes(text: &mut String, plan: &Plan, level: u32) -> Result<(), AllocError>
-    requires { level < levels_of plan.now }
-    ensures { OnOk result (string_bytes text.new ≡ string_bytes text.old ++ homes_line (level_at plan.now level)) }
-{
-    text.push_str("homes")?;
-    for node in 0..plan.nodes() {
-        let home = plan.home(level, node);
-        write!(text, " {home}")?;
-    }
-    text.push_str("\n")?;
-    Ok(())
-}
-
-// The lines of a level.
-fn push_level(text: &mut String, plan: &Plan, level: u32) -> Result<(), AllocError>
+// The line that begins a level.
+fn write_level(line: &mut Line, plan: &Plan, level: u32)
+    requires empty { line.old ≡ [] }
     requires level { level < levels_of plan.now }
     requires kept { IsKept plan.now }
-    ensures { OnOk result (string_bytes text.new ≡ string_bytes text.old ++ level_text (nodes_of plan.now) level (level_at plan.now level)) }
+    ensures { line.new ≡ level_line level (level_at plan.now level) }
 {
-    let radius = 1u64 << plan.exponent(level);
-    let clusters = plan.clusters(level);
-    let phases = plan.phases(level);
-    write!(
-        text,
-        "level {level} radius {radius} clusters {clusters} phases {phases}\n"
-    )?;
-    push_clusters(text, plan, level)?;
-    push_homes(text, plan, level)?;
-    Ok(())
+    line.labelled("level", u64::from(level));
+    line.labelled(" radius", 1u64 << plan.exponent(level));
+    line.labelled(" clusters", u64::from(plan.clusters(level)));
+    line.labelled(" phases", u64::from(plan.phases(level)));
+    line.word("\n");
 }
 
-// The lines of all levels.
-fn push_levels(text: &mut String, plan: &Plan) -> Result<(), AllocError>
-    requires { IsKept plan.now }
-    ensures { OnOk result (string_bytes text.new ≡ string_bytes text.old ++ levels_text (nodes_of plan.now) 0 plan.now.levels) }
+// The line that begins a level, or the last one.
+fn write_level_or_end(line: &mut Line, plan: &Plan, level: u32) -> Stage
+    requires empty { line.old ≡ [] }
+    requires kept { IsKept plan.now }
+    ensures { IsPart plan.now (Level level) result line.new }
 {
-    for level in 0..plan.levels() {
-        push_level(text, plan, level)?;
+    if level < plan.levels() {
+        write_level(line, plan, level);
+        Stage::Cluster { level, cluster: 0 }
+    } else {
+        line.word("end\n");
+        Stage::Done
     }
-    Ok(())
+}
+
+// What stands before a cluster's members.
+fn write_cluster(line: &mut Line, plan: &Plan, level: u32, cluster: u32)
+    requires empty { line.old ≡ [] }
+    requires level { level < levels_of plan.now }
+    requires cluster { cluster < clusters_of plan.now level }
+    ensures { line.new ≡ cluster_head cluster (cluster_at plan.now level cluster) }
+{
+    line.labelled("cluster", u64::from(cluster));
+    line.labelled(" phase", u64::from(plan.phase_of(level, cluster)));
+    line.labelled(" leader", u64::from(plan.leader(level, cluster)));
+    line.labelled(" depth", plan.depth(level, cluster));
+    line.word(" members");
+}
+
+// What stands before a cluster's members, or before the homes.
+fn write_cluster_or_homes(line: &mut Line, plan: &Plan, level: u32, cluster: u32) -> Stage
+    requires empty { line.old ≡ [] }
+    requires level { level < levels_of plan.now }
+    ensures { IsPart plan.now (Cluster level cluster) result line.new }
+{
+    if cluster < plan.clusters(level) {
+        write_cluster(line, plan, level, cluster);
+        Stage::Members {
+            level,
+            cluster,
+            from: 0,
+        }
+    } else {
+        line.word("homes");
+        Stage::Homes { level, from: 0 }
+    }
+}
+
+// Some members of a cluster, and the line's end behind the last.
+fn write_members(line: &mut Line, plan: &Plan, level: u32, cluster: u32, from: usize) -> Stage
+    requires empty { line.old ≡ [] }
+    requires level { level < levels_of plan.now }
+    requires cluster { cluster < clusters_of plan.now level }
+    requires from { from ≤ length (members_of plan.now level cluster) }
+    ensures { IsPart plan.now (Members level cluster from) result line.new }
+{
+    prove!(cluster < plan.clusters(level));
+    let (_, rest) = plan.members(level, cluster).split_at(from);
+    let count = rest.len().min(MOST_IN_A_PART);
+    line.numbers(rest.split_at(count).0);
+    if count < rest.len() {
+        return Stage::Members {
+            level,
+            cluster,
+            from: from + count,
+        };
+    }
+    line.word("\n");
+    Stage::Cluster {
+        level,
+        cluster: cluster + 1,
+    }
+}
+
+// The homes of these nodes.
+fn push_homes(line: &mut Line, plan: &Plan, level: u32, from: u32, to: u32)
+    requires empty { line.old ≡ [] }
+    requires level { level < levels_of plan.now }
+    requires order { from ≤ to }
+    requires few { to ≤ from + 64 }
+    requires within { to ≤ nodes_of plan.now }
+    requires kept { IsKept plan.now }
+    ensures text { line.new
+        ≡ fields (take (to - from) (drop from (level_at plan.now level).homes)) }
+    ensures long { length line.new ≤ 41 * (to - from) }
+{
+    for node in from..to {
+        line.number(u64::from(plan.home(level, node)));
+    }
+}
+
+// The homes of some nodes, and the line's end behind the last.
+fn write_homes(line: &mut Line, plan: &Plan, nodes: u32, level: u32, from: u32) -> Stage
+    requires empty { line.old ≡ [] }
+    requires kept { IsKept plan.now }
+    requires level { level < levels_of plan.now }
+    requires nodes { nodes ≡ nodes_of plan.now }
+    requires from { from ≤ nodes }
+    ensures { IsPart plan.now (Homes level from) result line.new }
+{
+    let to = from + (nodes - from).min(MOST_IN_A_PART as u32);
+    push_homes(line, plan, level, from, to);
+    if to < nodes {
+        return Stage::Homes { level, from: to };
+    }
+    line.word("\n");
+    Stage::Level { level: level + 1 }
+}
+
+/// The parts of a plan's text, one after another. It takes its memory at once, and keeps one part.
+#[derive(Drop)]
+pub struct PlanParts<'a> {
+    plan: &'a Plan,
+    nodes: u32,
+    stage: Stage,
+    part: Line,
+}
+
+impl<'a> Model for PlanParts<'a> {
+    ghost use Rattle.std.specs.Prelude.{◌≡◌};
+    ghost use Rattle.region_plan.specs.Plan.{nodes_of};
+    ghost use Rattle.region_plan.specs.Kept.{IsKept};
+    ghost use Rattle.report_text.specs.Written.{IsStage, PartsState, plan_left};
+
+    ghost Value = { PartsState };
+
+    ghost view = { λ p. record { part = p.part; left = plan_left p.plan.now p.stage } };
+
+    ghost invariant = { λ p. (p.nodes ≡ nodes_of p.plan.now) × IsKept p.plan.now
+        × IsStage p.plan.now p.stage };
+}
+
+impl<'a> PlanParts<'a> {
+    /// All parts of the text of a plan.
+    pub fn new(alloc: Global, plan: &'a Plan) -> Result<PlanParts<'a>, AllocError>
+        ensures { IfOk result (λ parts. parts.left ≡ plan_text_of plan.now) }
+    {
+        Ok(PlanParts {
+            plan,
+            nodes: plan.nodes(),
+            stage: Stage::Measures,
+            part: Line::new(alloc)?,
+        })
+    }
+
+    /// Makes the next part, which isn't empty, and answers whether there was one left. It takes no
+    /// memory.
+    pub fn advance(&mut self) -> bool
+        ensures part { result ≡ true → self.old.left ≡ self.new.part ++ self.new.left }
+        ensures some { result ≡ true → 0 < length self.new.part }
+        ensures none { result ≡ false → (self.old.left ≡ []) × (self.new.left ≡ []) }
+    {
+        self.part.clear();
+        let plan = self.plan;
+        let nodes = self.nodes;
+        let part = &mut self.part;
+        self.stage = match self.stage {
+            Stage::Measures => write_measures(part, plan),
+            Stage::Level { level } => write_level_or_end(part, plan, level),
+            Stage::Cluster { level, cluster } => write_cluster_or_homes(part, plan, level, cluster),
+            Stage::Members {
+                level,
+                cluster,
+                from,
+            } => write_members(part, plan, level, cluster, from),
+            Stage::Homes { level, from } => write_homes(part, plan, nodes, level, from),
+            Stage::Done => return false,
+        };
+        true
+    }
+
+    /// The part that was made last.
+    pub fn part(&self) -> &[u8]
+        ensures { result.now ≡ self.now.part }
+    {
+        self.part.bytes()
+    }
 }
 
 /// The text of a plan: its measures, and level by level its clusters and the homes of its nodes.
 pub fn plan_text(alloc: Global, plan: &Plan) -> Result<Vec<u8>, AllocError>
     ensures { IfOk result (λ text. text.items ≡ plan_text_of plan.now) }
 {
-    let mut text = String::new(alloc);
-    let nodes = plan.nodes();
-    let k = plan.k();
-    let levels = plan.levels();
-    let degree = plan.degree();
-    let stretch = plan.stretch();
-    write!(
-        text,
-        "plan nodes {nodes} k {k} levels {levels} degree {degree} stretch {stretch}\n"
-    )?;
-    push_levels(&mut text, plan)?;
-    text.push_str("end\n")?;
-    Ok(text.into_bytes())
+    let mut parts = PlanParts::new(alloc, plan)?;
+    let mut text = Vec::new(alloc);
+    'parts: while parts.advance() {
+        text.extend_from_slice(parts.part())?;
+    }
+    Ok(text)
 }

@@ -49,8 +49,10 @@ fn outcome(alloc: Global, visits: usize) -> Result<Outcome, Fail> {
 fn report_of_three_calls(rt: HostRuntime) -> Result<(), Fail> {
     let alloc = rt.alloc();
     let text = report(alloc, &outcome(alloc, 3)?)?;
-    let wanted =
-        "move 0 1 3 2 weight 1000000000000 first 0 commit 3 last 5\nfind 10 0 0 at 1023 number 0 level - weight 0 first 6 last 6\nagain 10 0 0 empty 2 weight 5 first 7 last 18446744073709551615\norder 10 10 10\nend 3\n";
+    let wanted = "move 0 1 3 2 weight 1000000000000 first 0 commit 3 last 5\n\
+            find 10 0 0 at 1023 number 0 level - weight 0 first 6 last 6\n\
+            again 10 0 0 empty 2 weight 5 first 7 last 18446744073709551615\norder 10 10 10\n\
+            end 3\n";
     assert_eq!(rt; text.as_slice(), wanted.as_bytes());
     Ok(())
 }

@@ -21,7 +21,9 @@ fn plan_of_two_nodes(rt: HostRuntime) -> Result<(), Fail> {
     let plan = Plan::build(alloc, &graph, &distances, 1)?;
     let text = plan_text(alloc, &plan)?;
     let wanted =
-        "plan nodes 2 k 1 levels 1 degree 2 stretch 56\nlevel 0 radius 1 clusters 2 phases 2\ncluster 0 phase 0 leader 0 depth 1 members 0 1\ncluster 1 phase 1 leader 1 depth 1 members 0 1\nhomes 0 1\nend\n";
+        "plan nodes 2 k 1 levels 1 degree 2 stretch 56\nlevel 0 radius 1 clusters 2 phases 2\n\
+            cluster 0 phase 0 leader 0 depth 1 members 0 1\n\
+            cluster 1 phase 1 leader 1 depth 1 members 0 1\nhomes 0 1\nend\n";
     assert_eq!(rt; text.as_slice(), wanted.as_bytes());
     Ok(())
 }
@@ -34,7 +36,8 @@ fn flat_plan_of_the_line_of_four(rt: HostRuntime) -> Result<(), Fail> {
     let plan = Plan::flat(alloc, &graph, &distances)?;
     let text = plan_text(alloc, &plan)?;
     let wanted =
-        "plan nodes 4 k 1 levels 1 degree 1 stretch 40\nlevel 0 radius 4 clusters 1 phases 1\ncluster 0 phase 0 leader 0 depth 3 members 0 1 2 3\nhomes 0 0 0 0\nend\n";
+        "plan nodes 4 k 1 levels 1 degree 1 stretch 40\nlevel 0 radius 4 clusters 1 phases 1\n\
+            cluster 0 phase 0 leader 0 depth 3 members 0 1 2 3\nhomes 0 0 0 0\nend\n";
     assert_eq!(rt; text.as_slice(), wanted.as_bytes());
     Ok(())
 }

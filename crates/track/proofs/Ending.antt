@@ -14,18 +14,22 @@ use Rattle.track.specs.Ends.{EndsAs, IsBegun, IsWritten, outside}
 use Rattle.track.specs.Transfer.{IsAllRead, IsWrittenPart, StopsReading}
 
 -- what holds of all bytes that were read holds of what was left
-of_left : (P : List ℕ → Type 0) (before now : Option (List ℕ)) (bytes : List ℕ) → before ≡ prepend_known bytes now → IsAtEnd now → P bytes → IfSome before P
+of_left : (P : List ℕ → Type 0) (before now : Option (List ℕ)) (bytes : List ℕ) → before ≡ prepend_known bytes now
+    → IsAtEnd now → P bytes → IfSome before P
 of_left P before None bytes e end p = subst (λ (o : Option (List ℕ)). IfSome o P) (sym e) tt
 of_left P before (Some rest) bytes e end p =
     let whole : bytes ≡ bytes ++ rest = sym (ap (λ (xs : List ℕ). bytes ++ xs) end ∙ append-nil bytes) in
     subst (λ (o : Option (List ℕ)). IfSome o P) (sym e) (subst P whole p)
 
-status_of_text : (command : Command) (input : Result Contents InputFault) (status : Status) (text : List ℕ) → IsAnswer command input status text → (status ≡ statuses.Done) ⊎ (status ≡ statuses.Refused)
+status_of_text : (command : Command) (input : Result Contents InputFault) (status : Status) (text : List ℕ)
+    → IsAnswer command input status text → (status ≡ statuses.Done) ⊎ (status ≡ statuses.Refused)
 status_of_text command (Ok contents) status text h = inl h.0
 status_of_text command (Err fault) status text h = inr h.0
 
 -- reading stopped
-pub stopped : (command : Command) (status : Status) (left left' : Option (List ℕ)) (rf rf' : ℕ) (written : Option (List ℕ)) (wf : ℕ) → StopsReading status left rf rf' → EndsAs command status (outside left rf written wf) (outside left' rf' written wf)
+pub stopped : (command : Command) (status : Status) (left left' : Option (List ℕ)) (rf rf' : ℕ) (written : Option (List
+    ℕ)) (wf : ℕ) → StopsReading status left rf rf'
+    → EndsAs command status (outside left rf written wf) (outside left' rf' written wf)
 stopped command statuses.Done left left' rf rf' written wf h = absurd h
 stopped command statuses.Refused left left' rf rf' written wf h = absurd h
 stopped command statuses.BadWords left left' rf rf' written wf h = absurd h
@@ -35,32 +39,69 @@ stopped command statuses.WriteFailed left left' rf rf' written wf h = absurd h
 stopped command statuses.TooLong left left' rf rf' written wf h = ((refl, refl), h.1, h.0)
 
 -- the text could not be made
-pub unmade : (command : Command) (status : Status) (left left' : Option (List ℕ)) (rf rf' : ℕ) (written : Option (List ℕ)) (wf : ℕ) → status ≡ statuses.OutOfMemory → rf' ≡ rf → EndsAs command status (outside left rf written wf) (outside left' rf' written wf)
+pub unmade : (command : Command) (status : Status) (left left' : Option (List ℕ)) (rf rf' : ℕ) (written : Option (List
+    ℕ)) (wf : ℕ) → status ≡ statuses.OutOfMemory → rf' ≡ rf
+    → EndsAs command status (outside left rf written wf) (outside left' rf' written wf)
 unmade command status left left' rf rf' written wf e h =
-    subst (λ (s : Status). EndsAs command s (outside left rf written wf) (outside left' rf' written wf)) (sym e) ((refl, refl), h)
+    subst (λ (s : Status). EndsAs command s (outside left rf written wf) (outside left' rf' written wf)) (sym e)
+    ((refl, refl), h)
 
 -- the text was written
-done-go : (command : Command) (status : Status) (text : List ℕ) (reader : ReaderValue) (left left' : Option (List ℕ)) (rf rf' : ℕ) (written written' : Option (List ℕ)) (wf wf' : ℕ) (all : IsAllRead reader left left' rf rf') → IsText command all.bytes status text → written' ≡ append_known written text → wf' ≡ wf → (status ≡ statuses.Done) ⊎ (status ≡ statuses.Refused) → EndsAs command status (outside left rf written wf) (outside left' rf' written' wf')
+done-go : (command : Command) (status : Status) (text : List ℕ) (reader : ReaderValue) (left left' : Option (List ℕ))
+    (rf rf' : ℕ) (written written' : Option (List ℕ)) (wf wf' : ℕ) (all : IsAllRead reader left left' rf rf')
+    → IsText command all.bytes status text → written' ≡ append_known written text → wf' ≡ wf
+    → (status ≡ statuses.Done) ⊎ (status ≡ statuses.Refused)
+    → EndsAs command status (outside left rf written wf) (outside left' rf' written' wf')
 done-go command status text reader left left' rf rf' written written' wf wf' all right w f (inl e) =
-    let is : IsText command all.bytes statuses.Done text = subst (λ (s : Status). IsText command all.bytes s text) e right in
-    let whole : IsWritten command statuses.Done all.bytes written written' = record { text = text; right = is; written = w } in
-    subst (λ (s : Status). EndsAs command s (outside left rf written wf) (outside left' rf' written' wf')) (sym e)
-    (of_left (λ bytes. IsWritten command statuses.Done bytes written written') left left' all.bytes all.parts all.end whole, all.end, all.no_fault, f)
+    let is : IsText command all.bytes statuses.Done text =
+    subst (λ (s : Status). IsText command all.bytes s text) e right in
+    let whole : IsWritten command statuses.Done all.bytes written written' =
+    record { short = all.short; text = text; right = is; written = w } in
+    subst (λ (s : Status). EndsAs command s (outside left rf written wf) (outside left' rf' written' wf')) (sym e) (
+      of_left (λ bytes. IsWritten command statuses.Done bytes written written') left left' all.bytes all.parts all.end
+          whole,
+      all.end,
+      all.no_fault,
+      f,
+    )
 done-go command status text reader left left' rf rf' written written' wf wf' all right w f (inr e) =
-    let is : IsText command all.bytes statuses.Refused text = subst (λ (s : Status). IsText command all.bytes s text) e right in
-    let whole : IsWritten command statuses.Refused all.bytes written written' = record { text = text; right = is; written = w } in
-    subst (λ (s : Status). EndsAs command s (outside left rf written wf) (outside left' rf' written' wf')) (sym e)
-    (of_left (λ bytes. IsWritten command statuses.Refused bytes written written') left left' all.bytes all.parts all.end whole, all.end, all.no_fault, f)
+    let is : IsText command all.bytes statuses.Refused text =
+    subst (λ (s : Status). IsText command all.bytes s text) e right in
+    let whole : IsWritten command statuses.Refused all.bytes written written' =
+    record { short = all.short; text = text; right = is; written = w } in
+    subst (λ (s : Status). EndsAs command s (outside left rf written wf) (outside left' rf' written' wf')) (sym e) (
+      of_left (λ bytes. IsWritten command statuses.Refused bytes written written') left left' all.bytes all.parts
+          all.end whole,
+      all.end,
+      all.no_fault,
+      f,
+    )
 
-pub done : (command : Command) (status : Status) (text shown : List ℕ) (reader : ReaderValue) (left left' : Option (List ℕ)) (rf rf' : ℕ) (written written' : Option (List ℕ)) (wf wf' : ℕ) → IsAllRead reader left left' rf rf' → ((bytes : List ℕ) → StandsFor reader bytes → IsText command bytes status text) → shown ≡ text → written' ≡ append_known written shown → wf' ≡ wf → EndsAs command status (outside left rf written wf) (outside left' rf' written' wf')
+pub done : (command : Command) (status : Status) (text shown : List ℕ) (reader : ReaderValue) (left left' : Option
+    (List ℕ)) (rf rf' : ℕ) (written written' : Option (List ℕ)) (wf wf' : ℕ) → IsAllRead reader left left' rf rf'
+    → ((bytes : List ℕ) → StandsFor reader bytes → IsText command bytes status text) → shown ≡ text
+    → written' ≡ append_known written shown → wf' ≡ wf
+    → EndsAs command status (outside left rf written wf) (outside left' rf' written' wf')
 done command status text shown reader left left' rf rf' written written' wf wf' all right same w f =
     let is = right all.bytes all.stands in
-    done-go command status text reader left left' rf rf' written written' wf wf' all is (w ∙ ap (append_known written) same) f (status_of_text command is.input status text is.answer)
+    done-go command status text reader left left' rf rf' written written' wf wf' all is (w
+    ∙ ap (append_known written) same) f (status_of_text command is.input status text is.answer)
 
 -- the text was begun
-pub begun : (command : Command) (status failed : Status) (text shown : List ℕ) (reader : ReaderValue) (left left' : Option (List ℕ)) (rf rf' : ℕ) (written written' : Option (List ℕ)) (wf wf' : ℕ) → IsAllRead reader left left' rf rf' → ((bytes : List ℕ) → StandsFor reader bytes → IsText command bytes status text) → shown ≡ text → IsWrittenPart shown written written' → failed ≡ statuses.WriteFailed → HasFaulted wf wf' → EndsAs command failed (outside left rf written wf) (outside left' rf' written' wf')
+pub begun : (command : Command) (status failed : Status) (text shown : List ℕ) (reader : ReaderValue) (left left' :
+    Option (List ℕ)) (rf rf' : ℕ) (written written' : Option (List ℕ)) (wf wf' : ℕ)
+    → IsAllRead reader left left' rf rf' → ((bytes : List ℕ) → StandsFor reader bytes
+    → IsText command bytes status text) → shown ≡ text → IsWrittenPart shown written written'
+    → failed ≡ statuses.WriteFailed → HasFaulted wf wf'
+    → EndsAs command failed (outside left rf written wf) (outside left' rf' written' wf')
 begun command status failed text shown reader left left' rf rf' written written' wf wf' all right same part e f =
-    let front : IsWrittenPart text written written' = subst (λ (t : List ℕ). IsWrittenPart t written written') same part in
-    let is : IsBegun command all.bytes written written' = record { status = status; text = text; right = right all.bytes all.stands; part = front } in
-    subst (λ (s : Status). EndsAs command s (outside left rf written wf) (outside left' rf' written' wf')) (sym e)
-    (f, of_left (λ bytes. IsBegun command bytes written written') left left' all.bytes all.parts all.end is, all.end, all.no_fault)
+    let front : IsWrittenPart text written written' =
+    subst (λ (t : List ℕ). IsWrittenPart t written written') same part in
+    let is : IsBegun command all.bytes written written' =
+    record { short = all.short; status = status; text = text; right = right all.bytes all.stands; part = front } in
+    subst (λ (s : Status). EndsAs command s (outside left rf written wf) (outside left' rf' written' wf')) (sym e) (
+      f,
+      of_left (λ bytes. IsBegun command bytes written written') left left' all.bytes all.parts all.end is,
+      all.end,
+      all.no_fault,
+    )

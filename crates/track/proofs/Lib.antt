@@ -1,4 +1,5 @@
 mod Answering
+mod Passing
 mod Ending
 mod OneText
 mod Words

@@ -7,57 +7,76 @@ use Rattle.net_reader.specs.declared.fault.InputFault.{InputFault}
 use Rattle.net_reader.specs.Input.{Contents, IsInput}
 use Rattle.net_reader.specs.Laws.{TextSaysOne}
 use Rattle.net_reader.specs.Reading.{most_bytes}
-use Rattle.region_plan.specs.Plan.{PlanData}
+use Rattle.directory.specs.Census.{census}
+use Rattle.region_plan.specs.Plan.{PlanData, nodes_of}
 use Rattle.region_plan.specs.Regions.{IsPlanOf}
+use Rattle.region_plan.specs.Settings.{setting_of}
+use Rattle.census_text.specs.CensusText.{census_text_of}
 use Rattle.report_text.specs.PlanText.{plan_text_of}
 use Rattle.word_line.specs.declared.command.Command.{Command}
 use Rattle.word_line.specs.declared.command.Command.TheVariants as commands
 use Rattle.track.specs.declared.status.Status.{Status}
 use Rattle.track.specs.declared.status.Status.TheVariants as statuses
 use Rattle.report_text.specs.ReportText.{report_of}
-use Rattle.track.specs.Answers.{network_of, outcome_under, IsAnswer, IsResult, IsText}
+use Rattle.track.specs.Answers.{history_under, network_of, outcome_under, IsAnswer, IsResult, IsText}
 use Rattle.track.specs.Ends.{EndsAs, IsWritten, Outside}
 
 -- a network and k have one plan
 abbrev pub PlanIsOne : Type 0
-PlanIsOne = (network : Network) (k : ℕ) (one two : PlanData) → IsPlanOf network k one → IsPlanOf network k two → one ≡ two
+PlanIsOne = (network : Network) (k : ℕ) (one two : PlanData) → IsPlanOf network k one → IsPlanOf network k two
+    → one ≡ two
 
-same_result : PlanIsOne → (command : Command) (contents : Contents) (one other : List ℕ) → IsResult command contents one → IsResult command contents other → one ≡ other
+same_result : PlanIsOne → (command : Command) (contents : Contents) (one other : List ℕ)
+    → IsResult command contents one → IsResult command contents other → one ≡ other
 same_result unique commands.Cover contents one other p q =
     p.text_is ∙ ap plan_text_of (unique (network_of contents) contents.k p.plan q.plan p.is q.is) ∙ sym q.text_is
 same_result unique commands.Replay contents one other p q =
     p.text_is ∙ ap (λ plan. report_of (outcome_under contents plan))
     (unique (network_of contents) contents.k p.plan q.plan p.is q.is) ∙ sym q.text_is
-same_result unique commands.Census contents one other p q = absurd p
+same_result unique commands.Census contents one other p q =
+    p.text_is ∙ ap (λ plan. census_text_of (census (setting_of plan contents.homes) (history_under contents plan))
+    (nodes_of plan)) (unique (network_of contents) contents.k p.plan q.plan p.is q.is) ∙ sym q.text_is
 same_result unique commands.Run contents one other p q = absurd p
 same_result unique (commands.Make load) contents one other p q = absurd p
 same_result unique (commands.Trial load) contents one other p q = absurd p
 
-same_answer : PlanIsOne → (command : Command) (input : Result Contents InputFault) (s t : Status) (one other : List ℕ) → IsAnswer command input s one → IsAnswer command input t other → (s ≡ t) × (one ≡ other)
-same_answer unique command (Ok contents) s t one other p q = (p.0 ∙ sym q.0, same_result unique command contents one other p.1 q.1)
+same_answer : PlanIsOne → (command : Command) (input : Result Contents InputFault) (s t : Status) (one other : List ℕ)
+    → IsAnswer command input s one → IsAnswer command input t other → (s ≡ t) × (one ≡ other)
+same_answer unique command (Ok contents) s t one other p q = (
+  p.0
+      ∙ sym q.0,
+  same_result unique command contents one other p.1 q.1,
+)
 same_answer unique command (Err fault) s t one other p q = (p.0 ∙ sym q.0, p.1 ∙ sym q.1)
 
-pub one_text : PlanIsOne → TextSaysOne → (command : Command) (bytes : List ℕ) (s t : Status) (one other : List ℕ) → IsText command bytes s one → IsText command bytes t other → (s ≡ t) × (one ≡ other)
+pub one_text : PlanIsOne → TextSaysOne → (command : Command) (bytes : List ℕ) (s t : Status) (one other : List ℕ)
+    → IsText command bytes s one → IsText command bytes t other → (s ≡ t) × (one ≡ other)
 one_text unique says command bytes s t one other p q =
     let same = says bytes p.input q.input p.says q.says in
-    same_answer unique command q.input s t one other (subst (λ (input : Result Contents InputFault). IsAnswer command input s one) same p.answer) q.answer
+    same_answer unique command q.input s t one other (subst (λ (input : Result Contents InputFault). IsAnswer command
+    input s one) same p.answer) q.answer
 
 -- an input is not refused
-not_refused : (command : Command) (input : Result Contents InputFault) (contents : Contents) (text : List ℕ) → input ≡ Ok contents → IsAnswer command input statuses.Refused text → ⊥
+not_refused : (command : Command) (input : Result Contents InputFault) (contents : Contents) (text : List ℕ)
+    → input ≡ Ok contents → IsAnswer command input statuses.Refused text → ⊥
 not_refused command (Ok other) contents text e h = let no : statuses.Refused ≡ statuses.Done = h.0 in cc
 not_refused command (Err fault) contents text e h = cc
 
 of_some : (P : List ℕ → Type 0) (o : Option (List ℕ)) (bytes : List ℕ) → o ≡ Some bytes → IfSome o P → P bytes
 of_some P o bytes e h = subst (λ (x : Option (List ℕ)). IfSome x P) e h
 
-pub is_complete : TextSaysOne → (command : Command) (status : Status) (before now : Outside) (bytes : List ℕ) (contents : Contents)
-    → EndsAs command status before now → before.left ≡ Some bytes → length bytes ≤ most_bytes → IsInput bytes (Ok contents)
+pub is_complete : TextSaysOne → (command : Command) (status : Status) (before now : Outside) (bytes : List ℕ) (contents
+    : Contents)
+    → EndsAs command status before now → before.left ≡ Some bytes → length bytes ≤ most_bytes
+    → IsInput bytes (Ok contents)
     → (HasFaulted before.read_faults now.read_faults → ⊥) → (HasFaulted before.write_faults now.write_faults → ⊥)
     → (status ≡ statuses.Done) ⊎ (status ≡ statuses.OutOfMemory)
 is_complete says command statuses.Done before now bytes contents h left short input r w = inl refl
 is_complete says command statuses.Refused before now bytes contents h left short input r w =
-    let written = of_some (λ bytes. IsWritten command statuses.Refused bytes before.written now.written) before.left bytes left h.0 in
-    absurd (not_refused command written.right.input contents written.text (says bytes written.right.input (Ok contents) written.right.says input) written.right.answer)
+    let written = of_some (λ bytes. IsWritten command statuses.Refused bytes before.written now.written) before.left
+    bytes left h.0 in
+    absurd (not_refused command written.right.input contents written.text (says bytes written.right.input (Ok contents)
+    written.right.says input) written.right.answer)
 is_complete says command statuses.BadWords before now bytes contents h left short input r w = absurd h
 is_complete says command statuses.OutOfMemory before now bytes contents h left short input r w = inr refl
 is_complete says command statuses.ReadFailed before now bytes contents h left short input r w = absurd (r h.1)

@@ -3,6 +3,8 @@ use Rattle.std.proofs.Common.{◌≡◌, ℕ, ◌+◌, ◌<◌, List, [], ◌∷
 use Rattle.std.proofs.lemmas.List.{take_more}
 use Rattle.std.proofs.lemmas.List.Sums.{fold-append}
 use Rattle.directory.specs.Settings.{Setting}
+use Rattle.directory.specs.Histories.{History}
+use Rattle.visit_log.specs.Cells.{CellData, Hold}
 use Rattle.directory.specs.Orders.{Scripts, after_turn, after_turns, history_of}
 use Rattle.directory.specs.Outcomes.{outcome_of}
 use Rattle.net_reader.specs.declared.input.Input.{Input}
@@ -12,7 +14,7 @@ use Rattle.region_plan.specs.Settings.{setting_of}
 use Rattle.machine.specs.declared.machine.Machine.{Machine}
 use Rattle.machine.specs.Machines.{IsSame, StandsFor, scripts_at, setting_at}
 use Rattle.machine.specs.Scripts.{scripts_of}
-use Rattle.track.specs.Answers.{outcome_under}
+use Rattle.track.specs.Answers.{history_under, outcome_under}
 
 -- a machine that keeps its input and its plan keeps its setting and its scripts
 of_same : (P : Setting → Scripts → Type 0) (old new : Machine) → IsSame old new
@@ -47,7 +49,45 @@ pub play-outcome : (machine : Machine) (input : Input) (plan : PlanData) → mac
     → machine.plan.now ≡ plan
     → outcome_of (setting_at machine) (scripts_at machine) input.order.items ≡ outcome_under (seen_input input) plan
 play-outcome machine input plan same_input same_plan =
-    ap (λ i. outcome_of (setting_of machine.plan.now (seen_input i).homes) (scripts_of (seen_input i)) input.order.items)
+    ap (λ i. outcome_of (setting_of machine.plan.now (seen_input i).homes) (scripts_of (seen_input i))
+    input.order.items)
     same_input
     ∙ ap (λ p. outcome_of (setting_of p (seen_input input).homes) (scripts_of (seen_input input)) input.order.items)
     same_plan
+
+-- the history of the calls, told by the input and the plan
+pub play-history : (machine : Machine) (input : Input) (plan : PlanData) → machine.input.now ≡ input
+    → machine.plan.now ≡ plan
+    → history_of (setting_at machine) (scripts_at machine) input.order.items ≡ history_under (seen_input input) plan
+play-history machine input plan same_input same_plan =
+    ap (λ i. history_of (setting_of machine.plan.now (seen_input i).homes)
+    (scripts_of (seen_input i)) input.order.items)
+    same_input
+    ∙ ap (λ p. history_of (setting_of p (seen_input input).homes) (scripts_of (seen_input input)) input.order.items)
+    same_plan
+
+-- the same of the machine before
+pub play-began : (old new last : Machine) (order : List ℕ) → IsSame old new
+    → StandsFor last (history_of (setting_at new) (scripts_at new) order)
+    → StandsFor last (history_of (setting_at old) (scripts_at old) order)
+play-began old new last order same goes =
+    of_same (λ setting scripts. StandsFor last (history_of setting scripts order)) new old
+    (sym same.0, sym same.1, sym same.2) goes
+
+-- a machine that has played an order of its input to the end stands for the history of the calls
+pub play-ends : (first last : Machine) (input : Input) (plan : PlanData) (order : List ℕ) → first.input.now ≡ input
+    → first.plan.now ≡ plan → order ≡ input.order.items
+    → StandsFor last (history_of (setting_at first) (scripts_at first) order)
+    → StandsFor last (history_under (seen_input input) plan)
+play-ends first last input plan order same_input same_plan whole stands =
+    subst (StandsFor last) (ap (history_of (setting_at first) (scripts_at first)) whole
+    ∙ play-history first input plan same_input same_plan) stands
+
+-- and its cells hold what that history leaves
+pub end-holds : (last : Machine) (input : Input) (plan : PlanData) (cells : CellData) (history : History)
+    → last.input.now ≡ input → last.plan.now ≡ plan → cells ≡ last.cells → StandsFor last history
+    → Hold plan input.homes.items cells history
+end-holds last input plan cells history same_input same_plan same_cells stands =
+    subst (λ cs. Hold plan input.homes.items cs history) (sym same_cells)
+    (subst (λ p. Hold p input.homes.items last.cells history) same_plan
+    (subst (λ i. Hold last.plan.now (seen_input i).homes last.cells history) same_input stands.sees.hold))

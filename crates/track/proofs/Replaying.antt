@@ -8,13 +8,17 @@ use Rattle.region_plan.specs.Plan.{PlanData, nodes_of}
 use Rattle.region_plan.specs.Measures.{degree_of}
 use Rattle.region_plan.specs.Regions.{IsPlanOf}
 use Rattle.region_plan.specs.Settings.{setting_of}
+use Rattle.directory.specs.Census.{census}
 use Rattle.directory.specs.Orders.{AreValid}
-use Rattle.trail_laws.specs.Lines.{OutcomesAreRight}
+use Rattle.trail_laws.specs.Censuses.{CensusesEndRight}
+use Rattle.trail_laws.specs.Lines.{NumbersRise, OutcomesAreRight}
 use Rattle.stretch_laws.specs.Tracking.{IsTracking}
 use Rattle.stretch_laws.specs.Lines.{PlanOutcomesAreNear}
+use Rattle.machine.specs.Machines.{TellInTurn}
 use Rattle.machine.specs.Scripts.{scripts_of}
+use Rattle.census_text.specs.CensusText.{census_text_of}
 use Rattle.report_text.specs.ReportText.{report_of}
-use Rattle.track.specs.Answers.{IsReport, network_of, outcome_under}
+use Rattle.track.specs.Answers.{IsCensusText, IsReport, history_under, network_of, outcome_under}
 
 -- a plan of a valid input has few nodes
 few-nodes : (contents : Contents) → IsValid contents → contents.nodes ≤ 2 ^ 16
@@ -37,17 +41,34 @@ ScriptsAreValid =
     (contents : Contents) (plan : PlanData) → IsValid contents → nodes_of plan ≡ contents.nodes
     → AreValid (setting_of plan contents.homes) (scripts_of contents)
 
-pub report-says : OutcomesAreRight → PlansTrack → PlanOutcomesAreNear → ScriptsAreValid → (contents : Contents)
-    (plan : PlanData) (text : List ℕ) → IsValid contents → IsPlanOf (network_of contents) contents.k plan
+pub report-says : (contents : Contents) (plan : PlanData) → TellInTurn (outcome_under contents plan).calls
+    → OutcomesAreRight → NumbersRise → PlansTrack → PlanOutcomesAreNear → ScriptsAreValid
+    → (text : List ℕ) → IsValid contents → IsPlanOf (network_of contents) contents.k plan
     → nodes_of plan ≡ contents.nodes → BoundsFinds plan → text ≡ report_of (outcome_under contents plan)
     → IsReport contents text
-report-says right track near scripts contents plan text valid is nodes bounds text_is = record {
+report-says contents plan turn right rise track near scripts text valid is nodes bounds text_is = record {
   plan = plan;
   is = is;
   text_is = text_is;
   right = right (setting_of plan contents.homes) (scripts_of contents) contents.order
       (omega (arith, nodes, few-nodes contents valid)) (track plan contents.homes bounds).whole
       (scripts contents plan valid nodes);
+  in_turn = turn;
+  rising = rise (setting_of plan contents.homes) (scripts_of contents) contents.order
+      (omega (arith, nodes, few-nodes contents valid)) (scripts contents plan valid nodes);
   near = near plan contents.homes (scripts_of contents) contents.order
       (omega (arith, nodes, few-nodes contents valid)) bounds (scripts contents plan valid nodes);
+}
+
+-- the census of a valid input over its plan lists everybody where they stand
+pub census-says : CensusesEndRight → ScriptsAreValid → (contents : Contents) (plan : PlanData) (text : List ℕ)
+    → IsValid contents → IsPlanOf (network_of contents) contents.k plan → nodes_of plan ≡ contents.nodes
+    → text ≡ census_text_of (census (setting_of plan contents.homes) (history_under contents plan)) (nodes_of plan)
+    → IsCensusText contents text
+census-says right scripts contents plan text valid is nodes text_is = record {
+  plan = plan;
+  is = is;
+  text_is = text_is;
+  right = λ sub node known below. right (setting_of plan contents.homes) (scripts_of contents) contents.order sub node
+      (omega (arith, nodes, few-nodes contents valid)) (scripts contents plan valid nodes) known below;
 }

@@ -1,20 +1,25 @@
 -- The text that answers bytes, by the command: that of the plan of the input's network, the report
--- of what becomes of its calls under its order, or the line that refuses the input.
+-- of what becomes of its calls under its order, the census at their end, or the line that refuses
+-- the input.
 -- Key law: `bytes_have_one_text`.
-use Rattle.std.specs.Prelude.{◌≡◌, ℕ, Bool, true, false, All, List, Result, Ok, Err}
+use Rattle.std.specs.Prelude.{◌≡◌, ℕ, Bool, true, false, All, List, Result, Ok, Err, ◌<◌, length}
 use Rattle.net_graph.specs.Network.{Network}
 use Rattle.net_reader.specs.declared.fault.InputFault.{InputFault}
 use Rattle.net_reader.specs.Input.{Contents, IsInput}
+use Rattle.directory.specs.Census.{census}
 use Rattle.directory.specs.Histories.{History}
 use Rattle.directory.specs.Orders.{history_of}
 use Rattle.directory.specs.Outcomes.{Outcome, outcome_of}
+use Rattle.trail_laws.specs.Censuses.{IsCounted}
 use Rattle.trail_laws.specs.Lines.{IsRightLine}
-use Rattle.region_plan.specs.Plan.{PlanData}
+use Rattle.region_plan.specs.Plan.{PlanData, nodes_of}
 use Rattle.region_plan.specs.Settings.{setting_of}
 use Rattle.stretch_laws.specs.Plans.{bound_of}
 use Rattle.stretch_laws.specs.Lines.{IsLineWithin}
+use Rattle.machine.specs.Machines.{TellInTurn, TellRisingNumbers}
 use Rattle.machine.specs.Scripts.{scripts_of}
 use Rattle.region_plan.specs.Regions.{IsPlanOf}
+use Rattle.census_text.specs.CensusText.{census_text_of}
 use Rattle.report_text.specs.PlanText.{plan_text_of}
 use Rattle.report_text.specs.ReportText.{refused_line_of, report_of}
 use Rattle.word_line.specs.declared.command.Command.{Command}
@@ -50,16 +55,31 @@ pub record IsReport (contents : Contents) (text : List ℕ) : Type 0 where
   -- made again had a visit of a move of its subscriber within it
   pub right : All (IsRightLine (setting_of plan contents.homes) (history_under contents plan))
       (outcome_under contents plan).calls
+  -- of two answers about one subscriber, the one with the later last visit tells no lower number;
+  -- and a caller's later finds have the later last visits, so that along its finds of a subscriber
+  -- the numbers never fall
+  pub rising : TellRisingNumbers (outcome_under contents plan).calls
+  pub in_turn : TellInTurn (outcome_under contents plan).calls
   -- a quiet find has its answer, and its weight is within the plan's bound: the stretch times the
   -- distance, and twice an open passage
   pub near : All (IsLineWithin (bound_of plan) (setting_of plan contents.homes)
       (history_under contents plan)) (outcome_under contents plan).calls
 
+-- the text is the census at the end of an input's calls under its order, over its plan
+pub record IsCensusText (contents : Contents) (text : List ℕ) : Type 0 where
+  pub plan : PlanData
+  pub is : IsPlanOf (network_of contents) contents.k plan
+  pub text_is : text ≡ census_text_of
+      (census (setting_of plan contents.homes) (history_under contents plan)) (nodes_of plan)
+  -- each subscriber is listed just where it stands, if it is on
+  pub right : (sub node : ℕ) → sub < length contents.homes → node < nodes_of plan
+      → IsCounted (setting_of plan contents.homes) (history_under contents plan) sub node
+
 -- whether a command is built
 abbrev pub is_served : Command → Bool
 is_served Cover = true
 is_served Replay = true
-is_served Census = false
+is_served Census = true
 is_served Run = false
 is_served (Make load) = false
 is_served (Trial load) = false
@@ -68,7 +88,7 @@ is_served (Trial load) = false
 abbrev pub IsResult : Command → Contents → List ℕ → Type 0
 IsResult Cover contents text = IsPlanText contents text
 IsResult Replay contents text = IsReport contents text
-IsResult Census contents text = ⊥
+IsResult Census contents text = IsCensusText contents text
 IsResult Run contents text = ⊥
 IsResult (Make load) contents text = ⊥
 IsResult (Trial load) contents text = ⊥
@@ -80,7 +100,8 @@ IsAnswer command (Err fault) status text =
     (status ≡ Refused) × (text ≡ refused_line_of fault)
 
 -- the text of a command over these bytes, and the status that goes with it
-pub record IsText (command : Command) (bytes : List ℕ) (status : Status) (text : List ℕ) : Type 0 where
+pub record IsText (command : Command) (bytes : List ℕ) (status : Status)
+    (text : List ℕ) : Type 0 where
   pub input : Result Contents InputFault
   pub says : IsInput bytes input
   pub answer : IsAnswer command input status text

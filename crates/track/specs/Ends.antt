@@ -1,6 +1,7 @@
--- How a call ends: its status, and what that says of the words, of the source and of the sink. Key laws: `complete`, and
--- `bytes_have_one_text`, by which the text that was written is the only right one.
-use Rattle.std.specs.Prelude.{◌≡◌, ℕ, ◌<◌, List, length, Option, Some, None, IfSome, Bool, true, false}
+-- How a call ends: its status, and what that says of the words, of the source and of the sink. Key
+-- laws: `complete`, and `bytes_have_one_text`, by which the text that was written is the only right
+-- one.
+use Rattle.std.specs.Prelude.{◌≡◌, ℕ, ◌<◌, List, length, Option, Some, None, IfSome, Bool, true, false, ◌≤◌}
 use Rattle.outside.specs.Bytes.{append_known, IsAtEnd}
 use Rattle.outside.specs.Calls.{HasFaulted}
 use Rattle.net_reader.specs.Reading.{most_bytes}
@@ -10,7 +11,8 @@ use Rattle.track.specs.declared.status.Status.TheVariants.{Done, Refused, BadWor
 use Rattle.track.specs.Answers.{IsText, is_served}
 use Rattle.track.specs.Transfer.{IsWrittenPart}
 
--- what stands before and after a call: the bytes left, the source's count of faults, the bytes written, the sink's
+-- what stands before and after a call: the bytes left, the source's count of faults, the bytes
+-- written, the sink's
 pub record Outside : Type 0 where
   pub left : Option (List ℕ)
   pub read_faults : ℕ
@@ -27,9 +29,10 @@ outside left read_faults written write_faults =
       write_faults = write_faults;
     }
 
--- the text of the bytes that were left was written whole
+-- the text of the bytes that were left was written whole; they are no more than may be read
 pub record IsWritten (command : Command) (status : Status) (bytes : List ℕ)
     (before now : Option (List ℕ)) : Type 0 where
+  pub short : length bytes ≤ most_bytes
   pub text : List ℕ
   pub right : IsText command bytes status text
   pub written : now ≡ append_known before text
@@ -37,6 +40,7 @@ pub record IsWritten (command : Command) (status : Status) (bytes : List ℕ)
 -- a front of it was written
 pub record IsBegun (command : Command) (bytes : List ℕ)
     (before now : Option (List ℕ)) : Type 0 where
+  pub short : length bytes ≤ most_bytes
   pub status : Status
   pub text : List ℕ
   pub right : IsText command bytes status text

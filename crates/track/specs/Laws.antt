@@ -15,8 +15,8 @@ BytesHaveOneText =
     (command : Command) (bytes : List ℕ) (s t : Status) (one other : List ℕ)
     → IsText command bytes s one → IsText command bytes t other → (s ≡ t) × (one ≡ other)
 
--- where the bytes say an input and aren't too many, and neither the source nor the sink failed, the whole text was written,
--- or memory was wanting
+-- where the bytes say an input and aren't too many, and neither the source nor the sink failed, the
+-- whole text was written, or memory was wanting
 abbrev pub IsComplete : Type 0
 IsComplete =
     (command : Command) (status : Status) (before now : Outside) (bytes : List ℕ)

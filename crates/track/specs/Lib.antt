@@ -1,4 +1,5 @@
 pub mod Transfer
 pub mod Answers
+pub mod Bodies
 pub mod Ends
 pub mod Laws

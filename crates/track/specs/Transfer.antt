@@ -38,3 +38,21 @@ pub record IsWrittenPart (text : List ℕ) (before now : Option (List ℕ)) : Ty
   pub back : List ℕ
   pub parts : text ≡ front ++ back
   pub written : now ≡ append_known before front
+
+-- of the text all was written but the bytes that wait
+pub record IsOnItsWay (before now : Option (List ℕ)) (text waiting : List ℕ) : Type 0 where
+  pub front : List ℕ
+  pub parts : text ≡ front ++ waiting
+  pub written : now ≡ append_known before front
+
+-- why a text wasn't written whole
+abbrev pub StopsWriting : Status → List ℕ → Option (List ℕ) → Option (List ℕ) → ℕ → ℕ → Type 0
+StopsWriting Done text before now faults_before faults_now = ⊥
+StopsWriting Refused text before now faults_before faults_now = ⊥
+StopsWriting BadWords text before now faults_before faults_now = ⊥
+StopsWriting OutOfMemory text before now faults_before faults_now =
+    (now ≡ before) × (faults_now ≡ faults_before)
+StopsWriting ReadFailed text before now faults_before faults_now = ⊥
+StopsWriting WriteFailed text before now faults_before faults_now =
+    HasFaulted faults_before faults_now × IsWrittenPart text before now
+StopsWriting TooLong text before now faults_before faults_now = ⊥

@@ -12,7 +12,8 @@ pub fn bytes_have_one_text()
     text_says_one();
 }
 
-/// Where the bytes say an input, not too long, and nothing failed, the whole text was written, or memory was wanting.
+/// Where the bytes say an input, not too long, and nothing failed, the whole text was written, or
+/// memory was wanting.
 pub fn complete()
     ensures { IsComplete }
 {

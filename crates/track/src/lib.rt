@@ -3,9 +3,11 @@
 
 mod answer;
 mod laws;
+mod outlet;
 mod status;
 mod top;
 mod transfer;
+mod writing;
 
 pub use laws::{bytes_have_one_text, complete};
 pub use top::command;

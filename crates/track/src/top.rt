@@ -7,7 +7,8 @@ ghost use Rattle.track.specs.Transfer.{IsRest};
 
 use crate::answer::make_answer;
 use crate::status::Status;
-use crate::transfer::{read_all, write_all};
+use crate::transfer::read_all;
+use crate::writing::write_body;
 use outside::{Sink, Source};
 use std::alloc::Global;
 use word_line::{Command, read_words};
@@ -16,7 +17,7 @@ use word_line::{Command, read_words};
 fn is_served(command: Command) -> bool
     ensures { result ≡ is_served command }
 {
-    matches!(command, Command::Cover | Command::Replay)
+    matches!(command, Command::Cover | Command::Replay | Command::Census)
 }
 
 // Reads the input, and writes what answers it.
@@ -42,7 +43,7 @@ fn perform<S: Source, K: Sink>(
         Ok(answer) => answer,
         Err(unmade) => return unmade,
     };
-    match write_all(sink, &answer.text) {
+    match write_body(alloc, &answer.body, sink) {
         Ok(()) => answer.status,
         Err(unwritten) => unwritten,
     }
@@ -50,12 +51,14 @@ fn perform<S: Source, K: Sink>(
 
 /// Does what the words say, the program's name left out, and answers the status to end with.
 ///
-/// docs/FORMATS.md tells the forms of the words, the input, the texts and the statuses. `cover` writes the plan of the
-/// input's network, and `replay` the report of what becomes of its calls under its order; the other forms aren't built yet, and
-/// end as words that are no form do. Nothing is written before the
-/// source answered its end, and the first fault of the source or the sink ends the work. Status 0 comes with the whole
-/// text, and 1 with the line that refuses the input; 2 are words that read and write nothing; 3 is want of memory; 4 a
-/// fault of the source; 5 a fault of the sink, where what was written begins the text; 6 an input that is too long.
+/// docs/FORMATS.md tells the forms of the words, the input, the texts and the statuses. `cover`
+/// writes the plan of the input's network, `replay` the report of what becomes of its calls under
+/// its order, and `census` tells who is where at their end; the other forms aren't built yet, and
+/// end as words that are no form do. Nothing is written before the source answered its end, and the
+/// first fault of the source or the sink ends the work. Status 0 comes with the whole text, and 1
+/// with the line that refuses the input; 2 are words that read and write nothing; 3 is want of
+/// memory; 4 a fault of the source; 5 a fault of the sink, where what was written begins the text;
+/// 6 an input that is too long.
 pub fn command<S: Source, K: Sink>(
     alloc: Global,
     words: &[String],

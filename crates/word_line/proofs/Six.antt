@@ -23,15 +23,27 @@ too_many (a ∷ b ∷ c ∷ d ∷ []) h = absurd (omega arith)
 too_many (a ∷ b ∷ c ∷ d ∷ e ∷ []) h = absurd (omega arith)
 too_many (a ∷ b ∷ c ∷ d ∷ e ∷ f ∷ []) h = absurd (omega arith)
 
-pub six : (words : List (String Global)) (a b c d e f : String Global) (at bt ct dt et ft : List ℕ) (network actors : Option (ℕ × ℕ × ℕ)) → 6 ≤ length words → length words < 7
-    → a ≡ get_or words 0 a → b ≡ get_or words 1 b → c ≡ get_or words 2 c → d ≡ get_or words 3 d → e ≡ get_or words 4 e → f ≡ get_or words 5 f
-    → at ≡ string_bytes a → bt ≡ string_bytes b → ct ≡ string_bytes c → dt ≡ string_bytes d → et ≡ string_bytes e → ft ≡ string_bytes f
-    → network ≡ network_of at bt ct → actors ≡ actors_of dt et ft → load_from network actors ≡ load_of (map string_bytes words)
-six (u ∷ v ∷ w ∷ x ∷ y ∷ z ∷ []) a b c d e f at bt ct dt et ft network actors some few ga gb gc gd ge gf sa sb sc sd se sf sn sm = cc
-six (u ∷ v ∷ w ∷ x ∷ y ∷ z ∷ t ∷ rest) a b c d e f at bt ct dt et ft network actors some few ga gb gc gd ge gf sa sb sc sd se sf sn sm = absurd (omega arith)
-six [] a b c d e f at bt ct dt et ft network actors some few ga gb gc gd ge gf sa sb sc sd se sf sn sm = absurd (omega arith)
-six (u ∷ []) a b c d e f at bt ct dt et ft network actors some few ga gb gc gd ge gf sa sb sc sd se sf sn sm = absurd (omega arith)
-six (u ∷ v ∷ []) a b c d e f at bt ct dt et ft network actors some few ga gb gc gd ge gf sa sb sc sd se sf sn sm = absurd (omega arith)
-six (u ∷ v ∷ w ∷ []) a b c d e f at bt ct dt et ft network actors some few ga gb gc gd ge gf sa sb sc sd se sf sn sm = absurd (omega arith)
-six (u ∷ v ∷ w ∷ x ∷ []) a b c d e f at bt ct dt et ft network actors some few ga gb gc gd ge gf sa sb sc sd se sf sn sm = absurd (omega arith)
-six (u ∷ v ∷ w ∷ x ∷ y ∷ []) a b c d e f at bt ct dt et ft network actors some few ga gb gc gd ge gf sa sb sc sd se sf sn sm = absurd (omega arith)
+pub six : (words : List (String Global)) (a b c d e f : String Global) (at bt ct dt et ft : List ℕ) (network actors :
+    Option (ℕ × ℕ × ℕ)) → 6 ≤ length words → length words < 7
+    → a ≡ get_or words 0 a → b ≡ get_or words 1 b → c ≡ get_or words 2 c → d ≡ get_or words 3 d → e ≡ get_or words 4 e
+    → f ≡ get_or words 5 f
+    → at ≡ string_bytes a → bt ≡ string_bytes b → ct ≡ string_bytes c → dt ≡ string_bytes d → et ≡ string_bytes e
+    → ft ≡ string_bytes f
+    → network ≡ network_of at bt ct → actors ≡ actors_of dt et ft
+    → load_from network actors ≡ load_of (map string_bytes words)
+six (u ∷ v ∷ w ∷ x ∷ y ∷ z ∷ []) a b c d e f at bt ct dt et ft network actors some few ga gb gc gd ge gf sa sb sc sd se
+    sf sn sm = cc
+six (u ∷ v ∷ w ∷ x ∷ y ∷ z ∷ t ∷ rest) a b c d e f at bt ct dt et ft network actors some few ga gb gc gd ge gf sa sb sc
+    sd se sf sn sm = absurd (omega arith)
+six [] a b c d e f at bt ct dt et ft network actors some few ga gb gc gd ge gf sa sb sc sd se sf sn sm =
+    absurd (omega arith)
+six (u ∷ []) a b c d e f at bt ct dt et ft network actors some few ga gb gc gd ge gf sa sb sc sd se sf sn sm =
+    absurd (omega arith)
+six (u ∷ v ∷ []) a b c d e f at bt ct dt et ft network actors some few ga gb gc gd ge gf sa sb sc sd se sf sn sm =
+    absurd (omega arith)
+six (u ∷ v ∷ w ∷ []) a b c d e f at bt ct dt et ft network actors some few ga gb gc gd ge gf sa sb sc sd se sf sn sm =
+    absurd (omega arith)
+six (u ∷ v ∷ w ∷ x ∷ []) a b c d e f at bt ct dt et ft network actors some few ga gb gc gd ge gf sa sb sc sd se sf sn
+    sm = absurd (omega arith)
+six (u ∷ v ∷ w ∷ x ∷ y ∷ []) a b c d e f at bt ct dt et ft network actors some few ga gb gc gd ge gf sa sb sc sd se sf
+    sn sm = absurd (omega arith)

@@ -1,5 +1,6 @@
--- The words of the command line: the forms that there are, and the command that each is. The first word is the command's
--- name, and the others are numbers, each within its limits; there are no more words. Computed: `example_words`.
+-- The words of the command line: the forms that there are, and the command that each is. The first
+-- word is the command's name, and the others are numbers, each within its limits; there are no more
+-- words. Computed: `example_words`.
 use Rattle.std.specs.Prelude.{ℕ, Bool, List, [], ◌∷◌, map, length, String, string_bytes, Option, Some, None, nat_le, ◌==◌, ◌&&◌, ◌||◌, if◌then◌else◌, codes}
 use Rattle.std.specs.Char.{is_ascii_digit}
 use Rattle.std.specs.Global.{Global}
@@ -31,7 +32,8 @@ number_in least most word = do
   number ← number_of word
   if nat_le least number && nat_le number most then Some number else None
 
--- the measures go together: with more than 256 nodes k is at least 2, and one node without callers has no call to make
+-- the measures go together: with more than 256 nodes k is at least 2, and one node without callers
+-- has no call to make
 abbrev pub is_sound : Load → Bool
 is_sound load =
     (nat_le load.nodes 256 || nat_le 2 load.k)
@@ -90,4 +92,5 @@ command_of (name ∷ rest) =
     (if bytes_eq name (codes "census") then alone Census rest else
     (if bytes_eq name (codes "run") then alone Run rest else
     (if bytes_eq name (codes "make") then (load_of rest >>= λ load. Some (Make load)) else
-    (if bytes_eq name (codes "trial") then (load_of rest >>= λ load. Some (Trial load)) else None)))))
+    (if bytes_eq name (codes "trial") then (load_of rest >>= λ load. Some (Trial load)) else
+    None)))))

@@ -7,17 +7,36 @@ ghost use Rattle.word_line.specs.Forms.{command_of};
 pub fn example_words()
     ensures cover { command_of (codes "cover" ∷ []) ≡ Some Cover }
     ensures run { command_of (codes "run" ∷ []) ≡ Some Run }
-    ensures make { command_of (codes "make" ∷ codes "042" ∷ codes "2" ∷ codes "2" ∷ codes "1" ∷ codes "0" ∷ codes "1" ∷ []) ≡ Some (Make (record { start = 42; nodes = 2; k = 2; subs = 1; callers = 0; calls = 1 })) }
-    ensures largest { command_of (codes "trial" ∷ codes "7" ∷ codes "1024" ∷ codes "2" ∷ codes "64" ∷ codes "64" ∷ codes "16384" ∷ []) ≡ Some (Trial (record { start = 7; nodes = 1024; k = 2; subs = 64; callers = 64; calls = 16384 })) }
+    ensures make { command_of (codes "make" ∷ codes "042" ∷ codes "2" ∷ codes "2" ∷ codes "1"
+        ∷ codes "0" ∷ codes "1" ∷ [])
+        ≡ Some (Make (record { start = 42; nodes = 2; k = 2; subs = 1; callers = 0; calls = 1 })) }
+    ensures largest { command_of (codes "trial" ∷ codes "7" ∷ codes "1024" ∷ codes "2"
+        ∷ codes "64" ∷ codes "64" ∷ codes "16384" ∷ [])
+        ≡ Some (Trial (record {
+          start = 7;
+          nodes = 1024;
+          k = 2;
+          subs = 64;
+          callers = 64;
+          calls =
+              16384;
+        })) }
     ensures nothing { command_of [] ≡ None }
     ensures more { command_of (codes "replay" ∷ codes "x" ∷ []) ≡ None }
     ensures option { command_of (codes "--help" ∷ []) ≡ None }
     ensures few { command_of (codes "make" ∷ codes "1" ∷ codes "2" ∷ []) ≡ None }
-    ensures no_call { command_of (codes "make" ∷ codes "1" ∷ codes "1" ∷ codes "1" ∷ codes "1" ∷ codes "0" ∷ codes "1" ∷ []) ≡ None }
-    ensures minus { command_of (codes "make" ∷ codes "-1" ∷ codes "2" ∷ codes "2" ∷ codes "1" ∷ codes "1" ∷ codes "1" ∷ []) ≡ None }
-    ensures wide { command_of (codes "make" ∷ codes "1" ∷ codes "257" ∷ codes "1" ∷ codes "1" ∷ codes "1" ∷ codes "1" ∷ []) ≡ None }
-    ensures widest { command_of (codes "make" ∷ codes "1" ∷ codes "1025" ∷ codes "2" ∷ codes "1" ∷ codes "1" ∷ codes "1" ∷ []) ≡ None }
-    ensures subs { command_of (codes "make" ∷ codes "1" ∷ codes "2" ∷ codes "2" ∷ codes "65" ∷ codes "1" ∷ codes "1" ∷ []) ≡ None }
-    ensures calls { command_of (codes "make" ∷ codes "1" ∷ codes "2" ∷ codes "2" ∷ codes "1" ∷ codes "1" ∷ codes "16385" ∷ []) ≡ None }
-    ensures digits { command_of (codes "make" ∷ codes "1000000000000000000" ∷ codes "2" ∷ codes "2" ∷ codes "1" ∷ codes "1" ∷ codes "1" ∷ []) ≡ None }
+    ensures no_call { command_of (codes "make" ∷ codes "1" ∷ codes "1" ∷ codes "1" ∷ codes "1"
+        ∷ codes "0" ∷ codes "1" ∷ []) ≡ None }
+    ensures minus { command_of (codes "make" ∷ codes "-1" ∷ codes "2" ∷ codes "2" ∷ codes "1"
+        ∷ codes "1" ∷ codes "1" ∷ []) ≡ None }
+    ensures wide { command_of (codes "make" ∷ codes "1" ∷ codes "257" ∷ codes "1" ∷ codes "1"
+        ∷ codes "1" ∷ codes "1" ∷ []) ≡ None }
+    ensures widest { command_of (codes "make" ∷ codes "1" ∷ codes "1025" ∷ codes "2" ∷ codes "1"
+        ∷ codes "1" ∷ codes "1" ∷ []) ≡ None }
+    ensures subs { command_of (codes "make" ∷ codes "1" ∷ codes "2" ∷ codes "2" ∷ codes "65"
+        ∷ codes "1" ∷ codes "1" ∷ []) ≡ None }
+    ensures calls { command_of (codes "make" ∷ codes "1" ∷ codes "2" ∷ codes "2" ∷ codes "1"
+        ∷ codes "1" ∷ codes "16385" ∷ []) ≡ None }
+    ensures digits { command_of (codes "make" ∷ codes "1000000000000000000" ∷ codes "2"
+        ∷ codes "2" ∷ codes "1" ∷ codes "1" ∷ codes "1" ∷ []) ≡ None }
 {}

@@ -9,7 +9,9 @@ pieces-preserved c =
     let piece = c.split_at.result.0.now in
     let back = c.split_at.result.1.now in
     let cut : rest ≡ piece ++ back =
-    sym (take-append-drop c.min.result rest) ∙ ap (λ (t : List ℕ). take c.min.result rest ++ t) (sym c.split_at.ensures.back) ∙ ap (λ (t : List ℕ). t ++ back) (sym c.split_at.ensures.front) in
+    sym (take-append-drop c.min.result rest)
+    ∙ ap (λ (t : List ℕ). take c.min.result rest ++ t) (sym c.split_at.ensures.back)
+    ∙ ap (λ (t : List ℕ). t ++ back) (sym c.split_at.ensures.front) in
     record {
       front = front ++ piece;
       parts = c.pieces.invariant.parts ∙ ap (λ (t : List ℕ). front ++ t) cut ∙ sym (append_assoc front piece back);

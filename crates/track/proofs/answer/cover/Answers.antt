@@ -1,6 +1,7 @@
-use Rattle.std.proofs.Common.{◌≡◌}
-use Rattle.report_text.specs.PlanText.{plan_text_of}
+use Rattle.std.proofs.Common.{refl}
 use Rattle.net_reader.specs.Seen.{seen_input}
+use Rattle.region_plan.specs.Regions.{IsPlanOf}
+use Rattle.report_text.specs.PlanText.{plan_text_of}
 use Rattle.track.specs.Answers.{IsPlanText}
 use Rattle.track.proofs.Answering.{if_ok, plan_of_graph}
 use Rattle.track.proofs.answer.cover.Goals as goal
@@ -9,9 +10,9 @@ pub returns : goal.returns
 returns c =
     let input = c.args.input.now in
     let contents = seen_input input in
-    let plan = c.in_ok-plan.plan in
-    if_ok c.plan_text.result (λ text. text.items ≡ plan_text_of plan) (λ text. IsPlanText contents text.items) (λ text is. record {
+    if_ok c.build.result (IsPlanOf c.args.graph.now input.k) (λ plan. IsPlanText contents (plan_text_of plan))
+    (λ plan is. record {
       plan = plan;
-      is = plan_of_graph contents c.in_ok-graph.graph input.k plan c.in_ok-graph.ensures c.in_ok-plan.ensures.plan;
-      text_is = is;
-    }) c.plan_text.ensures
+      is = plan_of_graph contents c.args.graph.now input.k plan c.requires.graph is;
+      text_is = refl;
+    }) c.build.ensures.plan

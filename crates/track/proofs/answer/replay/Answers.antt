@@ -1,21 +1,45 @@
-use Rattle.std.proofs.Common.{◌≡◌, ap, ◌∙◌}
-use Rattle.report_text.specs.ReportText.{report_of}
-use Rattle.machine.specs.Machines.{result_of}
+use Rattle.std.proofs.Common.{◌≡◌, ap, subst, ◌∙◌}
+use Rattle.directory.specs.Orders.{history_of}
+use Rattle.directory.specs.Outcomes.{Outcome, outcome_of}
+use Rattle.machine.specs.Machines.{result_of, scripts_at, setting_at, StandsFor, TellInTurn}
 use Rattle.net_reader.specs.Seen.{seen_input}
-use Rattle.track.specs.Answers.{IsReport}
-use Rattle.track.proofs.Answering.{if_ok, plan_of_graph}
+use Rattle.report_text.specs.ReportText.{report_of}
+use Rattle.track.specs.Answers.{outcome_under}
+use Rattle.track.proofs.Answering.{plan_of_graph}
+use Rattle.track.proofs.Playing.{play-ended, play-outcome}
 use Rattle.track.proofs.Replaying.{report-says}
 use Rattle.track.proofs.answer.replay.Goals as goal
+
+pub outcome-requires : goal.outcome-requires
+outcome-requires c = record {
+  stands = (
+    history_of (setting_at c.play.new.machine) (scripts_at c.play.new.machine) c.deref.result.now,
+    play-ended c.in_ok-machine.machine c.play.new.machine c.deref.result.now c.play.ensures.same c.play.ensures.stands,
+    c.all_scripts_done.ensures.done (setting_at c.play.new.machine) (scripts_at c.play.new.machine)
+        c.deref.result.now,
+  );
+}
 
 pub returns : goal.returns
 returns c =
     let input = c.args.input.now in
     let contents = seen_input input in
     let plan = c.in_ok-plan.plan in
-    if_ok c.report.result (λ text. text.items ≡ report_of (result_of c.in_ok-outcome.outcome))
-    (λ text. IsReport contents text.items) (λ text is. report-says c.outcomes_are_right.ensures.lines
-    c.plans_track.ensures c.plan_outcomes_are_near.ensures c.scripts_are_valid.ensures contents plan text.items
-    c.requires
-    (plan_of_graph contents c.in_ok-graph.graph input.k plan c.in_ok-graph.ensures c.in_ok-plan.ensures.plan)
-    (ap (λ d. d.nodes) c.in_ok-plan.ensures.copy ∙ (c.in_ok-distances.ensures.nodes ∙ c.in_ok-graph.ensures.nodes))
-    c.in_ok-plan.ensures.bounding (is ∙ ap report_of c.in_ok-outcome.ensures)) c.report.ensures
+    let last = c.play.new.machine in
+    let order = c.deref.result.now in
+    let history = history_of (setting_at last) (scripts_at last) order in
+    let stands : StandsFor last history =
+    play-ended c.in_ok-machine.machine last order c.play.ensures.same c.play.ensures.stands in
+    let done = c.all_scripts_done.ensures.done (setting_at last) (scripts_at last) order in
+    let is : result_of c.outcome.result ≡ outcome_under contents plan =
+    c.outcome.ensures.result history stands done
+    ∙ (ap (λ xs. outcome_of (setting_at last) (scripts_at last) xs) c.deref.ensures.value
+    ∙ play-outcome last input plan (c.play.ensures.same.0 ∙ c.in_ok-machine.ensures.made.0)
+    (c.play.ensures.same.1 ∙ c.in_ok-machine.ensures.made.1)) in
+    report-says contents plan
+    (subst (λ (o : Outcome). TellInTurn o.calls) is (c.outcome.ensures.in_turn history stands done))
+    c.outcomes_are_right.ensures.lines c.outcomes_are_right.ensures.numbers c.plans_track.ensures
+    c.plan_outcomes_are_near.ensures c.scripts_are_valid.ensures (report_of (result_of c.outcome.result))
+    c.requires.valid (plan_of_graph contents c.args.graph.now input.k plan c.requires.graph c.in_ok-plan.ensures.plan)
+    (ap (λ d. d.nodes) c.in_ok-plan.ensures.copy ∙ (c.in_ok-distances.ensures.nodes ∙ c.requires.graph.nodes))
+    c.in_ok-plan.ensures.bounding (ap report_of is)

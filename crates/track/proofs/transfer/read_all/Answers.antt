@@ -8,7 +8,8 @@ returns-in_err-feed-in-Got-clause-rest g c =
     let piece = take c.in-Got.more c.read.new.into in
     record {
       front = bytes ++ piece;
-      parts = c.pieces.invariant.parts ∙ ap (prepend_known bytes) c.in-Got.ensures.bytes ∙ sym (prepend_known-append bytes piece (g.S.Source.left c.read.new.self));
+      parts = c.pieces.invariant.parts ∙ ap (prepend_known bytes) c.in-Got.ensures.bytes
+          ∙ sym (prepend_known-append bytes piece (g.S.Source.left c.read.new.self));
     }
 
 pub pieces-preserved : goal.pieces-preserved
@@ -18,7 +19,15 @@ pieces-preserved g c =
     record {
       bytes = bytes ++ piece;
       stands = c.in_ok-feed-in-Got.ensures.fed bytes c.pieces.invariant.stands;
-      count = omega (arith, c.pieces.invariant.count, c.in-Got.ensures.within, length-append bytes piece, length-take c.in-Got.more c.read.new.into);
-      parts = c.pieces.invariant.parts ∙ ap (prepend_known bytes) c.in-Got.ensures.bytes ∙ sym (prepend_known-append bytes piece (g.S.Source.left c.read.new.self));
+      count = omega (
+        arith,
+        c.pieces.invariant.count,
+        c.in-Got.ensures.within,
+        length-append bytes piece,
+        length-take
+            c.in-Got.more c.read.new.into,
+      );
+      parts = c.pieces.invariant.parts ∙ ap (prepend_known bytes) c.in-Got.ensures.bytes
+          ∙ sym (prepend_known-append bytes piece (g.S.Source.left c.read.new.self));
       no_fault = c.in-Got.ensures.count ∙ c.pieces.invariant.no_fault;
     }

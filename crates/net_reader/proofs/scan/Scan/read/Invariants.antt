@@ -1,11 +1,11 @@
 use Rattle.std.proofs.Common.{◌≡◌, ◌+◌, ◌≤◌, length}
-use Rattle.net_reader.specs.Steps.{fed}
+use Rattle.net_reader.specs.Steps.{after_bytes}
 use Rattle.net_reader.specs.Seen.{seen_scan, IsWell}
 use Rattle.net_reader.proofs.scan.Scan.read.Given as goal
 
 abbrev pub invariant-bytes : goal.invariant-bytes
 invariant-bytes l = record {
-  rest : fed (seen_scan l.self) l.rest ≡ fed (seen_scan l.fn.self) l.fn.piece;
+  rest : after_bytes (seen_scan l.self) l.rest ≡ after_bytes (seen_scan l.fn.self) l.fn.piece;
   well : IsWell l.self.fault l.self.known;
   lines : l.self.lines + length l.rest ≤ l.fn.self.lines + length l.fn.piece;
 }

@@ -1,11 +1,22 @@
-use Rattle.std.proofs.Common.{◌++◌, take, sym, ap, ◌∙◌}
-use Rattle.std.proofs.lemmas.List.{take-append-drop}
-use Rattle.net_reader.specs.Seen.{seen_known, seen_line}
-use Rattle.net_reader.proofs.Feeding.{skipped}
+use Rattle.std.proofs.Common.{sym, ap, ◌∙◌, arith}
+use Rattle.net_reader.specs.declared.scan.Scan.{Scan}
+use Rattle.net_reader.specs.Steps.{after_bytes}
+use Rattle.net_reader.specs.Seen.{seen_known, seen_line, seen_scan}
+use Rattle.net_reader.proofs.Feeding.{ran}
+use Rattle.net_reader.proofs.Running.{run-length}
 use Rattle.net_reader.proofs.scan.Scan.skip.Goals as goal
 
 pub returns-clause-read : goal.returns-clause-read
 returns-clause-read c =
     let self = c.args.self.now in
-    let run = c.plain_run-field in
-    skipped self.fault self.begun self.held self.lines (seen_known self.known) (seen_line self.line) run.result.0 (take run.result.1 c.args.piece.now) c.split_at.result.1.now c.args.piece.now (sym c.is_some.ensures ∙ c.if-is_some.false) c.if-not-self.false c.if-self.false (sym (take-append-drop run.result.1 c.args.piece.now) ∙ ap (λ l. take run.result.1 c.args.piece.now ++ l) (sym c.split_at.ensures.back)) run.ensures.plain run.ensures.read
+    let rest = c.in_ok-rest.rest.now in
+    ap (λ (s : Scan). after_bytes (seen_scan s) rest) c.begin.ensures
+    ∙ ran self.fault self.begun self.held self.lines (seen_known self.known) (seen_line self.line)
+    (seen_line c.run.new.self) c.args.piece.now rest (sym c.is_some.ensures ∙ c.if-is_some.false) c.if-self.false
+    c.in_ok-rest.ensures
+    (omega (
+      arith,
+      c.if-rest-piece.false,
+      run-length (seen_line self.line) (seen_line c.run.new.self)
+          c.args.piece.now rest c.in_ok-rest.ensures,
+    ))

@@ -1,5 +1,5 @@
 use Rattle.std.proofs.Common.{◌≡◌, ◌≤◌, ◌+◌, ◌*◌, ◌++◌, length, take}
-use Rattle.report_text.specs.Texts.{fields}
+use Rattle.outside.specs.Texts.{fields}
 use Rattle.report_text.proofs.line.Line.numbers.Given as goal
 
 abbrev pub invariant-loop-number : goal.invariant-loop-number

@@ -1,0 +1,124 @@
+-- A text that is passed on piece by piece: what was written, and what waits.
+use Rattle.std.proofs.Common.{◌≡◌, ℕ, List, [], ◌∷◌, ◌++◌, drop, Option, Result, Ok, Err, sym, ap, subst, ◌∙◌, append_assoc, append-nil}
+use Rattle.std.specs.List.{concat}
+use Rattle.std.specs.Prelude.{IfErr}
+use Rattle.std.specs.Result.{IsErrAnd, OnOk}
+use Rattle.outside.specs.Bytes.{append_known, append_known-append}
+use Rattle.outside.specs.Calls.{HasFaulted}
+use Rattle.track.specs.declared.status.Status.{Status}
+use Rattle.track.specs.declared.status.Status.TheVariants as statuses
+use Rattle.track.specs.Transfer.{IsOnItsWay, IsWrittenPart, StopsWriting}
+
+-- all that waited was written, and a piece behind it
+pub long-moved : {E : Type 0} (result : Result (Unit {0}) E) (before mid now : Option (List ℕ))
+    (old piece waiting : List ℕ) → mid ≡ append_known before old → waiting ≡ []
+    → OnOk result (now ≡ append_known mid piece) → OnOk result (IsOnItsWay before now (old ++ piece) waiting)
+long-moved (Ok done) before mid now old piece waiting flushed none is = record {
+  front = old ++ piece;
+  parts = sym (append-nil (old ++ piece)) ∙ ap (λ w. (old ++ piece) ++ w) (sym none);
+  written = is ∙ ap (λ o. append_known o piece) flushed ∙ sym (append_known-append before old piece);
+}
+long-moved (Err fault) before mid now old piece waiting flushed none is = tt
+
+pub long-part : (before mid now : Option (List ℕ)) (old piece : List ℕ) → mid ≡ append_known before old
+    → IsWrittenPart piece mid now → IsWrittenPart (old ++ piece) before now
+long-part before mid now old piece flushed part = record {
+  front = old ++ part.front;
+  back = part.back;
+  parts = ap (λ t. old ++ t) part.parts ∙ sym (append_assoc old part.front part.back);
+  written = part.written ∙ ap (λ o. append_known o part.front) flushed
+      ∙ sym (append_known-append before old part.front);
+}
+
+-- one piece more is on its way
+pub onward : (before mid now : Option (List ℕ)) (text waiting piece left : List ℕ) → IsOnItsWay before mid text waiting
+    → IsOnItsWay mid now (waiting ++ piece) left → IsOnItsWay before now (text ++ piece) left
+onward before mid now text waiting piece left one two = record {
+  front = one.front ++ two.front;
+  parts = ap (λ t. t ++ piece) one.parts ∙ append_assoc one.front waiting piece
+      ∙ ap (λ t. one.front ++ t) two.parts ∙ sym (append_assoc one.front two.front left);
+  written = two.written ∙ ap (λ o. append_known o two.front) one.written
+      ∙ sym (append_known-append before one.front two.front);
+}
+
+-- what was written begins the whole text
+begins : (before mid now : Option (List ℕ)) (total text waiting piece rest : List ℕ)
+    → IsOnItsWay before mid text waiting → IsWrittenPart (waiting ++ piece) mid now
+    → total ≡ text ++ (piece ++ rest) → IsWrittenPart total before now
+begins before mid now total text waiting piece rest one part whole = record {
+  front = one.front ++ part.front;
+  back = part.back ++ rest;
+  parts = whole ∙ ap (λ t. t ++ (piece ++ rest)) one.parts ∙ append_assoc one.front waiting (piece ++ rest)
+      ∙ ap (λ t. one.front ++ t) (sym (append_assoc waiting piece rest) ∙ ap (λ t. t ++ rest) part.parts
+      ∙ append_assoc part.front part.back rest)
+      ∙ sym (append_assoc one.front part.front (part.back ++ rest));
+  written = part.written ∙ ap (λ o. append_known o part.front) one.written
+      ∙ sym (append_known-append before one.front part.front);
+}
+
+pub stopped-writing : (status : Status) (before mid now : Option (List ℕ)) (total text waiting piece rest : List ℕ)
+    (f g h : ℕ) → (status ≡ statuses.WriteFailed) × HasFaulted g h → g ≡ f → IsOnItsWay before mid text waiting
+    → IsWrittenPart (waiting ++ piece) mid now → total ≡ text ++ (piece ++ rest)
+    → StopsWriting status total before now f h
+stopped-writing status before mid now total text waiting piece rest f g h failed same one part whole =
+    subst (λ (s : Status). StopsWriting s total before now f h) (sym failed.0) (
+      subst (λ (x : ℕ). HasFaulted x h) same failed.1,
+      begins before mid now total text waiting piece rest one part whole,
+    )
+
+pub err-then : (result : Result (Unit {0}) Status) (P Q : Status → Type 0) → IsErrAnd result P
+    → ((status : Status) → P status → Q status) → IfErr result Q
+err-then (Ok done) P Q h on = tt
+err-then (Err status) P Q h on = on status h
+
+-- at the end what waits is written
+pub ends-all : {E : Type 0} (result : Result (Unit {0}) E) (before mid now : Option (List ℕ))
+    (total text waiting : List ℕ) → IsOnItsWay before mid text waiting → total ≡ text
+    → OnOk result (now ≡ append_known mid waiting) → OnOk result (now ≡ append_known before total)
+ends-all (Ok done) before mid now total text waiting one whole is =
+    is ∙ ap (λ o. append_known o waiting) one.written ∙ sym (append_known-append before one.front waiting)
+    ∙ ap (append_known before) (sym one.parts ∙ sym whole)
+ends-all (Err fault) before mid now total text waiting one whole is = tt
+
+pub ends-no_fault : {E : Type 0} (result : Result (Unit {0}) E) (f g h : ℕ) → g ≡ f → OnOk result (h ≡ g)
+    → OnOk result (h ≡ f)
+ends-no_fault (Ok done) f g h same is = is ∙ same
+ends-no_fault (Err fault) f g h same is = tt
+
+pub ends-stopped : (result : Result (Unit {0}) Status) (before mid now : Option (List ℕ))
+    (total text waiting : List ℕ) (f g h : ℕ)
+    → IfErr result (λ status. (status ≡ statuses.WriteFailed) × HasFaulted g h) → g ≡ f
+    → IsOnItsWay before mid text waiting → IsWrittenPart waiting mid now → total ≡ text
+    → IfErr result (λ status. StopsWriting status total before now f h)
+ends-stopped (Ok done) before mid now total text waiting f g h failed same one part whole = tt
+ends-stopped (Err status) before mid now total text waiting f g h failed same one part whole =
+    stopped-writing status before mid now total text waiting [] [] f g h failed same one
+    (subst (λ t. IsWrittenPart t mid now) (sym (append-nil waiting)) part)
+    (whole ∙ sym (append-nil text))
+
+-- a line more of those that are left
+pub line-more : (total text line : List ℕ) (left rest : List (List ℕ)) → total ≡ text ++ concat left
+    → left ≡ line ∷ drop 1 left → rest ≡ drop 1 left → total ≡ (text ++ line) ++ concat rest
+line-more total text line left rest whole first others =
+    whole ∙ ap (λ ls. text ++ concat ls) first ∙ sym (append_assoc text line (concat (drop 1 left)))
+    ∙ ap (λ ls. (text ++ line) ++ concat ls) (sym others)
+
+pub line-first : (total text line : List ℕ) (left : List (List ℕ)) → total ≡ text ++ concat left
+    → left ≡ line ∷ drop 1 left → total ≡ text ++ (line ++ concat (drop 1 left))
+line-first total text line left whole first = whole ∙ ap (λ ls. text ++ concat ls) first
+
+pub no-lines : (total text : List ℕ) (left : List (List ℕ)) → total ≡ text ++ concat left → left ≡ [] → total ≡ text
+no-lines total text left whole none = whole ∙ ap (λ ls. text ++ concat ls) none ∙ append-nil text
+
+-- a part more of what is left
+pub part-more : (total text part left rest : List ℕ) → total ≡ text ++ left → left ≡ part ++ rest
+    → total ≡ (text ++ part) ++ rest
+part-more total text part left rest whole first =
+    whole ∙ ap (λ t. text ++ t) first ∙ sym (append_assoc text part rest)
+
+pub part-first : (total text part left rest : List ℕ) → total ≡ text ++ left → left ≡ part ++ rest
+    → total ≡ text ++ (part ++ rest)
+part-first total text part left rest whole first = whole ∙ ap (λ t. text ++ t) first
+
+pub no-parts : (total text left : List ℕ) → total ≡ text ++ left → left ≡ [] → total ≡ text
+no-parts total text left whole none = whole ∙ ap (λ t. text ++ t) none ∙ append-nil text

@@ -1,0 +1,15 @@
+-- The text of what answers an input.
+use Rattle.std.specs.Prelude.{ℕ, List}
+use Rattle.machine.specs.Machines.{result_of}
+use Rattle.report_text.specs.PlanText.{plan_text_of}
+use Rattle.report_text.specs.ReportText.{refused_line_of, report_of}
+use Rattle.track.specs.declared.answer.Body.{Body}
+use Rattle.track.specs.declared.answer.Body.TheVariants as bodies
+
+-- a plan has its text, an outcome its report, a census is its text, and a fault has the line that
+-- refuses
+abbrev pub text_of : Body → List ℕ
+text_of (bodies.Plan plan) = plan_text_of plan
+text_of (bodies.Report outcome) = report_of (result_of outcome)
+text_of (bodies.Census text) = text.items
+text_of (bodies.Refusal fault) = refused_line_of fault
