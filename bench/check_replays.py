@@ -1,6 +1,6 @@
 #!/usr/bin/env python3
-"""Compares the reports that `replay` writes with those of another program of the same words, byte for byte, on made inputs with
-moves, switches, finds and orders: seeds from FIRST on, each one input.
+"""Compares what `replay` and `census` write with what another program of the same words does, byte for byte, on made inputs
+with moves, switches, finds and orders: seeds from FIRST on, each one input.
 
 Usage, at the top of the repository: bench/check_replays.py OTHER [COUNT [FIRST]]   It runs crates/track_main/out/track_main."""
 import random
@@ -61,9 +61,9 @@ def made(seed):
     return "\n".join(lines).encode() + b"\n"
 
 
-def report(program, text):
+def answer(program, word, text):
     """What a program writes, and its status."""
-    done = subprocess.run([program, "replay"], input=text, stdout=subprocess.PIPE, check=False)
+    done = subprocess.run([program, word], input=text, stdout=subprocess.PIPE, check=False)
     return done.returncode, done.stdout
 
 
@@ -74,12 +74,15 @@ def main():
     served = again = 0
     for seed in range(first, first + count):
         text = made(seed)
-        ours, others = report(OURS, text), report(other, text)
-        if ours != others:
+        status, report = answer(OURS, "replay", text)
+        if (status, report) != answer(other, "replay", text):
             sys.exit(f"seed {seed}: another report")
-        served += ours[0] == 0
-        again += (b"\n" + ours[1]).count(b"\nagain ")
-    print(f"{count} inputs from seed {first} on: all reports equal; {served} were served, {again} finds are to be made again")
+        if answer(OURS, "census", text) != answer(other, "census", text):
+            sys.exit(f"seed {seed}: another census")
+        served += status == 0
+        again += (b"\n" + report).count(b"\nagain ")
+    print(f"{count} inputs from seed {first} on: all reports and censuses equal; {served} were served,",
+          f"{again} finds are to be made again")
 
 
 if __name__ == "__main__":
