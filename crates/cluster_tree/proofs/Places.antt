@@ -1,10 +1,10 @@
 -- Places in ascending lists, and the weights that stand beside them.
 use Rattle.std.proofs.Common.{◌≡◌, ℕ, ◌<◌, true, false, cond, ◌||◌, List, [], ◌∷◌, ◌++◌, length, get_or, refl, sym, ◌∙◌}
 use Rattle.std.proofs.Common.{ap, subst, inl, inr, arith, eqb, eq-eqb, ne_eqb}
-use Rattle.std.proofs.lemmas.Bool.{cases_eq}
+use Rattle.std.proofs.lemmas.Bool.{cases_eq, or_left}
 use Rattle.node_set.specs.Ascending.{has, IsAscending}
 use Rattle.cluster_tree.specs.Tree.{weight_beside}
-use Rattle.cluster_tree.specs.PlaceLaws.{or_left, place_of, beside_place}
+use Rattle.cluster_tree.specs.PlaceLaws.{place_of, beside_place}
 
 pub beside_old : (v y w : ℕ) (xs ws : List ℕ) → has v xs ≡ true → length ws ≡ length xs
     → weight_beside v (xs ++ y ∷ []) (ws ++ w ∷ []) ≡ weight_beside v xs ws

@@ -13,6 +13,10 @@ abbrev pub make_cluster : ℕ → List ℕ → List ℕ → WeighedCluster
 make_cluster leader members weights =
     record { leader = leader; members = members; weights = weights }
 
+-- the old weights stand as they were, before any new ones
+abbrev pub StandBefore : List ℕ → List ℕ → Type 0
+StandBefore old new = (more : List ℕ) × (new ≡ old ++ more)
+
 -- the weights inside the cluster from the leader to each member, in the order of the members, stand
 -- after the old ones
 pub record IsAppended (network : Network) (members : List ℕ) (leader : ℕ) (old new : List ℕ) : Type

@@ -1,21 +1,13 @@
 -- Laws of places in lists of members, and of the weights that stand beside them, for proofs.
-use Rattle.std.proofs.Common.{◌≤◌, Ok, Err, ◌≡◌, ℕ, zero, suc, ◌<◌, Bool, true, false, cond, ◌||◌}
+use Rattle.std.proofs.Common.{◌≤◌, Ok, Err, ◌≡◌, ℕ, zero, suc, ◌<◌, true, false, cond, ◌||◌}
 use Rattle.std.proofs.Common.{List, [], ◌∷◌, length, get_or, refl, sym, ◌∙◌, ap, subst, inl, inr}
 use Rattle.std.proofs.Common.{arith, eqb, eq-eqb, ne_eqb}
 use Rattle.std.specs.List.Sorted.{IsBinarySearchResult}
 use Rattle.std.specs.Ordering.{nat_cmp}
 use Rattle.std.proofs.lemmas.List.Sorted.{searched}
-use Rattle.std.proofs.lemmas.Bool.{cases_eq, cases_lt}
+use Rattle.std.proofs.lemmas.Bool.{cases_eq, cases_lt, or_left, or_right}
 use Rattle.node_set.specs.Ascending.{has, IsBelowAll, IsAscending}
 use Rattle.cluster_tree.specs.Tree.{weight_beside}
-
-pub or_right : (b c : Bool) → c ≡ true → (b || c) ≡ true
-or_right true c h = refl
-or_right false c h = h
-
-pub or_left : (b c : Bool) → b ≡ true → (b || c) ≡ true
-or_left true c h = refl
-or_left false c h = let both : false ≡ true = h in cc
 
 pub has_place : (xs : List ℕ) (i : ℕ) → i < length xs → has (get_or xs i 0) xs ≡ true
 has_place [] i below = absurd (omega arith)

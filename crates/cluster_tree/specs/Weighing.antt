@@ -29,6 +29,7 @@ pub record IsFirstMissing (set : Nodes) (weights : List (Option ℕ)) (node : �
   pub missing : at_node weights node ≡ None
   pub first : (v : ℕ) → v < node → has v set.members ≡ true → (w : ℕ) × (at_node weights v ≡ Some w)
 
+-- `Outside` names the first such; memory may run out at any time
 abbrev pub IsMissing : Nodes → List (Option ℕ) → TreeFault → Type 0
 IsMissing set weights (Outside node) = IsFirstMissing set weights node
 IsMissing set weights OutOfMemory = ⊤

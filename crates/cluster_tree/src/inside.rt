@@ -1,13 +1,14 @@
 //! The weights inside a cluster, for callers that keep those of many clusters in one flat list.
 
-ghost use Rattle.std.specs.Prelude.{◌≡◌, ◌<◌, ◌++◌, All, Contains, IfErr, IfOk, IsTrue, OnOk};
-ghost use Rattle.std.specs.Prelude.{length, map, slice_index, true};
+ghost use Rattle.std.specs.Prelude.{◌≡◌, ◌<◌, ◌++◌, All, Contains, IfErr, IfOk, IsTrue};
+ghost use Rattle.std.specs.Prelude.{OnErr, OnOk, length, map, slice_index, true};
 ghost use Rattle.net_graph.specs.Layout.{IsArc};
 ghost use Rattle.net_graph.specs.Trees.{AreDistancesFrom};
 ghost use Rattle.node_set.specs.Ascending.{IsAscending, has};
 ghost use Rattle.node_set.specs.Nodes.{AreNodes};
 ghost use Rattle.cluster_tree.specs.Faults.{IsTreeFault};
 ghost use Rattle.cluster_tree.specs.Inside.{AreJoined, HasNearer, IsAppended, IsWritten};
+ghost use Rattle.cluster_tree.specs.Inside.{StandBefore};
 
 use crate::fault::TreeFault;
 use crate::weighing::{flags_of, weigh};
@@ -18,7 +19,8 @@ use std::alloc::Global;
 /// Appends to `weights` the weight inside a cluster from its leader to each member, in the order of
 /// `members`, which are those of `cluster`, and gives the greatest of them. `row` has the distances
 /// from the leader. `Outside` names the least member that no walk through members alone reaches
-/// from the leader. After an error `weights` may end in some weights of this cluster.
+/// from the leader. After an error the old weights stand, and some weights of this cluster may
+/// stand after them.
 ///
 /// A search is needed only where some member has no arc from a member that is nearer to the leader
 /// by just the arc's weight: else the weights inside are the distances.
@@ -38,6 +40,7 @@ pub fn inside_weights(
     ensures written { IfOk result
         (IsWritten graph.now members.now leader weights.old.items weights.new.items) }
     ensures fault { IfErr result (IsTreeFault graph.now members.now leader) }
+    ensures kept { OnErr result (StandBefore weights.old.items weights.new.items) }
 {
     let start = weights.len();
     push_inside(alloc, graph, row, cluster, members, leader, weights)?;
@@ -62,6 +65,7 @@ fn push_inside(
         (IsAppended graph.now members.now leader weights.old.items weights.new.items) }
     ensures ordered { IsAscending members.now }
     ensures fault { IfErr result (IsTreeFault graph.now members.now leader) }
+    ensures kept { OnErr result (StandBefore weights.old.items weights.new.items) }
 {
     members_ascend(cluster);
     if are_joined(graph, row, cluster, members, leader) {
@@ -115,8 +119,9 @@ fn has_nearer(arcs: &[Arc], row: &[u32], cluster: &NodeSet, far: u32) -> bool
 // Appends the distance of each member.
 fn push_distances(row: &[u32], members: &[u32], weights: &mut Vec<u32>) -> Result<(), OutOfMemory>
     requires { All (λ v. v < length row.now) members.now }
-    ensures { OnOk result
+    ensures appended { OnOk result
         (weights.new.items ≡ weights.old.items ++ map (slice_index row.now) members.now) }
+    ensures kept { OnErr result (StandBefore weights.old.items weights.new.items) }
 {
     for member in members {
         weights.push(row[*member as usize])?;
@@ -138,6 +143,7 @@ fn push_found(
         (IsAppended graph.now cluster.now.members leader weights.old.items
         weights.new.items) }
     ensures fault { IfErr result (IsTreeFault graph.now cluster.now.members leader) }
+    ensures kept { OnErr result (weights.new.items ≡ weights.old.items) }
 {
     let flags = flags_of(alloc, cluster)?;
     let found = graph.weights_from(alloc, &flags, leader)?;

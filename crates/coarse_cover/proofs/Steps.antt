@@ -5,6 +5,7 @@ use Rattle.std.proofs.Common.{subst, arith}
 use Rattle.std.proofs.Math.Nat.{le_refl}
 use Rattle.std.proofs.lemmas.Bool.{cases_lt, false≢true, not-true, not_from_false, false_from_ne_true, and_right}
 use Rattle.node_set.specs.Ascending.{has}
+use Rattle.node_set.specs.Scan.{IsNext}
 use Rattle.node_set.specs.SetLaws.{has-passing, passing_over, ascending-passing}
 use Rattle.coarse_cover.specs.Coarsening.{cluster_of, phase, phases, without_home, all_clusters, coarsening}
 use Rattle.coarse_cover.specs.Covers.{cluster_list, as_cluster}
@@ -404,3 +405,11 @@ none_next balls k r a rest old new leads ready gone none v h =
           subst (λ (u : ℕ). has u (apart balls (cluster_of balls k r old a).members old) ≡ false) (sym same)
           (leader_gone balls k r a old rest leads ready)
     ]
+
+-- none waits below the next
+pub none_waits : (waiting : List ℕ) (from a : ℕ) → ((v : ℕ) → v < from → has v waiting ≡ false) → IsNext waiting from a
+    → (v : ℕ) → v < a → has v waiting ≡ false
+none_waits waiting from a before next v below = elim (cases_lt v from) [
+  | inl less ↦ before v less
+  | inr more ↦ next.first v more below
+]

@@ -73,4 +73,4 @@ pub record IsAdded (n : ℕ) (balls : List (List ℕ)) (c : GrownCluster) (old n
       cond (has v c.homed) (length before.clusters.items) (get_or before.home.items v 0)
   pub phases : after.phases ≡ before.phases
   pub sized : IsSized n new
-  pub home_len : length after.home.items ≡ n
+  pub home_count : length after.home.items ≡ n

@@ -1,4 +1,4 @@
-// What a coarsening gives.
+//! What a coarsening gives.
 use node_set::NodeSet;
 
 /// A set of nodes that merges some of the balls.

@@ -58,7 +58,7 @@ fn add_cluster(
     requires few { k ≤ 8 }
     requires within { r ≤ 1024 }
     requires sized { IsSized (length balls.now) work.old }
-    requires home_len { length cover.old.home.items ≡ length balls.now }
+    requires home_count { length cover.old.home.items ≡ length balls.now }
     requires numbers { length cover.old.clusters.items < 2 ^ 32 }
     requires ready { IsReady (sets balls.now) k r work.old.waiting.members }
     requires first { first < length balls.now }
@@ -107,7 +107,7 @@ pub fn make_phase(
     requires low { 1 ≤ k }
     requires few { k ≤ 8 }
     requires sized { IsSized (length balls.now) work.old }
-    requires home_len { length cover.old.home.items ≡ length balls.now }
+    requires home_count { length cover.old.home.items ≡ length balls.now }
     requires between { IsBetween (sets balls.now) k work.old.left.members
         cover.old.clusters.items cover.old.home.items cover.old.phases }
     requires some { 0 < length work.old.left.members }
@@ -115,19 +115,17 @@ pub fn make_phase(
         cover.new.clusters.items cover.new.home.items cover.new.phases) }
     ensures next { OnOk result (cover.new.phases ≡ cover.old.phases + 1) }
     ensures sized { OnOk result (IsSized (length balls.now) work.new) }
-    ensures home_len { OnOk result (length cover.new.home.items ≡ length balls.now) }
+    ensures home_count { OnOk result (length cover.new.home.items ≡ length balls.now) }
 {
     // The call tells the proof that no more balls are left than there are.
     let _room = work.left.room();
     work.waiting.assign(&work.left);
     let r = work.left.count();
-    for first in 0..balls.len() {
-        if work.waiting.has(first as u32) {
-            add_cluster(alloc, balls, rows, k, r, first, work, cover)?;
-        }
+    let mut from = 0;
+    'first: while let Some(first) = work.waiting.next_from(from) {
+        add_cluster(alloc, balls, rows, k, r, first as usize, work, cover)?;
+        from = first + 1;
     }
-    // The call tells the proof that no ball waits beyond them.
-    let _all = work.waiting.room();
     cover.phases += 1;
     Ok(())
 }

@@ -1,4 +1,4 @@
-// The line 0 - 1 - 2 - 3 of unit weights, by its balls of radius 1; and longer paths.
+//! The line 0 - 1 - 2 - 3 of unit weights, by its balls of radius 1; and longer paths.
 ghost use Rattle.std.specs.Prelude.{◌≡◌, ◌<◌, ◌≤◌, [], ◌∷◌, IfOk, All, length, true};
 ghost use Rattle.node_set.specs.Ascending.{has, with_number};
 ghost use Rattle.node_set.specs.Balls.{sets, AreCentred};

@@ -1,5 +1,6 @@
--- All distances by leaving out one node after another. `c` are the weights in a table, `d` the
--- lengths of least walks, and `left` says which nodes are left.
+-- All distances by leaving out one node after another, as the private functions do; callers stand
+-- on `Table` alone, and proofs/ joins the two. `c` are the weights in a table, `d` the lengths of
+-- least walks, and `left` says which nodes are left.
 use Rattle.std.specs.Prelude.{◌≡◌, ◌≢◌, ◌⊎◌, ℕ, ◌+◌, ◌*◌, ◌<◌, ◌≤◌, List, [], ◌∷◌, ◌++◌, All, Contains, length}
 use Rattle.distances.specs.declared.elimination.Near.{Near}
 use Rattle.distances.specs.declared.elimination.Stage.{Stage}
@@ -34,6 +35,7 @@ pub record KeepsLengths (left : ℕ → Type 0) (c d : ℕ → ℕ → ℕ) : Ty
   pub turned : (a b : ℕ) → left a → left b → c a b ≡ c b a
   pub goes_on : (a b : ℕ) → left a → left b → a ≢ b → GoesOn left c d a b
 
+-- a node that is near at this weight
 abbrev pub make_near : ℕ → ℕ → Near
 make_near x w = record { node = x; weight = w }
 

@@ -145,6 +145,10 @@ mod tests {
         assert_eq!(rt; distances.between(2, 1), 1);
         assert_eq!(rt; distances.row(2), [2, 1, 0, 1].as_slice());
         assert_eq!(rt; distances.diameter(), 3);
+        let ball = distances.ball(rt.alloc(), 1, 1)?;
+        assert_eq!(rt; ball.room(), 4);
+        assert_eq!(rt; ball.count(), 3);
+        assert!(rt; ball.room() == 4 && ball.has(0) && ball.has(1) && ball.has(2) && !ball.has(3));
         let copy = distances.copy(rt.alloc())?;
         assert_eq!(rt; copy.nodes(), 4);
         assert_eq!(rt; copy.between(0, 3), 3);

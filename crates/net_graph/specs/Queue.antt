@@ -10,6 +10,7 @@ use Rattle.net_graph.specs.Walks.{among}
 abbrev pub Waiting : Type 0
 Waiting = Reverse (ℕ × ℕ)
 
+-- a node that waits at this weight
 abbrev pub make_waiting : ℕ → ℕ → Waiting
 make_waiting weight node = record { 0 = (weight, node) }
 

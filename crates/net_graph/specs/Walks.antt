@@ -1,8 +1,7 @@
 -- Walks along the edges of a network, and the least weight of a walk whose nodes all lie in a set.
 -- Each definition takes the list of edges and a test `inside`, that says which nodes a walk may
--- visit. Key laws, public functions of `laws`: a least weight is one, it is the same from either
--- end, it obeys the triangle inequality, it is 0 from a node to itself, and what has a least weight
--- is not unreached.
+-- visit. Key laws: `least_weight_is_one`, `least_weight_turned` (the same from either end),
+-- `least_weights_add_up`, `least_weight_to_itself`, `least_weight_is_reached`.
 use Rattle.std.specs.Prelude.{◌≡◌, ◌⊎◌, ℕ, ◌+◌, ◌≤◌, Bool, true, false, List, [], ◌∷◌, Contains, IsTrue, slice_index_or}
 use Rattle.net_graph.specs.declared.edge.Edge.{Edge}
 

@@ -1,5 +1,5 @@
 -- Sets of numbers, written as strictly ascending lists: membership, one number more, the union of
--- two sets, and whether two sets share a number, the numbers that pass a test. Key laws:
+-- two sets, whether two sets share a number, and the numbers of a range that pass a test. Key laws:
 -- `same_members` (an ascending list is determined by its members), `has-inserted` and `has-union`
 -- (what the members are), `share_means`.
 use Rattle.std.specs.Prelude.{ℕ, zero, suc, ◌<◌, Bool, false, cond, ◌||◌, List, [], ◌∷◌, ◌==◌, nat_lt}

@@ -1,32 +1,8 @@
 -- Laws of the next number of a set, for proofs: the numbers so far, one after another.
 -- Key laws: `next_taken` (the next number is the only one more), `none_left` (where there is no
 -- next number, all are taken).
-use Rattle.std.proofs.Common.{
-  ◌≡◌,
-  inl,
-  inr,
-  ℕ,
-  zero,
-  suc,
-  ◌+◌,
-  ◌-◌,
-  ◌<◌,
-  ◌≤◌,
-  Bool,
-  true,
-  false,
-  List,
-  [],
-  ◌∷◌,
-  ◌++◌,
-  refl,
-  sym,
-  ◌∙◌,
-  ap,
-  subst,
-  arith,
-}
-use Rattle.std.proofs.lemmas.Bool.{cases_lt, false≢true}
+use Rattle.std.proofs.Common.{◌≡◌, inl, inr, ℕ, zero, suc, ◌+◌, ◌-◌, ◌<◌, ◌≤◌, Bool, false, List, [], ◌∷◌, ◌++◌, sym, ◌∙◌, ap, arith}
+use Rattle.std.proofs.lemmas.Bool.{cases_lt}
 use Rattle.node_set.specs.Ascending.{has, IsAscending, sift}
 use Rattle.node_set.specs.Scan.{IsNext, IsNoneFrom}
 use Rattle.node_set.specs.SetLaws.{has-passing, passing_over, ascending-passing, passing_takes, passing_skips, same_members}

@@ -1,4 +1,4 @@
-// Lists of words side by side, four places at a time.
+//! Lists of words side by side, four places at a time.
 ghost use Rattle.std.specs.Prelude.{◌≡◌, ◌↔◌, ◌+◌, ◌≤◌, length, IsTrue};
 ghost use Rattle.node_set.specs.Lanes.{Meet, MeetWithin, AreJoined, AreJoinedWithin};
 

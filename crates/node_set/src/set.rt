@@ -1,4 +1,4 @@
-// The set itself: one bit for each number below the room.
+//! The set itself: one bit for each number below the room.
 ghost use Rattle.std.specs.Prelude.{◌≡◌, ◌+◌, ◌*◌, ◌≤◌, ◌<◌, [], ◌∷◌, filter, length, nat_le, not, slice_index, IfNone, IfOk, IfSome};
 ghost use Rattle.node_set.specs.Ascending.{has, with_number, sift, union, share};
 ghost use Rattle.node_set.specs.Nodes.{AreNodes};

@@ -32,7 +32,7 @@ append_known-append None a b = refl
 append_known-append (Some bytes) a b =
     ap (λ (bytes : List ℕ). Some bytes) (sym (append_assoc bytes a b))
 
--- nothing in front, or nothing behind, changes nothing
+-- nothing in front changes nothing
 pub prepend_known-nil : (rest : Option (List ℕ)) → prepend_known [] rest ≡ rest
 prepend_known-nil None = refl
 prepend_known-nil (Some rest) = refl

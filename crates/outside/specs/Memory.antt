@@ -1,7 +1,7 @@
 -- The state of a source and of a sink in memory, as contracts see it, and what one call of each
 -- does: it fails where its number is among those that were named, and else moves as many bytes as
 -- it may.
-use Rattle.std.specs.Prelude.{ℕ, ◌+◌, List, min}
+use Rattle.std.specs.Prelude.{ℕ, List}
 
 -- a source with these bytes left, after so many calls
 pub record SourceState : Type 0 where
@@ -19,7 +19,3 @@ pub record SinkState : Type 0 where
   pub fail : List ℕ
   pub calls : ℕ
   pub faults : ℕ
-
--- one more, up to the type's end
-abbrev pub one_more : ℕ → ℕ
-one_more count = min (count + 1) 18446744073709551615

@@ -1,4 +1,4 @@
-// A copy to the front of a buffer.
+//! A copy to the front of a buffer.
 ghost use Rattle.std.specs.Prelude.{◌≡◌, ◌≤◌, ◌++◌, length, take, drop};
 
 // Copies so many bytes from the front of one slice to the front of another, whose rest stays as it

@@ -1,8 +1,7 @@
-// A sink in memory, which fails at the calls that it is told.
+//! A sink in memory, which fails at the calls that it is told.
 ghost use Rattle.std.specs.Prelude.{◌≡◌, ◌≢◌, ◌-◌, ◌<◌, ◌≤◌, ◌↔◌, ◌⊎◌, Some, length, take, min, Contains, vec_len, vec_capacity};
 ghost use Rattle.outside.specs.Bytes.{append_known};
-ghost use Rattle.outside.specs.Calls.{count_given, GivesWithin, CountsWrite};
-ghost use Rattle.outside.specs.Memory.{one_more};
+ghost use Rattle.outside.specs.Calls.{count_given, GivesWithin, CountsWrite, one_more};
 
 use crate::{Gave, Sink};
 use std::marker::Model;

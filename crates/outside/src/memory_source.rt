@@ -1,8 +1,7 @@
-// A source in memory, which fails at the calls that it is told.
+//! A source in memory, which fails at the calls that it is told.
 ghost use Rattle.std.specs.Prelude.{◌≡◌, ◌≢◌, ◌<◌, ◌≤◌, ◌↔◌, Some, length, drop, take, min, Contains};
 ghost use Rattle.outside.specs.Bytes.{prepend_known, IsAtEnd};
-ghost use Rattle.outside.specs.Calls.{count_taken, TakesWithin, CountsRead};
-ghost use Rattle.outside.specs.Memory.{one_more};
+ghost use Rattle.outside.specs.Calls.{count_taken, TakesWithin, CountsRead, one_more};
 
 use crate::copy::copy_front;
 use crate::{Source, Took};

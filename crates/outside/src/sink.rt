@@ -1,4 +1,4 @@
-// What a sink for bytes is.
+//! What a sink for bytes is.
 ghost use Rattle.std.specs.Prelude.{◌≡◌, ◌<◌, ℕ, List, Option, length, take};
 ghost use Rattle.outside.specs.Bytes.{append_known};
 ghost use Rattle.outside.specs.Calls.{count_given, GivesWithin, CountsWrite};
@@ -8,7 +8,7 @@ ghost use Rattle.outside.specs.Calls.{count_given, GivesWithin, CountsWrite};
 pub enum Gave {
     /// So many bytes of the piece end what was written now; at least one.
     Wrote(usize),
-    /// The write failed, and nothing was written.
+    /// The write failed. No byte counts as written, though a writer below may have taken some.
     Failed,
 }
 

@@ -1,4 +1,4 @@
-// What a source of bytes is.
+//! What a source of bytes is.
 ghost use Rattle.std.specs.Prelude.{◌≡◌, ◌<◌, ℕ, List, Option, length, take, drop};
 ghost use Rattle.outside.specs.Bytes.{prepend_known, IsAtEnd};
 ghost use Rattle.outside.specs.Calls.{count_taken, TakesWithin, CountsRead};

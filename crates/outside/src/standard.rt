@@ -1,5 +1,6 @@
-// Sources and sinks over std's readers and writers: the edge of what is proved. They tell no bytes.
-ghost use Rattle.std.specs.Prelude.{◌≡◌, ◌≢◌, ◌<◌, ◌≤◌, None, IfOk, length, drop, take};
+//! Sources and sinks over std's readers and writers: the edge of what is proved.
+//! They tell no bytes.
+ghost use Rattle.std.specs.Prelude.{◌≡◌, ◌≢◌, ◌<◌, ◌≤◌, ℕ, None, IfErr, IfOk, length, drop, take};
 ghost use Rattle.outside.specs.Bytes.{prepend_known, append_known, IsAtEnd};
 ghost use Rattle.std.specs.Io.KnownBytes.{Consumes, Appends};
 ghost use Rattle.std.specs.Io.KnownBytes.{IsAtEnd as IsReaderAtEnd};
@@ -93,6 +94,8 @@ impl<W: Write> StdSink<W> {
         ensures same { self.new.faults ≡ self.old.faults }
         ensures passes { IfOk result (λ count. Appends (W.contents self.old.writer) (W.contents
             self.new.writer) (take count piece.now)) }
+        ensures fails { IfErr result (λ _. (count : ℕ) × (count ≤ length piece.now) × Appends
+            (W.contents self.old.writer) (W.contents self.new.writer) (take count piece.now)) }
     {
         let count = self.writer.write(piece)?;
         self.writer.flush()?;
@@ -113,6 +116,10 @@ impl<W: Write> Sink for StdSink<W> {
         ensures passes { result ≢ Gave.Failed
             → Appends (W.contents self.old.writer) (W.contents self.new.writer) (take (count_given
             result) piece.now) }
+
+        // After a fault the writer may have taken a front of the piece, and nothing else.
+        ensures fails { result ≡ Gave.Failed → (count : ℕ) × (count ≤ length piece.now) × Appends
+            (W.contents self.old.writer) (W.contents self.new.writer) (take count piece.now) }
     {
         match self.push(piece) {
             Ok(count) if count > 0 => Gave::Wrote(count),

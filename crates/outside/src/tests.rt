@@ -1,4 +1,4 @@
-// What no clause says: that the calls succeed, and what std's readers and writers do below them.
+//! What no clause says: that the calls succeed, and what std's readers and writers do below them.
 use super::*;
 use std::io::{Error, ErrorKind, Read, Write};
 use std::test::Fail;
@@ -31,19 +31,21 @@ fn sink_in_memory(rt: HostRuntime) -> Result<(), Fail> {
     Ok(())
 }
 
-// A device whose every call fails.
+// A device whose every call fails in one way.
 #[derive(Drop)]
-struct Broken;
+struct Broken {
+    kind: ErrorKind,
+}
 
 impl Read for Broken {
     fn read(&mut self, _: &mut [u8]) -> std::io::Result<usize> {
-        Err(Error::from(ErrorKind::Other))
+        Err(Error::from(self.kind))
     }
 }
 
 impl Write for Broken {
     fn write(&mut self, _: &[u8]) -> std::io::Result<usize> {
-        Err(Error::from(ErrorKind::Other))
+        Err(Error::from(self.kind))
     }
 
     fn flush(&mut self) -> std::io::Result<()> {
@@ -61,7 +63,22 @@ fn source_over_a_reader(rt: HostRuntime) {
     assert_eq!(rt; source.read(&mut buffer), Took::Got(1));
     assert_eq!(rt; &buffer[..], b"cb".as_slice());
     assert_eq!(rt; source.read(&mut buffer), Took::End);
-    assert_eq!(rt; StdSource::new(Broken).read(&mut buffer), Took::Failed);
+}
+
+// A call that fails is a fault, also one that a stream interrupts or would let wait.
+#[test]
+fn devices_that_fail(rt: HostRuntime) {
+    let mut buffer = [b'-'; 2];
+    for kind in [
+        ErrorKind::Other,
+        ErrorKind::Interrupted,
+        ErrorKind::WouldBlock,
+    ] {
+        let mut source = StdSource::new(Broken { kind });
+        assert_eq!(rt; source.read(&mut buffer), Took::Failed);
+        let mut sink = StdSink::new(Broken { kind });
+        assert_eq!(rt; sink.write(b"a"), Gave::Failed);
+    }
 }
 
 // A read of more than the source's own buffer takes what that holds, and the next one goes on
@@ -91,7 +108,6 @@ fn sink_over_a_writer(rt: HostRuntime) {
     assert_eq!(rt; sink.write(b"ab"), Gave::Wrote(2));
     assert_eq!(rt; sink.write(b"c"), Gave::Wrote(1));
     assert_eq!(rt; bytes.as_slice(), b"abc".as_slice());
-    assert_eq!(rt; StdSink::new(Broken).write(b"a"), Gave::Failed);
 }
 
 // A device that takes one byte a call, and shows what it took where it is flushed.

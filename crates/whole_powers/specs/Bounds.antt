@@ -1,6 +1,6 @@
 -- The inequalities behind the growth of clusters and the number of phases.
--- Key laws: each statement here is the clause of the law of its name, as `PowersAdd` of
--- `powers_add`.
+-- Key laws: each statement is a clause of the law of its name, as `PowersAdd` of `powers_add`; the
+-- first two are those of `bernoulli`.
 use Rattle.std.specs.Prelude.{ℕ, suc, ◌+◌, ◌-◌, ◌*◌, ◌^◌, ◌<◌, ◌≤◌, List, length}
 use Rattle.whole_powers.specs.Phases.{FallsBy}
 

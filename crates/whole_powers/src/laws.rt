@@ -1,4 +1,4 @@
-// Laws of powers, over all natural numbers.
+//! Laws of powers, over all natural numbers.
 ghost use Rattle.whole_powers.specs.Bounds.{BernoulliAbove, BernoulliBelow, PowersAdd, OnePhase, PhasesBound};
 
 /// Bernoulli's inequality, above one and below one.

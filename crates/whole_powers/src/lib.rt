@@ -32,6 +32,7 @@ mod tests {
     fn growth_at_the_limits(rt: HostRuntime) -> Result<(), Fail> {
         // z, k, r, y and whether z ^ k is at most r * y ^ k
         let rows = [
+            (4, 2, 4, 3, true),
             (0, 1, 0, 0, true),
             (0, 8, 0, 0, true),
             (1, 1, 0, 1, false),

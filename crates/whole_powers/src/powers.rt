@@ -1,4 +1,4 @@
-// Powers, and the growth test, in 128 bits.
+//! Powers, and the growth test, in 128 bits.
 ghost use Rattle.std.specs.Prelude.{◌≡◌, ◌↔◌, ◌*◌, ◌^◌, ◌<◌, ◌≤◌, IsTrue, SomeIff};
 
 /// `b ^ k`, or `None` where it is above 2^128 - 1. `power(b, 0)` is 1.

@@ -2,7 +2,7 @@
 use Rattle.std.proofs.Common.{◌≡◌, ℕ, ◌≤◌, ◌<◌, List, [], ◌∷◌, length, map, get_or, Option, None, refl, arith, string_bytes}
 use Rattle.std.specs.Prelude.{String}
 use Rattle.std.specs.Global.{Global}
-use Rattle.word_line.specs.Forms.{load_of, load_from, network_of, actors_of}
+use Rattle.word_line.specs.Forms.{load_of, load_from, network_numbers, actor_numbers}
 
 pub too_few : (words : List (String Global)) → length words < 6 → None ≡ load_of (map string_bytes words)
 too_few [] h = refl
@@ -29,7 +29,7 @@ pub six : (words : List (String Global)) (a b c d e f : String Global) (at bt ct
     → f ≡ get_or words 5 f
     → at ≡ string_bytes a → bt ≡ string_bytes b → ct ≡ string_bytes c → dt ≡ string_bytes d → et ≡ string_bytes e
     → ft ≡ string_bytes f
-    → network ≡ network_of at bt ct → actors ≡ actors_of dt et ft
+    → network ≡ network_numbers at bt ct → actors ≡ actor_numbers dt et ft
     → load_from network actors ≡ load_of (map string_bytes words)
 six (u ∷ v ∷ w ∷ x ∷ y ∷ z ∷ []) a b c d e f at bt ct dt et ft network actors some few ga gb gc gd ge gf sa sb sc sd se
     sf sn sm = cc

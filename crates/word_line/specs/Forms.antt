@@ -15,6 +15,7 @@ use Rattle.word_line.specs.declared.load.Load.{Load}
 abbrev pub bytes_of : List (String Global) → List (List ℕ)
 bytes_of words = map string_bytes words
 
+-- the rest goes on where there is a value
 infixl 10 ◌>>=◌
 abbrev pub ◌>>=◌ : {A B : Type 0} → Option A → (A → Option B) → Option B
 None >>= f = None
@@ -39,20 +40,21 @@ is_sound load =
     (nat_le load.nodes 256 || nat_le 2 load.k)
     && (nat_le 2 load.nodes || nat_le 1 load.callers || load.calls == 0)
 
+-- the load, where its measures go together
 abbrev pub sound_alone : Load → Option Load
 sound_alone load = if is_sound load then Some load else None
 
 -- where the draws start, how many nodes, and the trade-off
-abbrev pub network_of : List ℕ → List ℕ → List ℕ → Option (ℕ × ℕ × ℕ)
-network_of start nodes k = do
+abbrev pub network_numbers : List ℕ → List ℕ → List ℕ → Option (ℕ × ℕ × ℕ)
+network_numbers start nodes k = do
   start ← number_of start
   nodes ← number_in 1 1024 nodes
   k ← number_in 1 8 k
   Some (start, nodes, k)
 
 -- how many subscribers, callers and calls
-abbrev pub actors_of : List ℕ → List ℕ → List ℕ → Option (ℕ × ℕ × ℕ)
-actors_of subs callers calls = do
+abbrev pub actor_numbers : List ℕ → List ℕ → List ℕ → Option (ℕ × ℕ × ℕ)
+actor_numbers subs callers calls = do
   subs ← number_in 1 64 subs
   callers ← number_in 0 64 callers
   calls ← number_in 0 16384 calls
@@ -75,7 +77,7 @@ load_from network actors = do
 -- the load that six numbers are: START N K S C CALLS
 abbrev pub load_of : List (List ℕ) → Option Load
 load_of (start ∷ nodes ∷ k ∷ subs ∷ callers ∷ calls ∷ []) =
-    load_from (network_of start nodes k) (actors_of subs callers calls)
+    load_from (network_numbers start nodes k) (actor_numbers subs callers calls)
 load_of _ = None
 
 -- the command, where no word stands behind its name

@@ -1,4 +1,4 @@
-// Words that are read, on both sides of each limit.
+//! Words that are read, on both sides of each limit.
 use crate::{Command, Load, WordsFault, read_words};
 use std::alloc::Global;
 use std::test::Fail;
@@ -50,6 +50,25 @@ fn made_loads(rt: HostRuntime) -> Result<(), Fail> {
         calls: 0,
     };
     assert_eq!(rt; read_words(&least), Ok(Command::Trial(load)));
+    Ok(())
+}
+
+#[test]
+fn loads_just_within(rt: HostRuntime) -> Result<(), Fail> {
+    let alloc = rt.alloc();
+    let wide = words(alloc, "make 1 256 1 1 1 1")?;
+    let load = Load {
+        start: 1,
+        nodes: 256,
+        k: 1,
+        subs: 1,
+        callers: 1,
+        calls: 1,
+    };
+    assert_eq!(rt; read_words(&wide), Ok(Command::Make(load)));
+    let lone = words(alloc, "make 1 1 1 1 1 1")?;
+    let load = Load { nodes: 1, ..load };
+    assert_eq!(rt; read_words(&lone), Ok(Command::Make(load)));
     Ok(())
 }
 

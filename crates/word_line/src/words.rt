@@ -2,7 +2,7 @@
 ghost use Rattle.std.specs.Prelude.{◌≡◌};
 ghost use Rattle.std.specs.Option.{ok_or};
 ghost use Rattle.word_line.specs.declared.command.WordsFault.TheVariants.{Refused};
-ghost use Rattle.word_line.specs.Forms.{actors_of, alone, bytes_of, command_of, is_sound, load_from, load_of, network_of};
+ghost use Rattle.word_line.specs.Forms.{actor_numbers, alone, bytes_of, command_of, is_sound, load_from, load_of, network_numbers};
 
 use crate::number::{number_in, number_of};
 use crate::{Command, Load, WordsFault};
@@ -29,8 +29,8 @@ fn is_sound(load: &Load) -> bool
 }
 
 // The network of a load: where its draws start, its nodes and its trade-off.
-fn network_of(start: &str, nodes: &str, k: &str) -> Option<(u64, u32, u32)>
-    ensures { result ≡ network_of start.now nodes.now k.now }
+fn network_numbers(start: &str, nodes: &str, k: &str) -> Option<(u64, u32, u32)>
+    ensures { result ≡ network_numbers start.now nodes.now k.now }
 {
     let start = number_of(start)?;
     let nodes = number_in(1, MAX_NODES, nodes)?;
@@ -39,8 +39,8 @@ fn network_of(start: &str, nodes: &str, k: &str) -> Option<(u64, u32, u32)>
 }
 
 // The actors of a load and how many calls they make.
-fn actors_of(subs: &str, callers: &str, calls: &str) -> Option<(u32, u32, u32)>
-    ensures { result ≡ actors_of subs.now callers.now calls.now }
+fn actor_numbers(subs: &str, callers: &str, calls: &str) -> Option<(u32, u32, u32)>
+    ensures { result ≡ actor_numbers subs.now callers.now calls.now }
 {
     let subs = number_in(1, MAX_SUBS, subs)?;
     let callers = number_in(0, MAX_CALLERS, callers)?;
@@ -72,7 +72,10 @@ fn load_of(words: &[String]) -> Option<Load>
     let [start, nodes, k, subs, callers, calls] = words else {
         return None;
     };
-    load_from(network_of(start, nodes, k), actors_of(subs, callers, calls))
+    load_from(
+        network_numbers(start, nodes, k),
+        actor_numbers(subs, callers, calls),
+    )
 }
 
 // The command, where no word stands behind its name.

@@ -26,8 +26,8 @@ returns-then-are_joined-clause-appended c =
     c.requires.members
     (c.if-are_joined.ensures refl))
     c.args.weights.now.items c.push_distances.new.weights.items
-    (c.in_ok-push_distances.ensures ∙ ap (λ (xs : List ℕ). c.args.weights.now.items ++ map (slice_index c.args.row.now)
-    xs) c.requires.members))
+    (c.in_ok-push_distances.ensures.appended
+    ∙ ap (λ (xs : List ℕ). c.args.weights.now.items ++ map (slice_index c.args.row.now) xs) c.requires.members))
 
 pub returns-then-are_joined-clause-ordered : goal.returns-then-are_joined-clause-ordered
 returns-then-are_joined-clause-ordered c = rw c.requires.members c.members_ascend.ensures.ascending

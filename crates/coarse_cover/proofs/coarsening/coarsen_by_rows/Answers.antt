@@ -24,7 +24,7 @@ phase-init c =
           c.requires.low
           c.requires.centred all);
       sized = c.in_ok-work.ensures.sized;
-      home_len = sym c.in_ok-vec.field-0.ok.0 ∙ c.in_ok-vec.ensures.len;
+      home_count = sym c.in_ok-vec.field-0.ok.0 ∙ c.in_ok-vec.ensures.len;
     }
 
 -- no ball is left
@@ -32,14 +32,14 @@ cover_is : (balls : List Nodes) (k : ℕ) (left : List ℕ) (cover : Cover) → 
     → IsBetween (sets balls) k left cover.clusters.items cover.home.items cover.phases → length cover.home.items
     ≡ length balls
     → IsCover (length balls) (coarsening (sets balls) k) cover
-cover_is balls k left cover none between home_len =
+cover_is balls k left cover none between home_count =
     subst (λ (n : ℕ). IsCover n (coarsening (sets balls) k) cover) (length-sets balls)
-    (is_cover (sets balls) k left cover between (nothing_in left none) (home_len ∙ sym (length-sets balls)))
+    (is_cover (sets balls) k left cover between (nothing_in left none) (home_count ∙ sym (length-sets balls)))
 
 pub returns-clause-exact : goal.returns-clause-exact
 returns-clause-exact c =
     cover_is c.args.balls.now c.args.k c.phase.work.left.members c.phase.cover
-    (subst (λ (n : ℕ). n ≤ 0) c.count.ensures c.phase-test.false) c.phase.invariant.between c.phase.invariant.home_len
+    (subst (λ (n : ℕ). n ≤ 0) c.count.ensures c.phase-test.false) c.phase.invariant.between c.phase.invariant.home_count
 
 pub returns-clause-few : goal.returns-clause-few
 returns-clause-few c =
@@ -47,4 +47,5 @@ returns-clause-few c =
     (clusters_few (sets c.args.balls.now) c.args.k (length c.args.balls.now) c.phase.cover c.requires.low
     c.requires.centred
     (cover_is c.args.balls.now c.args.k c.phase.work.left.members c.phase.cover
-    (subst (λ (n : ℕ). n ≤ 0) c.count.ensures c.phase-test.false) c.phase.invariant.between c.phase.invariant.home_len))
+    (subst (λ (n : ℕ). n ≤ 0) c.count.ensures c.phase-test.false) c.phase.invariant.between
+    c.phase.invariant.home_count))

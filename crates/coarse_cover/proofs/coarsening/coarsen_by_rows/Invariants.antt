@@ -8,7 +8,7 @@ abbrev pub invariant-phase : goal.invariant-phase
 invariant-phase l = record {
   between : IsBetween (sets l.balls) l.k l.work.left.members l.cover.clusters.items l.cover.home.items l.cover.phases;
   sized : IsSized (length l.balls) l.work;
-  home_len : length l.cover.home.items ≡ length l.balls;
+  home_count : length l.cover.home.items ≡ length l.balls;
 }
 
 abbrev pub decreases-phase : goal.decreases-phase

@@ -14,12 +14,12 @@ cluster_with first members phase = record { first = first; members = members; ph
 
 pub returns : goal.returns
 returns c =
-    let home_len : length c.set_homes.new.home ≡ length c.args.cover.now.home.items =
+    let home_count : length c.set_homes.new.home ≡ length c.args.cover.now.home.items =
     c.set_homes.auto.home ∙ ap length c.deref_mut.ensures.value
     in
     let home : take c.args.cover.now.home.len
     (c.set_homes.new.home ++ drop (length c.set_homes.new.home) c.args.cover.now.home.items) ≡ c.set_homes.new.home =
-    written c.args.cover.now.home.len c.set_homes.new.home c.args.cover.now.home.items home_len
+    written c.args.cover.now.home.len c.set_homes.new.home c.args.cover.now.home.items home_count
     c.args.cover.now.home.ok.0
     in
     let number : c.len-number.result ≡ length c.args.cover.now.clusters.items =
@@ -41,7 +41,7 @@ returns c =
           c.args.cover.now.phases
           c.args.work.now.waiting.members));
       homes = λ v h. rw home (c.set_homes.ensures v
-          (omega (arith, c.requires.home_len, ap length c.deref_mut.ensures.value))
+          (omega (arith, c.requires.home_count, ap length c.deref_mut.ensures.value))
           ∙ ap (λ (l : List ℕ). cond (has v l) c.len-number.result (get_or c.deref_mut.result.now v 0))
           c.in_ok-members.ensures.taken
           ∙ ap (λ (n : ℕ). cond (has v (cluster_of (sets c.args.balls.now) c.args.k c.args.r
@@ -57,5 +57,5 @@ returns c =
         taken = c.in_ok-members.ensures.taken_room;
         touched = c.in_ok-members.ensures.touched_room;
       };
-      home_len = rw home (home_len ∙ c.requires.home_len);
+      home_count = rw home (home_count ∙ c.requires.home_count);
     }

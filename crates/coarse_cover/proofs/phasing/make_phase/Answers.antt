@@ -1,21 +1,19 @@
 use Rattle.std.proofs.Common.{◌≡◌, inl, inr, ◌<◌, ◌≤◌, ℕ, List, [], ◌∷◌, false, length, ap, arith, refl, sym, ◌∙◌}
-use Rattle.std.proofs.Common.{subst, add-one, below_more}
+use Rattle.std.proofs.Common.{subst, add-one}
 use Rattle.coarse_cover.specs.Coarsening.{cluster_of}
 use Rattle.coarse_cover.specs.Progress.{IsAdded}
 use Rattle.coarse_cover.proofs.Leading.{lead, nothing_at, members_few}
 use Rattle.node_set.specs.Ascending.{has}
 use Rattle.node_set.specs.Nodes.{Nodes}
-use Rattle.std.proofs.lemmas.Bool.{cases_lt, false_from_ne_true}
-use Rattle.node_set.specs.SetLaws.{below-has}
+use Rattle.std.proofs.lemmas.Bool.{cases_lt}
 use Rattle.coarse_cover.proofs.Steps.{in_phase_start, in_phase_next, in_phase_end, in_phase_numbers, in_phase_number}
-use Rattle.coarse_cover.proofs.Steps.{none_next}
+use Rattle.coarse_cover.proofs.Steps.{none_next, none_waits}
 use Rattle.coarse_cover.proofs.phasing.make_phase.Goals as goal
 use Rattle.node_set.specs.Balls.{GrownCluster, sets}
 use Rattle.node_set.specs.BallLaws.{length-sets}
-use Rattle.coarse_cover.proofs.phasing.make_phase.Goals.{then-has+in_ok-add_cluster, else-has}
 
-pub loop-first-init : goal.loop-first-init
-loop-first-init c =
+pub first-init : goal.first-init
+first-init c =
     let copied : c.assign.new.self.members
     ≡ c.args.work.now.left.members = ap (λ (s : Nodes). s.members) c.assign.ensures in
     record {
@@ -30,7 +28,7 @@ loop-first-init c =
         taken = c.requires.sized.taken;
         touched = c.requires.sized.touched;
       };
-      home_len = c.requires.home_len;
+      home_count = c.requires.home_count;
       phases_kept = refl;
       small = omega (
         arith,
@@ -42,86 +40,70 @@ loop-first-init c =
 
 pub add_cluster-requires-clause-numbers : goal.add_cluster-requires-clause-numbers
 add_cluster-requires-clause-numbers c =
-    let few : length c.loop-first.cover.clusters.items ≤ length (sets c.args.balls.now) =
-    in_phase_numbers (sets c.args.balls.now) c.args.k c.count-r.result c.loop-first.work.waiting.members
-    c.loop-first.work.left.members c.loop-first.cover.clusters.items c.loop-first.cover.home.items
-    c.loop-first.cover.phases
-    c.requires.low c.requires.centred c.loop-first.invariant.in_phase
+    let few : length c.first.cover.clusters.items ≤ length (sets c.args.balls.now) =
+    in_phase_numbers (sets c.args.balls.now) c.args.k c.count-r.result c.first.work.waiting.members
+    c.first.work.left.members c.first.cover.clusters.items c.first.cover.home.items
+    c.first.cover.phases
+    c.requires.low c.requires.centred c.first.invariant.in_phase
     in
     omega (arith, length-sets c.args.balls.now)
 
 pub add_cluster-requires-clause-leads : goal.add_cluster-requires-clause-leads
 add_cluster-requires-clause-leads c =
-    lead c.loop-first.work.waiting.members c.loop-first.first c.loop-first.invariant.in_phase.ready.ascending
-    (sym c.has.ensures ∙ c.if-has.true) c.loop-first.invariant.none_before
+    lead c.first.work.waiting.members c.in-Some.first c.first.invariant.in_phase.ready.ascending
+    c.in-Some.ensures.some.member
+    (none_waits c.first.work.waiting.members c.first.from c.in-Some.first c.first.invariant.none_before
+    c.in-Some.ensures.some)
 
-pub loop-first-preserved : goal.loop-first-preserved
-loop-first-preserved c =
-    elim c.if-has.branch [
-      | then-has+in_ok-add_cluster w ↦
-          let leads : (rest : List ℕ) × (c.loop-first.work.waiting.members ≡ c.loop-first.first ∷ rest) =
-          lead c.loop-first.work.waiting.members c.loop-first.first c.loop-first.invariant.in_phase.ready.ascending
-          (sym c.has.ensures ∙ w.if-has.true) c.loop-first.invariant.none_before
-          in
-          let cluster : GrownCluster = cluster_of (sets c.args.balls.now) c.args.k c.count-r.result
-          c.loop-first.work.waiting.members c.loop-first.first in
-          let added : IsAdded (length c.args.balls.now) (sets c.args.balls.now) cluster c.loop-first.work
-          w.add_cluster.new.work c.loop-first.cover w.add_cluster.new.cover = w.in_ok-add_cluster.ensures in
-          rw (w.work-is, w.cover-is) (record {
-            in_phase = in_phase_next (sets c.args.balls.now) c.args.k c.count-r.result c.loop-first.first leads.0
-                c.loop-first.work w.add_cluster.new.work c.loop-first.cover w.add_cluster.new.cover leads.1
-                c.loop-first.invariant.in_phase (subst
-                (λ (n : ℕ). IsAdded n (sets c.args.balls.now) cluster c.loop-first.work w.add_cluster.new.work
-                c.loop-first.cover w.add_cluster.new.cover) (sym (length-sets c.args.balls.now)) added);
-            none_before = none_next (sets c.args.balls.now) c.args.k c.count-r.result c.loop-first.first leads.0
-                c.loop-first.work.waiting.members w.add_cluster.new.work.waiting.members leads.1
-                c.loop-first.invariant.in_phase.ready added.waiting c.loop-first.invariant.none_before;
-            sized = added.sized;
-            home_len = added.home_len;
-            phases_kept = added.phases ∙ c.loop-first.invariant.phases_kept;
-            small = c.loop-first.invariant.small;
-          })
-      | else-has w ↦
-          let here : has c.loop-first.first c.loop-first.work.waiting.members ≡ false = sym c.has.ensures
-          ∙ w.if-has.false in
-          rw (w.work-is, w.cover-is) (record {
-            in_phase = c.loop-first.invariant.in_phase;
-            none_before = below_more (λ v. has v c.loop-first.work.waiting.members ≡ false) c.loop-first.first
-                c.loop-first.invariant.none_before here;
-            sized = c.loop-first.invariant.sized;
-            home_len = c.loop-first.invariant.home_len;
-            phases_kept = c.loop-first.invariant.phases_kept;
-            small = c.loop-first.invariant.small;
-          })
-    ]
+pub first-preserved : goal.first-preserved
+first-preserved c =
+    let before : (v : ℕ) → v < c.in-Some.first → has v c.first.work.waiting.members ≡ false =
+    none_waits c.first.work.waiting.members c.first.from c.in-Some.first c.first.invariant.none_before
+    c.in-Some.ensures.some
+    in
+    let leads : (rest : List ℕ) × (c.first.work.waiting.members ≡ c.in-Some.first ∷ rest) =
+    lead c.first.work.waiting.members c.in-Some.first c.first.invariant.in_phase.ready.ascending
+    c.in-Some.ensures.some.member before
+    in
+    let cluster : GrownCluster = cluster_of (sets c.args.balls.now) c.args.k c.count-r.result
+    c.first.work.waiting.members c.in-Some.first in
+    let added : IsAdded (length c.args.balls.now) (sets c.args.balls.now) cluster c.first.work
+    c.add_cluster.new.work c.first.cover c.add_cluster.new.cover = c.in_ok-add_cluster.ensures in
+    record {
+      in_phase = in_phase_next (sets c.args.balls.now) c.args.k c.count-r.result c.in-Some.first leads.0
+          c.first.work c.add_cluster.new.work c.first.cover c.add_cluster.new.cover leads.1
+          c.first.invariant.in_phase (subst
+          (λ (n : ℕ). IsAdded n (sets c.args.balls.now) cluster c.first.work c.add_cluster.new.work
+          c.first.cover c.add_cluster.new.cover) (sym (length-sets c.args.balls.now)) added);
+      none_before = none_next (sets c.args.balls.now) c.args.k c.count-r.result c.in-Some.first leads.0
+          c.first.work.waiting.members c.add_cluster.new.work.waiting.members leads.1
+          c.first.invariant.in_phase.ready added.waiting before;
+      sized = added.sized;
+      home_count = added.home_count;
+      phases_kept = added.phases ∙ c.first.invariant.phases_kept;
+      small = c.first.invariant.small;
+    }
 
 pub overflow_add-cover : goal.overflow_add-cover
 overflow_add-cover c =
-    let few : c.loop-first.cover.phases < length (sets c.args.balls.now) =
-    in_phase_number (sets c.args.balls.now) c.args.k c.count-r.result c.loop-first.work.waiting.members
-    c.loop-first.work.left.members c.loop-first.cover.clusters.items c.loop-first.cover.home.items
-    c.loop-first.cover.phases
-    c.requires.low c.requires.centred c.loop-first.invariant.in_phase
+    let few : c.first.cover.phases < length (sets c.args.balls.now) =
+    in_phase_number (sets c.args.balls.now) c.args.k c.count-r.result c.first.work.waiting.members
+    c.first.work.left.members c.first.cover.clusters.items c.first.cover.home.items
+    c.first.cover.phases
+    c.requires.low c.requires.centred c.first.invariant.in_phase
     in
     omega (arith, length-sets c.args.balls.now)
 
 pub returns-clause-between : goal.returns-clause-between
 returns-clause-between c =
-    let none : c.loop-first.work.waiting.members ≡ [] =
-    nothing_at c.loop-first.work.waiting.members (λ v. elim (cases_lt v c.loop-first.first) [
-      | inl below ↦ c.loop-first.invariant.none_before v below
-      | inr past ↦ false_from_ne_true (has v c.loop-first.work.waiting.members) (λ waits.
-          omega (
-            arith,
-            below-has c.loop-first.work.waiting.room v c.loop-first.work.waiting.members c.room-all.ensures.sound.below
-                waits,
-            c.loop-first.invariant.sized.waiting,
-            c.loop-first-test.false,
-          ))
+    let none : c.first.work.waiting.members ≡ [] =
+    nothing_at c.first.work.waiting.members (λ v. elim (cases_lt v c.first.from) [
+      | inl below ↦ c.first.invariant.none_before v below
+      | inr past ↦ c.in_default.ensures.none v past
     ])
     in
-    rw (add-one c.loop-first.cover.phases)
-    (in_phase_end (sets c.args.balls.now) c.args.k c.count-r.result c.loop-first.work.waiting.members
-    c.loop-first.work.left.members
-    c.loop-first.cover.clusters.items c.loop-first.cover.home.items c.loop-first.cover.phases
-    c.loop-first.invariant.in_phase none)
+    rw (add-one c.first.cover.phases)
+    (in_phase_end (sets c.args.balls.now) c.args.k c.count-r.result c.first.work.waiting.members
+    c.first.work.left.members
+    c.first.cover.clusters.items c.first.cover.home.items c.first.cover.phases
+    c.first.invariant.in_phase none)

@@ -1,16 +1,19 @@
-use Rattle.std.proofs.Common.{◌≡◌, ℕ, ◌<◌, ◌≤◌, false, length}
+use Rattle.std.proofs.Common.{◌≡◌, ℕ, ◌-◌, ◌<◌, ◌≤◌, false, length}
 use Rattle.node_set.specs.Ascending.{has}
 use Rattle.coarse_cover.specs.Progress.{IsSized, IsInPhase}
 use Rattle.node_set.specs.Balls.{sets}
 use Rattle.coarse_cover.proofs.phasing.make_phase.Given as goal
 
-abbrev pub invariant-loop-first : goal.invariant-loop-first
-invariant-loop-first l = record {
+abbrev pub invariant-first : goal.invariant-first
+invariant-first l = record {
   in_phase : IsInPhase (sets l.balls) l.k l.r l.work.waiting.members l.work.left.members l.cover.clusters.items
       l.cover.home.items l.cover.phases;
-  none_before : (v : ℕ) → v < l.first → has v l.work.waiting.members ≡ false;
+  none_before : (v : ℕ) → v < l.from → has v l.work.waiting.members ≡ false;
   sized : IsSized (length l.balls) l.work;
-  home_len : length l.cover.home.items ≡ length l.balls;
+  home_count : length l.cover.home.items ≡ length l.balls;
   phases_kept : l.cover.phases ≡ l.initial.cover.phases;
   small : l.r ≤ 1024;
 }
+
+abbrev pub decreases-first : goal.decreases-first
+decreases-first l = length l.balls - l.from

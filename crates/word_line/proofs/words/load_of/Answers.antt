@@ -13,4 +13,4 @@ returns c =
     c.load_from.ensures ∙ six c.args.words.now _ _ _ _ _ _ _ _ _ _ _ _ _ _ (omega arith) (omega arith) c.start-item.is
     c.nodes-item.is c.k-item.is c.subs-item.is c.callers-item.is c.calls-item.is
     c.deref.ensures c.deref-2.ensures c.deref-3.ensures c.deref-4.ensures c.deref-5.ensures c.deref-6.ensures
-    c.network_of.ensures c.actors_of.ensures
+    c.network_numbers.ensures c.actor_numbers.ensures
