@@ -1,44 +1,31 @@
 -- The exponents of distances, and levels whose balls are those of the level below.
-use Rattle.std.proofs.Common.{◌≡◌, inl, inr, ℕ, zero, suc, ◌+◌, ◌-◌, ◌*◌, ◌^◌, ◌<◌, ◌≤◌, Bool, true, false, List, ◌++◌}
+use Rattle.std.proofs.Common.{◌≡◌, inl, inr, ℕ, zero, suc, ◌+◌, ◌-◌, ◌*◌, ◌^◌, ◌<◌, ◌≤◌, Bool, true, false, List}
+use Rattle.std.proofs.Common.{◌++◌}
 use Rattle.std.proofs.Common.{take, drop, length, map, get_or, refl, sym, ◌∙◌, ap, subst, arith}
 use Rattle.std.specs.Prelude.{nat_le}
-use Rattle.std.specs.Int.Count.{count_leading_zeros}
 use Rattle.std.proofs.Math.Nat.{pow-le-pow_right, pow-suc}
 use Rattle.std.proofs.Math.Seq.{take-append_seam}
-use Rattle.std.proofs.lemmas.Nat.{leading_length}
 use Rattle.std.proofs.lemmas.Bool.{cases_lt, false≢true, le-leb, lt-leb}
 use Rattle.net_graph.specs.Network.{Network}
 use Rattle.node_set.specs.Balls.{centres, home_of}
 use Rattle.node_set.specs.SetLaws.{passing_same}
-use Rattle.distances.specs.Table.{DistanceTable, dist, ball_of}
+use Rattle.distances.specs.Table.{DistanceTable, IsMetric, dist, ball_of}
 use Rattle.coarse_cover.specs.Coarsening.{coarsening, all_clusters}
 use Rattle.coarse_cover.specs.Covers.{cluster_list}
 use Rattle.std.proofs.lemmas.List.{get_or_default}
 use Rattle.region_plan.specs.Plan.{Level, level_in, no_level}
 use Rattle.region_plan.specs.Regions.{balls_of, regions_of, threshold_of, AreClustersOf, IsLevelOf}
-use Rattle.region_plan.specs.Kept.{AreMarked, IsMarked, IsSized, level_with}
+use Rattle.region_plan.specs.Kept.{AreMarked, HasExponent, IsSized, level_with}
 use Rattle.region_plan.proofs.Lists.{map_same}
 
 -- ---- the exponent that just reaches a distance
 
-pub record IsJust (distance exponent : ℕ) : Type 0 where
-  pub few : exponent ≤ 30
-  pub reached : distance ≤ 2 ^ exponent
-  pub just : 0 < distance → 2 ^ exponent < 2 * distance
-
-pub just_reached : (distance : ℕ) → distance ≤ 2 ^ 30 → IsJust distance (64 - count_leading_zeros 64 (distance - 1))
-just_reached distance light =
-    let found : (m : ℕ) × (count_leading_zeros 64 (distance - 1) + m ≡ 64) × (distance - 1 < 2 ^ m)
-    × (2 ^ m ≤ 2 * (distance - 1) + 1) = leading_length 64 (distance - 1) (omega arith) in
-    let is : found.0 ≡ 64 - count_leading_zeros 64 (distance - 1) = omega (arith, found.1) in
-    subst (λ e. IsJust distance e) is (record {
-      few = elim (cases_lt 30 found.0) [
-        | inl many ↦ absurd (let large : 2 ^ 31 ≤ 2 ^ found.0 = pow-le-pow_right two many in omega (arith, found.3))
-        | inr kept ↦ kept
-      ];
-      reached = omega (arith, found.2);
-      just = λ some. omega (arith, found.3);
-    })
+pub just_reached : (distance exponent : ℕ) → distance ≤ 2 ^ 30 → 1 ≤ distance → 2 ^ exponent ≤ 2 * distance - 1
+    → exponent ≤ 30
+just_reached distance exponent light some low = elim (cases_lt 30 exponent) [
+  | inl many ↦ absurd (let large : 2 ^ 31 ≤ 2 ^ exponent = pow-le-pow_right two many in omega arith)
+  | inr kept ↦ kept
+]
   where
     two : 1 ≤ 2
     two = omega arith
@@ -58,11 +45,11 @@ one_exponent d e i reached just above within = elim (cases_lt e (suc i)) [
     two = omega arith
 
 -- where an exponent has no mark, no distance lies between its power and the one below
-none_between : (marks : List Bool) (d i : ℕ) → IsMarked marks d → get_or marks (suc i) false ≡ false → d ≤ 2 ^ suc i
+none_between : (marks : List Bool) (d i : ℕ) → HasExponent marks d → get_or marks (suc i) false ≡ false → d ≤ 2 ^ suc i
     → d ≤ 2 ^ i
 none_between marks d i mark none within = elim (cases_lt (2 ^ i) d) [
   | inl above ↦
-      let same : mark.exponent ≡ suc i = one_exponent d mark.exponent i mark.reached (mark.just (omega arith)) above
+      let same : mark.exponent ≡ suc i = one_exponent d mark.exponent i mark.reached mark.just above
       within in
       absurd (false≢true (sym none ∙ ap (λ e. get_or marks e false) (sym same) ∙ mark.marked))
   | inr low ↦ low
@@ -84,7 +71,7 @@ module _ (table : DistanceTable) (marks : List Bool) (marked : AreMarked table m
       far above = elim (cases_lt (2 ^ suc i) (dist table v w)) [
         | inl over ↦ over
         | inr within ↦ absurd (let low : dist table v w ≤ 2 ^ i =
-            none_between marks (dist table v w) i (marked v w hv hw) none within in omega arith)
+            none_between marks (dist table v w) i (marked v w hv hw (omega arith)) none within in omega arith)
       ]
 
   same_balls : balls_of table (suc i) ≡ balls_of table i
@@ -136,9 +123,13 @@ pub written_marks : (count : ℕ) (new old : List Bool) → length new ≡ lengt
     → take count (new ++ drop (length new) old) ≡ new
 written_marks count new old same whole = let e : count ≡ length new = whole ∙ sym same in rw (e, take-append_seam) refl
 
-pub more_marked : (table : DistanceTable) (u : ℕ) (old new : List Bool) → AreMarked table old u
+-- the distances from each of the first nodes to those below it have their marks
+abbrev pub AreMarkedDown : DistanceTable → List Bool → ℕ → Type 0
+AreMarkedDown table marks rows = (u v : ℕ) → u < rows → v < u → HasExponent marks (dist table u v)
+
+pub more_marked : (table : DistanceTable) (u : ℕ) (old new : List Bool) → AreMarkedDown table old u
     → ((e : ℕ) → get_or old e false ≡ true → get_or new e false ≡ true)
-    → ((v : ℕ) → v < table.nodes → IsMarked new (dist table u v)) → AreMarked table new (u + 1)
+    → ((v : ℕ) → v < u → HasExponent new (dist table u v)) → AreMarkedDown table new (u + 1)
 more_marked table u old new before more here w v hw hv = elim (cases_lt w u) [
   | inl less ↦
       let mark = before w v less hv in
@@ -149,5 +140,20 @@ more_marked table u old new before more here w v hw hv = elim (cases_lt w u) [
         just =
             mark.just;
       }
-  | inr last ↦ let same : u ≡ w = omega arith in subst (λ x. IsMarked new (dist table x v)) same (here v hv)
+  | inr last ↦
+      let same : u ≡ w = omega arith in
+      subst (λ x. HasExponent new (dist table x v)) same (here v (omega arith))
+]
+
+-- those are all distances, since each is the same both ways
+pub all_marked : (table : DistanceTable) (marks : List Bool) (rows : ℕ) → IsMetric table → table.nodes ≤ rows
+    → AreMarkedDown table marks rows → AreMarked table marks table.nodes
+all_marked table marks rows metric whole down u v hu hv some = elim (cases_lt u v) [
+  | inl above ↦ subst (λ d. HasExponent marks d) (metric.turned v u hv hu) (down v u (omega arith) above)
+  | inr more ↦ elim (cases_lt v u) [
+    | inl below ↦ down u v (omega arith) below
+    | inr last ↦
+        let same : u ≡ v = omega arith in
+        absurd (let none : dist table u v ≡ 0 = subst (λ w. dist table u w ≡ 0) same (metric.zero u hu) in omega arith)
+  ]
 ]

@@ -9,7 +9,7 @@ use Rattle.std.proofs.lemmas.List.{get_or-set_same, get_or-set_other, get_or_def
 use Rattle.node_set.specs.Ascending.{has, IsAscending, with_number, sift}
 use Rattle.node_set.specs.Balls.{ball, sets}
 use Rattle.node_set.specs.BallLaws.{ball_at}
-use Rattle.node_set.specs.Nodes.{Nodes}
+use Rattle.node_set.specs.Nodes.{AreNodes, Nodes}
 use Rattle.node_set.specs.SetLaws.{ascending-passing, has-inserted, has-passing, passing_over, passing_same}
 use Rattle.node_set.specs.SetLaws.{same_members}
 use Rattle.distances.specs.Table.{DistanceTable, IsRowOf, ball_of, dist}
@@ -27,7 +27,7 @@ row_within table v radius row is =
 
 -- ---- one reader more
 
-has_push : (x y : ℕ) (xs : List ℕ) → has x (xs ++ y ∷ []) ≡ (has x xs || x == y)
+pub has_push : (x y : ℕ) (xs : List ℕ) → has x (xs ++ y ∷ []) ≡ (has x xs || x == y)
 has_push x y [] = at (x == y)
   where
     at : (b : Bool) → (b || false) ≡ b
@@ -197,3 +197,18 @@ readers_are n v clusters all numbers read below is ascending =
 pub written : {A : Type 0} (n : ℕ) (new old : List A) → length new ≡ length old → n ≡ length old
     → take n (new ++ drop (length new) old) ≡ new
 written n new old same whole = let e : n ≡ length new = whole ∙ sym same in rw (e, take-append_seam) refl
+
+-- what is pushed for a node, from sets that were written over whole
+pub pushed_readers : (v count : ℕ) (clusters now : List PlanCluster) (before slice all : List Nodes) (s : Nodes)
+    (old new : List ℕ) → IsReadBelow (length slice) now (length now) (sets all) → now ≡ clusters → slice ≡ before
+    → length all ≡ length slice → count ≡ length before → v < length before
+    → s ≡ get_or (take count (all ++ drop (length all) before)) v s → AreNodes s → new ≡ old ++ s.members
+    → new ≡ old ++ clusters_with clusters v
+pushed_readers v count clusters now before slice all s old new read value same kept whole below at sound pushed =
+    let long : length slice ≡ length before = ap (length {A = Nodes}) same in
+    let at_all : s ≡ get_or all v s =
+    at ∙ ap (λ (l : List Nodes). get_or l v s) (written count all before (kept ∙ long) whole) in
+    pushed ∙ ap (λ (l : List ℕ). old ++ l)
+    (readers_are (length slice) v now (sets all) s.members read (omega (arith, below, long))
+    (sym (ball_at all v s (omega (arith, below, long, kept)) at_all)) sound.ascending
+    ∙ ap (λ (cs : List PlanCluster). clusters_with cs v) value)

@@ -6,6 +6,7 @@ mod Flatness
 mod Reaching
 mod Spanning
 mod Gathering
+mod Places
 mod Levels
 mod Matching
 mod Alone

@@ -4,7 +4,8 @@ use Rattle.std.proofs.Common.{length, map, take, drop, replicate, get_or, refl, 
 use Rattle.std.specs.Prelude.{All, Contains, nat_le, slice_range}
 use Rattle.std.proofs.lemmas.Bool.{cases_lt, le-leb}
 use Rattle.std.proofs.lemmas.List.{append_assoc, map_push, length-append, length-drop, length-replicate, length_push}
-use Rattle.std.proofs.lemmas.List.{get_or_append_left, get_or_push, get_or_default, take_all, take-append-le}
+use Rattle.std.proofs.lemmas.List.{get_or_append_left, get_or-append_right, get_or-map, get_or_push, get_or_default}
+use Rattle.std.proofs.lemmas.List.{length-map, take_all, take-append-le}
 use Rattle.std.proofs.lemmas.List.{drop-append-le, drop_all}
 use Rattle.net_graph.specs.Network.{Network}
 use Rattle.node_set.specs.Ascending.{has, sift}
@@ -16,9 +17,10 @@ use Rattle.coarse_cover.specs.declared.cover.Cluster.{Cluster}
 use Rattle.std.proofs.lemmas.Grind.{same_number_lists}
 use Rattle.cluster_tree.specs.Inside.{IsWritten, make_cluster}
 use Rattle.cluster_tree.specs.Tree.{weight_beside, IsTreeOf}
-use Rattle.region_plan.specs.Plan.{PlanCluster, Level, cluster_in}
-use Rattle.region_plan.specs.Regions.{clusters_with, readers_of, IsTop, IsWhole, IsFlatLevel, IsClusterOf, AreClustersOf}
-use Rattle.region_plan.specs.Kept.{AreRows, IsSized, level_of}
+use Rattle.region_plan.specs.Plan.{PlanCluster, Level, cluster_in, weight_in}
+use Rattle.region_plan.specs.Regions.{clusters_with, readers_of, IsTop, IsWhole, IsFlatLevel, IsClusterOf}
+use Rattle.region_plan.specs.Regions.{AreClustersOf}
+use Rattle.region_plan.specs.Kept.{AreBeside, AreRows, IsSized, level_of}
 use Rattle.region_plan.proofs.Rows.{length-containing}
 use Rattle.node_set.specs.Balls.{centres, sets}
 use Rattle.node_set.specs.BallLaws.{has_centre, length-centres, length-map_centres, get_or-map_centres}
@@ -117,6 +119,98 @@ module _ (n : ℕ) (clusters : List PlanCluster) (starts readers starts_new read
           (ap length growth)))
     ];
   }
+
+pub none_beside : (clusters : List PlanCluster) (starts readers weights : List ℕ) → readers ≡ [] → weights ≡ []
+    → AreBeside 0 clusters starts readers weights
+none_beside clusters starts readers weights readers_are weights_are = record {
+  count = ap (length {A = ℕ}) (weights_are ∙ sym readers_are);
+  each = λ v place h low high. absurd (omega arith);
+}
+
+module _ (n : ℕ) (clusters : List PlanCluster) (starts readers weights starts_new readers_new weights_new : List ℕ)
+    (end : ℕ) (rows : AreRows n clusters starts readers) (beside : AreBeside n clusters starts readers weights)
+    (ends : get_or starts n 0 ≡ length readers) (growth : readers_new ≡ readers ++ clusters_with clusters n)
+    (end_is : end ≡ length readers_new) (pushed : starts_new ≡ starts ++ end ∷ [])
+    (added : weights_new ≡ weights ++ map (λ c. weight_in clusters c n) (clusters_with clusters n)) where
+  kept_start : (v : ℕ) → v ≤ n → get_or starts_new v 0 ≡ get_or starts v 0
+  kept_start v h = ap (λ (xs : List ℕ). get_or xs v 0) pushed
+      ∙ get_or_append_left starts (end ∷ []) 0 v (omega (arith, rows.count))
+
+  added_count : length weights_new ≡ length readers_new
+  added_count =
+      omega (
+        arith,
+        ap (length {A = ℕ}) added,
+        ap (length {A = ℕ}) growth,
+        length-append weights (map (λ c. weight_in clusters c n) (clusters_with clusters n)),
+        length-append readers (clusters_with clusters n),
+        length-map (clusters_with clusters n) (λ c. weight_in clusters c n),
+        beside.count,
+      )
+
+  last_beside : (place : ℕ) → length readers ≤ place → place < length readers_new
+      → get_or weights_new place 0 ≡ weight_in clusters (get_or readers_new place 0) n
+  last_beside place low high =
+      ap (λ (xs : List ℕ). get_or xs place 0) added
+      ∙ get_or-append_right weights (map (λ c. weight_in clusters c n) (clusters_with clusters n)) (length readers)
+      place 0 beside.count low
+      ∙ get_or-map (λ c. weight_in clusters c n) (clusters_with clusters n) (place - length readers) 0 0
+      (omega (arith, low, high, ap (length {A = ℕ}) growth, length-append readers (clusters_with clusters n)))
+      ∙ ap (λ c. weight_in clusters c n)
+      (sym (ap (λ (xs : List ℕ). get_or xs place 0) growth
+      ∙ get_or-append_right readers (clusters_with clusters n) (length readers) place 0 refl low))
+
+  pub more_beside : AreBeside (n + 1) clusters starts_new readers_new weights_new
+  more_beside = record {
+    count = added_count;
+    each = λ v place h low high. elim (cases_lt v n) [
+      | inl less ↦
+          let from : get_or starts v 0 ≤ place = omega (arith, low, kept_start v (omega arith)) in
+          let to : place < get_or starts (v + 1) 0 = omega (arith, high, kept_start (v + 1) (omega arith)) in
+          let short : place < length readers = omega (arith, to, rows.within (v + 1) (omega arith)) in
+          ap (λ (xs : List ℕ). get_or xs place 0) added
+          ∙ get_or_append_left weights (map (λ c. weight_in clusters c n) (clusters_with clusters n)) 0 place
+          (omega (arith, short, beside.count))
+          ∙ beside.each v place less from to
+          ∙ ap (λ c. weight_in clusters c v)
+          (sym (ap (λ (xs : List ℕ). get_or xs place 0) growth
+          ∙ get_or_append_left readers (clusters_with clusters n) 0 place short))
+      | inr more ↦
+          let same : n ≡ v = omega arith in
+          let from : length readers ≤ place =
+          omega (
+            arith,
+            low,
+            subst (λ i. get_or starts_new i 0 ≡ length readers) same
+                (kept_start n (omega arith) ∙ ends),
+          ) in
+          let last : get_or starts_new (n + 1) 0 ≡ length readers_new =
+          ap (λ (xs : List ℕ). get_or xs (n + 1) 0) pushed ∙ get_or_push starts end 0 (n + 1) rows.count ∙ end_is in
+          let to : place < length readers_new =
+          omega (arith, high, subst (λ i. get_or starts_new (i + 1) 0 ≡ length readers_new) same last) in
+          subst (λ i. get_or weights_new place 0 ≡ weight_in clusters (get_or readers_new place 0) i) same
+          (last_beside place from to)
+    ];
+  }
+
+-- ---- a node's readers, as the slice of those that were pushed last
+
+module _ (v : ℕ) (clusters now : List PlanCluster) (all readers readers_new : List ℕ) where
+  pub row_slice : (first : ℕ) → now ≡ clusters → all ≡ readers_new → readers_new ≡ readers ++ clusters_with clusters v
+      → first ≡ length readers → take (length all - first) (drop first all) ≡ clusters_with now v
+  row_slice first value whole growth from =
+      ap (λ (xs : List ℕ). take (length xs - first) (drop first xs)) (whole ∙ growth)
+      ∙ range_new readers (clusters_with clusters v) first (length (readers ++ clusters_with clusters v)) from refl
+      ∙ ap (λ (cs : List PlanCluster). clusters_with cs v) (sym value)
+
+  pub pushed_weights : (weights weights_new : List ℕ) (first : ℕ) → now ≡ clusters → all ≡ readers_new
+      → readers_new ≡ readers ++ clusters_with clusters v → first ≡ length readers
+      → weights_new ≡ weights ++ map (λ c. weight_in now c v) (take (length all - first) (drop first all))
+      → weights_new ≡ weights ++ map (λ c. weight_in clusters c v) (clusters_with clusters v)
+  pushed_weights weights weights_new first value whole growth from pushed =
+      pushed
+      ∙ ap (λ (xs : List ℕ). weights ++ map (λ c. weight_in now c v) xs) (row_slice first value whole growth from)
+      ∙ ap (λ (cs : List PlanCluster). weights ++ map (λ c. weight_in cs c v) (clusters_with cs v)) value
 
 -- ---- the balls, and the cluster of all nodes
 

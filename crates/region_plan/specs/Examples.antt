@@ -9,6 +9,11 @@ use Rattle.net_graph.specs.Walks.{make_edge}
 use Rattle.distances.specs.Table.{DistanceTable}
 use Rattle.region_plan.specs.Plan.{PlanCluster, Level, PlanData}
 use Rattle.region_plan.specs.Regions.{readers_of}
+use Rattle.region_plan.specs.Settings.{setting_of}
+use Rattle.directory.specs.Settings.{Setting}
+use Rattle.directory.specs.Courses.{Step}
+use Rattle.directory.specs.Finds.{FindCall}
+use Rattle.directory.specs.Orders.{Scripts}
 
 -- its network
 abbrev pub line_edges : List Edge
@@ -81,3 +86,11 @@ line_of_four = record {
   levels =
       line_level_0 ∷ line_level 1 1 ∷ line_level 2 2 ∷ [];
 }
+
+-- the line with its plan, and one subscriber that starts at node 3
+abbrev pub line_setting : Setting
+line_setting = setting_of line_of_four (3 ∷ [])
+
+-- one subscriber that makes these steps, and one caller that makes these finds
+abbrev pub line_scripts : List Step → List FindCall → Scripts
+line_scripts steps finds = record { steps = steps ∷ []; finds = finds ∷ [] }

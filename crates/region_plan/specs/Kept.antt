@@ -1,4 +1,5 @@
--- What every plan keeps: its sizes.
+-- What every plan keeps: its sizes; how a level lies in memory, with a weight beside each reader;
+-- and what the private functions find of clusters and exponents.
 use Rattle.std.specs.Prelude.{◌≡◌, ℕ, Bool, true, false, ◌+◌, ◌*◌, ◌^◌, ◌≤◌, ◌<◌, List, All, length}
 use Rattle.std.specs.Prelude.{get_or, slice_index, slice_range}
 use Rattle.net_graph.specs.Network.{Network}
@@ -7,7 +8,7 @@ use Rattle.node_set.specs.Ascending.{has, IsAscending}
 use Rattle.coarse_cover.specs.declared.cover.Cluster.{Cluster}
 use Rattle.cluster_tree.specs.Tree.{within}
 use Rattle.distances.specs.Table.{DistanceTable, IsMetric, dist}
-use Rattle.region_plan.specs.Plan.{PlanCluster, PlanData, Level, nodes_of, levels_of}
+use Rattle.region_plan.specs.Plan.{PlanCluster, PlanData, Level, nodes_of, levels_of, weight_in}
 use Rattle.region_plan.specs.Regions.{clusters_with, readers_of}
 use Rattle.region_plan.specs.Measures.{degree_of}
 
@@ -41,6 +42,20 @@ pub record AreRows (n : ℕ) (clusters : List PlanCluster) (starts readers : Lis
   pub within : (v : ℕ) → v ≤ n → slice_index starts v ≤ length readers
   pub each : (v : ℕ) → v < n → slice_range readers (slice_index starts v)
       (slice_index starts (v + 1)) ≡ clusters_with clusters v
+
+-- beside each reader is the weight inside it from its leader to the node that reads it
+pub record AreBeside (n : ℕ) (clusters : List PlanCluster) (starts readers weights : List ℕ) :
+    Type 0 where
+  pub count : length weights ≡ length readers
+  pub each : (v place : ℕ) → v < n → slice_index starts v ≤ place
+      → place < slice_index starts (v + 1)
+      → slice_index weights place ≡ weight_in clusters (slice_index readers place) v
+
+-- the readers of n nodes, and the weights beside them
+pub record IsTable (n : ℕ) (clusters : List PlanCluster) (starts readers weights : List ℕ) :
+    Type 0 where
+  pub rows : AreRows n clusters starts readers
+  pub beside : AreBeside n clusters starts readers weights
 
 -- the sizes of a plan, and its degree
 pub record IsPlanKept (plan : PlanData) (d : ℕ) : Type 0 where
@@ -81,13 +96,13 @@ level_with exponent threshold level =
     }
 
 -- the distance has the mark of the exponent whose power of two just reaches it
-pub record IsMarked (marks : List Bool) (distance : ℕ) : Type 0 where
+pub record HasExponent (marks : List Bool) (distance : ℕ) : Type 0 where
   pub exponent : ℕ
   pub marked : get_or marks exponent false ≡ true
   pub reached : distance ≤ 2 ^ exponent
-  pub just : 0 < distance → 2 ^ exponent < 2 * distance
+  pub just : 2 ^ exponent < 2 * distance
 
--- so have the distances from the first so many nodes
+-- so has each distance of two nodes, from the first so many nodes
 abbrev pub AreMarked : DistanceTable → List Bool → ℕ → Type 0
-AreMarked table marks rows = (u v : ℕ) → u < rows → v < table.nodes
-    → IsMarked marks (dist table u v)
+AreMarked table marks rows = (u v : ℕ) → u < rows → v < table.nodes → 0 < dist table u v
+    → HasExponent marks (dist table u v)

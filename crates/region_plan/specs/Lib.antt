@@ -6,3 +6,4 @@ pub mod Kept
 pub mod Examples
 pub mod Settings
 pub mod Readers
+pub mod Cells

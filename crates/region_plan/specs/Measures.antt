@@ -19,6 +19,6 @@ degree_in level = most (map length level.readers)
 abbrev pub degree_of : PlanData → ℕ
 degree_of plan = most (map degree_in plan.levels)
 
--- how many times its distance a find may travel
+-- how many times its distance a quiet find may travel, but for twice an open passage
 abbrev pub stretch_of : PlanData → ℕ
 stretch_of plan = 16 * degree_of plan * plan.reach + 12 * plan.reach + 12

@@ -34,6 +34,7 @@ pub record PlanData : Type 0 where
   pub distances : DistanceTable
   pub levels : List Level
 
+-- what stands for a cluster, and for a level, that there isn't
 abbrev pub no_cluster : PlanCluster
 no_cluster = record { leader = 0; phase = 0; members = []; weights = []; depth = 0 }
 
@@ -74,6 +75,11 @@ cluster_in clusters c = slice_index_or clusters c no_cluster
 
 abbrev pub cluster_at : PlanData → ℕ → ℕ → PlanCluster
 cluster_at plan i c = cluster_in (level_at plan i).clusters c
+
+-- the weight inside a cluster from its leader to a member
+abbrev pub weight_in : List PlanCluster → ℕ → ℕ → ℕ
+weight_in clusters c v = weight_beside v (cluster_in clusters c).members
+    (cluster_in clusters c).weights
 
 -- how many clusters a level has, and the members of one
 abbrev pub clusters_of : PlanData → ℕ → ℕ

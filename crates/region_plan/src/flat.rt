@@ -1,4 +1,4 @@
-// The level of the flat plan.
+//! The level of the flat plan.
 ghost use Rattle.std.specs.Prelude.{IfOk};
 ghost use Rattle.distances.specs.Table.{IsMetric};
 ghost use Rattle.region_plan.specs.Regions.{IsFlatLevel};

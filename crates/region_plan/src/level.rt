@@ -2,12 +2,12 @@
 
 ghost use Rattle.std.specs.Prelude.{◌≡◌, ◌+◌, ◌*◌, ◌<◌, ◌≤◌, All, IfOk, length, slice_index};
 ghost use Rattle.node_set.specs.Nodes.{Nodes};
-ghost use Rattle.region_plan.specs.Plan.{readers_in};
+ghost use Rattle.region_plan.specs.Plan.{readers_in, weight_in};
 ghost use Rattle.region_plan.specs.Regions.{clusters_with};
 ghost use Rattle.region_plan.specs.Measures.{degree_in};
 ghost use Rattle.region_plan.specs.Kept.{level_of, level_with};
 
-use crate::readers::{gather_readers, push_members};
+use crate::readers::{gather_readers, push_members, push_weights};
 use crate::row::ClusterRow;
 use net_graph::OutOfMemory;
 use node_set::NodeSet;
@@ -15,7 +15,7 @@ use std::alloc::Global;
 use std::marker::Model;
 
 // A level: its clusters, each node's home, and the numbers of the clusters of each node, one node
-// after another.
+// after another, with the weight inside each of them from its leader to the node.
 #[derive(Drop)]
 pub struct LevelTable {
     pub exponent: u32,
@@ -25,13 +25,14 @@ pub struct LevelTable {
     pub homes: Vec<u32>,
     pub starts: Vec<u32>,
     pub readers: Vec<u32>,
+    pub weights: Vec<u32>,
 }
 
 impl Model for LevelTable {
     ghost use Rattle.std.specs.Prelude.{length};
     ghost use Rattle.region_plan.specs.Plan.{Level};
     ghost use Rattle.region_plan.specs.Regions.{readers_of};
-    ghost use Rattle.region_plan.specs.Kept.{AreRows};
+    ghost use Rattle.region_plan.specs.Kept.{IsTable};
 
     ghost Value = { Level };
 
@@ -44,8 +45,8 @@ impl Model for LevelTable {
       readers = readers_of (length l.homes.items) l.clusters.items;
     } };
 
-    ghost invariant = { λ l.
-        AreRows (length l.homes.items) l.clusters.items l.starts.items l.readers.items };
+    ghost invariant = { λ l. IsTable (length l.homes.items) l.clusters.items l.starts.items
+        l.readers.items l.weights.items };
 }
 
 impl LevelTable {
@@ -69,9 +70,19 @@ impl LevelTable {
         gather_readers(&mut sets, &clusters, homes.len() as u32);
         let mut starts = Vec::with_capacity(alloc, homes.len() + 1)?;
         let mut readers = Vec::new(alloc);
+        let mut weights = Vec::new(alloc);
+        let mut places = vec![in alloc; 0usize; clusters.len()]?;
         starts.push(0u32)?;
         for v in 0..homes.len() {
+            let first = readers.len();
             push_members(&sets[v], &mut readers)?;
+            push_weights(
+                &clusters,
+                v as u32,
+                &readers[first..],
+                &mut places,
+                &mut weights,
+            )?;
             starts.push(readers.len() as u32)?;
         }
         Ok(LevelTable {
@@ -82,6 +93,7 @@ impl LevelTable {
             homes,
             starts,
             readers,
+            weights,
         })
     }
 
@@ -106,6 +118,7 @@ impl LevelTable {
             homes: self.homes.to_vec(alloc)?,
             starts: self.starts.to_vec(alloc)?,
             readers: self.readers.to_vec(alloc)?,
+            weights: self.weights.to_vec(alloc)?,
         })
     }
 
@@ -130,5 +143,15 @@ impl LevelTable {
         ensures few { length result.now ≤ length self.now.clusters }
     {
         &self.readers[self.starts[v as usize] as usize..self.starts[v as usize + 1] as usize]
+    }
+
+    // The weight inside the reader of `v` at this place from its leader to `v`.
+    pub fn reader_weight(&self, v: u32, place: u32) -> u64
+        requires node { v < length self.now.homes }
+        requires place { place < length (readers_in self.now v) }
+        ensures { result
+            ≡ weight_in self.now.clusters (slice_index (readers_in self.now v) place) v }
+    {
+        u64::from(self.weights[self.starts[v as usize] as usize + place as usize])
     }
 }

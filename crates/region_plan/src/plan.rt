@@ -1,7 +1,7 @@
 //! The plan of a network.
 
 ghost use Rattle.std.specs.Prelude.{◌≡◌, ◌<◌, ◌≤◌, ◌^◌, ℕ, List, IfOk, IsTrue, length};
-ghost use Rattle.std.specs.Prelude.{slice_index_or};
+ghost use Rattle.std.specs.Prelude.{slice_index, slice_index_or};
 ghost use Rattle.node_set.specs.Ascending.{has};
 ghost use Rattle.distances.specs.Table.{AreDistancesOf};
 ghost use Rattle.region_plan.specs.Plan.{level_at, levels_of, nodes_of, clusters_of, cluster_at};
@@ -265,6 +265,17 @@ impl Plan {
         self.levels[i as usize].clusters[c as usize].weight(v)
     }
 
+    /// The least weight inside a reader of `v` from its leader to `v`. The place is that of the
+    /// reader among the readers of `v`.
+    pub fn reader_weight(&self, i: u32, v: u32, place: u32) -> u64
+        requires level { i < levels_of self.now }
+        requires node { v < nodes_of self.now }
+        requires place { place < length (readers_at self.now i v) }
+        ensures { result ≡ inside self.now i (slice_index (readers_at self.now i v) place) v }
+    {
+        self.levels[i as usize].reader_weight(v, place)
+    }
+
     /// The largest number of clusters that a node reads at a level.
     pub fn degree(&self) -> u32
         ensures { result ≡ degree_of self.now }
@@ -272,7 +283,8 @@ impl Plan {
         self.degree
     }
 
-    /// How many times its distance a find that meets no write may travel.
+    /// How many times its distance a quiet find may travel, but for twice an open passage
+    /// (docs/DIRECTORY.md, "What a find pays").
     pub fn stretch(&self) -> u64
         ensures exact { result ≡ stretch_of self.now }
         ensures small { result ≤ 2 ^ 20 }

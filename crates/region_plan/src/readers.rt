@@ -1,11 +1,13 @@
 //! The clusters that contain each node, as sets of numbers of clusters.
 
 ghost use Rattle.std.specs.Prelude.{◌≡◌, ◌<◌, ◌≤◌, ◌++◌, ◌&&◌, ◌||◌, ◌==◌, ℕ, All, IfOk, OnOk};
-ghost use Rattle.std.specs.Prelude.{false, length, nat_lt};
+ghost use Rattle.std.specs.Prelude.{false, length, map, nat_lt, suc};
 ghost use Rattle.node_set.specs.Ascending.{has};
 ghost use Rattle.node_set.specs.Balls.{ball, sets as lists_of};
 ghost use Rattle.node_set.specs.Nodes.{AreNodes, Nodes};
-ghost use Rattle.region_plan.specs.Readers.{IsReadBelow};
+ghost use Rattle.region_plan.specs.Plan.{weight_in};
+ghost use Rattle.region_plan.specs.Readers.{ArePlaces, IsReadBelow};
+ghost use Rattle.region_plan.specs.Regions.{clusters_with};
 
 use crate::row::ClusterRow;
 use net_graph::OutOfMemory;
@@ -74,6 +76,29 @@ pub fn push_members(set: &NodeSet, list: &mut Vec<u32>) -> Result<(), OutOfMemor
     'member: while let Some(v) = set.next_from(from) {
         list.push(v)?;
         from = v + 1;
+    }
+    Ok(())
+}
+
+// Appends the weights of `v` inside the clusters that contain it. The places say how many members
+// of each cluster are below `v`, and then how many are below the next node.
+pub fn push_weights(
+    clusters: &[ClusterRow],
+    v: u32,
+    numbers: &[u32],
+    places: &mut [usize],
+    weights: &mut Vec<u32>,
+) -> Result<(), OutOfMemory>
+    requires numbers { numbers.now ≡ clusters_with clusters.now v }
+    requires places { ArePlaces clusters.now v places.old }
+    ensures pushed { OnOk result (weights.new.items
+        ≡ weights.old.items ++ map (λ c. weight_in clusters.now c v) numbers.now) }
+    ensures places { OnOk result (ArePlaces clusters.now (suc v) places.new) }
+{
+    for number in numbers {
+        let place = places[*number as usize];
+        weights.push(clusters[*number as usize].weight_at(v, place))?;
+        places[*number as usize] = place + 1;
     }
     Ok(())
 }

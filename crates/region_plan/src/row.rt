@@ -1,6 +1,7 @@
 //! A cluster of a plan: its members ascending, and a weight beside each.
 
-ghost use Rattle.std.specs.Prelude.{◌≡◌, ◌<◌, ◌≤◌, All, IfOk, IsTrue, length, map, slice_index};
+ghost use Rattle.std.specs.Prelude.{◌≡◌, ◌<◌, ◌≤◌, ◌^◌, All, IfOk, IsTrue, length, map};
+ghost use Rattle.std.specs.Prelude.{slice_index, suc, true};
 ghost use Rattle.node_set.specs.Ascending.{has};
 ghost use Rattle.node_set.specs.Nodes.{AreNodes};
 ghost use Rattle.node_set.specs.Balls.{centres};
@@ -9,6 +10,7 @@ ghost use Rattle.cluster_tree.specs.Tree.{weight_beside};
 ghost use Rattle.cluster_tree.specs.Inside.{IsWritten};
 ghost use Rattle.distances.specs.Table.{AreDistancesOf};
 ghost use Rattle.region_plan.specs.Kept.{IsSpanned};
+ghost use Rattle.region_plan.specs.Readers.{place_in};
 ghost use Rattle.region_plan.specs.Regions.{AreClustersOf, IsClusterOf, IsWhole};
 
 use cluster_tree::{TreeFault, inside_weights};
@@ -140,6 +142,18 @@ impl ClusterRow {
             Ok(_) => true,
             Err(_) => false,
         }
+    }
+
+    // The weight of the member `v` at its place, which so many members below it give.
+    pub fn weight_at(&self, v: u32, place: usize) -> u32
+        requires member { has v self.now.members ≡ true }
+        requires place { place ≡ place_in v self.now.members }
+        ensures weight { result ≡ weight_beside v self.now.members self.now.weights }
+        ensures next { place_in (suc v) self.now.members ≡ suc place }
+        ensures small { place < 2 ^ 63 }
+    {
+        prove!(self.nodes[place] == v);
+        self.weights[place]
     }
 
     pub fn weight(&self, v: u32) -> u64

@@ -1,4 +1,4 @@
-// Plans of the line 0 - 1 - 2 - 3 of unit weights, and of two nodes.
+//! Plans of the line 0 - 1 - 2 - 3 of unit weights, and of two nodes.
 ghost use Rattle.std.specs.Prelude.{◌≡◌, ◌≤◌, IfOk};
 ghost use Rattle.distances.specs.Table.{AreDistancesOf};
 
@@ -84,6 +84,13 @@ fn reads(rt: &impl Abort, plan: &Plan, i: u32, v: u32, clusters: &[u32]) {
     assert_eq!(rt; plan.readers(i, v), clusters);
 }
 
+fn weighs(rt: &impl Abort, plan: &Plan, i: u32, v: u32, place: u32, weight: u64) {
+    assert!(rt; i < plan.levels());
+    assert!(rt; v < plan.nodes());
+    assert!(rt; (place as usize) < plan.readers(i, v).len());
+    assert_eq!(rt; plan.reader_weight(i, v, place), weight);
+}
+
 #[test]
 fn the_plan_of_a_line(rt: HostRuntime) -> Result<(), Fail> {
     let (graph, distances) = line_of_four(rt.alloc())?;
@@ -119,6 +126,8 @@ fn the_readers_on_a_line(rt: HostRuntime) -> Result<(), Fail> {
     reads(&rt, &plan, 0, 2, &[0, 1]);
     reads(&rt, &plan, 0, 3, &[0, 1]);
     reads(&rt, &plan, 2, 2, &[0]);
+    weighs(&rt, &plan, 0, 2, 0, 2);
+    weighs(&rt, &plan, 0, 2, 1, 1);
     assert_eq!(rt; plan.nodes(), 4);
     assert_eq!(rt; plan.most_looks(2), 12);
     assert_eq!(rt; plan.most_looks(0), 11);
@@ -270,5 +279,14 @@ fn as_many_nodes_as_there_may_be(rt: HostRuntime) -> Result<(), Fail> {
     let flat = Plan::flat(rt.alloc(), &graph, &distances)?;
     assert!(rt; flat.levels() == 1 && flat.clusters(0) == 1);
     assert_eq!(rt; flat.depth(0, 0), 1023);
+    Ok(())
+}
+
+fn shares<T: Sync>() {}
+
+#[test]
+fn threads_may_share_them(_rt: HostRuntime) -> Result<(), Fail> {
+    shares::<Plan>();
+    shares::<Distances>();
     Ok(())
 }

@@ -5,7 +5,8 @@ ghost use Rattle.directory.specs.Finds.{answer_of, find};
 ghost use Rattle.directory.specs.Outcomes.{outcome_of};
 ghost use Rattle.directory.specs.declared.answers.Done.TheVariants.{Moved, Found as FoundBy};
 ghost use Rattle.directory.specs.declared.answers.Found.TheVariants.{At};
-ghost use Rattle.stretch_laws.specs.Examples.{line_call, line_scripts, line_setting, line_words};
+ghost use Rattle.stretch_laws.specs.Examples.{line_call, line_words};
+ghost use Rattle.region_plan.specs.Examples.{line_scripts, line_setting};
 ghost use Rattle.stretch_laws.specs.Tracking.{IsTracking, stretch};
 
 use crate::plans::plans_track;
@@ -29,27 +30,28 @@ pub fn line_tracks()
 /// one; between commit and confirm; after the confirm, by the new address and by one that isn't
 /// erased yet.
 pub fn line_costs()
-    ensures before_old { outcome_of line_setting (line_scripts (move_to 2 ∷ []))
+    ensures before_old { outcome_of line_setting (line_scripts (move_to 2 ∷ []) (line_call ∷ []))
         (replicate 1 0 ++ replicate 4 1) ≡ record {
           calls = Moved 0 1 3 2 1 0 7 9 ∷ FoundBy 1 0 0 3 0 (Some 1) 3 1 4 ∷ [];
           order = replicate 1 0 ++ (replicate 4 1 ++ replicate 5 0);
         } }
-    ensures before_new { outcome_of line_setting (line_scripts (move_to 2 ∷ []))
+    ensures before_new { outcome_of line_setting (line_scripts (move_to 2 ∷ []) (line_call ∷ []))
         (replicate 2 0 ++ replicate 4 1) ≡ record {
           calls = Moved 0 1 3 2 1 0 7 9 ∷ FoundBy 1 0 0 3 0 (Some 0) 3 2 5 ∷ [];
           order = replicate 2 0 ++ (replicate 4 1 ++ replicate 4 0);
         } }
-    ensures passage { outcome_of line_setting (line_scripts (move_to 2 ∷ []))
+    ensures passage { outcome_of line_setting (line_scripts (move_to 2 ∷ []) (line_call ∷ []))
         (replicate 4 0 ++ replicate 5 1) ≡ record {
           calls = Moved 0 1 3 2 1 0 3 10 ∷ FoundBy 1 0 0 2 1 (Some 0) 4 4 8 ∷ [];
           order = replicate 4 0 ++ (replicate 5 1 ++ replicate 2 0);
         } }
-    ensures after_new { outcome_of line_setting (line_scripts (move_to 2 ∷ []))
+    ensures after_new { outcome_of line_setting (line_scripts (move_to 2 ∷ []) (line_call ∷ []))
         (replicate 5 0 ++ replicate 3 1) ≡ record {
           calls = Moved 0 1 3 2 1 0 3 8 ∷ FoundBy 1 0 0 2 1 (Some 0) 2 5 7 ∷ [];
           order = replicate 5 0 ++ (replicate 3 1 ++ replicate 1 0);
         } }
-    ensures after_old { outcome_of line_setting (line_scripts (move_to 2 ∷ move_to 3 ∷ []))
+    ensures after_old { outcome_of line_setting
+        (line_scripts (move_to 2 ∷ move_to 3 ∷ []) (line_call ∷ []))
         (replicate 12 0 ++ replicate 4 1) ≡ record {
           calls = Moved 0 1 3 2 1 0 3 5 ∷ Moved 0 2 2 3 1 6 10 17
               ∷ FoundBy 1 0 0 3 2 (Some 0) 3 12 15 ∷ [];

@@ -1,4 +1,4 @@
-// The bound over the plan of the line 0 - 1 - 2 - 3 of unit weights, and at its limits.
+//! The bound over the plan of the line 0 - 1 - 2 - 3 of unit weights, and at its limits.
 use crate::bound;
 use distances::Distances;
 use net_graph::{Edge, Graph};

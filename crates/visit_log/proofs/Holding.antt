@@ -10,7 +10,7 @@ use Rattle.directory.specs.Settings.{Setting}
 use Rattle.directory.specs.Histories.{History, cell, word_after}
 use Rattle.region_plan.specs.Plan.{PlanData}
 use Rattle.region_plan.specs.Settings.{setting_of}
-use Rattle.visit_log.specs.Numbers.{IsCell}
+use Rattle.region_plan.specs.Cells.{IsCell}
 use Rattle.visit_log.specs.Cells.{CellData, GoWith, Hold, slot_of, word_of}
 use Rattle.visit_log.proofs.Places.{slot-apart, slot-within}
 

@@ -10,7 +10,7 @@ use Rattle.entry_word.specs.declared.visit.Key.TheVariants.{Presence, Entry}
 use Rattle.directory.specs.Keys.{same_key, key_sub, opening}
 use Rattle.region_plan.specs.Plan.{PlanData, home, levels_of}
 use Rattle.region_plan.specs.Settings.{setting_of}
-use Rattle.visit_log.specs.Numbers.{IsPlace, IsCell}
+use Rattle.region_plan.specs.Cells.{IsPlace, IsCell}
 use Rattle.visit_log.specs.Cells.{CellData, GoWith, open_word, slot_of, word_of}
 use Rattle.visit_log.proofs.Holding.{SameKey, word-after}
 

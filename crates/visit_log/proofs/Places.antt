@@ -10,7 +10,8 @@ use Rattle.entry_word.specs.declared.visit.Key.TheVariants.{Presence, Entry}
 use Rattle.directory.specs.Keys.{key_sub}
 use Rattle.region_plan.specs.Plan.{PlanData, Level, no_level, nodes_of, levels_of, clusters_of}
 use Rattle.visit_log.specs.Cells.{CellData, GoWith, slot_of, width_of}
-use Rattle.visit_log.specs.Numbers.{clusters_below, all_clusters, place_of, cell_number, cell_count, IsPlace, IsCell}
+use Rattle.region_plan.specs.Cells.{IsPlace, IsCell}
+use Rattle.visit_log.specs.Numbers.{clusters_below, cluster_count, place_of, cell_number, cell_count}
 
 -- the clusters of a level come before those of each later one, and are among all
 abbrev pub size : Level → ℕ
@@ -34,7 +35,7 @@ below-all levels i h = subst (λ n. n ≤ sum_by size levels) (sum_by_more size 
 
 -- places
 pub place-below : (plan : PlanData) (key : Key) → IsPlace plan key
-    → place_of plan key < nodes_of plan + all_clusters plan
+    → place_of plan key < nodes_of plan + cluster_count plan
 place-below plan (Presence node sub) h = omega (arith, h)
 place-below plan (Entry level cluster sub) h = omega (arith, h.1, below-all plan.levels level h.0)
 
@@ -103,7 +104,7 @@ same-key plan (Entry level cluster sub) (Entry other c t) h l same subs =
 
 pub cell-below : (plan : PlanData) (subs : ℕ) (key : Key) → IsCell plan subs key
     → cell_number plan subs key < cell_count plan subs
-cell-below plan subs key h = number-below (place_of plan key) (nodes_of plan + all_clusters plan) subs
+cell-below plan subs key h = number-below (place_of plan key) (nodes_of plan + cluster_count plan) subs
     (key_sub key) (place-below plan key h.place) h.known
 
 pub cell-apart : (plan : PlanData) (subs : ℕ) (key other : Key) → IsCell plan subs key → IsCell plan subs other

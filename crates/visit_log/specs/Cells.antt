@@ -12,7 +12,8 @@ use Rattle.directory.specs.Histories.{History, cell}
 use Rattle.directory.specs.Keys.{key_sub}
 use Rattle.region_plan.specs.Plan.{PlanData, clusters_of, home, levels_of, nodes_of}
 use Rattle.region_plan.specs.Settings.{setting_of}
-use Rattle.visit_log.specs.Numbers.{all_clusters, clusters_below, place_of, IsCell}
+use Rattle.region_plan.specs.Cells.{IsCell}
+use Rattle.visit_log.specs.Numbers.{cluster_count, clusters_below, place_of}
 
 -- what contracts see of plain cells
 pub record CellData : Type 0 where
@@ -23,7 +24,7 @@ pub record CellData : Type 0 where
 
 -- how many cells a subscriber has
 abbrev pub width_of : PlanData → ℕ
-width_of plan = nodes_of plan + all_clusters plan
+width_of plan = nodes_of plan + cluster_count plan
 
 -- the place of a cell's word: subscriber by subscriber, and then by node or cluster
 abbrev pub slot_of : PlanData → Key → ℕ

@@ -2,18 +2,18 @@
 -- entries, cluster by cluster and level by level, each time one cell for each subscriber.
 -- Key law: `cell_numbers` (a cell's number is below the count of cells, and different cells have
 -- different numbers).
-use Rattle.std.specs.Prelude.{ℕ, ◌+◌, ◌*◌, ◌<◌, length, sum_by, take}
+use Rattle.std.specs.Prelude.{ℕ, ◌+◌, ◌*◌, length, sum_by, take}
 use Rattle.entry_word.specs.declared.visit.Key.{Key}
 use Rattle.entry_word.specs.declared.visit.Key.TheVariants.{Presence, Entry}
 use Rattle.directory.specs.Keys.{key_sub}
-use Rattle.region_plan.specs.Plan.{PlanData, nodes_of, levels_of, clusters_of}
+use Rattle.region_plan.specs.Plan.{PlanData, nodes_of}
 
 -- how many clusters the levels below one have, and how many all levels have
 abbrev pub clusters_below : PlanData → ℕ → ℕ
 clusters_below plan level = sum_by (λ l. length l.clusters) (take level plan.levels)
 
-abbrev pub all_clusters : PlanData → ℕ
-all_clusters plan = sum_by (λ l. length l.clusters) plan.levels
+abbrev pub cluster_count : PlanData → ℕ
+cluster_count plan = sum_by (λ l. length l.clusters) plan.levels
 
 -- the place of a node or a cluster among all nodes and clusters
 abbrev pub place_of : PlanData → Key → ℕ
@@ -25,14 +25,4 @@ abbrev pub cell_number : PlanData → ℕ → Key → ℕ
 cell_number plan subs key = place_of plan key * subs + key_sub key
 
 abbrev pub cell_count : PlanData → ℕ → ℕ
-cell_count plan subs = (nodes_of plan + all_clusters plan) * subs
-
--- a key names a node, or a cluster of a level, and a subscriber
-abbrev pub IsPlace : PlanData → Key → Type 0
-IsPlace plan (Presence node sub) = node < nodes_of plan
-IsPlace plan (Entry level cluster sub) =
-    (level < levels_of plan) × (cluster < clusters_of plan level)
-
-pub record IsCell (plan : PlanData) (subs : ℕ) (key : Key) : Type 0 where
-  pub place : IsPlace plan key
-  pub known : key_sub key < subs
+cell_count plan subs = (nodes_of plan + cluster_count plan) * subs

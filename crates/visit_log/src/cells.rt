@@ -5,7 +5,7 @@ ghost use Rattle.entry_word.specs.declared.visit.Key.{Key};
 ghost use Rattle.directory.specs.Histories.{History, cell};
 ghost use Rattle.region_plan.specs.Plan.{levels_of, nodes_of};
 ghost use Rattle.region_plan.specs.Settings.{setting_of};
-ghost use Rattle.visit_log.specs.Numbers.{IsCell};
+ghost use Rattle.region_plan.specs.Cells.{IsCell};
 ghost use Rattle.visit_log.specs.Cells.{AreHomes, GoWith, Hold, open_word, slot_of, width_of, word_of};
 
 use crate::numbers::clusters_below;

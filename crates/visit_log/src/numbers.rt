@@ -4,7 +4,8 @@ ghost use Rattle.entry_word.specs.declared.visit.Key.{Key};
 ghost use Rattle.directory.specs.Keys.{key_node};
 ghost use Rattle.region_plan.specs.Plan.{PlanData, levels_of};
 ghost use Rattle.region_plan.specs.Settings.{setting_of};
-ghost use Rattle.visit_log.specs.Numbers.{IsCell, IsPlace, cell_count, cell_number, clusters_below};
+ghost use Rattle.region_plan.specs.Cells.{IsCell, IsPlace};
+ghost use Rattle.visit_log.specs.Numbers.{cell_count, cell_number, clusters_below};
 
 use entry_word::Key;
 use region_plan::Plan;

@@ -1,4 +1,4 @@
-// Cells of the line 0 - 1 - 2 - 3 of unit weights, whose level 0 has two clusters.
+//! Cells of the line 0 - 1 - 2 - 3 of unit weights, whose level 0 has two clusters.
 ghost use Rattle.std.specs.Prelude.{◌≡◌, IfOk};
 ghost use Rattle.region_plan.specs.Matched.{BoundsFinds};
 ghost use Rattle.region_plan.specs.Plan.{nodes_of};

@@ -3,8 +3,7 @@
 use directory::Found;
 
 /// What a find keeps as it chases: the greatest number of a Gone that it read, the level that it
-/// climbed to, its weight
-/// so far, and how many hops it has left.
+/// climbed to, its weight so far, and how many hops it has left.
 #[derive(Clone, Copy, PartialEq, Eq, Debug)]
 pub struct Chase {
     pub known: Option<u32>,

@@ -203,8 +203,9 @@ fn way_in(plan: &Plan, from: u32, level: u32, index: u32) -> u64
     ensures few { length (readers plan.now level from) ≤ 1024 }
     ensures kept { IsKept plan.now }
 {
-    let cluster = reader_at(plan, from, level, index);
-    plan.tree_weight(level, cluster, from)
+    // The call tells the proof that there are few readers, whose weights are light.
+    let _nodes = plan.nodes();
+    plan.reader_weight(level, from, index)
 }
 
 // The weight from the origin to the leader of a reader, and on to the address that it has.

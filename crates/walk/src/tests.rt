@@ -1,4 +1,4 @@
-// Finds over the line 0 - 1 - 2 - 3 of unit weights.
+//! Finds over the line 0 - 1 - 2 - 3 of unit weights.
 ghost use Rattle.std.specs.Prelude.{◌≡◌, IfOk, IfSome};
 ghost use Rattle.region_plan.specs.Matched.{IsMatched, IsWithinReach};
 ghost use Rattle.walk.specs.Walks.{GoesWith};
@@ -116,5 +116,13 @@ fn at_its_origin(rt: HostRuntime) -> Result<(), Fail> {
         weight: 0,
     };
     assert!(rt; walk.answer() == Some(found));
+    Ok(())
+}
+
+fn sends<T: Send>() {}
+
+#[test]
+fn another_thread_may_have_it(_rt: HostRuntime) -> Result<(), Fail> {
+    sends::<Walk>();
     Ok(())
 }

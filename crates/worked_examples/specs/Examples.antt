@@ -10,17 +10,8 @@ use Rattle.entry_word.specs.declared.visit.Visit.{Visit}
 use Rattle.directory.specs.Settings.{Setting}
 use Rattle.directory.specs.Courses.{Step, move_to, switch_off, switch_on}
 use Rattle.directory.specs.Finds.{FindCall}
-use Rattle.directory.specs.Orders.{AreValid, IsFindCall, Scripts}
-use Rattle.region_plan.specs.Examples.{line_of_four}
-use Rattle.region_plan.specs.Settings.{setting_of}
-
--- the line of four, with one subscriber that starts at node 3
-abbrev pub line_setting : Setting
-line_setting = setting_of line_of_four (3 ∷ [])
-
--- one subscriber that makes these steps, and one caller that makes these finds
-abbrev pub line_scripts : List Step → List FindCall → Scripts
-line_scripts steps finds = record { steps = steps ∷ []; finds = finds ∷ [] }
+use Rattle.directory.specs.Orders.{AreValid, IsFindCall}
+use Rattle.region_plan.specs.Examples.{line_scripts, line_setting}
 
 -- a find of the subscriber from a node
 abbrev pub find_from : ℕ → FindCall

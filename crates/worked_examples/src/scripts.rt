@@ -1,7 +1,8 @@
 //! The scripts of the worked orders meet what the laws of the directory ask of scripts.
 ghost use Rattle.std.specs.Prelude.{[], All, map, ◌∷◌};
 ghost use Rattle.directory.specs.Orders.{IsFindCall};
-ghost use Rattle.worked_examples.specs.Examples.{MakeValidScripts, find_from, line_setting, worked_steps};
+ghost use Rattle.region_plan.specs.Examples.{line_setting};
+ghost use Rattle.worked_examples.specs.Examples.{MakeValidScripts, find_from, worked_steps};
 
 /// The scripts of the worked orders are valid, so that every law of valid scripts speaks of them.
 pub fn worked_scripts()

@@ -1,7 +1,6 @@
 use Rattle.std.proofs.Common.{◌≡◌, ◌++◌, Bool, List, ℕ, take, drop, length, get_or, true, false, ap, ◌∙◌, sym, subst}
-use Rattle.std.proofs.Common.{◌+◌}
-use Rattle.region_plan.specs.Kept.{AreMarked}
-use Rattle.region_plan.proofs.Exponents.{written_marks, more_marked}
+use Rattle.std.proofs.Common.{◌+◌, arith}
+use Rattle.region_plan.proofs.Exponents.{AreMarkedDown, all_marked, more_marked, written_marks}
 use Rattle.region_plan.proofs.spread.exponents_in_use.Goals as goal
 
 pub loop-u-preserved : goal.loop-u-preserved
@@ -18,7 +17,12 @@ loop-u-preserved c =
     in
     record {
       count = ap (length {A = Bool}) whole ∙ kept ∙ c.loop-u.invariant.count;
-      marked = subst (λ (l : List Bool). AreMarked c.args.distances.now l (c.loop-u.u + 1)) (sym whole)
+      marked = subst (λ (l : List Bool). AreMarkedDown c.args.distances.now l (c.loop-u.u + 1)) (sym whole)
           (more_marked c.args.distances.now c.loop-u.u c.loop-u.marks.items c.mark_from.new.marks
           c.loop-u.invariant.marked more c.mark_from.ensures.marked);
     }
+
+pub returns-clause-marked : goal.returns-clause-marked
+returns-clause-marked c =
+    all_marked c.args.distances.now c.loop-u.marks.items c.loop-u.u c.nodes-u-end.ensures.metric
+    (omega (arith, c.loop-u-test.false, c.nodes-u-end.ensures.count)) c.loop-u.invariant.marked

@@ -7,4 +7,4 @@ returns c = at-rest (record {
   ways = c.marks_lead_by_phase.ensures;
   inside =
       c.levels_stay_near.ensures.inside;
-}) c.rest_is_settled.ensures
+}) c.rest_is_settled.ensures.settled

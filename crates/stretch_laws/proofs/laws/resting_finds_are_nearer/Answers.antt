@@ -16,5 +16,5 @@ returns c = nearer (record {
   };
   marks = c.marks_tell.ensures.marks;
   ways = c.marks_lead_by_phase.ensures;
-  rests = c.rest_is_settled.ensures;
+  rests = c.rest_is_settled.ensures.settled;
 })

@@ -1,10 +1,11 @@
-use Rattle.std.proofs.Common.{◌≡◌, ◌≢◌, ℕ, zero, suc, ◌<◌, ◌≤◌, ◌^◌, false, List, [], ◌∷◌, length, refl, arith}
+use Rattle.std.proofs.Common.{◌≡◌, ◌≢◌, ℕ, zero, suc, ◌<◌, false, List, [], ◌∷◌, length, refl, arith}
 use Rattle.std.specs.Prelude.{All, map}
 use Rattle.std.proofs.lemmas.List.Elements.{All-cons, All-nil}
 use Rattle.directory.specs.Courses.{Step, Course, move_to, switch_off, switch_on, course_at, last_stop, after_step, MayMove, MaySteps}
 use Rattle.directory.specs.Legal.{IsScript}
-use Rattle.directory.specs.Orders.{AreValid, IsFindCall, steps_of}
-use Rattle.worked_examples.specs.Examples.{MakeValidScripts, find_from, line_scripts, line_setting, worked_steps}
+use Rattle.directory.specs.Orders.{IsFindCall, steps_of}
+use Rattle.region_plan.specs.Examples.{line_scripts, line_setting}
+use Rattle.worked_examples.specs.Examples.{MakeValidScripts, find_from, worked_steps}
 use Rattle.worked_examples.proofs.scripts.worked_scripts.Goals as goal
 
 -- scripts whose steps are allowed are valid

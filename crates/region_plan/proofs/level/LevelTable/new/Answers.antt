@@ -1,41 +1,42 @@
-use Rattle.std.proofs.Common.{◌≡◌, ◌++◌, ◌∙◌, ◌<◌, ℕ, List, length, take, drop, get_or, ap, sym, arith}
-use Rattle.node_set.specs.Balls.{sets}
-use Rattle.node_set.specs.BallLaws.{ball_at}
-use Rattle.node_set.specs.Nodes.{AreNodes, Nodes}
-use Rattle.region_plan.specs.Plan.{PlanCluster}
-use Rattle.region_plan.specs.Readers.{IsReadBelow}
-use Rattle.region_plan.specs.Regions.{clusters_with}
-use Rattle.region_plan.proofs.Gathering.{readers_are, written}
-use Rattle.region_plan.proofs.Making.{more_rows, new_start, longer_by}
+use Rattle.std.proofs.Common.{rules, ◌≡◌, ◌++◌, ◌∷◌, [], ◌∙◌, ℕ, List, length, ap, arith}
+use Rattle.region_plan.proofs.Gathering.{pushed_readers}
+use Rattle.region_plan.proofs.Making.{longer_by, more_beside, more_rows, new_start, no_rows, none_beside}
+use Rattle.region_plan.proofs.Making.{pushed_weights, row_slice}
+use Rattle.region_plan.proofs.Places.{first_places, next_places}
 use Rattle.region_plan.proofs.level.LevelTable.new.Goals as goal
 
--- the numbers that were pushed for a node
-grown : (n v : ℕ) (clusters now : List PlanCluster) (all : List Nodes) (s : Nodes) (old new : List ℕ)
-    → IsReadBelow n now (length now) (sets all) → now ≡ clusters → v < n → v < length all → s ≡ get_or all v s
-    → AreNodes s
-    → new ≡ old ++ s.members → new ≡ old ++ clusters_with clusters v
-grown n v clusters now all s old new read value below short at sound pushed =
-    pushed ∙ ap (λ (l : List ℕ). old ++ l)
-    (readers_are n v now (sets all) s.members read below (sym (ball_at all v s short at)) sound.ascending
-    ∙ ap (λ (cs : List PlanCluster). clusters_with cs v) value)
+pub loop-v-init : goal.loop-v-init
+loop-v-init c = record {
+  rows = no_rows c.args.clusters.items c.push.new.self.items c.new-readers.result.items
+      (c.in_ok-push.ensures.items ∙ ap (λ (xs : List ℕ). xs ++ 0 ∷ []) c.in_ok-starts.ensures.items)
+      c.new-readers.ensures.items;
+  beside = none_beside c.args.clusters.items c.push.new.self.items c.new-readers.result.items c.new-weights.result.items
+      c.new-readers.ensures.items c.new-weights.ensures.items;
+  places = first_places c.args.clusters.items c.in_ok-places.places.items (search rules);
+  ends = search rules;
+  few = search rules;
+}
+
+pub push_weights-requires-clause-numbers : goal.push_weights-requires-clause-numbers
+push_weights-requires-clause-numbers c =
+    let growth = pushed_readers c.loop-v.v c.args.sets.len c.args.clusters.items c.deref.result.now c.args.sets.items
+    c.deref_mut.result.now c.gather_readers.new.sets c.index.result.now c.loop-v.readers.items
+    c.push_members.new.list.items c.gather_readers.ensures c.deref.ensures.value c.deref_mut.ensures.value
+    c.gather_readers.auto.sets c.args.sets.ok.0
+    (omega (arith, c.loop-v-test.true, c.len-v-end.ensures, c.requires.sets)) c.index.ensures
+    c.in_ok-push_members.ensures.sound c.in_ok-push_members.ensures.pushed in
+    row_slice c.loop-v.v c.args.clusters.items c.deref-in-loop-v.result.now c.deref-in-loop-v-2.result.now
+    c.loop-v.readers.items c.push_members.new.list.items c.len-first.result c.deref-in-loop-v.ensures.value
+    c.deref-in-loop-v-2.ensures.value growth (omega (arith, c.len-first.ensures, c.loop-v.readers.ok.0))
 
 pub overflow_cast-len-in-loop-v : goal.overflow_cast-len-in-loop-v
 overflow_cast-len-in-loop-v c =
-    let same : length c.gather_readers.new.sets ≡ length c.args.sets.items =
-    c.gather_readers.auto.sets ∙ ap length c.deref_mut.ensures.value
-    in
-    let whole : take c.args.sets.len (c.gather_readers.new.sets ++ drop (length c.gather_readers.new.sets)
-    c.args.sets.items)
-    ≡ c.gather_readers.new.sets =
-    written c.args.sets.len c.gather_readers.new.sets c.args.sets.items same c.args.sets.ok.0
-    in
-    let growth = grown (length c.deref_mut.result.now) c.loop-v.v c.args.clusters.items c.deref.result.now
-    c.gather_readers.new.sets c.index.result.now c.loop-v.readers.items c.push_members.new.list.items
-    c.gather_readers.ensures c.deref.ensures.value
-    (omega (arith, c.loop-v-test.true, c.len-v-end.ensures, ap length c.deref_mut.ensures.value, c.requires.sets))
-    (omega (arith, c.loop-v-test.true, c.len-v-end.ensures, same, c.requires.sets)) (rw whole at c.index.ensures)
-    c.in_ok-push_members.ensures.sound c.in_ok-push_members.ensures.pushed
-    in
+    let growth = pushed_readers c.loop-v.v c.args.sets.len c.args.clusters.items c.deref.result.now c.args.sets.items
+    c.deref_mut.result.now c.gather_readers.new.sets c.index.result.now c.loop-v.readers.items
+    c.push_members.new.list.items c.gather_readers.ensures c.deref.ensures.value c.deref_mut.ensures.value
+    c.gather_readers.auto.sets c.args.sets.ok.0
+    (omega (arith, c.loop-v-test.true, c.len-v-end.ensures, c.requires.sets)) c.index.ensures
+    c.in_ok-push_members.ensures.sound c.in_ok-push_members.ensures.pushed in
     omega (
       arith,
       longer_by c.args.clusters.items c.loop-v.v c.loop-v.readers.items c.push_members.new.list.items growth,
@@ -47,21 +48,12 @@ overflow_cast-len-in-loop-v c =
 
 pub loop-v-preserved : goal.loop-v-preserved
 loop-v-preserved c =
-    let same : length c.gather_readers.new.sets ≡ length c.args.sets.items =
-    c.gather_readers.auto.sets ∙ ap length c.deref_mut.ensures.value
-    in
-    let whole : take c.args.sets.len (c.gather_readers.new.sets ++ drop (length c.gather_readers.new.sets)
-    c.args.sets.items)
-    ≡ c.gather_readers.new.sets =
-    written c.args.sets.len c.gather_readers.new.sets c.args.sets.items same c.args.sets.ok.0
-    in
-    let growth = grown (length c.deref_mut.result.now) c.loop-v.v c.args.clusters.items c.deref.result.now
-    c.gather_readers.new.sets c.index.result.now c.loop-v.readers.items c.push_members.new.list.items
-    c.gather_readers.ensures c.deref.ensures.value
-    (omega (arith, c.loop-v-test.true, c.len-v-end.ensures, ap length c.deref_mut.ensures.value, c.requires.sets))
-    (omega (arith, c.loop-v-test.true, c.len-v-end.ensures, same, c.requires.sets)) (rw whole at c.index.ensures)
-    c.in_ok-push_members.ensures.sound c.in_ok-push_members.ensures.pushed
-    in
+    let growth = pushed_readers c.loop-v.v c.args.sets.len c.args.clusters.items c.deref.result.now c.args.sets.items
+    c.deref_mut.result.now c.gather_readers.new.sets c.index.result.now c.loop-v.readers.items
+    c.push_members.new.list.items c.gather_readers.ensures c.deref.ensures.value c.deref_mut.ensures.value
+    c.gather_readers.auto.sets c.args.sets.ok.0
+    (omega (arith, c.loop-v-test.true, c.len-v-end.ensures, c.requires.sets)) c.index.ensures
+    c.in_ok-push_members.ensures.sound c.in_ok-push_members.ensures.pushed in
     let end_is : c.len-in-loop-v.result ≡ length c.push_members.new.list.items =
     omega (arith, c.len-in-loop-v.ensures, c.push_members.new.list.ok.0)
     in
@@ -69,6 +61,18 @@ loop-v-preserved c =
       rows = more_rows c.loop-v.v c.args.clusters.items c.loop-v.starts.items c.loop-v.readers.items
           c.push-in-loop-v.new.self.items c.push_members.new.list.items c.len-in-loop-v.result c.loop-v.invariant.rows
           c.loop-v.invariant.ends growth end_is c.in_ok-push-2.ensures.items;
+      beside = more_beside c.loop-v.v c.args.clusters.items c.loop-v.starts.items c.loop-v.readers.items
+          c.loop-v.weights.items c.push-in-loop-v.new.self.items c.push_members.new.list.items
+          c.push_weights.new.weights.items c.len-in-loop-v.result c.loop-v.invariant.rows c.loop-v.invariant.beside
+          c.loop-v.invariant.ends growth end_is c.in_ok-push-2.ensures.items
+          (pushed_weights c.loop-v.v c.args.clusters.items c.deref-in-loop-v.result.now c.deref-in-loop-v-2.result.now
+          c.loop-v.readers.items c.push_members.new.list.items c.loop-v.weights.items c.push_weights.new.weights.items
+          c.len-first.result c.deref-in-loop-v.ensures.value c.deref-in-loop-v-2.ensures.value growth
+          (omega (arith, c.len-first.ensures, c.loop-v.readers.ok.0)) c.in_ok-push_weights.ensures.pushed);
+      places = next_places c.loop-v.v c.loop-v.places.len c.args.clusters.items c.deref-in-loop-v.result.now
+          c.loop-v.places.items c.deref_mut-in-loop-v.result.now c.push_weights.new.places
+          c.deref-in-loop-v.ensures.value c.deref_mut-in-loop-v.ensures.value c.push_weights.auto.places
+          c.loop-v.places.ok.0 c.in_ok-push_weights.ensures.places;
       ends = new_start c.loop-v.v c.args.clusters.items c.loop-v.starts.items c.loop-v.readers.items
           c.push-in-loop-v.new.self.items c.push_members.new.list.items c.len-in-loop-v.result c.loop-v.invariant.rows
           c.loop-v.invariant.ends growth end_is c.in_ok-push-2.ensures.items;

@@ -7,7 +7,7 @@ returns-clause-numbers c =
     c.self.inside.homes.items
     c.self.inside.starts.items c.self.inside.readers.items c.args.self.now c.args.v
     c.index.result.now c.index-2.result.now c.deref.result.now
-    c.self.invariant c.self.view_is c.requires c.index.ensures c.index-2.ensures c.deref.ensures.value
+    c.self.invariant.rows c.self.view_is c.requires c.index.ensures c.index-2.ensures c.deref.ensures.value
 
 pub returns-clause-few : goal.returns-clause-few
 returns-clause-few c =
@@ -15,4 +15,4 @@ returns-clause-few c =
     c.self.inside.homes.items
     c.self.inside.starts.items c.self.inside.readers.items c.args.self.now c.args.v
     c.index.result.now c.index-2.result.now c.deref.result.now
-    c.self.invariant c.self.view_is c.requires c.index.ensures c.index-2.ensures c.deref.ensures.value
+    c.self.invariant.rows c.self.view_is c.requires c.index.ensures c.index-2.ensures c.deref.ensures.value

@@ -1,7 +1,8 @@
 use Rattle.std.proofs.Common.{rules, ◌≡◌, ◌+◌, ◌*◌, ◌<◌, ◌∙◌, ap, arith, get_or, length, subst, sym}
 use Rattle.std.proofs.lemmas.List.{get_or_default}
 use Rattle.region_plan.specs.Plan.{nodes_of}
-use Rattle.visit_log.specs.Numbers.{IsPlace, clusters_below}
+use Rattle.region_plan.specs.Cells.{IsPlace}
+use Rattle.visit_log.specs.Numbers.{clusters_below}
 use Rattle.visit_log.specs.Cells.{CellData, slot_of, width_of}
 use Rattle.visit_log.proofs.Places.{slot-within}
 use Rattle.visit_log.proofs.cells.PlainCells.index.Goals as goal

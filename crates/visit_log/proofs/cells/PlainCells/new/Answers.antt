@@ -1,6 +1,6 @@
 use Rattle.std.proofs.Common.{arith, ap, subst, sym, ◌∙◌, refl, get_or}
 use Rattle.region_plan.specs.Plan.{levels_of}
-use Rattle.visit_log.specs.Numbers.{IsCell}
+use Rattle.region_plan.specs.Cells.{IsCell}
 use Rattle.visit_log.specs.Cells.{open_word}
 use Rattle.visit_log.proofs.Opening.{opened-more}
 use Rattle.visit_log.proofs.cells.PlainCells.new.Goals as goal

@@ -1,6 +1,6 @@
 use Rattle.std.proofs.Common.{◌<◌, arith, ap, subst, sym, ◌∙◌}
 use Rattle.region_plan.specs.Plan.{levels_of, clusters_of}
-use Rattle.visit_log.specs.Numbers.{IsCell}
+use Rattle.region_plan.specs.Cells.{IsCell}
 use Rattle.visit_log.specs.Cells.{CellData, word_of}
 use Rattle.visit_log.proofs.Opening.{set-first, set-more}
 use Rattle.visit_log.proofs.cells.PlainCells.open.Goals as goal

@@ -1,6 +1,6 @@
 use Rattle.std.proofs.Common.{◌≡◌}
 use Rattle.entry_word.specs.declared.visit.Key.{Key}
-use Rattle.visit_log.specs.Numbers.{IsCell}
+use Rattle.region_plan.specs.Cells.{IsCell}
 use Rattle.visit_log.specs.Cells.{GoWith, open_word, word_of}
 use Rattle.visit_log.proofs.cells.PlainCells.open.Given as goal
 
