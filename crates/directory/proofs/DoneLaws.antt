@@ -1,16 +1,16 @@
 -- A subscriber whose script is done has nothing left to put.
-use Rattle.std.proofs.Common.{◌≡◌, ◌≤◌, ℕ, [], List, None, Some, length, take, drop, sym, ap, ◌∙◌, arith, length-append, inl, inr}
+use Rattle.std.proofs.Common.{◌≡◌, ◌≤◌, ◌<◌, ◌^◌, ◌++◌, ◌∷◌, ℕ, [], List, None, Some, length, take, drop, refl, sym, ap, ◌∙◌, arith, append-nil, length-append, inl, inr}
 use Rattle.std.specs.Prelude.{slice_get}
-use Rattle.std.proofs.lemmas.List.{drop_all, take-append-drop, take_all}
+use Rattle.std.proofs.lemmas.List.{drop_all, length-take, take-append-drop, take_all}
 use Rattle.std.proofs.lemmas.Option.{slice_get_cases}
 use Rattle.entry_word.specs.Marks.{MarksUnpack}
-use Rattle.directory.specs.Settings.{Setting, start}
-use Rattle.directory.specs.Histories.{own, puts_to}
-use Rattle.directory.specs.Courses.{after_steps, Course, course_at, Step}
-use Rattle.directory.specs.Writes.{visits}
+use Rattle.directory.specs.Settings.{Setting, start, subs}
+use Rattle.directory.specs.Histories.{History, own, puts_to}
+use Rattle.directory.specs.Courses.{after_steps, Course, course_at, Step, move_to, switch_off, switch_on}
+use Rattle.directory.specs.Writes.{visits, writes}
 use Rattle.directory.specs.Puts.{puts_left, steps_in}
-use Rattle.directory.specs.Orders.{script_visits, steps_of}
-use Rattle.directory.specs.Statements.{DoneIsRest}
+use Rattle.directory.specs.Orders.{AreValid, IsDone, IsPlayed, script_visits, Scripts, steps_of}
+use Rattle.directory.specs.Statements.{DoneIsRest, DoneShowsScript}
 use Rattle.directory.specs.StepLaws.{visits-append, visits_in}
 use Rattle.directory.proofs.StepLaws.{AreBegun, begun}
 use Rattle.directory.proofs.NextLaws.{next-sub, played-own, played-puts}
@@ -36,29 +36,100 @@ past-end xs i none = elim (slice_get_cases xs i).1 [
   | inr past ↦ past.0
 ]
 
-pub done-rests : MarksUnpack → DoneIsRest
-done-rests unpacks setting scripts history sub low valid known played done =
-    ap (puts_left setting sub) all_put
-    ∙ at_begun (begun unpacks setting sub (course_at (start setting sub)) (steps_of scripts sub)
+-- each step has a visit
+some-visit : (setting : Setting) (sub : ℕ) (course : Course) (step : Step) (steps : List Step)
+    → 1 ≤ length (visits_in setting sub course (step ∷ steps))
+unfolding writes
+some-visit setting sub course (move_to node) steps = omega arith
+some-visit setting sub course switch_off steps = omega arith
+some-visit setting sub course switch_on steps = omega arith
+
+no-steps : (setting : Setting) (sub : ℕ) (course : Course) (steps : List Step)
+    → length (visits_in setting sub course steps) ≡ 0 → steps ≡ []
+no-steps setting sub course [] none = refl
+no-steps setting sub course (step ∷ steps) none =
+    absurd (omega (arith, none, some-visit setting sub course step steps))
+
+-- a front of some steps that has all their visits has all of them
+whole-front : (setting : Setting) (sub : ℕ) (course : Course) (steps : List Step) (k : ℕ)
+    → length (visits_in setting sub course steps) ≤ length (visits_in setting sub course (take k steps))
+    → take k steps ≡ steps
+whole-front setting sub course steps k all =
+    let parted : visits_in setting sub course steps ≡ _ =
+    ap (visits_in setting sub course) (sym (take-append-drop k steps))
+    ∙ visits-append setting sub course (take k steps) (drop k steps) in
+    let none : length (visits_in setting sub (after_steps setting course (take k steps)) (drop k steps)) ≡ 0 = omega (
+      arith,
+      all,
+      ap length parted,
+      length-append (visits_in setting sub course (take k steps))
+          (visits_in setting sub (after_steps setting course (take k steps)) (drop k steps)),
+    ) in
+    sym (append-nil (take k steps))
+    ∙ (ap (λ more. take k steps ++ more)
+    (sym (no-steps setting sub (after_steps setting course (take k steps)) (drop k steps) none))
+    ∙ take-append-drop k steps)
+
+-- all visits of a script are made
+all-put : (setting : Setting) (scripts : Scripts) (history : History) (sub : ℕ) → sub < subs setting
+    → IsPlayed setting scripts history → IsDone setting scripts history sub
+    → puts_to sub history ≡ script_visits setting scripts sub
+all-put setting scripts history sub known played done =
+    let whole : length (script_visits setting scripts sub) ≤ length (own sub history) =
+    past-end (script_visits setting scripts sub) (length (own sub history))
+    (sym (next-sub setting scripts history sub known) ∙ done) in
+    played-puts setting scripts history sub known played ∙ played-own setting scripts history sub known played
+    ∙ take_all (length (own sub history)) (script_visits setting scripts sub) whole
+
+-- and show a front of its steps
+all-begun : MarksUnpack → (setting : Setting) (scripts : Scripts) (sub : ℕ) → setting.nodes ≤ 2 ^ 16
+    → AreValid setting scripts → sub < subs setting
+    → AreBegun setting sub (course_at (start setting sub)) (steps_of scripts sub)
+    (length (script_visits setting scripts sub))
+all-begun unpacks setting scripts sub low valid known =
+    begun unpacks setting sub (course_at (start setting sub)) (steps_of scripts sub)
     (length (script_visits setting scripts sub))
     (record { low = low; inside = (valid.steps sub known).begins; few = omega arith })
-    (valid.steps sub known).allowed)
+    (valid.steps sub known).allowed
+
+front-shown : (setting : Setting) (scripts : Scripts) (sub : ℕ)
+    → (first : AreBegun setting sub (course_at (start setting sub)) (steps_of scripts sub)
+    (length (script_visits setting scripts sub)))
+    → steps_in (script_visits setting scripts sub) ≡ take first.count (steps_of scripts sub)
+front-shown setting scripts sub first =
+    ap steps_in (sym (take_all (length (script_visits setting scripts sub)) (script_visits setting scripts sub)
+    (omega arith))) ∙ first.shown
+
+pub done-rests : MarksUnpack → DoneIsRest
+done-rests unpacks setting scripts history sub low valid known played done =
+    ap (puts_left setting sub) (all-put setting scripts history sub known played done)
+    ∙ at_begun (all-begun unpacks setting scripts sub low valid known)
   where
-    whole : length (script_visits setting scripts sub) ≤ length (own sub history)
-    whole = past-end (script_visits setting scripts sub) (length (own sub history))
-        (sym (next-sub setting scripts history sub known) ∙ done)
-
-    all_put : puts_to sub history ≡ script_visits setting scripts sub
-    all_put = played-puts setting scripts history sub known played ∙ played-own setting scripts history sub known played
-        ∙ take_all (length (own sub history)) (script_visits setting scripts sub) whole
-
     at_begun : AreBegun setting sub (course_at (start setting sub)) (steps_of scripts sub)
         (length (script_visits setting scripts sub)) → puts_left setting sub (script_visits setting scripts sub) ≡ []
     at_begun first =
-        let shown : steps_in (script_visits setting scripts sub) ≡ take first.count (steps_of scripts sub) =
-        ap steps_in (sym (take_all (length (script_visits setting scripts sub)) (script_visits setting scripts sub)
-        (omega arith))) ∙ first.shown in
-        ap (λ steps. drop (length (script_visits setting scripts sub)) (visits setting sub steps)) shown
+        ap (λ steps. drop (length (script_visits setting scripts sub)) (visits setting sub steps))
+        (front-shown setting scripts sub first)
         ∙ drop_all (length (script_visits setting scripts sub))
         (visits setting sub (take first.count (steps_of scripts sub)))
         (fewer-visits setting sub (course_at (start setting sub)) (steps_of scripts sub) first.count)
+
+pub done-shows : MarksUnpack → DoneShowsScript
+done-shows unpacks setting scripts history sub low valid known played done =
+    ap steps_in (all-put setting scripts history sub known played done)
+    ∙ at_begun (all-begun unpacks setting scripts sub low valid known)
+  where
+    at_begun : AreBegun setting sub (course_at (start setting sub)) (steps_of scripts sub)
+        (length (script_visits setting scripts sub))
+        → steps_in (script_visits setting scripts sub) ≡ steps_of scripts sub
+    at_begun first =
+        let same : script_visits setting scripts sub
+        ≡ take (length (script_visits setting scripts sub))
+        (visits setting sub (take first.count (steps_of scripts sub))) =
+        sym (take_all (length (script_visits setting scripts sub)) (script_visits setting scripts sub) (omega arith))
+        ∙ first.enough in
+        let fewer = length-take (length (script_visits setting scripts sub))
+        (visits setting sub (take first.count (steps_of scripts sub))) in
+        front-shown setting scripts sub first
+        ∙ whole-front setting sub (course_at (start setting sub)) (steps_of scripts sub) first.count
+        (omega (arith, ap length same, fewer))

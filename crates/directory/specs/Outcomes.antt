@@ -1,6 +1,6 @@
 -- What becomes of the calls of all actors under an order: of each move, switch and find one line
 -- with its tickets, by actor and in the order of its script; and whose visit each ticket was.
--- Key laws: `lines_are_made` (each line is tied to its visits), and `worked_rows`, computed.
+-- Key law: `lines_are_made` (each line is tied to its visits); `worked_orders` computes rows.
 use Rattle.std.specs.Prelude.{◌≡◌, ◌≤◌, ℕ, suc, true, false, List, [], ◌∷◌, ◌++◌, map, length, take, drop, flat_map, slice_get, slice_index, Some}
 use Rattle.node_set.specs.Ascending.{IsAscending}
 use Rattle.directory.specs.Settings.{Setting, subs, start}
@@ -39,6 +39,7 @@ step_lines setting sub course (step ∷ steps) seen =
     ∷ step_lines setting sub (after_step setting course step) steps
     (drop (length (step_writes setting course step)) seen)
 
+-- what became of the steps of a subscriber
 abbrev pub sub_lines : Setting → Scripts → History → ℕ → List Done
 sub_lines setting scripts history sub =
     step_lines setting sub (course_at (start setting sub)) (steps_of scripts sub)
@@ -53,11 +54,13 @@ found_line caller call (OffAt node number level weight) first last =
 found_line caller call (Again why weight) first last =
     AgainBy caller call.from call.sub why weight first last
 
+-- the line of an answer of a caller, whose looks have these tickets
 abbrev pub answer_line : ℕ → List ℕ → Answer → Done
 answer_line caller seen answer =
     found_line caller answer.call answer.found (slice_index seen answer.first)
     (slice_index seen answer.last)
 
+-- the lines of the finds of a caller that are done
 abbrev pub caller_lines : Setting → Scripts → History → ℕ → List Done
 caller_lines setting scripts history caller =
     map (answer_line caller (tickets caller history))

@@ -75,6 +75,7 @@ MarksAreLeft =
     → mark_in (cell setting history (Presence node sub))
     ≡ mark_left setting sub (writes_made setting sub (puts_to sub history)) node
 
+-- and so it is of entries (`read_of_legal`)
 abbrev pub EntriesAreLeft : Type 0
 EntriesAreLeft =
     (setting : Setting) (sub : ℕ) (history : History) → setting.nodes ≤ 2 ^ 16
@@ -82,7 +83,7 @@ EntriesAreLeft =
     → address_in (cell setting history (Entry level cluster sub))
     ≡ entry_left setting sub (writes_made setting sub (puts_to sub history)) level cluster
 
--- the writes tell the commits, and whether the subscriber is off (`told_by_writes`)
+-- the writes tell the commits (`told_by_writes`)
 abbrev pub CommitsAreTold : Type 0
 CommitsAreTold =
     (setting : Setting) (sub : ℕ) (history : History) → setting.nodes ≤ 2 ^ 16
@@ -90,6 +91,7 @@ CommitsAreTold =
     → commits sub history
     ≡ filter_map write_commit (writes_made setting sub (puts_to sub history))
 
+-- and whether the subscriber is off (`told_by_writes`)
 abbrev pub OffIsTold : Type 0
 OffIsTold =
     (setting : Setting) (sub : ℕ) (history : History) → setting.nodes ≤ 2 ^ 16
@@ -162,6 +164,14 @@ DoneIsRest =
     → setting.nodes ≤ 2 ^ 16 → AreValid setting scripts → sub < subs setting
     → IsPlayed setting scripts history → IsDone setting scripts history sub
     → puts_left setting sub (puts_to sub history) ≡ []
+
+-- and its puts show all steps of its script (`done_is_rest`)
+abbrev pub DoneShowsScript : Type 0
+DoneShowsScript =
+    (setting : Setting) (scripts : Scripts) (history : History) (sub : ℕ)
+    → setting.nodes ≤ 2 ^ 16 → AreValid setting scripts → sub < subs setting
+    → IsPlayed setting scripts history → IsDone setting scripts history sub
+    → steps_in (puts_to sub history) ≡ steps_of scripts sub
 
 -- where nobody moves or switches, each cell holds its opening word (`rest_keeps_opening`)
 abbrev pub RestKeepsOpening : Type 0

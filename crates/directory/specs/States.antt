@@ -52,6 +52,7 @@ abbrev pub IsSmallWrite : Write → Type 0
 IsSmallWrite (mark_at node mark) = IsSmallMark mark
 IsSmallWrite (entry_at level cluster address) = IsSmallAddress address
 
+-- all of some writes fit
 unfoldable pub AreSmall : List Write → Type 0
 AreSmall [] = Unit {0}
 AreSmall (write ∷ later) = IsSmallWrite write × AreSmall later

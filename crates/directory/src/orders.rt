@@ -3,7 +3,7 @@ ghost use Rattle.std.specs.Prelude.{All, List, Some, [], map, ℕ, ◌++◌, ◌
 ghost use Rattle.directory.specs.Histories.{History};
 ghost use Rattle.directory.specs.Orders.{IsDone, IsPlayed, Scripts, after_turns, history_of, next};
 ghost use Rattle.directory.specs.Settings.{Setting};
-ghost use Rattle.directory.specs.Statements.{DoneIsRest, HistoriesAreOrdered, OrdersAreDone, OrdersArePlayed, OwnPutsAlone, PlayedIsLegal, RestKeepsOpening, ScriptsInOrder, TurnsAreFew, TurnsEndAlike};
+ghost use Rattle.directory.specs.Statements.{DoneIsRest, DoneShowsScript, HistoriesAreOrdered, OrdersAreDone, OrdersArePlayed, OwnPutsAlone, PlayedIsLegal, RestKeepsOpening, ScriptsInOrder, TurnsAreFew, TurnsEndAlike};
 ghost use Rattle.entry_word.specs.declared.visit.Visit.{Visit};
 
 use entry_word::mark_words;
@@ -73,9 +73,10 @@ pub fn every_order_is_legal()
     mark_words();
 }
 
-/// A subscriber whose script is done has nothing left to put.
+/// A subscriber whose script is done has nothing left to put, and its puts show all its steps.
 pub fn done_is_rest()
-    ensures { DoneIsRest }
+    ensures rests { DoneIsRest }
+    ensures shown { DoneShowsScript }
 {
     mark_words();
 }

@@ -13,7 +13,8 @@ use Rattle.handset.specs.declared.stage.Stage.TheVariants.{Resting, Coming, Swit
 use Rattle.handset.specs.Kept.{HandsetData}
 use Rattle.handset.specs.Progress.{left_at}
 use Rattle.handset.specs.Beginning.{begin_move, handset_at, journey_to, renewal_in, gathered_then}
-use Rattle.handset.specs.Stands.{course_of, switch_to, commits_in, Shows, StandsAt, StandsFor}
+use Rattle.directory.specs.Amid.{course_of}
+use Rattle.handset.specs.Stands.{switch_to, commits_in, Shows, StandsAt, StandsFor}
 use Rattle.handset.proofs.Lists.{highest-low, drop-spent, highest-same, numbers-from-zero}
 use Rattle.handset.proofs.CourseLaws.{course-more, visits-more}
 use Rattle.handset.proofs.Settling.{AddressLaw, GatheredLaw}

@@ -7,7 +7,7 @@ use Rattle.node_set.specs.Ascending.{has}
 use Rattle.directory.specs.Settings.{Setting, start}
 use Rattle.directory.specs.Courses.{Step, move_to, switch_off, switch_on, Move, Course, course_at, last_stop, base, next_move, after_step, after_steps}
 use Rattle.directory.specs.Writes.{visit_of, visits, step_writes, writes, trail}
-use Rattle.handset.specs.Stands.{course_of}
+use Rattle.directory.specs.Amid.{course_of}
 
 -- one step more
 pub course-more : (setting : Setting) (sub : ℕ) (steps : List Step) (step : Step)

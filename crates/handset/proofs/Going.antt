@@ -11,7 +11,7 @@ use Rattle.region_plan.specs.Settings.{setting_of}
 use Rattle.handset.specs.declared.stage.Stage.{Stage}
 use Rattle.handset.specs.declared.stage.Stage.TheVariants.{Resting, Coming, Renewing, Committing, Confirming, Erasing, Purging, Switching}
 use Rattle.handset.specs.Kept.{HandsetData, GoesWith, IsWithin, begun_at}
-use Rattle.handset.specs.Progress.{first_passing, is_old, is_passed, purging_at, purging_from, erasing_at, erasing_from, settle, go_on}
+use Rattle.handset.specs.Progress.{first_with, is_old, is_behind, purging_at, purging_from, erasing_at, erasing_from, settle, go_on}
 use Rattle.handset.specs.Beginning.{gathered_then, gathered_after, is_rest, journey_to, begin_move}
 use Rattle.handset.proofs.Lists.{first-inside, highest-low, numbers-from-zero, numbers-count}
 
@@ -27,7 +27,7 @@ IsLate nodes move (Purging node) = node < nodes
 IsLate nodes move (Switching off) = ⊥
 
 late-purging : (nodes : ℕ) (handset : HandsetData) (node : ℕ) (o : Option ℕ)
-    → first_passing (is_passed handset) node (nodes - node) ≡ o → IsLate nodes handset.last (purging_at o)
+    → first_with (is_behind handset) node (nodes - node) ≡ o → IsLate nodes handset.last (purging_at o)
 late-purging nodes handset node None h = tt
 late-purging nodes handset node (Some x) h = let inside : (node ≤ x) × (x < node + (nodes - node)) =
     first-inside _ _ _ _ h in omega (arith, inside.0, inside.1)
@@ -42,7 +42,7 @@ late-ending plan handset true = purging-is-late plan handset 0
 late-ending plan handset false = tt
 
 late-erasing : (plan : PlanData) (handset : HandsetData) (level : ℕ) (o : Option ℕ)
-    → first_passing (is_old (setting_of plan []) handset) level (suc handset.last.renewed - level) ≡ o
+    → first_with (is_old (setting_of plan []) handset) level (suc handset.last.renewed - level) ≡ o
     → IsLate (nodes_of plan) handset.last (erasing_at (setting_of plan []) handset o)
 late-erasing plan handset level None h = late-ending plan handset _
 late-erasing plan handset level (Some x) h = let inside : (level ≤ x)
@@ -171,9 +171,9 @@ goes-next plan handset after stage next goes at committed late same =
     ∙ ap (λ s. begun_at s handset.number) at)) late)
 
 pub purging-by-count : (plan : PlanData) (handset : HandsetData) (node count : ℕ) → count ≡ nodes_of plan
-    → IsLate (nodes_of plan) handset.last (purging_at (first_passing (is_passed handset) node (count - node)))
+    → IsLate (nodes_of plan) handset.last (purging_at (first_with (is_behind handset) node (count - node)))
 purging-by-count plan handset node count same =
-    subst (λ n. IsLate (nodes_of plan) handset.last (purging_at (first_passing (is_passed handset) node
+    subst (λ n. IsLate (nodes_of plan) handset.last (purging_at (first_with (is_behind handset) node
     (n - node)))) (sym same) (purging-is-late plan handset node)
 
 -- what the levels have gathered stays light

@@ -8,7 +8,8 @@ use Rattle.directory.specs.Writes.{visit_of, visits, trail}
 use Rattle.handset.specs.declared.stage.Stage.{Stage}
 use Rattle.handset.specs.Kept.{HandsetData}
 use Rattle.handset.specs.Progress.{left_at}
-use Rattle.handset.specs.Stands.{IsNext, Shows, StandsAt, StandsFor, course_of, number_at, place_at, under_way}
+use Rattle.directory.specs.Amid.{course_of}
+use Rattle.handset.specs.Stands.{IsNext, Shows, StandsAt, StandsFor, number_at, place_at, under_way}
 
 -- what a handset and its setting have in common
 pub record Fits (setting : Setting) (handset : HandsetData) : Type 0 where

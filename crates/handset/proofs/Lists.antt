@@ -5,30 +5,30 @@ use Rattle.std.specs.Prelude.{slice_get, get_or, not, nat_le, ◌==◌}
 use Rattle.node_set.specs.Ascending.{sift}
 use Rattle.directory.specs.Courses.{highest}
 use Rattle.directory.specs.Writes.{numbers_from}
-use Rattle.handset.specs.Progress.{first_passing}
+use Rattle.handset.specs.Progress.{first_with}
 
 -- a test of some numbers up to an end, at one of them and at the end
-pub first-step : (test : ℕ → Bool) (x limit : ℕ) → x < limit → first_passing test x (limit - x)
-    ≡ cond (test x) (Some x) (first_passing test (suc x) (limit - suc x))
-first-step test x limit h = let e : limit - x ≡ suc (limit - suc x) = omega arith in ap (first_passing test x) e
+pub first-step : (test : ℕ → Bool) (x limit : ℕ) → x < limit → first_with test x (limit - x)
+    ≡ cond (test x) (Some x) (first_with test (suc x) (limit - suc x))
+first-step test x limit h = let e : limit - x ≡ suc (limit - suc x) = omega arith in ap (first_with test x) e
 
-pub first-here : (test : ℕ → Bool) (x limit : ℕ) → x < limit → test x ≡ true → first_passing test x (limit - x)
+pub first-here : (test : ℕ → Bool) (x limit : ℕ) → x < limit → test x ≡ true → first_with test x (limit - x)
     ≡ Some x
-first-here test x limit h passes = first-step test x limit h ∙ ap (λ b. cond b (Some x) (first_passing test (suc x)
+first-here test x limit h passes = first-step test x limit h ∙ ap (λ b. cond b (Some x) (first_with test (suc x)
     (limit - suc x))) passes
 
 pub first-later : (test : ℕ → Bool) (x limit : ℕ) → x < limit → test x ≡ false
-    → first_passing test (suc x) (limit - suc x) ≡ first_passing test x (limit - x)
-first-later test x limit h fails = sym (first-step test x limit h ∙ ap (λ b. cond b (Some x) (first_passing test
+    → first_with test (suc x) (limit - suc x) ≡ first_with test x (limit - x)
+first-later test x limit h fails = sym (first-step test x limit h ∙ ap (λ b. cond b (Some x) (first_with test
     (suc x) (limit - suc x))) fails)
 
-pub first-next : (test : ℕ → Bool) (x limit : ℕ) → x < limit → test x ≡ false → first_passing test (x + 1) (limit -
-    (x + 1)) ≡ first_passing test x (limit - x)
-first-next test x limit h fails = let e : x + 1 ≡ suc x = omega arith in ap (λ y. first_passing test y
+pub first-next : (test : ℕ → Bool) (x limit : ℕ) → x < limit → test x ≡ false → first_with test (x + 1) (limit -
+    (x + 1)) ≡ first_with test x (limit - x)
+first-next test x limit h fails = let e : x + 1 ≡ suc x = omega arith in ap (λ y. first_with test y
     (limit - y)) e ∙ first-later test x limit h fails
 
-pub first-none : (test : ℕ → Bool) (x limit : ℕ) → limit ≤ x → first_passing test x (limit - x) ≡ None
-first-none test x limit h = let e : limit - x ≡ 0 = omega arith in ap (first_passing test x) e
+pub first-none : (test : ℕ → Bool) (x limit : ℕ) → limit ≤ x → first_with test x (limit - x) ≡ None
+first-none test x limit h = let e : limit - x ≡ 0 = omega arith in ap (first_with test x) e
 
 pub differ : (a b : ℕ) → a ≢ b → not (a == b) ≡ true
 differ a b h = grind (arith, nat_tests)
@@ -95,35 +95,35 @@ pub numbers-from-zero : (f : ℕ → ℕ) (count k : ℕ) → k < count → get_
 numbers-from-zero f count k h = numbers-at f 0 count k h ∙ (let e : 0 + k ≡ k = omega arith in ap f e)
 
 -- the first number that passes, and all that do
-pub first-inside : (test : ℕ → Bool) (x k y : ℕ) → first_passing test x k ≡ Some y → (x ≤ y) × (y < x + k)
+pub first-inside : (test : ℕ → Bool) (x k y : ℕ) → first_with test x k ≡ Some y → (x ≤ y) × (y < x + k)
 first-inside test x zero y h = cc
 first-inside test x (suc k) y h = at_test (first-inside test (suc x) k y) (test x) h
   where
-    at_test : (first_passing test (suc x) k ≡ Some y → (suc x ≤ y) × (y < suc x + k)) → (b : Bool)
-        → cond b (Some x) (first_passing test (suc x) k) ≡ Some y → (x ≤ y) × (y < x + suc k)
+    at_test : (first_with test (suc x) k ≡ Some y → (suc x ≤ y) × (y < suc x + k)) → (b : Bool)
+        → cond b (Some x) (first_with test (suc x) k) ≡ Some y → (x ≤ y) × (y < x + suc k)
     at_test later true same = let e : x ≡ y = cc in (omega (arith, e), omega (arith, e))
     at_test later false same = let deep : (suc x ≤ y) × (y < suc x + k) = later same in (
       omega (arith, deep.0),
       omega (arith, deep.1),
     )
 
-pub passing-none : (test : ℕ → Bool) (x k : ℕ) → first_passing test x k ≡ None → sift test x k ≡ []
+pub passing-none : (test : ℕ → Bool) (x k : ℕ) → first_with test x k ≡ None → sift test x k ≡ []
 passing-none test x zero h = refl
 passing-none test x (suc k) h = at_test (passing-none test (suc x) k) (test x) h
   where
-    at_test : (first_passing test (suc x) k ≡ None → sift test (suc x) k ≡ []) → (b : Bool)
-        → cond b (Some x) (first_passing test (suc x) k) ≡ None → cond b (x ∷ sift test (suc x) k) (sift test
+    at_test : (first_with test (suc x) k ≡ None → sift test (suc x) k ≡ []) → (b : Bool)
+        → cond b (Some x) (first_with test (suc x) k) ≡ None → cond b (x ∷ sift test (suc x) k) (sift test
         (suc x) k) ≡ []
     at_test later true same = cc
     at_test later false same = later same
 
-pub passing-some : (test : ℕ → Bool) (x k y : ℕ) → first_passing test x k ≡ Some y → sift test x k
+pub passing-some : (test : ℕ → Bool) (x k y : ℕ) → first_with test x k ≡ Some y → sift test x k
     ≡ y ∷ sift test (suc y) (x + k - suc y)
 passing-some test x zero y h = cc
 passing-some test x (suc k) y h = at_test (passing-some test (suc x) k y) (test x) h
   where
-    at_test : (first_passing test (suc x) k ≡ Some y → sift test (suc x) k ≡ y ∷ sift test (suc y)
-        (suc x + k - suc y)) → (b : Bool) → cond b (Some x) (first_passing test (suc x) k) ≡ Some y
+    at_test : (first_with test (suc x) k ≡ Some y → sift test (suc x) k ≡ y ∷ sift test (suc y)
+        (suc x + k - suc y)) → (b : Bool) → cond b (Some x) (first_with test (suc x) k) ≡ Some y
         → cond b (x ∷ sift test (suc x) k) (sift test (suc x) k) ≡ y ∷ sift test (suc y) (x + suc k - suc y)
     at_test later true same =
         let e : x ≡ y = cc in let f : k ≡ x + suc k - suc x = omega arith in

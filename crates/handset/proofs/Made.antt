@@ -15,7 +15,8 @@ use Rattle.region_plan.specs.Kept.{IsKept}
 use Rattle.region_plan.specs.Settings.{setting_of}
 use Rattle.handset.specs.Kept.{HandsetData, GoesWith, begun_at}
 use Rattle.handset.specs.Progress.{renew_from, erase_from, due_at, due, left_at, go_on, after_write, erasing_from, purging_from}
-use Rattle.handset.specs.Stands.{course_of, switch_to, Shows, StandsAt, StandsFor}
+use Rattle.directory.specs.Amid.{course_of}
+use Rattle.handset.specs.Stands.{switch_to, Shows, StandsAt, StandsFor}
 use Rattle.handset.proofs.Lists.{drop-head, drop-tail, drop-inside, drop-none}
 use Rattle.handset.proofs.Going.{IsLate}
 use Rattle.handset.proofs.Showing.{Unpacks, mark-shown, entry-shown, commit-shown}

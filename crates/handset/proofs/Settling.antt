@@ -10,7 +10,8 @@ use Rattle.directory.specs.Writes.{visits, trail}
 use Rattle.handset.specs.declared.stage.Stage.TheVariants.{Confirming}
 use Rattle.handset.specs.Kept.{HandsetData}
 use Rattle.handset.specs.Progress.{settle}
-use Rattle.handset.specs.Stands.{course_of, Shows, StandsFor}
+use Rattle.directory.specs.Amid.{course_of}
+use Rattle.handset.specs.Stands.{Shows, StandsFor}
 use Rattle.handset.proofs.Going.{readdressed}
 use Rattle.handset.proofs.CourseLaws.{course-more, place-after, trail-after}
 use Rattle.handset.proofs.Keeping.{Fits, Keeps}

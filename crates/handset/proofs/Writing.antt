@@ -9,37 +9,37 @@ use Rattle.directory.specs.Courses.{Course, address_node}
 use Rattle.directory.specs.Writes.{Write, mark_at, entry_at, new_address, numbers_from, old_home, erasure_writes, purge_writes, trail, move_writes}
 use Rattle.handset.specs.declared.stage.Stage.TheVariants.{Resting, Coming, Renewing, Committing}
 use Rattle.handset.specs.Kept.{HandsetData}
-use Rattle.handset.specs.Progress.{erasure, is_old, is_passed, purge_from, erase_from, commit, renew_from, left_at, first_passing, purging_at, purging_from, erasing_at, erasing_from}
+use Rattle.handset.specs.Progress.{erasure, is_old, is_behind, purge_from, erase_from, commit, renew_from, left_at, first_with, purging_at, purging_from, erasing_at, erasing_from}
 use Rattle.handset.proofs.Lists.{first-inside, passing-none, passing-some, map-passing-same}
 
 -- the purge
 purge-left : (setting : Setting) (handset : HandsetData) (node : ℕ) (o : Option ℕ)
-    → first_passing (is_passed handset) node (setting.nodes - node) ≡ o
-    → map (λ x. mark_at x Empty) (sift (is_passed handset) node (setting.nodes - node))
+    → first_with (is_behind handset) node (setting.nodes - node) ≡ o
+    → map (λ x. mark_at x Empty) (sift (is_behind handset) node (setting.nodes - node))
     ≡ left_at setting handset (purging_at o)
-purge-left setting handset node None h = ap (map (λ x. mark_at x Empty)) (passing-none (is_passed handset) node
+purge-left setting handset node None h = ap (map (λ x. mark_at x Empty)) (passing-none (is_behind handset) node
     (setting.nodes - node) h)
 purge-left setting handset node (Some x) h =
-    let inside : (node ≤ x) × (x < node + (setting.nodes - node)) = first-inside (is_passed handset) node
+    let inside : (node ≤ x) × (x < node + (setting.nodes - node)) = first-inside (is_behind handset) node
     (setting.nodes - node) x h in
     let e : node + (setting.nodes - node) - suc x ≡ setting.nodes - suc x = omega (arith, inside.0, inside.1) in
-    ap (map (λ y. mark_at y Empty)) (passing-some (is_passed handset) node (setting.nodes - node) x h
-    ∙ ap (λ n. x ∷ sift (is_passed handset) (suc x) n) e)
+    ap (map (λ y. mark_at y Empty)) (passing-some (is_behind handset) node (setting.nodes - node) x h
+    ∙ ap (λ n. x ∷ sift (is_behind handset) (suc x) n) e)
 
 pub purging-left : (setting : Setting) (handset : HandsetData) (node : ℕ)
-    → map (λ x. mark_at x Empty) (sift (is_passed handset) node (setting.nodes - node))
+    → map (λ x. mark_at x Empty) (sift (is_behind handset) node (setting.nodes - node))
     ≡ left_at setting handset (purging_from setting handset node)
 purging-left setting handset node = purge-left setting handset node _ refl
 
 ending-left : (setting : Setting) (handset : HandsetData) (b : Bool)
-    → cond b (map (λ x. mark_at x Empty) (sift (is_passed handset) 0 (setting.nodes - 0))) []
+    → cond b (map (λ x. mark_at x Empty) (sift (is_behind handset) 0 (setting.nodes - 0))) []
     ≡ left_at setting handset (cond b (purging_from setting handset 0) Resting)
 ending-left setting handset true = purging-left setting handset 0
 ending-left setting handset false = refl
 
 -- the erasures
 erase-left : (setting : Setting) (handset : HandsetData) (level : ℕ) (o : Option ℕ)
-    → first_passing (is_old setting handset) level (suc handset.last.renewed - level) ≡ o
+    → first_with (is_old setting handset) level (suc handset.last.renewed - level) ≡ o
     → erase_from setting handset level ≡ left_at setting handset (erasing_at setting handset o)
 erase-left setting handset level None h =
     ap (λ xs. map (erasure setting handset) xs ++ purge_from setting handset 0) (passing-none
@@ -126,11 +126,11 @@ coming-left setting course handset low addresses trails =
         let none : setting.nodes ≡ setting.nodes - 0 = omega arith in
         ap (λ ws. cond (handset.last.renewed == setting.top) ws [])
         (map-passing-same (λ node. has node (trail setting course handset.last) && not (node == handset.last.to))
-        (is_passed handset)
+        (is_behind handset)
         (λ x. mark_at x Empty) (λ x. mark_at x Empty) 0 setting.nodes
         (λ node h l. ap (λ b. b && not (node == handset.last.to)) (sym (trails node (omega (arith, l)))))
         (λ node h l. refl)
-        ∙ ap (λ n. map (λ x. mark_at x Empty) (sift (is_passed handset) 0 n)) none)
+        ∙ ap (λ n. map (λ x. mark_at x Empty) (sift (is_behind handset) 0 n)) none)
 
     both : erasure_writes setting course handset.last ++ purge_writes setting course handset.last ≡ erase_from setting
         handset 0

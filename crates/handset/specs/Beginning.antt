@@ -1,4 +1,5 @@
 -- How a handset begins a step: why it doesn't, and what it is then.
+-- Key laws: `Handset::begin` and `switch`, by their clauses `faults` and `exact`.
 use Rattle.std.specs.Prelude.{ℕ, suc, ◌+◌, ◌-◌, ◌^◌, Bool, true, false, not, nat_le, ◌==◌, if◌then◌else◌, List, Option, Some, None, map, length, replicate, slice_index, slice_set}
 use Rattle.directory.specs.Settings.{Setting, levels}
 use Rattle.directory.specs.Courses.{highest, Move}

@@ -28,14 +28,14 @@ is_old setting handset level =
     handset.last.to)
 
 -- whether a node is on the trail, but isn't the new one
-abbrev pub is_passed : HandsetData → ℕ → Bool
-is_passed handset node = slice_index_or handset.trail node false && not (node == handset.last.to)
+abbrev pub is_behind : HandsetData → ℕ → Bool
+is_behind handset node = slice_index_or handset.trail node false && not (node == handset.last.to)
 
 -- the purge from a node on, and the erasures from a level on with the purge
 abbrev pub purge_from : Setting → HandsetData → ℕ → List Write
 purge_from setting handset node =
     if handset.last.renewed == setting.top
-    then map (λ x. mark_at x Empty) (sift (is_passed handset) node (setting.nodes - node))
+    then map (λ x. mark_at x Empty) (sift (is_behind handset) node (setting.nodes - node))
     else []
 
 abbrev pub erase_from : Setting → HandsetData → ℕ → List Write
@@ -44,7 +44,7 @@ erase_from setting handset level =
     (suc handset.last.renewed - level))
     ++ purge_from setting handset 0
 
--- the new addresses from a level on, and the commit with what follows it
+-- the confirm and what follows it, and the commit with that
 abbrev pub confirm : Setting → HandsetData → List Write
 confirm setting handset =
     mark_at handset.last.to (Here handset.last.number) ∷ erase_from setting handset 0
@@ -53,6 +53,7 @@ abbrev pub commit : Setting → HandsetData → List Write
 commit setting handset =
     mark_at handset.last.from (Gone handset.last.number handset.last.to) ∷ confirm setting handset
 
+-- the new addresses from a level on, and the commit with what follows it
 abbrev pub renew_from : Setting → HandsetData → ℕ → List Write
 renew_from setting handset level =
     map (new_address setting handset.last) (numbers_from level (suc handset.last.renewed - level))
@@ -84,7 +85,7 @@ left_at setting handset (Erasing level) =
     erasure setting handset level ∷ erase_from setting handset (suc level)
 left_at setting handset (Purging node) =
     mark_at node Empty
-    ∷ map (λ x. mark_at x Empty) (sift (is_passed handset) (suc node) (setting.nodes - suc node))
+    ∷ map (λ x. mark_at x Empty) (sift (is_behind handset) (suc node) (setting.nodes - suc node))
 left_at setting handset (Switching off) = switch_mark handset off ∷ []
 
 -- the visit that comes next
@@ -92,9 +93,9 @@ abbrev pub due : Setting → HandsetData → Option Visit
 due setting handset = option_map (visit_of handset.sub) (due_at setting handset handset.stage)
 
 -- of some numbers from one on, the first that passes the test
-abbrev pub first_passing : (ℕ → Bool) → ℕ → ℕ → Option ℕ
-first_passing test x zero = None
-first_passing test x (suc k) = if test x then Some x else first_passing test (suc x) k
+abbrev pub first_with : (ℕ → Bool) → ℕ → ℕ → Option ℕ
+first_with test x zero = None
+first_with test x (suc k) = if test x then Some x else first_with test (suc x) k
 
 -- the stage at which the trail is purged from a node on, and at which addresses are erased from
 -- a level on
@@ -104,20 +105,20 @@ purging_at (Some node) = Purging node
 
 abbrev pub purging_from : Setting → HandsetData → ℕ → Stage
 purging_from setting handset node =
-    purging_at (first_passing (is_passed handset) node (setting.nodes - node))
+    purging_at (first_with (is_behind handset) node (setting.nodes - node))
 
-abbrev pub after_erasing : Setting → HandsetData → Stage
-after_erasing setting handset =
+abbrev pub stage_after_erasures : Setting → HandsetData → Stage
+stage_after_erasures setting handset =
     if handset.last.renewed == setting.top then purging_from setting handset 0 else Resting
 
 abbrev pub erasing_at : Setting → HandsetData → Option ℕ → Stage
-erasing_at setting handset None = after_erasing setting handset
+erasing_at setting handset None = stage_after_erasures setting handset
 erasing_at setting handset (Some level) = Erasing level
 
 abbrev pub erasing_from : Setting → HandsetData → ℕ → Stage
 erasing_from setting handset level =
     erasing_at setting handset
-    (first_passing (is_old setting handset) level (suc handset.last.renewed - level))
+    (first_with (is_old setting handset) level (suc handset.last.renewed - level))
 
 -- a handset whose move is over: the levels that it renewed have the new node's address, and the
 -- trail has the new node, alone where the top level was renewed

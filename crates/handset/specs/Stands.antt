@@ -6,8 +6,9 @@
 use Rattle.std.specs.Prelude.{◌≡◌, ℕ, ◌<◌, ◌≤◌, Bool, true, false, List, [], ◌∷◌, ◌++◌, drop, filter_map, fold, length, map, slice_index, slice_index_or, take}
 use Rattle.node_set.specs.Ascending.{has}
 use Rattle.entry_word.specs.declared.visit.Visit.{Visit}
+use Rattle.directory.specs.Amid.{course_of}
 use Rattle.directory.specs.Settings.{Setting, levels, start}
-use Rattle.directory.specs.Courses.{Step, move_to, switch_off, switch_on, Move, Course, course_at, last_stop, address_node, gathered_weight, next_move, after_steps}
+use Rattle.directory.specs.Courses.{Step, move_to, switch_off, switch_on, Move, Course, last_stop, address_node, gathered_weight, next_move}
 use Rattle.directory.specs.Writes.{visits, visit_of, trail}
 use Rattle.directory.specs.Puts.{ends_off, mark_put, node_put}
 use Rattle.directory.specs.Standing.{Commit, commit_of}
@@ -16,15 +17,12 @@ use Rattle.handset.specs.declared.stage.Stage.TheVariants.{Resting, Coming, Rene
 use Rattle.handset.specs.Kept.{HandsetData}
 use Rattle.handset.specs.Progress.{left_at}
 
--- the course of a subscriber that makes these steps
-abbrev pub course_of : Setting → ℕ → List Step → Course
-course_of setting sub steps = after_steps setting (course_at (start setting sub)) steps
-
--- the step under way at a stage
+-- the step that a switch is
 abbrev pub switch_to : Bool → Step
 switch_to true = switch_off
 switch_to false = switch_on
 
+-- the step under way at a stage
 abbrev pub under_way : Move → Stage → List Step
 under_way move Resting = []
 under_way move Coming = move_to move.to ∷ []
@@ -72,12 +70,13 @@ number_at course move (Erasing level) = move.number
 number_at course move (Purging node) = move.number
 number_at course move (Switching off) = length course.moves
 
--- a handset shows what these puts tell of its subscriber: where it stands, its number, and
--- whether it is off
+-- the commits among some puts
 abbrev pub commits_in : List Visit → List Commit
 commits_in puts =
     filter_map (λ visit. commit_of (node_put visit.act) (mark_put visit.act)) puts
 
+-- a handset shows what these puts tell of its subscriber: where it stands, its number, and
+-- whether it is off
 pub record Shows (setting : Setting) (handset : HandsetData) (puts : List Visit) : Type 0 where
   pub place : handset.place
       ≡ fold (λ node commit. commit.to) (start setting handset.sub) (commits_in puts)

@@ -10,7 +10,7 @@ ghost use Rattle.region_plan.specs.Plan.{PlanData, home, levels_of, nodes_of};
 ghost use Rattle.region_plan.specs.Kept.{IsKept};
 ghost use Rattle.region_plan.specs.Settings.{setting_of};
 ghost use Rattle.handset.specs.Kept.{GoesWith};
-ghost use Rattle.handset.specs.Progress.{after_write, due, erasing_from, first_passing, go_on, is_passed, purging_at, settle};
+ghost use Rattle.handset.specs.Progress.{after_write, due, erasing_from, first_with, go_on, is_behind, purging_at, settle};
 ghost use Rattle.handset.specs.Stands.{StandsFor, switch_to};
 ghost use Rattle.handset.specs.Beginning.{begin_move, gathered_after, handset_at, move_fault, renewal_in, switch_fault};
 
@@ -360,10 +360,10 @@ impl Handset {
     // The stage at which the trail is purged from a node on.
     fn purging_from(&self, node: u32) -> Stage
         requires { length self.now.trail ≤ 1024 }
-        ensures { result ≡ purging_at (first_passing (is_passed self.now) node
+        ensures { result ≡ purging_at (first_with (is_behind self.now) node
             (length self.now.trail - node)) }
     {
-        match first_passed(&self.trail, self.last.to, node) {
+        match first_behind(&self.trail, self.last.to, node) {
             Some(node) => Stage::Purging { node },
             None => Stage::Resting,
         }
@@ -457,7 +457,7 @@ fn first_old(plan: &Plan, addresses: &[u32], last: Journey, from: u32) -> Option
     requires inside { (level : ℕ) → level < levels_of plan.now
         → slice_index addresses.now level < nodes_of plan.now }
     requires to { last.to < nodes_of plan.now }
-    ensures { result ≡ first_passing (λ level. not (home plan.now level
+    ensures { result ≡ first_with (λ level. not (home plan.now level
         (slice_index addresses.now level) == home plan.now level last.to)) from
         (suc last.renewed - from) }
 {
@@ -472,9 +472,9 @@ fn first_old(plan: &Plan, addresses: &[u32], last: Journey, from: u32) -> Option
 }
 
 // The first node from one on that is on the trail, but isn't the new one.
-fn first_passed(trail: &[bool], to: u32, from: u32) -> Option<u32>
+fn first_behind(trail: &[bool], to: u32, from: u32) -> Option<u32>
     requires { length trail.now ≤ 1024 }
-    ensures { result ≡ first_passing (λ node. slice_index_or trail.now node false && not
+    ensures { result ≡ first_with (λ node. slice_index_or trail.now node false && not
         (node == to)) from (length trail.now - from) }
 {
     for node in from..trail.len() as u32 {

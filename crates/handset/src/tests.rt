@@ -1,4 +1,4 @@
-// Handsets over the line 0 - 1 - 2 - 3 of unit weights.
+//! Handsets over the line 0 - 1 - 2 - 3 of unit weights.
 ghost use Rattle.std.specs.Prelude.{◌≡◌, ◌≤◌, IfOk};
 ghost use Rattle.region_plan.specs.Plan.{nodes_of};
 ghost use Rattle.handset.specs.Kept.{GoesWith};
@@ -142,5 +142,13 @@ fn switches(rt: HostRuntime) -> Result<(), Fail> {
         mark(3, PresenceMark::Here { number: 0 })
     );
     assert_eq!(rt; handset.sub(), 0);
+    Ok(())
+}
+
+fn sends<T: Send>() {}
+
+#[test]
+fn another_thread_may_have_it(_rt: HostRuntime) -> Result<(), Fail> {
+    sends::<Handset>();
     Ok(())
 }

@@ -4,36 +4,25 @@ use Rattle.std.specs.Prelude.{All, Some, None, option_map}
 use Rattle.std.proofs.lemmas.Bool.{le-ltb}
 use Rattle.std.proofs.lemmas.Bool.Decides.{nat_tests}
 use Rattle.std.proofs.lemmas.List.{get_or-map, length-map, length-drop}
-use Rattle.entry_word.specs.Marks.{mark_in}
-use Rattle.entry_word.specs.Addresses.{address_in}
-use Rattle.entry_word.specs.declared.address.Address.{Address}
-use Rattle.entry_word.specs.declared.mark.PresenceMark.{PresenceMark}
-use Rattle.entry_word.specs.declared.mark.PresenceMark.TheVariants.{Empty, Here, Gone, Coming, Off}
 use Rattle.entry_word.specs.declared.visit.Key.{Key}
-use Rattle.entry_word.specs.declared.visit.Key.TheVariants.{Presence, Entry}
 use Rattle.directory.specs.Settings.{Setting, subs}
-use Rattle.directory.specs.Keys.{key_sub}
 use Rattle.directory.specs.Histories.{History, cell}
-use Rattle.directory.specs.Legal.{IsLegal}
-use Rattle.directory.specs.Finds.{FindCall, Stage, after_word, answer_of, at_origin, chases, climbs, ended, key_of}
+use Rattle.directory.specs.Finds.{FindCall, Stage, after_word, answer_of, at_origin, key_of}
 use Rattle.directory.specs.Looks.{look_by}
 use Rattle.directory.specs.Orders.{AreValid, Caller as Seeker, IsFindCall, Scripts, after_read, caller_in, finds_of, key_in, next, next_key, read_by, with_stage}
 use Rattle.directory.specs.Statements.{PlayedIsLegal}
 use Rattle.directory.specs.declared.answers.Found.{Found}
-use Rattle.trail_laws.specs.Trail.{EntriesTell, EntryTells, MarkTells, MarksTell}
-use Rattle.region_plan.specs.Plan.{PlanData, nodes_of, readers}
-use Rattle.region_plan.specs.Matched.{IsMatched}
-use Rattle.region_plan.specs.Settings.{setting_of}
-use Rattle.visit_log.specs.Numbers.{IsCell, IsPlace}
-use Rattle.walk.specs.declared.progress.Progress.{Progress}
-use Rattle.walk.specs.declared.progress.Progress.TheVariants.{AtOrigin, Chasing, Climbing, Ended}
-use Rattle.walk.specs.Walks.{GoesWith, IsAddressBelow, IsMarkBelow, IsWithin, IsWordBelow, WalkData, call_of, readers_above, stage_at, stage_of}
+use Rattle.trail_laws.specs.Trail.{EntriesTell, MarksTell}
+use Rattle.region_plan.specs.Plan.{PlanData, nodes_of}
+use Rattle.region_plan.specs.Cells.{IsCell}
+use Rattle.walk.specs.declared.progress.Progress.TheVariants.{AtOrigin}
+use Rattle.walk.specs.Walks.{GoesWith, IsWordBelow, WalkData, call_of, stage_of}
 use Rattle.std.specs.Prelude.{Result, Ok, Err, IfOk, nat_le, if◌then◌else◌}
 use Rattle.std.specs.Result.{is_err, is_ok, result_ok}
 use Rattle.walk.specs.declared.walk.WalkFault.{WalkFault}
 use Rattle.walk.specs.declared.walk.WalkFault.TheVariants.{NoNode, NoSubscriber}
 use Rattle.walk.specs.Walks.{walk_or_fault}
-use Rattle.walk.specs.ReaderLaws.{climb-here, reader-held}
+use Rattle.walk.specs.LookLaws.{cell-wanted, word-wanted}
 use Rattle.distances.specs.Table.{DistanceTable}
 use Rattle.net_reader.specs.declared.said.Call.{Call}
 use Rattle.net_reader.specs.declared.said.Call.TheVariants as calls
@@ -92,95 +81,6 @@ pub key-wanted : (plan : PlanData) (seeker : Seeker) (walk : WalkData)
 key-wanted plan seeker walk at =
     ap (λ s. key_of (call_of walk) s) at.so_far
     ∙ (ap (λ c. key_of c seeker.stage) at.its ∙ sym (ap (λ cs. key_in cs seeker.stage) at.calls_are))
-
-pub never-keyless : (call : FindCall) (stage : Stage) → answer_of stage ≡ None → key_of call stage ≡ None → ⊥
-never-keyless call at_origin h k = cc
-never-keyless call (climbs known weight reader later) h k = cc
-never-keyless call (chases chase node) h k = cc
-never-keyless call (ended found) h k = cc
-
--- the cell that a walk wants is one of the plan, of its own subscriber
-unsome : {A : Type 0} (x y : A) → Some x ≡ Some y → x ≡ y
-unsome x y h = cc
-
-climbing-key : (plan : PlanData) (from sub : ℕ) (known : Option ℕ) (weight level index : ℕ) (key : Key)
-    → index < length (readers plan level from)
-    → key_of (record { from = from; sub = sub }) (stage_at (setting_of plan []) from
-    (Climbing known weight level index)) ≡ Some key
-    → Entry level (get_or (readers plan level from) index 0) sub ≡ key
-climbing-key plan from sub known weight level index key inside wanted =
-    unsome _ _ (sym
-    (ap (λ s. key_of (record { from = from; sub = sub }) s) (climb-here (setting_of plan []) from known weight
-    level index (readers_above (setting_of plan []) from (suc level)) inside)) ∙ wanted)
-
-place-wanted : (plan : PlanData) (from sub : ℕ) (progress : Progress) → IsMatched plan → from < nodes_of plan
-    → IsWithin plan from progress → (key : Key)
-    → key_of (record { from = from; sub = sub }) (stage_at (setting_of plan []) from progress) ≡ Some key
-    → IsPlace plan key × (key_sub key ≡ sub)
-place-wanted plan from sub AtOrigin matched inside within key wanted =
-    let e : Presence from sub ≡ key = unsome _ _ wanted in
-    subst (λ k. IsPlace plan k × (key_sub k ≡ sub)) e (inside, refl)
-place-wanted plan from sub (Climbing known weight level index) matched inside within key wanted =
-    subst (λ k. IsPlace plan k × (key_sub k ≡ sub))
-    (climbing-key plan from sub known weight level index key within.1 wanted)
-    ((within.0, (reader-held plan level from index matched within.0 inside within.1).1), refl)
-place-wanted plan from sub (Chasing chase node) matched inside within key wanted =
-    let e : Presence node sub ≡ key = unsome _ _ wanted in
-    subst (λ k. IsPlace plan k × (key_sub k ≡ sub)) e (within.0, refl)
-place-wanted plan from sub (Ended found) matched inside within key wanted = cc
-
-pub cell-wanted : (plan : PlanData) (walk : WalkData) (count : ℕ) (key : Key) → IsMatched plan → GoesWith plan walk
-    → walk.sub < count → key_of (call_of walk) (stage_of plan walk) ≡ Some key → IsCell plan count key
-cell-wanted plan walk count key matched goes low wanted =
-    let found : IsPlace plan key × (key_sub key ≡ walk.sub) =
-    place-wanted plan walk.from walk.sub walk.progress matched goes.from goes.progress key wanted in
-    record { place = found.0; known = omega (arith, found.1, low) }
-
--- the word that it reads there names nodes of the plan
-mark-below : (setting : Setting) (sub : ℕ) (history : History) (node : ℕ) (mark : PresenceMark)
-    → MarkTells setting sub history node mark → IsMarkBelow setting.nodes mark
-mark-below setting sub history node Empty tells = tt
-mark-below setting sub history node (Here number) tells = tt
-mark-below setting sub history node (Gone number to) tells = tells.2
-mark-below setting sub history node (Coming number from) tells = tells.1
-mark-below setting sub history node (Off number) tells = tt
-
-entry-below : (setting : Setting) (sub : ℕ) (history : History) (level cluster : ℕ) (entry : Option Address)
-    → EntryTells setting sub history level cluster entry → IsAddressBelow setting.nodes entry
-entry-below setting sub history level cluster None tells = tt
-entry-below setting sub history level cluster (Some address) tells = tells.0
-
-word-below : MarksTell → EntriesTell → (plan : PlanData) (starts : List ℕ) (history : History) (from sub : ℕ)
-    (progress : Progress) → IsMatched plan → nodes_of plan ≤ 2 ^ 16 → IsLegal (setting_of plan starts) sub history
-    → from < nodes_of plan → IsWithin plan from progress → (key : Key)
-    → key_of (record { from = from; sub = sub }) (stage_at (setting_of plan []) from progress) ≡ Some key
-    → IsWordBelow (nodes_of plan) progress (cell (setting_of plan starts) history key)
-word-below marks entries plan starts history from sub AtOrigin matched small legal inside within key wanted =
-    let e : Presence from sub ≡ key = unsome _ _ wanted in
-    subst (λ k. IsMarkBelow (nodes_of plan) (mark_in (cell (setting_of plan starts) history k))) e
-    (mark-below (setting_of plan starts) sub history from _
-    (marks (setting_of plan starts) sub history small legal from inside))
-word-below marks entries plan starts history from sub (Climbing known weight level index) matched small legal inside
-    within key wanted =
-    subst (λ k. IsAddressBelow (nodes_of plan) (address_in (cell (setting_of plan starts) history k)))
-    (climbing-key plan from sub known weight level index key within.1 wanted)
-    (entry-below (setting_of plan starts) sub history level _ _
-    (entries (setting_of plan starts) sub history small legal level _ (omega (arith, within.0))))
-word-below marks entries plan starts history from sub (Chasing chase node) matched small legal inside within key
-    wanted =
-    let e : Presence node sub ≡ key = unsome _ _ wanted in
-    subst (λ k. IsMarkBelow (nodes_of plan) (mark_in (cell (setting_of plan starts) history k))) e
-    (mark-below (setting_of plan starts) sub history node _
-    (marks (setting_of plan starts) sub history small legal node within.0))
-word-below marks entries plan starts history from sub (Ended found) matched small legal inside within key wanted = cc
-
-pub word-wanted : MarksTell → EntriesTell → (plan : PlanData) (starts : List ℕ) (history : History) (walk : WalkData)
-    (key : Key) → IsMatched plan → nodes_of plan ≤ 2 ^ 16 → IsLegal (setting_of plan starts) walk.sub history
-    → GoesWith plan walk → key_of (call_of walk) (stage_of plan walk) ≡ Some key
-    → IsWordBelow (nodes_of plan) walk.progress (cell (setting_of plan starts) history key)
-word-wanted marks entries plan starts history walk key matched small legal goes wanted =
-    word-below marks entries plan starts history walk.from walk.sub walk.progress matched small legal goes.from
-    goes.progress key wanted
 
 -- a caller that has read one word more
 pub read-on : (setting : Setting) (seeker : Seeker) (call : FindCall) (later : List FindCall) (word : ℕ)

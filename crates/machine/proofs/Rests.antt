@@ -22,7 +22,8 @@ use Rattle.region_plan.specs.Settings.{setting_of}
 use Rattle.distances.specs.Table.{DistanceTable}
 use Rattle.handset.specs.Kept.{GoesWith, HandsetData}
 use Rattle.handset.specs.Progress.{due, due_at}
-use Rattle.handset.specs.Stands.{StandsAt, StandsFor, course_of}
+use Rattle.directory.specs.Amid.{course_of}
+use Rattle.handset.specs.Stands.{StandsAt, StandsFor}
 use Rattle.handset.specs.declared.stage.Stage.{Stage}
 use Rattle.handset.specs.declared.stage.Stage.TheVariants.{Resting, Coming, Renewing, Committing, Confirming, Erasing, Purging, Switching}
 use Rattle.visit_log.specs.Cells.{CellData, GoWith, Hold}

@@ -91,8 +91,8 @@ actor_of (FoundBy actor from sub node number level weight first last) = actor
 actor_of (OffBy actor from sub node number level weight first last) = actor
 actor_of (AgainBy actor from sub why weight first last) = actor
 
--- of two lines of an actor that tell numbers, the one that comes later has the later last visit, so
--- that along one actor's finds of a subscriber the numbers never fall
+-- of two lines of an actor that tell numbers, the one that comes later has no earlier last visit,
+-- so that along one actor's finds of a subscriber the numbers never fall
 abbrev pub TellInTurn : List Done → Type 0
 TellInTurn calls =
     (i j : ℕ) (one other : Done) → i ≤ j → slice_get calls i ≡ Some one

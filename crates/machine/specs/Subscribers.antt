@@ -31,7 +31,7 @@ use Rattle.machine.specs.declared.turn.Turn.TheVariants.{Visited, Finished}
 use Rattle.machine.specs.Scripts.{scripts_of}
 use Rattle.machine.specs.Stands.{setting_in}
 
--- whether an act commits a move: it puts a Gone
+-- whether a mark says that its subscriber is gone
 abbrev pub says_gone : PresenceMark → Bool
 says_gone Empty = false
 says_gone (Here number) = false
@@ -39,6 +39,7 @@ says_gone (Gone number to) = true
 says_gone (Coming number from) = false
 says_gone (Off number) = false
 
+-- whether an act commits a move: it puts such a mark
 abbrev pub is_commit : Act → Bool
 is_commit act = says_gone (mark_put act)
 

@@ -22,8 +22,7 @@ use visit_log::PlainCells;
 use walk::Walk;
 
 /// A caller: the walk of the find that it is at, if one is left, the ticket of that find's first
-/// look, and the lines of
-/// the finds that are done.
+/// look, and the lines of the finds that are done.
 #[derive(Drop)]
 pub struct Caller {
     pub walk: Option<Walk>,

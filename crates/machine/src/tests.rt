@@ -1,4 +1,4 @@
-// Whole runs of a few actors: what becomes of their calls, and whose turns are idle.
+//! Whole runs of a few actors: what becomes of their calls, and whose turns are idle.
 ghost use Rattle.std.specs.Prelude.{◌≡◌, ◌<◌, ℕ, [], IfOk, length};
 ghost use Rattle.directory.specs.Orders.{IsDone};
 ghost use Rattle.directory.specs.Histories.{History};

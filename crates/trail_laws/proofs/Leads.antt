@@ -238,7 +238,7 @@ module _ (setting : Setting) (course : Course) (move : Move) (marks : ℕ → Pr
   passage-new known = passing-leads setting marks move.from move.number move.to known passing-gone passing-at_to
 
 -- ---- after the confirm
-with-linked : (setting : Setting) (course : Course) (move : Move) → IsSound setting course
+pub with-linked : (setting : Setting) (course : Course) (move : Move) → IsSound setting course
     → IsNext setting course move → AreLinked setting (first_of setting course) (low_of setting course)
     (since_top setting course ++ move ∷ [])
 with-linked setting course move sound next =

@@ -28,3 +28,5 @@ mod Covering
 mod Still
 mod RightLines
 mod Listed
+mod Ending
+mod Rising

@@ -1,23 +1,24 @@
 -- How far the marks lead in each phase, and what rest is.
-use Rattle.std.proofs.Common.{◌≡◌, ◌≢◌, ℕ, ◌<◌, ◌≤◌, Bool, true, false, cond, Some, length, map, refl, sym, ap, ◌∙◌, arith, inl, inr}
-use Rattle.std.specs.Prelude.{filter_map}
+use Rattle.std.proofs.Common.{◌≡◌, ◌≢◌, ℕ, ◌^◌, ◌<◌, ◌≤◌, Bool, true, false, cond, Some, length, map, refl, sym, ap, ◌∙◌, arith, inl, inr}
+use Rattle.std.specs.Prelude.{filter_map, fold}
 use Rattle.std.proofs.lemmas.Bool.{eq-eqb}
 use Rattle.std.proofs.lemmas.List.{length-drop, length-map, take_all}
 use Rattle.entry_word.specs.declared.address.Address.{Address}
 use Rattle.entry_word.specs.declared.mark.PresenceMark.TheVariants.{Empty, Here, Coming, Off}
-use Rattle.directory.specs.Settings.{start}
-use Rattle.directory.specs.Histories.{puts_to}
+use Rattle.directory.specs.Settings.{Setting, start}
+use Rattle.directory.specs.Histories.{History, puts_to}
+use Rattle.directory.specs.Legal.{IsLegal}
 use Rattle.directory.specs.Courses.{Course, course_at, last_stop}
 use Rattle.directory.specs.Writes.{visit_of, visits, writes}
 use Rattle.directory.specs.Puts.{course_in, steps_in}
 use Rattle.directory.specs.Standing.{commit_by, commits, number, standing}
-use Rattle.directory.specs.States.{entry_left, mark_left, write_commit, writes_made}
+use Rattle.directory.specs.States.{entry_left, mark_left, write_commit, write_off, writes_made}
 use Rattle.trail_laws.specs.Trail.{entry_seen, mark_seen}
-use Rattle.trail_laws.specs.Phases.{AddressesLeadByPhase, IsCurrent, IsMarked, RestIsSettled}
+use Rattle.trail_laws.specs.Phases.{AddressesLeadByPhase, IsAtRest, IsCurrent, IsMarked, RestEndsItsCourse, RestIsSettled}
 use Rattle.trail_laws.proofs.Links.{AreLinked, start-kept, stop-inside}
 use Rattle.trail_laws.proofs.ClosedMarks.{since_top, there, trail_mark}
 use Rattle.trail_laws.proofs.ClosedEntries.{entered, rest_entry}
-use Rattle.trail_laws.proofs.ClosedWrites.{commits-steps, entries-steps}
+use Rattle.trail_laws.proofs.ClosedWrites.{commits-steps, entries-steps, off-steps}
 use Rattle.trail_laws.proofs.Views.{opens-entries, rest-marks_of, sound-script}
 use Rattle.trail_laws.proofs.Tells.{rest-stands, stands}
 use Rattle.trail_laws.proofs.Holders.{IsOld, rest-some}
@@ -49,41 +50,56 @@ not-coming course p u h = at_state course.is_off h
     at_state true g = cc
     at_state false g = cc
 
+-- a subscriber that rests has made all writes of its steps, and committed all its moves
+all-made : (setting : Setting) (sub : ℕ) (history : History) → IsAtRest setting sub history
+    → writes_made setting sub (puts_to sub history)
+    ≡ writes setting (course_at (start setting sub)) (steps_in (puts_to sub history))
+all-made setting sub history rest =
+    take_all (length (puts_to sub history)) (writes setting (course_at (start setting sub))
+    (steps_in (puts_to sub history)))
+    (omega (
+      arith,
+      length-drop (length (puts_to sub history)) (visits setting sub (steps_in (puts_to sub history))),
+      ap length rest,
+      length-map (writes setting (course_at (start setting sub)) (steps_in (puts_to sub history))) (visit_of sub),
+    ))
+
+all-committed : Laws → (setting : Setting) (sub : ℕ) (history : History) → setting.nodes ≤ 2 ^ 16
+    → IsLegal setting sub history → IsAtRest setting sub history
+    → commits sub history ≡ map commit_by (course_in setting sub (puts_to sub history)).moves
+all-committed laws setting sub history low legal rest =
+    laws.told setting sub history low legal
+    ∙ (ap (filter_map write_commit) (all-made setting sub history rest)
+    ∙ commits-steps setting (course_at (start setting sub)) (steps_in (puts_to sub history)))
+
+pub rest-ends : Laws → RestEndsItsCourse
+unfolding AreLinked
+rest-ends laws setting sub history low legal rest = (
+  ap (stands (start setting sub)) (all-committed laws setting sub history low legal rest)
+      ∙ rest-stands (course_in setting sub (puts_to sub history)) (start setting sub)
+      (start-kept setting (course_at (start setting sub)) (steps_in (puts_to sub history))),
+  laws.off_told setting sub history low legal
+      ∙ (ap (fold (λ o write. write_off write) false) (all-made setting sub history rest)
+      ∙ off-steps setting (course_at (start setting sub)) (steps_in (puts_to sub history)) legal.script.allowed),
+)
+
 pub rest-settled : Laws → RestIsSettled
 unfolding AreLinked IsOld
 rest-settled laws setting sub history low legal rest = ((all, other), current, marked)
   where
-    done : length (visits setting sub (steps_in (puts_to sub history))) ≤ length (puts_to sub history)
-    done = omega (
-      arith,
-      length-drop (length (puts_to sub history)) (visits setting sub (steps_in (puts_to sub history))),
-      ap length rest,
-    )
-
     all_made : writes_made setting sub (puts_to sub history)
         ≡ writes setting (course_at (start setting sub)) (steps_in (puts_to sub history))
-    all_made = take_all (length (puts_to sub history))
-        (writes setting (course_at (start setting sub)) (steps_in (puts_to sub history)))
-        (omega (
-          arith,
-          done,
-          length-map (writes setting (course_at (start setting sub)) (steps_in (puts_to sub history))) (visit_of sub),
-        ))
-
-    told : commits sub history ≡ map commit_by (course_in setting sub (puts_to sub history)).moves
-    told = laws.told setting sub history low legal ∙ (ap (filter_map write_commit) all_made
-        ∙ commits-steps setting (course_at (start setting sub)) (steps_in (puts_to sub history)))
+    all_made = all-made setting sub history rest
 
     all : length (course_in setting sub (puts_to sub history)).moves ≡ number sub history
     all = omega (
       arith,
-      ap length told,
+      ap length (all-committed laws setting sub history low legal rest),
       length-map (course_in setting sub (puts_to sub history)).moves commit_by,
     )
 
     stood : standing setting sub history ≡ last_stop (course_in setting sub (puts_to sub history))
-    stood = ap (stands (start setting sub)) told ∙ rest-stands (course_in setting sub (puts_to sub history))
-        (start setting sub) (start-kept setting (course_at (start setting sub)) (steps_in (puts_to sub history)))
+    stood = (rest-ends laws setting sub history low legal rest).0
 
     inside : last_stop (course_in setting sub (puts_to sub history)) < setting.nodes
     inside = stop-inside setting (course_in setting sub (puts_to sub history))

@@ -8,10 +8,10 @@ use Rattle.entry_word.specs.declared.address.Address.{Address}
 use Rattle.entry_word.specs.declared.mark.PresenceMark.TheVariants.{Coming, Here, Off}
 use Rattle.directory.specs.Settings.{Setting}
 use Rattle.directory.specs.Histories.{History, puts_to}
-use Rattle.directory.specs.Courses.{base}
+use Rattle.directory.specs.Courses.{base, last_stop}
 use Rattle.directory.specs.Puts.{course_in, puts_left}
 use Rattle.directory.specs.Legal.{IsLegal}
-use Rattle.directory.specs.Standing.{number, standing}
+use Rattle.directory.specs.Standing.{number, off, standing}
 use Rattle.trail_laws.specs.Trail.{entry_seen, IsLed, IsMetric, KnowsAtMost, mark_seen}
 use Rattle.trail_laws.specs.Ways.{GathersSome}
 
@@ -93,6 +93,14 @@ RestIsSettled =
     → entry_seen setting sub history level cluster ≡ Some address
     → IsCurrent setting sub history level address)
     × IsMarked setting sub history
+
+-- and it stands where its course ends, and is off where the course is (`rest_is_settled`)
+abbrev pub RestEndsItsCourse : Type 0
+RestEndsItsCourse =
+    (setting : Setting) (sub : ℕ) (history : History) → setting.nodes ≤ 2 ^ 16
+    → IsLegal setting sub history → IsAtRest setting sub history
+    → (standing setting sub history ≡ last_stop (course_in setting sub (puts_to sub history)))
+    × (off sub history ≡ (course_in setting sub (puts_to sub history)).is_off)
 
 -- a subscriber is before a commit, in a passage, or settled (`phases_cover`)
 abbrev pub PhasesCover : Type 0

@@ -130,6 +130,23 @@ ComingsLead =
     × IsLed setting (mark_seen setting sub history) known from (standing setting sub history)
     hops way
 
+-- a chase that follows a Gone with this number meets no lower one, and no Gone that isn't higher;
+-- only a Coming, which leads back, may lead to a lower one
+abbrev pub GoesUp : ℕ → PresenceMark → Type 0
+GoesUp p Empty = Unit {0}
+GoesUp p (Here number) = p ≤ number
+GoesUp p (Gone number to) = p < number
+GoesUp p (Coming number from) = p ≤ number
+GoesUp p (Off number) = p ≤ number
+
+-- where a Gone leads, the number goes up (`marks_lead`)
+abbrev pub NumbersGoUp : Type 0
+NumbersGoUp =
+    (setting : Setting) (sub : ℕ) (history : History) → setting.nodes ≤ 2 ^ 16
+    → IsLegal setting sub history → (node p to : ℕ) → node < setting.nodes
+    → mark_seen setting sub history node ≡ Gone p to
+    → GoesUp p (mark_seen setting sub history to)
+
 -- the distances of a setting are those of a network: the same both ways, and no detour is shorter
 pub record IsMetric (setting : Setting) : Type 0 where
   pub none : (u : ℕ) → u < setting.nodes → setting.distance u u ≡ 0

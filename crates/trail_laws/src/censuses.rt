@@ -1,5 +1,5 @@
 //! The law of censuses.
-ghost use Rattle.trail_laws.specs.Censuses.{CensusesEndRight, ListedStandThere, RestingAreListed};
+ghost use Rattle.trail_laws.specs.Censuses.{CensusesEndByScripts, CensusesEndRight, ListedStandThere, RestingAreListed};
 
 use crate::marks::marks_tell;
 use crate::ways::rest_is_settled;
@@ -8,11 +8,13 @@ use directory::{
 };
 
 /// Who is listed at a node stands there and is on, after every legal history; who rests there and
-/// is on is listed; so at the end of every order the censuses list just where everybody stands.
+/// is on is listed; so at the end of every order the censuses list just where everybody stands,
+/// which is where the scripts lead.
 pub fn censuses_are_right()
     ensures listed { ListedStandThere }
     ensures resting { RestingAreListed }
     ensures ends { CensusesEndRight }
+    ensures scripts { CensusesEndByScripts }
 {
     marks_tell();
     rest_is_settled();

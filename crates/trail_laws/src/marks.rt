@@ -1,5 +1,5 @@
 //! Laws of marks and addresses.
-ghost use Rattle.trail_laws.specs.Trail.{AddressesLead, ComingsLead, EntriesTell, MarksTell, OneComing, TopHasEntry};
+ghost use Rattle.trail_laws.specs.Trail.{AddressesLead, ComingsLead, EntriesTell, MarksTell, NumbersGoUp, OneComing, TopHasEntry};
 
 use directory::{legal_is_amid, read_of_legal, told_by_writes};
 
@@ -26,12 +26,14 @@ pub fn entries_tell()
 }
 
 /// From the node of each address, and from the node that a Coming names, the marks lead to where
-/// the subscriber stands.
+/// the subscriber stands. The numbers on the way go up, but for the hop back from a Coming.
 pub fn marks_lead()
     ensures addresses { AddressesLead }
     ensures comings { ComingsLead }
+    ensures numbers { NumbersGoUp }
 {
     legal_is_amid();
     read_of_legal();
     told_by_writes();
+    marks_tell();
 }

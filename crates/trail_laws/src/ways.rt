@@ -1,5 +1,5 @@
 //! Laws of ways: how near the levels stay, and how far the marks lead.
-ghost use Rattle.trail_laws.specs.Phases.{AddressesLeadByPhase, PhasesCover, RestIsSettled};
+ghost use Rattle.trail_laws.specs.Phases.{AddressesLeadByPhase, PhasesCover, RestEndsItsCourse, RestIsSettled};
 ghost use Rattle.trail_laws.specs.Ways.{AddressesLeadShortly, ComingsLeadShortly, LevelsStayNear, PassagesAreOpen, StandsInside};
 ghost use Rattle.trail_laws.specs.Within.{HistoryFrontsAreLegal, QuietFindsStandStill, QuietFindsStayWithin};
 
@@ -63,9 +63,11 @@ pub fn phases_cover()
     levels_stay_near();
 }
 
-/// A subscriber that has nothing left to put is settled, and all its addresses are current.
+/// A subscriber that has nothing left to put is settled, and all its addresses are current; it
+/// stands where its course ends, and is off where the course is.
 pub fn rest_is_settled()
-    ensures { RestIsSettled }
+    ensures settled { RestIsSettled }
+    ensures ends { RestEndsItsCourse }
 {
     legal_is_amid();
     read_of_legal();

@@ -14,4 +14,4 @@ returns c = stand-still (record {
   comings = c.marks_lead.ensures.comings;
   top = c.entries_tell.ensures.top;
 })
-    c.rest_is_settled.ensures c.passage_is_open.ensures c.levels_stay_near.ensures.inside
+    c.rest_is_settled.ensures.settled c.passage_is_open.ensures c.levels_stay_near.ensures.inside
