@@ -13,3 +13,5 @@ mod Measured
 mod Folding
 mod Calling
 mod ValidInput
+mod LineEnd
+mod Digits

@@ -1,24 +1,23 @@
 -- Runs of bytes that don't end a line, and what a line is with them.
-use Rattle.std.proofs.Common.{◌≡◌, ℕ, zero, suc, ◌-◌, ◌<◌, ◌≤◌, Bool, true, false, cond, not, ◌&&◌, fold, take, drop, List, [], ◌∷◌, ◌++◌, length, get_or, refl, ap, sym, ◌∙◌, arith, append_assoc, length-append}
+use Rattle.std.proofs.Common.{◌≡◌, ℕ, zero, suc, ◌-◌, ◌<◌, ◌≤◌, Bool, true, false, cond, eqb, ◌&&◌, fold, take, drop, List, [], ◌∷◌, ◌++◌, length, get_or, refl, ap, sym, ◌∙◌, arith, append_assoc, length-append, length-take, subst}
 use Rattle.std.proofs.lemmas.Bool.Decides.{nat_tests}
 use Rattle.std.proofs.lemmas.List.{take-append-drop, take_all}
 use Rattle.std.proofs.lemmas.List.Sums.{fold-append}
 use Rattle.std.specs.List.{list_all}
-use Rattle.memchr.specs.Find.{Nowhere, Passes, is_byte2}
 use Rattle.net_reader.specs.declared.line.Open.{Open}
 use Rattle.net_reader.specs.declared.line.Open.TheVariants as opens
 use Rattle.net_reader.specs.Lines.{is_blank}
-use Rattle.net_reader.specs.Steps.{IsRun, LineState, close, close_as, is_inside, is_plain, more, put}
+use Rattle.net_reader.specs.Steps.{IsRun, LineState, close, close_as, is_inside, is_plain, keep, more, pack, put}
 
 and-left : (a b : Bool) → (a && b) ≡ true → (a ≡ true) × (b ≡ true)
 and-left true b e = (refl, e)
 and-left false b e = cc
 
-and-both : (a b : Bool) → a ≡ true → b ≡ true → (a && b) ≡ true
+pub and-both : (a b : Bool) → a ≡ true → b ≡ true → (a && b) ≡ true
 and-both true b e f = f
 and-both false b e f = cc
 
-all-append : (test : ℕ → Bool) (xs ys : List ℕ) → list_all test xs ≡ true → list_all test ys ≡ true
+pub all-append : (test : ℕ → Bool) (xs ys : List ℕ) → list_all test xs ≡ true → list_all test ys ≡ true
     → list_all test (xs ++ ys) ≡ true
 all-append test [] ys e f = f
 all-append test (x ∷ xs) ys e f =
@@ -86,19 +85,14 @@ put-wrong (x ∷ xs) word numbers =
       numbers = numbers;
     })))
 
--- the bytes before the first that ends a line
-not-true : (a : Bool) → (a ≡ true → ⊥) → not a ≡ true
-not-true true h = absurd (h refl)
-not-true false h = refl
-
-pub before-end : (hay : List ℕ) (k : ℕ) → k ≤ length hay → Nowhere (Passes (is_byte2 10 13) hay) 0 k
-    → list_all is_inside (take k hay) ≡ true
-before-end hay zero h none = refl
-before-end [] (suc k) h none = refl
-before-end (b ∷ hay) (suc k) h none =
-    and-both (is_inside b) (list_all is_inside (take k hay))
-    (not-true (is_byte2 10 13 b) (λ e. none 0 (omega arith) (omega arith) e))
-    (before-end hay k (omega (arith, h)) (λ i low high. none (suc i) (omega arith) (omega (arith, high))))
+-- bytes that each don't end a line
+pub inside-front : (hay : List ℕ) (k : ℕ) → k ≤ length hay
+    → ((i : ℕ) → i < k → is_inside (get_or hay i 0) ≡ true) → list_all is_inside (take k hay) ≡ true
+inside-front hay zero h inside = refl
+inside-front [] (suc k) h inside = refl
+inside-front (b ∷ hay) (suc k) h inside =
+    and-both (is_inside b) (list_all is_inside (take k hay)) (inside 0 (omega arith))
+    (inside-front hay k (omega (arith, h)) (λ i below. inside (suc i) (omega (arith, below))))
 
 -- the first byte and those behind it
 pub first-byte : (xs : List ℕ) → 0 < length xs → xs ≡ get_or xs 0 0 ∷ take (length xs - 1) (drop 1 xs)
@@ -171,6 +165,104 @@ pub run-still : (line : LineState) (field : Open) (found : Open × ℕ) (piece r
     → IsRun line (record line { open_field = found.0 }) piece rest
 run-still line field found piece rest begins e back =
     run-plain line field field found 0 piece rest begins e back refl refl
+
+-- a number at the front where no field is open, and the blank behind it
+between-digits : (xs : List ℕ) → 0 < length xs → fold more opens.Between xs ≡ fold more (opens.Number 0 0) xs
+unfolding more
+between-digits [] h = absurd (omega arith)
+between-digits (x ∷ xs) h = refl
+
+pub run-number : (line : LineState) (piece rest : List ℕ) (count value taken : ℕ) → line.open_field ≡ opens.Between
+    → 0 < taken → taken ≤ length piece → rest ≡ drop taken piece → list_all is_plain (take taken piece) ≡ true
+    → opens.Number count value ≡ fold more (opens.Number 0 0) (take taken piece)
+    → IsRun line (record line { open_field = opens.Number count value }) piece rest
+run-number line piece rest count value taken between some within back plain is =
+    let digits : 0 < length (take taken piece) = omega (arith, length-take taken piece, some, within) in
+    run-plain line opens.Between (opens.Number count value) (opens.Number count value, taken) taken piece rest between
+    refl back plain (is ∙ sym (between-digits (take taken piece) digits))
+
+blank-inside : (b : ℕ) → is_blank b ≡ true → is_inside b ≡ true
+blank-inside b e = grind (arith, nat_tests)
+
+closed-go : (blank : Bool) (line other : LineState) → blank ≡ true → cond blank line other ≡ line
+closed-go true line other e = refl
+closed-go false line other e = cc
+
+closed : (line : LineState) (count value b : ℕ) → line.open_field ≡ opens.Between → is_blank b ≡ true
+    → put (record line { open_field = opens.Number count value }) b ≡ record line { numbers = keep line.numbers value }
+unfolding put close_as
+closed line count value b between blank =
+    closed-go (is_blank b) (close (record line { open_field = opens.Number count value }))
+    (record line { open_field = more (opens.Number count value) b }) blank
+    ∙ ap (λ f. record line { open_field = f; numbers = keep line.numbers value }) (sym between)
+
+pub run-number-blank : (line : LineState) (piece rest : List ℕ) (b count value taken : ℕ)
+    → line.open_field ≡ opens.Between → 0 < taken → taken ≤ length piece → b ∷ rest ≡ drop taken piece
+    → list_all is_plain (take taken piece) ≡ true
+    → opens.Number count value ≡ fold more (opens.Number 0 0) (take taken piece) → is_blank b ≡ true
+    → IsRun line (record line { numbers = keep line.numbers value }) piece rest
+run-number-blank line piece rest b count value taken between some within back plain is blank =
+    let last = put (record line { open_field = opens.Number count value }) b in
+    subst (λ l. IsRun line l piece rest) (closed line count value b between blank)
+    (run-more line (record line { open_field = opens.Number count value }) last piece rest rest b
+    (run-number line piece (b ∷ rest) count value taken between some within back plain is) (blank-inside b blank)
+    (run-none last rest))
+
+-- the word that begins a line, and the blank behind it
+begun-go : (comment blank : Bool) (line : LineState) (p b : ℕ) → blank ≡ false → comment ≡ false
+    → cond blank (close line) (record line { open_field = cond comment opens.Comment (opens.Word p) })
+    ≡ record line { open_field = opens.Word p }
+begun-go true false line p b e f = cc
+begun-go false false line p b e f = refl
+begun-go comment true line p b e f = cc
+
+begun : (line : LineState) (b : ℕ) → line.open_field ≡ opens.Blank → is_blank b ≡ false → eqb b 35 ≡ false
+    → put line b ≡ record line { open_field = opens.Word (pack 1 b) }
+unfolding put more
+begun line b fresh no_blank no_comment =
+    ap (λ f. cond (is_blank b) (close line) (record line { open_field = more f b })) fresh
+    ∙ begun-go (eqb b 35) (is_blank b) line (pack 1 b) b no_blank no_comment
+
+pub run-word : (line : LineState) (piece rest : List ℕ) (b packed taken : ℕ) → line.open_field ≡ opens.Blank
+    → is_blank b ≡ false → eqb b 35 ≡ false → rest ≡ drop taken piece → list_all is_plain (take taken piece) ≡ true
+    → opens.Word packed ≡ fold more (opens.Word (pack 1 b)) (take taken piece)
+    → IsRun (put line b) (record line { open_field = opens.Word packed }) piece rest
+run-word line piece rest b packed taken fresh no_blank no_comment back plain is =
+    let first = record line { open_field = opens.Word (pack 1 b) } in
+    subst (λ l. IsRun l (record line { open_field = opens.Word packed }) piece rest)
+    (sym (begun line b fresh no_blank no_comment))
+    (run-plain first (opens.Word (pack 1 b)) (opens.Word packed) (opens.Word packed, taken) taken piece rest
+    refl refl back plain is)
+
+closed-word : (line : LineState) (packed b : ℕ) → is_blank b ≡ true
+    → put (record line { open_field = opens.Word packed }) b ≡ record line { open_field = opens.Between; word = packed }
+unfolding put close_as
+closed-word line packed b blank =
+    closed-go (is_blank b) (close (record line { open_field = opens.Word packed }))
+    (record line { open_field = more (opens.Word packed) b }) blank
+
+pub run-word-blank : (line : LineState) (piece rest : List ℕ) (b blank packed taken : ℕ)
+    → line.open_field ≡ opens.Blank → is_blank b ≡ false → eqb b 35 ≡ false → blank ∷ rest ≡ drop taken piece
+    → list_all is_plain (take taken piece) ≡ true
+    → opens.Word packed ≡ fold more (opens.Word (pack 1 b)) (take taken piece) → is_blank blank ≡ true
+    → IsRun (put line b) (record line { open_field = opens.Between; word = packed }) piece rest
+run-word-blank line piece rest b blank packed taken fresh no_blank no_comment back plain is ends =
+    let last = put (record line { open_field = opens.Word packed }) blank in
+    subst (λ l. IsRun (put line b) l piece rest) (closed-word line packed blank ends)
+    (run-more (put line b) (record line { open_field = opens.Word packed }) last piece rest rest blank
+    (run-word line piece (blank ∷ rest) b packed taken fresh no_blank no_comment back plain is)
+    (blank-inside blank ends)
+    (run-none last rest))
+
+-- one run behind another
+pub run-join : (first line last : LineState) (piece rest after : List ℕ) → IsRun first line piece rest
+    → IsRun line last rest after → IsRun first last piece after
+run-join first line last piece rest after run more = record {
+  front = run.front ++ more.front;
+  parts = run.parts ∙ ap (λ xs. run.front ++ xs) more.parts ∙ sym (append_assoc run.front more.front after);
+  inside = all-append is_inside run.front more.front run.inside more.inside;
+  read = more.read ∙ ap (λ l. fold put l more.front) run.read ∙ sym (fold-append put first run.front more.front);
+}
 
 pub run-length : (line now : LineState) (piece rest : List ℕ) → IsRun line now piece rest → length rest ≤ length piece
 run-length line now piece rest run = omega (arith, ap length run.parts, length-append run.front rest)

@@ -1,5 +1,5 @@
 -- Where subscribers are, and whether they are off, after one call more.
-use Rattle.std.proofs.Common.{◌≡◌, ℕ, ◌<◌, Bool, true, false, cond, eqb, List, [], ◌∷◌, ◌++◌, length, map, filter, get_or, set, append-nil, refl, ap, ◌∙◌, arith}
+use Rattle.std.proofs.Common.{◌≡◌, ℕ, ◌<◌, Bool, true, false, cond, eqb, List, [], ◌∷◌, ◌++◌, length, map, filter, get_or, set, append-nil, refl, ap, sym, subst, ◌∙◌, arith}
 use Rattle.std.proofs.lemmas.List.Elements.{filter-append}
 use Rattle.std.proofs.lemmas.List.{map-append, get_or-set_same, get_or-set_other, length-set}
 use Rattle.std.proofs.lemmas.Bool.Decides.{nat_tests}
@@ -183,3 +183,12 @@ Stands-on homes calls places off a h lt = record {
   );
   no_switches = λ s above. grind (arith, nat_tests, off-with s calls (make a acts.On), h.no_switches s above);
 }
+
+-- a switch either way
+pub Stands-switched : (homes : List ℕ) (calls later : List Spoken) (places : List ℕ) (offs : List Bool) (a : ℕ)
+    (off now : Bool) (call made : Call) → now ≡ off → call ≡ made → later ≡ calls ++ make a call ∷ []
+    → Stands homes (calls ++ make a made ∷ []) places (set offs a off) → Stands homes later places (set offs a now)
+Stands-switched homes calls later places offs a off now call made is so after h =
+    subst (λ (xs : List Spoken). Stands homes xs places (set offs a now)) (sym after)
+    (subst (λ (x : Call). Stands homes (calls ++ make a x ∷ []) places (set offs a now)) (sym so)
+    (subst (λ (b : Bool). Stands homes (calls ++ make a made ∷ []) places (set offs a b)) (sym is) h))

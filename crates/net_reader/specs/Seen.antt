@@ -16,6 +16,7 @@ use Rattle.net_reader.specs.Input.{Contents, IsAnswer}
 use Rattle.net_reader.specs.Said.{Said, script_of, place_after, off_after}
 use Rattle.net_reader.specs.Steps.{LineState, ReaderState, number_of_place}
 
+-- a line, and what was said, as the steps see them
 abbrev pub seen_line : Line → LineState
 seen_line line = record { open_field = line.field; word = line.word; numbers = line.numbers.items }
 
@@ -46,6 +47,7 @@ pub record Stands (homes : List ℕ) (calls : List Spoken) (places : List ℕ)
   pub no_moves : (s here : ℕ) → length homes ≤ s → place_after here (script_of s calls) ≡ here
   pub no_switches : (s : ℕ) → length homes ≤ s → off_after false (script_of s calls) ≡ false
 
+-- what is kept is within limits, and places and states go with the calls
 pub record IsKept (known : Known) : Type 0 where
   pub few : length known.homes.items ≤ 64
   pub few_callers : known.callers ≤ 64

@@ -3,6 +3,7 @@ use Rattle.std.specs.Prelude.{◌≤◌, All}
 use Rattle.net_graph.specs.Network.{IsEdge}
 use Rattle.net_reader.specs.Said.{Said}
 
+-- there is a node, and few, and each edge joins two of them
 pub record IsSound (said : Said) : Type 0 where
   pub some : 1 ≤ said.nodes
   pub few : said.nodes ≤ 1024

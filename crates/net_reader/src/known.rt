@@ -1,7 +1,7 @@
 //! What the lines have said so far.
 ghost use Rattle.std.specs.Prelude.{◌≡◌, ◌≤◌, ◌^◌, ◌++◌, length, nat_le, not, Some, IfOk, IsTrue};
 ghost use Rattle.std.specs.List.{list_any};
-ghost use Rattle.net_reader.specs.Table.{judge_word, row_of, verdict, track_row, nodes_row, k_row, edge_row, sub_row, callers_row, move_row, find_row, off_row, on_row, order_row, most_calls, most_nodes};
+ghost use Rattle.net_reader.specs.Table.{judge_word, row_of, verdict, track_row, nodes_row, k_row, edge_row, sub_row, callers_row, move_row, find_row, switch_row, order_row, most_calls, most_nodes};
 ghost use Rattle.net_reader.specs.Said.{nothing};
 ghost use Rattle.net_reader.specs.Steps.{word_in};
 ghost use Rattle.net_reader.specs.Seen.{seen_known, IsKept, Judges};
@@ -258,9 +258,11 @@ impl Known {
         Ok(())
     }
 
-    fn off(&mut self, numbers: &[u64]) -> Result<(), Stop>
+    // What the line says of a subscriber that switches off, or on.
+    fn switch(&mut self, off: bool, numbers: &[u64]) -> Result<(), Stop>
         requires { IsKept self.old }
-        ensures { Judges result self.new (verdict (off_row (seen_known self.old) numbers.now)) }
+        ensures { Judges result self.new
+            (verdict (switch_row off (seen_known self.old) numbers.now)) }
     {
         let &[sub] = numbers else {
             return Err(Stop::Fault(InputCause::Form));
@@ -275,43 +277,12 @@ impl Known {
             return Err(Stop::Fault(InputCause::Unknown));
         }
         let actor = sub as u32;
-        if self.off[actor as usize] {
+        if self.off[actor as usize] == off {
             return Err(Stop::Fault(InputCause::Switched));
         }
-        self.calls.push(Spoken {
-            actor,
-            call: Call::Off,
-        })?;
-        self.off[actor as usize] = true;
-        self.place = Place::Calls;
-        Ok(())
-    }
-
-    fn on(&mut self, numbers: &[u64]) -> Result<(), Stop>
-        requires { IsKept self.old }
-        ensures { Judges result self.new (verdict (on_row (seen_known self.old) numbers.now)) }
-    {
-        let &[sub] = numbers else {
-            return Err(Stop::Fault(InputCause::Form));
-        };
-        if self.format != 2 {
-            return Err(Stop::Fault(InputCause::Form));
-        }
-        if self.has_spent_calls() {
-            return Err(Stop::Fault(InputCause::TooMany));
-        }
-        if sub >= self.homes.len() as u64 {
-            return Err(Stop::Fault(InputCause::Unknown));
-        }
-        let actor = sub as u32;
-        if !self.off[actor as usize] {
-            return Err(Stop::Fault(InputCause::Switched));
-        }
-        self.calls.push(Spoken {
-            actor,
-            call: Call::On,
-        })?;
-        self.off[actor as usize] = false;
+        let call = if off { Call::Off } else { Call::On };
+        self.calls.push(Spoken { actor, call })?;
+        self.off[actor as usize] = off;
         self.place = Place::Calls;
         Ok(())
     }
@@ -347,8 +318,8 @@ impl Known {
             Word::Callers => self.callers(numbers),
             Word::Move => self.move_to(numbers),
             Word::Find => self.find(numbers),
-            Word::Off => self.off(numbers),
-            Word::On => self.on(numbers),
+            Word::Off => self.switch(true, numbers),
+            Word::On => self.switch(false, numbers),
             Word::Order => self.order(numbers),
         }
     }

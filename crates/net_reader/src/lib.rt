@@ -7,6 +7,7 @@ mod input;
 mod known;
 mod laws;
 mod line;
+mod line_end;
 mod reader;
 mod said;
 mod scan;

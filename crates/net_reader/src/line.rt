@@ -1,12 +1,12 @@
 //! A line that isn't at its end yet: its fields are counted and none of its bytes is kept.
-ghost use Rattle.std.specs.Prelude.{◌≡◌, ◌≤◌, IfOk, OnOk, true, length, take, fold};
+ghost use Rattle.std.specs.Prelude.{◌≡◌, ◌≢◌, ◌≤◌, IfOk, OnOk, true, false, length, take, fold};
 ghost use Rattle.std.specs.List.{list_all};
 ghost use Rattle.net_reader.specs.Lines.{is_blank};
 ghost use Rattle.net_reader.specs.declared.line.Open.TheVariants.{Number, Word};
-ghost use Rattle.net_reader.specs.Steps.{IsRun, LineState, pack, more, more_digits, close, put, fresh, is_inside, is_plain};
+ghost use Rattle.net_reader.specs.Steps.{IsRun, LineState, pack, more, more_digits, close, keep, put, fresh, is_inside, is_plain};
 ghost use Rattle.net_reader.specs.Seen.{seen_line};
 
-use memchr::memchr2;
+use crate::line_end::{is_inside, rest_of_line};
 use std::alloc::{AllocError, Global};
 
 const MAX_DIGITS: u32 = 18;
@@ -96,13 +96,6 @@ fn more(field: Open, byte: u8) -> Open
     }
 }
 
-// Whether the byte doesn't end a line.
-fn is_inside(byte: u8) -> bool
-    ensures { result ≡ is_inside byte }
-{
-    byte != b'\n' && byte != b'\r'
-}
-
 // The digits at the front that go on with a number: how many digits it has then, its value, and how
 // many more they are.
 #[tactic(auto, unfolding(crate::specs::Steps::more, crate::specs::Steps::more_digits))]
@@ -127,6 +120,25 @@ fn digit_run(count: u32, value: u64, piece: &[u8]) -> (u32, u64, usize)
     (digits, number, taken)
 }
 
+// The number that the digits at the front are, up to 18 of them, and how many they are.
+#[tactic(auto, unfolding(crate::specs::Steps::more, crate::specs::Steps::more_digits))]
+fn leading_number(piece: &[u8]) -> (u64, usize)
+    ensures within { result.1 ≤ length piece.now }
+    ensures plain { list_all is_plain (take result.1 piece.now) ≡ true }
+    ensures read { Number result.1 result.0
+        ≡ fold more (Number 0 0) (take result.1 piece.now) }
+    ensures few { result.1 ≤ 18 }
+{
+    let most = piece.len().min(MAX_DIGITS as usize);
+    let mut number = 0;
+    let mut taken = 0;
+    'digits: while taken < most && piece[taken].is_ascii_digit() {
+        number = 10 * number + u64::from(piece[taken] - b'0');
+        taken += 1;
+    }
+    (number, taken)
+}
+
 // The bytes at the front that go on with a word: what it is packed into then, and how many more
 // they are.
 #[tactic(auto, unfolding(crate::specs::Steps::more))]
@@ -144,17 +156,6 @@ fn word_run(packed: u64, piece: &[u8]) -> (u64, usize)
     (word, taken)
 }
 
-// How many bytes at the front don't end the line.
-fn rest_of_line(piece: &[u8]) -> usize
-    ensures within { result ≤ length piece.now }
-    ensures inside { list_all is_inside (take result piece.now) ≡ true }
-{
-    match memchr2(b'\n', b'\r', piece) {
-        Some(count) => count,
-        None => piece.len(),
-    }
-}
-
 impl Line {
     pub(crate) fn new(alloc: Global) -> Result<Line, AllocError>
         ensures { IfOk result (λ line. seen_line line ≡ fresh) }
@@ -164,6 +165,19 @@ impl Line {
             word: 0,
             numbers: Vec::with_capacity(alloc, MAX_NUMBERS)?,
         })
+    }
+
+    // One number more, where it is among the first 65.
+    #[inline(always)]
+    fn keep(&mut self, number: u64) -> Result<(), AllocError>
+        ensures { OnOk result (seen_line self.new ≡ record (seen_line self.old) {
+          numbers = keep self.old.numbers.items number;
+        }) }
+    {
+        if self.numbers.len() < MAX_NUMBERS {
+            self.numbers.push(number)?;
+        }
+        Ok(())
     }
 
     // Ends the field at the end.
@@ -178,9 +192,7 @@ impl Line {
                 self.field = Open::Between;
             }
             Open::Number { value, .. } => {
-                if self.numbers.len() < MAX_NUMBERS {
-                    self.numbers.push(value)?;
-                }
+                self.keep(value)?;
                 self.field = Open::Between;
             }
             _ => {}
@@ -200,6 +212,49 @@ impl Line {
             self.field = more(self.field, byte);
             Ok(())
         }
+    }
+
+    // Reads a number at the front, with the blank behind it where there is one, and gives what
+    // stands behind; where there is no number it reads nothing.
+    #[inline(always)]
+    fn number<'a>(&mut self, piece: &'a [u8]) -> Result<&'a [u8], AllocError>
+        requires { self.old.field ≡ Open.Between }
+        ensures { IfOk result (λ rest. IsRun (seen_line self.old) (seen_line self.new) piece.now
+            rest.now) }
+    {
+        let (value, taken) = leading_number(piece);
+        if taken == 0 {
+            return Ok(piece);
+        }
+        let behind = piece.split_at(taken).1;
+        if let [byte, after @ ..] = behind {
+            if is_blank(*byte) {
+                self.keep(value)?;
+                return Ok(after);
+            }
+        }
+        self.field = Open::Number {
+            count: taken as u32,
+            value,
+        };
+        Ok(behind)
+    }
+
+    // Reads all numbers at the front that stand one blank apart, where no field is open, and gives
+    // what stands behind.
+    fn numbers<'a>(&mut self, piece: &'a [u8]) -> Result<&'a [u8], AllocError>
+        ensures { IfOk result (λ rest. IsRun (seen_line self.old) (seen_line self.new) piece.now
+            rest.now) }
+    {
+        let mut rest = piece;
+        'numbers: while self.field == Open::Between {
+            let behind = self.number(rest)?;
+            if behind.len() == rest.len() {
+                return Ok(behind);
+            }
+            rest = behind;
+        }
+        Ok(rest)
     }
 
     // What the field at the end is behind the bytes at the front that only go on with it, and what
@@ -239,6 +294,29 @@ impl Line {
         Ok(rest)
     }
 
+    // Reads the first word of a line, of which this byte is the first, and where a blank stands
+    // behind it that and the numbers there; and gives what stands behind.
+    #[inline(always)]
+    fn first_word<'a>(&mut self, byte: u8, after: &'a [u8]) -> Result<&'a [u8], AllocError>
+        requires fresh { self.old.field ≡ Open.Blank }
+        requires begins { is_blank byte ≡ false }
+        requires no_comment { byte ≢ 35 }
+        ensures { IfOk result (λ rest. IsRun (put (seen_line self.old) byte) (seen_line self.new)
+            after.now rest.now) }
+    {
+        let (packed, taken) = word_run(pack(1, byte), after);
+        let behind = after.split_at(taken).1;
+        if let [blank, rest @ ..] = behind {
+            if is_blank(*blank) {
+                self.word = packed;
+                self.field = Open::Between;
+                return self.numbers(rest);
+            }
+        }
+        self.field = Open::Word { packed };
+        Ok(behind)
+    }
+
     // Reads a byte that doesn't end the line and those that only go on with its field, and gives
     // those behind.
     #[inline(always)]
@@ -246,9 +324,12 @@ impl Line {
         ensures { IfOk result (λ rest. IsRun (put (seen_line self.old) byte) (seen_line self.new)
             after.now rest.now) }
     {
+        if self.field == Open::Blank && !is_blank(byte) && byte != b'#' {
+            return self.first_word(byte, after);
+        }
         self.put(byte)?;
         if is_blank(byte) {
-            return Ok(after);
+            return self.numbers(after);
         }
         let (field, behind) = self.go_on(after);
         self.field = field;

@@ -1,4 +1,4 @@
-// Why a line isn't taken.
+//! Why a line isn't taken.
 ghost use Rattle.std.specs.Prelude.{◌≡◌};
 ghost use Rattle.net_reader.specs.declared.stop.Stop.TheVariants.{Memory};
 

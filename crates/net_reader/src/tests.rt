@@ -1,4 +1,4 @@
-// Texts that are read: every cause, both sides of each limit, and every way of cutting.
+//! Texts that are read: every cause, both sides of each limit, and every way of cutting.
 ghost use Rattle.std.specs.Prelude.{◌≤◌, length};
 ghost use Rattle.net_reader.specs.Reading.{most_bytes};
 
@@ -12,7 +12,7 @@ const SWITCHING: &str =
     "track 2\nnodes 4\nk 2\nedge 0 1 1\nedge 1 2 1\nedge 2 3 1\nsub 3\ncallers 1\n";
 
 // A line many times, between two texts.
-fn repeated(
+fn repeat_lines(
     alloc: Global,
     before: &str,
     line: &str,
@@ -148,7 +148,7 @@ fn refused_calls(rt: HostRuntime) -> Result<(), Fail> {
         (SWITCHING, "off 0\nmove 0 4\n", 10, InputCause::Unknown),
     ];
     for (before, lines, line, cause) in texts {
-        let text = repeated(alloc, before, lines, 1, "")?;
+        let text = repeat_lines(alloc, before, lines, 1, "")?;
         assert_eq!(rt; fault_of(alloc, &text)?, fault(line, cause));
     }
     Ok(())
@@ -168,9 +168,9 @@ fn limits_of_lines(rt: HostRuntime) -> Result<(), Fail> {
         (switching, "find 1 0 0\n", 16_384, "", 16_390),
     ];
     for (before, line, times, after, refused) in texts {
-        let text = repeated(alloc, before, line, times, after)?;
+        let text = repeat_lines(alloc, before, line, times, after)?;
         assert_eq!(rt; fault_of(alloc, &text)?, None);
-        let text = repeated(alloc, before, line, times + 1, after)?;
+        let text = repeat_lines(alloc, before, line, times + 1, after)?;
         assert_eq!(rt;
             fault_of(alloc, &text)?,
             fault(refused, InputCause::TooMany)
@@ -200,7 +200,7 @@ fn lines_of_any_length(rt: HostRuntime) -> Result<(), Fail> {
         ),
     ];
     for (before, piece, times, wanted) in texts {
-        let text = repeated(alloc, before, piece, times, "")?;
+        let text = repeat_lines(alloc, before, piece, times, "")?;
         assert_eq!(rt; fault_of(alloc, &text)?, wanted);
     }
     Ok(())

@@ -1,6 +1,6 @@
 -- The text of a plan: a line that measures it, then level by level its clusters with their members
--- and the homes of the nodes, then `end`. It says each number of a plan but the weights inside
--- clusters, of which it tells the greatest.
+-- and the homes of the nodes, then `end`. Distances, thresholds and readers aren't in it, and of
+-- the weights inside a cluster it tells the greatest.
 use Rattle.std.specs.Prelude.{ℕ, ◌+◌, ◌^◌, List, [], ◌∷◌, length, codes}
 use Rattle.region_plan.specs.Plan.{PlanCluster, Level, PlanData, nodes_of, levels_of}
 use Rattle.region_plan.specs.Measures.{degree_of, stretch_of}

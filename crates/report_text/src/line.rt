@@ -123,7 +123,7 @@ impl Line {
     }
 
     // A label, a blank and a number.
-    pub(crate) fn labelled(&mut self, label: &str, number: u64)
+    pub(crate) fn label_number(&mut self, label: &str, number: u64)
         requires { length self.old + length label.now + 41 ≤ 4096 }
         ensures text { self.new ≡ self.old ++ (label.now ++ field number) }
         ensures long { length self.new ≤ length self.old + length label.now + 41 }

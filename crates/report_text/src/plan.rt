@@ -43,11 +43,11 @@ fn write_measures(line: &mut Line, plan: &Plan) -> Stage
     requires { line.old ≡ [] }
     ensures { IsPart plan.now Measures result line.new }
 {
-    line.labelled("plan nodes", u64::from(plan.nodes()));
-    line.labelled(" k", u64::from(plan.k()));
-    line.labelled(" levels", u64::from(plan.levels()));
-    line.labelled(" degree", u64::from(plan.degree()));
-    line.labelled(" stretch", plan.stretch());
+    line.label_number("plan nodes", u64::from(plan.nodes()));
+    line.label_number(" k", u64::from(plan.k()));
+    line.label_number(" levels", u64::from(plan.levels()));
+    line.label_number(" degree", u64::from(plan.degree()));
+    line.label_number(" stretch", plan.stretch());
     line.word("\n");
     Stage::Level { level: 0 }
 }
@@ -59,10 +59,10 @@ fn write_level(line: &mut Line, plan: &Plan, level: u32)
     requires kept { IsKept plan.now }
     ensures { line.new ≡ level_line level (level_at plan.now level) }
 {
-    line.labelled("level", u64::from(level));
-    line.labelled(" radius", 1u64 << plan.exponent(level));
-    line.labelled(" clusters", u64::from(plan.clusters(level)));
-    line.labelled(" phases", u64::from(plan.phases(level)));
+    line.label_number("level", u64::from(level));
+    line.label_number(" radius", 1u64 << plan.exponent(level));
+    line.label_number(" clusters", u64::from(plan.clusters(level)));
+    line.label_number(" phases", u64::from(plan.phases(level)));
     line.word("\n");
 }
 
@@ -88,10 +88,10 @@ fn write_cluster(line: &mut Line, plan: &Plan, level: u32, cluster: u32)
     requires cluster { cluster < clusters_of plan.now level }
     ensures { line.new ≡ cluster_head cluster (cluster_at plan.now level cluster) }
 {
-    line.labelled("cluster", u64::from(cluster));
-    line.labelled(" phase", u64::from(plan.phase_of(level, cluster)));
-    line.labelled(" leader", u64::from(plan.leader(level, cluster)));
-    line.labelled(" depth", plan.depth(level, cluster));
+    line.label_number("cluster", u64::from(cluster));
+    line.label_number(" phase", u64::from(plan.phase_of(level, cluster)));
+    line.label_number(" leader", u64::from(plan.leader(level, cluster)));
+    line.label_number(" depth", plan.depth(level, cluster));
     line.word(" members");
 }
 

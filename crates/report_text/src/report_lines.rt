@@ -21,10 +21,10 @@ fn write_place(line: &mut Line, node: u32, number: u32, level: Option<u32>)
     ensures text { line.new ≡ line.old ++ place_fields node number level }
     ensures long { length line.new ≤ length line.old + 200 }
 {
-    line.labelled(" at", u64::from(node));
-    line.labelled(" number", u64::from(number));
+    line.label_number(" at", u64::from(node));
+    line.label_number(" number", u64::from(number));
     match level {
-        Some(level) => line.labelled(" level", u64::from(level)),
+        Some(level) => line.label_number(" level", u64::from(level)),
         None => line.word(" level -"),
     }
 }
@@ -34,9 +34,9 @@ fn write_visits(line: &mut Line, weight: u64, first: u64, last: u64)
     requires { length line.old ≤ 500 }
     ensures { line.new ≡ line.old ++ visit_fields weight first last }
 {
-    line.labelled(" weight", weight);
-    line.labelled(" first", first);
-    line.labelled(" last", last);
+    line.label_number(" weight", weight);
+    line.label_number(" first", first);
+    line.label_number(" last", last);
     line.word("\n");
 }
 
@@ -47,7 +47,7 @@ fn write_why(line: &mut Line, why: Why)
     ensures long { length line.new ≤ length line.old + 50 }
 {
     match why {
-        Why::Empty { node } => line.labelled(" empty", u64::from(node)),
+        Why::Empty { node } => line.label_number(" empty", u64::from(node)),
         Why::NoEntry => line.word(" none"),
         Why::Chased => line.word(" chased"),
     }
@@ -71,10 +71,10 @@ fn write_call(line: &mut Line, call: &Done)
         } => {
             line.word("move");
             line.numbers(&[actor, number, from, to]);
-            line.labelled(" weight", weight);
-            line.labelled(" first", first);
-            line.labelled(" commit", commit);
-            line.labelled(" last", last);
+            line.label_number(" weight", weight);
+            line.label_number(" first", first);
+            line.label_number(" commit", commit);
+            line.label_number(" last", last);
             line.word("\n");
         }
         Done::Switched {
@@ -88,8 +88,8 @@ fn write_call(line: &mut Line, call: &Done)
             line.number(u64::from(actor));
             line.word(if off { " off" } else { " on" });
             line.number(u64::from(node));
-            line.labelled(" number", u64::from(number));
-            line.labelled(" ticket", ticket);
+            line.label_number(" number", u64::from(number));
+            line.label_number(" ticket", ticket);
             line.word("\n");
         }
         Done::Found {
@@ -210,7 +210,7 @@ impl<'a> Lines<'a> {
             write_order(&mut self.line, actors);
             self.order = order;
         } else if !self.ended {
-            self.line.labelled("end", self.visits);
+            self.line.label_number("end", self.visits);
             self.line.word("\n");
             self.ended = true;
         } else {
@@ -230,6 +230,8 @@ impl<'a> Lines<'a> {
     pub fn next_line(&mut self) -> Option<&[u8]>
         ensures line { IfSome result (λ line. self.old.left ≡ line.now ∷ drop 1 self.old.left) }
         ensures none { IfNone result (self.old.left ≡ []) }
+
+        // Once the borrow of the answer ends, the lines that are left are those behind it.
         ensures* after { sem 𝓛 (Rests (the_row (record { mir = named 1; lft = [] })) self.entry
             (λ new. new.left ≡ drop 1 self.old.left)) }
     {

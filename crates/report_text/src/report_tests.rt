@@ -1,4 +1,4 @@
-// The report of a few calls, whole and line by line, and the lines that refuse inputs.
+//! The report of a few calls, whole and line by line, and the lines that refuse inputs.
 use crate::{Lines, refused_line, report};
 use directory::{Done, Why};
 use machine::Outcome;

@@ -1,4 +1,4 @@
-// The text of the plan of two nodes, whose one level has two clusters of both nodes.
+//! The text of the plan of two nodes, whose one level has two clusters of both nodes.
 ghost use Rattle.std.specs.Prelude.{◌≡◌};
 
 use crate::plan_text;

@@ -1,0 +1,48 @@
+-- Numbers that are read digit by digit, of 18 digits at most.
+use Rattle.std.proofs.Common.{◌≡◌, ℕ, ◌+◌, ◌-◌, ◌*◌, ◌^◌, ◌<◌, ◌≤◌, true, fold, take, List, [], ◌∷◌, length, get_or, refl, ap, sym, ◌∙◌, subst, arith}
+use Rattle.std.proofs.Math.Nat.{pow-le-pow_right}
+use Rattle.std.proofs.lemmas.Bool.Decides.{nat_tests}
+use Rattle.std.proofs.lemmas.Grind.{pow_more}
+use Rattle.std.proofs.lemmas.List.{take_more}
+use Rattle.std.proofs.lemmas.List.Sums.{fold_more}
+use Rattle.std.specs.Char.{is_ascii_digit}
+use Rattle.std.specs.List.{list_all}
+use Rattle.net_reader.specs.declared.line.Open.{Open}
+use Rattle.net_reader.specs.declared.line.Open.TheVariants.{Number}
+use Rattle.net_reader.specs.Steps.{is_plain, more, more_digits}
+use Rattle.net_reader.proofs.Running.{all-append, and-both}
+
+pub below-most : (value taken : ℕ) → value < 10 ^ taken → taken < 18 → value < 100000000000000000
+below-most value taken small few =
+    let most : 10 ^ taken ≤ 100000000000000000 =
+    pow-le-pow_right {n = 10} (omega arith) {i = taken} {j = 17} (omega (arith, few)) in
+    omega (arith, small, most)
+
+pub still-small : (value taken digit : ℕ) → value < 10 ^ taken → digit < 10
+    → 10 * value + digit < 10 ^ (taken + 1)
+still-small value taken digit small few =
+    let rise : 10 ^ (taken + 1) ≡ 10 ^ taken * 10 = pow_more 10 taken in omega (arith, small, few, rise)
+
+digit-plain : (b : ℕ) → is_ascii_digit b ≡ true → is_plain b ≡ true
+digit-plain b e = grind (arith, nat_tests)
+
+pub plain-more : (xs : List ℕ) (i : ℕ) → i < length xs → is_ascii_digit (get_or xs i 0) ≡ true
+    → list_all is_plain (take i xs) ≡ true → list_all is_plain (take (i + 1) xs) ≡ true
+plain-more xs i within digit plain =
+    subst (λ ys. list_all is_plain ys ≡ true) (sym (take_more xs i 0 within))
+    (all-append is_plain (take i xs) (get_or xs i 0 ∷ []) plain
+    (and-both (is_plain (get_or xs i 0)) true (digit-plain (get_or xs i 0) digit) refl))
+
+digit-read : (count value b : ℕ) → is_ascii_digit b ≡ true → count < 18 → value < 100000000000000000
+    → Number (count + 1) (10 * value + (b - 48)) ≡ more (Number count value) b
+unfolding more more_digits
+digit-read count value b digit few small = grind (arith, nat_tests)
+
+pub read-more : (xs : List ℕ) (count value : ℕ) → count < length xs → is_ascii_digit (get_or xs count 0) ≡ true
+    → count < 18 → value < 100000000000000000
+    → Number count value ≡ fold more (Number 0 0) (take count xs)
+    → Number (count + 1) (10 * value + (get_or xs count 0 - 48)) ≡ fold more (Number 0 0) (take (count + 1) xs)
+read-more xs count value within digit few small read =
+    digit-read count value (get_or xs count 0) digit few small
+    ∙ ap (λ (field : Open). more field (get_or xs count 0)) read
+    ∙ sym (fold_more more (Number 0 0) xs count 0 within)
