@@ -1,8 +1,7 @@
 -- One subscriber more, and one node more; and who is at a node, by the cells and by their history.
-use Rattle.std.proofs.Common.{◌≡◌, ℕ, zero, suc, ◌+◌, ◌<◌, Bool, true, List, [], ◌∷◌, ◌++◌, length, refl, sym, ap, ◌∙◌, append_assoc, arith, length-append}
-use Rattle.std.proofs.lemmas.List.{append-nil}
+use Rattle.std.proofs.Common.{◌≡◌, ℕ, zero, suc, ◌+◌, ◌<◌, ◌^◌, Bool, true, false, List, [], ◌∷◌, ◌++◌, length, refl, sym, ap, ◌∙◌, append_assoc, arith}
 use Rattle.node_set.specs.Ascending.{sift}
-use Rattle.node_set.specs.SetLaws.{passing_same, passing_takes}
+use Rattle.node_set.specs.SetLaws.{length-passing-le, passing_same, passing_skips, passing_takes}
 use Rattle.entry_word.specs.Marks.{mark_in, says_here}
 use Rattle.entry_word.specs.declared.visit.Key.TheVariants.{Presence}
 use Rattle.directory.specs.Histories.{History, cell}
@@ -10,41 +9,40 @@ use Rattle.directory.specs.Census.{census}
 use Rattle.region_plan.specs.Plan.{PlanData, nodes_of}
 use Rattle.region_plan.specs.Settings.{setting_of}
 use Rattle.visit_log.specs.Cells.{CellData, Hold}
-use Rattle.outside.specs.Texts.{field, fields}
-use Rattle.census_text.specs.CensusText.{census_text_of, count_below, is_there, node_lines, presence_at}
+use Rattle.census_text.specs.TextLaws.{texts-same}
+use Rattle.census_text.specs.CensusText.{census_text_of, count_below, is_there, node_line, node_lines, presence_at}
 
--- numbers one after another
-fields-append : (xs ys : List ℕ) → fields (xs ++ ys) ≡ fields xs ++ fields ys
-fields-append [] ys = refl
-fields-append (x ∷ xs) ys = rw (fields-append xs ys) (sym (append_assoc (field x) (fields xs) (fields ys)))
+-- one number more that passes a test, or doesn't
+pub list-takes : (test : ℕ → Bool) (i : ℕ) (before after : List ℕ) → test i ≡ true → before ≡ sift test 0 i
+    → after ≡ before ++ i ∷ [] → after ≡ sift test 0 (i + 1)
+list-takes test i before after passes is more =
+    more ∙ (ap (λ xs. xs ++ i ∷ []) is ∙ sym (passing_takes test i passes))
 
--- one number more that passes a test, counted and written
-pub count-takes : (test : ℕ → Bool) (i count : ℕ) → test i ≡ true → count ≡ length (sift test 0 i)
-    → count + 1 ≡ length (sift test 0 (i + 1))
-count-takes test i count passes is =
-    rw (passing_takes test i passes, length-append (sift test 0 i) (i ∷ []), is) refl
+pub list-skips : (test : ℕ → Bool) (i : ℕ) (before : List ℕ) → test i ≡ false → before ≡ sift test 0 i
+    → before ≡ sift test 0 (i + 1)
+list-skips test i before fails is = is ∙ sym (passing_skips test i fails)
 
-pub fields-takes : (test : ℕ → Bool) (i : ℕ) (start before after : List ℕ) → test i ≡ true
-    → before ≡ start ++ fields (sift test 0 i) → after ≡ before ++ field i
-    → after ≡ start ++ fields (sift test 0 (i + 1))
-fields-takes test i start before after passes is wrote =
-    wrote ∙ ap (λ t. t ++ field i) is ∙ append_assoc start (fields (sift test 0 i)) (field i)
-    ∙ ap (λ t. start ++ t)
-    (sym (ap fields (passing_takes test i passes) ∙ fields-append (sift test 0 i) (i ∷ [])
-    ∙ ap (λ t. fields (sift test 0 i) ++ t) (append-nil (field i))))
+-- one node more, counted and told
+pub count-more : (who : ℕ → List ℕ) (node total : ℕ) (listed : List ℕ) → total ≡ count_below who node
+    → listed ≡ who node → total + length listed ≡ count_below who (node + 1)
+count-more who node total listed is same =
+    let next : node + 1 ≡ suc node = omega arith in
+    rw (is, same, next) refl
 
--- what is told of the same who at each node is the same
-lines-same : (who other : ℕ → List ℕ) (n : ℕ) → ((v : ℕ) → v < n → who v ≡ other v)
-    → node_lines who n ≡ node_lines other n
-lines-same who other zero same = refl
-lines-same who other (suc n) same =
-    rw (lines-same who other n (λ v below. same v (omega arith)), same n (omega arith)) refl
+pub lines-more : (who : ℕ → List ℕ) (node : ℕ) (start before after listed : List ℕ)
+    → before ≡ start ++ node_lines who node → after ≡ before ++ node_line node listed → listed ≡ who node
+    → after ≡ start ++ node_lines who (node + 1)
+lines-more who node start before after listed is wrote same =
+    let next : node + 1 ≡ suc node = omega arith in
+    wrote ∙ (ap (λ t. t ++ node_line node listed) is
+    ∙ (append_assoc start (node_lines who node) (node_line node listed)
+    ∙ (ap (λ l. start ++ (node_lines who node ++ node_line node l)) same
+    ∙ ap (λ v. start ++ node_lines who v) (sym next))))
 
-count-same : (who other : ℕ → List ℕ) (n : ℕ) → ((v : ℕ) → v < n → who v ≡ other v)
-    → count_below who n ≡ count_below other n
-count-same who other zero same = refl
-count-same who other (suc n) same =
-    rw (count-same who other n (λ v below. same v (omega arith)), same n (omega arith)) refl
+-- no more are listed than there are
+pub few-listed : (test : ℕ → Bool) (n : ℕ) (listed : List ℕ) → n < 2 ^ 32 → listed ≡ sift test 0 n
+    → length listed < 2 ^ 32
+few-listed test n listed few is = omega (arith, few, ap length is, length-passing-le test 0 n)
 
 -- who is at a node by the cells is who is there by the history that left them
 same-there : (plan : PlanData) (starts : List ℕ) (cells : CellData) (history : History)
@@ -62,10 +60,5 @@ pub same-text : (plan : PlanData) (starts : List ℕ) (cells : CellData) (histor
     → census_text_of (presence_at plan cells) (nodes_of plan)
     ≡ census_text_of (census (setting_of plan starts) history) (nodes_of plan)
 same-text plan starts cells history hold =
-    rw (
-      lines-same (presence_at plan cells) (census (setting_of plan starts) history) (nodes_of plan)
-          (same-there plan starts cells history hold),
-      count-same (presence_at plan cells)
-          (census (setting_of plan starts) history) (nodes_of plan)
-          (same-there plan starts cells history hold),
-    ) refl
+    texts-same (presence_at plan cells) (census (setting_of plan starts) history) (nodes_of plan)
+    (same-there plan starts cells history hold)

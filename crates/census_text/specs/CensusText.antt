@@ -1,8 +1,10 @@
 -- The text of a census: for each node at which some subscriber is, ascending, a line with their
 -- count and their numbers; then `end` and the sum of the counts. Who is at a node is told by a
--- function, so that a text is the same whether it is told by cells or by the history that left
--- them. Key laws: `census`, by its clause `history` (the text is that of the directory's census).
-use Rattle.std.specs.Prelude.{ℕ, zero, suc, ◌+◌, Bool, List, [], ◌∷◌, length, codes}
+-- function, so that a text is the same whether it is told by cells, by the history that left them,
+-- or by a list of where each subscriber is.
+-- Key laws: `census`, by its clause `history` (the text is that of the directory's census), and
+-- `census_of_places`.
+use Rattle.std.specs.Prelude.{ℕ, zero, suc, ◌+◌, ◌==◌, Bool, false, List, [], ◌∷◌, length, codes, Option, Some, None, slice_index_or}
 use Rattle.node_set.specs.Ascending.{sift}
 use Rattle.entry_word.specs.Marks.{mark_in, says_here}
 use Rattle.entry_word.specs.declared.visit.Key.TheVariants.{Presence}
@@ -17,6 +19,15 @@ is_there plan cells node sub = says_here (mark_in (word_of plan cells (Presence 
 -- the subscribers that are at a node, by their cells
 abbrev pub presence_at : PlanData → CellData → ℕ → List ℕ
 presence_at plan cells node = sift (is_there plan cells node) 0 cells.subs
+
+-- whether a place is this node; one that is nowhere isn't
+abbrev pub is_place : ℕ → Option ℕ → Bool
+is_place node None = false
+is_place node (Some place) = place == node
+
+-- the subscribers that are at a node, by where each of them is
+abbrev pub who_at : List (Option ℕ) → ℕ → List ℕ
+who_at places node = sift (λ sub. is_place node (slice_index_or places sub None)) 0 (length places)
 
 -- the line of a node: none, where nobody is there
 abbrev pub node_line : ℕ → List ℕ → List ℕ

@@ -1,1 +1,2 @@
 pub mod CensusText
+pub mod TextLaws

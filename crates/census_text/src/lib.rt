@@ -3,7 +3,7 @@
 
 mod lines;
 
-pub use lines::census;
+pub use lines::{census, census_of_places};
 
 #[cfg(test)]
 mod tests;

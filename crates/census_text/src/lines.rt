@@ -1,12 +1,12 @@
-// The lines of a census.
-ghost use Rattle.std.specs.Prelude.{◌≡◌, ◌<◌, ◌≤◌, ◌++◌, ◌*◌, ℕ, List, IfOk, OnOk, length, string_bytes};
+//! The lines of a census.
+ghost use Rattle.std.specs.Prelude.{◌≡◌, ◌<◌, ◌≤◌, ◌++◌, ◌*◌, ◌^◌, ℕ, List, IfOk, OnOk, length, string_bytes};
 ghost use Rattle.directory.specs.Histories.{History};
 ghost use Rattle.directory.specs.Census.{census as census_of};
 ghost use Rattle.region_plan.specs.Plan.{nodes_of};
 ghost use Rattle.region_plan.specs.Settings.{setting_of};
 ghost use Rattle.visit_log.specs.Cells.{GoWith, Hold};
 ghost use Rattle.outside.specs.Texts.{fields};
-ghost use Rattle.census_text.specs.CensusText.{census_text_of, count_below, is_there, node_line, node_lines, presence_at};
+ghost use Rattle.census_text.specs.CensusText.{census_text_of, count_below, is_place, is_there, node_line, node_lines, presence_at, who_at};
 
 use entry_word::{Key, PresenceMark, unpack_mark};
 use region_plan::Plan;
@@ -24,25 +24,19 @@ fn is_there(plan: &Plan, cells: &PlainCells, node: u32, sub: u32) -> bool
     matches!(unpack_mark(word), Some(PresenceMark::Here { .. }))
 }
 
-// How many of the subscribers are at a node.
-fn count_at(plan: &Plan, cells: &PlainCells, node: u32, subs: u32) -> u32
-    requires goes { GoWith plan.now cells.now }
-    requires node { node < nodes_of plan.now }
-    requires subs { subs ≡ cells.now.subs }
-    ensures { result ≡ length (presence_at plan.now cells.now node) }
+// Whether a place is this node.
+fn is_place(node: u32, place: Option<u32>) -> bool
+    ensures { result ≡ is_place node place }
 {
-    let mut count = 0;
-    for sub in 0..subs {
-        if is_there(plan, cells, node, sub) {
-            count += 1;
-        }
+    match place {
+        Some(place) => place == node,
+        None => false,
     }
-    count
 }
 
-// The subscribers that are at a node, ascending.
-fn push_subs(
-    text: &mut String,
+// The subscribers that are at a node, by their cells, ascending.
+fn list_by_cells(
+    who: &mut Vec<u32>,
     plan: &Plan,
     cells: &PlainCells,
     node: u32,
@@ -51,44 +45,60 @@ fn push_subs(
     requires goes { GoWith plan.now cells.now }
     requires node { node < nodes_of plan.now }
     requires subs { subs ≡ cells.now.subs }
-    ensures { OnOk result (string_bytes text.new
-        ≡ string_bytes text.old ++ fields (presence_at plan.now cells.now node)) }
+    ensures { OnOk result (who.new.items ≡ presence_at plan.now cells.now node) }
 {
+    who.clear();
     for sub in 0..subs {
         if is_there(plan, cells, node, sub) {
-            write!(text, " {sub}")?;
+            who.push(sub)?;
         }
     }
     Ok(())
 }
 
-// The line of a node, none where nobody is there, and how many are.
-fn push_node(
-    text: &mut String,
-    plan: &Plan,
-    cells: &PlainCells,
-    node: u32,
-    subs: u32,
-) -> Result<u32, AllocError>
-    requires goes { GoWith plan.now cells.now }
-    requires node { node < nodes_of plan.now }
-    requires subs { subs ≡ cells.now.subs }
-    ensures count { IfOk result (λ count. count ≡ length (presence_at plan.now cells.now node)) }
-    ensures line { OnOk result (string_bytes text.new
-        ≡ string_bytes text.old ++ node_line node (presence_at plan.now cells.now node)) }
+// The subscribers that are at a node, by where each of them is, ascending.
+fn list_by_places(who: &mut Vec<u32>, places: &[Option<u32>], node: u32) -> Result<(), AllocError>
+    requires few { length places.now < 2 ^ 32 }
+    ensures { OnOk result (who.new.items ≡ who_at places.now node) }
 {
-    let count = count_at(plan, cells, node, subs);
-    if count > 0 {
-        write!(text, "node {node} count {count} subs")?;
-        push_subs(text, plan, cells, node, subs)?;
-        text.push_str("\n")?;
+    who.clear();
+    for sub in 0..places.len() {
+        if is_place(node, places[sub]) {
+            who.push(sub as u32)?;
+        }
     }
-    Ok(count)
+    Ok(())
 }
 
-// The lines of all nodes, and how many subscribers are at them.
-fn push_nodes(
+// Numbers one after another.
+fn push_numbers(text: &mut String, numbers: &[u32]) -> Result<(), AllocError>
+    ensures { OnOk result (string_bytes text.new
+        ≡ string_bytes text.old ++ fields numbers.now) }
+{
+    for number in numbers {
+        write!(text, " {number}")?;
+    }
+    Ok(())
+}
+
+// The line of a node, none where nobody is there; and how many are.
+fn push_node(text: &mut String, node: u32, who: &[u32]) -> Result<u64, AllocError>
+    ensures count { IfOk result (λ count. count ≡ length who.now) }
+    ensures line { OnOk result (string_bytes text.new
+        ≡ string_bytes text.old ++ node_line node who.now) }
+{
+    if !who.is_empty() {
+        write!(text, "node {node} count {} subs", who.len())?;
+        push_numbers(text, who)?;
+        text.push_str("\n")?;
+    }
+    Ok(who.len() as u64)
+}
+
+// The lines of all nodes, by the cells, and how many subscribers are at them.
+fn push_by_cells(
     text: &mut String,
+    who: &mut Vec<u32>,
     plan: &Plan,
     cells: &PlainCells,
     subs: u32,
@@ -102,14 +112,35 @@ fn push_nodes(
 {
     let mut total = 0u64;
     for node in 0..plan.nodes() {
-        total += u64::from(push_node(text, plan, cells, node, subs)?);
+        list_by_cells(who, plan, cells, node, subs)?;
+        total += push_node(text, node, who)?;
+    }
+    Ok(total)
+}
+
+// The lines of all nodes, by where each subscriber is, and how many are at them.
+fn push_by_places(
+    text: &mut String,
+    who: &mut Vec<u32>,
+    nodes: u32,
+    places: &[Option<u32>],
+) -> Result<u64, AllocError>
+    requires few { length places.now < 2 ^ 32 }
+    ensures total { IfOk result (λ total. total ≡ count_below (who_at places.now) nodes) }
+    ensures lines { OnOk result (string_bytes text.new ≡ string_bytes text.old
+        ++ node_lines (who_at places.now) nodes) }
+{
+    let mut total = 0u64;
+    for node in 0..nodes {
+        list_by_places(who, places, node)?;
+        total += push_node(text, node, who)?;
     }
     Ok(total)
 }
 
 /// The text of a census of the subscribers that the cells were made for: for each node at which
 /// some are, a line with their count and their numbers, then `end` and the sum of the counts
-/// (docs/FORMATS.md). A subscriber that is off, or amid a move between nodes, is listed nowhere.
+/// (docs/FORMATS.md). A subscriber that is off, or in an open passage, is listed nowhere.
 pub fn census(
     alloc: Global,
     plan: &Plan,
@@ -125,7 +156,24 @@ pub fn census(
         ≡ census_text_of (census_of (setting_of plan.now starts) history) (nodes_of plan.now)) }
 {
     let mut text = String::new(alloc);
-    let total = push_nodes(&mut text, plan, cells, subs)?;
+    let mut who = Vec::new(alloc);
+    let total = push_by_cells(&mut text, &mut who, plan, cells, subs)?;
+    write!(text, "end {total}\n")?;
+    Ok(text.into_bytes())
+}
+
+/// The same text of a census of so many nodes, by where each subscriber is: `None` is nowhere.
+pub fn census_of_places(
+    alloc: Global,
+    nodes: u32,
+    places: &[Option<u32>],
+) -> Result<Vec<u8>, OutOfMemory>
+    requires few { length places.now < 2 ^ 32 }
+    ensures { IfOk result (λ text. text.items ≡ census_text_of (who_at places.now) nodes) }
+{
+    let mut text = String::new(alloc);
+    let mut who = Vec::new(alloc);
+    let total = push_by_places(&mut text, &mut who, nodes, places)?;
     write!(text, "end {total}\n")?;
     Ok(text.into_bytes())
 }

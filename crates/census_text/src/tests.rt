@@ -1,9 +1,9 @@
-// Censuses of the line 0 - 1 - 2 - 3 of unit weights, and of two nodes with many subscribers.
+//! Censuses of the line 0 - 1 - 2 - 3 of unit weights, and of two nodes with many subscribers.
 ghost use Rattle.std.specs.Prelude.{◌≡◌, IfOk};
 ghost use Rattle.region_plan.specs.Matched.{BoundsFinds};
 ghost use Rattle.region_plan.specs.Plan.{nodes_of};
 
-use crate::census;
+use crate::{census, census_of_places};
 use distances::Distances;
 use entry_word::{Key, PresenceMark, pack_mark};
 use net_graph::{Edge, Graph};
@@ -68,5 +68,19 @@ fn as_many_subscribers_as_there_may_be(rt: HostRuntime) -> Result<(), Fail> {
     let text = census(rt.alloc(), &plan, &cells, 64)?;
     assert!(rt; text.starts_with(b"node 1 count 64 subs 0 1 2 3 "));
     assert!(rt; text.ends_with(b" 61 62 63\nend 64\n"));
+    Ok(())
+}
+
+#[test]
+fn who_is_where_by_places(rt: HostRuntime) -> Result<(), Fail> {
+    let places = [Some(3), None, Some(1), Some(3)];
+    let text = census_of_places(rt.alloc(), 4, &places)?;
+    let lines = b"node 1 count 1 subs 2\nnode 3 count 2 subs 0 3\nend 3\n";
+    assert!(rt; text.as_slice() == lines.as_slice());
+    let nobody = census_of_places(rt.alloc(), 1024, &[None; 64])?;
+    assert!(rt; nobody.as_slice() == b"end 0\n".as_slice());
+    let last = census_of_places(rt.alloc(), 1024, &[Some(1023); 64])?;
+    assert!(rt; last.starts_with(b"node 1023 count 64 subs 0 1 2 3 "));
+    assert!(rt; last.ends_with(b" 61 62 63\nend 64\n"));
     Ok(())
 }

@@ -10,7 +10,7 @@ use Rattle.word_line.specs.declared.command.Command.{Command}
 use Rattle.track.specs.declared.status.Status.{Status}
 use Rattle.track.specs.declared.status.Status.TheVariants as statuses
 use Rattle.track.specs.Answers.{IsAnswer, IsText}
-use Rattle.track.specs.Ends.{EndsAs, IsBegun, IsWritten, outside}
+use Rattle.track.specs.Ends.{EndsAs, IsBegun, IsWritten, streams}
 use Rattle.track.specs.Transfer.{IsAllRead, IsWrittenPart, StopsReading}
 
 -- what holds of all bytes that were read holds of what was left
@@ -29,7 +29,7 @@ status_of_text command (Err fault) status text h = inr h.0
 -- reading stopped
 pub stopped : (command : Command) (status : Status) (left left' : Option (List ℕ)) (rf rf' : ℕ) (written : Option (List
     ℕ)) (wf : ℕ) → StopsReading status left rf rf'
-    → EndsAs command status (outside left rf written wf) (outside left' rf' written wf)
+    → EndsAs command status (streams left rf written wf) (streams left' rf' written wf)
 stopped command statuses.Done left left' rf rf' written wf h = absurd h
 stopped command statuses.Refused left left' rf rf' written wf h = absurd h
 stopped command statuses.BadWords left left' rf rf' written wf h = absurd h
@@ -41,9 +41,9 @@ stopped command statuses.TooLong left left' rf rf' written wf h = ((refl, refl),
 -- the text could not be made
 pub unmade : (command : Command) (status : Status) (left left' : Option (List ℕ)) (rf rf' : ℕ) (written : Option (List
     ℕ)) (wf : ℕ) → status ≡ statuses.OutOfMemory → rf' ≡ rf
-    → EndsAs command status (outside left rf written wf) (outside left' rf' written wf)
+    → EndsAs command status (streams left rf written wf) (streams left' rf' written wf)
 unmade command status left left' rf rf' written wf e h =
-    subst (λ (s : Status). EndsAs command s (outside left rf written wf) (outside left' rf' written wf)) (sym e)
+    subst (λ (s : Status). EndsAs command s (streams left rf written wf) (streams left' rf' written wf)) (sym e)
     ((refl, refl), h)
 
 -- the text was written
@@ -51,13 +51,13 @@ done-go : (command : Command) (status : Status) (text : List ℕ) (reader : Read
     (rf rf' : ℕ) (written written' : Option (List ℕ)) (wf wf' : ℕ) (all : IsAllRead reader left left' rf rf')
     → IsText command all.bytes status text → written' ≡ append_known written text → wf' ≡ wf
     → (status ≡ statuses.Done) ⊎ (status ≡ statuses.Refused)
-    → EndsAs command status (outside left rf written wf) (outside left' rf' written' wf')
+    → EndsAs command status (streams left rf written wf) (streams left' rf' written' wf')
 done-go command status text reader left left' rf rf' written written' wf wf' all right w f (inl e) =
     let is : IsText command all.bytes statuses.Done text =
     subst (λ (s : Status). IsText command all.bytes s text) e right in
     let whole : IsWritten command statuses.Done all.bytes written written' =
     record { short = all.short; text = text; right = is; written = w } in
-    subst (λ (s : Status). EndsAs command s (outside left rf written wf) (outside left' rf' written' wf')) (sym e) (
+    subst (λ (s : Status). EndsAs command s (streams left rf written wf) (streams left' rf' written' wf')) (sym e) (
       of_left (λ bytes. IsWritten command statuses.Done bytes written written') left left' all.bytes all.parts all.end
           whole,
       all.end,
@@ -69,7 +69,7 @@ done-go command status text reader left left' rf rf' written written' wf wf' all
     subst (λ (s : Status). IsText command all.bytes s text) e right in
     let whole : IsWritten command statuses.Refused all.bytes written written' =
     record { short = all.short; text = text; right = is; written = w } in
-    subst (λ (s : Status). EndsAs command s (outside left rf written wf) (outside left' rf' written' wf')) (sym e) (
+    subst (λ (s : Status). EndsAs command s (streams left rf written wf) (streams left' rf' written' wf')) (sym e) (
       of_left (λ bytes. IsWritten command statuses.Refused bytes written written') left left' all.bytes all.parts
           all.end whole,
       all.end,
@@ -81,7 +81,7 @@ pub done : (command : Command) (status : Status) (text shown : List ℕ) (reader
     (List ℕ)) (rf rf' : ℕ) (written written' : Option (List ℕ)) (wf wf' : ℕ) → IsAllRead reader left left' rf rf'
     → ((bytes : List ℕ) → StandsFor reader bytes → IsText command bytes status text) → shown ≡ text
     → written' ≡ append_known written shown → wf' ≡ wf
-    → EndsAs command status (outside left rf written wf) (outside left' rf' written' wf')
+    → EndsAs command status (streams left rf written wf) (streams left' rf' written' wf')
 done command status text shown reader left left' rf rf' written written' wf wf' all right same w f =
     let is = right all.bytes all.stands in
     done-go command status text reader left left' rf rf' written written' wf wf' all is (w
@@ -93,13 +93,13 @@ pub begun : (command : Command) (status failed : Status) (text shown : List ℕ)
     → IsAllRead reader left left' rf rf' → ((bytes : List ℕ) → StandsFor reader bytes
     → IsText command bytes status text) → shown ≡ text → IsWrittenPart shown written written'
     → failed ≡ statuses.WriteFailed → HasFaulted wf wf'
-    → EndsAs command failed (outside left rf written wf) (outside left' rf' written' wf')
+    → EndsAs command failed (streams left rf written wf) (streams left' rf' written' wf')
 begun command status failed text shown reader left left' rf rf' written written' wf wf' all right same part e f =
     let front : IsWrittenPart text written written' =
     subst (λ (t : List ℕ). IsWrittenPart t written written') same part in
     let is : IsBegun command all.bytes written written' =
     record { short = all.short; status = status; text = text; right = right all.bytes all.stands; part = front } in
-    subst (λ (s : Status). EndsAs command s (outside left rf written wf) (outside left' rf' written' wf')) (sym e) (
+    subst (λ (s : Status). EndsAs command s (streams left rf written wf) (streams left' rf' written' wf')) (sym e) (
       f,
       of_left (λ bytes. IsBegun command bytes written written') left left' all.bytes all.parts all.end is,
       all.end,

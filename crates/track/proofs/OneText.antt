@@ -7,19 +7,16 @@ use Rattle.net_reader.specs.declared.fault.InputFault.{InputFault}
 use Rattle.net_reader.specs.Input.{Contents, IsInput}
 use Rattle.net_reader.specs.Laws.{TextSaysOne}
 use Rattle.net_reader.specs.Reading.{most_bytes}
-use Rattle.directory.specs.Census.{census}
-use Rattle.region_plan.specs.Plan.{PlanData, nodes_of}
+use Rattle.region_plan.specs.Plan.{PlanData}
 use Rattle.region_plan.specs.Regions.{IsPlanOf}
-use Rattle.region_plan.specs.Settings.{setting_of}
-use Rattle.census_text.specs.CensusText.{census_text_of}
 use Rattle.report_text.specs.PlanText.{plan_text_of}
 use Rattle.word_line.specs.declared.command.Command.{Command}
 use Rattle.word_line.specs.declared.command.Command.TheVariants as commands
 use Rattle.track.specs.declared.status.Status.{Status}
 use Rattle.track.specs.declared.status.Status.TheVariants as statuses
 use Rattle.report_text.specs.ReportText.{report_of}
-use Rattle.track.specs.Answers.{history_under, network_of, outcome_under, IsAnswer, IsResult, IsText}
-use Rattle.track.specs.Ends.{EndsAs, IsWritten, Outside}
+use Rattle.track.specs.Answers.{network_of, outcome_under, IsAnswer, IsResult, IsText}
+use Rattle.track.specs.Ends.{EndsAs, IsWritten, Streams}
 
 -- a network and k have one plan
 abbrev pub PlanIsOne : Type 0
@@ -33,9 +30,7 @@ same_result unique commands.Cover contents one other p q =
 same_result unique commands.Replay contents one other p q =
     p.text_is ∙ ap (λ plan. report_of (outcome_under contents plan))
     (unique (network_of contents) contents.k p.plan q.plan p.is q.is) ∙ sym q.text_is
-same_result unique commands.Census contents one other p q =
-    p.text_is ∙ ap (λ plan. census_text_of (census (setting_of plan contents.homes) (history_under contents plan))
-    (nodes_of plan)) (unique (network_of contents) contents.k p.plan q.plan p.is q.is) ∙ sym q.text_is
+same_result unique commands.Census contents one other p q = p.text_is ∙ sym q.text_is
 same_result unique commands.Run contents one other p q = absurd p
 same_result unique (commands.Make load) contents one other p q = absurd p
 same_result unique (commands.Trial load) contents one other p q = absurd p
@@ -65,7 +60,7 @@ not_refused command (Err fault) contents text e h = cc
 of_some : (P : List ℕ → Type 0) (o : Option (List ℕ)) (bytes : List ℕ) → o ≡ Some bytes → IfSome o P → P bytes
 of_some P o bytes e h = subst (λ (x : Option (List ℕ)). IfSome x P) e h
 
-pub is_complete : TextSaysOne → (command : Command) (status : Status) (before now : Outside) (bytes : List ℕ) (contents
+pub is_complete : TextSaysOne → (command : Command) (status : Status) (before now : Streams) (bytes : List ℕ) (contents
     : Contents)
     → EndsAs command status before now → before.left ≡ Some bytes → length bytes ≤ most_bytes
     → IsInput bytes (Ok contents)

@@ -3,8 +3,6 @@ use Rattle.std.proofs.Common.{◌≡◌, ℕ, ◌+◌, ◌<◌, List, [], ◌∷
 use Rattle.std.proofs.lemmas.List.{take_more}
 use Rattle.std.proofs.lemmas.List.Sums.{fold-append}
 use Rattle.directory.specs.Settings.{Setting}
-use Rattle.directory.specs.Histories.{History}
-use Rattle.visit_log.specs.Cells.{CellData, Hold}
 use Rattle.directory.specs.Orders.{Scripts, after_turn, after_turns, history_of}
 use Rattle.directory.specs.Outcomes.{outcome_of}
 use Rattle.net_reader.specs.declared.input.Input.{Input}
@@ -82,12 +80,3 @@ pub play-ends : (first last : Machine) (input : Input) (plan : PlanData) (order 
 play-ends first last input plan order same_input same_plan whole stands =
     subst (StandsFor last) (ap (history_of (setting_at first) (scripts_at first)) whole
     ∙ play-history first input plan same_input same_plan) stands
-
--- and its cells hold what that history leaves
-pub end-holds : (last : Machine) (input : Input) (plan : PlanData) (cells : CellData) (history : History)
-    → last.input.now ≡ input → last.plan.now ≡ plan → cells ≡ last.cells → StandsFor last history
-    → Hold plan input.homes.items cells history
-end-holds last input plan cells history same_input same_plan same_cells stands =
-    subst (λ cs. Hold plan input.homes.items cs history) (sym same_cells)
-    (subst (λ p. Hold p input.homes.items last.cells history) same_plan
-    (subst (λ i. Hold last.plan.now (seen_input i).homes last.cells history) same_input stands.sees.hold))

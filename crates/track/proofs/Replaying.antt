@@ -1,5 +1,9 @@
 -- The report of a valid input over its plan says what is right, and within the bound.
-use Rattle.std.proofs.Common.{◌≡◌, inl, inr, ℕ, ◌≤◌, ◌^◌, List, subst, arith}
+use Rattle.std.proofs.Common.{◌≡◌, inl, inr, ℕ, ◌≤◌, ◌^◌, Bool, true, false, List, length, Option, Some, None, refl, subst, ap, ◌∙◌, arith}
+use Rattle.std.specs.Prelude.{◌==◌, ◌&&◌, not, if◌then◌else◌, slice_index, slice_index_or}
+use Rattle.node_set.specs.Ascending.{sift}
+use Rattle.node_set.specs.SetLaws.{passing_same}
+use Rattle.track.specs.Places.{AreLastPlaces, node_if_on}
 use Rattle.net_reader.specs.Input.{Contents}
 use Rattle.net_reader.specs.Table.{most_nodes}
 use Rattle.net_reader.specs.Valid.{IsValid}
@@ -8,17 +12,17 @@ use Rattle.region_plan.specs.Plan.{PlanData, nodes_of}
 use Rattle.region_plan.specs.Measures.{degree_of}
 use Rattle.region_plan.specs.Regions.{IsPlanOf}
 use Rattle.region_plan.specs.Settings.{setting_of}
-use Rattle.directory.specs.Census.{census}
-use Rattle.directory.specs.Orders.{AreValid}
-use Rattle.trail_laws.specs.Censuses.{CensusesEndRight}
+use Rattle.directory.specs.Orders.{AreValid, steps_of}
+use Rattle.trail_laws.specs.Censuses.{CensusesEndByScripts, CensusesEndRight, Place, is_on_at, place_at_end, who_ends_at}
 use Rattle.trail_laws.specs.Lines.{NumbersRise, OutcomesAreRight}
 use Rattle.stretch_laws.specs.Tracking.{IsTracking}
 use Rattle.stretch_laws.specs.Lines.{PlanOutcomesAreNear}
 use Rattle.machine.specs.Machines.{TellInTurn}
 use Rattle.machine.specs.Scripts.{scripts_of}
-use Rattle.census_text.specs.CensusText.{census_text_of}
+use Rattle.census_text.specs.CensusText.{census_text_of, is_place, who_at}
+use Rattle.census_text.specs.TextLaws.{texts-same}
 use Rattle.report_text.specs.ReportText.{report_of}
-use Rattle.track.specs.Answers.{IsCensusText, IsReport, history_under, network_of, outcome_under}
+use Rattle.track.specs.Answers.{IsCensusText, IsReport, network_of, outcome_under}
 
 -- a plan of a valid input has few nodes
 few-nodes : (contents : Contents) → IsValid contents → contents.nodes ≤ 2 ^ 16
@@ -60,15 +64,48 @@ report-says contents plan turn right rise track near scripts text valid is nodes
       (omega (arith, nodes, few-nodes contents valid)) bounds (scripts contents plan valid nodes);
 }
 
--- the census of a valid input over its plan lists everybody where they stand
-pub census-says : CensusesEndRight → ScriptsAreValid → (contents : Contents) (plan : PlanData) (text : List ℕ)
-    → IsValid contents → IsPlanOf (network_of contents) contents.k plan → nodes_of plan ≡ contents.nodes
-    → text ≡ census_text_of (census (setting_of plan contents.homes) (history_under contents plan)) (nodes_of plan)
+-- the plan of an input's network has its nodes
+plan-nodes : (contents : Contents) (plan : PlanData) → IsPlanOf (network_of contents) contents.k plan
+    → nodes_of plan ≡ contents.nodes
+plan-nodes contents plan is = is.distances.nodes
+
+-- the census by the scripts of a valid input is that of its calls' history
+pub census-says : CensusesEndByScripts → CensusesEndRight → ScriptsAreValid → (contents : Contents) (text : List ℕ)
+    → IsValid contents
+    → text ≡ census_text_of (who_ends_at contents.homes (scripts_of contents)) contents.nodes
     → IsCensusText contents text
-census-says right scripts contents plan text valid is nodes text_is = record {
-  plan = plan;
-  is = is;
+census-says listed right scripts contents text valid text_is = record {
   text_is = text_is;
-  right = λ sub node known below. right (setting_of plan contents.homes) (scripts_of contents) contents.order sub node
-      (omega (arith, nodes, few-nodes contents valid)) (scripts contents plan valid nodes) known below;
+  census_is = λ plan is node below. listed (setting_of plan contents.homes) (scripts_of contents) contents.order node
+      (omega (arith, plan-nodes contents plan is, few-nodes contents valid))
+      (scripts contents plan valid (plan-nodes contents plan is))
+      (omega (arith, below, plan-nodes contents plan is));
+  right = λ plan is sub node known below. right (setting_of plan contents.homes) (scripts_of contents) contents.order
+      sub node (omega (arith, plan-nodes contents plan is, few-nodes contents valid))
+      (scripts contents plan valid (plan-nodes contents plan is)) known
+      (omega (arith, below, plan-nodes contents plan is));
 }
+
+-- where each subscriber is after its script tells who is at each node
+place-on : (node : ℕ) (place : Place) → is_place node (node_if_on place) ≡ is_on_at node place
+place-on node place = at_state place.is_off
+  where
+    at_state : (off : Bool) → is_place node (if off then None else Some place.node)
+        ≡ (not off && place.node == node)
+    at_state true = refl
+    at_state false = refl
+
+who-same : (contents : Contents) (places : List (Option ℕ)) → AreLastPlaces contents places → (node : ℕ)
+    → who_at places node ≡ who_ends_at contents.homes (scripts_of contents) node
+who-same contents places are node =
+    ap (sift (λ sub. is_place node (slice_index_or places sub None)) 0) are.count
+    ∙ passing_same _ _ 0 (length contents.homes) (λ sub from below.
+    ap (is_place node) (are.each sub (omega (arith, below)))
+    ∙ place-on node (place_at_end (slice_index contents.homes sub) (steps_of (scripts_of contents) sub)))
+
+pub text-of_places : (contents : Contents) (places : List (Option ℕ)) → AreLastPlaces contents places
+    → census_text_of (who_at places) contents.nodes
+    ≡ census_text_of (who_ends_at contents.homes (scripts_of contents)) contents.nodes
+text-of_places contents places are =
+    texts-same (who_at places) (who_ends_at contents.homes (scripts_of contents)) contents.nodes
+    (λ node below. who-same contents places are node)

@@ -6,7 +6,7 @@ use Rattle.word_line.specs.declared.command.WordsFault.{WordsFault}
 use Rattle.track.specs.declared.status.Status.{Status}
 use Rattle.track.specs.declared.status.Status.TheVariants as statuses
 use Rattle.track.specs.Answers.{is_served}
-use Rattle.track.specs.Ends.{Ends, EndsAs, EndsIf, Outside, Tells, number_of}
+use Rattle.track.specs.Ends.{Ends, EndsAs, EndsIf, Streams, Tells, status_number}
 
 none_of : (words : Option Command) (read : Result Command WordsFault) (other fault : WordsFault)
     → read ≡ ok_or words other → read ≡ Err fault → words ≡ None
@@ -20,7 +20,7 @@ some_of (Some found) read other command e is = cc
 
 -- words of no form
 pub at_none : (words : Option Command) (read : Result Command WordsFault) (other fault : WordsFault) (number : ℕ)
-    (before : Outside) → read ≡ ok_or words other → read ≡ Err fault → number ≡ number_of statuses.BadWords
+    (before : Streams) → read ≡ ok_or words other → read ≡ Err fault → number ≡ status_number statuses.BadWords
     → Tells words number before before
 at_none words read other fault number before e is n =
     let told : Tells None number before before = record { status = statuses.BadWords; is = n; ends = (refl, refl) } in
@@ -28,8 +28,8 @@ at_none words read other fault number before e is n =
 
 -- the words of a command that isn't built
 pub at_unserved : (words : Option Command) (read : Result Command WordsFault) (other : WordsFault) (command : Command)
-    (number : ℕ) (before : Outside) → read ≡ ok_or words other → read ≡ Ok command → is_served command ≡ false
-    → number ≡ number_of statuses.BadWords → Tells words number before before
+    (number : ℕ) (before : Streams) → read ≡ ok_or words other → read ≡ Ok command → is_served command ≡ false
+    → number ≡ status_number statuses.BadWords → Tells words number before before
 at_unserved words read other command number before e is unserved n =
     let ends : Ends (Some command) statuses.BadWords before before =
     subst (λ (b : Bool). EndsIf b command statuses.BadWords before before) (sym unserved) (refl, refl) in
@@ -38,8 +38,8 @@ at_unserved words read other command number before e is unserved n =
 
 -- the words of a command that is built
 pub at_served : (words : Option Command) (read : Result Command WordsFault) (other : WordsFault) (command : Command)
-    (status : Status) (number : ℕ) (before now : Outside) → read ≡ ok_or words other → read ≡ Ok command
-    → is_served command ≡ true → number ≡ number_of status → EndsAs command status before now
+    (status : Status) (number : ℕ) (before now : Streams) → read ≡ ok_or words other → read ≡ Ok command
+    → is_served command ≡ true → number ≡ status_number status → EndsAs command status before now
     → Tells words number before now
 at_served words read other command status number before now e is served n h =
     let ends : Ends (Some command) status before now =

@@ -10,9 +10,9 @@ use Rattle.directory.specs.Census.{census}
 use Rattle.directory.specs.Histories.{History}
 use Rattle.directory.specs.Orders.{history_of}
 use Rattle.directory.specs.Outcomes.{Outcome, outcome_of}
-use Rattle.trail_laws.specs.Censuses.{IsCounted}
+use Rattle.trail_laws.specs.Censuses.{IsCounted, who_ends_at}
 use Rattle.trail_laws.specs.Lines.{IsRightLine}
-use Rattle.region_plan.specs.Plan.{PlanData, nodes_of}
+use Rattle.region_plan.specs.Plan.{PlanData}
 use Rattle.region_plan.specs.Settings.{setting_of}
 use Rattle.stretch_laws.specs.Plans.{bound_of}
 use Rattle.stretch_laws.specs.Lines.{IsLineWithin}
@@ -56,7 +56,7 @@ pub record IsReport (contents : Contents) (text : List ℕ) : Type 0 where
   pub right : All (IsRightLine (setting_of plan contents.homes) (history_under contents plan))
       (outcome_under contents plan).calls
   -- of two answers about one subscriber, the one with the later last visit tells no lower number;
-  -- and a caller's later finds have the later last visits, so that along its finds of a subscriber
+  -- and a caller's later finds have no earlier last visits, so that along its finds of a subscriber
   -- the numbers never fall
   pub rising : TellRisingNumbers (outcome_under contents plan).calls
   pub in_turn : TellInTurn (outcome_under contents plan).calls
@@ -65,14 +65,20 @@ pub record IsReport (contents : Contents) (text : List ℕ) : Type 0 where
   pub near : All (IsLineWithin (bound_of plan) (setting_of plan contents.homes)
       (history_under contents plan)) (outcome_under contents plan).calls
 
--- the text is the census at the end of an input's calls under its order, over its plan
+-- the text is the census of an input: it lists at each node the subscribers whose scripts leave
+-- them there, and on
 pub record IsCensusText (contents : Contents) (text : List ℕ) : Type 0 where
-  pub plan : PlanData
-  pub is : IsPlanOf (network_of contents) contents.k plan
-  pub text_is : text ≡ census_text_of
-      (census (setting_of plan contents.homes) (history_under contents plan)) (nodes_of plan)
-  -- each subscriber is listed just where it stands, if it is on
-  pub right : (sub node : ℕ) → sub < length contents.homes → node < nodes_of plan
+  pub text_is : text
+      ≡ census_text_of (who_ends_at contents.homes (scripts_of contents)) contents.nodes
+  -- and those are whom the directory's own census lists at the end of the input's calls under its
+  -- order, over the plan of its network
+  pub census_is : (plan : PlanData) → IsPlanOf (network_of contents) contents.k plan
+      → (node : ℕ) → node < contents.nodes
+      → census (setting_of plan contents.homes) (history_under contents plan) node
+      ≡ who_ends_at contents.homes (scripts_of contents) node
+  -- each subscriber is listed just where it stands then, if it is on
+  pub right : (plan : PlanData) → IsPlanOf (network_of contents) contents.k plan
+      → (sub node : ℕ) → sub < length contents.homes → node < contents.nodes
       → IsCounted (setting_of plan contents.homes) (history_under contents plan) sub node
 
 -- whether a command is built

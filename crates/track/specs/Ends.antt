@@ -13,15 +13,15 @@ use Rattle.track.specs.Transfer.{IsWrittenPart}
 
 -- what stands before and after a call: the bytes left, the source's count of faults, the bytes
 -- written, the sink's
-pub record Outside : Type 0 where
+pub record Streams : Type 0 where
   pub left : Option (List ℕ)
   pub read_faults : ℕ
   pub written : Option (List ℕ)
   pub write_faults : ℕ
 
--- the parts of the outside in order
-abbrev pub outside : Option (List ℕ) → ℕ → Option (List ℕ) → ℕ → Outside
-outside left read_faults written write_faults =
+-- the source and the sink by these parts
+abbrev pub streams : Option (List ℕ) → ℕ → Option (List ℕ) → ℕ → Streams
+streams left read_faults written write_faults =
     record {
       left = left;
       read_faults = read_faults;
@@ -47,18 +47,18 @@ pub record IsBegun (command : Command) (bytes : List ℕ)
   pub part : IsWrittenPart text before now
 
 -- nothing was written, and the sink didn't fail
-abbrev pub IsSilent : Outside → Outside → Type 0
+abbrev pub IsSilent : Streams → Streams → Type 0
 IsSilent before now = (now.written ≡ before.written) × (now.write_faults ≡ before.write_faults)
 
 -- the whole text was written, nothing is left, and nothing failed
-abbrev pub IsDone : Command → Status → Outside → Outside → Type 0
+abbrev pub IsDone : Command → Status → Streams → Streams → Type 0
 IsDone command status before now =
     IfSome before.left (λ bytes. IsWritten command status bytes before.written now.written)
     × IsAtEnd now.left × (now.read_faults ≡ before.read_faults)
     × (now.write_faults ≡ before.write_faults)
 
 -- what a status says, to a command that is built
-abbrev pub EndsAs : Command → Status → Outside → Outside → Type 0
+abbrev pub EndsAs : Command → Status → Streams → Streams → Type 0
 EndsAs command Done before now = IsDone command Done before now
 EndsAs command Refused before now = IsDone command Refused before now
 EndsAs command BadWords before now = ⊥
@@ -75,31 +75,31 @@ EndsAs command TooLong before now =
     × IfSome before.left (λ bytes. most_bytes < length bytes)
 
 -- words of no command, and those of a command that isn't built, change nothing
-abbrev pub IsRefusedAtOnce : Status → Outside → Outside → Type 0
+abbrev pub IsRefusedAtOnce : Status → Streams → Streams → Type 0
 IsRefusedAtOnce status before now = (status ≡ BadWords) × (now ≡ before)
 
 -- what a status says, to a command that is built or isn't
-abbrev pub EndsIf : Bool → Command → Status → Outside → Outside → Type 0
+abbrev pub EndsIf : Bool → Command → Status → Streams → Streams → Type 0
 EndsIf true command status before now = EndsAs command status before now
 EndsIf false command status before now = IsRefusedAtOnce status before now
 
 -- what a status says, to words
-abbrev pub Ends : Option Command → Status → Outside → Outside → Type 0
+abbrev pub Ends : Option Command → Status → Streams → Streams → Type 0
 Ends None status before now = IsRefusedAtOnce status before now
 Ends (Some command) status before now = EndsIf (is_served command) command status before now
 
 -- the number of a status
-abbrev pub number_of : Status → ℕ
-number_of Done = 0
-number_of Refused = 1
-number_of BadWords = 2
-number_of OutOfMemory = 3
-number_of ReadFailed = 4
-number_of WriteFailed = 5
-number_of TooLong = 6
+abbrev pub status_number : Status → ℕ
+status_number Done = 0
+status_number Refused = 1
+status_number BadWords = 2
+status_number OutOfMemory = 3
+status_number ReadFailed = 4
+status_number WriteFailed = 5
+status_number TooLong = 6
 
 -- the number is that of a status that says so
-pub record Tells (words : Option Command) (number : ℕ) (before now : Outside) : Type 0 where
+pub record Tells (words : Option Command) (number : ℕ) (before now : Streams) : Type 0 where
   pub status : Status
-  pub is : number ≡ number_of status
+  pub is : number ≡ status_number status
   pub ends : Ends words status before now

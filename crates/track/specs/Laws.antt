@@ -7,7 +7,7 @@ use Rattle.word_line.specs.declared.command.Command.{Command}
 use Rattle.track.specs.declared.status.Status.{Status}
 use Rattle.track.specs.declared.status.Status.TheVariants.{Done, OutOfMemory}
 use Rattle.track.specs.Answers.{IsText}
-use Rattle.track.specs.Ends.{EndsAs, Outside}
+use Rattle.track.specs.Ends.{EndsAs, Streams}
 
 -- to a command, bytes have one text, with one status
 abbrev pub BytesHaveOneText : Type 0
@@ -19,7 +19,7 @@ BytesHaveOneText =
 -- whole text was written, or memory was wanting
 abbrev pub IsComplete : Type 0
 IsComplete =
-    (command : Command) (status : Status) (before now : Outside) (bytes : List ℕ)
+    (command : Command) (status : Status) (before now : Streams) (bytes : List ℕ)
     (contents : Contents)
     → EndsAs command status before now → before.left ≡ Some bytes
     → length bytes ≤ most_bytes → IsInput bytes (Ok contents)

@@ -3,3 +3,4 @@ pub mod Answers
 pub mod Bodies
 pub mod Ends
 pub mod Laws
+pub mod Places

@@ -10,8 +10,9 @@ ghost use Rattle.machine.specs.Machines.{IsSame, result_of, scripts_at, setting_
 ghost use Rattle.report_text.specs.PlanText.{plan_text_of};
 ghost use Rattle.report_text.specs.ReportText.{report_of};
 ghost use Rattle.track.specs.Bodies.{text_of};
-ghost use Rattle.track.specs.Answers.{IsCensusText, IsPlanText, IsReport, IsResult, IsText, is_served};
+ghost use Rattle.track.specs.Answers.{IsPlanText, IsReport, IsResult, IsText, is_served};
 
+use crate::census::census;
 use crate::status::Status;
 use directory::all_scripts_done;
 use distances::Distances;
@@ -21,7 +22,7 @@ use net_reader::{Input, InputFault, ReadRefusal, Reader, inputs_are_valid};
 use region_plan::Plan;
 use std::alloc::{AllocError, Global};
 use stretch_laws::{plan_outcomes_are_near, plans_track};
-use trail_laws::{censuses_are_right, outcomes_are_right};
+use trail_laws::outcomes_are_right;
 use word_line::Command;
 
 // What answers an input: its text is written from it.
@@ -69,22 +70,6 @@ fn replay(alloc: Global, input: &Input, graph: &Graph) -> Result<Outcome, AllocE
     Ok(machine.outcome())
 }
 
-// The census at the end of an input's calls under its order, over its plan.
-fn census(alloc: Global, input: &Input, graph: &Graph) -> Result<Vec<u8>, AllocError>
-    requires valid { IsValid (seen_input input.now) }
-    requires graph { IsGraphOf input.now.nodes input.now.edges.items graph.now }
-    ensures { IfOk result (λ text. IsCensusText (seen_input input.now) text.items) }
-{
-    censuses_are_right();
-    plans_track();
-    scripts_are_valid();
-    let distances = Distances::new(alloc, graph)?;
-    let plan = Plan::build(alloc, graph, &distances, input.k)?;
-    let mut machine = Machine::new(alloc, input, &plan, &distances)?;
-    play(&mut machine, &input.order);
-    census_text::census(alloc, &plan, machine.cells(), input.homes.len() as u32)
-}
-
 // Plays an order to its end.
 fn play(machine: &mut Machine<'_>, order: &[u32])
     requires stands { StandsForHistory machine.old [] }
@@ -113,7 +98,7 @@ fn body_of(
     match command {
         Command::Cover => Ok(Body::Plan(cover(alloc, input, graph)?)),
         Command::Replay => Ok(Body::Report(replay(alloc, input, graph)?)),
-        Command::Census => Ok(Body::Census(census(alloc, input, graph)?)),
+        Command::Census => Ok(Body::Census(census(alloc, input)?)),
         _ => unreachable!(),
     }
 }

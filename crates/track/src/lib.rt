@@ -2,6 +2,7 @@
 #![tactic(auto)]
 
 mod answer;
+mod census;
 mod laws;
 mod outlet;
 mod status;
@@ -12,5 +13,11 @@ mod writing;
 pub use laws::{bytes_have_one_text, complete};
 pub use top::command;
 
+#[cfg(test)]
+mod device_tests;
+#[cfg(test)]
+mod grammar_tests;
+#[cfg(test)]
+mod runs;
 #[cfg(test)]
 mod tests;

@@ -1,7 +1,7 @@
 //! How the program ends.
 ghost use Rattle.std.specs.Prelude.{◌≡◌};
 ghost use Rattle.track.specs.declared.status.Status.TheVariants.{OutOfMemory};
-ghost use Rattle.track.specs.Ends.{number_of};
+ghost use Rattle.track.specs.Ends.{status_number};
 
 use std::alloc::{AllocError, AllocFailed};
 
@@ -12,7 +12,7 @@ pub enum Status {
     Done = 0,
     /// The line that refuses the input was written.
     Refused = 1,
-    /// The words are none of the forms; nothing was read or written.
+    /// The words are no form, or one that isn't built; nothing was read or written.
     BadWords = 2,
     /// Want of memory.
     OutOfMemory = 3,
@@ -41,7 +41,7 @@ impl<T: Drop> From<AllocFailed<T>> for Status {
 }
 
 impl From<Status> for u8 {
-    ghost from_gives = { λ status number. number ≡ number_of status };
+    ghost from_gives = { λ status number. number ≡ status_number status };
 
     fn from(status: Status) -> Self {
         status as u8

@@ -2,7 +2,7 @@
 ghost use Rattle.std.specs.Prelude.{◌≡◌, true};
 ghost use Rattle.word_line.specs.Forms.{bytes_of, command_of};
 ghost use Rattle.track.specs.Answers.{is_served};
-ghost use Rattle.track.specs.Ends.{EndsAs, Tells, outside};
+ghost use Rattle.track.specs.Ends.{EndsAs, Tells, streams};
 ghost use Rattle.track.specs.Transfer.{IsRest};
 
 use crate::answer::make_answer;
@@ -29,9 +29,9 @@ fn perform<S: Source, K: Sink>(
 ) -> Status
     requires { is_served command ≡ true }
     ensures ends { EndsAs command result
-        (outside
+        (streams
         (S.left source.old) (S.faults source.old) (K.written sink.old) (K.faults sink.old))
-        (outside
+        (streams
         (S.left source.new) (S.faults source.new) (K.written sink.new) (K.faults sink.new)) }
     ensures rest { IsRest (S.left source.old) (S.left source.new) }
 {
@@ -66,9 +66,9 @@ pub fn command<S: Source, K: Sink>(
     sink: &mut K,
 ) -> u8
     ensures told { Tells (command_of (bytes_of words.now)) result
-        (outside
+        (streams
         (S.left source.old) (S.faults source.old) (K.written sink.old) (K.faults sink.old))
-        (outside
+        (streams
         (S.left source.new) (S.faults source.new) (K.written sink.new) (K.faults sink.new)) }
     ensures untouched { result ≡ 2 → (source.new ≡ source.old) × (sink.new ≡ sink.old) }
     ensures rest { IsRest (S.left source.old) (S.left source.new) }
