@@ -6,7 +6,8 @@ use Rattle.entry_word.specs.declared.visit.Key.{Key}
 use Rattle.directory.specs.Keys.{key_node}
 use Rattle.directory.specs.Histories.{History}
 use Rattle.region_plan.specs.Plan.{PlanData}
-use Rattle.visit_log.specs.Numbers.{IsCell, cell_number}
+use Rattle.region_plan.specs.Cells.{IsCell}
+use Rattle.visit_log.specs.Numbers.{cell_number}
 use Rattle.station.specs.Setup.{Setup, setting_in, nodes_in, subs_in, IsCellOf, lock_word, tally_word, cell_word}
 use Rattle.station.specs.Views.{IsSound}
 use Rattle.station.specs.Rule.{IsKept, IsViewOf}

@@ -17,7 +17,7 @@ use Rattle.directory.specs.Histories.{History, cell, changes_here, own}
 use Rattle.station.specs.Setup.{Setup, setting_in}
 use Rattle.station.specs.Views.{IsSound, IsInside, StandsFor, visits_at}
 use Rattle.station.specs.Rule.{IsKept, IsViewOf}
-use Rattle.station.specs.Plays.{Seat, visit_by, key_put, word_before, drawn, DrawsTicket}
+use Rattle.station.specs.Plays.{Seat, visit_by, key_put, word_before, view_with_ticket, DrawsTicket}
 use Rattle.station.specs.Visits.{MayDraw}
 use Rattle.station.specs.declared.view.View.{View}
 use Rattle.station.proofs.Fronts.{front-longer, front-itself, own-other, own-mine}
@@ -52,7 +52,7 @@ same_act act other e = ap (λ (o : Option Act). Rattle.std.specs.Prelude.unwrap_
 
 pub grows : SameKey → (s : St) (id x new : ℕ) (v : View) (act : Act) (o : IsKept v.setup s)
     → IsViewOf s.views id v → MayDraw v x act
-    → new ≡ suc (length o.history) → IsKept v.setup (with (set s.words 0 new) s id (drawn v x act o.history))
+    → new ≡ suc (length o.history) → IsKept v.setup (with (set s.words 0 new) s id (view_with_ticket v x act o.history))
 grows law s id x new v act o me may is =
     let setup = v.setup in
     let setting = setting_in setup in
@@ -60,7 +60,7 @@ grows law s id x new v act o me may is =
     let history = o.history in
     let visit : Visit = visit_by v act in
     let longer : History = history ++ visit ∷ [] in
-    let w = drawn v x act history in
+    let w = view_with_ticket v x act history in
     let was = o.views id v me in
     let here = was.inside x may.inside in
     let near = seat_below s.views id v me in
@@ -75,7 +75,7 @@ grows law s id x new v act o me may is =
       owner = o.owner;
       lies = o.lies;
       size = length-set s.words 0 new ∙ o.size;
-      some_actors = o.some_actors;
+      few_actors = o.few_actors;
       tickets = get_or-set_same s.words 0 new 0 wide ∙ (is ∙ sym (omega (arith, length-append history (visit ∷ []))));
       views = λ k u there. ⊎_elim
           (λ (t : (k ≡ id) × (w ≡ u)). subst (λ (y : View). IsSound setup ws longer o.owner k y) t.1
@@ -127,7 +127,7 @@ grows law s id x new v act o me may is =
               known = h.known;
               alone = h.alone;
               lock = words node ∙ h.lock;
-              last = λ d. at-push setting node u.drawn history visit
+              last = λ d. at-push setting node u.visit_count history visit
                   (λ e. others k u t.0 t.1 (at ∙ ap (λ (n : ℕ). Some n) (sym e ∙ may.at))) (h.last d);
               tally = λ due. words _ ∙ h.tally due;
             };
@@ -187,8 +187,8 @@ draws law n id x m act may s o wide me small =
     let stands : StandsFor v v.low = (omega arith, omega (arith, here.alone)) in
     let new : (found + 1) % 2 ^ 64 ≡ suc (length o.history) =
     ap (λ (k : ℕ). (k + 1) % 2 ^ 64) o.tickets
-    ∙ no_wrap (length o.history) (few_visits v.setup.actors o.history o.some_actors o.known o.few) in (
-      drawn v x act o.history,
+    ∙ no_wrap (length o.history) (few_visits v.setup.actors o.history o.few_actors o.known o.few) in (
+      view_with_ticket v x act o.history,
       keeps,
       tt,
       grows law s id x ((found + 1) % 2 ^ 64) v act o me may new,
@@ -198,12 +198,12 @@ draws law n id x m act may s o wide me small =
             record {
               earlier = o.history;
               count = sym o.tickets;
-              few = omega (arith, o.tickets, few_visits v.setup.actors o.history o.some_actors o.known o.few);
+              few = omega (arith, o.tickets, few_visits v.setup.actors o.history o.few_actors o.known o.few);
               seen = was.has.seen;
               visits = was.has.visits v.low stands;
               puts = λ known. puts-seen (setting_in v.setup) v.low v.seen o.history was.has.seen
                   (was.has.visits v.low stands) (o.legal v.low known);
-              view = λ i. drawn v (a i) (b i) o.history;
+              view = λ i. view_with_ticket v (a i) (b i) o.history;
               legal = λ sub known. legal_more v sub o.history act may.may was.has.seen
                   (was.has.visits v.low stands) (o.legal sub known);
             },

@@ -9,8 +9,8 @@ use Rattle.directory.specs.Histories.{History, IsFront, own, tickets}
 use Rattle.station.specs.Passes.{PassData, actor_of}
 use Rattle.station.specs.Closing.{IsMissing}
 use Rattle.station.specs.Plays.{longer}
-use Rattle.station.proofs.Fronts.{front-rest, front-longer}
-use Rattle.station.proofs.Growing.{own-nil}
+use Rattle.station.proofs.Fronts.{front-longer}
+use Rattle.station.specs.TicketLaws.{front-rest, own-nil}
 use Rattle.station.proofs.Joining.{longer_one, longer_other}
 
 pub front-through : (xs ys zs : List Visit) → IsFront xs ys → IsFront ys zs → IsFront xs zs

@@ -14,7 +14,7 @@ use Rattle.station.specs.Setup.{Setup, CellsLie, setting_in, nodes_in, subs_in, 
 use Rattle.station.specs.Views.{IsSound, StandsFor}
 use Rattle.station.specs.Rule.{IsKept, IsViewOf}
 use Rattle.station.specs.Opening.{AreOpening}
-use Rattle.station.specs.Plays.{first_view, dealt, left_over}
+use Rattle.station.specs.Plays.{first_view, view_of_first, view_of_rest}
 use Rattle.station.specs.declared.view.View.{View}
 use Rattle.station.proofs.Steps.{St, seat_below, no_some}
 use Rattle.station.proofs.Turning.{no_key}
@@ -44,7 +44,7 @@ opens below setup words lies few inside all =
       owner = λ _. 0;
       lies = lies;
       size = all.size;
-      some_actors = few;
+      few_actors = few;
       tickets = o.ticket (omega (arith, all.size));
       views = λ k u at. let t = one_view v u k at in
           subst (λ (y : View). IsSound setup words [] (λ _. 0) k y) t.1 record {
@@ -110,7 +110,7 @@ forked setup s o j v l r owner f =
       owner = owner;
       lies = o.lies;
       size = o.size;
-      some_actors = o.some_actors;
+      few_actors = o.few_actors;
       tickets = o.tickets;
       views = λ k u at. ⊎_elim
           (λ (old : get_elem? vs k ≡ some u). ⊎_elim
@@ -186,7 +186,7 @@ forked setup s o j v l r owner f =
 
 -- the first of its actors is dealt to a new seat
 pub deals : (setup : Setup) (id : ℕ) (v : View) → v.low < v.high → v.inside ≡ None → v.unwritten ≡ None
-    → Splits (IsKept setup) id v (left_over v) (dealt v)
+    → Splits (IsKept setup) id v (view_of_rest v) (view_of_first v)
 deals setup id v more out clear s o me =
     let owner : ℕ → ℕ = λ actor. cond (actor == v.low) (length s.views) (o.owner actor) in
     let was = o.views id v me in
@@ -195,7 +195,7 @@ deals setup id v more out clear s o me =
     let later : (actor : ℕ) → actor ≢ v.low → owner actor ≡ o.owner actor =
     λ actor ne. ap (λ b. cond b (length s.views) (o.owner actor)) (ne_eqb actor v.low ne) in
     let calm = was.outside out in
-    forked setup s o id v (left_over v) (dealt v) owner record {
+    forked setup s o id v (view_of_rest v) (view_of_first v) owner record {
       me = me;
       left = λ actor st. ((omega arith, omega arith), later actor (λ e. omega arith));
       right = λ actor st. ((omega arith, omega arith), first actor (omega arith));

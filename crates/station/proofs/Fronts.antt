@@ -1,17 +1,12 @@
 -- Histories that begin with others, and what is filtered from them.
 use Rattle.std.proofs.Common.{◌≡◌, ◌≢◌, ℕ, zero, suc, ◌+◌, ◌<◌, ◌≤◌, eqb, eqb-true, ne_eqb, eq-eqb, Bool, true, false, cond, ◌==◌, List, [], ◌∷◌, ◌++◌, length, take, drop, refl, sym, ap, ◌∙◌, subst, arith, append_assoc, length-append}
-use Rattle.std.proofs.lemmas.List.{append-nil, take-append-drop, take_all}
-use Rattle.std.proofs.lemmas.List.Elements.{filter-append}
+use Rattle.std.proofs.lemmas.List.{append-nil, take_all}
 use Rattle.std.proofs.Math.Seq.{take-append_seam}
 use Rattle.entry_word.specs.declared.visit.Visit.{Visit}
 use Rattle.directory.specs.Histories.{IsFront, own}
+use Rattle.station.specs.TicketLaws.{front-rest, own-append, own-beyond}
 
 module _ {A : Type 0} where
-  -- a list that goes on with nothing
-  pub goes_on-nil : (xs ys : List A) → xs ++ ys ≡ xs → ys ≡ []
-  goes_on-nil [] ys e = e
-  goes_on-nil (x ∷ xs) ys e = goes_on-nil xs ys (ap (drop 1) e)
-
   -- of two fronts of one list the shorter is a front of the longer
   pub split_at : (xs ps ys qs : List A) → xs ++ ps ≡ ys ++ qs → length xs ≤ length ys
       → (mid : List A) × (ys ≡ xs ++ mid) × (ps ≡ mid ++ qs)
@@ -28,10 +23,6 @@ front-append xs ys = sym (take-append_seam xs ys)
 pub front-itself : (xs : List Visit) → IsFront xs xs
 front-itself xs = sym (take_all (length xs) xs (omega arith))
 
--- what a history has beyond a front
-pub front-rest : (xs zs : List Visit) → IsFront xs zs → zs ≡ xs ++ drop (length xs) zs
-front-rest xs zs f = sym (take-append-drop (length xs) zs) ∙ ap (λ l. l ++ drop (length xs) zs) (sym f)
-
 pub front-longer : (xs zs more : List Visit) → IsFront xs zs → IsFront xs (zs ++ more)
 front-longer xs zs more f =
     let rest = drop (length xs) zs in
@@ -45,15 +36,6 @@ front-of_longer xs ys zs f g short =
     let t = split_at xs (drop (length xs) zs) ys (drop (length ys) zs) (sym (front-rest xs zs f)
     ∙ front-rest ys zs g) short in
     subst (λ l. xs ≡ take (length xs) l) (sym t.1) (front-append xs t.0)
-
--- an actor's own visits: none is beyond a front that has all of them
-pub own-append : (actor : ℕ) (xs ys : List Visit) → own actor (xs ++ ys) ≡ own actor xs ++ own actor ys
-own-append actor xs ys = filter-append (λ (v : Visit). v.actor == actor) xs ys
-
-pub own-beyond : (actor : ℕ) (xs zs : List Visit) → IsFront xs zs → own actor zs ≡ own actor xs
-    → own actor (drop (length xs) zs) ≡ []
-own-beyond actor xs zs f same = goes_on-nil (own actor xs) (own actor (drop (length xs) zs))
-    (sym (own-append actor xs (drop (length xs) zs)) ∙ (ap (own actor) (sym (front-rest xs zs f)) ∙ same))
 
 -- a visit of another adds nothing, and a visit of one's own adds itself
 pub own-other : (actor : ℕ) (history : List Visit) (visit : Visit) → visit.actor ≢ actor

@@ -1,5 +1,5 @@
 -- A ticket is drawn: the history has one visit more.
-use Rattle.std.proofs.Common.{◌≡◌, ◌≢◌, ◌⊎◌, ℕ, zero, suc, ◌+◌, ◌*◌, ◌%◌, ◌^◌, ◌<◌, ◌≤◌, ◌==◌, eq-eqb, ne_eqb, Bool, true, false, true≢false, not, cond, [], ◌∷◌, ◌++◌, length, drop, refl, sym, ap, ◌∙◌, inl, inr, arith, Some, None}
+use Rattle.std.proofs.Common.{◌≡◌, ◌≢◌, ◌⊎◌, ℕ, zero, suc, ◌+◌, ◌*◌, ◌%◌, ◌^◌, ◌<◌, ◌≤◌, ◌==◌, eq-eqb, ne_eqb, Bool, true, false, not, cond, [], ◌∷◌, ◌++◌, length, drop, refl, sym, ap, ◌∙◌, inl, inr, arith, Some, None}
 use Rattle.std.specs.Prelude.{if◌then◌else◌}
 use Rattle.std.proofs.lemmas.List.Elements.{filter-append}
 use Rattle.std.proofs.lemmas.List.Sums.{fold-append}
@@ -19,6 +19,7 @@ use Rattle.directory.specs.Census.{census}
 use Rattle.station.specs.Views.{visits_at}
 use Rattle.station.specs.Plays.{key_put}
 use Rattle.station.proofs.Staying.{SameKey, word-elsewhere}
+use Rattle.station.specs.TicketLaws.{own-nil}
 
 pub cell-push : (setting : Setting) (key : Key) (history : History) (visit : Visit)
     → cell setting (history ++ visit ∷ []) key ≡ word_after key (cell setting history key) visit.act
@@ -135,15 +136,6 @@ total-first (suc count) visit later h = dite (ℕ_discrete visit.actor count)
     total-later : (k : ℕ) (visit : Visit) (later : History) → total_own k later ≤ total_own k (visit ∷ later)
     total-later zero visit later = omega arith
     total-later (suc k) visit later = omega (arith, total-later k visit later, own-first k visit later)
-
-pub own-nil : (actor : ℕ) (visit : Visit) (later : History) → own actor (visit ∷ later) ≡ []
-    → (visit.actor ≢ actor) × (own actor later ≡ [])
-own-nil actor visit later e = go (visit.actor == actor) refl e
-  where
-    go : (b : Bool) → (visit.actor == actor) ≡ b → cond b (visit ∷ own actor later) (own actor later) ≡ []
-        → (visit.actor ≢ actor) × (own actor later ≡ [])
-    go true is f = absurd (omega (arith, ap length f))
-    go false is f = ((λ same. true≢false (sym (eq-eqb visit.actor actor same) ∙ is)), f)
 
 pub length-total : (count : ℕ) (history : History) → ((actor : ℕ) → count ≤ actor → own actor history ≡ [])
     → length history ≤ total_own count history

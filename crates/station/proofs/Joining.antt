@@ -14,7 +14,7 @@ use Rattle.trail_laws.specs.Within.{HistoryFrontsAreLegal}
 use Rattle.station.specs.Setup.{Setup, setting_in}
 use Rattle.station.specs.Views.{IsSound, StandsFor}
 use Rattle.station.specs.Rule.{IsKept, IsViewOf}
-use Rattle.station.specs.Plays.{Seat, noted, longer, heard, spent, IsLearned, Learns}
+use Rattle.station.specs.Plays.{Seat, note_of, longer, view_with_note, spent_view, IsLearned, Learns}
 use Rattle.station.specs.Passes.{IsPass}
 use Rattle.station.specs.declared.view.View.{View}
 use Rattle.station.proofs.Fronts.{front-of_longer, own-between, own-none_longer}
@@ -22,12 +22,12 @@ use Rattle.station.proofs.Steps.{St, seat_below, no_some}
 use Rattle.station.proofs.Turning.{no_key}
 use Rattle.station.proofs.Forking.{forked}
 use Rattle.station.proofs.Reading.{unmoved}
-use Rattle.station.proofs.Ticketing.{tickets-same}
+use Rattle.station.specs.TicketLaws.{tickets-same}
 
-pub notes : (setup : Setup) (id : ℕ) (v : View) → Splits (IsKept setup) id v v (noted v)
+pub notes : (setup : Setup) (id : ℕ) (v : View) → Splits (IsKept setup) id v v (note_of v)
 notes setup id v s o me =
     let was = o.views id v me in
-    forked setup s o id v v (noted v) o.owner record {
+    forked setup s o id v v (note_of v) o.owner record {
       me = me;
       left = λ actor st. (st, refl);
       right = λ actor st. absurd (omega (arith, st.1));
@@ -72,7 +72,7 @@ pub record Takes (setup : Setup) (s : St) (o : IsKept setup s) (id other : ℕ) 
   pub sound : IsSound setup s.words o.history owner id b
 
 spent_sound : (setup : Setup) (words : List ℕ) (history : History) (owner : ℕ → ℕ) (seat : ℕ)
-    → IsSound setup words history owner seat spent
+    → IsSound setup words history owner seat spent_view
 spent_sound setup words history owner seat = record {
   setup_is = λ e. absurd (true≢false e);
   has = record {
@@ -90,15 +90,17 @@ spent_sound setup words history owner seat = record {
 
 pub taken : (setup : Setup) (s : St) (o : IsKept setup s) (id other : ℕ) (v w b : View) (owner : ℕ → ℕ)
     → Takes setup s o id other v w b owner
-    → IsKept setup (record { words = s.words; homes = s.homes; views = set (set s.views id b) other spent })
+    → IsKept setup (record { words = s.words; homes = s.homes; views = set (set s.views id b) other spent_view })
 taken setup s o id other v w b owner t =
     let near = seat_below s.views id v t.me in
     let far = seat_below s.views other w t.them in
     let vs : List View = set s.views id b in
     let away : ¬ (id ≡ other) = λ e. t.apart (sym e) in
-    let here : IsViewOf (set vs other spent) id b = set_else vs other id spent away ∙ set_here s.views id b near in
-    let there : (k : ℕ) (u : View) → k ≢ id → k ≢ other → IsViewOf s.views k u → IsViewOf (set vs other spent) k u =
-    λ k u ne no_other at. set_else vs other k spent no_other ∙ (set_else s.views id k b ne ∙ at) in
+    let here : IsViewOf (set vs other spent_view) id b = set_else vs other id spent_view away
+    ∙ set_here s.views id b near in
+    let there : (k : ℕ) (u : View) → k ≢ id → k ≢ other → IsViewOf s.views k u
+    → IsViewOf (set vs other spent_view) k u =
+    λ k u ne no_other at. set_else vs other k spent_view no_other ∙ (set_else s.views id k b ne ∙ at) in
     let mine : (k : ℕ) (u : View) → k ≡ id → IsViewOf s.views k u
     → u ≡ v = λ k u e at. some-injective u v (sym at ∙ (ap (get_elem? s.views) e ∙ t.me)) in
     let theirs : (k : ℕ) (u : View) → k ≡ other → IsViewOf s.views k u
@@ -112,10 +114,10 @@ taken setup s o id other v w b owner t =
       owner = owner;
       lies = o.lies;
       size = o.size;
-      some_actors = o.some_actors;
+      few_actors = o.few_actors;
       tickets = o.tickets;
       views = λ k u at. ⊎_elim
-          (λ (x : (k ≡ other) × (spent ≡ u)). subst (λ (y : View). IsSound setup s.words o.history owner k y) x.1
+          (λ (x : (k ≡ other) × (spent_view ≡ u)). subst (λ (y : View). IsSound setup s.words o.history owner k y) x.1
           (spent_sound setup s.words o.history owner k))
           (λ (x : (k ≢ other) × (get_elem? vs k ≡ some u)). ⊎_elim
           (λ (y : (k ≡ id) × (b ≡ u)). subst (λ (z : View). IsSound setup s.words o.history owner k z) y.1
@@ -133,18 +135,18 @@ taken setup s o id other v w b owner t =
             outside = was.outside;
           })
           (at_set s.views id k b u x.1))
-          (at_set vs other k spent u at);
+          (at_set vs other k spent_view u at);
       actors = λ actor below. let x = o.actors actor below in dite (ℕ_discrete (o.owner actor) id)
           (λ e. let st : StandsFor b actor = t.of_mine actor (subst (λ (y : View). StandsFor y actor) (mine
           (o.owner actor) x.0 e x.1) x.2) in
-          (b, subst (λ k. IsViewOf (set vs other spent) k b) (sym (t.owned actor st)) here, st))
+          (b, subst (λ k. IsViewOf (set vs other spent_view) k b) (sym (t.owned actor st)) here, st))
           (λ ne. dite (ℕ_discrete (o.owner actor) other)
           (λ e. let st : StandsFor b actor = t.of_theirs actor (subst (λ (y : View). StandsFor y actor) (theirs
           (o.owner actor) x.0 e x.1) x.2) in
-          (b, subst (λ k. IsViewOf (set vs other spent) k b) (sym (t.owned actor st)) here, st))
+          (b, subst (λ k. IsViewOf (set vs other spent_view) k b) (sym (t.owned actor st)) here, st))
           (λ no_other. (
             x.0,
-            subst (λ k. IsViewOf (set vs other spent) k x.0) (sym (t.others actor (λ sv. ne
+            subst (λ k. IsViewOf (set vs other spent_view) k x.0) (sym (t.others actor (λ sv. ne
                 (v_stands actor sv)) (λ sw. no_other (w_stands actor sw))))
                 (there (o.owner actor) x.0 ne no_other x.1),
             x.2,
@@ -158,7 +160,7 @@ taken setup s o id other v w b owner t =
           let high = ((o.views id v t.me).inside node in_node).alone in
           let st : StandsFor b actor = t.of_mine actor (omega (arith, low), omega (arith, high, low)) in (
             b,
-            subst (λ k. IsViewOf (set vs other spent) k b) (sym (t.owned actor st)) here,
+            subst (λ k. IsViewOf (set vs other spent_view) k b) (sym (t.owned actor st)) here,
             t.inside
                 ∙ in_node,
             t.kept node in_node ∙ low,
@@ -168,7 +170,7 @@ taken setup s o id other v w b owner t =
           (o.owner actor) x.0 e x.1)) ∙ x.2))))
           (λ no_other. (
             x.0,
-            subst (λ k. IsViewOf (set vs other spent) k x.0) (sym (t.others actor (λ sv. ne
+            subst (λ k. IsViewOf (set vs other spent_view) k x.0) (sym (t.others actor (λ sv. ne
                 (v_stands actor sv)) (λ sw. no_other (w_stands actor sw))))
                 (there (o.owner actor) x.0 ne no_other x.1),
             x.2,
@@ -219,12 +221,12 @@ longer_long one other = dite (dec_le (length other) (length one))
 
 -- a note is heard
 pub hears : (setup : Setup) (id other : ℕ) (v w : View) → w.low ≡ 0 → w.high ≡ 0 → w.inside ≡ None
-    → Joins (IsKept setup) id v other w (heard v w) spent
+    → Joins (IsKept setup) id v other w (view_with_note v w) spent_view
 hears setup id other v w low high out s o me ne at =
-    let them : IsViewOf s.views other w = sym (set_else s.views id other (heard v w) ne) ∙ at in
+    let them : IsViewOf s.views other w = sym (set_else s.views id other (view_with_note v w) ne) ∙ at in
     let was = o.views id v me in
     let note = o.views other w them in
-    let b = heard v w in
+    let b = view_with_note v w in
     taken setup s o id other v w b o.owner record {
       me = me;
       them = them;
@@ -284,7 +286,7 @@ learns law n id i m low short had s o wide me small =
 -- a pass that has heard a note
 pub pass_heard : (me new : Me Act View) (w : View) (actor seen seen' spare : ℕ) (kept : List ℕ) (room : ℕ)
     → IsPass me actor seen spare kept room
-    → new ≡ (heard me.0 w, me.1) → IsLearned new.0 → seen' ≡ length (longer me.0.seen w.seen)
+    → new ≡ (view_with_note me.0 w, me.1) → IsLearned new.0 → seen' ≡ length (longer me.0.seen w.seen)
     → IsPass new actor seen' spare kept room
 pass_heard me new w actor seen seen' spare kept room p e l count =
     let low : new.0.low ≡ actor = ap (λ (m : Me Act View). m.0.low) e ∙ p.low in

@@ -16,8 +16,8 @@ use Rattle.directory.specs.Legal.{ArePuts, IsLegal}
 use Rattle.station.specs.Setup.{setting_in}
 use Rattle.station.specs.Plays.{MayDo, visit_by}
 use Rattle.station.specs.declared.view.View.{View}
-use Rattle.station.proofs.Fronts.{front-rest, own-beyond}
-use Rattle.station.proofs.Growing.{puts-append, own-nil}
+use Rattle.station.specs.TicketLaws.{front-rest, own-beyond, own-nil}
+use Rattle.station.proofs.Growing.{puts-append}
 
 -- all visits of a subscriber's steps are its own
 own-visits : (sub k : ℕ) (ws : List Write) → own sub (take k (map (visit_of sub) ws)) ≡ take k (map (visit_of sub) ws)

@@ -13,7 +13,7 @@ use Rattle.directory.specs.Settings.{Setting, subs, start}
 use Rattle.directory.specs.Histories.{cell}
 use Rattle.directory.specs.Census.{census}
 use Rattle.region_plan.specs.Plan.{PlanData, Level, levels_of, clusters_of, no_level}
-use Rattle.visit_log.specs.Numbers.{cell_number, clusters_below, all_clusters}
+use Rattle.visit_log.specs.Numbers.{cell_number, clusters_below, cluster_count}
 use Rattle.station.specs.Setup.{Setup, setting_in, nodes_in, subs_in, IsCellOf, lock_word, tally_word, cell_word}
 use Rattle.station.specs.Opening.{AreLaid}
 use Rattle.station.proofs.Apart.{NumbersApart, behind, behind_tally, same_number}
@@ -137,5 +137,5 @@ pub clusters-more : (plan : PlanData) (level : ℕ) → level < levels_of plan
 clusters-more plan level known = sum_by_more (λ (l : Level). length l.clusters) plan.levels level no_level known
 
 pub clusters-all : (plan : PlanData) (level : ℕ) → levels_of plan ≤ level
-    → clusters_below plan level ≡ all_clusters plan
+    → clusters_below plan level ≡ cluster_count plan
 clusters-all plan level known = ap (sum_by (λ (l : Level). length l.clusters)) (take_all level plan.levels known)

@@ -19,7 +19,7 @@ use Rattle.directory.specs.Statements.{ScriptsAreLegal}
 use Rattle.directory.specs.Writes.{Write, mark_at, entry_at, visit_of, visits, write_key, write_word, new_address}
 use Rattle.region_plan.specs.Plan.{PlanData, nodes_of, levels_of}
 use Rattle.region_plan.specs.Settings.{setting_of}
-use Rattle.visit_log.specs.Numbers.{IsPlace}
+use Rattle.region_plan.specs.Cells.{IsPlace}
 use Rattle.visit_log.specs.Cells.{AreHomes}
 use Rattle.handset.specs.Kept.{GoesWith, HandsetData, IsWithin}
 use Rattle.handset.specs.Progress.{after_write, due, due_at, erasing_from, erasure, go_on, purging_from, switch_mark}
@@ -27,10 +27,9 @@ use Rattle.handset.specs.Stands.{StandsFor}
 use Rattle.handset.specs.declared.stage.Stage.{Stage}
 use Rattle.handset.specs.declared.stage.Stage.TheVariants.{Resting, Coming, Renewing, Committing, Confirming, Erasing, Purging, Switching}
 use Rattle.station.specs.Setup.{Setup, setting_in, subs_in, IsCellOf}
-use Rattle.station.specs.Handsets.{IsHandsetOf, Moves, moves_here, put_of}
-use Rattle.station.specs.Plays.{entered}
-use Rattle.station.specs.Visits.{HasVisited, MayDraw}
-use Rattle.station.specs.Passes.{PassData}
+use Rattle.station.specs.Handsets.{GoesOn, IsHandsetOf, Moves, moves_here, put_of}
+use Rattle.station.specs.Plays.{view_inside}
+use Rattle.station.specs.Visits.{MayDraw}
 use Rattle.station.specs.declared.view.View.{View}
 use Rattle.station.proofs.Growing.{cell-push, puts-append}
 
@@ -148,7 +147,8 @@ pub handset_after : (setup : Setup) (view after : View) (handset new : HandsetDa
     → key_sub key ≡ view.low → after.low ≡ view.low
     → after.seen ≡ earlier ++ record { actor = view.low; act = Put key word } ∷ []
     → puts_to view.low earlier ≡ puts_to view.low view.seen → GoesWith setup.plan new → new.sub ≡ handset.sub
-    → StandsFor (setting_in setup) new h.steps (suc (length (puts_to view.low view.seen))) → IsHandsetOf setup after new
+    → StandsFor (setting_in setup) new h.steps (suc (length (puts_to view.low view.seen)))
+    → GoesOn setup view after new h.steps (put_of view.low key word)
 handset_after setup view after handset new key word earlier h next mine low seen puts goes sub stands =
     let setting = setting_in setup in
     let visit : Visit = record { actor = view.low; act = Put key word } in
@@ -164,12 +164,16 @@ handset_after setup view after handset new key word earlier h next mine low seen
     let whole : puts_to after.low after.seen ≡ take (suc made) vs = now ∙ (ap (λ l. l ++ visit ∷ []) h.made
     ∙ one-more vs made visit next') in
     record {
-      goes = goes;
-      sub = sub ∙ (h.sub ∙ sym low);
-      steps = h.steps;
-      script = subst (λ (s : ℕ). IsScript setting s h.steps) (sym low) h.script;
-      stands = subst (λ (k : ℕ). StandsFor setting new h.steps k) (sym count) stands;
-      made = whole ∙ (λ i. take (back count i) (visits setting (back low i) h.steps));
+      own = record {
+        goes = goes;
+        sub = sub ∙ (h.sub ∙ sym low);
+        steps = h.steps;
+        script = subst (λ (s : ℕ). IsScript setting s h.steps) (sym low) h.script;
+        stands = subst (λ (k : ℕ). StandsFor setting new h.steps k) (sym count) stands;
+        made = whole ∙ (λ i. take (back count i) (visits setting (back low i) h.steps));
+      };
+      steps_are = refl;
+      puts = now;
     }
   where
     back : {a b : ℕ} → a ≡ b → b ≡ a
@@ -357,7 +361,7 @@ pub may_put : (view : View) (node : ℕ) (key : Key) (word : ℕ) → view.has_d
     → node ≡ key_node (setting_in view.setup) key → length (own view.low view.seen) < 2 ^ 56
     → IsCellOf view.setup key → key_sub key ≡ view.low
     → IsLegal (setting_in view.setup) view.low (view.seen ++ put_of view.low key word ∷ [])
-    → MayDraw (entered view node (Put key word)) node (Put key word)
+    → MayDraw (view_inside view node (Put key word)) node (Put key word)
 may_put view node key word undrawn unwritten clear at few cell mine legal = record {
   inside = refl;
   intended = refl;
@@ -393,8 +397,8 @@ write-sub setting handset (Erasing level) = go_on-sub setting handset (erasing_f
 write-sub setting handset (Purging node) = go_on-sub setting handset (purging_from setting handset (suc node))
 write-sub setting handset (Switching off) = refl
 
-pub visited_due : (o : Option Visit) (sub : ℕ) (key : Key) (word ticket : ℕ) (old new : PassData)
-    → o ≡ Some (put_of sub key word)
-    → HasVisited old (Put key word) ticket new → IfSome o (λ visit. HasVisited old visit.act ticket new)
-visited_due o sub key word ticket old new e h = subst (λ (p : Option Visit). IfSome p
-    (λ visit. HasVisited old visit.act ticket new)) (sym e) h
+-- what holds of a put of the subscriber holds of the one that is due
+pub put_due : (o : Option Visit) (sub low : ℕ) (key : Key) (word : ℕ) (P : Visit → Type 0)
+    → o ≡ Some (put_of sub key word) → sub ≡ low → P (put_of low key word) → IfSome o P
+put_due o sub low key word P e same h = subst (λ (p : Option Visit). IfSome p P)
+    (sym (e ∙ ap (λ (a : ℕ). Some (put_of a key word)) same)) h

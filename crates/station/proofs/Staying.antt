@@ -14,7 +14,7 @@ use Rattle.directory.specs.Keys.{act_node, key_node, same_key, opening}
 use Rattle.directory.specs.Histories.{History, IsFront, cell, word_after}
 use Rattle.directory.specs.Census.{census}
 use Rattle.station.specs.Views.{visits_at}
-use Rattle.station.proofs.Fronts.{front-rest}
+use Rattle.station.specs.TicketLaws.{front-rest}
 
 -- the test of keys means that they are the same
 abbrev pub SameKey : Type 0

@@ -10,10 +10,10 @@ use Rattle.atomic_table.proofs.Lists.{at_set, set_here, set_else}
 use Rattle.entry_word.specs.declared.visit.Key.{Key}
 use Rattle.entry_word.specs.declared.visit.Act.{Act}
 use Rattle.directory.specs.Keys.{key_node}
-use Rattle.directory.specs.Histories.{cell}
+use Rattle.directory.specs.Histories.{History, IsFront, cell, own}
 use Rattle.directory.specs.Census.{census}
 use Rattle.station.specs.Setup.{Setup, setting_in, nodes_in, IsCellOf, lock_word, tally_word, cell_word}
-use Rattle.station.specs.Views.{IsSound}
+use Rattle.station.specs.Views.{HasSeen, IsSound, StandsFor}
 use Rattle.station.specs.Rule.{IsKept, IsViewOf, IsOwned, IsHeld}
 use Rattle.station.specs.declared.view.View.{View}
 use Rattle.station.proofs.Apart.{IsWordAt, is_lock, is_tally, is_cell, resound}
@@ -44,6 +44,20 @@ pub seat_below : (views : List View) (j : ℕ) (v : View) → IsViewOf views j v
 seat_below [] j v e = absurd (mathlib.Core.Option.some-ne-none v (sym e))
 seat_below (x ∷ xs) zero v e = omega arith
 seat_below (x ∷ xs) (suc j) v e = omega (arith, seat_below xs j v e)
+
+-- a view that has seen the same, and stands for the same actors
+pub has-kept : (history : History) (v w : View) → w.seen ≡ v.seen → w.told ≡ v.told → w.had ≡ v.had → w.low ≡ v.low
+    → w.high ≡ v.high → HasSeen history v → HasSeen history w
+has-kept history v w seen told had low high has =
+    let stands : (actor : ℕ) → StandsFor w actor → StandsFor v actor =
+    λ actor its. (omega (arith, its.0, low), omega (arith, its.1, high)) in
+    record {
+      seen = subst (λ l. IsFront l history) (sym seen) has.seen;
+      told = subst (λ l. IsFront l history) (sym told) has.told;
+      had = subst (λ l. IsFront l history) (sym had) has.had;
+      visits = λ actor its. has.visits actor (stands actor its) ∙ ap (own actor) (sym seen);
+      kept = λ actor its. has.kept actor (stands actor its) ∙ ap (own actor) (sym had);
+    }
 
 -- a seat's view and a word of the node that it is inside are replaced
 pub record Changes (setup : Setup) (s : St) (o : IsKept setup s) (j x : ℕ) (v w : View) (new : List ℕ) : Type 0 where
@@ -82,7 +96,7 @@ changed setup s o j x v w new c =
       owner = o.owner;
       lies = o.lies;
       size = c.size ∙ o.size;
-      some_actors = o.some_actors;
+      few_actors = o.few_actors;
       tickets = c.first ∙ o.tickets;
       views = λ k u at. ⊎_elim
           (λ (t : (k ≡ j) × (w ≡ u)). subst (λ (y : View). IsSound setup new o.history o.owner k y) t.1

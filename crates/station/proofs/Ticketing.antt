@@ -1,8 +1,7 @@
 -- The tickets that a pass keeps.
 use Rattle.std.specs.Prelude.{◌||◌, slice_get, unwrap_or}
 use Rattle.node_set.specs.Ascending.{has}
-use Rattle.std.proofs.Common.{get_or, add-one, Some, ne_eqb, ◌≡◌, ◌≢◌, ℕ, zero, suc, ◌+◌, ◌^◌, ◌<◌, ◌≤◌, ◌==◌, eq-eqb, Bool, true, false, cond, List, [], ◌∷◌, ◌++◌, length, take, drop, refl, sym, ap, ◌∙◌, subst, arith, Option, None, length-append}
-use Rattle.std.proofs.lemmas.List.{append-nil}
+use Rattle.std.proofs.Common.{get_or, add-one, Some, ne_eqb, ◌≡◌, ℕ, zero, suc, ◌+◌, ◌^◌, ◌<◌, ◌≤◌, ◌==◌, eq-eqb, Bool, true, false, cond, List, [], ◌∷◌, ◌++◌, length, take, refl, sym, ap, ◌∙◌, subst, arith, Option, None, length-append}
 use Rattle.std.proofs.Math.Seq.{take-append_seam}
 use Rattle.atomic_table.specs.Table.{Me}
 use Rattle.entry_word.specs.declared.visit.Act.{Act}
@@ -10,34 +9,11 @@ use Rattle.entry_word.specs.declared.visit.Visit.{Visit}
 use Rattle.directory.specs.Histories.{History, IsFront, before, own, tickets, tickets_from}
 use Rattle.directory.specs.Legal.{IsLegal}
 use Rattle.station.specs.Setup.{Setup, setting_in, subs_in}
-use Rattle.station.specs.Plays.{Draws, drawn, entered, gone, visit_by}
+use Rattle.station.specs.Plays.{Draws, view_with_ticket, view_inside, view_outside, visit_by}
 use Rattle.station.specs.Passes.{IsPass, PassData}
 use Rattle.station.specs.Visits.{HasLeft, HasVisited}
 use Rattle.station.specs.declared.view.View.{View}
-use Rattle.station.proofs.Fronts.{front-rest, own-beyond}
-use Rattle.station.proofs.Growing.{own-nil}
-
-from-append : (actor t : ℕ) (xs ys : History)
-    → tickets_from actor t (xs ++ ys) ≡ tickets_from actor t xs ++ tickets_from actor (t + length xs) ys
-unfolding tickets_from
-from-append actor t [] ys = ap (λ (k : ℕ). tickets_from actor k ys) (omega arith)
-from-append actor t (x ∷ xs) ys = go (x.actor == actor) (from-append actor (suc t) xs ys
-    ∙ ap (λ (k : ℕ). tickets_from actor (suc t) xs ++ tickets_from actor k ys) (omega arith))
-  where
-    go : (b : Bool) → tickets_from actor (suc t) (xs ++ ys) ≡ tickets_from actor (suc t) xs ++ tickets_from actor
-        (t + suc (length xs)) ys
-        → cond b (t ∷ tickets_from actor (suc t) (xs ++ ys)) (tickets_from actor (suc t) (xs ++ ys))
-        ≡ cond b (t ∷ tickets_from actor (suc t) xs) (tickets_from actor (suc t) xs) ++ tickets_from actor
-        (t + suc (length xs)) ys
-    go true h = ap (λ l. t ∷ l) h
-    go false h = h
-
-from-none : (actor t : ℕ) (xs : History) → own actor xs ≡ [] → tickets_from actor t xs ≡ []
-unfolding tickets_from
-from-none actor t [] e = refl
-from-none actor t (x ∷ xs) e = let n = own-nil actor x xs e in
-    ap (λ b. cond b (t ∷ tickets_from actor (suc t) xs) (tickets_from actor (suc t) xs))
-    (Rattle.std.proofs.Common.ne_eqb x.actor actor n.0) ∙ from-none actor (suc t) xs n.1
+use Rattle.station.specs.TicketLaws.{tickets-mine, tickets-same}
 
 from-count : (actor t : ℕ) (xs : History) → length (tickets_from actor t xs) ≡ length (own actor xs)
 unfolding tickets_from
@@ -52,24 +28,6 @@ from-count actor t (x ∷ xs) = go (x.actor == actor) (from-count actor (suc t) 
 
 pub tickets-count : (actor : ℕ) (history : History) → length (tickets actor history) ≡ length (own actor history)
 tickets-count actor history = from-count actor 0 history
-
--- a front that has all visits of an actor has all its tickets
-pub tickets-same : (actor : ℕ) (xs zs : History) → IsFront xs zs → own actor zs ≡ own actor xs
-    → tickets actor zs ≡ tickets actor xs
-tickets-same actor xs zs front same =
-    let rest = drop (length xs) zs in
-    ap (tickets actor) (front-rest xs zs front) ∙ (from-append actor 0 xs rest
-    ∙ (ap (λ l. tickets actor xs ++ l) (from-none actor (0 + length xs) rest (own-beyond actor xs zs front same))
-    ∙ append-nil (tickets actor xs)))
-
-from-one : (actor t : ℕ) (visit : Visit) → visit.actor ≡ actor → tickets_from actor t (visit ∷ []) ≡ t ∷ []
-unfolding tickets_from
-from-one actor t visit mine = ap (λ b. cond b (t ∷ []) []) (eq-eqb visit.actor actor mine)
-
-pub tickets-mine : (actor : ℕ) (zs : History) (visit : Visit) → visit.actor ≡ actor
-    → tickets actor (zs ++ visit ∷ []) ≡ tickets actor zs ++ length zs ∷ []
-tickets-mine actor zs visit mine = from-append actor 0 zs (visit ∷ [])
-    ∙ ap (λ l. tickets actor zs ++ l) (from-one actor (0 + length zs) visit mine ∙ ap (λ (k : ℕ). k ∷ []) (omega arith))
 
 -- a pass has room for one visit more
 pub own_few : (me : Me Act View) (actor seen spare : ℕ) (kept : List ℕ) (room : ℕ)
@@ -116,7 +74,8 @@ pass_after me new actor seen spare left ticket kept room earlier act p less coun
       few = omega (arith, p.few, one, less);
     }
 
-pub left_by : (there new : View) → new ≡ gone there → there.unwritten ≡ None → there.owes ≡ false → HasLeft there new
+pub left_by : (there new : View) → new ≡ view_outside there → there.unwritten ≡ None → there.owes ≡ false
+    → HasLeft there new
 left_by there new e unwritten clear = subst (λ (v : View). HasLeft there v) (sym e) record {
   low = refl;
   high = refl;
@@ -133,13 +92,13 @@ left_by there new e unwritten clear = subst (λ (v : View). HasLeft there v) (sy
 -- from the pass before to the pass after a whole visit
 pub pass_done : (me one two new : Me Act View) (actor seen spare left node ticket : ℕ) (kept : List ℕ) (room : ℕ)
     (act : Act)
-    → IsPass me actor seen spare kept room → left + 1 ≡ spare → one ≡ (entered me.0 node act, me.1)
+    → IsPass me actor seen spare kept room → left + 1 ≡ spare → one ≡ (view_inside me.0 node act, me.1)
     → Draws one.0 node act ticket two.0 → HasLeft two.0 new.0 → new.1 ≡ me.1
     → IsPass new actor (suc ticket) left (kept ++ ticket ∷ []) room
 pass_done me one two new actor seen spare left node ticket kept room act p less turn d gone_by slots =
     let v = me.0 in
-    let there : two.0 ≡ drawn (entered v node act) node act d.earlier = d.view
-    ∙ ap (λ (m : Me Act View). drawn m.0 node act d.earlier) turn in
+    let there : two.0 ≡ view_with_ticket (view_inside v node act) node act d.earlier = d.view
+    ∙ ap (λ (m : Me Act View). view_with_ticket m.0 node act d.earlier) turn in
     pass_after me new actor seen spare left ticket kept room d.earlier act p less d.count
     (subst (λ (l : History). IsFront l d.earlier) (ap (λ (m : Me Act View). m.0.seen) turn) d.seen)
     (subst (λ (m : Me Act View). own m.0.low d.earlier ≡ own m.0.low m.0.seen) turn d.visits)
@@ -151,12 +110,12 @@ pass_done me one two new actor seen spare left node ticket kept room act p less 
     (gone_by.seen ∙ ap (λ (x : View). x.seen) there)
 
 pub visit_done : (old new : PassData) (one two : Me Act View) (node ticket : ℕ) (act : Act)
-    → one.0 ≡ entered old.view node act → Draws one.0 node act ticket two.0 → HasLeft two.0 new.view
+    → one.0 ≡ view_inside old.view node act → Draws one.0 node act ticket two.0 → HasLeft two.0 new.view
     → new.table ≡ old.table → new.seat ≡ old.seat → new.spare + 1 ≡ old.spare → HasVisited old act ticket new
 visit_done old new one two node ticket act turn d gone_by table seat less =
     let v = old.view in
-    let there : two.0 ≡ drawn (entered v node act) node act d.earlier = d.view
-    ∙ ap (λ (m : View). drawn m node act d.earlier) turn in
+    let there : two.0 ≡ view_with_ticket (view_inside v node act) node act d.earlier = d.view
+    ∙ ap (λ (m : View). view_with_ticket m node act d.earlier) turn in
     let setup : one.0.setup ≡ v.setup = ap (λ (x : View). x.setup) turn in
     record {
       earlier = d.earlier;
@@ -193,7 +152,7 @@ before_own old new act ticket h =
     ap (λ (k : ℕ). take k new.view.seen) (sym h.count)
     ∙ (ap (take (length h.earlier)) h.seen ∙ take-append_seam h.earlier (visit_by old.view act ∷ []))
 
-pub seen_done : (v one two new : View) (node ticket : ℕ) (act : Act) → one ≡ entered v node act
+pub seen_done : (v one two new : View) (node ticket : ℕ) (act : Act) → one ≡ view_inside v node act
     → (d : Draws one node act ticket two)
     → HasLeft two new → new.seen ≡ d.earlier ++ visit_by v act ∷ []
 seen_done v one two new node ticket act turn d left = left.seen ∙ (ap (λ (x : View). x.seen) d.view

@@ -15,10 +15,10 @@ use Rattle.directory.specs.Keys.{key_node}
 use Rattle.station.specs.Setup.{Setup, setting_in, nodes_in, lock_word, tally_word, cell_word}
 use Rattle.station.specs.Views.{IsSound, IsInside}
 use Rattle.station.specs.Rule.{IsKept, IsViewOf, IsHeld, IsWritten, IsTallied}
-use Rattle.station.specs.Plays.{Seat, entered, beaten, Turns, gone, Leaves}
+use Rattle.station.specs.Plays.{Seat, view_inside, view_held, Turns, view_outside, Leaves}
 use Rattle.station.specs.declared.view.View.{View}
 use Rattle.station.proofs.Apart.{NumbersApart, is_lock, else_where, one_inside, behind}
-use Rattle.station.proofs.Steps.{St, with, owned, seat_below, changed, no_some}
+use Rattle.station.proofs.Steps.{St, with, owned, seat_below, changed, has-kept, no_some}
 
 -- a view is in no node and has no duty
 pub record IsIdle (view : View) : Type 0 where
@@ -53,7 +53,7 @@ restated setup s o j v w me low high inside unwritten owes mine =
       owner = o.owner;
       lies = o.lies;
       size = o.size;
-      some_actors = o.some_actors;
+      few_actors = o.few_actors;
       tickets = o.tickets;
       views = λ k u at. ⊎_elim
           (λ (t : (k ≡ j) × (w ≡ u)). subst (λ (y : View). IsSound setup s.words o.history o.owner k y) t.1
@@ -97,10 +97,10 @@ no_key key e = cc
 entering : NumbersApart → (setup : Setup) (s : St) (o : IsKept setup s) (j x : ℕ) (v : View) (act : Act)
     → IsViewOf s.views j v
     → x < nodes_in setup → v.high ≡ suc v.low → IsIdle v → slice_index s.words (lock_word x) ≡ 0
-    → IsKept setup (with (set s.words (lock_word x) (suc v.low)) s j (entered v x act))
+    → IsKept setup (with (set s.words (lock_word x) (suc v.low)) s j (view_inside v x act))
 entering law setup s o j x v act me known alone idle free =
     let new = set s.words (lock_word x) (suc v.low) in
-    let w = entered v x act in
+    let w = view_inside v x act in
     let was = o.views j v me in
     let near = seat_below s.views j v me in
     let wide : lock_word x < length s.words = omega (arith, o.size) in
@@ -119,14 +119,7 @@ entering law setup s o j x v act me known alone idle free =
           (is_lock refl) word;
       mine = record {
         setup_is = was.setup_is;
-        has = record {
-          seen = was.has.seen;
-          told = was.has.told;
-          visits = was.has.visits;
-          had = was.has.had;
-          kept =
-              was.has.kept;
-        };
+        has = has-kept o.history v w refl refl refl refl refl was.has;
         owner_is = was.owner_is;
         inside = λ node is. let e : x ≡ node = same_some x node is in
             subst (λ (n : ℕ). IsInside setup new o.history w n) e record {
@@ -164,23 +157,23 @@ turns law setup n id x m act known alone idle s o wide me small =
     × Turns (step n (lock_word x) 0 (suc m.0.low) (some act)) m word (w, carried_after m.1 a) in
     exchanged word 0 (suc m.0.low) Goes
     (λ free. (
-      entered m.0 x act,
+      view_inside m.0 x act,
       keeps,
       tt,
       entering law setup s o id x m.0 act me known alone idle free,
       λ node other at said.
           let a : x ≡ node = omega arith in let b : act ≡ other = some-injective act other said in
-          ((λ _. λ i. (entered m.0 (a i) (b i), m.1)), (λ not. absurd (not free))),
+          ((λ _. λ i. (view_inside m.0 (a i) (b i), m.1)), (λ not. absurd (not free))),
     ))
     (λ taken. let was = o.views id m.0 me in
-    let w = beaten m.0 x word in
+    let w = view_held m.0 x word in
     let b : ℕ = word - 1 in
     let held : IsHeld s.views o.owner x b = o.locks x b known (omega arith) in
     let theirs = o.views (o.owner b) held.0 held.1 in
     let there = theirs.inside x held.2 in
     let low = held.3 in let high = there.alone in
     let below : b < setup.actors = (theirs.owner_is b (omega arith, omega arith)).1 in
-    let few : word ≤ 128 = omega (arith, below, o.some_actors) in
+    let few : word ≤ 128 = omega (arith, below, o.few_actors) in
     let other : word ≢ suc m.0.low = λ e.
     let mine : o.owner b ≡ id = ap o.owner (omega arith) ∙ (was.owner_is m.0.low (omega arith, omega arith)).0 in
     let same : held.0 ≡ m.0 = some-injective held.0 m.0 (sym held.1 ∙ (ap (get_elem? s.views) mine ∙ me)) in
@@ -191,20 +184,14 @@ turns law setup n id x m act known alone idle s o wide me small =
       subst (λ (ws : List ℕ). IsKept setup (with ws s id w)) (sym (set-get_or s.words (lock_word x) 0))
           (restated setup s o id m.0 w me refl refl refl refl refl record {
             setup_is = was.setup_is;
-            has = record {
-              seen = was.has.seen;
-              told = was.has.told;
-              visits = was.has.visits;
-              had = was.has.had;
-              kept = was.has.kept;
-            };
+            has = has-kept o.history m.0 w refl refl refl refl refl was.has;
             owner_is = was.owner_is;
             inside = λ node is. absurd (no_some node (sym idle.out ∙ is));
             unwritten = λ key is. absurd (no_key key (sym idle.unwritten ∙ is));
             outside = was.outside;
           }),
       λ node said-act at said. let a : x ≡ node = omega arith in
-          ((λ is. absurd (taken is)), λ _. ((λ i. (beaten m.0 (a i) word, m.1)), other, few)),
+          ((λ is. absurd (taken is)), λ _. ((λ i. (view_held m.0 (a i) word, m.1)), other, few)),
     ))
 
 -- the node is left
@@ -215,7 +202,7 @@ pub leaves : NumbersApart → (setup : Setup) (n id x : ℕ) (m : Seat) → m.0.
 leaves law setup n id x m there unwritten owes s o wide me small =
     let v = m.0 in
     let new = set s.words (lock_word x) 0 in
-    let w = gone v in
+    let w = view_outside v in
     let was = o.views id v me in
     let here = was.inside x there in
     let known = here.known in
@@ -237,14 +224,7 @@ leaves law setup n id x m there unwritten owes s o wide me small =
             (is_lock refl) word;
         mine = record {
           setup_is = was.setup_is;
-          has = record {
-            seen = was.has.seen;
-            told = was.has.told;
-            visits = was.has.visits;
-            had = was.has.had;
-            kept
-                = was.has.kept;
-          };
+          has = has-kept o.history v w refl refl refl refl refl was.has;
           owner_is = was.owner_is;
           inside = λ node is. absurd (no_some node is);
           unwritten = λ key is. absurd (no_key key (sym unwritten ∙ is));

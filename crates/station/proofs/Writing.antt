@@ -1,5 +1,5 @@
 -- Stores: a put is written, and a tally.
-use Rattle.std.proofs.Common.{◌≡◌, ◌≢◌, ℕ, suc, ◌+◌, ◌*◌, ◌<◌, true≢false, length, set, refl, sym, ap, ◌∙◌, subst, inr, arith, Option, Some, get_or-set_other, get_or-set_same, length-set}
+use Rattle.std.proofs.Common.{◌≡◌, ◌≢◌, ℕ, suc, ◌+◌, ◌*◌, ◌<◌, Bool, true, false, true≢false, List, length, set, refl, sym, ap, ◌∙◌, subst, inr, arith, Option, Some, None, get_or-set_other, get_or-set_same, length-set}
 use Rattle.std.specs.Prelude.{slice_index}
 use mathlib.Core.Option.{none, some-injective}
 use mathlib.Core.Logic.{dite}
@@ -9,19 +9,20 @@ use Rattle.atomic_table.specs.Table.{step, keeps, Allows}
 use Rattle.atomic_table.proofs.Lists.{set_here}
 use Rattle.entry_word.specs.declared.visit.Key.{Key}
 use Rattle.directory.specs.Keys.{key_node}
-use Rattle.directory.specs.Histories.{cell}
+use Rattle.directory.specs.Histories.{History, cell}
 use Rattle.directory.specs.Census.{census}
-use Rattle.visit_log.specs.Numbers.{IsCell, cell_number, cell_count}
+use Rattle.region_plan.specs.Cells.{IsCell}
+use Rattle.visit_log.specs.Numbers.{cell_number, cell_count}
 use Rattle.region_plan.specs.Plan.{PlanData}
 use Rattle.station.specs.Setup.{Setup, setting_in, nodes_in, subs_in, IsCellOf, lock_word, tally_word, cell_word, word_count}
-use Rattle.station.specs.Views.{IsInside}
+use Rattle.station.specs.Views.{HasUnwritten, IsInside, IsSound}
 use Rattle.station.specs.Rule.{IsKept, IsViewOf, IsHeld}
-use Rattle.station.specs.Plays.{Seat, written, tallied, Writes, Tallies}
+use Rattle.station.specs.Plays.{Seat, view_after_put, view_after_tally, Writes, Tallies}
 use Rattle.station.specs.Visits.{HasTurn}
 use Rattle.station.specs.declared.view.View.{View}
 use Rattle.station.proofs.Apart.{NumbersApart, is_tally, is_cell, else_where, behind, behind_tally, same_number}
 use Rattle.station.proofs.Staying.{SameKey}
-use Rattle.station.proofs.Steps.{St, seat_below, changed}
+use Rattle.station.proofs.Steps.{St, seat_below, changed, has-kept, no_some}
 use Rattle.station.proofs.Turning.{written_here, tallied_here, no_key, same_some}
 use Rattle.station.proofs.Reading.{cell_seen, census_seen, alone}
 
@@ -53,6 +54,32 @@ still_held s o j x actor v w me inside low t = dite (ℕ_discrete (o actor) j)
     ))
     (λ ne. (t.0, Rattle.atomic_table.proofs.Lists.set_else s.views j (o actor) w ne ∙ t.1, t.2, t.3))
 
+-- the view that stores a word of the node that it is inside, but not the lock
+sound-stored : (setup : Setup) (words ws : List ℕ) (history : History) (owner : ℕ → ℕ) (j x : ℕ) (v : View)
+    (unwritten : Option Key) (owes : Bool) → (was : IsSound setup words history owner j v) → v.inside ≡ Some x
+    → slice_index ws (lock_word x) ≡ slice_index words (lock_word x)
+    → (owes ≡ true → slice_index ws (tally_word setup x) ≡ v.tally)
+    → ((key : Key) → unwritten ≡ Some key
+    → HasUnwritten setup ws (record v { unwritten = unwritten; owes = owes }) key)
+    → IsSound setup ws history owner j (record v { unwritten = unwritten; owes = owes })
+sound-stored setup words ws history owner j x v unwritten owes was there lock tally puts =
+    let w : View = record v { unwritten = unwritten; owes = owes } in
+    let here = was.inside x there in
+    record {
+      setup_is = was.setup_is;
+      has = has-kept history v w refl refl refl refl refl was.has;
+      owner_is = was.owner_is;
+      inside = λ node is. subst (λ (k : ℕ). IsInside setup ws history w k) (same_some x node (sym there ∙ is)) record {
+        known = here.known;
+        alone = here.alone;
+        lock = lock ∙ here.lock;
+        last = here.last;
+        tally = tally;
+      };
+      unwritten = puts;
+      outside = λ out. absurd (no_some x (sym out ∙ there));
+    }
+
 pub writes : NumbersApart → NumbersBelow → SameKey → (n id i new : ℕ) (m : Seat) (key : Key) → m.0.unwritten ≡ Some key
     → IsCellOf m.0.setup key → i ≡ cell_word m.0.setup key → HasTurn m.0 (key_node (setting_in m.0.setup) key)
     → new ≡ cell (setting_in m.0.setup) m.0.seen key
@@ -62,7 +89,7 @@ writes law below same n id i new m key put known at turn is s o wide me small =
     let setup = v.setup in
     let x = key_node (setting_in setup) key in
     let ws = set s.words i new in
-    let w = written v in
+    let w = view_after_put v in
     let was = o.views id v me in
     let here = was.inside x turn.inside in
     let near : i < length s.words = subst (λ (k : ℕ). i < k) (sym o.size) (subst (λ (k : ℕ). k < word_count setup)
@@ -85,28 +112,10 @@ writes law below same n id i new m key put known at turn is s o wide me small =
         first = get_or-set_other s.words i 0 new 0 (λ e. first_apart (e ∙ at));
         elsewhere = λ y k iny ne word. else_where law setup s.words x y i k new here.known iny ne
             (is_cell key known refl at) word;
-        mine = record {
-          setup_is = was.setup_is;
-          has = record {
-            seen = was.has.seen;
-            told = was.has.told;
-            visits = was.has.visits;
-            had = was.has.had;
-            kept
-                = was.has.kept;
-          };
-          owner_is = was.owner_is;
-          inside = λ node there. let e : x ≡ node = same_some x node (sym turn.inside ∙ there) in
-              subst (λ (k : ℕ). IsInside setup ws o.history w k) e record {
-                known = here.known;
-                alone = here.alone;
-                lock = get_or-set_other s.words i (lock_word x) new 0 not_lock ∙ here.lock;
-                last = here.last;
-                tally = λ owes. get_or-set_other s.words i (tally_word setup x) new 0 not_tally ∙ here.tally owes;
-              };
-          unwritten = λ other there. absurd (no_key other there);
-          outside = was.outside;
-        };
+        mine = sound-stored setup s.words ws o.history o.owner id x v None v.owes was turn.inside
+            (get_or-set_other s.words i (lock_word x) new 0 not_lock)
+            (λ owes. get_or-set_other s.words i (tally_word setup x) new 0 not_tally ∙ here.tally owes)
+            (λ other there. absurd (no_key other there));
         alone = others;
         lock = λ actor names. still_held s o.owner id x actor v w me refl refl
             (o.locks x actor here.known (sym (get_or-set_other s.words i (lock_word x) new 0 not_lock) ∙ names));
@@ -134,7 +143,7 @@ tallies law same n id x i new m turn at is s o wide me small =
     let v = m.0 in
     let setup = v.setup in
     let ws = set s.words i new in
-    let w = tallied v in
+    let w = view_after_tally v in
     let was = o.views id v me in
     let here = was.inside x turn.inside in
     let near : i < length s.words = omega (arith, o.size, here.known, at) in
@@ -154,34 +163,15 @@ tallies law same n id x i new m turn at is s o wide me small =
         size = length-set s.words i new;
         first = get_or-set_other s.words i 0 new 0 (λ e. omega (arith, at, e));
         elsewhere = λ y k iny ne word. else_where law setup s.words x y i k new here.known iny ne (is_tally at) word;
-        mine = record {
-          setup_is = was.setup_is;
-          has = record {
-            seen = was.has.seen;
-            told = was.has.told;
-            visits = was.has.visits;
-            had = was.has.had;
-            kept
-                = was.has.kept;
-          };
-          owner_is = was.owner_is;
-          inside = λ node there. let e : x ≡ node = same_some x node (sym turn.inside ∙ there) in
-              subst (λ (k : ℕ). IsInside setup ws o.history w k) e record {
-                known = here.known;
-                alone = here.alone;
-                lock = get_or-set_other s.words i (lock_word x) new 0 not_lock ∙ here.lock;
-                last = here.last;
-                tally = λ owes. absurd (true≢false (sym owes));
-              };
-          unwritten = λ key there. let h = was.unwritten key there in
-              record {
-                cell = h.cell;
-                inside = h.inside;
-                drawn = h.drawn;
-                word = get_or-set_other s.words i (cell_word setup key) new 0 (not_cell key) ∙ h.word;
-              };
-          outside = λ out. ((was.outside out).0, refl);
-        };
+        mine = sound-stored setup s.words ws o.history o.owner id x v v.unwritten false was turn.inside
+            (get_or-set_other s.words i (lock_word x) new 0 not_lock) (λ owes. absurd (true≢false (sym owes)))
+            (λ key there. let h = was.unwritten key there in
+            record {
+              cell = h.cell;
+              inside = h.inside;
+              drawn = h.drawn;
+              word = get_or-set_other s.words i (cell_word setup key) new 0 (not_cell key) ∙ h.word;
+            });
         alone = others;
         lock = λ actor names. still_held s o.owner id x actor v w me refl refl
             (o.locks x actor here.known (sym (get_or-set_other s.words i (lock_word x) new 0 not_lock) ∙ names));

@@ -1,4 +1,5 @@
--- What closing a tracker gives: the actor of each ticket of the one history.
+-- What closing a tracker gives: the actor of each ticket of the one history. Key law:
+-- `Tracker::close`, by its clauses `order`, `present` and `fault`.
 use Rattle.std.specs.Prelude.{◌≡◌, ◌≢◌, ℕ, ◌<◌, ◌≤◌, List, [], map, Some, slice_get}
 use Rattle.entry_word.specs.declared.visit.Visit.{Visit}
 use Rattle.directory.specs.Histories.{History, IsFront, own}

@@ -1,6 +1,6 @@
 -- The handset that goes with a pass: it stands for steps that its subscriber may make, and just the
 -- puts among what the pass has seen are made.
-use Rattle.std.specs.Prelude.{◌≡◌, ℕ, ◌+◌, Bool, true, false, not, if◌then◌else◌, List, length, take}
+use Rattle.std.specs.Prelude.{◌≡◌, ℕ, ◌+◌, Bool, true, false, not, if◌then◌else◌, List, [], ◌∷◌, ◌++◌, length, take}
 use Rattle.entry_word.specs.Marks.{mark_in, says_here}
 use Rattle.entry_word.specs.declared.visit.Key.{Key}
 use Rattle.entry_word.specs.declared.visit.Key.TheVariants.{Presence, Entry}
@@ -16,6 +16,7 @@ use Rattle.handset.specs.Stands.{StandsFor}
 use Rattle.station.specs.Setup.{Setup, setting_in}
 use Rattle.station.specs.declared.view.View.{View}
 
+-- a handset goes with a pass, told by the view
 pub record IsHandsetOf (setup : Setup) (view : View) (handset : HandsetData) : Type 0 where
   pub goes : GoesWith setup.plan handset
   pub sub : handset.sub ≡ view.low
@@ -25,6 +26,14 @@ pub record IsHandsetOf (setup : Setup) (view : View) (handset : HandsetData) : T
       (length (puts_to view.low view.seen))
   pub made : puts_to view.low view.seen ≡ take (length (puts_to view.low view.seen))
       (visits (setting_in setup) view.low steps)
+
+-- a handset goes on by a put of its pass: it stands for the same steps, and the put is the last one
+-- of its subscriber that the pass has seen
+pub record GoesOn (setup : Setup) (old new : View) (moved : HandsetData) (steps : List Step)
+    (put : Visit) : Type 0 where
+  pub own : IsHandsetOf setup new moved
+  pub steps_are : own.steps ≡ steps
+  pub puts : puts_to new.low new.seen ≡ puts_to old.low old.seen ++ put ∷ []
 
 -- a put of a subscriber
 abbrev pub put_of : ℕ → Key → ℕ → Visit

@@ -7,3 +7,5 @@ pub mod Passes
 pub mod Visits
 pub mod Handsets
 pub mod Closing
+pub mod TicketLaws
+pub mod HandsetLaws

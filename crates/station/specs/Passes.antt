@@ -53,7 +53,7 @@ pub record IsPass (me : Me Act View) (actor seen spare : ℕ) (kept : List ℕ)
   pub room_is : length kept + spare ≤ room
   pub few : length kept + spare ≤ 2 ^ 56
 
--- the actor of a pass, how many visits it knows of, and its own visits
+-- the actor of a pass
 abbrev pub actor_of : PassData → ℕ
 actor_of pass = pass.view.low
 
@@ -91,6 +91,7 @@ pub record IsStayOf (stay : Stay) (pass : PassData) : Type 0 where
 abbrev pub fresh_view : Setup → ℕ → View
 fresh_view setup actor = record (first_view setup) { low = actor; high = suc actor }
 
+-- a pass of a new tracker
 pub record IsFresh (tracker : TrackerData) (actor : ℕ) (pass : PassData) : Type 0 where
   pub table : pass.table ≡ tracker.table
   pub view : pass.view ≡ fresh_view tracker.setup actor

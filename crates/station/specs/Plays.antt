@@ -19,22 +19,24 @@ use Rattle.station.specs.declared.view.View.{View}
 abbrev pub Seat : Type 0
 Seat = Me Act View
 
+-- what a step tells: the step, the seat before, the number found, the seat after
 abbrev pub Play : Type 1
 Play = Step Act → Seat → ℕ → Seat → Type 0
 
 -- the view inside a node where it means to do an act, and the view that lost the turn
-abbrev pub entered : View → ℕ → Act → View
-entered view node act = record view { inside = Some node; intended = Some act }
+abbrev pub view_inside : View → ℕ → Act → View
+view_inside view node act = record view { inside = Some node; intended = Some act }
 
-abbrev pub beaten : View → ℕ → ℕ → View
-beaten view node word = record view { lost = view.lost ++ record { node = node; word = word } ∷ [] }
+abbrev pub view_held : View → ℕ → ℕ → View
+view_held view node word =
+    record view { lost = view.lost ++ record { node = node; word = word } ∷ [] }
 
 -- the turn is won where the lock word was 0; where it wasn't, it names another actor
 abbrev pub Turns : Play
 Turns step before found after =
     (node : ℕ) (act : Act) → step.word ≡ lock_word node → step.said ≡ some act
-    → (found ≡ 0 → after ≡ (entered before.0 node act, before.1))
-    × (found ≢ 0 → (after ≡ (beaten before.0 node found, before.1))
+    → (found ≡ 0 → after ≡ (view_inside before.0 node act, before.1))
+    × (found ≢ 0 → (after ≡ (view_held before.0 node found, before.1))
     × (found ≢ suc before.0.low) × (found ≤ 128))
 
 -- the view of the first seat stands for all actors
@@ -51,7 +53,7 @@ first_view setup =
       inside = None;
       intended = None;
       has_drawn = false;
-      drawn = 0;
+      visit_count = 0;
       unwritten = None;
       before = 0;
       owes = false;
@@ -60,15 +62,15 @@ first_view setup =
     }
 
 -- the first actor of a view is dealt to a new seat
-abbrev pub left_over : View → View
-left_over view = record view { low = suc view.low }
+abbrev pub view_of_rest : View → View
+view_of_rest view = record view { low = suc view.low }
 
-abbrev pub dealt : View → View
-dealt view = record view { high = suc view.low }
+abbrev pub view_of_first : View → View
+view_of_first view = record view { high = suc view.low }
 
 -- a note of what a view has seen: it stands for nobody and is in no node
-abbrev pub noted : View → View
-noted view =
+abbrev pub note_of : View → View
+note_of view =
     record view {
       low = 0;
       high = 0;
@@ -85,8 +87,8 @@ abbrev pub longer : History → History → History
 longer one other = if nat_lt (length one) (length other) then other else one
 
 -- a view that takes a note in, and what the note is left with
-abbrev pub heard : View → View → View
-heard view note =
+abbrev pub view_with_note : View → View → View
+view_with_note view note =
     record view { seen = longer view.seen note.seen; told = note.seen; had = view.seen }
 
 abbrev pub no_setup : Setup
@@ -102,8 +104,9 @@ no_setup =
       actors = 0;
     }
 
-abbrev pub spent : View
-spent = record (noted (first_view no_setup)) { is_spent = true }
+-- what a seat is left with that was joined into another
+abbrev pub spent_view : View
+spent_view = record (note_of (first_view no_setup)) { is_spent = true }
 
 -- what was told, and what was seen before, are fronts of what is seen, which is legal; and the
 -- visits of a view's own actor are those that it had seen, and all are those of known actors
@@ -140,13 +143,13 @@ MayDo view (Put key word) =
 MayDo view (Census node) = Unit {0}
 
 -- the view once it has drawn the ticket of an act at a node, after these visits of all
-abbrev pub drawn : View → ℕ → Act → History → View
-drawn view node act earlier =
+abbrev pub view_with_ticket : View → ℕ → Act → History → View
+view_with_ticket view node act earlier =
     record view {
       seen = earlier ++ visit_by view act ∷ [];
       had = earlier ++ visit_by view act ∷ [];
       has_drawn = true;
-      drawn = suc (length earlier);
+      visit_count = suc (length earlier);
       unwritten = key_put act;
       before = word_before view.setup earlier act;
       owes = changes_here (setting_in view.setup) earlier act;
@@ -163,7 +166,7 @@ pub record Draws (before : View) (node : ℕ) (act : Act) (found : ℕ) (after :
   pub visits : own before.low earlier ≡ own before.low before.seen
   pub puts : before.low < subs_in before.setup
       → puts_to before.low earlier ≡ puts_to before.low before.seen
-  pub view : after ≡ drawn before node act earlier
+  pub view : after ≡ view_with_ticket before node act earlier
   pub legal : (sub : ℕ) → sub < subs_in before.setup
       → IsLegal (setting_in before.setup) sub after.seen
 
@@ -189,23 +192,23 @@ ReadsTally step before found after =
     × (before.0.owes ≡ true → found ≡ before.0.tally))
 
 -- the put is written; the tally is written; the node is left
-abbrev pub written : View → View
-written view = record view { unwritten = None }
+abbrev pub view_after_put : View → View
+view_after_put view = record view { unwritten = None }
 
-abbrev pub tallied : View → View
-tallied view = record view { owes = false }
+abbrev pub view_after_tally : View → View
+view_after_tally view = record view { owes = false }
 
-abbrev pub gone : View → View
-gone view = record view { inside = None; intended = None; has_drawn = false }
+abbrev pub view_outside : View → View
+view_outside view = record view { inside = None; intended = None; has_drawn = false }
 
 abbrev pub Writes : Play
-Writes step before found after = after ≡ (written before.0, before.1)
+Writes step before found after = after ≡ (view_after_put before.0, before.1)
 
 abbrev pub Tallies : Play
-Tallies step before found after = after ≡ (tallied before.0, before.1)
+Tallies step before found after = after ≡ (view_after_tally before.0, before.1)
 
 abbrev pub Leaves : Play
-Leaves step before found after = after ≡ (gone before.0, before.1)
+Leaves step before found after = after ≡ (view_outside before.0, before.1)
 
 -- the rule holds, and a seat has the view
 pub record IsWitnessed (view : View) : Type 0 where

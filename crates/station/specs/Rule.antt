@@ -4,6 +4,8 @@
 -- Nobody but the view inside a node writes a word of that node, since its lock word names the actor
 -- for which the view stands, and each actor has one seat. So no later visit at the node can come
 -- between a ticket that was drawn there and the word that goes with it.
+--
+-- Key law: `Tracker::witness`, by its clause `rule` (a state meets it).
 use Rattle.std.specs.Prelude.{◌≡◌, ◌≢◌, ℕ, suc, ◌^◌, ◌<◌, ◌≤◌, true, List, [], length, Some, slice_index}
 use mathlib.Core.Option.{some}
 use lib.ListN.{get_elem?}
@@ -41,13 +43,15 @@ IsTallied views node =
     (seat : ℕ) (view : View) → IsViewOf views seat view → view.owes ≡ true
     → view.inside ≢ Some node
 
+-- the rule, of a state's words and views: there is a history, and an owner of each actor, of which
+-- all this holds
 pub record IsKept (setup : Setup) (state : State Act View) : Type 0 where
   pub history : History
   -- the seat that stands for an actor
   pub owner : ℕ → ℕ
   pub lies : CellsLie setup
   pub size : length state.words ≡ word_count setup
-  pub some_actors : setup.actors ≤ 128
+  pub few_actors : setup.actors ≤ 128
   -- the ticket word counts the visits
   pub tickets : slice_index state.words 0 ≡ length history
   pub views : (seat : ℕ) (view : View) → IsViewOf state.views seat view

@@ -7,7 +7,8 @@ use Rattle.directory.specs.Settings.{Setting}
 use Rattle.directory.specs.Keys.{key_node}
 use Rattle.region_plan.specs.Plan.{PlanData, nodes_of}
 use Rattle.region_plan.specs.Settings.{setting_of}
-use Rattle.visit_log.specs.Numbers.{cell_count, cell_number, IsCell}
+use Rattle.region_plan.specs.Cells.{IsCell}
+use Rattle.visit_log.specs.Numbers.{cell_count, cell_number}
 
 -- the plan, the start nodes of the subscribers, and how many actors there are: the subscribers
 -- first, and then the callers

@@ -37,7 +37,7 @@ pub record IsInside (setup : Setup) (words : List ℕ) (history : History) (view
   pub alone : view.high ≡ suc view.low
   pub lock : slice_index words (lock_word node) ≡ suc view.low
   pub last : view.has_drawn ≡ true
-      → visits_at (setting_in setup) node (drop view.drawn history) ≡ []
+      → visits_at (setting_in setup) node (drop view.visit_count history) ≡ []
   pub tally : view.owes ≡ true → slice_index words (tally_word setup node) ≡ view.tally
 
 -- a view has a put that isn't written: into a cell of the node that it is inside, once it has drawn

@@ -1,4 +1,5 @@
--- What a visit needs, and what it does to a view and to a pass.
+-- What a visit needs, and what it does to a view and to a pass. Key laws: `visit_look` (`looked`),
+-- `visit_put` (`made`), `visit_census` (`seen`), `hear` (`heard`).
 use Rattle.std.specs.Prelude.{◌≡◌, ◌≢◌, ℕ, suc, ◌+◌, ◌^◌, ◌<◌, ◌≤◌, true, false, List, [], ◌∷◌, ◌++◌, length, if◌then◌else◌, Some, None}
 use Rattle.std.specs.Int.{bit_at}
 use Rattle.node_set.specs.Ascending.{has}
@@ -8,7 +9,7 @@ use Rattle.directory.specs.Keys.{act_node}
 use Rattle.directory.specs.Histories.{History, IsFront, own}
 use Rattle.directory.specs.Legal.{IsLegal}
 use Rattle.station.specs.Setup.{setting_in, subs_in, IsCellOf}
-use Rattle.station.specs.Plays.{Draws, MayDo, key_put, longer, visit_by, beaten}
+use Rattle.station.specs.Plays.{Draws, MayDo, key_put, longer, visit_by, view_held}
 use Rattle.station.specs.Passes.{NoteData, PassData, actor_of}
 use Rattle.station.specs.declared.turns.Held.{Held}
 use Rattle.station.specs.declared.view.View.{View}
@@ -29,7 +30,7 @@ pub record MayDraw (view : View) (node : ℕ) (act : Act) : Type 0 where
 pub record HasTurn (view : View) (node : ℕ) : Type 0 where
   pub inside : view.inside ≡ Some node
   pub has_drawn : view.has_drawn ≡ true
-  pub drawn : view.drawn ≡ length view.seen
+  pub count : view.visit_count ≡ length view.seen
 
 -- a view has left the node where it drew its ticket, and has written all
 pub record HasLeft (there new : View) : Type 0 where
@@ -76,7 +77,7 @@ pub record HasVisited (old : PassData) (act : Act) (ticket : ℕ) (new : PassDat
 pub record HasLost (old : PassData) (place : ℕ) (held : Held) (new : PassData) : Type 0 where
   pub node : held.node ≡ place
   pub other : held.by ≢ actor_of old
-  pub turn : new ≡ record old { view = beaten old.view place (suc held.by) }
+  pub turn : new ≡ record old { view = view_held old.view place (suc held.by) }
 
 -- a number has a bit for each subscriber of a census, and no other, and there are so many
 pub record IsCensus (census : List ℕ) (who count : ℕ) : Type 0 where
@@ -84,9 +85,8 @@ pub record IsCensus (census : List ℕ) (who count : ℕ) : Type 0 where
   pub length_is : count ≡ length census
 
 -- a pass has heard a note: what it has seen is the longer of what it had seen and what was noted,
--- and goes on from both,
--- by known actors alone, and is legal; its own visits, its spare and the node that it is inside
--- are as before
+-- and goes on from both, by known actors alone, and is legal; its own visits, its spare and the
+-- node that it is inside are as before
 pub record HasHeard (old : PassData) (note : NoteData) (new : PassData) : Type 0 where
   pub same : IsSamePass old new
   pub spare : new.spare ≡ old.spare

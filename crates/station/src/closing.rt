@@ -25,7 +25,8 @@ pub struct CloseFault {
 }
 
 impl Tracker {
-    /// The actor of each ticket, in order.
+    /// Ends the tracker: the actor of each ticket, in order. Where the pass of an actor is missing,
+    /// or memory is, the tracker comes back with the passes as they were.
     pub fn close(self, alloc: Global, mut passes: Vec<Pass>) -> Result<Vec<u32>, CloseFault>
         requires of { All (IsPassOf self) passes.items }
         ensures order { IfOk result (λ order. IsOrder self.setup passes.items order.items) }
@@ -34,7 +35,7 @@ impl Tracker {
             × (fault.passes.items ≡ passes.items)
             × IsCause self.setup.actors passes.items fault.cause) }
     {
-        if let Some(actor) = missing(self.actors, &passes) {
+        if let Some(actor) = first_missing(self.actors, &passes) {
             return Err(CloseFault {
                 cause: CloseCause::Missing { actor },
                 tracker: self,
@@ -71,7 +72,7 @@ impl Tracker {
 }
 
 // The first actor that has no pass among these.
-fn missing(actors: u32, passes: &[Pass]) -> Option<u32>
+fn first_missing(actors: u32, passes: &[Pass]) -> Option<u32>
     ensures { MatchOption result (ArePresent actors passes.now)
         (λ actor. (actor < actors) × IsMissing passes.now actor × ArePresent actor passes.now) }
 {

@@ -8,7 +8,7 @@ ghost use Rattle.directory.specs.Histories.{cell};
 ghost use Rattle.directory.specs.Keys.{key_node};
 ghost use Rattle.entry_word.specs.Marks.{mark_in, says_here as here};
 ghost use Rattle.station.specs.Handsets.{Moves, moves_here as moves};
-ghost use Rattle.station.specs.Plays.{Draws, tallied, written};
+ghost use Rattle.station.specs.Plays.{Draws, view_after_put, view_after_tally};
 ghost use Rattle.station.specs.Setup.{IsCellOf, cell_word, nodes_in, setting_in, subs_in};
 ghost use Rattle.station.specs.Visits.{HasTurn, MayDraw};
 
@@ -57,7 +57,7 @@ impl Tracker {
     {
         cell_numbers();
         let number = cell_number(plan, self.subs, key) as usize;
-        2 * self.nodes as usize + number + 1
+        2 * self.nodes as usize + 1 + number
     }
 
     // Reads a cell.
@@ -91,7 +91,7 @@ impl Tracker {
         requires word { word ≡ cell (setting_in self.now.setup) seat.old.me.0.seen key }
         ensures table { seat.new.table_id ≡ seat.old.table_id }
         ensures id { seat.new.id ≡ seat.old.id }
-        ensures written { seat.new.me ≡ (written seat.old.me.0, seat.old.me.1) }
+        ensures written { seat.new.me ≡ (view_after_put seat.old.me.0, seat.old.me.1) }
     {
         cell_numbers();
         same_key_means();
@@ -127,7 +127,7 @@ impl Tracker {
             ≡ length (census (setting_in self.now.setup) seat.old.me.0.seen node) }
         ensures table { seat.new.table_id ≡ seat.old.table_id }
         ensures id { seat.new.id ≡ seat.old.id }
-        ensures tallied { seat.new.me ≡ (tallied seat.old.me.0, seat.old.me.1) }
+        ensures tallied { seat.new.me ≡ (view_after_tally seat.old.me.0, seat.old.me.1) }
     {
         cell_numbers();
         same_key_means();
@@ -217,7 +217,8 @@ impl Tracker {
         requires moves { Moves self.now.setup seat.old.me.0 node key seat.old.me.0.before word }
         ensures table { seat.new.table_id ≡ seat.old.table_id }
         ensures id { seat.new.id ≡ seat.old.id }
-        ensures done { seat.new.me ≡ (tallied (written seat.old.me.0), seat.old.me.1) }
+        ensures done { seat.new.me
+            ≡ (view_after_tally (view_after_put seat.old.me.0), seat.old.me.1) }
     {
         let before = self.read_cell(seat, plan, key);
         self.write_cell(seat, plan, key, word);
@@ -241,7 +242,7 @@ impl Tracker {
             ≡ seat.old.me.0.tally }
         ensures table { seat.new.table_id ≡ seat.old.table_id }
         ensures id { seat.new.id ≡ seat.old.id }
-        ensures tallied { seat.new.me ≡ (tallied seat.old.me.0, seat.old.me.1) }
+        ensures tallied { seat.new.me ≡ (view_after_tally seat.old.me.0, seat.old.me.1) }
     {
         // The field tells the proof that subscribers are few.
         let _ = &self.subs;

@@ -1,14 +1,15 @@
 //! Notes: what one pass has seen, for another to hear.
-ghost use Rattle.std.specs.Prelude.{◌≡◌, ◌<◌, ◌≤◌, ℕ, [], All, length};
+ghost use Rattle.std.specs.Prelude.{◌≡◌, ◌<◌, ◌≤◌, ℕ, [], All, None, length};
 ghost use Rattle.directory.specs.Histories.{IsFront, own};
 ghost use Rattle.directory.specs.Legal.{IsLegal};
 ghost use Rattle.station.specs.Closing.{ArePresent, HasGathered};
 ghost use Rattle.station.specs.Setup.{setting_in, subs_in};
 ghost use Rattle.station.specs.Passes.{IsNoteOf, IsPassOf};
+ghost use Rattle.station.specs.Plays.{IsLearned, view_with_note};
 ghost use Rattle.station.specs.Visits.{HasHeard};
 
 use crate::pass::Pass;
-use crate::rule::{Copy, Hear, Learn};
+use crate::rule::{Hear, Learn, TakeNote};
 use crate::tracker::Tracker;
 use crate::view::View;
 use atomic_table::Seat;
@@ -50,21 +51,19 @@ impl Tracker {
         ensures of { IsNoteOf self.now result }
         ensures seen { result.view.seen ≡ pass.old.view.seen }
     {
-        let seat = self.table.shared.split_seat::<Copy>(&mut pass.seat);
+        let seat = self.table.shared.split_seat::<TakeNote>(&mut pass.seat);
         let seen = pass.seen;
         Note { seat, seen }
     }
 
-    /// Takes in what was noted.
+    /// Takes in what was noted: the pass has then seen the longer of the two histories.
     pub fn hear(&self, pass: &mut Pass, note: Note)
         requires of { IsPassOf self.now pass.old }
         requires note { IsNoteOf self.now note }
         ensures heard { HasHeard pass.old note pass.new }
     {
-        front_of_history_is_legal();
         let Note { seat, seen } = note;
-        self.table.shared.join_seat::<Hear>(&mut pass.seat, seat);
-        self.table.shared.load::<Learn>(&mut pass.seat, 0);
+        self.learn(&mut pass.seat, seat);
         if pass.seen < seen {
             pass.seen = seen;
         }
@@ -100,13 +99,30 @@ impl Tracker {
         ensures legal { (sub : ℕ) → sub < subs_in self.now.setup
             → IsLegal (setting_in self.now.setup) sub longest.new.view.seen }
     {
-        front_of_history_is_legal();
         let Note { seat, seen } = note;
-        self.table.shared.join_seat::<Hear>(&mut longest.seat, seat);
-        self.table.shared.load::<Learn>(&mut longest.seat, 0);
+        self.learn(&mut longest.seat, seat);
         if longest.seen < seen {
             longest.seen = seen;
         }
+    }
+
+    // Takes in what the seat of a note has seen.
+    fn learn(&self, seat: &mut Seat<Act, View>, other: Seat<Act, View>)
+        requires table { seat.old.table_id ≡ self.now.table }
+        requires setup { seat.old.me.0.setup ≡ self.now.setup }
+        requires from { other.table_id ≡ self.now.table }
+        requires slots { other.me.1 ≡ [] }
+        requires low { other.me.0.low ≡ 0 }
+        requires high { other.me.0.high ≡ 0 }
+        requires outside { other.me.0.inside ≡ None }
+        ensures table { seat.new.table_id ≡ seat.old.table_id }
+        ensures id { seat.new.id ≡ seat.old.id }
+        ensures heard { seat.new.me ≡ (view_with_note seat.old.me.0 other.me.0, seat.old.me.1) }
+        ensures learned { IsLearned seat.new.me.0 }
+    {
+        front_of_history_is_legal();
+        self.table.shared.join_seat::<Hear>(seat, other);
+        self.table.shared.load::<Learn>(seat, 0);
     }
 
     // A note of a note.
@@ -116,7 +132,7 @@ impl Tracker {
         ensures of { IsNoteOf self.now result }
         ensures seen { result.view.seen ≡ note.old.view.seen }
     {
-        let seat = self.table.shared.split_seat::<Copy>(&mut note.seat);
+        let seat = self.table.shared.split_seat::<TakeNote>(&mut note.seat);
         let seen = note.seen;
         Note { seat, seen }
     }

@@ -87,7 +87,8 @@ impl Pass {
         }
     }
 
-    /// Makes room for more visits.
+    /// Sees to room for so many visits from here on; room that is there counts. Without memory the
+    /// pass is as before.
     pub fn reserve(&mut self, visits: u64) -> Result<(), OutOfMemory>
         requires few { length (own (actor_of self.old) self.old.view.seen) + visits ≤ 2 ^ 56 }
         ensures room { OnOk result (self.new

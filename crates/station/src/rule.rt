@@ -91,33 +91,33 @@ impl Play<Act, View> for Witness {
 pub struct Deal;
 
 impl Split<View> for Deal {
-    ghost use Rattle.station.specs.Plays.{dealt, left_over};
+    ghost use Rattle.station.specs.Plays.{view_of_first, view_of_rest};
 
-    ghost left = { left_over };
+    ghost left = { view_of_rest };
 
-    ghost right = { dealt };
+    ghost right = { view_of_first };
 }
 
 // A note is taken.
-pub struct Copy;
+pub struct TakeNote;
 
-impl Split<View> for Copy {
-    ghost use Rattle.station.specs.Plays.{noted};
+impl Split<View> for TakeNote {
+    ghost use Rattle.station.specs.Plays.{note_of};
 
     ghost left = { λ view. view };
 
-    ghost right = { noted };
+    ghost right = { note_of };
 }
 
 // A note is heard.
 pub struct Hear;
 
 impl Join<View> for Hear {
-    ghost use Rattle.station.specs.Plays.{heard, spent};
+    ghost use Rattle.station.specs.Plays.{spent_view, view_with_note};
 
-    ghost both = { heard };
+    ghost both = { view_with_note };
 
-    ghost spent = { spent };
+    ghost spent = { spent_view };
 }
 
 // What was heard is learned.

@@ -1,4 +1,4 @@
-// Passes over the line 0 - 1 - 2 - 3 of unit weights: a subscriber at node 3, and two callers.
+//! Passes over the line 0 - 1 - 2 - 3 of unit weights: a subscriber at node 3, and two callers.
 ghost use Rattle.std.specs.Prelude.{◌≡◌, ◌+◌, ◌<◌, ◌≤◌, ◌∷◌, [], length, suc, IfOk, OnOk};
 ghost use Rattle.station.specs.Handsets.{IsHandsetOf};
 ghost use Rattle.station.specs.Setup.{nodes_in, subs_in};
@@ -71,23 +71,22 @@ fn next_pass(tracker: &Tracker, passes: &mut Vec<Pass>, actor: u32) -> Result<Pa
 #[test]
 fn held_by_its_own_node_alone(rt: HostRuntime) -> Result<(), Fail> {
     let (plan, _) = line_of_four(rt.alloc())?;
-    let (tracker, _, mut one, mut other) = open(rt.alloc(), &plan)?;
-    let Ok(stay) = tracker.enter(&mut one, 2) else {
+    let (tracker, mut own, mut other, _) = open(rt.alloc(), &plan)?;
+    let Ok(stay) = tracker.enter(&mut own, 3) else {
         panic!(rt; "nobody is inside")
     };
-    let key = Key::Presence { node: 2, sub: 0 };
-    let held = tracker.visit_look(&mut other, &plan, key).err();
-    assert!(rt; held == Some(Held { node: 2, by: 1 }));
     let here = Key::Presence { node: 3, sub: 0 };
-    let looked = tracker.visit_look(&mut other, &plan, here).ok();
-    assert!(rt;
-        looked.map(|l| (l.ticket, l.word)) == Some((0, pack_mark(PresenceMark::Here { number: 0 })))
-    );
-    tracker.leave(&mut one, stay);
+    let held = tracker.visit_look(&mut other, &plan, here).err();
+    assert!(rt; held == Some(Held { node: 3, by: 0 }));
+    let key = Key::Presence { node: 2, sub: 0 };
     let looked = tracker.visit_look(&mut other, &plan, key).ok();
-    assert!(rt; looked.map(|l| (l.ticket, l.word)) == Some((1, 0)));
-    assert!(rt; one.seen() == 0 && other.seen() == 2 && other.spare() == 7);
-    assert!(rt; one.actor() == 1 && other.actor() == 2);
+    assert!(rt; looked.map(|l| (l.ticket, l.word)) == Some((0, 0)));
+    tracker.leave(&mut own, stay);
+    let looked = tracker.visit_look(&mut other, &plan, here).ok();
+    let word = pack_mark(PresenceMark::Here { number: 0 });
+    assert!(rt; looked.map(|l| (l.ticket, l.word)) == Some((1, word)));
+    assert!(rt; own.seen() == 0 && other.seen() == 2 && other.spare() == 7);
+    assert!(rt; own.actor() == 0 && other.actor() == 1);
     Ok(())
 }
 
@@ -105,7 +104,7 @@ fn threads_may_have_them(_rt: HostRuntime) -> Result<(), Fail> {
 }
 
 // The handset of the subscriber, which has begun to move to node 2.
-fn moving(alloc: Global, plan: &Plan, distances: &Distances) -> Result<Handset, Fail>
+fn moving_handset(alloc: Global, plan: &Plan, distances: &Distances) -> Result<Handset, Fail>
     requires belongs { plan.now.distances ≡ distances.now }
     requires nodes { nodes_of plan.now ≡ 4 }
     ensures own { IfOk result (IsHandsetOf (setup_of plan.now (3 ∷ []) 3)
@@ -145,7 +144,7 @@ fn put(
 fn a_put_and_a_census(rt: HostRuntime) -> Result<(), Fail> {
     let (plan, distances) = line_of_four(rt.alloc())?;
     let (tracker, mut own, mut one, _) = open(rt.alloc(), &plan)?;
-    let mut handset = moving(rt.alloc(), &plan, &distances)?;
+    let mut handset = moving_handset(rt.alloc(), &plan, &distances)?;
     assert_eq!(rt; put(&tracker, &mut own, &plan, &mut handset, 8)?, 0);
     let seen = tracker.visit_census(&mut one, 3).ok();
     assert!(rt; seen.map(|c| (c.ticket, c.who, c.count)) == Some((1, 1, 1)));

@@ -96,7 +96,7 @@ impl Tracker {
         passes.push_reserved(Pass::of(alloc, seat, self.actors - 1));
     }
 
-    /// The rule holds.
+    /// Tells the proof that the rule holds of a state with the view of the pass; nothing changes.
     pub fn witness(&self, pass: &mut Pass)
         requires of { IsPassOf self.now pass.old }
         ensures same { pass.new ≡ pass.old }

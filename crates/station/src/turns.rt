@@ -3,7 +3,7 @@ ghost use Rattle.std.specs.Prelude.{◌≡◌, ◌≢◌, ◌<◌, suc, false, S
 ghost use Rattle.entry_word.specs.declared.visit.Act.TheVariants.{Census};
 ghost use Rattle.station.specs.Passes.{IsPassOf, IsStayOf};
 ghost use Rattle.station.specs.Visits.{HasLost};
-ghost use Rattle.station.specs.Plays.{beaten, entered, gone};
+ghost use Rattle.station.specs.Plays.{view_held, view_inside, view_outside};
 ghost use Rattle.station.specs.Setup.{nodes_in};
 
 use crate::pass::Pass;
@@ -35,7 +35,7 @@ impl Tracker {
         requires outside { pass.old.view.inside ≡ None }
         ensures stay { MatchResult result
             (λ stay. IsStayOf stay pass.new
-            × (pass.new ≡ record pass.old { view = entered pass.old.view node (Census node) }))
+            × (pass.new ≡ record pass.old { view = view_inside pass.old.view node (Census node) }))
             (λ held. HasLost pass.old node held pass.new) }
     {
         let actor = pass.actor;
@@ -47,7 +47,7 @@ impl Tracker {
     pub fn leave(&self, pass: &mut Pass, stay: Stay)
         requires of { IsPassOf self.now pass.old }
         requires stay { IsStayOf stay pass.old }
-        ensures left { pass.new ≡ record pass.old { view = gone pass.old.view } }
+        ensures left { pass.new ≡ record pass.old { view = view_outside pass.old.view } }
     {
         let Stay { node, actor: _ } = stay;
         self.give_back(&mut pass.seat, node);
@@ -70,9 +70,9 @@ impl Tracker {
         ensures table { seat.new.table_id ≡ seat.old.table_id }
         ensures id { seat.new.id ≡ seat.old.id }
         ensures turn { MatchResult result
-            (λ _. seat.new.me ≡ (entered seat.old.me.0 node act.now, seat.old.me.1))
+            (λ _. seat.new.me ≡ (view_inside seat.old.me.0 node act.now, seat.old.me.1))
             (λ held. (held.node ≡ node) × (held.by ≢ actor)
-            × (seat.new.me ≡ (beaten seat.old.me.0 node (suc held.by), seat.old.me.1))) }
+            × (seat.new.me ≡ (view_held seat.old.me.0 node (suc held.by), seat.old.me.1))) }
     {
         cell_numbers();
         let word = node as usize + 1;
@@ -97,7 +97,7 @@ impl Tracker {
         requires clear { seat.old.me.0.owes ≡ false }
         ensures table { seat.new.table_id ≡ seat.old.table_id }
         ensures id { seat.new.id ≡ seat.old.id }
-        ensures left { seat.new.me ≡ (gone seat.old.me.0, seat.old.me.1) }
+        ensures left { seat.new.me ≡ (view_outside seat.old.me.0, seat.old.me.1) }
     {
         cell_numbers();
         self.table.shared.store::<Leave>(seat, node as usize + 1, 0);

@@ -63,7 +63,7 @@ pub struct View {
     pub intended: Option<Act>,
     // Whether it has drawn its ticket there, and how many visits there were with its own.
     pub has_drawn: bool,
-    pub drawn: u64,
+    pub visit_count: u64,
     // The put that isn't written yet, and the word before it.
     pub unwritten: Option<Key>,
     pub before: u64,

@@ -1,5 +1,5 @@
 //! Visits: a ticket is drawn inside a node, and what the act says is done there.
-ghost use Rattle.std.specs.Prelude.{◌≡◌, ◌≤◌, [], ◌<◌, ◌++◌, ◌∷◌, None, Some, IfSome, IsSome, MatchResult, length, slice_get};
+ghost use Rattle.std.specs.Prelude.{◌≡◌, ◌≤◌, [], ◌<◌, ◌++◌, ◌∷◌, None, Some, IfSome, IsSome, MatchResult, OnOk, length, slice_get};
 ghost use Rattle.entry_word.specs.declared.visit.Act.TheVariants.{Census, Look, Put};
 ghost use Rattle.directory.specs.Census.{census};
 ghost use Rattle.directory.specs.Histories.{before, cell, puts_to};
@@ -9,7 +9,7 @@ ghost use Rattle.directory.specs.Writes.{visits};
 ghost use Rattle.handset.specs.Kept.{GoesWith};
 ghost use Rattle.handset.specs.Progress.{after_write, due};
 ghost use Rattle.region_plan.specs.Settings.{setting_of};
-ghost use Rattle.station.specs.Handsets.{IsHandsetOf, put_of};
+ghost use Rattle.station.specs.Handsets.{GoesOn, IsHandsetOf, put_of};
 ghost use Rattle.station.specs.Passes.{IsPassOf};
 ghost use Rattle.station.specs.Setup.{IsCellOf, nodes_in, setting_in, subs_in};
 ghost use Rattle.station.specs.Visits.{HasLost, HasVisited, IsCensus, Makes, MayDraw};
@@ -43,6 +43,7 @@ pub struct CensusSeen {
 
 impl Tracker {
     /// Looks at a cell.
+    /// While another pass is inside the node, one turn is lost, and nothing else changes.
     pub fn visit_look(&self, pass: &mut Pass, plan: &Plan, key: Key) -> Result<Looked, Held>
         requires of { IsPassOf self.now pass.old }
         requires plan { plan.now ≡ self.now.setup.plan }
@@ -67,6 +68,7 @@ impl Tracker {
     }
 
     /// Makes the put that a handset has next, and answers its ticket.
+    /// While another pass is inside the node, one turn is lost, and nothing else changes.
     pub fn visit_put(
         &self,
         pass: &mut Pass,
@@ -88,6 +90,9 @@ impl Tracker {
             (λ visit. HasLost pass.old (act_node (setting_in self.now.setup) visit.act) held
             pass.new)
             × (handset.new ≡ handset.old)) }
+        ensures goes_on { OnOk result (IfSome (due (setting_of plan.now []) handset.old)
+            (λ visit. (own : IsHandsetOf self.now.setup pass.old.view handset.old)
+            → GoesOn self.now.setup pass.old.view pass.new.view handset.new own.steps visit)) }
     {
         let (key, word) = self.next_put(plan, handset);
         let node = self.node_of(plan, key);
@@ -101,6 +106,7 @@ impl Tracker {
     }
 
     /// Lists the subscribers that are at a node.
+    /// While another pass is inside the node, one turn is lost, and nothing else changes.
     pub fn visit_census(&self, pass: &mut Pass, node: u32) -> Result<CensusSeen, Held>
         requires of { IsPassOf self.now pass.old }
         requires node { node < nodes_in self.now.setup }

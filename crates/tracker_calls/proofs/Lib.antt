@@ -1,6 +1,10 @@
 mod Longer
 mod Looks
 mod Wanted
+mod Adding
 mod Rightly
 mod Walked
 mod Stepping
+mod Timing
+mod Moving
+mod WholeMove

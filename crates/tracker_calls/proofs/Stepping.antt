@@ -1,17 +1,21 @@
 -- A step of a move: which visit is made.
 use Rattle.std.proofs.Common.{◌≡◌, ℕ, ◌≤◌, true, [], refl, sym, subst, ap, ◌∙◌, Option}
-use Rattle.std.specs.Prelude.{IfSome, Some, None}
+use Rattle.std.specs.Prelude.{IfSome, IsSome, Some, None}
 use Rattle.std.specs.Option.{is_some}
 use Rattle.entry_word.specs.declared.visit.Visit.{Visit}
+use Rattle.directory.specs.Keys.{act_node}
 use Rattle.handset.specs.Kept.{HandsetData}
 use Rattle.handset.specs.Progress.{after_write, due}
 use Rattle.region_plan.specs.Plan.{PlanData}
 use Rattle.region_plan.specs.Settings.{setting_of}
-use Rattle.station.specs.Handsets.{IsHandsetOf}
+use Rattle.station.specs.Handsets.{GoesOn, IsHandsetOf}
 use Rattle.station.specs.Passes.{PassData}
 use Rattle.station.specs.Setup.{Setup, setting_in}
-use Rattle.station.specs.Visits.{HasVisited}
+use Rattle.station.specs.Visits.{HasLost, HasVisited}
+use Rattle.station.specs.declared.turns.Held.{Held}
+use Rattle.tracker_calls.specs.Added.{HasTried}
 use Rattle.tracker_calls.specs.Moves.{HasStepped}
+use Rattle.tracker_calls.proofs.Adding.{tried-again}
 
 some-left : (o : Option Visit) → is_some o ≡ true → (visit : Visit) × (o ≡ Some visit)
 some-left None h = cc
@@ -27,19 +31,52 @@ next-visit setup plan handset next same is left =
       subst (λ p. due (setting_of p []) handset ≡ Some there.0) same (sym is ∙ there.1),
     )
 
+-- what holds of it
+on-due : (setup : Setup) (plan : PlanData) (handset : HandsetData) (visit : Visit) (P : Visit → Type 0)
+    → plan ≡ setup.plan → due (setting_in setup) handset ≡ Some visit
+    → IfSome (due (setting_of plan []) handset) P → P visit
+on-due setup plan handset visit P same next holds =
+    subst (λ (o : Option Visit). IfSome o P) next (subst (λ p. IfSome (due (setting_of p []) handset) P) same holds)
+
 pub stepped : (setup : Setup) (plan : PlanData) (old new : PassData) (handset moved : HandsetData) (ticket : ℕ)
     → plan ≡ setup.plan → ((visit : Visit) × (due (setting_in setup) handset ≡ Some visit)) → 1 ≤ old.spare
     → IfSome (due (setting_of plan []) handset) (λ visit. HasVisited old visit.act ticket new)
     → moved ≡ after_write (setting_of plan []) handset handset.stage → IsHandsetOf setup new.view moved
+    → IfSome (due (setting_of plan []) handset) (λ visit. (own : IsHandsetOf setup old.view handset)
+    → GoesOn setup old.view new.view moved own.steps visit)
     → HasStepped setup old handset ticket new moved
-stepped setup plan old new handset moved ticket same next room visited made own =
+stepped setup plan old new handset moved ticket same next room visited made own goes_on =
     record {
       visit = next.0;
       next = next.1;
       room = room;
-      visited = subst (λ (o : Option Visit). IfSome o (λ visit. HasVisited old visit.act ticket new)) next.1
-          (subst (λ p. IfSome (due (setting_of p []) handset) (λ visit. HasVisited old visit.act ticket new)) same
-          visited);
+      visited = on-due setup plan handset next.0 (λ visit. HasVisited old visit.act ticket new) same next.1 visited;
       made = made ∙ ap (λ p. after_write (setting_of p []) handset handset.stage) same;
       own = own;
+      goes_on = on-due setup plan handset next.0 (λ visit. (own : IsHandsetOf setup old.view handset)
+          → GoesOn setup old.view new.view moved own.steps visit) same next.1 goes_on;
     }
+
+-- the turn at the node of the next put is lost once more
+pub tried-put : (setup : Setup) (plan : PlanData) (begun pass new : PassData) (handset : HandsetData) (held : Held)
+    → plan ≡ setup.plan → IsSome (due (setting_of plan []) handset) → HasTried begun pass
+    → IfSome (due (setting_of plan []) handset) (λ visit. HasLost pass (act_node (setting_in setup) visit.act) held new)
+    → HasTried begun new
+tried-put setup plan begun pass new handset held same left tried lost =
+    let next = next-visit setup plan handset (due (setting_of plan []) handset) same refl left in
+    tried-again begun pass new (act_node (setting_in setup) next.0.act) held tried
+    (on-due setup plan handset next.0 (λ visit. HasLost pass (act_node (setting_in setup) visit.act) held new) same
+    next.1 lost)
+
+-- turns that are lost leave a handset with its pass
+pub own-tried : (setup : Setup) (begun tried : PassData) (handset : HandsetData) → HasTried begun tried
+    → IsHandsetOf setup begun.view handset → IsHandsetOf setup tried.view handset
+own-tried setup begun tried handset lost its =
+    subst (λ (q : PassData). IsHandsetOf setup q.view handset) (sym lost.1) (record {
+      goes = its.goes;
+      sub = its.sub;
+      steps = its.steps;
+      script = its.script;
+      stands = its.stands;
+      made = its.made;
+    })

@@ -1,11 +1,11 @@
 -- How far a walk over the tracker has come.
-use Rattle.std.proofs.Common.{◌≡◌, ℕ, ◌-◌, ◌<◌, ◌≤◌, List, [], ◌∷◌, ◌++◌, Some, None, length, refl, sym, ap, ◌∙◌, subst, arith, append_assoc, length-append}
+use Rattle.std.proofs.Common.{◌≡◌, ℕ, ◌<◌, ◌≤◌, List, [], ◌∷◌, ◌++◌, Some, None, length, refl, sym, ap, ◌∙◌, subst, arith}
 use Rattle.std.specs.Prelude.{flat_map, slice_get}
-use Rattle.std.proofs.lemmas.List.{append-nil, get_or_push, length-take}
+use Rattle.std.proofs.lemmas.List.{length-take}
 use Rattle.entry_word.specs.declared.visit.Key.{Key}
 use Rattle.entry_word.specs.declared.visit.Act.TheVariants.{Look}
 use Rattle.directory.specs.Settings.{Setting}
-use Rattle.directory.specs.Histories.{History, IsFront, before, cell, tickets, words_at}
+use Rattle.directory.specs.Histories.{History, IsFront, before, cell, words_at}
 use Rattle.directory.specs.Finds.{FindCall, Stage, after_word, at_origin, ended, find, key_of, looks_left, most_looks}
 use Rattle.directory.specs.Looks.{AreLooks, IsFind, last_of, look_by}
 use Rattle.directory.specs.declared.answers.Found.{Found}
@@ -17,10 +17,10 @@ use Rattle.trail_laws.specs.Answers.{AnswersAreRight, QuietFindsAnswer}
 use Rattle.walk.specs.Walks.{GoesWith, WalkData, call_of, stage_of}
 use Rattle.tracker_calls.specs.Added.{HasAdded, HasTried}
 use Rattle.tracker_calls.specs.Finds.{HasFound, HasLookedOn}
-use Rattle.tracker_calls.proofs.Longer.{get-last, tickets-more}
+use Rattle.tracker_calls.proofs.Adding.{Itself, Longer, Through, added-more, added-none, added-tried, last-push, visited-front}
+use Rattle.tracker_calls.proofs.Longer.{get-last}
 use Rattle.tracker_calls.proofs.Looks.{looks-more}
 use Rattle.tracker_calls.proofs.Rightly.{looked-once, tells-rightly}
-use Rattle.tracker_calls.proofs.Wanted.{legal-seen}
 
 -- the looks so far, the walk that stands for their words, and room for all that are left
 pub record IsWalked (setup : Setup) (begun : PassData) (call : FindCall) (pass : PassData)
@@ -34,15 +34,6 @@ pub record IsWalked (setup : Setup) (begun : PassData) (call : FindCall) (pass :
   pub goes : GoesWith setup.plan walk
   pub its : call_of walk ≡ call
   pub room : looks_left (setting_in setup) call (stage_of setup.plan walk) ≤ pass.spare
-
-abbrev pub Itself : Type 0
-Itself = (history : History) → IsFront history history
-
-abbrev pub Longer : Type 0
-Longer = (history more : History) → IsFront history (history ++ more)
-
-abbrev pub Through : Type 0
-Through = (one two three : History) → IsFront one two → IsFront two three → IsFront one three
 
 abbrev pub LooksFall : Type 0
 LooksFall = (setting : Setting) (call : FindCall) (stage : Stage) (word : ℕ) (key : Key)
@@ -60,14 +51,7 @@ pub walked-first : Itself → (setup : Setup) (pass : PassData) (walk : WalkData
 walked-first itself setup pass walk goes origin outside room =
     record {
       made = [];
-      added = record {
-        begins = itself pass.view.seen;
-        visits = sym (append-nil _);
-        legal = λ h. absurd (omega (arith, h));
-        spare = omega arith;
-        outside = outside;
-        same = record { table = refl; seat = refl; setup = refl; actor = refl };
-      };
+      added = added-none itself setup pass outside;
       looks = no-looks (setting_in setup) pass.view.seen (actor_of pass) (call_of walk);
       stage = origin;
       late = λ h. absurd (omega (arith, h));
@@ -75,12 +59,6 @@ walked-first itself setup pass walk goes origin outside room =
       its = refl;
       room = subst (λ s. looks_left (setting_in setup) (call_of walk) s ≤ pass.spare) (sym origin) room;
     }
-
--- the last of some tickets and one more
-last-push : (made : List ℕ) (ticket : ℕ) → last_of (made ++ ticket ∷ []) ≡ ticket
-last-push made ticket =
-    let at : length made ≡ length (made ++ ticket ∷ []) - 1 = omega (arith, length-append made (ticket ∷ [])) in
-    get_or_push made ticket 0 (length (made ++ ticket ∷ []) - 1) at
 
 front-short : (xs zs : History) → IsFront xs zs → length xs ≤ length zs
 front-short xs zs front = omega (arith, ap length front, length-take (length xs) zs)
@@ -96,8 +74,7 @@ walked-on longer through fall setup begun call pass new walk moved key told at w
     let mine : actor_of pass ≡ actor_of begun = at.added.same.actor in
     let visit = look_by (actor_of pass) key in
     let front : IsFront pass.view.seen new.view.seen =
-    through pass.view.seen visited.earlier new.view.seen visited.begins
-    (subst (IsFront visited.earlier) (sym visited.seen) (longer visited.earlier (visit ∷ []))) in
+    visited-front longer through pass new (Look key) looked.ticket visited in
     let late : length pass.view.seen ≤ looked.ticket =
     omega (arith, visited.count, front-short pass.view.seen visited.earlier visited.begins) in
     let last : slice_get new.view.seen looked.ticket ≡ Some visit =
@@ -111,28 +88,9 @@ walked-on longer through fall setup begun call pass new walk moved key told at w
     let word = cell setting (before looked.ticket new.view.seen) key in
     let stage : stage_of setup.plan moved ≡ after_word setting call (stage_of setup.plan walk) word =
     looked.stage ∙ ap (λ c. after_word setting c (stage_of setup.plan walk) word) at.its in
-    let one = length-append at.made (looked.ticket ∷ []) in
     record {
       made = at.made ++ looked.ticket ∷ [];
-      added = record {
-        begins = through begun.view.seen pass.view.seen new.view.seen at.added.begins front;
-        visits = subst (λ a. tickets a new.view.seen
-            ≡ tickets a pass.view.seen ++ looked.ticket ∷ []) mine
-            (ap (tickets (actor_of pass)) visited.seen
-            ∙ (tickets-more (actor_of pass) pass.view.seen visited.earlier visit visited.begins visited.visits refl
-            ∙ ap (λ t. tickets (actor_of pass) pass.view.seen ++ t ∷ [])
-            visited.count))
-            ∙ (ap (λ l. l ++ looked.ticket ∷ []) at.added.visits ∙ append_assoc _ at.made (looked.ticket ∷ []));
-        legal = λ some. legal-seen setup pass new (Look key) looked.ticket told visited;
-        spare = omega (arith, visited.spare, at.added.spare, one);
-        outside = visited.outside;
-        same = record {
-          table = visited.same.table ∙ at.added.same.table;
-          seat = visited.same.seat ∙ at.added.same.seat;
-          setup = visited.same.setup ∙ at.added.same.setup;
-          actor = visited.same.actor ∙ at.added.same.actor;
-        };
-      };
+      added = added-more longer through setup begun pass new at.made (Look key) looked.ticket told at.added visited;
       looks = more.0;
       stage = stage ∙ (ap (λ s. after_word setting call s word) at.stage ∙ sym more.1);
       late = λ some. omega (
@@ -155,29 +113,20 @@ walked-on longer through fall setup begun call pass new walk moved key told at w
 -- turns that are lost leave a walk where it was
 pub walked-tried : (setup : Setup) (begun : PassData) (call : FindCall) (pass tried : PassData) (walk : WalkData)
     → HasTried pass tried → IsWalked setup begun call pass walk → IsWalked setup begun call tried walk
-walked-tried setup begun call pass tried walk same at =
-    subst (λ (q : PassData). IsWalked setup begun call q walk) (sym same) (record {
+walked-tried setup begun call pass tried walk lost at =
+    let seen : tried.view.seen ≡ pass.view.seen = ap (λ q. q.view.seen) lost.1 in
+    record {
       made = at.made;
-      added = record {
-        begins = at.added.begins;
-        visits = at.added.visits;
-        legal = at.added.legal;
-        spare = at.added.spare;
-        outside = at.added.outside;
-        same = record {
-          table = at.added.same.table;
-          seat = at.added.same.seat;
-          setup = at.added.same.setup;
-          actor = at.added.same.actor;
-        };
-      };
-      looks = at.looks;
-      stage = at.stage;
+      added = added-tried setup begun pass tried at.made lost at.added;
+      looks = subst (λ (h : History). AreLooks (setting_in setup) h (actor_of begun) call 0 at_origin at.made)
+          (sym seen) at.looks;
+      stage = at.stage
+          ∙ ap (λ h. find (setting_in setup) call (flat_map (words_at (setting_in setup) h) at.made)) (sym seen);
       late = at.late;
       goes = at.goes;
       its = at.its;
-      room = at.room;
-    })
+      room = omega (arith, at.room, ap (λ q. q.spare) lost.1);
+    }
 
 -- a walk that has its answer has made its find
 pub walked-out : AnswersAreRight → QuietFindsAnswer → PlanFindsAreNear → (setup : Setup) (begun : PassData)

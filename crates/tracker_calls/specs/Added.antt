@@ -5,10 +5,15 @@ use Rattle.directory.specs.Legal.{IsLegal}
 use Rattle.station.specs.Passes.{PassData, actor_of}
 use Rattle.station.specs.Setup.{Setup, setting_in, subs_in}
 use Rattle.station.specs.Visits.{IsSamePass}
+use Rattle.station.specs.declared.view.Lost.{Lost}
+
+-- the turns that a pass has lost go on from those that it had lost
+abbrev pub KeepsLost : PassData → PassData → Type 0
+KeepsLost old new = (more : List Lost) × (new.view.lost ≡ old.view.lost ++ more)
 
 -- the pass has made visits with these tickets, its next own ones: what it has seen goes on from
--- what it had seen, and is legal where it made one; each has used one of its spare; and it is in
--- no node
+-- what it had seen, and is legal where it made one; each has used one of its spare; it is in no
+-- node; and the turns that it had lost stay lost
 pub record HasAdded (setup : Setup) (old : PassData) (made : List ℕ) (new : PassData) : Type 0 where
   pub begins : IsFront old.view.seen new.view.seen
   pub visits : tickets (actor_of old) new.view.seen
@@ -17,8 +22,10 @@ pub record HasAdded (setup : Setup) (old : PassData) (made : List ℕ) (new : Pa
       → IsLegal (setting_in setup) sub new.view.seen
   pub spare : new.spare + length made ≡ old.spare
   pub outside : new.view.inside ≡ None
+  pub lost : KeepsLost old new
   pub same : IsSamePass old new
 
--- the pass has lost turns, and nothing else has changed
+-- the pass has lost more turns, and nothing else has changed
 abbrev pub HasTried : PassData → PassData → Type 0
-HasTried old new = new ≡ record old { view = record old.view { lost = new.view.lost } }
+HasTried old new =
+    KeepsLost old new × (new ≡ record old { view = record old.view { lost = new.view.lost } })

@@ -1,5 +1,6 @@
 -- What a find over the tracker does to its pass: its looks are the pass's next own visits, and its
--- answer is theirs, in the history that the pass has then seen.
+-- answer is theirs, in the history that the pass has then seen. Key laws: `find_now` and `find`, by
+-- their clauses `find`.
 use Rattle.std.specs.Prelude.{◌≡◌, ℕ, ◌<◌, ◌≤◌, List, flat_map, Some}
 use Rattle.entry_word.specs.declared.visit.Key.{Key}
 use Rattle.entry_word.specs.declared.visit.Act.TheVariants.{Look}

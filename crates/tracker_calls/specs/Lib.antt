@@ -1,4 +1,5 @@
 pub mod Added
 pub mod Moves
+pub mod WholeMoves
 pub mod Finds
 pub mod Answers

@@ -1,10 +1,11 @@
--- What a step of a move does to its pass and to its handset, and why none is made.
+-- What a step of a move does to its pass and to its handset, and why none is made. Key law:
+-- `move_step`, by its clause `step`.
 use Rattle.std.specs.Prelude.{◌≡◌, ℕ, ◌≤◌, Some, None}
 use Rattle.entry_word.specs.declared.visit.Visit.{Visit}
 use Rattle.directory.specs.Keys.{act_node}
 use Rattle.handset.specs.Kept.{HandsetData}
 use Rattle.handset.specs.Progress.{after_write, due}
-use Rattle.station.specs.Handsets.{IsHandsetOf}
+use Rattle.station.specs.Handsets.{GoesOn, IsHandsetOf}
 use Rattle.station.specs.Passes.{PassData}
 use Rattle.station.specs.Setup.{Setup, setting_in}
 use Rattle.station.specs.Visits.{HasLost, HasVisited}
@@ -20,6 +21,8 @@ pub record HasStepped (setup : Setup) (old : PassData) (handset : HandsetData) (
   pub visited : HasVisited old visit.act ticket new
   pub made : moved ≡ after_write (setting_in setup) handset handset.stage
   pub own : IsHandsetOf setup new.view moved
+  pub goes_on : (own : IsHandsetOf setup old.view handset)
+      → GoesOn setup old.view new.view moved own.steps visit
 
 -- why it isn't made: nothing is left, or the pass has no room, and nothing changes; or the turn
 -- at the node of the next visit was lost, and nothing else changes

@@ -63,7 +63,7 @@ pub fn find_now(
         × (pass.new.view.lost ≡ pass.old.view.lost))
         (λ fault. IsFindFault tracker.now.setup pass.old call fault pass.new) }
 {
-    let mut walk = match begun(pass, plan, subs, from, sub) {
+    let mut walk = match begin_walk(pass, plan, subs, from, sub) {
         Ok(walk) => walk,
         Err(FindRefusal::NoNode) => return Err(FindFault::NoNode),
         Err(FindRefusal::NoSubscriber) => return Err(FindFault::NoSubscriber),
@@ -76,6 +76,7 @@ pub fn find_now(
 }
 
 /// Finds a subscriber from a node. It waits at each node on the way until no other pass is inside.
+/// It may wait for ever.
 pub fn find<R: Wait>(
     rt: &R,
     tracker: &Tracker,
@@ -98,12 +99,12 @@ pub fn find<R: Wait>(
         × HasFound tracker.now.setup pass.old call found pass.new)
         (λ refusal. IsRefusal tracker.now.setup pass.old call refusal × (pass.new ≡ pass.old)) }
 {
-    let mut walk = begun(pass, plan, subs, from, sub)?;
+    let mut walk = begin_walk(pass, plan, subs, from, sub)?;
     Ok(walk_through(rt, tracker, pass, plan, distances, &mut walk))
 }
 
 // The walk of a find that may begin.
-fn begun(pass: &Pass, plan: &Plan, subs: u32, from: u32, sub: u32) -> Result<Walk, FindRefusal>
+fn begin_walk(pass: &Pass, plan: &Plan, subs: u32, from: u32, sub: u32) -> Result<Walk, FindRefusal>
     ensures { (tracker : TrackerData) → plan.now ≡ tracker.setup.plan → subs ≡ subs_in tracker.setup
         → let call : FindCall = record { from = from; sub = sub } in MatchResult result
         (λ walk. MayFind tracker.setup pass.now call

@@ -1,19 +1,23 @@
-// Whole calls over the line 0 - 1 - 2 - 3 of unit weights: a subscriber at node 3, and a caller.
-ghost use Rattle.std.specs.Prelude.{◌≡◌, ◌+◌, ◌≤◌, ◌^◌, ◌∷◌, [], length, IfOk, OnOk};
+//! Whole calls over the line 0 - 1 - 2 - 3 of unit weights: a subscriber at node 3, and a caller.
+ghost use Rattle.std.specs.Prelude.{◌≡◌, ◌+◌, ◌<◌, ◌≤◌, ◌^◌, ◌∷◌, [], length, IfOk, OnOk};
 ghost use Rattle.region_plan.specs.Matched.{BoundsFinds};
 ghost use Rattle.region_plan.specs.Plan.{nodes_of};
 ghost use Rattle.station.specs.Handsets.{IsHandsetOf};
 ghost use Rattle.station.specs.Opening.{setup_of};
-ghost use Rattle.station.specs.Passes.{AreFresh, IsFree, fresh_view};
+ghost use Rattle.station.specs.Passes.{AreFresh, IsFree, IsPassOf, fresh_view};
+ghost use Rattle.station.specs.Setup.{nodes_in, subs_in};
 
-use crate::{FindFault, FindRefusal, StepFault, find, find_now, move_step};
+use crate::{
+    FindFault, FindRefusal, MoveToFault, Moved, StepFault, find, find_now, move_step, move_to,
+};
 use directory::Found;
 use distances::Distances;
 use handset::Handset;
 use net_graph::{Edge, Graph};
 use region_plan::Plan;
-use station::{Pass, Tracker};
+use station::{CloseCause, CloseFault, Pass, Tracker};
 use std::alloc::Global;
+use std::sync::Wait;
 use std::test::Fail;
 
 fn edge(a: u32, b: u32) -> Edge
@@ -75,14 +79,24 @@ fn next_pass(
     Ok(pass)
 }
 
+// The handset of the subscriber, at rest.
+fn resting_handset(alloc: Global, plan: &Plan) -> Result<Handset, Fail>
+    requires nodes { nodes_of plan.now ≡ 4 }
+    ensures own { IfOk result (IsHandsetOf (setup_of plan.now (3 ∷ []) 2)
+        (fresh_view (setup_of plan.now (3 ∷ []) 2) 0)) }
+{
+    let handset = Handset::new(alloc, 0, 3, plan)?;
+    Ok(handset)
+}
+
 // The handset of the subscriber, which has begun to move to node 2.
-fn moving(alloc: Global, plan: &Plan, distances: &Distances) -> Result<Handset, Fail>
+fn moving_handset(alloc: Global, plan: &Plan, distances: &Distances) -> Result<Handset, Fail>
     requires belongs { plan.now.distances ≡ distances.now }
     requires nodes { nodes_of plan.now ≡ 4 }
     ensures own { IfOk result (IsHandsetOf (setup_of plan.now (3 ∷ []) 2)
         (fresh_view (setup_of plan.now (3 ∷ []) 2) 0)) }
 {
-    let mut handset = Handset::new(alloc, 0, 3, plan)?;
+    let mut handset = resting_handset(alloc, plan)?;
     match handset.begin(plan, distances, 2) {
         Ok(()) => Ok(handset),
         Err(_) => Err("the move begins".into()),
@@ -93,7 +107,7 @@ fn moving(alloc: Global, plan: &Plan, distances: &Distances) -> Result<Handset, 
 fn refusals(rt: HostRuntime) -> Result<(), Fail> {
     let (plan, distances) = line_of_four(rt.alloc())?;
     let (tracker, mut own, mut other) = open(rt.alloc(), &plan, 0)?;
-    let mut handset = moving(rt.alloc(), &plan, &distances)?;
+    let mut handset = moving_handset(rt.alloc(), &plan, &distances)?;
     let fault = move_step(&tracker, &mut own, &plan, &mut handset).err();
     assert!(rt; fault == Some(StepFault::Unreserved { need: 1 }));
     let fault = find_now(&tracker, &mut other, &plan, &distances, 1, 2, 0).err();
@@ -107,71 +121,273 @@ fn refusals(rt: HostRuntime) -> Result<(), Fail> {
     Ok(())
 }
 
-// Makes the next put, and answers its ticket.
-fn step(tracker: &Tracker, pass: &mut Pass, plan: &Plan, handset: &mut Handset) -> Result<u64, Fail>
-    requires free { IsFree tracker.now 0 pass.old }
-    requires plan { plan.now ≡ tracker.now.setup.plan }
-    requires own { IsHandsetOf tracker.now.setup pass.old.view handset.old }
-    ensures free { OnOk result (IsFree tracker.now 0 pass.new) }
-    ensures own { OnOk result (IsHandsetOf tracker.now.setup pass.new.view handset.new) }
-{
-    match move_step(tracker, pass, plan, handset) {
-        Ok(ticket) => Ok(ticket),
-        Err(_) => Err("nobody is inside".into()),
-    }
-}
-
-// Makes the next three puts, and answers the first of their tickets and the last.
-fn three_steps(
+// A whole move, after which there may be another.
+fn whole_move<R: Wait>(
+    rt: &R,
     tracker: &Tracker,
     pass: &mut Pass,
     plan: &Plan,
+    distances: &Distances,
     handset: &mut Handset,
-) -> Result<(u64, u64), Fail>
+    to: u32,
+) -> Result<Moved, MoveToFault>
     requires free { IsFree tracker.now 0 pass.old }
     requires plan { plan.now ≡ tracker.now.setup.plan }
+    requires belongs { plan.now.distances ≡ distances.now }
     requires own { IsHandsetOf tracker.now.setup pass.old.view handset.old }
-    ensures free { OnOk result (IsFree tracker.now 0 pass.new) }
-    ensures own { OnOk result (IsHandsetOf tracker.now.setup pass.new.view handset.new) }
+    ensures free { IsFree tracker.now 0 pass.new }
+    ensures own { IsHandsetOf tracker.now.setup pass.new.view handset.new }
 {
-    let first = step(tracker, pass, plan, handset)?;
-    step(tracker, pass, plan, handset)?;
-    let last = step(tracker, pass, plan, handset)?;
-    Ok((first, last))
+    match move_to(rt, tracker, pass, plan, distances, handset, to) {
+        Ok(moved) => Ok(moved),
+        Err(fault) => Err(fault),
+    }
+}
+
+// Why a move of the subscriber to each of some nodes isn't made.
+fn faults_of_moves<R: Wait>(
+    rt: &R,
+    tracker: &Tracker,
+    pass: &mut Pass,
+    plan: &Plan,
+    distances: &Distances,
+    handset: &mut Handset,
+) -> [Option<MoveToFault>; 3]
+    requires free { IsFree tracker.now 0 pass.old }
+    requires plan { plan.now ≡ tracker.now.setup.plan }
+    requires belongs { plan.now.distances ≡ distances.now }
+    requires own { IsHandsetOf tracker.now.setup pass.old.view handset.old }
+{
+    let near = whole_move(rt, tracker, pass, plan, distances, handset, 2).err();
+    let outside = whole_move(rt, tracker, pass, plan, distances, handset, 4).err();
+    let same = whole_move(rt, tracker, pass, plan, distances, handset, 3).err();
+    [near, outside, same]
 }
 
 #[test]
-fn amid_a_move(rt: HostRuntime) -> Result<(), Fail> {
+fn moves_without_room(rt: HostRuntime) -> Result<(), Fail> {
     let (plan, distances) = line_of_four(rt.alloc())?;
-    let (tracker, mut own, mut other) = open(rt.alloc(), &plan, 20)?;
-    let mut handset = moving(rt.alloc(), &plan, &distances)?;
-    assert_eq!(rt;
-        three_steps(&tracker, &mut own, &plan, &mut handset)?,
-        (0, 2)
-    );
-    let found = find_now(&tracker, &mut other, &plan, &distances, 1, 2, 0).ok();
-    assert!(rt; found == Some(at(3, 0, None, 1)));
-    assert!(rt; other.seen() == 5 && other.spare() == 18);
-    assert_eq!(rt;
-        three_steps(&tracker, &mut own, &plan, &mut handset)?,
-        (5, 7)
-    );
-    let fault = move_step(&tracker, &mut own, &plan, &mut handset).err();
-    assert!(rt; fault == Some(StepFault::AtRest));
+    let (tracker, mut own, _) = open(rt.alloc(), &plan, 12)?;
+    let mut handset = resting_handset(rt.alloc(), &plan)?;
+    let faults = faults_of_moves(&rt, &tracker, &mut own, &plan, &distances, &mut handset);
+    let wanted = [
+        Some(MoveToFault::Unreserved { need: 13 }),
+        Some(MoveToFault::NoNode),
+        Some(MoveToFault::SamePlace),
+    ];
+    assert!(rt; faults == wanted && own.seen() == 0 && own.spare() == 12);
     Ok(())
 }
 
 #[test]
-fn after_a_note(rt: HostRuntime) -> Result<(), Fail> {
+fn a_move_before_any_reserve(rt: HostRuntime) -> Result<(), Fail> {
+    let (plan, distances) = line_of_four(rt.alloc())?;
+    let (tracker, mut own, _) = open(rt.alloc(), &plan, 0)?;
+    let mut handset = resting_handset(rt.alloc(), &plan)?;
+    let fault = move_to(&rt, &tracker, &mut own, &plan, &distances, &mut handset, 2).err();
+    assert!(rt; fault == Some(MoveToFault::Unreserved { need: 13 }));
+    Ok(())
+}
+
+#[test]
+fn a_move_amid_another(rt: HostRuntime) -> Result<(), Fail> {
+    let (plan, distances) = line_of_four(rt.alloc())?;
+    let (tracker, mut own, _) = open(rt.alloc(), &plan, 20)?;
+    let mut handset = moving_handset(rt.alloc(), &plan, &distances)?;
+    let fault = move_to(&rt, &tracker, &mut own, &plan, &distances, &mut handset, 0).err();
+    assert!(rt; fault == Some(MoveToFault::UnderWay));
+    Ok(())
+}
+
+#[test]
+fn a_whole_move(rt: HostRuntime) -> Result<(), Fail> {
     let (plan, distances) = line_of_four(rt.alloc())?;
     let (tracker, mut own, mut other) = open(rt.alloc(), &plan, 20)?;
-    let mut handset = moving(rt.alloc(), &plan, &distances)?;
-    three_steps(&tracker, &mut own, &plan, &mut handset)?;
-    let note = tracker.note(&mut own);
-    tracker.hear(&mut other, note);
-    assert!(rt; other.seen() == 3);
-    let found = find_now(&tracker, &mut other, &plan, &distances, 1, 2, 0).ok();
-    assert!(rt; found == Some(at(3, 0, None, 1)) && other.seen() == 5);
+    let mut handset = resting_handset(rt.alloc(), &plan)?;
+    let moved = whole_move(&rt, &tracker, &mut own, &plan, &distances, &mut handset, 2).ok();
+    let found = find(&rt, &tracker, &mut other, &plan, &distances, 1, 3, 0).ok();
+    let same = whole_move(&rt, &tracker, &mut own, &plan, &distances, &mut handset, 2).err();
+    let outside = whole_move(&rt, &tracker, &mut own, &plan, &distances, &mut handset, 4).err();
+    let times = Moved {
+        number: 1,
+        first: 0,
+        commit: 3,
+        last: 5,
+    };
+    assert!(rt;
+        moved == Some(times)
+            && found == Some(at(2, 1, Some(0), 5))
+            && other.seen() == 9
+            && same == Some(MoveToFault::SamePlace)
+            && outside == Some(MoveToFault::NoNode)
+    );
+    Ok(())
+}
+
+// The ticket of the next put.
+fn step(
+    tracker: &Tracker,
+    pass: &mut Pass,
+    plan: &Plan,
+    handset: &mut Handset,
+) -> Result<u64, StepFault>
+    requires free { IsFree tracker.now 0 pass.old }
+    requires plan { plan.now ≡ tracker.now.setup.plan }
+    requires own { IsHandsetOf tracker.now.setup pass.old.view handset.old }
+    ensures free { IsFree tracker.now 0 pass.new }
+    ensures own { IsHandsetOf tracker.now.setup pass.new.view handset.new }
+{
+    move_step(tracker, pass, plan, handset)
+}
+
+// The ticket of a census of a node, and what it found, if there is room.
+fn census(tracker: &Tracker, pass: &mut Pass, node: u32) -> Option<(u64, u64, u32)>
+    requires free { IsFree tracker.now 0 pass.old }
+    requires node { node < nodes_in tracker.now.setup }
+    ensures free { IsFree tracker.now 0 pass.new }
+{
+    if pass.spare() == 0 {
+        return None;
+    }
+    match tracker.visit_census(pass, node) {
+        Ok(seen) => Some((seen.ticket, seen.who, seen.count)),
+        Err(_) => None,
+    }
+}
+
+// Finds the subscriber from node 2, and tells how many visits are then seen.
+fn find_from_two(
+    tracker: &Tracker,
+    pass: &mut Pass,
+    plan: &Plan,
+    distances: &Distances,
+) -> (Option<Found>, u64)
+    requires free { IsFree tracker.now 0 pass.old }
+    requires plan { plan.now ≡ tracker.now.setup.plan }
+    requires bounding { BoundsFinds plan.now }
+    requires belongs { plan.now.distances ≡ distances.now }
+    requires subs { subs_in tracker.now.setup ≡ 1 }
+    ensures free { IsFree tracker.now 0 pass.new }
+{
+    let found = find_now(tracker, pass, plan, distances, 1, 2, 0).ok();
+    (found, pass.seen())
+}
+
+// Closes the tracker, first without the caller's pass.
+fn close(alloc: Global, tracker: Tracker, own: Pass, other: Pass) -> Result<Vec<u32>, Fail>
+    requires own { IsPassOf tracker own }
+    requires other { IsPassOf tracker other }
+{
+    let mut passes = Vec::new(alloc);
+    passes.push(own)?;
+    let Err(fault) = tracker.close(alloc, passes) else {
+        return Err("a pass is missing".into());
+    };
+    let CloseFault {
+        cause,
+        tracker,
+        mut passes,
+    } = fault;
+    if cause != (CloseCause::Missing { actor: 1 }) {
+        return Err("the caller's pass is missing".into());
+    }
+    passes.push(other)?;
+    match tracker.close(alloc, passes) {
+        Ok(order) => Ok(order),
+        Err(_) => Err("all passes are there".into()),
+    }
+}
+
+// Three puts of the subscriber, of which the caller hears, and what a find then answers.
+fn before_the_commit(
+    tracker: &Tracker,
+    own: &mut Pass,
+    other: &mut Pass,
+    plan: &Plan,
+    distances: &Distances,
+    handset: &mut Handset,
+) -> ([Option<u64>; 3], u64, (Option<Found>, u64))
+    requires own { IsFree tracker.now 0 own.old }
+    requires other { IsFree tracker.now 0 other.old }
+    requires plan { plan.now ≡ tracker.now.setup.plan }
+    requires bounding { BoundsFinds plan.now }
+    requires belongs { plan.now.distances ≡ distances.now }
+    requires subs { subs_in tracker.now.setup ≡ 1 }
+    requires handset { IsHandsetOf tracker.now.setup own.old.view handset.old }
+    ensures own { IsFree tracker.now 0 own.new }
+    ensures other { IsFree tracker.now 0 other.new }
+    ensures handset { IsHandsetOf tracker.now.setup own.new.view handset.new }
+{
+    let one = step(tracker, own, plan, handset).ok();
+    let two = step(tracker, own, plan, handset).ok();
+    let three = step(tracker, own, plan, handset).ok();
+    let note = tracker.note(own);
+    tracker.hear(other, note);
+    let heard = other.seen();
+    (
+        [one, two, three],
+        heard,
+        find_from_two(tracker, other, plan, distances),
+    )
+}
+
+// The commit with a census of the old node behind it, the other two puts, and that none is left.
+fn to_the_end(
+    tracker: &Tracker,
+    own: &mut Pass,
+    other: &mut Pass,
+    plan: &Plan,
+    handset: &mut Handset,
+) -> (
+    Option<u64>,
+    Option<(u64, u64, u32)>,
+    [Option<u64>; 2],
+    Option<StepFault>,
+)
+    requires own { IsFree tracker.now 0 own.old }
+    requires other { IsFree tracker.now 0 other.old }
+    requires plan { plan.now ≡ tracker.now.setup.plan }
+    requires nodes { 4 ≤ nodes_in tracker.now.setup }
+    requires handset { IsHandsetOf tracker.now.setup own.old.view handset.old }
+    ensures own { IsFree tracker.now 0 own.new }
+    ensures other { IsFree tracker.now 0 other.new }
+{
+    let commit = step(tracker, own, plan, handset).ok();
+    let gone = census(tracker, other, 3);
+    let one = step(tracker, own, plan, handset).ok();
+    let two = step(tracker, own, plan, handset).ok();
+    let rest = step(tracker, own, plan, handset).err();
+    (commit, gone, [one, two], rest)
+}
+
+#[test]
+fn before_and_after_a_commit(rt: HostRuntime) -> Result<(), Fail> {
+    let (plan, distances) = line_of_four(rt.alloc())?;
+    let (tracker, mut own, mut other) = open(rt.alloc(), &plan, 20)?;
+    let mut handset = moving_handset(rt.alloc(), &plan, &distances)?;
+    let early = before_the_commit(
+        &tracker,
+        &mut own,
+        &mut other,
+        &plan,
+        &distances,
+        &mut handset,
+    );
+    let late = to_the_end(&tracker, &mut own, &mut other, &plan, &mut handset);
+    let here = census(&tracker, &mut other, 2);
+    let found = find_from_two(&tracker, &mut other, &plan, &distances);
+    let order = close(rt.alloc(), tracker, own, other)?;
+    assert!(rt; early == ([Some(0), Some(1), Some(2)], 3, (Some(at(3, 0, None, 1)), 5)));
+    assert!(rt;
+        late == (
+            Some(5),
+            Some((6, 0, 0)),
+            [Some(7), Some(8)],
+            Some(StepFault::AtRest)
+        )
+    );
+    assert!(rt; here == Some((9, 1, 1)) && found == (Some(at(2, 1, None, 0)), 11));
+    assert!(rt; order.as_slice() == [0, 0, 0, 1, 1, 0, 1, 0, 0, 1, 1].as_slice());
     Ok(())
 }
 
@@ -182,22 +398,6 @@ fn at(node: u32, number: u32, level: Option<u32>, weight: u64) -> Found {
         level,
         weight,
     }
-}
-
-#[test]
-fn after_a_move(rt: HostRuntime) -> Result<(), Fail> {
-    let (plan, distances) = line_of_four(rt.alloc())?;
-    let (tracker, mut own, mut other) = open(rt.alloc(), &plan, 20)?;
-    let mut handset = moving(rt.alloc(), &plan, &distances)?;
-    three_steps(&tracker, &mut own, &plan, &mut handset)?;
-    assert_eq!(rt;
-        three_steps(&tracker, &mut own, &plan, &mut handset)?,
-        (3, 5)
-    );
-    let found = find(&rt, &tracker, &mut other, &plan, &distances, 1, 3, 0).ok();
-    assert!(rt; found == Some(at(2, 1, Some(0), 5)));
-    assert!(rt; other.seen() == 9);
-    Ok(())
 }
 
 #[test]

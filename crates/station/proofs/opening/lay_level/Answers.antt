@@ -1,5 +1,4 @@
-use Rattle.std.proofs.Common.{◌≡◌, ◌+◌, ◌*◌, ◌<◌, ℕ, [], ◌∷◌, rules, arith, sym, ap, ◌∙◌, subst, length, length-append}
-use Rattle.region_plan.specs.Plan.{nodes_of}
+use Rattle.std.proofs.Common.{◌≡◌, [], ◌∷◌, rules, arith, sym, ap, ◌∙◌, subst, length, length-append}
 use Rattle.entry_word.specs.declared.visit.Key.TheVariants.{Entry}
 use Rattle.station.specs.Opening.{AreLaid, setup_of}
 use Rattle.station.specs.Setup.{cell_word, IsCellOf}

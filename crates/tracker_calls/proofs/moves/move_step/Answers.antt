@@ -23,5 +23,5 @@ returns-in-Ok c =
           c.visit_put.new.handset c.in-Ok.ticket c.requires.plan
           (next-visit c.args.tracker.now.setup c.args.plan.now c.args.handset.now c.next.result c.requires.plan
           c.next.ensures.exact c.if-is_none.ensures)
-          (omega (arith, c.spare.ensures, c.if-spare-eq0.false)) made.0 made.1 made.2;
+          (omega (arith, c.spare.ensures, c.if-spare-eq0.false)) made.0 made.1 made.2 c.in-Ok.ensures.goes_on;
     }

@@ -5,7 +5,8 @@ use Rattle.region_plan.specs.Matched.{IsMatched}
 use Rattle.region_plan.specs.Settings.{setting_of}
 use Rattle.station.specs.Setup.{setting_in, subs_in}
 use Rattle.walk.specs.Walks.{GoesWith, call_of, stage_of}
-use Rattle.tracker_calls.proofs.Wanted.{cell-wanted, word-seen}
+use Rattle.tracker_calls.proofs.Wanted.{word-seen}
+use Rattle.walk.specs.LookLaws.{cell-wanted}
 use Rattle.tracker_calls.proofs.walking.look_on.Goals as goal
 
 pub visit_look-requires-clause-cell : goal.visit_look-requires-clause-cell

@@ -1,7 +1,7 @@
 use Rattle.std.proofs.Common.{subst, sym, ap, ◌∙◌, ◌<◌, refl}
 use Rattle.entry_word.specs.declared.visit.Act.TheVariants.{Census}
 use Rattle.station.specs.Setup.{nodes_in}
-use Rattle.station.specs.Plays.{entered}
+use Rattle.station.specs.Plays.{view_inside}
 use Rattle.station.proofs.Wholes.{with_view}
 use Rattle.station.proofs.tracker.Tracker.enter.Goals as goal
 
@@ -14,7 +14,7 @@ returns c = let t = c.in_ok-turn.ensures in let p = c.pass.view_is in record {
       known = subst (λ s. c.args.node < nodes_in s) (sym (ap (λ m. m.0.setup) t.turn ∙ (ap (λ q. q.view.setup) p
           ∙ c.requires.of.setup))) c.requires.node;
     },
-    with_view c.args.pass.now _ _ (λ v. entered v c.args.node (Census c.args.node)) p t.table t.id refl (ap
+    with_view c.args.pass.now _ _ (λ v. view_inside v c.args.node (Census c.args.node)) p t.table t.id refl (ap
         (λ m. m.0) t.turn),
   );
 }

@@ -1,53 +1,13 @@
-use Rattle.std.proofs.Common.{rules, arith, subst, sym, ap, ◌∙◌, ◌≡◌, ◌≤◌, ◌^◌, length}
-use Rattle.atomic_table.specs.Table.{Allows, step}
-use mathlib.Core.Option.{none}
-use Rattle.station.specs.Setup.{setting_in, nodes_in}
-use Rattle.station.specs.Rule.{IsKept}
-use Rattle.station.specs.Plays.{IsLearned, Learns, Seat}
-use Rattle.station.proofs.Joining.{hears, learns, longer_long, longer_other, pass_heard}
+use Rattle.std.proofs.Common.{arith, sym, ap, ◌∙◌, length}
+use Rattle.station.proofs.Joining.{longer_other, pass_heard}
 use Rattle.station.proofs.tracker.Tracker.hear.Goals as goal
-
-pub join_seat-requires : goal.join_seat-requires
-join_seat-requires c =
-    let one = c.pass.view_is in let two = c.self.view_is in let three = c.note.view_is in (
-      search rules,
-      search rules,
-      c.note.invariant.slots,
-      omega
-          (arith, c.self.invariant.words),
-      hears _ _ _ c.pass.inside.seat.me.0 c.note.inside.seat.me.0
-          c.note.invariant.low c.note.invariant.high c.note.invariant.inside,
-    )
-
-pub load-requires : goal.load-requires
-load-requires c =
-    let m = c.join_seat.new.seat.me in
-    let old = c.pass.inside.seat.me.0 in
-    let note = c.note.inside.seat.me.0 in
-    let one = c.pass.view_is in let two = c.self.view_is in
-    let joined = c.join_seat.ensures.2 in
-    let e : m.0.setup ≡ c.self.inside.table.shared.key = ap (λ q. q.0.setup) joined ∙ (ap (λ q. q.view.setup) one
-    ∙ (c.requires.of.setup ∙ sym (ap (λ t. t.setup) two))) in
-    let few : (setting_in m.0.setup).nodes ≤ 2 ^ 16 = omega
-    (arith, c.self.invariant.nodes_are, c.self.invariant.few_nodes, ap nodes_in e) in
-    let long = longer_long old.seen note.seen in
-    let slots = c.self.inside.table.shared.table_id.slots in (
-      search rules,
-      omega (arith, c.self.invariant.words),
-      subst (λ k. Allows
-          (IsKept k) slots c.join_seat.new.seat.id m 0 (λ y. y) (Learns (step slots 0 0 0 none) m)) e
-          (learns c.front_of_history_is_legal.ensures slots c.join_seat.new.seat.id 0 m few
-          (omega (arith, long, ap (λ q. length q.0.told) joined, ap (λ q. length q.0.seen) joined))
-          (omega (arith, long, ap (λ q. length q.0.had) joined, ap (λ q. length q.0.seen) joined))),
-    )
 
 pub invariant_of-pass : goal.invariant_of-pass
 invariant_of-pass c =
-    let t = c.load.ensures.2 in
     let old = c.pass.inside.seat.me.0 in
     let note = c.note.inside.seat.me.0 in
     let more = longer_other old.seen note.seen (omega
     (arith, c.if-pass-seen.true, c.pass.invariant.seen_is, c.note.invariant.seen_is)) in
-    pass_heard c.pass.inside.seat.me c.load.new.seat.me note _ c.pass.inside.seen c.note.inside.seen _ _ _
-    c.pass.invariant (t.0 ∙ c.join_seat.ensures.2) (subst (λ (q : Seat). IsLearned q.0) (sym t.0) t.1)
+    pass_heard c.pass.inside.seat.me c.learn.new.seat.me note _ c.pass.inside.seen c.note.inside.seen _ _ _
+    c.pass.invariant c.learn.ensures.heard c.learn.ensures.learned
     (c.note.invariant.seen_is ∙ sym (ap length more))

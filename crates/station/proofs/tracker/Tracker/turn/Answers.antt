@@ -1,5 +1,5 @@
 use Rattle.std.proofs.Common.{rules, arith, sym, ap, ◌∙◌, ◌≡◌, ◌≢◌, suc, ℕ, ◌+◌, ◌-◌, ◌<◌, refl}
-use Rattle.station.specs.Plays.{beaten}
+use Rattle.station.specs.Plays.{view_held}
 use Rattle.station.specs.Setup.{nodes_in}
 use Rattle.station.proofs.Turning.{turns_at}
 use Rattle.station.proofs.tracker.Tracker.turn.Goals as goal
@@ -38,7 +38,7 @@ returns-clause-turn c =
       refl,
       (λ e. t.1 (some ∙ ap suc (e ∙ sym c.requires.low))),
       t.0
-          ∙ ap (λ (k : ℕ). (beaten c.args.seat.now.me.0 c.args.node k, c.args.seat.now.me.1)) some,
+          ∙ ap (λ (k : ℕ). (view_held c.args.seat.now.me.0 c.args.node k, c.args.seat.now.me.1)) some,
     )
   where
     up : (k : ℕ) → k ≢ 0 → k ≡ suc (k - 1)

@@ -1,7 +1,7 @@
 use Rattle.std.proofs.Common.{arith, subst, sym, ap, ◌∙◌, ◌≡◌, ◌^◌, ◌<◌, length, refl}
 use Rattle.entry_word.specs.declared.visit.Act.TheVariants.{Census}
 use Rattle.directory.specs.Histories.{own}
-use Rattle.station.specs.Plays.{gone}
+use Rattle.station.specs.Plays.{view_outside}
 use Rattle.station.specs.declared.view.View.{View}
 use Rattle.station.proofs.Turning.{no_key}
 use Rattle.station.proofs.Ticketing.{own_few, pass_done, left_by, pass_is}
@@ -33,8 +33,8 @@ invariant_of-pass-2 c =
     let d = c.draw-ticket.ensures.drawn in
     let same = c.count_here-count.ensures.same ∙ c.list_here-who.ensures.same in
     let left = c.give_back.ensures.left in
-    let new : c.give_back.new.seat.me.0 ≡ gone c.draw-ticket.new.seat.me.0 = ap (λ m. m.0) left
-    ∙ ap (λ m. gone m.0) same in
+    let new : c.give_back.new.seat.me.0 ≡ view_outside c.draw-ticket.new.seat.me.0 = ap (λ m. m.0) left
+    ∙ ap (λ m. view_outside m.0) same in
     let slots = ap (λ m. m.1) left ∙ (ap (λ m. m.1) same ∙ (c.draw-ticket.ensures.slots
     ∙ ap (λ m. m.1) c.in_ok-turn.ensures.turn)) in
     let by = left_by c.draw-ticket.new.seat.me.0 c.give_back.new.seat.me.0 new (ap (λ

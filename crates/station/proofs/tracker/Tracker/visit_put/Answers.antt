@@ -1,5 +1,6 @@
 use Rattle.std.proofs.Common.{arith, subst, sym, ap, ◌∙◌, ◌≡◌, ◌<◌, ◌++◌, ◌∷◌, [], length, suc, ℕ, Some}
 use Rattle.entry_word.specs.declared.visit.Act.TheVariants.{Put}
+use Rattle.entry_word.specs.declared.visit.Visit.{Visit}
 use Rattle.directory.specs.Histories.{puts_to}
 use Rattle.directory.specs.Keys.{key_node}
 use Rattle.directory.specs.Legal.{IsLegal}
@@ -7,11 +8,11 @@ use Rattle.handset.specs.Kept.{GoesWith}
 use Rattle.handset.specs.Stands.{StandsFor}
 use Rattle.region_plan.specs.Settings.{setting_of}
 use Rattle.station.specs.Setup.{Setup, setting_in, subs_in, IsCellOf}
-use Rattle.station.specs.Plays.{entered}
-use Rattle.station.specs.Handsets.{IsHandsetOf, put_of}
-use Rattle.station.specs.Visits.{MayDraw}
+use Rattle.station.specs.Plays.{view_inside}
+use Rattle.station.specs.Handsets.{GoesOn, IsHandsetOf, put_of}
+use Rattle.station.specs.Visits.{HasVisited, MayDraw}
 use Rattle.station.specs.declared.view.View.{View}
-use Rattle.station.proofs.Putting.{may_put, handset_after, visited_due, write-sub}
+use Rattle.station.proofs.Putting.{may_put, handset_after, put_due, write-sub}
 use Rattle.station.proofs.Ticketing.{own_few, pass_done, visit_done, pass_is, seen_done}
 use Rattle.station.proofs.tracker.Tracker.visit_put.Goals as goal
 
@@ -64,7 +65,7 @@ returns c =
     let h = c.requires.handset in
     let made = c.make_put-ticket.ensures.made in
     let turn = ap (λ m. m.0) c.in_ok-turn.ensures.turn
-    ∙ ap (λ q. entered q.view c.node_of-node.result (Put key word)) told in
+    ∙ ap (λ q. view_inside q.view c.node_of-node.result (Put key word)) told in
     let table = c.make_put-ticket.ensures.table ∙ (c.in_ok-turn.ensures.table ∙ ap (λ q. q.table) told) in
     let seat = c.make_put-ticket.ensures.id ∙ (c.in_ok-turn.ensures.id ∙ ap (λ q. q.seat) told) in
     let less = c.keep_ticket.ensures.spare ∙ ap (λ q. q.spare) told in
@@ -75,19 +76,25 @@ returns c =
     let low = subst (λ (s : Setup). old.view.low < subs_in s) (sym c.requires.of.setup) h.script.known in
     let puts = subst (λ (v : View). v.low < subs_in v.setup
     → puts_to v.low made.draws.earlier ≡ puts_to v.low v.seen) turn made.draws.puts low in
+    let made_by = λ (own : IsHandsetOf setup old.view c.args.handset.now).
+    handset_after setup old.view c.make_put-ticket.new.seat.me.0 c.args.handset.now c.made.new.self key word
+    made.draws.earlier own (c.next_put-key.ensures.next old.view own
+    ∙ ap (λ (a : ℕ). Some (put_of a key word)) own.sub) (c.next_put-key.ensures.sub ∙ own.sub)
+    visited.same.actor (seen_done old.view _ _ _ _ _ _ turn made.draws made.left) puts (subst
+    (λ p. GoesWith p c.made.new.self) c.requires.plan c.made.ensures.goes)
+    (ap (λ q. q.sub) c.made.ensures.exact ∙ write-sub
+    (setting_of c.args.plan.now []) c.args.handset.now c.args.handset.now.stage)
+    (subst (λ p. StandsFor (setting_of p setup.homes) c.made.new.self own.steps (suc made_count)) c.requires.plan
+    (c.made.ensures.stands setup.homes own.steps made_count (subst (λ p. StandsFor
+    (setting_of p setup.homes) c.args.handset.now own.steps made_count) (sym c.requires.plan) own.stands))) in
+    let is_due = λ (P : Visit → Type 0). put_due _ c.args.handset.now.sub old.view.low key word P
+    c.next_put-key.ensures.due h.sub in
     record {
       made = (
-        visited_due _ c.args.handset.now.sub key word c.make_put-ticket.result old _ c.next_put-key.ensures.due visited,
+        is_due (λ (visit : Visit). HasVisited old visit.act c.make_put-ticket.result _) visited,
         c.made.ensures.exact,
-        handset_after setup old.view c.make_put-ticket.new.seat.me.0 c.args.handset.now c.made.new.self key word
-            made.draws.earlier h (c.next_put-key.ensures.next old.view h
-            ∙ ap (λ (a : ℕ). Some (put_of a key word)) h.sub) (c.next_put-key.ensures.sub ∙ h.sub)
-            visited.same.actor (seen_done old.view _ _ _ _ _ _ turn made.draws made.left) puts (subst
-            (λ p. GoesWith p c.made.new.self) c.requires.plan c.made.ensures.goes)
-            (ap (λ q. q.sub) c.made.ensures.exact ∙ write-sub
-            (setting_of c.args.plan.now []) c.args.handset.now c.args.handset.now.stage)
-            (subst (λ p. StandsFor (setting_of p setup.homes) c.made.new.self h.steps (suc made_count)) c.requires.plan
-            (c.made.ensures.stands setup.homes h.steps made_count (subst (λ p. StandsFor
-            (setting_of p setup.homes) c.args.handset.now h.steps made_count) (sym c.requires.plan) h.stands))),
+        (made_by h).own,
       );
+      goes_on = is_due (λ (visit : Visit). (own : IsHandsetOf setup old.view c.args.handset.now)
+          → GoesOn setup old.view c.make_put-ticket.new.seat.me.0 c.made.new.self own.steps visit) made_by;
     }

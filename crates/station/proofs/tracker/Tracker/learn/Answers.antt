@@ -5,29 +5,29 @@ use Rattle.station.specs.Setup.{setting_in, nodes_in}
 use Rattle.station.specs.Rule.{IsKept}
 use Rattle.station.specs.Plays.{Learns}
 use Rattle.station.proofs.Joining.{hears, learns, longer_long}
-use Rattle.station.proofs.tracker.Tracker.take_in.Goals as goal
+use Rattle.station.proofs.tracker.Tracker.learn.Goals as goal
 
 pub join_seat-requires : goal.join_seat-requires
 join_seat-requires c =
-    let one = c.longest.view_is in let two = c.self.view_is in let three = c.note.view_is in (
+    let two = c.self.view_is in (
       search rules,
       search rules,
-      c.note.invariant.slots,
+      c.requires.slots,
       omega
           (arith, c.self.invariant.words),
-      hears _ _ _ c.longest.inside.seat.me.0 c.note.inside.seat.me.0
-          c.note.invariant.low c.note.invariant.high c.note.invariant.inside,
+      hears _ _ _ c.args.seat.now.me.0 c.args.other.me.0 c.requires.low c.requires.high
+          c.requires.outside,
     )
 
 pub load-requires : goal.load-requires
 load-requires c =
     let m = c.join_seat.new.seat.me in
-    let old = c.longest.inside.seat.me.0 in
-    let note = c.note.inside.seat.me.0 in
-    let one = c.longest.view_is in let two = c.self.view_is in
+    let old = c.args.seat.now.me.0 in
+    let note = c.args.other.me.0 in
+    let two = c.self.view_is in
     let joined = c.join_seat.ensures.2 in
-    let e : m.0.setup ≡ c.self.inside.table.shared.key = ap (λ q. q.0.setup) joined ∙ (ap (λ q. q.view.setup) one
-    ∙ (c.requires.of.setup ∙ sym (ap (λ t. t.setup) two))) in
+    let e : m.0.setup ≡ c.self.inside.table.shared.key = ap (λ q. q.0.setup) joined
+    ∙ (c.requires.setup ∙ sym (ap (λ t. t.setup) two)) in
     let few : (setting_in m.0.setup).nodes ≤ 2 ^ 16 = omega
     (arith, c.self.invariant.nodes_are, c.self.invariant.few_nodes, ap nodes_in e) in
     let long = longer_long old.seen note.seen in

@@ -1,0 +1,90 @@
+-- Short laws of histories that go on, for the crates above: what is beyond a front, and the tickets
+-- of an actor. Key law: `tickets-more` (one more visit of an actor, behind a front with all of its
+-- own, adds one ticket).
+use Rattle.std.proofs.Common.{◌≡◌, ◌≢◌, ℕ, suc, ◌+◌, ◌==◌, eq-eqb, ne_eqb, Bool, true, false, true≢false, cond, [], ◌∷◌, ◌++◌, length, drop, refl, sym, ap, ◌∙◌, arith}
+use Rattle.std.proofs.lemmas.List.{append-nil, take-append-drop}
+use Rattle.std.proofs.lemmas.List.Elements.{filter-append}
+use Rattle.entry_word.specs.declared.visit.Visit.{Visit}
+use Rattle.directory.specs.Histories.{History, IsFront, own, tickets, tickets_from}
+
+-- what a history has beyond a front
+pub front-rest : (xs zs : History) → IsFront xs zs → zs ≡ xs ++ drop (length xs) zs
+front-rest xs zs f =
+    sym (take-append-drop (length xs) zs) ∙ ap (λ l. l ++ drop (length xs) zs) (sym f)
+
+-- an actor's own visits: none is beyond a front that has all of them
+goes_on-nil : (xs ys : History) → xs ++ ys ≡ xs → ys ≡ []
+goes_on-nil [] ys e = e
+goes_on-nil (x ∷ xs) ys e = goes_on-nil xs ys (ap (drop 1) e)
+
+pub own-append : (actor : ℕ) (xs ys : History)
+    → own actor (xs ++ ys) ≡ own actor xs ++ own actor ys
+own-append actor xs ys = filter-append (λ (v : Visit). v.actor == actor) xs ys
+
+pub own-beyond : (actor : ℕ) (xs zs : History) → IsFront xs zs → own actor zs ≡ own actor xs
+    → own actor (drop (length xs) zs) ≡ []
+own-beyond actor xs zs f same = goes_on-nil (own actor xs) (own actor (drop (length xs) zs))
+    (sym (own-append actor xs (drop (length xs) zs))
+    ∙ (ap (own actor) (sym (front-rest xs zs f)) ∙ same))
+
+pub own-nil : (actor : ℕ) (visit : Visit) (later : History) → own actor (visit ∷ later) ≡ []
+    → (visit.actor ≢ actor) × (own actor later ≡ [])
+own-nil actor visit later e = go (visit.actor == actor) refl e
+  where
+    go : (b : Bool) → (visit.actor == actor) ≡ b
+        → cond b (visit ∷ own actor later) (own actor later) ≡ []
+        → (visit.actor ≢ actor) × (own actor later ≡ [])
+    go true is f = absurd (omega (arith, ap length f))
+    go false is f = ((λ same. true≢false (sym (eq-eqb visit.actor actor same) ∙ is)), f)
+
+-- the tickets of an actor in a history that goes on
+from-append : (actor t : ℕ) (xs ys : History) → tickets_from actor t (xs ++ ys)
+    ≡ tickets_from actor t xs ++ tickets_from actor (t + length xs) ys
+unfolding tickets_from
+from-append actor t [] ys = ap (λ (k : ℕ). tickets_from actor k ys) (omega arith)
+from-append actor t (x ∷ xs) ys = go (x.actor == actor) (from-append actor (suc t) xs ys
+    ∙ ap (λ (k : ℕ). tickets_from actor (suc t) xs ++ tickets_from actor k ys) (omega arith))
+  where
+    go : (b : Bool) → tickets_from actor (suc t) (xs ++ ys)
+        ≡ tickets_from actor (suc t) xs ++ tickets_from actor (t + suc (length xs)) ys
+        → cond b (t ∷ tickets_from actor (suc t) (xs ++ ys)) (tickets_from actor (suc t) (xs ++ ys))
+        ≡ cond b (t ∷ tickets_from actor (suc t) xs) (tickets_from actor (suc t) xs)
+        ++ tickets_from actor (t + suc (length xs)) ys
+    go true h = ap (λ l. t ∷ l) h
+    go false h = h
+
+from-none : (actor t : ℕ) (xs : History) → own actor xs ≡ [] → tickets_from actor t xs ≡ []
+unfolding tickets_from
+from-none actor t [] e = refl
+from-none actor t (x ∷ xs) e = let n = own-nil actor x xs e in
+    ap (λ b. cond b (t ∷ tickets_from actor (suc t) xs) (tickets_from actor (suc t) xs))
+    (ne_eqb x.actor actor n.0) ∙ from-none actor (suc t) xs n.1
+
+from-one : (actor t : ℕ) (visit : Visit) → visit.actor ≡ actor
+    → tickets_from actor t (visit ∷ []) ≡ t ∷ []
+unfolding tickets_from
+from-one actor t visit mine = ap (λ b. cond b (t ∷ []) []) (eq-eqb visit.actor actor mine)
+
+-- a front that has all visits of an actor has all its tickets
+pub tickets-same : (actor : ℕ) (xs zs : History) → IsFront xs zs → own actor zs ≡ own actor xs
+    → tickets actor zs ≡ tickets actor xs
+tickets-same actor xs zs front same =
+    let rest = drop (length xs) zs in
+    ap (tickets actor) (front-rest xs zs front) ∙ (from-append actor 0 xs rest
+    ∙ (ap (λ l. tickets actor xs ++ l)
+    (from-none actor (0 + length xs) rest (own-beyond actor xs zs front same))
+    ∙ append-nil (tickets actor xs)))
+
+-- a visit of its own has the last ticket
+pub tickets-mine : (actor : ℕ) (zs : History) (visit : Visit) → visit.actor ≡ actor
+    → tickets actor (zs ++ visit ∷ []) ≡ tickets actor zs ++ length zs ∷ []
+tickets-mine actor zs visit mine = from-append actor 0 zs (visit ∷ [])
+    ∙ ap (λ l. tickets actor zs ++ l)
+    (from-one actor (0 + length zs) visit mine ∙ ap (λ (k : ℕ). k ∷ []) (omega arith))
+
+pub tickets-more : (actor : ℕ) (xs earlier : History) (visit : Visit) → IsFront xs earlier
+    → own actor earlier ≡ own actor xs → visit.actor ≡ actor
+    → tickets actor (earlier ++ visit ∷ []) ≡ tickets actor xs ++ length earlier ∷ []
+tickets-more actor xs earlier visit front same mine =
+    tickets-mine actor earlier visit mine
+    ∙ ap (λ l. l ++ length earlier ∷ []) (tickets-same actor xs earlier front same)

@@ -1,0 +1,200 @@
+-- Where a handset is in its move: until the commit its stage tells how many puts are made.
+use Rattle.std.proofs.Common.{◌≡◌, ℕ, suc, ◌-◌, ◌<◌, ◌==◌, Bool, true, false, true≢false, List, [], ◌∷◌, ◌++◌, Option, Some, None, length, refl, sym, ap, ◌∙◌, subst, arith, length-append}
+use Rattle.std.specs.Prelude.{nat_lt, slice_index, if◌then◌else◌}
+use Rattle.std.proofs.lemmas.List.{get_or_append_left, get_or_push}
+use Rattle.std.proofs.lemmas.Bool.{ltb-false}
+use Rattle.directory.specs.Courses.{Move}
+use Rattle.directory.specs.Settings.{Setting}
+use Rattle.handset.specs.Beginning.{begin_move, is_rest, journey_to}
+use Rattle.handset.specs.Kept.{HandsetData, IsWithin}
+use Rattle.handset.specs.Progress.{after_write, erasing_at, first_with, go_on, is_behind, is_old, purging_at, purging_from}
+use Rattle.handset.specs.declared.stage.Stage.{Stage}
+use Rattle.handset.specs.declared.stage.Stage.TheVariants.{Resting, Coming, Renewing, Committing, Confirming, Erasing, Purging, Switching}
+use Rattle.tracker_calls.specs.WholeMoves.{commit_place}
+
+-- whether a move is under way that isn't committed, and how many puts of it are then made
+abbrev pub is_early : Stage → Bool
+is_early Resting = false
+is_early Coming = true
+is_early (Renewing level) = true
+is_early Committing = true
+is_early Confirming = false
+is_early (Erasing level) = false
+is_early (Purging node) = false
+is_early (Switching off) = false
+
+abbrev pub place_of : Move → Stage → ℕ
+place_of move Resting = 0
+place_of move Coming = 0
+place_of move (Renewing level) = suc level
+place_of move Committing = commit_place move
+place_of move Confirming = 0
+place_of move (Erasing level) = 0
+place_of move (Purging node) = 0
+place_of move (Switching off) = 0
+
+-- the number of a handset and the ticket of its commit, when puts of a move are made
+abbrev pub IsEarly : Move → ℕ → HandsetData → Stage → List ℕ → Type 0
+IsEarly move number handset stage made = (length made ≡ place_of move stage) × (handset.number ≡ number)
+
+abbrev pub IsLate : Move → ℕ → HandsetData → List ℕ → ℕ → Type 0
+IsLate move number handset made commit =
+    (commit ≡ slice_index made (commit_place move)) × (commit_place move < length made)
+    × (handset.number ≡ suc number)
+
+pub record IsTimed (move : Move) (number : ℕ) (handset : HandsetData) (made : List ℕ) (commit : ℕ) : Type 0 where
+  pub last : handset.last ≡ move
+  pub early : is_early handset.stage ≡ true → IsEarly move number handset handset.stage made
+  pub late : is_early handset.stage ≡ false → IsLate move number handset made commit
+
+-- behind the commit a handset stays there
+late-purging : (o : Option ℕ) → is_early (purging_at o) ≡ false
+late-purging None = refl
+late-purging (Some node) = refl
+
+late-either : (b : Bool) (one other : Stage) → is_early one ≡ false → is_early other ≡ false
+    → is_early (if b then one else other) ≡ false
+late-either true one other f g = f
+late-either false one other f g = g
+
+late-erasing : (setting : Setting) (handset : HandsetData) (o : Option ℕ)
+    → is_early (erasing_at setting handset o) ≡ false
+late-erasing setting handset None =
+    late-either (handset.last.renewed == setting.top) (purging_from setting handset 0) Resting
+    (late-purging (first_with (is_behind handset) 0 (setting.nodes - 0))) refl
+late-erasing setting handset (Some level) = refl
+
+-- behind the commit, what a put leaves of it
+abbrev Stays : HandsetData → HandsetData → Type 0
+Stays old new = (new.last ≡ old.last) × (new.number ≡ old.number) × (is_early new.stage ≡ false)
+
+stays-on : (setting : Setting) (handset : HandsetData) (stage : Stage) → is_early stage ≡ false
+    → Stays handset (go_on setting handset stage)
+stays-on setting handset Resting late = (refl, refl, refl)
+stays-on setting handset Coming late = cc
+stays-on setting handset (Renewing level) late = cc
+stays-on setting handset Committing late = cc
+stays-on setting handset Confirming late = (refl, refl, refl)
+stays-on setting handset (Erasing level) late = (refl, refl, refl)
+stays-on setting handset (Purging node) late = (refl, refl, refl)
+stays-on setting handset (Switching off) late = (refl, refl, refl)
+
+late-timed : (move : Move) (number : ℕ) (handset after : HandsetData) (made : List ℕ) (commit ticket : ℕ)
+    → handset.last ≡ move → IsLate move number handset made commit → Stays handset after
+    → IsTimed move number after (made ++ ticket ∷ []) commit
+late-timed move number handset after made commit ticket last late stays =
+    record {
+      last = stays.0 ∙ last;
+      early = λ e. absurd (true≢false (sym e ∙ stays.2));
+      late = λ e. (
+        late.0 ∙ sym (get_or_append_left made (ticket ∷ []) 0 (commit_place move) late.1),
+        omega (arith, late.1, length-append made (ticket ∷ [])),
+        stays.1 ∙ late.2,
+      );
+    }
+
+-- before the first put
+pub timed-first : (setting : Setting) (from : HandsetData) (to : ℕ)
+    → IsTimed (journey_to setting from to) from.number (begin_move setting from to) [] 0
+timed-first setting from to = record { last = refl; early = λ e. (refl, refl); late = λ e. cc }
+
+-- one put more
+timed-by : (setting : Setting) (nodes : ℕ) (move : Move) (number : ℕ) (handset : HandsetData) (made : List ℕ)
+    (commit ticket : ℕ) → move.number ≡ suc number → handset.last ≡ move
+    → (stage : Stage) → IsWithin nodes handset.last stage → is_rest stage ≡ false
+    → (is_early stage ≡ true → IsEarly move number handset stage made)
+    → (is_early stage ≡ false → IsLate move number handset made commit)
+    → IsTimed move number (after_write setting handset stage) (made ++ ticket ∷ [])
+    (if is_early stage then ticket else commit)
+timed-by setting nodes move number handset made commit ticket next last Resting within busy early late = cc
+timed-by setting nodes move number handset made commit ticket next last Coming within busy early late =
+    record {
+      last = last;
+      early = λ e. (omega (arith, (early refl).0, length-append made (ticket ∷ [])), (early refl).1);
+      late = λ e. cc;
+    }
+timed-by setting nodes move number handset made commit ticket next last (Renewing level) within busy early late =
+    renewed (nat_lt level handset.last.renewed) refl
+  where
+    renewed : (b : Bool) → nat_lt level handset.last.renewed ≡ b
+        → IsTimed move number (record handset { stage = if b then Renewing (suc level) else Committing })
+        (made ++ ticket ∷ []) ticket
+    renewed true e = record {
+      last = last;
+      early = λ _. (omega (arith, (early refl).0, length-append made (ticket ∷ [])), (early refl).1);
+      late = λ f. cc;
+    }
+    renewed false e = record {
+      last = last;
+      early = λ _. (
+        omega (
+          arith,
+          (early refl).0,
+          length-append made (ticket ∷ []),
+          within,
+          ltb-false level handset.last.renewed e,
+          ap (λ (m : Move). m.renewed) last,
+        ),
+        (early refl).1,
+      );
+      late = λ f. cc;
+    }
+timed-by setting nodes move number handset made commit ticket next last Committing within busy early late =
+    record {
+      last = last;
+      early = λ e. cc;
+      late = λ e. (
+        sym (get_or_push made ticket 0 (commit_place move) (early refl).0),
+        omega (arith, (early refl).0, length-append made (ticket ∷ [])),
+        ap (λ (m : Move). m.number) last ∙ next,
+      );
+    }
+timed-by setting nodes move number handset made commit ticket next last Confirming within busy early late =
+    late-timed move number handset _ made commit ticket last (late refl) (stays-on setting handset _
+    (late-erasing setting handset (first_with (is_old setting handset) 0 (suc handset.last.renewed - 0))))
+timed-by setting nodes move number handset made commit ticket next last (Erasing level) within busy early late =
+    late-timed move number handset _ made commit ticket last (late refl) (stays-on setting handset _
+    (late-erasing setting handset (first_with (is_old setting handset) (suc level)
+    (suc handset.last.renewed - suc level))))
+timed-by setting nodes move number handset made commit ticket next last (Purging node) within busy early late =
+    late-timed move number handset _ made commit ticket last (late refl) (stays-on setting handset _
+    (late-purging (first_with (is_behind handset) (suc node) (setting.nodes - suc node))))
+timed-by setting nodes move number handset made commit ticket next last (Switching off) within busy early late =
+    late-timed move number handset _ made commit ticket last (late refl) (refl, refl, refl)
+
+timed-as : (setting : Setting) (nodes : ℕ) (move : Move) (number : ℕ) (handset : HandsetData) (made : List ℕ)
+    (commit ticket : ℕ) → move.number ≡ suc number → IsWithin nodes handset.last handset.stage
+    → is_rest handset.stage ≡ false → IsTimed move number handset made commit → (b : Bool)
+    → is_early handset.stage ≡ b
+    → IsTimed move number (after_write setting handset handset.stage) (made ++ ticket ∷ [])
+    (if b then ticket else commit)
+timed-as setting nodes move number handset made commit ticket next within busy timed b is =
+    subst (λ c. IsTimed move number (after_write setting handset handset.stage) (made ++ ticket ∷ [])
+    (if c then ticket else commit)) is
+    (timed-by setting nodes move number handset made commit ticket next timed.last handset.stage within busy
+    timed.early timed.late)
+
+-- until the number changes the put may be the commit, and no later one is
+pub timed-early : (setting : Setting) (nodes : ℕ) (move : Move) (number : ℕ) (handset : HandsetData) (made : List ℕ)
+    (commit ticket : ℕ) → move.number ≡ suc number → IsWithin nodes handset.last handset.stage
+    → is_rest handset.stage ≡ false → handset.number ≡ number → IsTimed move number handset made commit
+    → IsTimed move number (after_write setting handset handset.stage) (made ++ ticket ∷ []) ticket
+timed-early setting nodes move number handset made commit ticket next within busy same timed =
+    go (is_early handset.stage) refl
+  where
+    go : (b : Bool) → is_early handset.stage ≡ b
+        → IsTimed move number (after_write setting handset handset.stage) (made ++ ticket ∷ []) ticket
+    go true is = timed-as setting nodes move number handset made commit ticket next within busy timed true is
+    go false is = absurd (omega (arith, same, (timed.late is).2))
+
+pub timed-late : (setting : Setting) (nodes : ℕ) (move : Move) (number : ℕ) (handset : HandsetData) (made : List ℕ)
+    (commit ticket : ℕ) → move.number ≡ suc number → IsWithin nodes handset.last handset.stage
+    → is_rest handset.stage ≡ false → (handset.number ≡ number → ⊥) → IsTimed move number handset made commit
+    → IsTimed move number (after_write setting handset handset.stage) (made ++ ticket ∷ []) commit
+timed-late setting nodes move number handset made commit ticket next within busy other timed =
+    go (is_early handset.stage) refl
+  where
+    go : (b : Bool) → is_early handset.stage ≡ b
+        → IsTimed move number (after_write setting handset handset.stage) (made ++ ticket ∷ []) commit
+    go true is = absurd (other (timed.early is).1)
+    go false is = timed-as setting nodes move number handset made commit ticket next within busy timed false is

@@ -1,0 +1,153 @@
+-- A whole move so far, with the tickets that its answer tells.
+use Rattle.std.proofs.Common.{◌≡◌, ℕ, suc, ◌≤◌, true, false, None, Option, Some, [], ◌∷◌, ◌++◌, List, length, refl, sym, ap, ◌∙◌, subst, arith, length-append}
+use Rattle.std.specs.Option.{is_some}
+use Rattle.std.proofs.lemmas.List.{get_or_append_left}
+use Rattle.entry_word.specs.declared.visit.Visit.{Visit}
+use Rattle.directory.specs.Histories.{own}
+use Rattle.directory.specs.Looks.{first_of, last_of}
+use Rattle.handset.specs.Beginning.{begin_move, is_rest, journey_to}
+use Rattle.handset.specs.Kept.{HandsetData}
+use Rattle.handset.specs.Progress.{due}
+use Rattle.region_plan.specs.Plan.{PlanData}
+use Rattle.region_plan.specs.Settings.{setting_of}
+use Rattle.station.specs.HandsetLaws.{rest-means}
+use Rattle.station.specs.Passes.{PassData, actor_of}
+use Rattle.station.specs.Setup.{Setup, nodes_in, setting_in}
+use Rattle.tracker_calls.specs.Added.{HasTried}
+use Rattle.tracker_calls.specs.Moves.{HasStepped}
+use Rattle.tracker_calls.specs.WholeMoves.{HasMoved}
+use Rattle.tracker_calls.specs.declared.whole_moves.Moved.{Moved}
+use Rattle.tracker_calls.proofs.Adding.{Longer, Through, last-push}
+use Rattle.tracker_calls.proofs.Moving.{HasPut, none-rests, put-all, put-more, put-room, put-tried, some-busy}
+use Rattle.tracker_calls.proofs.Timing.{IsTimed, is_early, timed-early, timed-first, timed-late}
+
+pub record IsMoving (setup : Setup) (begun : PassData) (from : HandsetData) (to : ℕ) (times : Moved)
+    (pass : PassData) (handset : HandsetData) : Type 0 where
+  pub made : List ℕ
+  pub put : HasPut setup begun from to made pass handset
+  pub timed : IsTimed (journey_to (setting_in setup) from to) from.number handset made times.commit
+  pub number : times.number ≡ suc from.number
+  pub first : times.first ≡ first_of made
+  pub last : times.last ≡ last_of made
+  pub some : 1 ≤ length made
+
+-- a put, with the ticket of the commit where the number is still the old one
+timed-step : (setup : Setup) (begun : PassData) (from : HandsetData) (to commit : ℕ) (made : List ℕ)
+    (tried new : PassData) (handset moved : HandsetData) (ticket : ℕ)
+    → HasPut setup begun from to made tried handset → HasStepped setup tried handset ticket new moved
+    → IsTimed (journey_to (setting_in setup) from to) from.number handset made commit
+    → (handset.number ≡ from.number
+    → IsTimed (journey_to (setting_in setup) from to) from.number moved (made ++ ticket ∷ []) ticket)
+    × ((handset.number ≡ from.number → ⊥)
+    → IsTimed (journey_to (setting_in setup) from to) from.number moved (made ++ ticket ∷ []) commit)
+timed-step setup begun from to commit made tried new handset moved ticket at stepped timed =
+    let move = journey_to (setting_in setup) from to in
+    let busy : is_rest handset.stage ≡ false = some-busy (setting_in setup) handset (ap is_some stepped.next) in (
+      λ same. subst (λ h. IsTimed move from.number h (made ++ ticket ∷ []) ticket) (sym stepped.made)
+          (timed-early (setting_in setup) (nodes_in setup) move from.number handset made commit ticket refl
+          at.its.goes.stage busy same timed),
+      λ other. subst (λ h. IsTimed move from.number h (made ++ ticket ∷ []) commit) (sym stepped.made)
+          (timed-late (setting_in setup) (nodes_in setup) move from.number handset made commit ticket refl
+          at.its.goes.stage busy other timed),
+    )
+
+-- the first put of a move
+pub moving-first : Longer → Through → (setup : Setup) (begun : PassData) (from : HandsetData) (to : ℕ)
+    (tried new : PassData) (handset moved : HandsetData) (ticket : ℕ) → begun.view.setup ≡ setup
+    → HasTried begun tried → HasPut setup begun from to [] begun handset
+    → handset ≡ begin_move (setting_in setup) from to → HasStepped setup tried handset ticket new moved
+    → IsMoving setup begun from to
+    (record { number = suc from.number; first = ticket; commit = ticket; last = ticket }) new moved
+moving-first longer through setup begun from to tried new handset moved ticket told lost none is stepped =
+    let at = put-tried setup begun from to [] begun tried handset lost none in
+    record {
+      made = ticket ∷ [];
+      put = put-more longer through setup begun from to [] tried new handset moved ticket
+          (at.added.same.setup ∙ told) at stepped;
+      timed = (timed-step setup begun from to 0 [] tried new handset moved ticket at stepped
+          (subst (λ h. IsTimed (journey_to (setting_in setup) from to) from.number h [] 0) (sym is)
+          (timed-first (setting_in setup) from to))).0 (ap (λ h. h.number) is);
+      number = refl;
+      first = refl;
+      last = refl;
+      some = omega arith;
+    }
+
+-- and one put more
+pub moving-on : Longer → Through → (setup : Setup) (begun : PassData) (from : HandsetData) (to : ℕ) (times : Moved)
+    (pass tried new : PassData) (handset moved : HandsetData) (ticket : ℕ) → begun.view.setup ≡ setup
+    → HasTried pass tried → IsMoving setup begun from to times pass handset
+    → HasStepped setup tried handset ticket new moved
+    → (handset.number ≡ from.number
+    → IsMoving setup begun from to (record times { commit = ticket; last = ticket }) new moved)
+    × ((handset.number ≡ from.number → ⊥)
+    → IsMoving setup begun from to (record times { last = ticket }) new moved)
+moving-on longer through setup begun from to times pass tried new handset moved ticket told lost moving stepped =
+    let made = moving.made in
+    let at = put-tried setup begun from to made pass tried handset lost moving.put in
+    let put = put-more longer through setup begun from to made tried new handset moved ticket
+    (at.added.same.setup ∙ told) at stepped in
+    let timed = timed-step setup begun from to times.commit made tried new handset moved ticket at stepped
+    moving.timed in
+    let first = moving.first ∙ sym (get_or_append_left made (ticket ∷ []) 0 0 moving.some) in
+    let some : 1 ≤ length (made ++ ticket ∷ []) = omega (arith, length-append made (ticket ∷ [])) in (
+      λ same. record {
+        made = made ++ ticket ∷ [];
+        put = put;
+        timed = timed.0 same;
+        number = moving.number;
+        first = first;
+        last = sym (last-push made ticket);
+        some = some;
+      },
+      λ other. record {
+        made = made ++ ticket ∷ [];
+        put = put;
+        timed = timed.1 other;
+        number = moving.number;
+        first = first;
+        last = sym (last-push made ticket);
+        some = some;
+      },
+    )
+
+-- room for the next put
+pub moving-room : (setup : Setup) (begun : PassData) (from : HandsetData) (to : ℕ) (times : Moved) (pass : PassData)
+    (handset : HandsetData) → IsMoving setup begun from to times pass handset
+    → is_some (due (setting_in setup) handset) ≡ true → 1 ≤ pass.spare
+moving-room setup begun from to times pass handset moving left =
+    put-room setup begun from to moving.made pass handset moving.put (some-busy (setting_in setup) handset left)
+
+-- a move that has nothing left is made
+pub moving-out : (setup : Setup) (begun : PassData) (from : HandsetData) (to : ℕ) (times : Moved) (pass : PassData)
+    (handset : HandsetData) → IsMoving setup begun from to times pass handset
+    → due (setting_in setup) handset ≡ None → HasMoved setup begun from to times pass handset
+moving-out setup begun from to times pass handset moving none =
+    let put = moving.put in
+    let rests = none-rests (setting_in setup) handset (ap is_some none) in
+    let all = put-all setup begun from to moving.made pass handset put rests in
+    record {
+      steps = put.steps;
+      stood = put.stood;
+      made = moving.made;
+      added = put.added;
+      count = sym put.count ∙ ap length all;
+      visits = put.visits_are ∙ ap (λ l. own (actor_of begun) begun.view.seen ++ l) all;
+      after_is = put.after;
+      rest = none;
+      its = put.its;
+      number = moving.number;
+      first = moving.first;
+      commit = (moving.timed.late (ap is_early (rest-means handset.stage rests))).0;
+      last = moving.last;
+    }
+
+-- nothing is due where the code reads no next put
+pub none-due : (setup : Setup) (plan : PlanData) (handset : HandsetData) (next : Option Visit) → plan ≡ setup.plan
+    → next ≡ due (setting_of plan []) handset → is_some next ≡ false → due (setting_in setup) handset ≡ None
+none-due setup plan handset next same is none =
+    subst (λ p. due (setting_of p []) handset ≡ None) same (sym is ∙ nothing next none)
+  where
+    nothing : (o : Option Visit) → is_some o ≡ false → o ≡ None
+    nothing None e = refl
+    nothing (Some visit) e = cc

@@ -1,0 +1,64 @@
+use Rattle.std.proofs.Common.{◌≡◌, ℕ, arith, sym, ◌∙◌, subst, []}
+use Rattle.handset.specs.Beginning.{begin_move}
+use Rattle.region_plan.specs.Settings.{setting_of}
+use Rattle.tracker_calls.proofs.Moving.{put-begun}
+use Rattle.tracker_calls.proofs.WholeMove.{IsMoving, moving-first, moving-on, moving-out, none-due}
+use Rattle.tracker_calls.proofs.whole_moves.move_to.Goals as goal
+
+pub put_when_free-first-requires-clause-handset : goal.put_when_free-first-requires-clause-handset
+put_when_free-first-requires-clause-handset g c =
+    (put-begun c.histories_begin.ensures.itself c.moves_are_short.ensures
+    c.args.tracker.now.setup c.args.plan.now c.args.pass.now c.args.handset.now
+    c.begin.new.self c.args.to c.requires.plan c.requires.handset c.in_ok-may_move_to.ensures.may c.requires.outside
+    c.in-Ok.ensures.exact c.begin.ensures.goes c.in-Ok.ensures.stands).its
+
+pub puts-init : goal.puts-init
+puts-init g c =
+    let setup = c.args.tracker.now.setup in
+    let put = c.put_when_free-first.ensures.put in
+    let times = c.put_when_free-first.result in record {
+      moving = subst (λ (k : ℕ). IsMoving setup c.args.pass.now c.args.handset.now c.args.to
+          (record { number = k; first = times; commit = times; last = times }) c.put_when_free-first.new.pass
+          c.put_when_free-first.new.handset) (omega (arith, c.number-number.ensures.kept))
+          (moving-first c.histories_begin.ensures.longer c.histories_begin.ensures.through setup c.args.pass.now
+          c.args.handset.now c.args.to put.0 c.put_when_free-first.new.pass c.begin.new.self
+          c.put_when_free-first.new.handset times c.requires.of.setup put.1
+          (put-begun c.histories_begin.ensures.itself c.moves_are_short.ensures
+          setup c.args.plan.now c.args.pass.now c.args.handset.now c.begin.new.self
+          c.args.to c.requires.plan c.requires.handset c.in_ok-may_move_to.ensures.may c.requires.outside
+          c.in-Ok.ensures.exact c.begin.ensures.goes c.in-Ok.ensures.stands)
+          (subst (λ p. c.begin.new.self ≡ begin_move (setting_of p []) c.args.handset.now c.args.to) c.requires.plan
+          c.in-Ok.ensures.exact)
+          put.2);
+    }
+
+pub puts-preserved-then-not-committed : goal.puts-preserved-then-not-committed
+puts-preserved-then-not-committed g c =
+    let put = c.put_when_free.ensures.put in record {
+      moving = (moving-on c.histories_begin.ensures.longer c.histories_begin.ensures.through c.args.tracker.now.setup
+          c.args.pass.now c.args.handset.now c.args.to c.puts.moved c.puts.pass put.0 c.put_when_free.new.pass
+          c.puts.handset c.put_when_free.new.handset c.put_when_free.result c.requires.of.setup put.1
+          c.puts.invariant.moving put.2).0
+          (omega (arith, c.number.ensures.kept, c.number-number.ensures.kept, c.if-not-committed.true));
+    }
+
+pub puts-preserved : goal.puts-preserved
+puts-preserved g c =
+    let put = c.put_when_free.ensures.put in record {
+      moving = (moving-on c.histories_begin.ensures.longer c.histories_begin.ensures.through c.args.tracker.now.setup
+          c.args.pass.now c.args.handset.now c.args.to c.puts.moved c.puts.pass put.0 c.put_when_free.new.pass
+          c.puts.handset c.put_when_free.new.handset c.put_when_free.result c.requires.of.setup put.1
+          c.puts.invariant.moving put.2).1
+          (λ same. omega (arith, same, c.number.ensures.kept, c.number-number.ensures.kept, c.if-not-committed.false));
+    }
+
+pub returns : goal.returns
+returns g c = record {
+  moved = (
+    c.in_ok-may_move_to.ensures.may,
+    moving-out c.args.tracker.now.setup c.args.pass.now c.args.handset.now c.args.to c.puts.moved c.puts.pass
+        c.puts.handset c.puts.invariant.moving
+        (none-due c.args.tracker.now.setup c.args.plan.now c.puts.handset c.next.result c.requires.plan
+        c.next.ensures.exact (sym c.is_some.ensures ∙ c.puts-test.false)),
+  );
+}
