@@ -1,15 +1,18 @@
 #!/usr/bin/env python3
-"""Times `cover` on a path, a ring, a star, a grid and a complete network of 32 to 256 nodes. It builds nothing: it runs
-crates/track_main/out/track_main, and beside it, in turns, another program where one is named. The columns are the median
-of the wall times in milliseconds, and the ratio of ours to the other's in the same run.
+"""Times `cover` on a path, a ring, a star, a grid, a complete and a random network of 32 to 256 nodes. It builds nothing:
+it runs crates/track_main/out/track_main, and beside it, in turns, another program where one is named. The columns are the
+median of the wall times in milliseconds, and the ratio of ours to the other's in the same run.
 
-Usage, at the top of the repository: bench/cover.py [OTHER PROGRAM]        RUNS=9 sets how often each is run."""
+Usage, at the top of the repository: bench/cover.py [OTHER PROGRAM]        RUNS=9 sets how often each is run, K="1 2 3 8" the
+trade-offs."""
 import os
 import subprocess
 import sys
 import time
 
 from networks import KINDS, edges, text
+
+KINDS = KINDS + ["random"]
 
 OURS = "crates/track_main/out/track_main"
 
@@ -23,10 +26,11 @@ def once(program, data):
 def main():
     programs = [OURS] + sys.argv[1:2]
     runs = int(os.environ.get("RUNS", "9"))
-    print(f"{'network':12} {'nodes':>5} {'ours ms':>9}" + (f" {'other ms':>9} {'ratio':>6} same" if len(programs) > 1 else ""))
-    for kind in KINDS:
+    trade_offs = [int(k) for k in os.environ.get("K", "2").split()]
+    print(f"{'network':12} {'nodes':>5} {'k':>2} {'ours ms':>9}" + (f" {'other ms':>9} {'ratio':>6} same" if programs[1:] else ""))
+    for kind, k in ((kind, k) for kind in KINDS for k in trade_offs):
         for n in (32, 64, 128, 256):
-            data = text(n, 2, edges(kind, n, lambda a, b: 1 + (a * 7919 + b * 104729) % 1048576)).encode()
+            data = text(n, k, edges(kind, n, lambda a, b: 1 + (a * 7919 + b * 104729) % 1048576)).encode()
             times = [[] for _ in programs]
             texts = [b"" for _ in programs]
             for _ in range(runs):
@@ -34,7 +38,7 @@ def main():
                     taken, texts[place] = once(program, data)
                     times[place].append(taken * 1000)
             medians = [sorted(t)[len(t) // 2] for t in times]
-            line = f"{kind:12} {n:5} {medians[0]:9.2f}"
+            line = f"{kind:12} {n:5} {k:2} {medians[0]:9.2f}"
             if len(programs) > 1:
                 line += f" {medians[1]:9.2f} {medians[0] / medians[1]:6.2f} {'yes' if texts[0] == texts[1] else 'NO'}"
             print(line, flush=True)

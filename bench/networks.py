@@ -16,13 +16,20 @@ def edges(kind, n, weight):
         pairs += [(v, v + side) for v in range(n) if v + side < n]
     elif kind == "complete":
         pairs = [(a, b) for a in range(n) for b in range(a + 1, n)]
+    elif kind == "random":
+        state = n
+        pairs = []
+        for v in range(1, 4 * n):
+            state = (state * 6364136223846793005 + 1442695040888963407) % 2**64
+            a, b = (v, (state >> 33) % v) if v < n else ((state >> 33) % n, (state >> 45) % n)
+            pairs += [(a, b)] if a != b else []
     else:
         raise SystemExit(f"no such network: {kind}")
     return [(a, b, w(a, b)) for a, b in pairs]
 
 
 def text(n, k, es):
-    """The plain input of a network, with one subscriber and no calls."""
+    """The input of a network, with one subscriber and no calls."""
     lines = ["track 1", f"nodes {n}", f"k {k}"]
     lines += [f"edge {a} {b} {w}" for a, b, w in es]
     lines += ["sub 0", "callers 0"]
