@@ -1,5 +1,5 @@
 -- One subscriber more, and one node more; and who is at a node, by the cells and by their history.
-use Rattle.std.proofs.Common.{◌≡◌, ℕ, zero, suc, ◌+◌, ◌<◌, ◌^◌, Bool, true, false, List, [], ◌∷◌, ◌++◌, length, refl, sym, ap, ◌∙◌, append_assoc, arith}
+use Rattle.std.proofs.Common.{◌≡◌, ℕ, suc, ◌+◌, ◌<◌, ◌^◌, Bool, true, false, List, [], ◌∷◌, ◌++◌, length, refl, sym, ap, ◌∙◌, append_assoc, arith}
 use Rattle.node_set.specs.Ascending.{sift}
 use Rattle.node_set.specs.SetLaws.{length-passing-le, passing_same, passing_skips, passing_takes}
 use Rattle.entry_word.specs.Marks.{mark_in, says_here}

@@ -9,12 +9,12 @@ use Rattle.node_set.specs.Ascending.{sift}
 use Rattle.entry_word.specs.Marks.{mark_in, says_here}
 use Rattle.entry_word.specs.declared.visit.Key.TheVariants.{Presence}
 use Rattle.region_plan.specs.Plan.{PlanData}
-use Rattle.visit_log.specs.Cells.{CellData, word_of}
+use Rattle.visit_log.specs.Cells.{CellData, word_at}
 use Rattle.outside.specs.Texts.{◌then◌, field, fields}
 
 -- whether the presence cell of a subscriber at a node says that it is there
 abbrev pub is_there : PlanData → CellData → ℕ → ℕ → Bool
-is_there plan cells node sub = says_here (mark_in (word_of plan cells (Presence node sub)))
+is_there plan cells node sub = says_here (mark_in (word_at plan cells (Presence node sub)))
 
 -- the subscribers that are at a node, by their cells
 abbrev pub presence_at : PlanData → CellData → ℕ → List ℕ

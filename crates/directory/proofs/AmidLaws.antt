@@ -1,8 +1,7 @@
 -- How far legal puts are with the steps that they begin.
 use Rattle.std.proofs.Common.{◌≡◌, ℕ, zero, suc, ◌-◌, ◌<◌, ◌≤◌, false, List, [], ◌∷◌, ◌++◌, length, map, take, refl, sym, ap, ◌∙◌, arith, append_assoc, length-append, inl, inr, ◌⊎◌}
 use Rattle.std.specs.List.{cons_option}
-use Rattle.std.proofs.lemmas.Bool.Decides.{nat_tests}
-use Rattle.std.proofs.lemmas.List.{append-nil, take_all, take-append-le, take-map, length_push, length-take}
+use Rattle.std.proofs.lemmas.List.{append-nil, take_all, take-append-le, take-map, length_push, length-take, map-append}
 use Rattle.entry_word.specs.Marks.{MarksUnpack}
 use Rattle.entry_word.specs.declared.visit.Visit.{Visit}
 use Rattle.directory.specs.Settings.{Setting, start}
@@ -11,8 +10,9 @@ use Rattle.directory.specs.Writes.{Write, visit_of, step_writes, writes, visits}
 use Rattle.directory.specs.Puts.{steps_from, steps_in}
 use Rattle.directory.specs.Amid.{IsAmid}
 use Rattle.directory.specs.Statements.{LegalIsAmid, StepsBeginAtRest}
-use Rattle.directory.proofs.StepLaws.{IsCourse, course-after, one-begun, begun, next-decided, map-append, one-more, AreBegun}
-use Rattle.directory.specs.StepLaws.{steps-append, take-append, visits_in}
+use Rattle.directory.proofs.StepLaws.{IsCourse, course-after, one-begun, begun, next-decided, AreBegun}
+use Rattle.directory.specs.StepLaws.{steps-append, take-append, visits_in, take-more}
+use Rattle.std.proofs.lemmas.Bool.{cases_lt}
 
 -- how far the first visits of steps are
 record AreAmid (setting : Setting) (sub : ℕ) (course : Course) (steps : List Step) (k : ℕ) : Type 0 where
@@ -25,9 +25,6 @@ record AreAmid (setting : Setting) (sub : ℕ) (course : Course) (steps : List S
   few : made ≤ length (writes setting (after_steps setting course before) under)
   front : take k (writes setting course steps) ≡ writes setting course before ++ take made
       (writes setting (after_steps setting course before) under)
-
-cases_le : (a b : ℕ) → (a ≤ b) ⊎ (b < a)
-cases_le a b = grind (arith, nat_tests)
 
 amid : MarksUnpack → (setting : Setting) (sub : ℕ) (course : Course) (steps : List Step) (k : ℕ)
     → IsCourse setting course → MaySteps setting course steps
@@ -63,7 +60,7 @@ amid unpacks setting sub course (step ∷ steps) zero sound may = record {
   few = omega arith;
   front = refl;
 }
-amid unpacks setting sub course (step ∷ steps) (suc k) sound may = at_cases (cases_le (suc k) (length mine))
+amid unpacks setting sub course (step ∷ steps) (suc k) sound may = at_cases (cases_lt (length mine) (suc k))
     (amid unpacks setting sub (after_step setting course step) steps (suc k - length mine)
     (course-after setting course step sound may.0) may.1)
   where
@@ -89,10 +86,10 @@ amid unpacks setting sub course (step ∷ steps) (suc k) sound may = at_cases (c
     shows = ap (steps_from course.is_off) parted ∙ one-begun unpacks setting sub course step k
         (take (suc k - length mine) (map (visit_of sub) rest)) sound may.0
 
-    at_cases : (suc k ≤ length mine) ⊎ (length mine < suc k)
+    at_cases : (length mine < suc k) ⊎ (suc k ≤ length mine)
         → AreAmid setting sub (after_step setting course step) steps (suc k - length mine)
         → AreAmid setting sub course (step ∷ steps) (suc k)
-    at_cases (inl low) far = record {
+    at_cases (inr low) far = record {
       before = [];
       under = step ∷ [];
       made = suc k;
@@ -104,7 +101,7 @@ amid unpacks setting sub course (step ∷ steps) (suc k) sound may = at_cases (c
       few = omega (arith, length-append mine (writes setting (after_step setting course step) []));
       front = take-append-le (suc k) mine rest low ∙ ap (take (suc k)) (sym (append-nil mine));
     }
-    at_cases (inr high) far = record {
+    at_cases (inl high) far = record {
       before = step ∷ far.before;
       under = far.under;
       made = far.made;
@@ -144,22 +141,22 @@ length-front xs ys h = omega (arith, ap length h, length-take (length xs) ys)
 pub begins-at_rest : MarksUnpack → StepsBeginAtRest
 unfolding steps_from
 begins-at_rest unpacks setting sub puts visit step low legal legal_more begins = at_cases
-    (cases_le (length (visits setting sub (steps_in puts))) (length puts))
+    (cases_lt (length puts) (length (visits setting sub (steps_in puts))))
   where
     longer : steps_in (puts ++ visit ∷ []) ≡ steps_in puts ++ step ∷ []
     longer = steps-append false puts (visit ∷ []) ∙ ap (λ o. steps_in puts ++ cons_option o []) begins
 
-    at_cases : (length (visits setting sub (steps_in puts)) ≤ length puts)
-        ⊎ (length puts < length (visits setting sub (steps_in puts)))
+    at_cases : (length puts < length (visits setting sub (steps_in puts)))
+        ⊎ (length (visits setting sub (steps_in puts)) ≤ length puts)
         → length puts ≡ length (visits setting sub (steps_in puts))
-    at_cases (inl done) = omega (arith, done, length-front puts (visits setting sub (steps_in puts)) legal.front)
-    at_cases (inr left) = absurd (clash (begun unpacks setting sub (course_at (start setting sub)) (steps_in puts)
+    at_cases (inr done) = omega (arith, done, length-front puts (visits setting sub (steps_in puts)) legal.front)
+    at_cases (inl left) = absurd (clash (begun unpacks setting sub (course_at (start setting sub)) (steps_in puts)
         (suc (length puts)) (record { low = low; inside = legal.script.begins; few = omega arith })
         legal.script.allowed))
       where
         due : puts ++ visit ∷ [] ≡ take (suc (length puts)) (visits setting sub (steps_in puts))
-        due = ap (λ xs. xs ++ visit ∷ []) legal.front ∙ one-more (visits setting sub (steps_in puts))
-            (length puts) visit (next-decided setting sub puts visit left legal_more)
+        due = ap (λ xs. xs ++ visit ∷ []) legal.front ∙ sym (take-more (visits setting sub (steps_in puts))
+            (length puts) visit (next-decided setting sub puts visit left legal_more))
 
         clash : AreBegun setting sub (course_at (start setting sub)) (steps_in puts) (suc (length puts)) → ⊥
         clash first = omega (

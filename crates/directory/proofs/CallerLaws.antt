@@ -16,7 +16,8 @@ use Rattle.directory.specs.declared.answers.Found.{Found}
 use Rattle.directory.proofs.HistoryLaws.{words-push}
 use Rattle.directory.proofs.FindLaws.{looks-fall}
 use Rattle.directory.specs.StepLaws.{by_fronts, own-push}
-use Rattle.directory.proofs.NextLaws.{look-next, next-caller}
+use Rattle.directory.proofs.NextLaws.{look-next}
+use Rattle.directory.specs.HistoryLaws.{next-caller}
 
 -- each own visit of a caller reads one word
 caller-word : (setting : Setting) (scripts : Scripts) (history : History) (actor : ℕ) (visit : Visit)

@@ -1,14 +1,14 @@
 -- Cells: which keys are the same, and that the puts for a subscriber alone tell of its cells.
-use Rattle.std.proofs.Common.{◌≡◌, ℕ, Bool, true, false, cond, ◌==◌, ◌&&◌, ◌↔◌, [], ◌∷◌, fold, refl, ap, ◌∙◌, sym, subst}
+use Rattle.std.proofs.Common.{◌≡◌, ℕ, Bool, true, false, cond, ◌==◌, ◌&&◌, [], ◌∷◌, fold, refl, ap, ◌∙◌, sym, subst}
 use Rattle.std.proofs.lemmas.Bool.{and_parts, and_from, eqb-true, eq-eqb}
 use Rattle.entry_word.specs.declared.visit.Key.{Key}
 use Rattle.entry_word.specs.declared.visit.Key.TheVariants.{Presence, Entry}
 use Rattle.entry_word.specs.declared.visit.Act.{Act}
 use Rattle.entry_word.specs.declared.visit.Act.TheVariants.{Look, Put, Census}
 use Rattle.entry_word.specs.declared.visit.Visit.{Visit}
-use Rattle.directory.specs.Settings.{Setting}
 use Rattle.directory.specs.Keys.{key_sub, same_key, opening}
-use Rattle.directory.specs.Histories.{History, word_after, cell, is_put_for, puts_to}
+use Rattle.directory.specs.Histories.{History, word_after, is_put_for, puts_to}
+use Rattle.directory.specs.Statements.{CellsOfPuts, SameKey}
 
 -- two keys are the same just where the test says so
 same_key-true : (one other : Key) → same_key one other ≡ true → one ≡ other
@@ -28,7 +28,7 @@ same_key-refl (Presence v s) = and_from (v == v) (s == s) (eq-eqb v v refl) (eq-
 same_key-refl (Entry i c s) = and_from (i == i && c == c) (s == s)
     (and_from (i == i) (c == c) (eq-eqb i i refl) (eq-eqb c c refl)) (eq-eqb s s refl)
 
-pub same_key-means : (one other : Key) → (same_key one other ≡ true) ↔ (one ≡ other)
+pub same_key-means : SameKey
 same_key-means one other = (
   same_key-true one other,
   λ e. subst (λ key. same_key one key ≡ true) e
@@ -67,6 +67,5 @@ puts-enough key word (visit ∷ later) = at_test (is_put_for (key_sub key) visit
     at_test false e same = same ∙ ap (λ w. after w (puts_to (key_sub key) later)) (act-kept key word visit.act e)
 
 -- so a cell is told by the puts for its subscriber alone
-pub cell-of_puts : (setting : Setting) (history : History) (key : Key)
-    → cell setting history key ≡ cell setting (puts_to (key_sub key) history) key
+pub cell-of_puts : CellsOfPuts
 cell-of_puts setting history key = puts-enough key (opening setting key) history

@@ -1,8 +1,6 @@
 -- A subscriber whose script is done has nothing left to put.
-use Rattle.std.proofs.Common.{◌≡◌, ◌≤◌, ◌<◌, ◌^◌, ◌++◌, ◌∷◌, ℕ, [], List, None, Some, length, take, drop, refl, sym, ap, ◌∙◌, arith, append-nil, length-append, inl, inr}
-use Rattle.std.specs.Prelude.{slice_get}
+use Rattle.std.proofs.Common.{◌≡◌, ◌≤◌, ◌<◌, ◌^◌, ◌++◌, ◌∷◌, ℕ, [], List, length, take, drop, refl, sym, ap, ◌∙◌, arith, append-nil, length-append}
 use Rattle.std.proofs.lemmas.List.{drop_all, length-take, take-append-drop, take_all}
-use Rattle.std.proofs.lemmas.Option.{slice_get_cases}
 use Rattle.entry_word.specs.Marks.{MarksUnpack}
 use Rattle.directory.specs.Settings.{Setting, start, subs}
 use Rattle.directory.specs.Histories.{History, own, puts_to}
@@ -11,9 +9,10 @@ use Rattle.directory.specs.Writes.{visits, writes}
 use Rattle.directory.specs.Puts.{puts_left, steps_in}
 use Rattle.directory.specs.Orders.{AreValid, IsDone, IsPlayed, script_visits, Scripts, steps_of}
 use Rattle.directory.specs.Statements.{DoneIsRest, DoneShowsScript}
-use Rattle.directory.specs.StepLaws.{visits-append, visits_in}
+use Rattle.directory.specs.StepLaws.{visits-append, visits_in, past-end}
 use Rattle.directory.proofs.StepLaws.{AreBegun, begun}
-use Rattle.directory.proofs.NextLaws.{next-sub, played-own, played-puts}
+use Rattle.directory.proofs.NextLaws.{played-own, played-puts}
+use Rattle.directory.specs.HistoryLaws.{next-sub}
 
 -- the visits of a front of some steps are no more than theirs
 fewer-visits : (setting : Setting) (sub : ℕ) (course : Course) (steps : List Step) (k : ℕ)
@@ -28,13 +27,6 @@ fewer-visits setting sub course steps k =
       length-append (visits_in setting sub course (take k steps))
           (visits_in setting sub (after_steps setting course (take k steps)) (drop k steps)),
     )
-
--- what isn't found is past the end
-past-end : {A : Type 0} (xs : List A) (i : ℕ) → slice_get xs i ≡ None → length xs ≤ i
-past-end xs i none = elim (slice_get_cases xs i).1 [
-  | inl (x, below, some, there) ↦ let clash : Some x ≡ None = sym some ∙ none in cc
-  | inr past ↦ past.0
-]
 
 -- each step has a visit
 some-visit : (setting : Setting) (sub : ℕ) (course : Course) (step : Step) (steps : List Step)

@@ -1,5 +1,5 @@
 -- Finds: an answer stays, and what the parts of a find make of it.
-use Rattle.std.proofs.Common.{◌≡◌, ℕ, zero, suc, ◌+◌, ◌*◌, ◌<◌, ◌≤◌, Bool, true, false, cond, List, [], ◌∷◌, ◌++◌, Option, Some, None, length, fold, refl, sym, ap, ◌∙◌, arith}
+use Rattle.std.proofs.Common.{◌≡◌, ℕ, zero, suc, ◌+◌, ◌*◌, ◌≤◌, Bool, true, false, cond, List, [], ◌∷◌, ◌++◌, Option, Some, None, length, fold, refl, sym, ap, ◌∙◌, arith}
 use Rattle.entry_word.specs.Marks.{mark_in}
 use Rattle.entry_word.specs.Addresses.{address_in}
 use Rattle.entry_word.specs.declared.mark.PresenceMark.{PresenceMark}
@@ -7,11 +7,11 @@ use Rattle.entry_word.specs.declared.mark.PresenceMark.TheVariants.{Empty, Here,
 use Rattle.std.proofs.lemmas.List.Sums.{sum_by-cons}
 use Rattle.directory.specs.Settings.{Setting}
 use Rattle.entry_word.specs.declared.address.Address.{Address}
-use Rattle.entry_word.specs.declared.visit.Key.{Key}
-use Rattle.directory.specs.Finds.{FindCall, Reader, Chase, Stage, at_origin, climbs, chases, ended, climb, hop, after_origin, after_entry, after_mark, after_word, all_readers, is_known, key_of, known_with, looks_left, way_in}
+use Rattle.directory.specs.Finds.{FindCall, Reader, Chase, at_origin, climbs, chases, ended, climb, hop, after_origin, after_entry, after_mark, after_word, all_readers, is_known, known_with, looks_left, way_in}
 use Rattle.directory.specs.Parts.{AreNothing, climb_weight, lead, known_after, LeadOn}
 use Rattle.directory.specs.declared.answers.Found.{Found}
 use Rattle.directory.specs.declared.answers.Found.TheVariants.{At}
+use Rattle.directory.specs.Statements.{LooksFall}
 
 -- an answer stays
 pub ended-stays : (setting : Setting) (call : FindCall) (found : Found) (words : List ℕ)
@@ -140,9 +140,7 @@ origin-left setting call (Off number) = omega arith
 origin-left setting call (Gone number to) = climb-left setting call (Some number) 0 (all_readers setting call.from)
 origin-left setting call (Coming number from) = omega arith
 
-pub looks-fall : (setting : Setting) (call : FindCall) (stage : Stage) (word : ℕ) (key : Key)
-    → key_of call stage ≡ Some key → looks_left setting call
-    (after_word setting call stage word) < looks_left setting call stage
+pub looks-fall : LooksFall
 looks-fall setting call at_origin word key h = omega (arith, origin-left setting call (mark_in word))
 looks-fall setting call (climbs known weight reader later) word key h = omega
     (arith, entry-left setting call known weight reader later (address_in word))

@@ -6,9 +6,12 @@ use Rattle.std.proofs.lemmas.List.{length-map}
 use Rattle.node_set.specs.Ascending.{has, sift}
 use Rattle.entry_word.specs.declared.mark.PresenceMark.TheVariants.{Empty, Here, Gone}
 use Rattle.directory.specs.Settings.{Setting}
-use Rattle.directory.specs.Writes.{mark_at, entry_at, numbers_from, new_address, old_home, erasure_writes, purge_writes, trail, step_writes, most_writes}
-use Rattle.directory.specs.Courses.{highest, Step, move_to, switch_off, switch_on, Move, Course, course_at, stop, base, address_node, gathered_weight, next_move, after_step, after_steps}
+use Rattle.directory.specs.Writes.{mark_at, entry_at, numbers_from, new_address, old_home, erasure_writes, purge_writes, trail, step_writes}
+use Rattle.directory.specs.Courses.{Step, move_to, switch_off, switch_on, Move, Course, course_at, stop, base, address_node, gathered_weight, next_move, after_step, after_steps}
 use Rattle.directory.proofs.HistoryLaws.{base-after}
+use Rattle.directory.specs.StepLaws.{highest-low}
+use Rattle.node_set.specs.SetLaws.{length-passing-le}
+use Rattle.directory.specs.Statements.{MovesAreShort}
 
 -- moves are numbered one after another
 unfoldable pub AreNumbered : ℕ → List Move → Type 0
@@ -139,30 +142,6 @@ unfolding AreNumbered
 address_by_move setting first steps node level = address-after setting (course_of setting first steps) node level
     (numbered-steps setting (course_at first) steps tt)
 
--- no move has more writes than the most
-passing-short : (test : ℕ → Bool) (v k : ℕ) → length (sift test v k) ≤ k
-passing-short test v zero = omega arith
-passing-short test v (suc k) = at_test (test v) (passing-short test (suc v) k)
-  where
-    at_test : (b : Bool) → length (sift test (suc v) k) ≤ k
-        → length (cond b (v ∷ sift test (suc v) k) (sift test (suc v) k)) ≤ suc k
-    at_test true h = omega (arith, h)
-    at_test false h = omega (arith, h)
-
-highest-low : (test : ℕ → Bool) (limit : ℕ) → highest test (suc limit) ≤ limit
-unfolding highest
-highest-low test zero = at_test (test zero)
-  where
-    at_test : (b : Bool) → cond b 0 0 ≤ 0
-    at_test true = omega arith
-    at_test false = omega arith
-highest-low test (suc limit) = at_test (test (suc limit)) (highest-low test limit)
-  where
-    at_test : (b : Bool) → highest test (suc limit) ≤ limit
-        → cond b (suc limit) (highest test (suc limit)) ≤ suc limit
-    at_test true h = omega arith
-    at_test false h = omega (arith, h)
-
 purging-short : (setting : Setting) (course : Course) (move : Move)
     → length (purge_writes setting course move) ≤ setting.nodes
 purging-short setting course move = at_test (move.renewed == setting.top)
@@ -175,12 +154,11 @@ purging-short setting course move = at_test (move.renewed == setting.top)
     at_test true = omega (
       arith,
       length-map (sift kept 0 setting.nodes) (λ node. mark_at node Empty),
-      passing-short kept 0 setting.nodes,
+      length-passing-le kept 0 setting.nodes,
     )
     at_test false = omega arith
 
-pub move-short : (setting : Setting) (course : Course) (node : ℕ)
-    → length (step_writes setting course (move_to node)) ≤ most_writes setting
+pub move-short : MovesAreShort
 move-short setting course node =
     let move : Move = next_move setting course node in
     let low : move.renewed ≤ setting.top = highest-low _ setting.top in
@@ -188,14 +166,14 @@ move-short setting course node =
     omega (
       arith,
       length-map (numbers_from 0 (suc move.renewed)) (new_address setting move),
-      passing-short (λ p. true) 0 (suc move.renewed),
+      length-passing-le (λ p. true) 0 (suc move.renewed),
     ) in
     let two : length (erasure_writes setting course move) ≤ suc move.renewed =
     omega (
       arith,
       length-map (sift (λ level. not (old_home setting course level == setting.home level move.to)) 0
           (suc move.renewed)) (λ level. entry_at level (old_home setting course level) None),
-      passing-short (λ level. not (old_home setting course level == setting.home level move.to)) 0
+      length-passing-le (λ level. not (old_home setting course level == setting.home level move.to)) 0
           (suc move.renewed),
     ) in
     let three : length (purge_writes setting course move) ≤ setting.nodes = purging-short setting course move in

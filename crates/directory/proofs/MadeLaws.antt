@@ -14,18 +14,20 @@ use Rattle.directory.specs.Settings.{Setting, subs, start}
 use Rattle.directory.specs.Histories.{History, before, cell, own, tickets_from, tickets, words_of, words_by, words_at, words_after, words_read}
 use Rattle.directory.specs.Courses.{Step, move_to, switch_off, switch_on, Course, course_at, after_step, after_steps}
 use Rattle.directory.specs.Writes.{Write, numbers_from, step_writes, visit_of, writes}
-use Rattle.directory.specs.Finds.{FindCall, Stage, at_origin, climbs, chases, ended, after_word, key_of, answer_of}
+use Rattle.directory.specs.Finds.{FindCall, Stage, at_origin, after_word, key_of, answer_of}
 use Rattle.directory.specs.Looks.{look_by, AreLooks, IsFind, last_of}
 use Rattle.directory.specs.Orders.{Scripts, steps_of, finds_of, script_visits, Answer, Caller, with_stage, read_by, caller_in, key_in, next_key, next, IsPlayed, IsDone}
 use Rattle.directory.specs.Outcomes.{step_line, step_lines, sub_lines, found_line, answer_line, caller_lines, IsStepLine, IsFindLine, IsMade, FollowEachOther}
 use Rattle.directory.specs.declared.answers.Found.{Found}
 use Rattle.directory.specs.declared.answers.Found.TheVariants.{At, Off as OffAt, Again}
 use Rattle.directory.proofs.HistoryLaws.{words-push}
-use Rattle.directory.proofs.NextLaws.{next-sub, played-own}
+use Rattle.directory.proofs.NextLaws.{played-own}
 use Rattle.directory.proofs.CallerLaws.{caller-look, caller-push}
 use Rattle.directory.proofs.TicketLaws.{tickets-tell, tickets-ascend, tickets-push, ascending_take, ascending_drop}
 use Rattle.directory.specs.Statements.{LinesAreMade, FindsFollow}
 use Rattle.directory.specs.StepLaws.{by_fronts}
+use Rattle.directory.specs.HistoryLaws.{next-sub}
+use Rattle.directory.specs.LookLaws.{stage_after, stage-step, answer-ends}
 
 -- the first visits of some are those of the first writes, and the others those of the others
 parted : (history : History) (sub : ℕ) (seen : List ℕ) (xs ys : List Write)
@@ -125,11 +127,6 @@ sub_made setting scripts history sub below played done =
     (tickets-tell sub history ∙ (ap (map Some) (own-all setting scripts history sub below played done)
     ∙ map-map Some (visit_of sub) (writes setting (course_at (start setting sub)) (steps_of scripts sub))))
 
--- looks: the stage that they lead to, and the ticket after the last
-abbrev pub stage_after : Setting → History → FindCall → Stage → List ℕ → Stage
-stage_after setting history call stage seen = fold (after_word setting call) stage
-    (flat_map (words_at setting history) seen)
-
 unfoldable pub after_last : ℕ → List ℕ → ℕ
 after_last earliest [] = earliest
 after_last earliest (ticket ∷ later) = after_last (suc ticket) later
@@ -138,15 +135,6 @@ words_at-look : (setting : Setting) (history : History) (actor ticket : ℕ) (ke
     → slice_get history ticket ≡ Some (look_by actor key)
     → words_at setting history ticket ≡ cell setting (before ticket history) key ∷ []
 words_at-look setting history actor ticket key h = ap (words_by setting (before ticket history)) h
-
-stage-step : (setting : Setting) (history : History) (actor : ℕ) (call : FindCall) (stage : Stage) (ticket : ℕ)
-    (key : Key) (later : List ℕ) → slice_get history ticket ≡ Some (look_by actor key)
-    → stage_after setting history call stage (ticket ∷ later)
-    ≡ stage_after setting history call (after_word setting call stage (cell setting (before ticket history) key))
-    later
-stage-step setting history actor call stage ticket key later h =
-    ap (λ ws. fold (after_word setting call) stage (ws ++ flat_map (words_at setting history) later))
-    (words_at-look setting history actor ticket key h)
 
 flat_map-push : {A B : Type 0} (f : A → List B) (xs : List A) (x : A)
     → flat_map f (xs ++ x ∷ []) ≡ flat_map f xs ++ f x
@@ -277,12 +265,6 @@ answered-more setting history actor ticketed more (answer ∷ answers) all =
       find = subst (λ seen. IsFind setting history actor answer.call answer.found seen)
           (sym (seen-more ticketed more answer h.order h.within)) h.find;
     }
-
-answer-ends : (stage : Stage) (found : Found) → answer_of stage ≡ Some found → stage ≡ ended found
-answer-ends at_origin found h = cc
-answer-ends (climbs known weight reader later) found h = cc
-answer-ends (chases chase node) found h = cc
-answer-ends (ended other) found h = let e : other ≡ found = cc in ap (λ f. ended f) e
 
 -- one look more of a caller
 look_more : (setting : Setting) (history : History) (actor : ℕ) (finds : List FindCall) (ticketed : List ℕ) (now : ℕ)

@@ -1,7 +1,7 @@
 -- The next visits of actors, and histories in which each visit was its actor's next one.
 use Rattle.std.proofs.Common.{◌≡◌, ℕ, zero, suc, ◌<◌, ◌≤◌, Bool, true, false, cond, ◌==◌, List, [], ◌∷◌, ◌++◌, Option, Some, None, length, take, map, refl, sym, ap, ◌∙◌, subst, arith, inl, inr, ◌⊎◌}
 use Rattle.std.specs.Prelude.{slice_get, option_map, option_to_list, All}
-use Rattle.std.proofs.lemmas.Bool.{eqb-true, lt-ltb, le-ltb, ne_eqb}
+use Rattle.std.proofs.lemmas.Bool.{eqb-true, ne_eqb}
 use Rattle.std.proofs.lemmas.Bool.Decides.{nat_tests}
 use Rattle.std.proofs.lemmas.List.{append-nil, take_all, take-append-le, length_push}
 use Rattle.std.proofs.lemmas.Option.{slice_get_within}
@@ -17,19 +17,9 @@ use Rattle.directory.specs.Legal.{ArePuts}
 use Rattle.directory.specs.Orders.{Scripts, steps_of, script_visits, caller_in, next_key, next, after_turn, after_turns, last_turns, IsPlayed, IsDone}
 use Rattle.directory.proofs.StepLaws.{script-legal}
 use Rattle.entry_word.specs.Marks.{MarksUnpack}
-use Rattle.directory.specs.Statements.{OrdersArePlayed, OwnPutsAlone, ScriptsInOrder, PlayedIsLegal}
+use Rattle.directory.specs.Statements.{OrdersArePlayed, OwnPutsAlone, ScriptsInOrder, PlayedIsLegal, MoreIsPlayed}
 use Rattle.directory.specs.StepLaws.{by_fronts, own-push, puts-push, take-more}
-
--- what the next visit of a subscriber and of a caller is
-pub next-sub : (setting : Setting) (scripts : Scripts) (history : History) (actor : ℕ) → actor < subs setting
-    → next setting scripts history actor ≡ slice_get (script_visits setting scripts actor)
-    (length (own actor history))
-next-sub setting scripts history actor low = rw (lt-ltb actor (subs setting) low) refl
-
-pub next-caller : (setting : Setting) (scripts : Scripts) (history : History) (actor : ℕ) → subs setting ≤ actor
-    → next setting scripts history actor ≡ option_map (look_by actor)
-    (next_key (caller_in setting scripts history actor))
-next-caller setting scripts history actor high = rw (le-ltb actor (subs setting) high) refl
+use Rattle.directory.specs.HistoryLaws.{next-sub, next-caller, none-played, turn-none}
 
 -- a subscriber's write is a put for itself alone
 write-puts : (sub s : ℕ) (write : Write) → is_put_for s (visit_of sub write).act ≡ (sub == s)
@@ -69,11 +59,6 @@ next-actor setting scripts history actor visit h =
     cases : (a b : ℕ) → (a < b) ⊎ (b ≤ a)
     cases a b = grind (arith, nat_tests)
 
--- a turn makes the next visit, or none
-pub turn-none : (setting : Setting) (scripts : Scripts) (history : History) (actor : ℕ)
-    → IsDone setting scripts history actor → after_turn setting scripts history actor ≡ history
-turn-none setting scripts history actor h = ap (λ v. history ++ option_to_list v) h ∙ append-nil history
-
 pub turn-some : (setting : Setting) (scripts : Scripts) (history : History) (actor : ℕ) (visit : Visit)
     → next setting scripts history actor ≡ Some visit → after_turn setting scripts history actor
     ≡ history ++ visit ∷ []
@@ -100,9 +85,7 @@ kept_by_play setting scripts P more (actor ∷ order) history now =
     (λ visit e. more history actor visit e now) now)
 
 -- a next visit keeps that each visit was its actor's next one
-pub played-push : (setting : Setting) (scripts : Scripts) (history : History) (actor : ℕ) (visit : Visit)
-    → next setting scripts history actor ≡ Some visit → IsPlayed setting scripts history
-    → IsPlayed setting scripts (history ++ visit ∷ [])
+pub played-push : MoreIsPlayed
 played-push setting scripts history actor visit e played ticket found h =
     elim (cases ticket (length history)) as (λ _. next setting scripts
     (take ticket (history ++ visit ∷ [])) found.actor ≡ Some found) [
@@ -132,9 +115,6 @@ played-push setting scripts history actor visit e played ticket found h =
     get-end [] x i h = rw h refl
     get-end (y ∷ ys) x zero h = absurd (omega arith)
     get-end (y ∷ ys) x (suc i) h = get-end ys x i (omega arith)
-
-pub none-played : (setting : Setting) (scripts : Scripts) → IsPlayed setting scripts []
-none-played setting scripts ticket visit h = cc
 
 -- each visit of the history of an order was its actor's next one
 pub played-of_play : (setting : Setting) (scripts : Scripts) (order : List ℕ)

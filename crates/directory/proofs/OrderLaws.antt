@@ -16,15 +16,14 @@ use Rattle.directory.specs.Looks.{look_by}
 use Rattle.directory.specs.Writes.{numbers_from}
 use Rattle.directory.specs.Orders.{actors, Scripts, finds_of, script_visits, caller_at, after_read, caller_after, caller_in, next_key, next, after_turn, after_turns, most_turns, last_turns, history_of, IsPlayed, IsDone}
 use Rattle.directory.proofs.HistoryLaws.{words-push}
-use Rattle.directory.specs.Statements.{OrdersAreDone, HistoriesAreOrdered}
+use Rattle.directory.specs.Statements.{OrdersAreDone, HistoriesAreOrdered, OrdersAreOwn, TurnsAreFew}
 use Rattle.directory.specs.StepLaws.{by_fronts, own-push}
-use Rattle.directory.proofs.NextLaws.{kept_by_play, next-actor, next-caller, next-sub, played-of_play, played-push, turn-none, turn-some}
+use Rattle.directory.proofs.NextLaws.{kept_by_play, next-actor, played-of_play, played-push, turn-some}
 use Rattle.directory.proofs.CallerLaws.{caller-few, caller-look, read_left}
+use Rattle.directory.specs.HistoryLaws.{next-sub, next-caller, turn-none}
 
 -- an actor that isn't done has made fewer visits than it may
-pub next-few : (setting : Setting) (scripts : Scripts) (history : History) (actor : ℕ) (visit : Visit)
-    → IsPlayed setting scripts history → next setting scripts history actor ≡ Some visit
-    → length (own actor history) < most_turns setting scripts actor
+pub next-few : TurnsAreFew
 next-few setting scripts history actor visit played h =
     elim (cases actor (subs setting)) as (λ _. length (own actor history) < most_turns setting scripts actor) [
       | inl low ↦ rw (lt-ltb actor (subs setting) low)
@@ -234,9 +233,7 @@ own-order setting scripts history played =
     (turn-some setting scripts (take t history) visit.actor visit (played t visit h)))
 
 -- the order of the actors of a history that is played to its end gives that history again
-pub same-again : (setting : Setting) (scripts : Scripts) (history : History) → IsPlayed setting scripts history
-    → ((actor : ℕ) → IsDone setting scripts history actor)
-    → history_of setting scripts (map (λ (visit : Visit). visit.actor) history) ≡ history
+pub same-again : OrdersAreOwn
 same-again setting scripts history played done =
     rw (
       after_turns-append setting scripts [] (map (λ (visit : Visit). visit.actor) history)

@@ -17,11 +17,11 @@ use Rattle.directory.specs.Finds.{FindCall, Stage, after_word, looks_left}
 use Rattle.directory.specs.Looks.{look_by, AreLooks}
 use Rattle.directory.specs.Orders.{steps_of, caller_in, next_key, next}
 use Rattle.directory.proofs.HistoryLaws.{cell-after}
-use Rattle.directory.proofs.NextLaws.{next-sub}
 use Rattle.directory.proofs.CallerLaws.{caller-look}
 use Rattle.directory.proofs.FindLaws.{looks-fall}
 use Rattle.directory.specs.Statements.{RestKeepsOpening}
 use Rattle.directory.specs.StepLaws.{by_fronts}
+use Rattle.directory.specs.HistoryLaws.{next-sub}
 
 -- which moves may come
 pub move-may : (setting : Setting) (course : Course) (node : ℕ) → node < setting.nodes → node ≢ last_stop course

@@ -15,7 +15,7 @@ use Rattle.directory.specs.States.{write_commit}
 use Rattle.directory.proofs.StateLaws.{commits-told}
 use Rattle.entry_word.specs.Marks.{MarksUnpack}
 use Rattle.directory.specs.Statements.{CommitsAreMoves, StandsAtStop}
-use Rattle.directory.specs.StepLaws.{take-append}
+use Rattle.directory.specs.StepLaws.{take-append, start-kept}
 
 -- the moves that steps add to a course
 unfoldable pub added : Setting → Course → List Step → List Move
@@ -35,13 +35,6 @@ moves-added setting course (move_to node ∷ steps) =
     (added setting (after_step setting course (move_to node)) steps)
 moves-added setting course (switch_off ∷ steps) = moves-added setting (after_step setting course switch_off) steps
 moves-added setting course (switch_on ∷ steps) = moves-added setting (after_step setting course switch_on) steps
-
-pub start-kept : (setting : Setting) (course : Course) (steps : List Step)
-    → (after_steps setting course steps).start ≡ course.start
-start-kept setting course [] = refl
-start-kept setting course (move_to node ∷ steps) = start-kept setting (after_step setting course (move_to node)) steps
-start-kept setting course (switch_off ∷ steps) = start-kept setting (after_step setting course switch_off) steps
-start-kept setting course (switch_on ∷ steps) = start-kept setting (after_step setting course switch_on) steps
 
 -- writes that are no commits
 unfoldable NoCommits : List Write → Type 0

@@ -21,8 +21,9 @@ use Rattle.directory.specs.Standing.{commit_of, off}
 use Rattle.directory.specs.Legal.{IsLegal}
 use Rattle.directory.specs.States.{AreSmall, IsSmallWrite, opening_mark, opening_entry, mark_after, entry_after, mark_left, entry_left, write_commit, write_off, writes_made}
 use Rattle.directory.proofs.CellLaws.{cell-of_puts}
-use Rattle.directory.proofs.StepLaws.{read_back, IsCourse, course-after}
+use Rattle.directory.proofs.StepLaws.{IsCourse, course-after}
 use Rattle.directory.specs.Statements.{MarksAreLeft, EntriesAreLeft, CommitsAreTold, OffIsTold}
+use Rattle.entry_word.specs.MarkLaws.{read-mark}
 
 -- one write
 mark-write : (sub node : ℕ) (mark : PresenceMark) (write : Write)
@@ -212,7 +213,7 @@ unfolding AreSmall
 commits-of_visits unpacks sub [] small = refl
 commits-of_visits unpacks sub (mark_at node mark ∷ ws) small =
     ap (λ m. cons_option (commit_of node m) (filter_map (λ (v : Visit). commit_of (node_put v.act) (mark_put v.act))
-    (map (visit_of sub) ws))) (read_back unpacks mark small.0)
+    (map (visit_of sub) ws))) (read-mark unpacks mark small.0)
     ∙ ap (cons_option (commit_of node mark)) (commits-of_visits unpacks sub ws small.1)
 commits-of_visits unpacks sub (entry_at level cluster address ∷ ws) small = commits-of_visits unpacks sub ws small.1
 
@@ -223,7 +224,7 @@ unfolding AreSmall
 off-of_visits unpacks sub off [] small = refl
 off-of_visits unpacks sub off (mark_at node mark ∷ ws) small =
     ap (λ m. fold (λ o (v : Visit). says_off (mark_put v.act)) (says_off m) (map (visit_of sub) ws))
-    (read_back unpacks mark small.0) ∙ off-of_visits unpacks sub (says_off mark) ws small.1
+    (read-mark unpacks mark small.0) ∙ off-of_visits unpacks sub (says_off mark) ws small.1
 off-of_visits unpacks sub off (entry_at level cluster address ∷ ws) small = off-of_visits unpacks sub false ws small.1
 
 pub commits-told : MarksUnpack → CommitsAreTold

@@ -1,8 +1,8 @@
 -- Steps: more of them add writes at the end, puts show which were begun, and a front of legal puts is legal.
 use Rattle.std.proofs.Common.{◌≡◌, ℕ, zero, suc, ◌+◌, ◌-◌, ◌<◌, ◌≤◌, ◌^◌, Bool, true, false, cond, List, [], ◌∷◌, ◌++◌, Some, None, length, map, take, fold, refl, sym, ap, ◌∙◌, subst, arith, length-append, ◌==◌}
-use Rattle.std.specs.Prelude.{slice_get, unwrap_or}
+use Rattle.std.specs.Prelude.{slice_get}
 use Rattle.std.specs.List.{cons_option}
-use Rattle.std.proofs.lemmas.List.{take-append-le, take_all}
+use Rattle.std.proofs.lemmas.List.{take-append-le, take_all, map-append}
 use Rattle.std.proofs.lemmas.List.Sums.{fold-append}
 use Rattle.entry_word.specs.Marks.{mark_word, mark_in, says_off, IsSmallMark, MarksUnpack}
 use Rattle.entry_word.specs.declared.mark.PresenceMark.{PresenceMark}
@@ -15,14 +15,8 @@ use Rattle.directory.specs.Writes.{Write, mark_at, visit_of, numbers_from, new_a
 use Rattle.directory.specs.Puts.{node_put, mark_put, mark_step, steps_from, steps_in, course_in}
 use Rattle.directory.specs.Legal.{IsScript, ArePuts}
 use Rattle.directory.specs.Statements.{FrontsAreLegal, ScriptsAreLegal, DueIsLegal, BeginningIsLegal, NextIsDecided}
-use Rattle.directory.specs.StepLaws.{steps-append, take-append, visits-append, visits_in}
-
-pub map-append : {A B : Type 0} (f : A → B) (xs ys : List A) → map f (xs ++ ys) ≡ map f xs ++ map f ys
-map-append f [] ys = refl
-map-append f (x ∷ xs) ys = ap (λ zs. f x ∷ zs) (map-append f xs ys)
-
-pub read_back : MarksUnpack → (mark : PresenceMark) → IsSmallMark mark → mark_in (mark_word mark) ≡ mark
-read_back unpacks mark small = ap (λ o. unwrap_or o Empty) (unpacks mark small)
+use Rattle.directory.specs.StepLaws.{steps-append, take-append, visits-append, visits_in, take-more}
+use Rattle.entry_word.specs.MarkLaws.{read-mark}
 
 -- a put that begins no step, when no Off was put before it, and is none itself
 abbrev IsPlain : Visit → Type 0
@@ -61,9 +55,9 @@ plain-skipped (x ∷ xs) ys f =
 plain-mark : MarksUnpack → (sub node : ℕ) (mark : PresenceMark) → IsSmallMark mark → mark_step false node mark ≡ None
     → says_off mark ≡ false → IsPlain (visit_of sub (mark_at node mark))
 plain-mark unpacks sub node mark small none on = (
-  ap (mark_step false node) (read_back unpacks mark small)
+  ap (mark_step false node) (read-mark unpacks mark small)
       ∙ none,
-  ap says_off (read_back unpacks mark small) ∙ on,
+  ap says_off (read-mark unpacks mark small) ∙ on,
 )
 
 -- what a move puts after its Coming
@@ -161,7 +155,7 @@ one-begun unpacks setting sub course (move_to node) k later sound may =
     let low : node < 2 ^ 16 = omega (arith, sound.low, may.inside) in
     let read : mark_in (mark_word (Coming (suc (length course.moves)) (last_stop course)))
     ≡ Coming (suc (length course.moves)) (last_stop course) =
-    read_back unpacks (Coming (suc (length course.moves)) (last_stop course)) (few, from) in
+    read-mark unpacks (Coming (suc (length course.moves)) (last_stop course)) (few, from) in
     let rest : List Visit = map (visit_of sub) (after_coming setting course (next_move setting course node)) in
     ap (λ m. cons_option (mark_step course.is_off node m) (steps_from (says_off m) (take k rest ++ later))) read
     ∙ ap (λ xs. move_to node ∷ xs) (plain-skipped (take k rest) later
@@ -171,12 +165,12 @@ one-begun unpacks setting sub course switch_off k later sound may =
     ap (λ vs. steps_from course.is_off (visit_of sub (mark_at (last_stop course) (Off (length course.moves))) ∷
     (vs ++ later))) (nothing-taken k)
     ∙ ap (λ m. cons_option (mark_step course.is_off (last_stop course) m) (steps_from (says_off m) later))
-    (read_back unpacks (Off (length course.moves)) sound.few)
+    (read-mark unpacks (Off (length course.moves)) sound.few)
 one-begun unpacks setting sub course switch_on k later sound may =
     ap (λ vs. steps_from course.is_off (visit_of sub (mark_at (last_stop course) (Here (length course.moves))) ∷
     (vs ++ later))) (nothing-taken k)
     ∙ (ap (λ m. cons_option (mark_step course.is_off (last_stop course) m) (steps_from (says_off m) later))
-    (read_back unpacks (Here (length course.moves)) sound.few)
+    (read-mark unpacks (Here (length course.moves)) sound.few)
     ∙ ap (λ b. cons_option (mark_step b (last_stop course) (Here (length course.moves))) (steps_from false later))
     may)
 
@@ -286,16 +280,11 @@ next-decided setting sub puts visit left legal =
     next-of-front puts (visits setting sub (steps_in puts)) _ visit
     (legal.front ∙ ap (take (length (puts ++ visit ∷ []))) longer) left
 
-pub one-more : (xs : List Visit) (k : ℕ) (x : Visit) → slice_get xs k ≡ Some x → take k xs ++ x ∷ [] ≡ take (suc k) xs
-one-more [] k x h = cc
-one-more (y ∷ ys) zero x h = let e : y ≡ x = cc in ap (λ z. z ∷ []) (sym e)
-one-more (y ∷ ys) (suc k) x h = ap (λ zs. y ∷ zs) (one-more ys k x h)
-
 -- the next put of the step under way keeps puts legal
 pub due-legal : MarksUnpack → DueIsLegal
 due-legal unpacks setting sub puts visit low legal due =
     subst (ArePuts setting sub) (sym (ap (λ xs. xs ++ visit ∷ []) legal.front
-    ∙ one-more (visits setting sub (steps_in puts)) (length puts) visit due))
+    ∙ sym (take-more (visits setting sub (steps_in puts)) (length puts) visit due)))
     (script-legal unpacks setting sub (steps_in puts) (suc (length puts)) low legal.script)
 
 may-append : (setting : Setting) (course : Course) (xs ys : List Step) → MaySteps setting course xs
@@ -344,5 +333,5 @@ begin-legal unpacks setting sub puts step visit low legal rest may first =
         (step ∷ [])) n) rest
         ∙ at_end (visits setting sub (steps_in puts)) (visits_in setting sub (course_in setting sub puts) (step ∷ []))
         visit first) in
-        ap (λ xs. xs ++ visit ∷ []) front ∙ one-more (visits setting sub (steps_in puts ++ step ∷ []))
-        (length puts) visit due
+        ap (λ xs. xs ++ visit ∷ []) front ∙ sym (take-more (visits setting sub (steps_in puts ++ step ∷ []))
+        (length puts) visit due)

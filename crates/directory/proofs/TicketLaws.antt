@@ -1,10 +1,12 @@
 -- Tickets: which visits they are of, and that they ascend.
-use Rattle.std.proofs.Common.{◌≡◌, ℕ, zero, suc, ◌+◌, ◌<◌, Bool, true, false, cond, ◌==◌, List, [], ◌∷◌, ◌++◌, Some, length, map, take, drop, refl, sym, ap, ◌∙◌, subst, arith, append_assoc}
+use Rattle.std.proofs.Common.{◌≡◌, ℕ, zero, suc, ◌+◌, Bool, true, false, cond, ◌==◌, List, [], ◌∷◌, ◌++◌, Some, length, map, take, drop, refl, sym, ap, ◌∙◌, subst, arith, append_assoc}
 use Rattle.std.specs.Prelude.{slice_get}
 use Rattle.std.proofs.lemmas.List.{length_push}
 use Rattle.node_set.specs.Ascending.{IsBelowAll, IsAscending}
 use Rattle.entry_word.specs.declared.visit.Visit.{Visit}
 use Rattle.directory.specs.Histories.{History, own, tickets_from, tickets}
+use Rattle.node_set.specs.SetLaws.{below_weaker}
+use Rattle.directory.specs.Statements.{TicketsGrow, TicketsAreOwn, TicketsAscend}
 
 pub get-after : (seen : History) (visit : Visit) (later : History)
     → slice_get (seen ++ visit ∷ later) (length seen) ≡ Some visit
@@ -35,14 +37,8 @@ tell_from actor seen (visit ∷ later) history whole =
     at_test true h = rw here (ap (λ vs. Some visit ∷ vs) h)
     at_test false h = h
 
-pub tickets-tell : (actor : ℕ) (history : History) → map (slice_get history) (tickets actor history)
-    ≡ map Some (own actor history)
+pub tickets-tell : TicketsAreOwn
 tickets-tell actor history = tell_from actor [] history history refl
-
--- they ascend
-pub below_more : (x y : ℕ) (xs : List ℕ) → x < y → IsBelowAll y xs → IsBelowAll x xs
-below_more x y [] h f = tt
-below_more x y (z ∷ zs) h f = (omega (arith, h, f.0), below_more x y zs h f.1)
 
 ascend_from : (actor ticket : ℕ) (history : History) → IsBelowAll ticket (tickets_from actor (suc ticket) history)
     × IsAscending (tickets_from actor ticket history)
@@ -61,14 +57,14 @@ ascend_from actor ticket (visit ∷ later) = at_test (visit.actor == actor) (asc
     at_test true one two = (
       (
         omega arith,
-        below_more ticket (suc ticket) (rest (suc (suc ticket)))
+        below_weaker ticket (suc ticket) (rest (suc (suc ticket)))
             (omega arith) two.0,
       ),
       (one.0, two.1),
     )
-    at_test false one two = (below_more ticket (suc ticket) (rest (suc (suc ticket))) (omega arith) two.0, two.1)
+    at_test false one two = (below_weaker ticket (suc ticket) (rest (suc (suc ticket))) (omega arith) two.0, two.1)
 
-pub tickets-ascend : (actor : ℕ) (history : History) → IsAscending (tickets actor history)
+pub tickets-ascend : TicketsAscend
 tickets-ascend actor history = (ascend_from actor 0 history).1
 
 -- parts of an ascending list
@@ -108,9 +104,7 @@ push_from actor ticket (first ∷ later) visit =
     at_test true h = ap (λ ts. ticket ∷ ts) h
     at_test false h = h
 
-pub tickets-push : (actor : ℕ) (history : History) (visit : Visit)
-    → tickets actor (history ++ visit ∷ []) ≡ tickets actor history ++ cond (visit.actor == actor)
-    (length history ∷ []) []
+pub tickets-push : TicketsGrow
 tickets-push actor history visit = push_from actor 0 history visit
     ∙ ap (λ n. tickets actor history ++ cond (visit.actor == actor) (n ∷ []) [])
     (let e : 0 + length history ≡ length history = omega arith in e)

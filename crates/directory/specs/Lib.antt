@@ -15,5 +15,7 @@ pub mod Outcomes
 pub mod Census
 pub mod Amid
 pub mod StepLaws
+pub mod HistoryLaws
+pub mod LookLaws
 pub mod ScriptLaws
 pub mod Statements

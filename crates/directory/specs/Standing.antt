@@ -35,14 +35,16 @@ abbrev pub commits : ℕ → History → List Commit
 commits sub history =
     filter_map (λ visit. commit_of (node_put visit.act) (mark_put visit.act)) (puts_to sub history)
 
--- where a subscriber stands, its number, and whether it is off
+-- where a subscriber stands
 abbrev pub standing : Setting → ℕ → History → ℕ
 standing setting sub history =
     fold (λ node commit. commit.to) (start setting sub) (commits sub history)
 
+-- the number of a subscriber: how many commits it has made
 abbrev pub number : ℕ → History → ℕ
 number sub history = length (commits sub history)
 
+-- whether a subscriber is off
 abbrev pub off : ℕ → History → Bool
 off sub history = ends_off (puts_to sub history)
 

@@ -1,17 +1,20 @@
 -- What the laws of the directory say, by name: each is proved by the public law that is named
 -- beside it, and the crates above cite these names.
-use Rattle.std.specs.Prelude.{◌≡◌, ℕ, ◌<◌, ◌≤◌, ◌^◌, ◌==◌, All, List, [], ◌∷◌, ◌++◌, Some, length, map, take, fold, filter_map, option_map, option_to_list, replicate, slice_get, slice_index, false}
-use Rattle.entry_word.specs.Marks.{mark_in}
+-- Key laws: `every_order_is_legal` (`PlayedIsLegal`: whatever the order, the history is legal for
+-- each subscriber), `commits_are_moves` (`CommitsAreMoves`, `StandsAtStop`) and `read_of_legal`
+-- (`MarksAreLeft`, `EntriesAreLeft`: what is read after a legal history).
+use Rattle.std.specs.Prelude.{◌≡◌, ℕ, ◌<◌, ◌≤◌, ◌^◌, ◌==◌, All, List, [], ◌∷◌, ◌++◌, Some, length, map, take, fold, filter_map, option_map, option_to_list, replicate, slice_get, slice_index, false, ◌↔◌, true, cond}
+use Rattle.entry_word.specs.Marks.{mark_in, says_here}
 use Rattle.entry_word.specs.Addresses.{address_in}
 use Rattle.entry_word.specs.declared.visit.Key.{Key}
 use Rattle.entry_word.specs.declared.visit.Key.TheVariants.{Presence, Entry}
 use Rattle.entry_word.specs.declared.visit.Visit.{Visit}
 use Rattle.directory.specs.Settings.{Setting, subs}
-use Rattle.directory.specs.Keys.{key_sub, opening}
-use Rattle.directory.specs.Histories.{History, cell, own, puts_to, tickets}
-use Rattle.directory.specs.Courses.{Course, MayStep, Step, after_steps, stop}
-use Rattle.directory.specs.Writes.{step_writes, visit_of, visits, writes}
-use Rattle.directory.specs.Finds.{FindCall, after_word, answer_of}
+use Rattle.directory.specs.Keys.{key_sub, opening, same_key}
+use Rattle.directory.specs.Histories.{History, cell, own, puts_to, tickets, word_after, IsFront}
+use Rattle.directory.specs.Courses.{Course, MayStep, Step, after_steps, stop, move_to}
+use Rattle.directory.specs.Writes.{step_writes, visit_of, visits, writes, most_writes}
+use Rattle.directory.specs.Finds.{FindCall, after_word, answer_of, Stage, key_of, looks_left}
 use Rattle.directory.specs.Looks.{look_by}
 use Rattle.directory.specs.Puts.{course_in, ends_off, mark_put, mark_step, node_put, puts_left, steps_in}
 use Rattle.directory.specs.Amid.{IsAmid}
@@ -20,12 +23,97 @@ use Rattle.directory.specs.States.{entry_left, mark_left, write_commit, write_of
 use Rattle.directory.specs.Standing.{commit_by, commits, number, off, standing}
 use Rattle.directory.specs.Orders.{after_read, after_turns, AreValid, caller_in, history_of, IsDone, IsPlayed, last_turns, most_turns, next, script_visits, Scripts, steps_of}
 use Rattle.directory.specs.Outcomes.{caller_lines, FollowEachOther, found_line, IsMade, outcome_in, step_line, step_lines}
+use Rattle.node_set.specs.Ascending.{IsAscending, has}
+use Rattle.directory.specs.Census.{census}
 
 -- a cell is told by the puts for its subscriber alone (`cell_of_puts`)
 abbrev pub CellsOfPuts : Type 0
 CellsOfPuts =
     (setting : Setting) (history : History) (key : Key)
     → cell setting history key ≡ cell setting (puts_to (key_sub key) history) key
+
+-- two keys are the same just where the test says so (`same_key_means`)
+abbrev pub SameKey : Type 0
+SameKey = (one other : Key) → (same_key one other ≡ true) ↔ (one ≡ other)
+
+-- a visit changes what a cell holds by its act alone (`cell_after`)
+abbrev pub CellAfter : Type 0
+CellAfter =
+    (setting : Setting) (history : History) (visit : Visit) (key : Key)
+    → cell setting (history ++ visit ∷ []) key
+    ≡ word_after key (cell setting history key) visit.act
+
+-- a visit adds to the visits of its own actor (`own_after`)
+abbrev pub OwnGrow : Type 0
+OwnGrow =
+    (actor : ℕ) (history : History) (visit : Visit)
+    → own actor (history ++ visit ∷ [])
+    ≡ own actor history ++ cond (visit.actor == actor) (visit ∷ []) []
+
+-- and its ticket to the tickets of that actor (`own_after`)
+abbrev pub TicketsGrow : Type 0
+TicketsGrow =
+    (actor : ℕ) (history : History) (visit : Visit)
+    → tickets actor (history ++ visit ∷ [])
+    ≡ tickets actor history ++ cond (visit.actor == actor) (length history ∷ []) []
+
+-- the tickets of an actor are those of all its visits (`tickets_tell`)
+abbrev pub TicketsAreOwn : Type 0
+TicketsAreOwn =
+    (actor : ℕ) (history : History)
+    → map (slice_get history) (tickets actor history) ≡ map Some (own actor history)
+
+-- and they ascend (`tickets_tell`)
+abbrev pub TicketsAscend : Type 0
+TicketsAscend = (actor : ℕ) (history : History) → IsAscending (tickets actor history)
+
+-- a history begins with itself (`histories_begin`)
+abbrev pub BeginsWithItself : Type 0
+BeginsWithItself = (history : History) → IsFront history history
+
+-- a longer history begins with its front (`histories_begin`)
+abbrev pub BeginsWithFront : Type 0
+BeginsWithFront = (history more : History) → IsFront history (history ++ more)
+
+-- and with what its front begins with (`histories_begin`)
+abbrev pub BeginsThrough : Type 0
+BeginsThrough =
+    (one two three : History) → IsFront one two → IsFront two three → IsFront one three
+
+-- no move has more writes than the most (`moves_are_short`)
+abbrev pub MovesAreShort : Type 0
+MovesAreShort =
+    (setting : Setting) (course : Course) (node : ℕ)
+    → length (step_writes setting course (move_to node)) ≤ most_writes setting
+
+-- each look of a find leaves fewer (`looks_fall`)
+abbrev pub LooksFall : Type 0
+LooksFall =
+    (setting : Setting) (call : FindCall) (stage : Stage) (word : ℕ) (key : Key)
+    → key_of call stage ≡ Some key
+    → looks_left setting call (after_word setting call stage word) < looks_left setting call stage
+
+-- a census lists just the subscribers whose presence cell at the node says that they are here
+-- (`census_members`)
+abbrev pub CensusIsMark : Type 0
+CensusIsMark =
+    (setting : Setting) (history : History) (node sub : ℕ) → sub < subs setting
+    → has sub (census setting history node)
+    ≡ says_here (mark_in (cell setting history (Presence node sub)))
+
+-- one more next visit keeps that each visit was the next one (`each_visit_is_next`)
+abbrev pub MoreIsPlayed : Type 0
+MoreIsPlayed =
+    (setting : Setting) (scripts : Scripts) (history : History) (actor : ℕ) (visit : Visit)
+    → next setting scripts history actor ≡ Some visit → IsPlayed setting scripts history
+    → IsPlayed setting scripts (history ++ visit ∷ [])
+
+-- a history that is played to its end is that of the order of its actors (`order_of_history`)
+abbrev pub OrdersAreOwn : Type 0
+OrdersAreOwn =
+    (setting : Setting) (scripts : Scripts) (history : History) → IsPlayed setting scripts history
+    → ((actor : ℕ) → IsDone setting scripts history actor)
+    → history_of setting scripts (map (λ (visit : Visit). visit.actor) history) ≡ history
 
 -- a front of legal puts is legal (`front_is_legal`)
 abbrev pub FrontsAreLegal : Type 0

@@ -2,18 +2,20 @@
 -- for granted. Key laws: `writes-append` (more steps only add writes at the end), `steps-append`
 -- (more puts show more steps), `by_fronts` (what holds of no visits and with each that comes next
 -- holds of all).
-use Rattle.std.proofs.Common.{◌≡◌, ℕ, zero, suc, ◌-◌, ◌<◌, ◌≤◌, Bool, cond, ◌==◌, List, [], ◌∷◌, ◌++◌, Option, Some, None, length, map, take, fold, refl, sym, ap, ◌∙◌, subst, arith, append_assoc}
+use Rattle.std.proofs.Common.{◌≡◌, ℕ, zero, suc, ◌-◌, ◌<◌, ◌≤◌, Bool, cond, ◌==◌, List, [], ◌∷◌, ◌++◌, Option, Some, None, length, map, take, fold, refl, sym, ap, ◌∙◌, subst, arith, append_assoc, true, false, inl, inr}
 use Rattle.std.specs.Prelude.{slice_get}
 use Rattle.std.specs.List.{cons_option}
-use Rattle.std.proofs.lemmas.List.{map-append, take_all}
+use Rattle.std.proofs.lemmas.List.{map-append, take_all, append-nil}
 use Rattle.std.proofs.lemmas.List.Elements.{filter-append}
 use Rattle.entry_word.specs.Marks.{says_off}
 use Rattle.entry_word.specs.declared.visit.Visit.{Visit}
 use Rattle.directory.specs.Settings.{Setting}
-use Rattle.directory.specs.Histories.{History, is_put_for, own, puts_to}
-use Rattle.directory.specs.Courses.{Step, Course, after_step, after_steps}
+use Rattle.directory.specs.Histories.{History, is_put_for, puts_to}
+use Rattle.directory.specs.Courses.{Step, Course, after_step, after_steps, highest, move_to, switch_off, switch_on}
 use Rattle.directory.specs.Writes.{visit_of, step_writes, writes}
 use Rattle.directory.specs.Puts.{node_put, mark_put, mark_step, steps_from}
+use Rattle.std.proofs.lemmas.Option.{slice_get_cases}
+use Rattle.directory.specs.Statements.{OwnGrow}
 
 -- the part of a list that is left out of a front
 pub take-append : {A : Type 0} (k : ℕ) (xs ys : List A)
@@ -40,6 +42,7 @@ writes-append setting course (x ∷ xs) ys =
 abbrev pub visits_in : Setting → ℕ → Course → List Step → List Visit
 visits_in setting sub course steps = map (visit_of sub) (writes setting course steps)
 
+-- more steps only add visits at the end
 pub visits-append : (setting : Setting) (sub : ℕ) (course : Course) (xs ys : List Step)
     → visits_in setting sub course (xs ++ ys)
     ≡ visits_in setting sub course xs ++ visits_in setting sub
@@ -70,13 +73,14 @@ take-more [] t x h = cc
 take-more (y ∷ ys) zero x h = let e : y ≡ x = cc in ap (λ z. z ∷ []) e
 take-more (y ∷ ys) (suc t) x h = ap (λ zs. y ∷ zs) (take-more ys t x h)
 
+-- there is an entry at each place of a list
 pub slice_get-within : {A : Type 0} (xs : List A) (t : ℕ) → t < length xs → (x : A)
     × (slice_get xs t ≡ Some x)
 slice_get-within [] t h = absurd (omega arith)
 slice_get-within (y ∷ ys) zero h = (y, refl)
 slice_get-within (y ∷ ys) (suc t) h = slice_get-within ys t (omega arith)
 
--- what holds of no visits and with each visit that comes next holds of the whole history
+-- what holds of no visits and with each visit that comes next holds of each front
 by_fronts_from : {A : Type 0} (P : List A → Type 0) (xs : List A) → P []
     → ((t : ℕ) (x : A) → slice_get xs t ≡ Some x → P (take t xs) → P (take t xs ++ x ∷ []))
     → (t : ℕ) → t ≤ length xs
@@ -87,19 +91,62 @@ by_fronts_from P xs none more (suc t) within =
     subst P (sym (take-more xs t found.0 found.1)) (more t found.0 found.1
     (by_fronts_from P xs none more t (omega arith)))
 
+-- what holds of no visits and with each visit that comes next holds of all
 pub by_fronts : {A : Type 0} (P : List A → Type 0) (xs : List A) → P []
     → ((t : ℕ) (x : A) → slice_get xs t ≡ Some x → P (take t xs) → P (take t xs ++ x ∷ [])) → P xs
 by_fronts P xs none more = subst P (take_all (length xs) xs (omega arith))
     (by_fronts_from P xs none more (length xs) (omega arith))
 
--- one more visit
-pub own-push : (actor : ℕ) (history : History) (visit : Visit)
-    → own actor (history ++ visit ∷ []) ≡ own actor history ++ cond (visit.actor == actor)
-    (visit ∷ []) []
+-- one more visit adds to the visits of its own actor
+pub own-push : OwnGrow
 own-push actor history visit = filter-append (λ (v : Visit). v.actor == actor) history (visit ∷ [])
 
+-- one more visit adds a put to those for a subscriber, where it is one
 pub puts-push : (sub : ℕ) (history : History) (visit : Visit)
     → puts_to sub (history ++ visit ∷ []) ≡ puts_to sub history ++ cond (is_put_for sub visit.act)
     (visit ∷ []) []
 puts-push sub history visit = filter-append (λ (v : Visit). is_put_for sub v.act) history
     (visit ∷ [])
+
+-- one step more adds its writes
+pub writes-more : (setting : Setting) (course : Course) (steps : List Step) (step : Step)
+    → writes setting course (steps ++ step ∷ []) ≡ writes setting course steps
+    ++ step_writes setting (after_steps setting course steps) step
+unfolding writes
+writes-more setting course steps step =
+    writes-append setting course steps (step ∷ [])
+    ∙ ap (λ ws. writes setting course steps ++ ws)
+    (append-nil (step_writes setting (after_steps setting course steps) step))
+
+-- no step changes where a course starts
+pub start-kept : (setting : Setting) (course : Course) (steps : List Step)
+    → (after_steps setting course steps).start ≡ course.start
+start-kept setting course [] = refl
+start-kept setting course (move_to node ∷ steps) =
+    start-kept setting (after_step setting course (move_to node)) steps
+start-kept setting course (switch_off ∷ steps) =
+    start-kept setting (after_step setting course switch_off) steps
+start-kept setting course (switch_on ∷ steps) =
+    start-kept setting (after_step setting course switch_on) steps
+
+-- the greatest number below a limit that passes a test is below it
+pub highest-low : (test : ℕ → Bool) (limit : ℕ) → highest test (suc limit) ≤ limit
+unfolding highest
+highest-low test zero = at_test (test zero)
+  where
+    at_test : (b : Bool) → cond b 0 0 ≤ 0
+    at_test true = omega arith
+    at_test false = omega arith
+highest-low test (suc limit) = at_test (test (suc limit)) (highest-low test limit)
+  where
+    at_test : (b : Bool) → highest test (suc limit) ≤ limit
+        → cond b (suc limit) (highest test (suc limit)) ≤ suc limit
+    at_test true h = omega arith
+    at_test false h = omega (arith, h)
+
+-- where a list has no entry it isn't longer
+pub past-end : {A : Type 0} (xs : List A) (i : ℕ) → slice_get xs i ≡ None → length xs ≤ i
+past-end xs i none = elim (slice_get_cases xs i).1 [
+  | inl (x, below, some, there) ↦ let clash : Some x ≡ None = sym some ∙ none in cc
+  | inr past ↦ past.0
+]

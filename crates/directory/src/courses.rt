@@ -1,9 +1,10 @@
 //! Laws of courses, and of what a subscriber writes.
-ghost use Rattle.std.specs.Prelude.{List, [], false, if◌then◌else◌, length, nat_le, ℕ, ◌++◌, ◌+◌, ◌<◌, ◌∷◌, ◌≡◌, ◌≢◌, ◌≤◌};
+ghost use Rattle.std.specs.Prelude.{List, [], false, if◌then◌else◌, length, nat_le, ℕ, ◌++◌, ◌+◌, ◌<◌, ◌∷◌, ◌≡◌, ◌≢◌};
 ghost use Rattle.directory.specs.Courses.{Course, MayStep, Move, Step, address_node, after_step, after_steps, base, course_at, gathered_weight, last_stop, move_to, next_move};
 ghost use Rattle.directory.specs.Settings.{Setting};
 ghost use Rattle.directory.specs.Standing.{number};
-ghost use Rattle.directory.specs.Writes.{most_writes, step_writes, writes};
+ghost use Rattle.directory.specs.Writes.{writes};
+ghost use Rattle.directory.specs.Statements.{MovesAreShort};
 
 /// The last renewal of a level after one more move.
 pub fn base_after()
@@ -28,8 +29,7 @@ pub fn levels_after_move()
 
 /// No move has more writes than the most.
 pub fn moves_are_short()
-    ensures { (setting : Setting) (course : Course) (node : ℕ)
-        → length (step_writes setting course (move_to node)) ≤ most_writes setting }
+    ensures { MovesAreShort }
 {}
 
 /// More steps only add writes at the end.

@@ -1,12 +1,12 @@
 //! Laws of finds.
-ghost use Rattle.std.specs.Prelude.{List, Option, Some, fold, length, ℕ, ◌++◌, ◌+◌, ◌<◌, ◌≡◌, ◌≤◌};
-ghost use Rattle.directory.specs.Finds.{FindCall, Reader, Stage, after_word, chases, climb, ended, key_of, looks_left};
+ghost use Rattle.std.specs.Prelude.{List, Option, fold, length, ℕ, ◌++◌, ◌+◌, ◌≡◌, ◌≤◌};
+ghost use Rattle.directory.specs.Finds.{FindCall, Reader, Stage, after_word, chases, climb, ended, looks_left};
 ghost use Rattle.directory.specs.Histories.{History, tickets};
 ghost use Rattle.directory.specs.Looks.{AreLooks};
 ghost use Rattle.directory.specs.Parts.{AreNothing, LeadOn, climb_weight};
 ghost use Rattle.directory.specs.Settings.{Setting};
 ghost use Rattle.directory.specs.declared.answers.Found.{Found};
-ghost use Rattle.entry_word.specs.declared.visit.Key.{Key};
+ghost use Rattle.directory.specs.Statements.{LooksFall};
 
 /// More words change no answer.
 pub fn ended_stays()
@@ -16,10 +16,7 @@ pub fn ended_stays()
 
 /// Each look of a find leaves fewer.
 pub fn looks_fall()
-    ensures { (setting : Setting) (call : FindCall) (stage : Stage) (word : ℕ) (key : Key)
-        → key_of call stage ≡ Some key
-        → looks_left setting call (after_word setting call stage word)
-        < looks_left setting call stage }
+    ensures { LooksFall }
 {}
 
 /// So no find is longer than its most looks.

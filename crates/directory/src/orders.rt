@@ -1,9 +1,9 @@
 //! Laws of orders: whose turn it is, and what it makes of the history.
-ghost use Rattle.std.specs.Prelude.{All, List, Some, [], map, ℕ, ◌++◌, ◌∷◌, ◌≡◌};
+ghost use Rattle.std.specs.Prelude.{All, List, Some, [], ℕ, ◌≡◌};
 ghost use Rattle.directory.specs.Histories.{History};
 ghost use Rattle.directory.specs.Orders.{IsDone, IsPlayed, Scripts, after_turns, history_of, next};
 ghost use Rattle.directory.specs.Settings.{Setting};
-ghost use Rattle.directory.specs.Statements.{DoneIsRest, DoneShowsScript, HistoriesAreOrdered, OrdersAreDone, OrdersArePlayed, OwnPutsAlone, PlayedIsLegal, RestKeepsOpening, ScriptsInOrder, TurnsAreFew, TurnsEndAlike};
+ghost use Rattle.directory.specs.Statements.{DoneIsRest, DoneShowsScript, HistoriesAreOrdered, OrdersAreDone, OrdersArePlayed, OwnPutsAlone, PlayedIsLegal, RestKeepsOpening, ScriptsInOrder, TurnsAreFew, TurnsEndAlike, MoreIsPlayed, OrdersAreOwn};
 ghost use Rattle.entry_word.specs.declared.visit.Visit.{Visit};
 
 use entry_word::mark_words;
@@ -21,10 +21,7 @@ pub fn each_visit_is_next()
     ensures order { OrdersArePlayed }
     ensures part { (setting : Setting) (scripts : Scripts) (order : List ℕ)
         → IsPlayed setting scripts (after_turns setting scripts [] order) }
-    ensures more { (setting : Setting) (scripts : Scripts) (history : History) (actor : ℕ)
-        (visit : Visit)
-        → next setting scripts history actor ≡ Some visit → IsPlayed setting scripts history
-        → IsPlayed setting scripts (history ++ visit ∷ []) }
+    ensures more { MoreIsPlayed }
 {}
 
 /// Turns of actors that are done change nothing.
@@ -53,10 +50,7 @@ pub fn all_scripts_done()
 /// completed.
 pub fn order_of_history()
     ensures completed { HistoriesAreOrdered }
-    ensures done { (setting : Setting) (scripts : Scripts) (history : History)
-        → IsPlayed setting scripts history
-        → ((actor : ℕ) → IsDone setting scripts history actor)
-        → history_of setting scripts (map (λ (visit : Visit). visit.actor) history) ≡ history }
+    ensures done { OrdersAreOwn }
 {}
 
 /// A subscriber's own visits are the first of its script, in order, and all that is put into its

@@ -1,15 +1,12 @@
 //! Laws of where a subscriber stands.
-ghost use Rattle.std.specs.Prelude.{List, [], cond, ℕ, ◌++◌, ◌<◌, ◌∷◌, ◌≡◌};
+ghost use Rattle.std.specs.Prelude.{List, [], cond, ℕ, ◌++◌, ◌∷◌, ◌≡◌};
 ghost use Rattle.directory.specs.Census.{census};
 ghost use Rattle.directory.specs.Histories.{History, cell, is_put_for, puts_to};
 ghost use Rattle.directory.specs.Puts.{mark_put, node_put};
-ghost use Rattle.directory.specs.Settings.{Setting, start, subs};
+ghost use Rattle.directory.specs.Settings.{Setting, start};
 ghost use Rattle.directory.specs.Standing.{Commit, commit_of, commits, confirms, passage, standing};
-ghost use Rattle.directory.specs.Statements.{CommitsAreMoves, StandsAtStop};
-ghost use Rattle.entry_word.specs.Marks.{mark_in, says_here};
-ghost use Rattle.entry_word.specs.declared.visit.Key.TheVariants.{Presence};
+ghost use Rattle.directory.specs.Statements.{CommitsAreMoves, StandsAtStop, CensusIsMark};
 ghost use Rattle.entry_word.specs.declared.visit.Visit.{Visit};
-ghost use Rattle.node_set.specs.Ascending.{has};
 ghost use Rattle.std.specs.List.{cons_option, list_any};
 
 use entry_word::mark_words;
@@ -49,7 +46,5 @@ pub fn commits_are_moves()
 
 /// A census lists just the subscribers whose presence cell at the node says that they are here.
 pub fn census_members()
-    ensures { (setting : Setting) (history : History) (node sub : ℕ) → sub < subs setting
-        → has sub (census setting history node)
-        ≡ says_here (mark_in (cell setting history (Presence node sub))) }
+    ensures { CensusIsMark }
 {}

@@ -32,7 +32,7 @@ mark_of word = mark_from (word / 2 ^ 48) (word / 2 ^ 16 % 2 ^ 32) (word % 2 ^ 16
 abbrev pub mark_in : ℕ → PresenceMark
 mark_in word = unwrap_or (mark_of word) Empty
 
--- whether a mark says that its subscriber is here, or off
+-- whether a mark says that its subscriber is here
 abbrev pub says_here : PresenceMark → Bool
 says_here Empty = false
 says_here (Here number) = true
@@ -40,6 +40,7 @@ says_here (Gone number to) = false
 says_here (Coming number from) = false
 says_here (Off number) = false
 
+-- whether a mark says that its subscriber is switched off
 abbrev pub says_off : PresenceMark → Bool
 says_off Empty = false
 says_off (Here number) = false

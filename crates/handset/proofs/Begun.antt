@@ -14,15 +14,16 @@ use Rattle.handset.specs.Kept.{HandsetData}
 use Rattle.handset.specs.Progress.{left_at}
 use Rattle.handset.specs.Beginning.{begin_move, handset_at, journey_to, renewal_in, gathered_then}
 use Rattle.directory.specs.Amid.{course_of}
-use Rattle.handset.specs.Stands.{switch_to, commits_in, Shows, StandsAt, StandsFor}
-use Rattle.handset.proofs.Lists.{highest-low, drop-spent, highest-same, numbers-from-zero}
+use Rattle.handset.specs.Stands.{switch_to, commits_in, Shows, StandsAt, StandsForSteps}
+use Rattle.handset.proofs.Lists.{drop-spent, highest-same, numbers-from-zero}
 use Rattle.handset.proofs.CourseLaws.{course-more, visits-more}
 use Rattle.handset.proofs.Settling.{AddressLaw, GatheredLaw}
 use Rattle.handset.proofs.Writing.{coming-left}
+use Rattle.directory.specs.StepLaws.{highest-low}
 
 -- what a handset at rest stands for
 at_rest : (setting : Setting) (handset : HandsetData) (steps : List Step) (made : ℕ) → handset.stage ≡ Resting
-    → StandsFor setting handset steps made → StandsAt setting handset Resting steps made
+    → StandsForSteps setting handset steps made → StandsAt setting handset Resting steps made
 at_rest setting handset steps made rests f = subst (λ s. StandsAt setting handset s steps made) rests f
 
 -- a switch
@@ -74,11 +75,11 @@ begun-shows setting handset after steps made step sub place number off few shows
     })
 
 pub switch-stands : (setting : Setting) (handset : HandsetData) (steps : List Step) (made : ℕ) (off : Bool)
-    → handset.stage ≡ Resting → StandsFor setting handset steps made
-    → StandsFor setting (record handset { stage = Switching off }) (steps ++ switch_to off ∷ []) made
+    → handset.stage ≡ Resting → StandsForSteps setting handset steps made
+    → StandsForSteps setting (record handset { stage = Switching off }) (steps ++ switch_to off ∷ []) made
 switch-stands setting handset steps made off rests stands = begins (at_rest setting handset steps made rests stands)
   where
-    begins : StandsAt setting handset Resting steps made → StandsFor setting (record handset {
+    begins : StandsAt setting handset Resting steps made → StandsForSteps setting (record handset {
       stage =
           Switching off;
     }) (steps ++ switch_to off ∷ []) made
@@ -126,8 +127,8 @@ same-renewal setting course xs weight other same kept =
 pub begin-stands : (setting : Setting) (handset : HandsetData) (steps : List Step) (made to : ℕ)
     → AddressLaw setting → GatheredLaw setting
     → length handset.gathered ≡ levels setting
-    → handset.stage ≡ Resting → handset.is_off ≡ false → StandsFor setting handset steps made
-    → StandsFor setting (begin_move setting handset to) (steps ++ move_to to ∷ []) made
+    → handset.stage ≡ Resting → handset.is_off ≡ false → StandsForSteps setting handset steps made
+    → StandsForSteps setting (begin_move setting handset to) (steps ++ move_to to ∷ []) made
 begin-stands setting handset steps made to address_law gathered_law count rests is_on stands =
     begins (at_rest setting handset steps made rests stands)
   where
@@ -138,7 +139,7 @@ begin-stands setting handset steps made to address_law gathered_law count rests 
     low = highest-low (λ level. nat_le (setting.threshold level) (get_or handset.gathered level 0 + move.weight))
         setting.top
 
-    begins : StandsAt setting handset Resting steps made → StandsFor setting (begin_move setting handset to)
+    begins : StandsAt setting handset Resting steps made → StandsForSteps setting (begin_move setting handset to)
         (steps ++ move_to to ∷ []) made
     begins f =
         let before : Course = course_of setting handset.sub f.over in
@@ -194,7 +195,7 @@ begin-stands setting handset steps made to address_law gathered_law count rests 
 -- a handset at rest at its home
 pub new-stands : (setting : Setting) (plan : PlanData) (sub home : ℕ) → setting.nodes ≡ nodes_of plan
     → levels setting ≡ levels_of plan → start setting sub ≡ home → home < nodes_of plan
-    → StandsFor setting (handset_at plan sub home) [] 0
+    → StandsForSteps setting (handset_at plan sub home) [] 0
 unfolding writes
 new-stands setting plan sub home nodes count starts inside = record {
   over = [];

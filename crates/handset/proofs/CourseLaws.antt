@@ -1,30 +1,20 @@
 -- Courses: what one step more makes of the visits, the place, the levels and the trail.
-use Rattle.std.proofs.Common.{◌≡◌, ℕ, suc, ◌≤◌, Bool, true, false, cond, List, [], ◌∷◌, ◌++◌, length, map, drop, refl, sym, ap, ◌∙◌, subst, arith, append_assoc, length-append}
+use Rattle.std.proofs.Common.{◌≡◌, ℕ, suc, ◌≤◌, Bool, true, false, cond, List, [], ◌∷◌, ◌++◌, length, map, drop, refl, sym, ap, ◌∙◌, subst, arith, length-append}
 use Rattle.std.specs.Prelude.{nat_le, ◌==◌, ◌||◌}
-use Rattle.std.proofs.lemmas.List.{append-nil, map-append, drop-append-le, drop_at}
+use Rattle.std.proofs.lemmas.List.{map-append, drop-append-le, drop_at}
 use Rattle.std.proofs.lemmas.List.Sums.{fold-append}
 use Rattle.node_set.specs.Ascending.{has}
 use Rattle.directory.specs.Settings.{Setting, start}
 use Rattle.directory.specs.Courses.{Step, move_to, switch_off, switch_on, Move, Course, course_at, last_stop, base, next_move, after_step, after_steps}
 use Rattle.directory.specs.Writes.{visit_of, visits, step_writes, writes, trail}
 use Rattle.directory.specs.Amid.{course_of}
+use Rattle.directory.specs.StepLaws.{writes-more}
 
 -- one step more
 pub course-more : (setting : Setting) (sub : ℕ) (steps : List Step) (step : Step)
     → course_of setting sub (steps ++ step ∷ []) ≡ after_step setting (course_of setting sub steps) step
 course-more setting sub steps step = fold-append (after_step setting) (course_at (start setting sub)) steps
     (step ∷ [])
-
-writes-more : (setting : Setting) (course : Course) (steps : List Step) (step : Step)
-    → writes setting course (steps ++ step ∷ []) ≡ writes setting course steps ++ step_writes setting
-    (after_steps setting course steps) step
-unfolding writes
-writes-more setting course [] step = append-nil (step_writes setting course step)
-writes-more setting course (first ∷ steps) step =
-    ap (λ ws. step_writes setting course first ++ ws) (writes-more setting (after_step setting course first) steps
-    step)
-    ∙ sym (append_assoc (step_writes setting course first) (writes setting (after_step setting course first) steps)
-    (step_writes setting (after_steps setting (after_step setting course first) steps) step))
 
 pub visits-more : (setting : Setting) (sub : ℕ) (steps : List Step) (step : Step)
     → visits setting sub (steps ++ step ∷ []) ≡ visits setting sub steps ++ map (visit_of sub) (step_writes setting

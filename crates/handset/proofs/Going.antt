@@ -10,10 +10,12 @@ use Rattle.region_plan.specs.Kept.{IsKept}
 use Rattle.region_plan.specs.Settings.{setting_of}
 use Rattle.handset.specs.declared.stage.Stage.{Stage}
 use Rattle.handset.specs.declared.stage.Stage.TheVariants.{Resting, Coming, Renewing, Committing, Confirming, Erasing, Purging, Switching}
-use Rattle.handset.specs.Kept.{HandsetData, GoesWith, IsWithin, begun_at}
+use Rattle.handset.specs.Kept.{HandsetData, GoesWith, IsMoveStage, begun_at}
 use Rattle.handset.specs.Progress.{first_with, is_old, is_behind, purging_at, purging_from, erasing_at, erasing_from, settle, go_on}
-use Rattle.handset.specs.Beginning.{gathered_then, gathered_after, is_rest, journey_to, begin_move}
-use Rattle.handset.proofs.Lists.{first-inside, highest-low, numbers-from-zero, numbers-count}
+use Rattle.handset.specs.Beginning.{gathered_then, gathered_after, journey_to, begin_move}
+use Rattle.handset.proofs.Lists.{first-inside, numbers-from-zero}
+use Rattle.directory.specs.StepLaws.{highest-low}
+use Rattle.node_set.specs.SetLaws.{length-passing_all}
 
 -- a stage behind the confirm, or rest
 abbrev pub IsLate : ℕ → Move → Stage → Type 0
@@ -111,7 +113,7 @@ goes-settled plan handset goes done = record {
     at_test level h false = goes.to
 
 goes-late : (plan : PlanData) (handset : HandsetData) (next : Stage) → GoesWith plan handset
-    → handset.last.number ≡ begun_at next handset.number → IsWithin (nodes_of plan) handset.last next
+    → handset.last.number ≡ begun_at next handset.number → IsMoveStage (nodes_of plan) handset.last next
     → GoesWith plan (record handset { stage = next })
 goes-late plan handset next goes counted within = record {
   addresses = goes.addresses;
@@ -213,7 +215,7 @@ goes-begun plan handset to kept goes inside rests few =
     record {
       addresses = goes.addresses;
       gathered = length-map (numbers_from 0 (length handset.gathered)) (λ k. gathered_then
-          (get_or handset.gathered k 0) move.renewed move.weight k) ∙ (numbers-count 0 (length handset.gathered)
+          (get_or handset.gathered k 0) move.renewed move.weight k) ∙ (length-passing_all 0 (length handset.gathered)
           ∙ goes.gathered);
       trail = goes.trail;
       place = goes.place;
@@ -237,13 +239,3 @@ goes-begun plan handset to kept goes inside rests few =
   where
     move : Move
     move = journey_to (setting_of plan []) handset to
-
-pub resting-means : (stage : Stage) → is_rest stage ≡ true → stage ≡ Resting
-resting-means Resting h = refl
-resting-means Coming h = cc
-resting-means (Renewing level) h = cc
-resting-means Committing h = cc
-resting-means Confirming h = cc
-resting-means (Erasing level) h = cc
-resting-means (Purging node) h = cc
-resting-means (Switching off) h = cc

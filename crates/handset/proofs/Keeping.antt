@@ -9,7 +9,7 @@ use Rattle.handset.specs.declared.stage.Stage.{Stage}
 use Rattle.handset.specs.Kept.{HandsetData}
 use Rattle.handset.specs.Progress.{left_at}
 use Rattle.directory.specs.Amid.{course_of}
-use Rattle.handset.specs.Stands.{IsNext, Shows, StandsAt, StandsFor, number_at, place_at, under_way}
+use Rattle.handset.specs.Stands.{ComesNext, Shows, StandsAt, StandsForSteps, number_at, place_at, under_way}
 
 -- what a handset and its setting have in common
 pub record Fits (setting : Setting) (handset : HandsetData) : Type 0 where
@@ -27,7 +27,7 @@ pub record Fits (setting : Setting) (handset : HandsetData) : Type 0 where
 pub record Keeps (setting : Setting) (handset : HandsetData) (stage : Stage) (steps : List Step) : Type 0 where
   pub over : List Step
   pub begun : steps ≡ over ++ under_way handset.last stage
-  pub move : IsNext setting (course_of setting handset.sub over) handset.last stage
+  pub move : ComesNext setting (course_of setting handset.sub over) handset.last stage
   pub place : handset.place ≡ place_at (course_of setting handset.sub over) handset.last stage
   pub number : handset.number ≡ number_at (course_of setting handset.sub over) handset.last stage
   pub is_off : handset.is_off ≡ (course_of setting handset.sub over).is_off
@@ -59,7 +59,7 @@ pub stands-of : (setting : Setting) (handset : HandsetData) (stage : Stage) (ste
     → made ≤ length (visits setting handset.sub steps)
     → drop made (visits setting handset.sub steps)
     ≡ map (visit_of handset.sub) (left_at setting (record handset { stage = stage }) stage)
-    → StandsFor setting (record handset { stage = stage }) steps made
+    → StandsForSteps setting (record handset { stage = stage }) steps made
 stands-of setting handset stage steps made f shows few left = record {
   over = f.over;
   begun = f.begun;
@@ -79,7 +79,7 @@ stands-of setting handset stage steps made f shows few left = record {
 abbrev pub AreAlike : Setting → Move → Stage → Stage → Type 0
 AreAlike setting move stage next =
     (under_way move stage ≡ under_way move next)
-    × ((course : Course) → IsNext setting course move stage → IsNext setting course move next)
+    × ((course : Course) → ComesNext setting course move stage → ComesNext setting course move next)
     × ((course : Course) → place_at course move stage ≡ place_at course move next)
     × ((course : Course) → number_at course move stage ≡ number_at course move next)
 

@@ -36,32 +36,12 @@ differ a b h = grind (arith, nat_tests)
 pub agree : (a b : ℕ) → a ≡ b → not (a == b) ≡ false
 agree a b h = grind (arith, nat_tests)
 
--- numbers one after another
-pub numbers-count : (first count : ℕ) → length (numbers_from first count) ≡ count
-numbers-count first zero = refl
-numbers-count first (suc count) = ap suc (numbers-count (suc first) count)
-
 pub numbers-at : (f : ℕ → ℕ) (first count k : ℕ) → k < count → get_or (map f (numbers_from first count)) k 0
     ≡ f (first + k)
 numbers-at f first zero k h = absurd (omega arith)
 numbers-at f first (suc count) zero h = let e : first ≡ first + 0 = omega arith in ap f e
 numbers-at f first (suc count) (suc k) h = numbers-at f (suc first) count k (omega arith) ∙ (let e : suc first + k
     ≡ first + suc k = omega arith in ap f e)
-
--- the highest level that passes a test is one
-pub highest-low : (test : ℕ → Bool) (limit : ℕ) → highest test (suc limit) ≤ limit
-unfolding highest
-highest-low test zero = at_test (test zero)
-  where
-    at_test : (b : Bool) → cond b 0 0 ≤ 0
-    at_test true = omega arith
-    at_test false = omega arith
-highest-low test (suc limit) = at_test (test (suc limit)) (highest-low test limit)
-  where
-    at_test : (b : Bool) → highest test (suc limit) ≤ limit → cond b (suc limit) (highest test
-        (suc limit)) ≤ suc limit
-    at_test true h = omega arith
-    at_test false h = omega (arith, h)
 
 pub highest-here : (test : ℕ → Bool) (limit : ℕ) → 0 < limit → test (limit - 1) ≡ true → limit - 1
     ≡ highest test limit
@@ -87,9 +67,6 @@ highest-none test (suc limit) h = absurd (omega arith)
 -- tests
 pub le-passes : (a b : ℕ) → a ≤ b → nat_le a b ≡ true
 le-passes a b h = grind (arith, nat_tests)
-
-pub le-fails : (a b : ℕ) → b < a → nat_le a b ≡ false
-le-fails a b h = grind (arith, nat_tests)
 
 pub numbers-from-zero : (f : ℕ → ℕ) (count k : ℕ) → k < count → get_or (map f (numbers_from 0 count)) k 0 ≡ f k
 numbers-from-zero f count k h = numbers-at f 0 count k h ∙ (let e : 0 + k ≡ k = omega arith in ap f e)

@@ -16,14 +16,15 @@ use Rattle.region_plan.specs.Settings.{setting_of}
 use Rattle.handset.specs.Kept.{HandsetData, GoesWith, begun_at}
 use Rattle.handset.specs.Progress.{renew_from, erase_from, due_at, due, left_at, go_on, after_write, erasing_from, purging_from}
 use Rattle.directory.specs.Amid.{course_of}
-use Rattle.handset.specs.Stands.{switch_to, Shows, StandsAt, StandsFor}
+use Rattle.handset.specs.Stands.{switch_to, Shows, StandsAt, StandsForSteps}
 use Rattle.handset.proofs.Lists.{drop-head, drop-tail, drop-inside, drop-none}
 use Rattle.handset.proofs.Going.{IsLate}
-use Rattle.handset.proofs.Showing.{Unpacks, mark-shown, entry-shown, commit-shown}
+use Rattle.handset.proofs.Showing.{mark-shown, entry-shown, commit-shown}
 use Rattle.handset.proofs.CourseLaws.{course-more}
 use Rattle.handset.proofs.Keeping.{Fits, Keeps, keeps-of, keeps-on, stands-of}
 use Rattle.handset.proofs.Settling.{AddressLaw, settled-stands}
 use Rattle.handset.proofs.Writing.{purging-left, erasing-left, renewing-left, renewing-first}
+use Rattle.entry_word.specs.Marks.{MarksUnpack}
 
 -- the next visit is the first of those that are left
 head-due : (setting : Setting) (handset : HandsetData) (stage : Stage) (n : ℕ) (vs : List Visit)
@@ -39,7 +40,7 @@ head-due setting handset (Purging node) n vs h = drop-head n vs _ _ h
 head-due setting handset (Switching off) n vs h = drop-head n vs _ _ h
 
 pub next-stands : (setting : Setting) (handset : HandsetData) (steps : List Step) (made : ℕ)
-    → StandsFor setting handset steps made
+    → StandsForSteps setting handset steps made
     → due setting handset ≡ slice_get (visits setting handset.sub steps) made
 next-stands setting handset steps made stands = sym (head-due setting handset handset.stage made
     (visits setting handset.sub steps) stands.left)
@@ -50,7 +51,7 @@ gone-on-stands : (setting : Setting) (handset : HandsetData) (next : Stage) (nod
     → Keeps setting handset Confirming steps → Shows setting handset (take made (visits setting handset.sub steps))
     → IsLate nodes handset.last next → made ≤ length (visits setting handset.sub steps)
     → drop made (visits setting handset.sub steps) ≡ map (visit_of handset.sub) (left_at setting handset next)
-    → StandsFor setting (go_on setting handset next) steps made
+    → StandsForSteps setting (go_on setting handset next) steps made
 gone-on-stands setting handset Resting nodes steps made law fits f shows late few left =
     settled-stands setting handset steps made law fits f shows few left
 gone-on-stands setting handset Coming nodes steps made law fits f shows late few left = absurd late
@@ -71,7 +72,7 @@ renewing-stands : (setting : Setting) (handset : HandsetData) (level : ℕ) (ste
     → made ≤ length (visits setting handset.sub steps)
     → drop made (visits setting handset.sub steps)
     ≡ map (visit_of handset.sub) (renew_from setting handset (suc level))
-    → StandsFor setting (after_write setting handset (Renewing level)) steps made
+    → StandsForSteps setting (after_write setting handset (Renewing level)) steps made
 renewing-stands setting handset level steps made f shows few left = at_test (nat_lt level handset.last.renewed) refl
   where
     left_then : (b : Bool) → nat_lt level handset.last.renewed ≡ b → drop made (visits setting handset.sub steps)
@@ -79,7 +80,7 @@ renewing-stands setting handset level steps made f shows few left = at_test (nat
     left_then b same = left ∙ ap (map (visit_of handset.sub)) (renewing-left setting handset level
         ∙ ap (λ t. left_at setting handset (cond t (Renewing (suc level)) Committing)) same)
 
-    at_test : (b : Bool) → nat_lt level handset.last.renewed ≡ b → StandsFor setting (record handset {
+    at_test : (b : Bool) → nat_lt level handset.last.renewed ≡ b → StandsForSteps setting (record handset {
       stage = cond b (Renewing (suc level)) Committing;
     }) steps made
     at_test true same = stands-of setting handset (Renewing (suc level)) steps made
@@ -100,7 +101,7 @@ switched-stands : (setting : Setting) (handset : HandsetData) (off : Bool) (step
     → StandsAt setting handset (Switching off) steps made
     → Shows setting (record handset { is_off = off; stage = Resting })
     (take (suc made) (visits setting handset.sub steps))
-    → StandsFor setting (record handset { is_off = off; stage = Resting }) steps (suc made)
+    → StandsForSteps setting (record handset { is_off = off; stage = Resting }) steps (suc made)
 switched-stands setting handset off steps made f shows = record {
   over = steps;
   begun = sym (append-nil steps);
@@ -126,11 +127,11 @@ switched-stands setting handset off steps made f shows = record {
 
 -- a handset after the write that came next
 after-stands : (setting : Setting) (handset : HandsetData) (stage : Stage) (nodes : ℕ) (steps : List Step)
-    (made : ℕ) → Unpacks → AddressLaw setting → Fits setting handset
+    (made : ℕ) → MarksUnpack → AddressLaw setting → Fits setting handset
     → ((level : ℕ) → IsLate nodes handset.last (erasing_from setting handset level)) → ((node : ℕ)
     → IsLate nodes handset.last (purging_from setting handset node))
     → (stage ≡ Resting → ⊥) → StandsAt setting handset stage steps made
-    → StandsFor setting (after_write setting handset stage) steps (suc made)
+    → StandsForSteps setting (after_write setting handset stage) steps (suc made)
 after-stands setting handset Resting nodes steps made unpacks law fits erasing purging going f = absurd (going refl)
 after-stands setting handset Coming nodes steps made unpacks law fits erasing purging going f =
     stands-of setting handset (Renewing 0) steps (suc made)
@@ -205,12 +206,12 @@ after-stands setting handset (Switching false) nodes steps made unpacks law fits
     (Here handset.number) _
     f.left fits.number refl refl same refl f.shows)
 
-pub made-stands : (setting : Setting) (handset : HandsetData) (nodes : ℕ) (steps : List Step) (made : ℕ) → Unpacks
+pub made-stands : (setting : Setting) (handset : HandsetData) (nodes : ℕ) (steps : List Step) (made : ℕ) → MarksUnpack
     → AddressLaw setting → Fits setting handset
     → ((level : ℕ) → IsLate nodes handset.last (erasing_from setting handset level)) → ((node : ℕ)
     → IsLate nodes handset.last (purging_from setting handset node))
-    → (handset.stage ≡ Resting → ⊥) → StandsFor setting handset steps made
-    → StandsFor setting (after_write setting handset handset.stage) steps (suc made)
+    → (handset.stage ≡ Resting → ⊥) → StandsForSteps setting handset steps made
+    → StandsForSteps setting (after_write setting handset handset.stage) steps (suc made)
 made-stands setting handset nodes steps made unpacks law fits erasing purging going f =
     after-stands setting handset handset.stage nodes steps made unpacks law fits erasing purging going f
 

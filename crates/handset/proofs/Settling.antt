@@ -11,7 +11,7 @@ use Rattle.handset.specs.declared.stage.Stage.TheVariants.{Confirming}
 use Rattle.handset.specs.Kept.{HandsetData}
 use Rattle.handset.specs.Progress.{settle}
 use Rattle.directory.specs.Amid.{course_of}
-use Rattle.handset.specs.Stands.{Shows, StandsFor}
+use Rattle.handset.specs.Stands.{Shows, StandsForSteps}
 use Rattle.handset.proofs.Going.{readdressed}
 use Rattle.handset.proofs.CourseLaws.{course-more, place-after, trail-after}
 use Rattle.handset.proofs.Keeping.{Fits, Keeps}
@@ -99,7 +99,7 @@ pub settled-stands : (setting : Setting) (handset : HandsetData) (steps : List S
     → Fits setting handset → Keeps setting handset Confirming steps
     → Shows setting handset (take made (visits setting handset.sub steps))
     → made ≤ length (visits setting handset.sub steps) → drop made (visits setting handset.sub steps) ≡ []
-    → StandsFor setting (settle setting handset) steps made
+    → StandsForSteps setting (settle setting handset) steps made
 settled-stands setting handset steps made law fits f shows few left = record {
   over = steps;
   begun = sym (append-nil steps);

@@ -1,10 +1,10 @@
 -- What one put more tells of its subscriber.
-use Rattle.std.proofs.Common.{◌≡◌, ℕ, suc, ◌+◌, Bool, false, List, [], ◌∷◌, ◌++◌, Option, Some, None, length, drop, take, fold, refl, sym, ap, ◌∙◌, subst, arith, length-append}
+use Rattle.std.proofs.Common.{◌≡◌, ℕ, suc, ◌+◌, Bool, false, List, [], ◌∷◌, ◌++◌, Option, None, length, drop, take, fold, refl, sym, ap, ◌∙◌, subst, arith, length-append}
 use Rattle.std.specs.Prelude.{unwrap_or}
 use Rattle.std.specs.List.{cons_option}
 use Rattle.std.proofs.lemmas.List.Elements.{filter_map-append}
 use Rattle.std.proofs.lemmas.List.Sums.{fold-append}
-use Rattle.entry_word.specs.Marks.{mark_of, mark_word, says_off, IsSmallMark}
+use Rattle.entry_word.specs.Marks.{says_off, IsSmallMark, MarksUnpack}
 use Rattle.entry_word.specs.declared.mark.PresenceMark.{PresenceMark}
 use Rattle.entry_word.specs.declared.mark.PresenceMark.TheVariants.{Empty}
 use Rattle.entry_word.specs.declared.address.Address.{Address}
@@ -16,10 +16,6 @@ use Rattle.directory.specs.Writes.{mark_at, entry_at, visit_of}
 use Rattle.handset.specs.Kept.{HandsetData}
 use Rattle.handset.specs.Stands.{commits_in, Shows}
 use Rattle.handset.proofs.Lists.{take-next}
-
--- a mark whose parts fit comes back from its word
-abbrev pub Unpacks : Type 0
-Unpacks = (mark : PresenceMark) → IsSmallMark mark → mark_of (mark_word mark) ≡ Some mark
 
 -- the commits and the state after one put more
 commits-more : (puts : List Visit) (visit : Visit) → commits_in (puts ++ visit ∷ [])
@@ -59,7 +55,7 @@ shows-put setting handset after puts visit mark puts_mark same place number off 
     }
 
 -- a mark that is put, and an entry
-pub shows-mark : Unpacks → (setting : Setting) (handset after : HandsetData) (puts : List Visit) (node : ℕ)
+pub shows-mark : MarksUnpack → (setting : Setting) (handset after : HandsetData) (puts : List Visit) (node : ℕ)
     (mark : PresenceMark) → IsSmallMark mark → after.sub ≡ handset.sub
     → after.place ≡ fold (λ node (commit : Commit). commit.to) handset.place (cons_option (commit_of node mark) [])
     → after.number ≡ handset.number + length (cons_option (commit_of node mark) []) → after.is_off ≡ says_off mark
@@ -78,7 +74,7 @@ shows-entry setting handset after puts level cluster address same place number o
     place (let e : after.number ≡ handset.number + 0 = omega (arith, number) in e) off shows
 
 -- a write without a commit leaves what a handset shows
-pub mark-shown : Unpacks → (setting : Setting) (handset : HandsetData) (visits_made : List Visit) (made node : ℕ)
+pub mark-shown : MarksUnpack → (setting : Setting) (handset : HandsetData) (visits_made : List Visit) (made node : ℕ)
     (mark : PresenceMark) (rest : List Visit)
     → drop made visits_made ≡ visit_of handset.sub (mark_at node mark) ∷ rest → IsSmallMark mark
     → commit_of node mark ≡ None → handset.is_off ≡ says_off mark
@@ -101,7 +97,7 @@ entry-shown setting handset visits_made made level cluster address rest left off
     (shows-entry setting handset handset (take made visits_made) level cluster address refl refl refl off shows)
 
 -- the one mark that changes it: a commit, and a switch
-pub commit-shown : Unpacks → (setting : Setting) (handset after : HandsetData) (visits_made : List Visit)
+pub commit-shown : MarksUnpack → (setting : Setting) (handset after : HandsetData) (visits_made : List Visit)
     (made node : ℕ) (mark : PresenceMark) (rest : List Visit)
     → drop made visits_made ≡ visit_of handset.sub (mark_at node mark) ∷ rest → IsSmallMark mark → after.sub
     ≡ handset.sub

@@ -34,11 +34,12 @@ move_fault plan handset to =
     else if handset.number == 2 ^ 32 - 1 then Some NumbersSpent
     else None
 
--- whether two states are the same, and why a switch doesn't begin, if it doesn't
+-- whether two states are the same
 abbrev pub same_state : Bool → Bool → Bool
 same_state true on = on
 same_state false on = not on
 
+-- why a switch doesn't begin, if it doesn't
 abbrev pub switch_fault : HandsetData → Bool → Option SwitchFault
 switch_fault handset off =
     if not (is_rest handset.stage) then Some StillUnderWay
@@ -51,11 +52,12 @@ renewal_in setting gathered weight =
     highest (λ level. nat_le (setting.threshold level) (slice_index gathered level + weight))
     (levels setting)
 
--- what a level has gathered, and what all have, when a move of this weight renews them up to one
+-- what a level has gathered, when a move of this weight renews the levels up to one
 abbrev pub gathered_then : ℕ → ℕ → ℕ → ℕ → ℕ
 gathered_then gathered renewed weight level =
     if nat_le level renewed then 0 else gathered + weight
 
+-- what all levels have gathered then
 abbrev pub gathered_after : List ℕ → ℕ → ℕ → List ℕ
 gathered_after gathered renewed weight =
     map (λ level. gathered_then (slice_index gathered level) renewed weight level)
@@ -72,6 +74,7 @@ journey_to setting handset to =
       renewed = renewal_in setting handset.gathered (setting.distance handset.place to);
     }
 
+-- a handset that has begun its move to a node
 abbrev pub begin_move : Setting → HandsetData → ℕ → HandsetData
 begin_move setting handset to =
     let move : Move = journey_to setting handset to in

@@ -2,6 +2,8 @@
 -- by the commits made; whether it is off; the stage of the step under way; the move that was
 -- begun last; for each level the node whose address it has and the weight that it has gathered;
 -- and for each node whether it is on the trail.
+-- Key laws: `Handset::new`, `Handset::begin`, `Handset::switch` and `Handset::made`, by their
+-- clauses `goes` (a handset goes with its plan, and stays so).
 use Rattle.std.specs.Prelude.{◌≡◌, ℕ, suc, ◌*◌, ◌^◌, ◌<◌, ◌≤◌, Bool, List, length, slice_index}
 use Rattle.directory.specs.Courses.{Move}
 use Rattle.handset.specs.declared.stage.Journey.{Journey}
@@ -44,15 +46,15 @@ begun_at (Purging node) number = number
 begun_at (Switching off) number = number
 
 -- the level or the node of a stage is one of its move, or of the plan
-abbrev pub IsWithin : ℕ → Move → Stage → Type 0
-IsWithin nodes move Resting = Unit {0}
-IsWithin nodes move Coming = Unit {0}
-IsWithin nodes move (Renewing level) = level ≤ move.renewed
-IsWithin nodes move Committing = Unit {0}
-IsWithin nodes move Confirming = Unit {0}
-IsWithin nodes move (Erasing level) = level ≤ move.renewed
-IsWithin nodes move (Purging node) = node < nodes
-IsWithin nodes move (Switching off) = Unit {0}
+abbrev pub IsMoveStage : ℕ → Move → Stage → Type 0
+IsMoveStage nodes move Resting = Unit {0}
+IsMoveStage nodes move Coming = Unit {0}
+IsMoveStage nodes move (Renewing level) = level ≤ move.renewed
+IsMoveStage nodes move Committing = Unit {0}
+IsMoveStage nodes move Confirming = Unit {0}
+IsMoveStage nodes move (Erasing level) = level ≤ move.renewed
+IsMoveStage nodes move (Purging node) = node < nodes
+IsMoveStage nodes move (Switching off) = Unit {0}
 
 -- a handset goes with a plan: its parts are those of the plan's levels and nodes, and no weight
 -- is too great
@@ -70,4 +72,4 @@ pub record GoesWith (plan : PlanData) (handset : HandsetData) : Type 0 where
       → slice_index handset.gathered level ≤ handset.last.number * 2 ^ 30
   pub counted : handset.last.number ≡ begun_at handset.stage handset.number
   pub numbered : handset.last.number < 2 ^ 32
-  pub stage : IsWithin (nodes_of plan) handset.last handset.stage
+  pub stage : IsMoveStage (nodes_of plan) handset.last handset.stage

@@ -2,3 +2,4 @@ pub mod Kept
 pub mod Progress
 pub mod Beginning
 pub mod Stands
+pub mod StageLaws

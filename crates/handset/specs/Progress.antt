@@ -17,11 +17,12 @@ abbrev pub switch_mark : HandsetData → Bool → Write
 switch_mark handset off =
     mark_at handset.place (if off then Off handset.number else Here handset.number)
 
--- the erasure of the old address of a level, and whether another home has the new one
+-- the erasure of the old address of a level
 abbrev pub erasure : Setting → HandsetData → ℕ → Write
 erasure setting handset level =
     entry_at level (setting.home level (slice_index handset.addresses level)) None
 
+-- whether the old address of a level is erased: another home has the new one
 abbrev pub is_old : Setting → HandsetData → ℕ → Bool
 is_old setting handset level =
     not (setting.home level (slice_index handset.addresses level) == setting.home level
@@ -31,24 +32,26 @@ is_old setting handset level =
 abbrev pub is_behind : HandsetData → ℕ → Bool
 is_behind handset node = slice_index_or handset.trail node false && not (node == handset.last.to)
 
--- the purge from a node on, and the erasures from a level on with the purge
+-- the purge from a node on
 abbrev pub purge_from : Setting → HandsetData → ℕ → List Write
 purge_from setting handset node =
     if handset.last.renewed == setting.top
     then map (λ x. mark_at x Empty) (sift (is_behind handset) node (setting.nodes - node))
     else []
 
+-- what is written from the erasure of a level on
 abbrev pub erase_from : Setting → HandsetData → ℕ → List Write
 erase_from setting handset level =
     map (erasure setting handset) (sift (is_old setting handset) level
     (suc handset.last.renewed - level))
     ++ purge_from setting handset 0
 
--- the confirm and what follows it, and the commit with that
+-- the confirm and what follows it
 abbrev pub confirm : Setting → HandsetData → List Write
 confirm setting handset =
     mark_at handset.last.to (Here handset.last.number) ∷ erase_from setting handset 0
 
+-- the commit and what follows it
 abbrev pub commit : Setting → HandsetData → List Write
 commit setting handset =
     mark_at handset.last.from (Gone handset.last.number handset.last.to) ∷ confirm setting handset
@@ -72,6 +75,7 @@ due_at setting handset (Erasing level) = Some (erasure setting handset level)
 due_at setting handset (Purging node) = Some (mark_at node Empty)
 due_at setting handset (Switching off) = Some (switch_mark handset off)
 
+-- what is left to write at a stage
 abbrev pub left_at : Setting → HandsetData → Stage → List Write
 left_at setting handset Resting = []
 left_at setting handset Coming =
@@ -97,24 +101,27 @@ abbrev pub first_with : (ℕ → Bool) → ℕ → ℕ → Option ℕ
 first_with test x zero = None
 first_with test x (suc k) = if test x then Some x else first_with test (suc x) k
 
--- the stage at which the trail is purged from a node on, and at which addresses are erased from
--- a level on
+-- the stage at which the trail is purged at a node, if one is left
 abbrev pub purging_at : Option ℕ → Stage
 purging_at None = Resting
 purging_at (Some node) = Purging node
 
+-- the stage at which the trail is purged from a node on
 abbrev pub purging_from : Setting → HandsetData → ℕ → Stage
 purging_from setting handset node =
     purging_at (first_with (is_behind handset) node (setting.nodes - node))
 
+-- the stage after all erasures
 abbrev pub stage_after_erasures : Setting → HandsetData → Stage
 stage_after_erasures setting handset =
     if handset.last.renewed == setting.top then purging_from setting handset 0 else Resting
 
+-- the stage at which the address of a level is erased, if one is left
 abbrev pub erasing_at : Setting → HandsetData → Option ℕ → Stage
 erasing_at setting handset None = stage_after_erasures setting handset
 erasing_at setting handset (Some level) = Erasing level
 
+-- the stage at which addresses are erased from a level on
 abbrev pub erasing_from : Setting → HandsetData → ℕ → Stage
 erasing_from setting handset level =
     erasing_at setting handset

@@ -33,20 +33,21 @@ under_way move (Erasing level) = move_to move.to ∷ []
 under_way move (Purging node) = move_to move.to ∷ []
 under_way move (Switching off) = switch_to off ∷ []
 
--- the move under way at a stage is the next one of the course, and the subscriber is on
+-- a move is the next one of the course, and the subscriber is on
 abbrev pub IsNextMove : Setting → Course → Move → Type 0
 IsNextMove setting course move =
     (move ≡ next_move setting course move.to) × (course.is_off ≡ false)
 
-abbrev pub IsNext : Setting → Course → Move → Stage → Type 0
-IsNext setting course move Resting = Unit {0}
-IsNext setting course move Coming = IsNextMove setting course move
-IsNext setting course move (Renewing level) = IsNextMove setting course move
-IsNext setting course move Committing = IsNextMove setting course move
-IsNext setting course move Confirming = IsNextMove setting course move
-IsNext setting course move (Erasing level) = IsNextMove setting course move
-IsNext setting course move (Purging node) = IsNextMove setting course move
-IsNext setting course move (Switching off) = Unit {0}
+-- at the stages of a move, the move under way is the next one
+abbrev pub ComesNext : Setting → Course → Move → Stage → Type 0
+ComesNext setting course move Resting = Unit {0}
+ComesNext setting course move Coming = IsNextMove setting course move
+ComesNext setting course move (Renewing level) = IsNextMove setting course move
+ComesNext setting course move Committing = IsNextMove setting course move
+ComesNext setting course move Confirming = IsNextMove setting course move
+ComesNext setting course move (Erasing level) = IsNextMove setting course move
+ComesNext setting course move (Purging node) = IsNextMove setting course move
+ComesNext setting course move (Switching off) = Unit {0}
 
 -- where a subscriber stands at a stage, and the number of its moves, when this course went
 -- before the step under way
@@ -60,6 +61,7 @@ place_at course move (Erasing level) = move.to
 place_at course move (Purging node) = move.to
 place_at course move (Switching off) = last_stop course
 
+-- the number of its moves at a stage, by the commits made
 abbrev pub number_at : Course → Move → Stage → ℕ
 number_at course move Resting = length course.moves
 number_at course move Coming = length course.moves
@@ -89,7 +91,7 @@ pub record StandsAt (setting : Setting) (handset : HandsetData) (stage : Stage) 
   -- the steps that are over
   pub over : List Step
   pub begun : steps ≡ over ++ under_way handset.last stage
-  pub move : IsNext setting (course_of setting handset.sub over) handset.last stage
+  pub move : ComesNext setting (course_of setting handset.sub over) handset.last stage
   pub place : handset.place ≡ place_at (course_of setting handset.sub over) handset.last stage
   pub number : handset.number ≡ number_at (course_of setting handset.sub over) handset.last stage
   pub is_off : handset.is_off ≡ (course_of setting handset.sub over).is_off
@@ -109,5 +111,5 @@ pub record StandsAt (setting : Setting) (handset : HandsetData) (stage : Stage) 
       (left_at setting handset stage)
 
 -- a handset stands for these steps and so many visits made
-abbrev pub StandsFor : Setting → HandsetData → List Step → ℕ → Type 0
-StandsFor setting handset steps made = StandsAt setting handset handset.stage steps made
+abbrev pub StandsForSteps : Setting → HandsetData → List Step → ℕ → Type 0
+StandsForSteps setting handset steps made = StandsAt setting handset handset.stage steps made

@@ -11,7 +11,7 @@ ghost use Rattle.region_plan.specs.Kept.{IsKept};
 ghost use Rattle.region_plan.specs.Settings.{setting_of};
 ghost use Rattle.handset.specs.Kept.{GoesWith};
 ghost use Rattle.handset.specs.Progress.{after_write, due, erasing_from, first_with, go_on, is_behind, purging_at, settle};
-ghost use Rattle.handset.specs.Stands.{StandsFor, switch_to};
+ghost use Rattle.handset.specs.Stands.{StandsForSteps, switch_to};
 ghost use Rattle.handset.specs.Beginning.{begin_move, gathered_after, handset_at, move_fault, renewal_in, switch_fault};
 
 use crate::fault::{MoveFault, SwitchFault};
@@ -63,7 +63,7 @@ impl Handset {
         ensures exact { IfOk result (λ handset. handset ≡ handset_at plan.now sub home) }
         ensures goes { IfOk result (GoesWith plan.now) }
         ensures stands { IfOk result (λ handset. (starts : List ℕ) → slice_index starts sub ≡ home
-            → StandsFor (setting_of plan.now starts) handset [] 0) }
+            → StandsForSteps (setting_of plan.now starts) handset [] 0) }
     {
         let handset = Handset::at_home(alloc, sub, home, plan)?;
         Ok(handset)
@@ -79,8 +79,9 @@ impl Handset {
         ensures exact { OnOk result (self.new ≡ begin_move (setting_of plan.now []) self.old to) }
         ensures goes { GoesWith plan.now self.new }
         ensures stands { OnOk result ((starts : List ℕ) (steps : List Step) (made : ℕ)
-            → StandsFor (setting_of plan.now starts) self.old steps made
-            → StandsFor (setting_of plan.now starts) self.new (steps ++ move_to to ∷ []) made) }
+            → StandsForSteps (setting_of plan.now starts) self.old steps made
+            → StandsForSteps (setting_of plan.now starts) self.new (steps ++ move_to to ∷ [])
+            made) }
     {
         levels_after_move();
         if to >= plan.nodes() {
@@ -110,8 +111,8 @@ impl Handset {
         ensures exact { OnOk result (self.new ≡ record self.old { stage = Stage.Switching off }) }
         ensures goes { (plan : PlanData) → GoesWith plan self.old → GoesWith plan self.new }
         ensures stands { OnOk result ((setting : Setting) (steps : List Step) (made : ℕ)
-            → StandsFor setting self.old steps made
-            → StandsFor setting self.new (steps ++ switch_to off ∷ []) made) }
+            → StandsForSteps setting self.old steps made
+            → StandsForSteps setting self.new (steps ++ switch_to off ∷ []) made) }
     {
         if !self.stage.is_rest() {
             return Err(SwitchFault::UnderWay);
@@ -128,7 +129,7 @@ impl Handset {
         requires goes { GoesWith plan.now self.now }
         ensures exact { result ≡ due (setting_of plan.now []) self.now }
         ensures stands { (starts : List ℕ) (steps : List Step) (made : ℕ)
-            → StandsFor (setting_of plan.now starts) self.now steps made
+            → StandsForSteps (setting_of plan.now starts) self.now steps made
             → result ≡ slice_get (visits (setting_of plan.now starts) self.now.sub steps) made }
     {
         self.due(plan)
@@ -141,8 +142,8 @@ impl Handset {
         ensures exact { self.new ≡ after_write (setting_of plan.now []) self.old self.old.stage }
         ensures goes { GoesWith plan.now self.new }
         ensures stands { (starts : List ℕ) (steps : List Step) (made : ℕ)
-            → StandsFor (setting_of plan.now starts) self.old steps made
-            → StandsFor (setting_of plan.now starts) self.new steps (suc made) }
+            → StandsForSteps (setting_of plan.now starts) self.old steps made
+            → StandsForSteps (setting_of plan.now starts) self.new steps (suc made) }
     {
         levels_after_move();
         mark_words();
@@ -153,7 +154,7 @@ impl Handset {
     pub fn place(&self) -> u32
         ensures kept { result ≡ self.now.place }
         ensures shown { (setting : Setting) (steps : List Step) (made : ℕ) (history : History)
-            → StandsFor setting self.now steps made
+            → StandsForSteps setting self.now steps made
             → puts_to self.now.sub history ≡ take made (visits setting self.now.sub steps)
             → result ≡ standing setting self.now.sub history }
     {
@@ -164,7 +165,7 @@ impl Handset {
     pub fn number(&self) -> u32
         ensures kept { result ≡ self.now.number }
         ensures shown { (setting : Setting) (steps : List Step) (made : ℕ) (history : History)
-            → StandsFor setting self.now steps made
+            → StandsForSteps setting self.now steps made
             → puts_to self.now.sub history ≡ take made (visits setting self.now.sub steps)
             → result ≡ number self.now.sub history }
     {
@@ -175,7 +176,7 @@ impl Handset {
     pub fn is_off(&self) -> bool
         ensures kept { result ≡ self.now.is_off }
         ensures shown { (setting : Setting) (steps : List Step) (made : ℕ) (history : History)
-            → StandsFor setting self.now steps made
+            → StandsForSteps setting self.now steps made
             → puts_to self.now.sub history ≡ take made (visits setting self.now.sub steps)
             → result ≡ off self.now.sub history }
     {

@@ -16,7 +16,7 @@ use Rattle.region_plan.specs.Plan.{PlanData}
 use Rattle.handset.specs.Progress.{due}
 use Rattle.machine.specs.declared.subscriber.Subscriber.{Subscriber}
 use Rattle.machine.specs.Scripts.{scripts_of, step_of}
-use Rattle.machine.specs.Stands.{BelongTogether, setting_in}
+use Rattle.machine.specs.Stands.{BelongTogether, setting_over}
 use Rattle.machine.specs.Subscribers.{IsSubscriber, begun_steps}
 use Rattle.machine.proofs.Looking.{script-is}
 use Rattle.machine.proofs.ScriptLaws.{calls-few, same-at, steps-are}
@@ -43,7 +43,8 @@ pub ready : (input : Input) (plan : PlanData) (distances : DistanceTable) (histo
     (old : Subscriber)
     (held : Vec Call Global) (script : List Call) (place : ℕ) (default : Call)
     → BelongTogether (seen_input input) plan distances → sub < length input.homes.items
-    → IsSubscriber (seen_input input) plan history sub old → due (setting_in (seen_input input) plan) old.handset ≡ None
+    → IsSubscriber (seen_input input) plan history sub old
+    → due (setting_over (seen_input input) plan) old.handset ≡ None
     → held ≡ get_or input.scripts.items sub held → script ≡ held.items → place ≡ length old.lines.items
     → (place ≡ length script → ⊥) → Ready input plan history sub old script place default
 ready input plan distances history sub old held script place default together low its rests reads same here other =
@@ -83,15 +84,15 @@ pub its-visit : (input : Input) (plan : PlanData) (history : History) (sub : ℕ
     (place subject : ℕ) (default : Call) (result : Option Visit)
     → IsSubscriber (seen_input input) plan history sub old
     → Ready input plan history sub old script place default → subject ≡ old.handset.sub
-    → result ≡ slice_get (visits (setting_in (seen_input input) plan) subject
+    → result ≡ slice_get (visits (setting_over (seen_input input) plan) subject
     (begun_steps (seen_input input) sub old ++ step_of (get_or script place default) ∷ [])) (length (own sub history))
     → (visit : Visit) × (result ≡ Some visit)
 its-visit input plan history sub old script place subject default result its at same visit =
-    let first = first-visit (setting_in (seen_input input) plan) sub (length (own sub history))
+    let first = first-visit (setting_over (seen_input input) plan) sub (length (own sub history))
     (begun_steps (seen_input input) sub old)
     (step_of (get_or script place default)) at.begin.all in (
       first.0,
-      visit ∙ (ap (λ s. slice_get (visits (setting_in (seen_input input) plan) s
+      visit ∙ (ap (λ s. slice_get (visits (setting_over (seen_input input) plan) s
           (begun_steps (seen_input input) sub old ++ step_of (get_or script place default) ∷ []))
           (length (own sub history))) (same ∙ its.its) ∙ first.1),
     )

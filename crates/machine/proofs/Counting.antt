@@ -8,22 +8,21 @@ use Rattle.std.proofs.lemmas.List.Sums.{sum_by-cons}
 use Rattle.std.proofs.lemmas.List.Elements.{All-head, All-tail}
 use Rattle.entry_word.specs.declared.visit.Visit.{Visit}
 use Rattle.directory.specs.Settings.{Setting, start, subs}
-use Rattle.directory.specs.Courses.{Course, after_step, course_at, move_to}
+use Rattle.directory.specs.Courses.{Course, after_step, course_at}
 use Rattle.directory.specs.Finds.{FindCall, most_looks}
 use Rattle.directory.specs.Histories.{History, own}
 use Rattle.directory.specs.Orders.{IsPlayed, Scripts, most_turns, next}
-use Rattle.directory.specs.Statements.{TurnsAreFew}
+use Rattle.directory.specs.Statements.{TurnsAreFew, OwnGrow, MovesAreShort, MoreIsPlayed}
 use Rattle.directory.specs.StepLaws.{by_fronts}
-use Rattle.directory.specs.Writes.{most_writes, step_writes, visit_of, writes}
+use Rattle.directory.specs.Writes.{step_writes, visit_of, writes}
 use Rattle.net_reader.specs.declared.said.Call.{Call}
 use Rattle.net_reader.specs.declared.said.Call.TheVariants as calls
 use Rattle.net_reader.specs.Input.{Contents}
 use Rattle.net_reader.specs.Valid.{IsSearch, IsValid}
 use Rattle.region_plan.specs.Plan.{PlanData}
 use Rattle.machine.specs.Scripts.{find_of, most_in, most_of, most_visits, scripts_of, step_of}
-use Rattle.machine.specs.Stands.{setting_in}
+use Rattle.machine.specs.Stands.{setting_over}
 use Rattle.machine.proofs.ScriptLaws.{finds-are, searches-of, steps-are}
-use Rattle.machine.proofs.Seen.{OwnGrow}
 
 -- sums over so many numbers from one on
 total : (ℕ → ℕ) → ℕ → ℕ → ℕ
@@ -109,16 +108,8 @@ total-list f d (x ∷ xs) g k h =
       total-list f d xs g (suc k) (λ i l. ap g (omega arith) ∙ h (suc i) (omega (arith, l))),
     )
 
--- each next visit is one of the most
-MoreIsPlayed : Type 0
-MoreIsPlayed = (setting : Setting) (scripts : Scripts) (history : History) (actor : ℕ) (visit : Visit)
-    → next setting scripts history actor ≡ Some visit → IsPlayed setting scripts history
-    → IsPlayed setting scripts (history ++ visit ∷ [])
-
 own-most : OwnGrow → TurnsAreFew
-    → ((setting : Setting) (scripts : Scripts) (history : History) (actor : ℕ) (visit : Visit)
-    → next setting scripts history actor ≡ Some visit → IsPlayed setting scripts history
-    → IsPlayed setting scripts (history ++ visit ∷ []))
+    → MoreIsPlayed
     → (setting : Setting) (scripts : Scripts) (history : History) (actor : ℕ)
     → IsPlayed setting scripts [] → IsPlayed setting scripts history
     → length (own actor history) ≤ most_turns setting scripts actor
@@ -161,13 +152,7 @@ own-most grow few more setting scripts history actor none played =
           ),
         )
 
--- and no actor has more than its calls have
-MovesAreShort : Type 0
-MovesAreShort = (setting : Setting) (course : Course) (node : ℕ)
-    → length (step_writes setting course (move_to node)) ≤ most_writes setting
-
-step-most : ((setting : Setting) (course : Course) (node : ℕ)
-    → length (step_writes setting course (move_to node)) ≤ most_writes setting)
+step-most : MovesAreShort
     → (setting : Setting) (course : Course) (call : Call)
     → length (step_writes setting course (step_of call)) ≤ most_of setting call
 step-most short setting course (calls.Move to) = short setting course to
@@ -176,8 +161,7 @@ step-most short setting course calls.Off = omega arith
 step-most short setting course calls.On = omega arith
 
 steps-most :
-    ((setting : Setting) (course : Course) (node : ℕ)
-    → length (step_writes setting course (move_to node)) ≤ most_writes setting)
+    MovesAreShort
     → (setting : Setting) (course : Course) (script : List Call)
     → length (writes setting course (map step_of script)) ≤ most_in setting script
 unfolding writes
@@ -211,32 +195,31 @@ finds-most setting n subs (call ∷ script) all =
     at_call calls.On its = absurd its
 
 turns-most :
-    ((setting : Setting) (course : Course) (node : ℕ)
-    → length (step_writes setting course (move_to node)) ≤ most_writes setting)
+    MovesAreShort
     → (input : Contents) (plan : PlanData) (actor : ℕ) → IsValid input → actor < length input.scripts
-    → most_turns (setting_in input plan) (scripts_of input) actor
-    ≤ most_in (setting_in input plan) (get_or input.scripts actor [])
+    → most_turns (setting_over input plan) (scripts_of input) actor
+    ≤ most_in (setting_over input plan) (get_or input.scripts actor [])
 turns-most short input plan actor valid low =
-    elim (cases actor (length input.homes)) as (λ _. most_turns (setting_in input plan) (scripts_of input) actor
-    ≤ most_in (setting_in input plan) (get_or input.scripts actor [])) [
+    elim (cases actor (length input.homes)) as (λ _. most_turns (setting_over input plan) (scripts_of input) actor
+    ≤ most_in (setting_over input plan) (get_or input.scripts actor [])) [
       | inl sub ↦ rw (lt-ltb actor (length input.homes) sub)
           (omega (
             arith,
-            steps-most short (setting_in input plan) (course_at (start (setting_in input plan) actor))
+            steps-most short (setting_over input plan) (course_at (start (setting_over input plan) actor))
                 (get_or input.scripts actor []),
-            length-map (writes (setting_in input plan) (course_at (start (setting_in input plan) actor))
+            length-map (writes (setting_over input plan) (course_at (start (setting_over input plan) actor))
                 (map step_of (get_or input.scripts actor []))) (visit_of actor),
             ap (λ ss. length
                 (map (visit_of actor)
-                (writes (setting_in input plan) (course_at (start (setting_in input plan) actor)) ss)))
+                (writes (setting_over input plan) (course_at (start (setting_over input plan) actor)) ss)))
                 (steps-are input actor valid sub),
           ))
       | inr high ↦ rw (le-ltb actor (length input.homes) high)
           (omega (
             arith,
-            finds-most (setting_in input plan) input.nodes (length input.homes) (get_or input.scripts actor [])
+            finds-most (setting_over input plan) input.nodes (length input.homes) (get_or input.scripts actor [])
                 (searches-of input actor valid high low),
-            ap (λ fs. sum_by (λ (call : FindCall). most_looks (setting_in input plan) call.from) fs)
+            ap (λ fs. sum_by (λ (call : FindCall). most_looks (setting_over input plan) call.from) fs)
                 (finds-are input plan actor high low),
           ))
     ]
@@ -245,19 +228,16 @@ turns-most short input plan actor valid low =
     cases a b = grind (arith, nat_tests)
 
 pub room-left : OwnGrow → TurnsAreFew
-    → ((setting : Setting) (course : Course) (node : ℕ)
-    → length (step_writes setting course (move_to node)) ≤ most_writes setting)
-    → ((setting : Setting) (scripts : Scripts) (history : History) (actor : ℕ) (visit : Visit)
-    → next setting scripts history actor ≡ Some visit → IsPlayed setting scripts history
-    → IsPlayed setting scripts (history ++ visit ∷ []))
+    → MovesAreShort
+    → MoreIsPlayed
     → (input : Contents) (plan : PlanData) (history : History) (actor : ℕ) (visit : Visit) → IsValid input
-    → actor < length input.scripts → IsPlayed (setting_in input plan) (scripts_of input) []
-    → IsPlayed (setting_in input plan) (scripts_of input) history
+    → actor < length input.scripts → IsPlayed (setting_over input plan) (scripts_of input) []
+    → IsPlayed (setting_over input plan) (scripts_of input) history
     → All (λ (v : Visit). v.actor < length input.scripts) history
-    → next (setting_in input plan) (scripts_of input) history actor ≡ Some visit
-    → length history < most_visits (setting_in input plan) input.scripts
+    → next (setting_over input plan) (scripts_of input) history actor ≡ Some visit
+    → length history < most_visits (setting_over input plan) input.scripts
 room-left grow few short more input plan history actor visit valid low none played known wants =
-    let setting : Setting = setting_in input plan in
+    let setting : Setting = setting_over input plan in
     let scripts : Scripts = scripts_of input in
     omega (
       arith,

@@ -1,6 +1,6 @@
 -- The end: when no actor has a visit left, the lines of all actors are those of the outcome.
 use Rattle.std.proofs.Common.{◌≡◌, ℕ, zero, suc, ◌+◌, ◌<◌, ◌≤◌, List, [], ◌∷◌, ◌++◌, length, map, take, drop, fold, get_or, refl, sym, ap, ◌∙◌, subst, arith, length-append, Option}
-use Rattle.std.specs.Prelude.{None, Some, flat_map, slice_get, vec_capacity}
+use Rattle.std.specs.Prelude.{None, Some, flat_map, vec_capacity}
 use Rattle.std.proofs.lemmas.List.{length-map, length-drop, take_all, get_or-drop}
 use Rattle.directory.specs.Settings.{Setting, start}
 use Rattle.directory.specs.Courses.{Course, Step, after_step, after_steps, course_at}
@@ -9,7 +9,7 @@ use Rattle.directory.specs.Finds.{FindCall, Stage, after_word, answer_of}
 use Rattle.directory.specs.Writes.{numbers_from, step_writes, visit_of, visits, writes}
 use Rattle.directory.specs.Orders.{Caller as Seeker, after_read, caller_at, caller_in, finds_of, read_by, script_visits, steps_of, with_stage, IsDone}
 use Rattle.directory.specs.Outcomes.{answer_line, caller_lines, outcome_in, step_lines, sub_lines}
-use Rattle.directory.specs.StepLaws.{writes-append}
+use Rattle.directory.specs.StepLaws.{writes-append, past-end}
 use Rattle.directory.specs.declared.answers.Done.{Done}
 use Rattle.directory.specs.declared.answers.Found.{Found}
 use Rattle.net_reader.specs.declared.said.Call.{Call}
@@ -20,18 +20,12 @@ use Rattle.machine.specs.declared.caller.Caller.{Caller}
 use Rattle.machine.specs.declared.subscriber.Subscriber.{Subscriber}
 use Rattle.machine.specs.declared.machine.Machine.{Machine}
 use Rattle.machine.specs.Scripts.{scripts_of, step_of, find_of}
-use Rattle.machine.specs.Stands.{setting_in}
+use Rattle.machine.specs.Stands.{setting_over}
 use Rattle.machine.specs.Subscribers.{IsSubscriber, begun_steps}
-use Rattle.machine.specs.Machines.{StandsFor, input_at, scripts_at, setting_at}
+use Rattle.machine.specs.Machines.{HasHistory, input_at, scripts_at, setting_at}
 use Rattle.machine.proofs.ScriptLaws.{finds-are, steps-are}
 use Rattle.machine.proofs.Steps.{some-write}
-use Rattle.machine.proofs.Seen.{next-sub}
-
--- a subscriber that is done has begun all its steps
-past-end : {A : Type 0} (xs : List A) (i : ℕ) → slice_get xs i ≡ None → length xs ≤ i
-past-end [] i h = omega arith
-past-end (x ∷ xs) zero h = cc
-past-end (x ∷ xs) (suc i) h = omega (arith, past-end xs i h)
+use Rattle.directory.specs.HistoryLaws.{next-sub}
 
 take-drop : {A : Type 0} (n : ℕ) (xs : List A) → take n xs ++ drop n xs ≡ xs
 take-drop zero xs = refl
@@ -58,10 +52,11 @@ none-left setting course before (step ∷ later) made all few =
 
 pub lines-done : (input : Contents) (plan : PlanData) (history : History) (sub : ℕ) (subscriber : Subscriber)
     → sub < length input.homes → IsSubscriber input plan history sub subscriber
-    → IsDone (setting_in input plan) (scripts_of input) history sub
-    → subscriber.lines.items ≡ sub_lines (setting_in input plan) (scripts_of input) history sub
+    → IsDone (setting_over input plan) (scripts_of input) history sub
+    → subscriber.lines.items ≡ sub_lines (setting_over input plan) (scripts_of input) history sub
 lines-done input plan history sub subscriber low is done =
-    is.lines ∙ ap (λ steps. step_lines (setting_in input plan) sub (course_at (start (setting_in input plan) sub)) steps
+    is.lines ∙ ap
+    (λ steps. step_lines (setting_over input plan) sub (course_at (start (setting_over input plan) sub)) steps
     (tickets sub history)) all_begun
   where
     script : List Step
@@ -74,27 +69,28 @@ lines-done input plan history sub subscriber low is done =
     left = drop (length subscriber.lines.items) script
 
     course : Course
-    course = course_at (start (setting_in input plan) sub)
+    course = course_at (start (setting_over input plan) sub)
 
     whole : begun ++ left ≡ script
     whole = take-drop (length subscriber.lines.items) script
 
-    made : length (script_visits (setting_in input plan) (scripts_of input) sub) ≤ length (own sub history)
-    made = past-end (script_visits (setting_in input plan) (scripts_of input) sub) (length (own sub history))
-        (sym (next-sub (setting_in input plan) (scripts_of input) history sub low) ∙ done)
+    made : length (script_visits (setting_over input plan) (scripts_of input) sub) ≤ length (own sub history)
+    made = past-end (script_visits (setting_over input plan) (scripts_of input) sub) (length (own sub history))
+        (sym (next-sub (setting_over input plan) (scripts_of input) history sub low) ∙ done)
 
-    few : length (own sub history) ≤ length (visits (setting_in input plan) sub begun)
-    few = subst (λ s. length (own sub history) ≤ length (visits (setting_in input plan) s begun)) is.its is.handset.few
+    few : length (own sub history) ≤ length (visits (setting_over input plan) sub begun)
+    few = subst
+        (λ s. length (own sub history) ≤ length (visits (setting_over input plan) s begun)) is.its is.handset.few
 
     nothing : left ≡ []
-    nothing = none-left (setting_in input plan) course begun left (length (own sub history))
+    nothing = none-left (setting_over input plan) course begun left (length (own sub history))
         (omega (
           arith,
           made,
-          ap (λ xs. length (writes (setting_in input plan) course xs)) whole,
-          length-map (writes (setting_in input plan) course script) (visit_of sub),
+          ap (λ xs. length (writes (setting_over input plan) course xs)) whole,
+          length-map (writes (setting_over input plan) course script) (visit_of sub),
         ))
-        (omega (arith, few, length-map (writes (setting_in input plan) course begun) (visit_of sub)))
+        (omega (arith, few, length-map (writes (setting_over input plan) course begun) (visit_of sub)))
 
     all_begun : begun ≡ script
     all_begun = take_all (length subscriber.lines.items) script
@@ -168,19 +164,19 @@ words-count setting (word ∷ words) caller = words-count setting words (after_r
     ∙ read-count setting caller word
 
 caller-few : (input : Contents) (plan : PlanData) (history : History) (actor : ℕ)
-    → length (caller_lines (setting_in input plan) (scripts_of input) history actor)
-    ≤ length (finds_of (setting_in input plan) (scripts_of input) actor)
+    → length (caller_lines (setting_over input plan) (scripts_of input) history actor)
+    ≤ length (finds_of (setting_over input plan) (scripts_of input) actor)
 caller-few input plan history actor =
     omega (
       arith,
-      length-map (caller_in (setting_in input plan) (scripts_of input) history actor).answers
+      length-map (caller_in (setting_over input plan) (scripts_of input) history actor).answers
           (answer_line actor (tickets actor history)),
-      words-count (setting_in input plan) (words_read (setting_in input plan) actor history)
-          (caller_at (finds_of (setting_in input plan) (scripts_of input) actor)),
+      words-count (setting_over input plan) (words_read (setting_over input plan) actor history)
+          (caller_at (finds_of (setting_over input plan) (scripts_of input) actor)),
     )
 
 -- there is room for the lines of the subscribers, and then for those of the callers
-pub room-for_both : (machine : Machine) (history : History) → StandsFor machine history
+pub room-for_both : (machine : Machine) (history : History) → HasHistory machine history
     → length (flat_map (λ (one : Subscriber). one.lines.items) machine.subscribers.items)
     + length (flat_map (λ (one : Caller). one.lines.items) machine.callers.items)
     ≤ vec_capacity machine.calls
@@ -221,7 +217,7 @@ room-for_both machine history is =
     input = input_at machine
 
 -- the lines of all actors are those of the outcome
-pub lines-all : (machine : Machine) (history : History) → StandsFor machine history
+pub lines-all : (machine : Machine) (history : History) → HasHistory machine history
     → ((actor : ℕ) → IsDone (setting_at machine) (scripts_at machine) history actor)
     → flat_map (λ (one : Subscriber). one.lines.items) machine.subscribers.items
     ++ flat_map (λ (one : Caller). one.lines.items) machine.callers.items

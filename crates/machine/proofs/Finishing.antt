@@ -18,14 +18,15 @@ use Rattle.machine.specs.declared.machine.Machine.{Machine}
 use Rattle.machine.specs.declared.turn.Turn.{Turn}
 use Rattle.machine.specs.declared.turn.Turn.TheVariants.{Visited, Finished}
 use Rattle.machine.specs.Scripts.{find_of, scripts_of}
-use Rattle.machine.specs.Stands.{setting_in}
-use Rattle.machine.specs.Machines.{IsSame, StandsFor, input_at, scripts_at, setting_at}
+use Rattle.machine.specs.Stands.{setting_over}
+use Rattle.machine.specs.Machines.{IsSame, HasHistory, input_at, scripts_at, setting_at}
+use Rattle.directory.specs.HistoryLaws.{turn-none}
 
 -- a machine that keeps its input and its plan keeps its setting and its scripts
 pub same-setting : (old new : Machine) → IsSame old new → setting_at new ≡ setting_at old
 same-setting old new same =
-    ap (λ input. setting_in (seen_input input) new.plan.now) same.0
-    ∙ ap (λ plan. setting_in (input_at old) plan) same.1
+    ap (λ input. setting_over (seen_input input) new.plan.now) same.0
+    ∙ ap (λ plan. setting_over (input_at old) plan) same.1
 
 pub same-scripts : (old new : Machine) → IsSame old new → scripts_at new ≡ scripts_at old
 same-scripts old new same = ap (λ input. scripts_of (seen_input input)) same.0
@@ -45,10 +46,6 @@ turns-more setting scripts history actor k =
     sym (ap (after_turns setting scripts history) (replicate-push k actor)
     ∙ fold-append (after_turn setting scripts) history (replicate k actor) (actor ∷ []))
 
-pub turn-none : (setting : Setting) (scripts : Scripts) (history : History) (actor : ℕ)
-    → next setting scripts history actor ≡ None → after_turn setting scripts history actor ≡ history
-turn-none setting scripts history actor h = ap (λ v. history ++ option_to_list v) h ∙ append-nil history
-
 -- the tickets of an actor in the log
 counted-own : (actor : ℕ) (history : History)
     → length (filter (λ a. a == actor) (map (λ (v : Visit). v.actor) history)) ≡ length (own actor history)
@@ -66,8 +63,8 @@ counted-own actor (visit ∷ history) = at_test (visit.actor == actor) (counted-
 -- each visit of an actor leaves it fewer
 pub turns-smaller : TurnsAreFew → ((setting : Setting) (scripts : Scripts) (history : History) (actor : ℕ)
     (visit : Visit) → next setting scripts history actor ≡ Some visit → visit.actor ≡ actor)
-    → (old new : Machine) (history : History) (actor : ℕ) → IsSame old new → StandsFor old history
-    → StandsFor new (after_turn (setting_at old) (scripts_at old) history actor)
+    → (old new : Machine) (history : History) (actor : ℕ) → IsSame old new → HasHistory old history
+    → HasHistory new (after_turn (setting_at old) (scripts_at old) history actor)
     → (next (setting_at old) (scripts_at old) history actor ≡ None → ⊥)
     → most_turns (setting_at new) (scripts_at new) actor - length (filter (λ a. a == actor) new.order.items)
     < most_turns (setting_at old) (scripts_at old) actor - length (filter (λ a. a == actor) old.order.items)
@@ -102,15 +99,15 @@ turns-smaller few its_own old new history actor same is goes some =
 
 -- an actor's turns end where it has no visit left
 pub turns-ended : TurnsEndAlike → (entry now new : Machine) (history : History) (actor k : ℕ) → IsSame entry now
-    → StandsFor entry history
+    → HasHistory entry history
     → next (setting_at now) (scripts_at now)
     (after_turns (setting_at entry) (scripts_at entry) history (replicate k actor)) actor ≡ None
-    → StandsFor new (after_turn (setting_at now) (scripts_at now)
+    → HasHistory new (after_turn (setting_at now) (scripts_at now)
     (after_turns (setting_at entry) (scripts_at entry) history (replicate k actor)) actor)
-    → StandsFor new (after_turns (setting_at entry) (scripts_at entry) history
+    → HasHistory new (after_turns (setting_at entry) (scripts_at entry) history
     (replicate (most_turns (setting_at entry) (scripts_at entry) actor) actor))
 turns-ended alike entry now new history actor k same is none goes =
-    subst (StandsFor new)
+    subst (HasHistory new)
     (turn-none (setting_at now) (scripts_at now) reached actor none
     ∙ alike (setting_at entry) (scripts_at entry) history actor k is.sees.played done) goes
   where
@@ -154,13 +151,13 @@ turns-next setting scripts history actor =
     (replicate (most_turns setting scripts a) a)) (let e : 0 + actor ≡ actor = omega arith in e)))
 
 pub turns-following : (entry now new : Machine) (history : History) (actor : ℕ) → IsSame entry now
-    → StandsFor new (after_turns (setting_at now) (scripts_at now)
+    → HasHistory new (after_turns (setting_at now) (scripts_at now)
     (after_turns (setting_at entry) (scripts_at entry) history (turns_of (setting_at entry) (scripts_at entry) actor))
     (replicate (most_turns (setting_at now) (scripts_at now) actor) actor))
-    → StandsFor new (after_turns (setting_at entry) (scripts_at entry) history
+    → HasHistory new (after_turns (setting_at entry) (scripts_at entry) history
     (turns_of (setting_at entry) (scripts_at entry) (suc actor)))
 turns-following entry now new history actor same goes =
-    subst (StandsFor new)
+    subst (HasHistory new)
     (ap (λ setting. after_turns setting (scripts_at now) reached
     (replicate (most_turns setting (scripts_at now) actor) actor)) (same-setting entry now same)
     ∙ (ap (λ scripts. after_turns (setting_at entry) scripts reached

@@ -1,9 +1,9 @@
 -- The lines of an actor's finds come in the order of their last visits.
 use Rattle.std.proofs.Common.{◌≡◌, ◌⊎◌, inl, inr, ℕ, zero, suc, ◌+◌, ◌<◌, ◌≤◌, List, [], ◌∷◌, ◌++◌, length, map, take, drop, fold, get_or, refl, sym, ap, ◌∙◌, subst, arith, Option}
 use Rattle.std.specs.Prelude.{Some, None, flat_map, slice_get}
-use Rattle.node_set.specs.Ascending.{IsAscending, IsBelowAll}
+use Rattle.node_set.specs.Ascending.{IsAscending}
 use Rattle.directory.specs.Settings.{Setting, start, subs}
-use Rattle.directory.specs.Statements.{CallersCount, FindsFollow}
+use Rattle.directory.specs.Statements.{CallersCount, FindsFollow, TicketsAscend}
 use Rattle.directory.specs.Courses.{Course, Step, after_step, course_at, move_to, switch_off, switch_on}
 use Rattle.directory.specs.Finds.{FindCall, Stage, after_word, answer_of}
 use Rattle.directory.specs.Histories.{History, tickets, words_read}
@@ -14,7 +14,8 @@ use Rattle.directory.specs.declared.answers.Done.{Done}
 use Rattle.directory.specs.declared.answers.Found.{Found}
 use Rattle.directory.specs.declared.answers.Found.TheVariants.{At, Off as OffAt, Again}
 use Rattle.trail_laws.specs.Lines.{TellsNumber}
-use Rattle.machine.specs.Machines.{TellInTurn, actor_of}
+use Rattle.machine.specs.Machines.{TellInTurn, line_actor}
+use Rattle.node_set.specs.SetLaws.{below_each}
 
 -- where an element of joined lists lies
 append-at : {A : Type 0} (xs ys : List A) (i : ℕ) (y : A) → slice_get (xs ++ ys) i ≡ Some y
@@ -89,17 +90,11 @@ looked-all setting [] caller h = h
 looked-all setting (word ∷ words) caller h =
     looked-all setting words (after_read setting caller word) (looked-more setting caller caller.calls word h)
 
--- later tickets are higher
-get-above : (x : ℕ) (xs : List ℕ) (j : ℕ) → IsBelowAll x xs → j < length xs → x < get_or xs j 0
-get-above x [] j below short = absurd (omega (arith, short))
-get-above x (y ∷ ys) zero below short = below.0
-get-above x (y ∷ ys) (suc j) below short = get-above x ys j below.1 (omega (arith, short))
-
 get-rising : (xs : List ℕ) (i j : ℕ) → IsAscending xs → i ≤ j → j < length xs → get_or xs i 0 ≤ get_or xs j 0
 get-rising [] i j ascending le short = absurd (omega (arith, short))
 get-rising (x ∷ xs) zero zero ascending le short = omega arith
 get-rising (x ∷ xs) zero (suc j) ascending le short =
-    omega (arith, get-above x xs j ascending.0 (omega (arith, short)))
+    omega (arith, below_each x xs j ascending.0 (omega (arith, short)))
 get-rising (x ∷ xs) (suc i) zero ascending le short = absurd (omega (arith, le))
 get-rising (x ∷ xs) (suc i) (suc j) ascending le short =
     get-rising xs i j ascending.1 (omega (arith, le)) (omega (arith, short))
@@ -118,7 +113,7 @@ line-last caller call (OffAt node number level weight) first last s q ticket tol
 line-last caller call (Again why weight) first last s q ticket told = absurd told
 
 line-actor : (caller : ℕ) (call : FindCall) (found : Found) (first last : ℕ)
-    → actor_of (found_line caller call found first last) ≡ caller
+    → line_actor (found_line caller call found first last) ≡ caller
 line-actor caller call (At node number level weight) first last = refl
 line-actor caller call (OffAt node number level weight) first last = refl
 line-actor caller call (Again why weight) first last = refl
@@ -126,9 +121,6 @@ line-actor caller call (Again why weight) first last = refl
 abbrev AreInTurn : Done → Done → Type 0
 AreInTurn one other = (sub s p q earlier later : ℕ) → TellsNumber one sub p earlier → TellsNumber other s q later
     → earlier ≤ later
-
-abbrev pub TicketsAscend : Type 0
-TicketsAscend = (actor : ℕ) (history : History) → IsAscending (tickets actor history)
 
 caller-in-turn : FindsFollow → CallersCount → TicketsAscend → (setting : Setting) (scripts : Scripts)
     (history : History) → IsPlayed setting scripts history → (actor i j : ℕ) (one other : Done)
@@ -155,11 +147,11 @@ caller-in-turn follow count ascend setting scripts history played actor i j one 
     )
 
 line-of-caller : (setting : Setting) (scripts : Scripts) (history : History) (actor i : ℕ) (line : Done)
-    → slice_get (caller_lines setting scripts history actor) i ≡ Some line → actor_of line ≡ actor
+    → slice_get (caller_lines setting scripts history actor) i ≡ Some line → line_actor line ≡ actor
 line-of-caller setting scripts history actor i line at =
     let seen : List ℕ = tickets actor history in
     let a = map-at (answer_line actor seen) (caller_in setting scripts history actor).answers i line at in
-    sym (ap actor_of a.2)
+    sym (ap line_actor a.2)
     ∙ line-actor actor a.0.call a.0.found (get_or seen a.0.first 0) (get_or seen a.0.last 0)
 
 got-within : {A : Type 0} (xs : List A) (i : ℕ) (y : A) → slice_get xs i ≡ Some y → i < length xs
@@ -169,7 +161,7 @@ got-within (x ∷ xs) (suc i) y h = omega (arith, got-within xs i y h)
 
 -- the lines of each actor lie together
 block-above : (f : ℕ → List Done) (x k : ℕ) → ((a i : ℕ) (y : Done) → x ≤ a → slice_get (f a) i ≡ Some y
-    → actor_of y ≡ a) → (i : ℕ) (y : Done) → slice_get (flat_map f (numbers_from x k)) i ≡ Some y → x ≤ actor_of y
+    → line_actor y ≡ a) → (i : ℕ) (y : Done) → slice_get (flat_map f (numbers_from x k)) i ≡ Some y → x ≤ line_actor y
 block-above f x zero each i y h = cc
 block-above f x (suc k) each i y h = elim (append-at (f x) (flat_map f (numbers_from (suc x) k)) i y h) [
   | inl here ↦ omega (arith, each x i y (omega arith) here)
@@ -178,11 +170,11 @@ block-above f x (suc k) each i y h = elim (append-at (f x) (flat_map f (numbers_
 ]
 
 all-in-turn : (f : ℕ → List Done) (x k : ℕ) → ((a i : ℕ) (y : Done) → x ≤ a → slice_get (f a) i ≡ Some y
-    → actor_of y ≡ a)
+    → line_actor y ≡ a)
     → ((a i j : ℕ) (one other : Done) → x ≤ a → i ≤ j → slice_get (f a) i ≡ Some one
     → slice_get (f a) j ≡ Some other → AreInTurn one other)
     → (i j : ℕ) (one other : Done) → i ≤ j → slice_get (flat_map f (numbers_from x k)) i ≡ Some one
-    → slice_get (flat_map f (numbers_from x k)) j ≡ Some other → actor_of one ≡ actor_of other → AreInTurn one other
+    → slice_get (flat_map f (numbers_from x k)) j ≡ Some other → line_actor one ≡ line_actor other → AreInTurn one other
 all-in-turn f x zero each order i j one other le at_one at_other same = cc
 all-in-turn f x (suc k) each order i j one other le at_one at_other same =
     at_parts (append-at (f x) (flat_map f (numbers_from (suc x) k)) i one at_one)

@@ -1,37 +1,31 @@
 -- How far a caller is after a look.
-use Rattle.std.proofs.Common.{◌≡◌, ℕ, suc, ◌<◌, ◌≤◌, ◌==◌, Bool, true, false, cond, List, [], ◌∷◌, ◌++◌, length, drop, refl, sym, ap, ◌∙◌, subst, arith, Option}
+use Rattle.std.proofs.Common.{◌≡◌, ℕ, suc, ◌<◌, ◌≤◌, Bool, true, false, cond, List, [], ◌∷◌, ◌++◌, length, drop, refl, sym, ap, ◌∙◌, subst, arith, Option}
 use Rattle.std.specs.Prelude.{Some, None, slice_index, nat_lt, option_map, option_to_list, vec_capacity, unwrap_or, if◌then◌else◌}
 use Rattle.std.proofs.lemmas.Bool.{eq-eqb}
 use Rattle.std.proofs.lemmas.Bool.Decides.{nat_tests}
 use Rattle.std.proofs.lemmas.List.{append-nil, length_push, get_or_push}
 use Rattle.std.proofs.Math.ListN.{get_or-append}
 use Rattle.entry_word.specs.declared.visit.Key.{Key}
-use Rattle.entry_word.specs.declared.visit.Visit.{Visit}
 use Rattle.directory.specs.Settings.{Setting}
 use Rattle.directory.specs.Histories.{History, cell, tickets}
 use Rattle.directory.specs.Finds.{FindCall, Stage, after_word, answer_of, at_origin, key_of}
 use Rattle.directory.specs.Looks.{look_by}
 use Rattle.directory.specs.Orders.{Caller as Seeker, Scripts, caller_in, finds_of, next, with_stage}
 use Rattle.directory.specs.Outcomes.{caller_lines, found_line}
-use Rattle.directory.specs.Statements.{CallerLinesGrow, CallersCount, CallersRead}
+use Rattle.directory.specs.Statements.{CallerLinesGrow, CallersCount, CallersRead, TicketsGrow}
 use Rattle.directory.specs.declared.answers.Done.{Done}
 use Rattle.directory.specs.declared.answers.Found.{Found}
 use Rattle.net_reader.specs.Input.{Contents}
 use Rattle.region_plan.specs.Plan.{PlanData}
 use Rattle.region_plan.specs.Settings.{setting_of}
-use Rattle.walk.specs.Walks.{GoesWith, WalkData, call_of, stage_of}
+use Rattle.walk.specs.Walks.{IsWalkOver, WalkData, call_of, stage_of}
 use Rattle.visit_log.specs.Cells.{CellData}
 use Rattle.machine.specs.declared.caller.Caller.{Caller}
 use Rattle.machine.specs.Scripts.{scripts_of}
-use Rattle.machine.specs.Stands.{IsWalking, Sees, setting_in}
+use Rattle.machine.specs.Stands.{IsWalking, Sees, setting_over}
 use Rattle.machine.specs.Callers.{IsCaller, first_ticket}
-use Rattle.machine.proofs.Looking.{Walks, drop-more, key-wanted, next-caller, read-on, walking}
-
--- the tickets of an actor after a visit
-abbrev pub TicketsGrow : Type 0
-TicketsGrow = (actor : ℕ) (history : History) (visit : Visit)
-    → tickets actor (history ++ visit ∷ []) ≡ tickets actor history
-    ++ cond (visit.actor == actor) (length history ∷ []) []
+use Rattle.machine.proofs.Looking.{Walks, drop-more, key-wanted, read-on, walking}
+use Rattle.directory.specs.HistoryLaws.{next-caller}
 
 -- the ticket of the first look
 pub first-is : (first next ticket : ℕ) (seen : List ℕ) (kept : Option ℕ)
@@ -51,17 +45,17 @@ first-is first next ticket seen kept same count low = at_test (nat_lt first next
 -- a caller by its parts
 pub by-parts : (input : Contents) (plan : PlanData) (history : History) (actor : ℕ) (seeker : Seeker)
     (seen : List ℕ) (caller : Caller)
-    → caller_in (setting_in input plan) (scripts_of input) history actor ≡ seeker → tickets actor history ≡ seen
+    → caller_in (setting_over input plan) (scripts_of input) history actor ≡ seeker → tickets actor history ≡ seen
     → IsWalking plan seeker.calls seeker.stage caller.walk → caller.first ≡ first_ticket seeker seen
-    → caller.lines.items ≡ caller_lines (setting_in input plan) (scripts_of input) history actor
-    → seeker.calls ≡ drop (length caller.lines.items) (finds_of (setting_in input plan) (scripts_of input) actor)
-    → length (finds_of (setting_in input plan) (scripts_of input) actor) ≤ vec_capacity caller.lines
+    → caller.lines.items ≡ caller_lines (setting_over input plan) (scripts_of input) history actor
+    → seeker.calls ≡ drop (length caller.lines.items) (finds_of (setting_over input plan) (scripts_of input) actor)
+    → length (finds_of (setting_over input plan) (scripts_of input) actor) ≤ vec_capacity caller.lines
     → IsCaller input plan history actor caller
 by-parts input plan history actor seeker seen caller e t walks first lines left room =
     record {
       walk = subst (λ (s : Seeker). IsWalking plan s.calls s.stage caller.walk) (sym e) walks;
       first = first ∙ (ap (λ s. first_ticket s seen) (sym e)
-          ∙ ap (first_ticket (caller_in (setting_in input plan) (scripts_of input) history actor)) (sym t));
+          ∙ ap (first_ticket (caller_in (setting_over input plan) (scripts_of input) history actor)) (sym t));
       lines = lines;
       left = ap (λ (s : Seeker). s.calls) e ∙ left;
       room = room;
@@ -72,11 +66,11 @@ pub record Looks (input : Contents) (plan : PlanData) (history : History) (actor
     (caller : Caller) (key : Key) (next_walk : WalkData) : Type 0 where
   pub call : FindCall
   pub later : List FindCall
-  pub calls_are : (caller_in (setting_in input plan) (scripts_of input) history actor).calls ≡ call ∷ later
-  pub turn : next (setting_in input plan) (scripts_of input) history actor ≡ Some (look_by actor key)
-  pub stage : stage_of plan next_walk ≡ after_word (setting_in input plan) call
-      (caller_in (setting_in input plan) (scripts_of input) history actor).stage
-      (cell (setting_in input plan) history key)
+  pub calls_are : (caller_in (setting_over input plan) (scripts_of input) history actor).calls ≡ call ∷ later
+  pub turn : next (setting_over input plan) (scripts_of input) history actor ≡ Some (look_by actor key)
+  pub stage : stage_of plan next_walk ≡ after_word (setting_over input plan) call
+      (caller_in (setting_over input plan) (scripts_of input) history actor).stage
+      (cell (setting_over input plan) history key)
   pub its : call_of next_walk ≡ call
   pub seen : tickets actor (history ++ look_by actor key ∷ []) ≡ tickets actor history ++ length history ∷ []
 
@@ -84,24 +78,24 @@ pub looks : TicketsGrow → (input : Contents) (plan : PlanData) (history : Hist
     (walk next_walk : WalkData) (key : Key) (word : ℕ) → length input.homes ≤ actor
     → IsCaller input plan history actor caller → caller.walk ≡ Some walk
     → key_of (call_of walk) (stage_of plan walk) ≡ Some key
-    → word ≡ cell (setting_in input plan) history key → call_of next_walk ≡ call_of walk
+    → word ≡ cell (setting_over input plan) history key → call_of next_walk ≡ call_of walk
     → stage_of plan next_walk ≡ after_word (setting_of plan []) (call_of walk) (stage_of plan walk) word
     → Looks input plan history actor caller key next_walk
 looks grow input plan history actor caller walk next_walk key word high its held wants reads same saw =
-    let seeker : Seeker = caller_in (setting_in input plan) (scripts_of input) history actor in
+    let seeker : Seeker = caller_in (setting_over input plan) (scripts_of input) history actor in
     let at : Walks plan seeker.calls seeker.stage walk =
     walking plan seeker.calls seeker.stage caller.walk walk held its.walk in
     record {
       call = at.call;
       later = at.later;
       calls_are = at.calls_are;
-      turn = next-caller (setting_in input plan) (scripts_of input) history actor high
+      turn = next-caller (setting_over input plan) (scripts_of input) history actor high
           ∙ ap (option_map (look_by actor)) (sym (key-wanted plan seeker walk at) ∙ wants);
       stage = saw
           ∙ (ap (after_word (setting_of plan []) (call_of walk) (stage_of plan walk)) reads
-          ∙ (ap (λ s. after_word (setting_of plan []) (call_of walk) s (cell (setting_in input plan) history key))
+          ∙ (ap (λ s. after_word (setting_of plan []) (call_of walk) s (cell (setting_over input plan) history key))
           at.so_far
-          ∙ ap (λ c. after_word (setting_of plan []) c seeker.stage (cell (setting_in input plan) history key))
+          ∙ ap (λ c. after_word (setting_of plan []) c seeker.stage (cell (setting_over input plan) history key))
           at.its));
       its = same ∙ at.its;
       seen = grow actor history (look_by actor key)
@@ -112,12 +106,12 @@ looks grow input plan history actor caller walk next_walk key word high its held
 pub looked-on : CallersRead → CallerLinesGrow → CallersCount → (input : Contents) (plan : PlanData) (cells : CellData)
     (history : History) (actor ticket : ℕ) (old new : Caller) (key : Key) (walk : WalkData) → length input.homes ≤ actor
     → Sees input plan cells history → length history ≡ ticket → IsCaller input plan history actor old
-    → Looks input plan history actor old key walk → GoesWith plan walk → None ≡ answer_of (stage_of plan walk)
+    → Looks input plan history actor old key walk → IsWalkOver plan walk → None ≡ answer_of (stage_of plan walk)
     → new ≡ record old { walk = Some walk; first = Some (unwrap_or old.first ticket) }
-    → (k : Key) × (next (setting_in input plan) (scripts_of input) history actor ≡ Some (look_by actor k))
+    → (k : Key) × (next (setting_over input plan) (scripts_of input) history actor ≡ Some (look_by actor k))
     × IsCaller input plan (history ++ look_by actor k ∷ []) actor new
 looked-on read grow count input plan cells history actor ticket old new key walk high sees place its at goes none same =
-    let setting : Setting = setting_in input plan in
+    let setting : Setting = setting_over input plan in
     let scripts : Scripts = scripts_of input in
     let seeker : Seeker = caller_in setting scripts history actor in
     let stage : Stage = after_word setting at.call seeker.stage (cell setting history key) in
@@ -156,16 +150,16 @@ pub looked-up : CallersRead → CallerLinesGrow → CallersCount → (input : Co
     → Sees input plan cells history → length history ≡ ticket → IsCaller input plan history actor old
     → Looks input plan history actor old key walk → Some found ≡ answer_of (stage_of plan walk)
     → ((call : FindCall) (later : List FindCall)
-    → call ∷ later ≡ drop (length old.lines.items) (finds_of (setting_in input plan) (scripts_of input) actor)
+    → call ∷ later ≡ drop (length old.lines.items) (finds_of (setting_over input plan) (scripts_of input) actor)
     → line ≡ found_line actor call found (unwrap_or old.first ticket) ticket)
     → new.lines.items ≡ old.lines.items ++ line ∷ [] → left ≡ suc (length old.lines.items)
     → vec_capacity old.lines ≤ vec_capacity new.lines → new.first ≡ None
-    → IsWalking plan (drop left (finds_of (setting_in input plan) (scripts_of input) actor)) at_origin new.walk
-    → (k : Key) × (next (setting_in input plan) (scripts_of input) history actor ≡ Some (look_by actor k))
+    → IsWalking plan (drop left (finds_of (setting_over input plan) (scripts_of input) actor)) at_origin new.walk
+    → (k : Key) × (next (setting_over input plan) (scripts_of input) history actor ≡ Some (look_by actor k))
     × IsCaller input plan (history ++ look_by actor k ∷ []) actor new
 looked-up read grow count input plan cells history actor ticket old new key walk found line left high sees place its at
     answered line_is lines left_is room first_is walks =
-    let setting : Setting = setting_in input plan in
+    let setting : Setting = setting_over input plan in
     let scripts : Scripts = scripts_of input in
     let seeker : Seeker = caller_in setting scripts history actor in
     let stage : Stage = after_word setting at.call seeker.stage (cell setting history key) in

@@ -1,22 +1,20 @@
 -- A caller's look: which cell it is at, which nodes its word names, and how far the caller is after it.
 use Rattle.std.proofs.Common.{◌≡◌, ℕ, zero, suc, ◌-◌, ◌^◌, ◌<◌, ◌≤◌, true, false, List, [], ◌∷◌, length, map, drop, get_or, refl, sym, ap, ◌∙◌, subst, arith, drop-cons, Option}
-use Rattle.std.specs.Prelude.{All, Some, None, option_map}
-use Rattle.std.proofs.lemmas.Bool.{le-ltb}
+use Rattle.std.specs.Prelude.{All, Some, None}
 use Rattle.std.proofs.lemmas.Bool.Decides.{nat_tests}
 use Rattle.std.proofs.lemmas.List.{get_or-map, length-map, length-drop}
 use Rattle.entry_word.specs.declared.visit.Key.{Key}
-use Rattle.directory.specs.Settings.{Setting, subs}
+use Rattle.directory.specs.Settings.{Setting}
 use Rattle.directory.specs.Histories.{History, cell}
 use Rattle.directory.specs.Finds.{FindCall, Stage, after_word, answer_of, at_origin, key_of}
-use Rattle.directory.specs.Looks.{look_by}
-use Rattle.directory.specs.Orders.{AreValid, Caller as Seeker, IsFindCall, Scripts, after_read, caller_in, finds_of, key_in, next, next_key, read_by, with_stage}
+use Rattle.directory.specs.Orders.{AreValid, Caller as Seeker, IsFindCall, after_read, caller_in, finds_of, key_in, next_key, read_by, with_stage}
 use Rattle.directory.specs.Statements.{PlayedIsLegal}
 use Rattle.directory.specs.declared.answers.Found.{Found}
 use Rattle.trail_laws.specs.Trail.{EntriesTell, MarksTell}
 use Rattle.region_plan.specs.Plan.{PlanData, nodes_of}
 use Rattle.region_plan.specs.Cells.{IsCell}
 use Rattle.walk.specs.declared.progress.Progress.TheVariants.{AtOrigin}
-use Rattle.walk.specs.Walks.{GoesWith, IsWordBelow, WalkData, call_of, stage_of}
+use Rattle.walk.specs.Walks.{IsWalkOver, IsWordBelow, WalkData, call_of, stage_of}
 use Rattle.std.specs.Prelude.{Result, Ok, Err, IfOk, nat_le, if◌then◌else◌}
 use Rattle.std.specs.Result.{is_err, is_ok, result_ok}
 use Rattle.walk.specs.declared.walk.WalkFault.{WalkFault}
@@ -31,17 +29,11 @@ use Rattle.net_reader.specs.Valid.{IsSearch}
 use Rattle.visit_log.specs.Cells.{CellData}
 use Rattle.machine.specs.declared.caller.Caller.{Caller}
 use Rattle.machine.specs.Scripts.{find_of, scripts_of}
-use Rattle.machine.specs.Stands.{BelongTogether, IsWalking, Sees, setting_in}
+use Rattle.machine.specs.Stands.{BelongTogether, IsWalking, Sees, setting_over}
 use Rattle.machine.specs.Callers.{IsCaller}
 use Rattle.std.proofs.Common.{Vec, Global}
 use Rattle.net_reader.specs.Valid.{IsValid}
 use Rattle.machine.proofs.ScriptLaws.{finds-are, scripts-valid, searches-of}
-
--- whose turn it is
-pub next-caller : (setting : Setting) (scripts : Scripts) (history : History) (actor : ℕ) → subs setting ≤ actor
-    → next setting scripts history actor ≡ option_map (look_by actor)
-    (next_key (caller_in setting scripts history actor))
-next-caller setting scripts history actor high = rw (le-ltb actor (subs setting) high) refl
 
 -- the walk of the find that a caller is at
 pub record Walks (plan : PlanData) (calls : List FindCall) (stage : Stage) (walk : WalkData) : Type 0 where
@@ -50,7 +42,7 @@ pub record Walks (plan : PlanData) (calls : List FindCall) (stage : Stage) (walk
   pub calls_are : calls ≡ call ∷ later
   pub its : call_of walk ≡ call
   pub so_far : stage_of plan walk ≡ stage
-  pub goes : GoesWith plan walk
+  pub goes : IsWalkOver plan walk
   pub unanswered : answer_of stage ≡ None
 
 pub walking : (plan : PlanData) (calls : List FindCall) (stage : Stage) (held : Option WalkData) (walk : WalkData)
@@ -66,7 +58,7 @@ walking plan (call ∷ later) stage (Some other) walk same h =
       calls_are = refl;
       its = subst (λ w. call_of w ≡ call) e h.0;
       so_far = subst (λ w. stage_of plan w ≡ stage) e h.1;
-      goes = subst (GoesWith plan) e h.2;
+      goes = subst (IsWalkOver plan) e h.2;
       unanswered = h.3;
     }
 
@@ -106,7 +98,7 @@ drop-more (suc n) (y ∷ ys) x later h =
 pub walk-at : (plan : PlanData) (script : List Call) (place count from sub : ℕ) (made : Result WalkData WalkFault)
     (held : Option WalkData) → place < length script → ((d : Call) → calls.Find from sub ≡ get_or script place d)
     → All (IsSearch (nodes_of plan) count) script → made ≡ walk_or_fault plan from sub count
-    → IfOk made (GoesWith plan) → held ≡ result_ok made
+    → IfOk made (IsWalkOver plan) → held ≡ result_ok made
     → IsWalking plan (drop place (map find_of script)) at_origin held
 walk-at plan script place count from sub made held low here searches answer goes same =
     let its : IsSearch (nodes_of plan) count (calls.Find from sub) =
@@ -125,8 +117,8 @@ walk-at plan script place count from sub made held low here searches answer goes
     ∙ ap (λ x. x ∷ drop (suc place) (map find_of script))
     (get_or-map find_of script place (calls.Find from sub) (record { from = from; sub = sub }) low
     ∙ ap find_of (sym (here (calls.Find from sub)))) in
-    let goes_on : GoesWith plan (record { from = from; sub = sub; progress = AtOrigin }) =
-    subst (λ r. IfOk r (GoesWith plan)) fine goes in
+    let goes_on : IsWalkOver plan (record { from = from; sub = sub; progress = AtOrigin }) =
+    subst (λ r. IfOk r (IsWalkOver plan)) fine goes in
     let is_held : held ≡ Some (record { from = from; sub = sub; progress = AtOrigin }) = same ∙ ap result_ok fine in
     subst (λ cs. IsWalking plan cs at_origin held) (sym there)
     (subst (IsWalking plan (record { from = from; sub = sub } ∷ drop (suc place) (map find_of script)) at_origin)
@@ -135,11 +127,11 @@ walk-at plan script place count from sub made held low here searches answer goes
 
 -- the find that a caller is at is one of its script
 pub call-known : (input : Contents) (plan : PlanData) (actor n : ℕ) (call : FindCall) (later : List FindCall)
-    → AreValid (setting_in input plan) (scripts_of input) → length input.homes ≤ actor → actor < length input.scripts
-    → call ∷ later ≡ drop n (finds_of (setting_in input plan) (scripts_of input) actor)
-    → IsFindCall (setting_in input plan) call
+    → AreValid (setting_over input plan) (scripts_of input) → length input.homes ≤ actor → actor < length input.scripts
+    → call ∷ later ≡ drop n (finds_of (setting_over input plan) (scripts_of input) actor)
+    → IsFindCall (setting_over input plan) call
 call-known input plan actor n call later valid high low left =
-    let at = drop-more n (finds_of (setting_in input plan) (scripts_of input) actor) call later left in
+    let at = drop-more n (finds_of (setting_over input plan) (scripts_of input) actor) call later left in
     let short : actor - length input.homes < length (scripts_of input).finds =
     omega (
       arith,
@@ -148,14 +140,14 @@ call-known input plan actor n call later valid high low left =
       length-map (drop (length input.homes) input.scripts) (map find_of),
       length-drop (length input.homes) input.scripts,
     ) in
-    subst (IsFindCall (setting_in input plan)) (at.2 call)
+    subst (IsFindCall (setting_over input plan)) (at.2 call)
     (valid.finds (actor - length input.homes) [] short n call at.0)
 
 -- what a caller's look leans on
 pub record Wanted (input : Contents) (plan : PlanData) (cells : CellData) (history : History) (walk : WalkData)
     (key : Key) : Type 0 where
   pub is_cell : IsCell plan cells.subs key
-  pub is_below : IsWordBelow (nodes_of plan) walk.progress (cell (setting_in input plan) history key)
+  pub is_below : IsWordBelow (nodes_of plan) walk.progress (cell (setting_over input plan) history key)
 
 pub wanted : MarksTell → EntriesTell → PlayedIsLegal → (input : Contents) (plan : PlanData)
     (distances : DistanceTable) (cells : CellData) (history : History) (actor : ℕ) (caller : Caller) (walk : WalkData)
@@ -164,12 +156,12 @@ pub wanted : MarksTell → EntriesTell → PlayedIsLegal → (input : Contents) 
     → key_of (call_of walk) (stage_of plan walk) ≡ Some key → Wanted input plan cells history walk key
 wanted marks entries legal input plan distances cells history actor caller walk key together high low sees its held
     wants =
-    let seeker : Seeker = caller_in (setting_in input plan) (scripts_of input) history actor in
+    let seeker : Seeker = caller_in (setting_over input plan) (scripts_of input) history actor in
     let at : Walks plan seeker.calls seeker.stage walk =
     walking plan seeker.calls seeker.stage caller.walk walk held its.walk in
-    let valid : AreValid (setting_in input plan) (scripts_of input) =
+    let valid : AreValid (setting_over input plan) (scripts_of input) =
     scripts-valid input plan together.valid together.nodes in
-    let known : IsFindCall (setting_in input plan) at.call =
+    let known : IsFindCall (setting_over input plan) at.call =
     call-known input plan actor (length caller.lines.items) at.call at.later valid high low
     (sym at.calls_are ∙ its.left) in
     let sub_low : walk.sub < length input.homes =
@@ -179,7 +171,7 @@ wanted marks entries legal input plan distances cells history actor caller walk 
       is_cell = cell-wanted plan walk cells.subs key together.matched at.goes
           (omega (arith, sub_low, sees.hold.subs)) wants;
       is_below = word-wanted marks entries plan input.homes history walk key together.matched small
-          (legal (setting_in input plan) (scripts_of input) history walk.sub small valid sub_low sees.played) at.goes
+          (legal (setting_over input plan) (scripts_of input) history walk.sub small valid sub_low sees.played) at.goes
           wants;
     }
 
@@ -210,10 +202,10 @@ pub place-low : (input : Contents) (plan : PlanData) (history : History) (actor 
     → IsCaller input plan history actor caller → caller.walk ≡ Some walk
     → length caller.lines.items < length (get_or input.scripts actor [])
 place-low input plan history actor caller walk high low its held =
-    let seeker : Seeker = caller_in (setting_in input plan) (scripts_of input) history actor in
+    let seeker : Seeker = caller_in (setting_over input plan) (scripts_of input) history actor in
     let at : Walks plan seeker.calls seeker.stage walk =
     walking plan seeker.calls seeker.stage caller.walk walk held its.walk in
-    let more = drop-more (length caller.lines.items) (finds_of (setting_in input plan) (scripts_of input) actor)
+    let more = drop-more (length caller.lines.items) (finds_of (setting_over input plan) (scripts_of input) actor)
     at.call at.later (sym at.calls_are ∙ its.left) in
     omega (
       arith,
@@ -226,10 +218,10 @@ place-low input plan history actor caller walk high low its held =
 pub call-at : (input : Contents) (plan : PlanData) (actor n : ℕ) (script : List Call) (call : FindCall)
     (later : List FindCall) (default : Call) → length input.homes ≤ actor → actor < length input.scripts
     → script ≡ get_or input.scripts actor [] → n < length script
-    → call ∷ later ≡ drop n (finds_of (setting_in input plan) (scripts_of input) actor)
+    → call ∷ later ≡ drop n (finds_of (setting_over input plan) (scripts_of input) actor)
     → find_of (get_or script n default) ≡ call
 call-at input plan actor n script call later default high low same short left =
-    let more = drop-more n (finds_of (setting_in input plan) (scripts_of input) actor) call later left in
+    let more = drop-more n (finds_of (setting_over input plan) (scripts_of input) actor) call later left in
     sym (get_or-map find_of script n default call short)
     ∙ (ap (λ s. get_or (map find_of s) n call) same
     ∙ (ap (λ fs. get_or fs n call) (sym (finds-are input plan actor high low)) ∙ more.2 call))

@@ -5,11 +5,11 @@ use Rattle.std.proofs.lemmas.Bool.Decides.{nat_tests}
 use Rattle.std.proofs.lemmas.List.{get_or_push, length_push, length-map, get_or-map}
 use Rattle.std.proofs.Math.ListN.{get_or-append}
 use Rattle.std.proofs.lemmas.List.Elements.{All-cons, All-nil, All-head, All-tail}
-use Rattle.directory.specs.Settings.{Setting, start}
+use Rattle.directory.specs.Settings.{start}
 use Rattle.directory.specs.Courses.{course_at}
 use Rattle.directory.specs.Finds.{at_origin}
 use Rattle.directory.specs.Histories.{tickets, tickets_from, words_after}
-use Rattle.directory.specs.Orders.{IsPlayed, Scripts, caller_at, finds_of, steps_of}
+use Rattle.directory.specs.Orders.{caller_at, finds_of, steps_of}
 use Rattle.directory.specs.Outcomes.{step_lines}
 use Rattle.net_reader.specs.declared.said.Call.{Call}
 use Rattle.net_reader.specs.declared.said.Call.TheVariants as calls
@@ -17,18 +17,18 @@ use Rattle.net_reader.specs.Input.{Contents}
 use Rattle.net_reader.specs.Valid.{IsCourse, IsSearch, IsValid}
 use Rattle.region_plan.specs.Plan.{PlanData}
 use Rattle.handset.specs.Kept.{GoesWith}
-use Rattle.handset.specs.Stands.{StandsFor}
+use Rattle.handset.specs.Stands.{StandsForSteps}
 use Rattle.machine.specs.declared.caller.Caller.{Caller}
 use Rattle.machine.specs.declared.subscriber.Subscriber.{Subscriber}
 use Rattle.machine.specs.Scripts.{find_of, scripts_of, step_of}
-use Rattle.machine.specs.Stands.{AreInside, IsInside, IsWalking, setting_in}
+use Rattle.machine.specs.Stands.{BeginInside, BeginsInside, IsWalking, setting_over}
 use Rattle.machine.specs.Callers.{IsCaller}
 use Rattle.machine.specs.Subscribers.{IsSubscriber, begun_steps}
 use Rattle.machine.proofs.Looked.{by-parts}
 use Rattle.machine.proofs.ScriptLaws.{finds-are, searches-of, steps-are}
 
 pub sub-opens : (input : Contents) (plan : PlanData) (sub : ℕ) (subscriber : Subscriber) → IsValid input
-    → sub < length input.homes → StandsFor (setting_in input plan) subscriber.handset [] 0
+    → sub < length input.homes → StandsForSteps (setting_over input plan) subscriber.handset [] 0
     → GoesWith plan subscriber.handset → subscriber.handset.sub ≡ sub → subscriber.lines.items ≡ []
     → length (get_or input.scripts sub []) ≤ vec_capacity subscriber.lines
     → IsSubscriber input plan [] sub subscriber
@@ -37,11 +37,11 @@ sub-opens input plan sub subscriber valid low stands goes its none room =
     let begun : begun_steps input sub subscriber ≡ [] =
     ap (λ n. take n (steps_of (scripts_of input) sub)) (ap length none) in
     record {
-      handset = subst (λ ss. StandsFor (setting_in input plan) subscriber.handset ss 0) (sym begun) stands;
+      handset = subst (λ ss. StandsForSteps (setting_over input plan) subscriber.handset ss 0) (sym begun) stands;
       goes = goes;
       its = its;
       lines = none
-          ∙ ap (λ ss. step_lines (setting_in input plan) sub (course_at (start (setting_in input plan) sub)) ss
+          ∙ ap (λ ss. step_lines (setting_over input plan) sub (course_at (start (setting_over input plan) sub)) ss
           (tickets sub [])) (sym begun);
       few = omega (arith, ap length none);
       under = λ before step split. absurd (omega (arith, ap length (sym begun ∙ split), length_push before step));
@@ -55,16 +55,13 @@ pub caller-opens : (input : Contents) (plan : PlanData) (actor : ℕ) (caller : 
     → length script ≤ vec_capacity caller.lines → IsCaller input plan [] actor caller
 unfolding words_after tickets_from
 caller-opens input plan actor caller script high low same walks first none room =
-    let finds : finds_of (setting_in input plan) (scripts_of input) actor ≡ map find_of script =
+    let finds : finds_of (setting_over input plan) (scripts_of input) actor ≡ map find_of script =
     finds-are input plan actor high low ∙ ap (map find_of) (sym same) in
     by-parts input plan [] actor
-    (caller_at (finds_of (setting_in input plan) (scripts_of input) actor)) [] caller refl refl
+    (caller_at (finds_of (setting_over input plan) (scripts_of input) actor)) [] caller refl refl
     (subst (λ fs. IsWalking plan fs at_origin caller.walk) (sym finds) walks) first none
-    (ap (λ n. drop n (finds_of (setting_in input plan) (scripts_of input) actor)) (sym (ap length none)))
+    (ap (λ n. drop n (finds_of (setting_over input plan) (scripts_of input) actor)) (sym (ap length none)))
     (omega (arith, room, ap length finds, length-map script find_of))
-
-pub none-played : (setting : Setting) (scripts : Scripts) → IsPlayed setting scripts []
-none-played setting scripts ticket visit h = cc
 
 pub each-more : {A : Type 0} (P : ℕ → A → Type 0) (xs : List A) (x : A) (n : ℕ) → length xs ≡ n
     → ((s : ℕ) (d : A) → s < n → P s (get_or xs s d)) → P n x
@@ -81,32 +78,32 @@ each-more P xs x n count each last s d low =
 
 -- the calls of a valid input are inside
 course-inside : (format n here : ℕ) (off : Bool) (script : List Call) → IsCourse format n here off script
-    → AreInside n script
-course-inside format n here off [] its = All-nil (IsInside n)
+    → BeginInside n script
+course-inside format n here off [] its = All-nil (BeginsInside n)
 course-inside format n here off (calls.Move to ∷ script) its =
-    All-cons (IsInside n) (calls.Move to) script tt (course-inside format n to off script its.3)
+    All-cons (BeginsInside n) (calls.Move to) script tt (course-inside format n to off script its.3)
 course-inside format n here off (calls.Find from sub ∷ script) its = absurd its
 course-inside format n here off (calls.Off ∷ script) its =
-    All-cons (IsInside n) calls.Off script tt (course-inside format n here true script its.2)
+    All-cons (BeginsInside n) calls.Off script tt (course-inside format n here true script its.2)
 course-inside format n here off (calls.On ∷ script) its =
-    All-cons (IsInside n) calls.On script tt (course-inside format n here false script its.2)
+    All-cons (BeginsInside n) calls.On script tt (course-inside format n here false script its.2)
 
-search-inside : (n subs : ℕ) (script : List Call) → All (IsSearch n subs) script → AreInside n script
-search-inside n subs [] all = All-nil (IsInside n)
+search-inside : (n subs : ℕ) (script : List Call) → All (IsSearch n subs) script → BeginInside n script
+search-inside n subs [] all = All-nil (BeginsInside n)
 search-inside n subs (call ∷ script) all =
-    All-cons (IsInside n) call script (at_call call (All-head (IsSearch n subs) call script all))
+    All-cons (BeginsInside n) call script (at_call call (All-head (IsSearch n subs) call script all))
     (search-inside n subs script (All-tail (IsSearch n subs) call script all))
   where
-    at_call : (c : Call) → IsSearch n subs c → IsInside n c
+    at_call : (c : Call) → IsSearch n subs c → BeginsInside n c
     at_call (calls.Move to) h = absurd h
     at_call (calls.Find from sub) h = h.0
     at_call calls.Off h = absurd h
     at_call calls.On h = absurd h
 
 script-inside : (input : Contents) (actor : ℕ) → IsValid input → actor < length input.scripts
-    → AreInside input.nodes (get_or input.scripts actor [])
+    → BeginInside input.nodes (get_or input.scripts actor [])
 script-inside input actor valid low =
-    elim (cases actor (length input.homes)) as (λ _. AreInside input.nodes (get_or input.scripts actor [])) [
+    elim (cases actor (length input.homes)) as (λ _. BeginInside input.nodes (get_or input.scripts actor [])) [
       | inl sub ↦ course-inside input.format input.nodes (get_or input.homes actor 0) false
           (get_or input.scripts actor []) (valid.courses actor sub)
       | inr high ↦ search-inside input.nodes (length input.homes) (get_or input.scripts actor [])
@@ -118,10 +115,10 @@ script-inside input actor valid low =
 
 pub scripts-inside : (input : Contents) (scripts : List (Vec Call Global)) (n : ℕ) → IsValid input
     → input.scripts ≡ map (λ (s : Vec Call Global). s.items) scripts → n ≡ input.nodes
-    → (k : ℕ) (d : Vec Call Global) → k < length scripts → AreInside n (get_or scripts k d).items
+    → (k : ℕ) (d : Vec Call Global) → k < length scripts → BeginInside n (get_or scripts k d).items
 scripts-inside input scripts n valid same nodes k d low =
-    subst (λ m. AreInside m (get_or scripts k d).items) (sym nodes)
-    (subst (AreInside input.nodes) (ap (λ ss. get_or ss k []) same
+    subst (λ m. BeginInside m (get_or scripts k d).items) (sym nodes)
+    (subst (BeginInside input.nodes) (ap (λ ss. get_or ss k []) same
     ∙ get_or-map (λ (s : Vec Call Global). s.items) scripts k d [] low)
     (script-inside input k valid
     (omega (arith, low, ap length same, length-map scripts (λ (s : Vec Call Global). s.items)))))

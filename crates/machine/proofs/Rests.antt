@@ -2,10 +2,10 @@
 use Rattle.std.proofs.Common.{◌≡◌, ℕ, zero, suc, ◌<◌, ◌≤◌, Bool, true, false, List, [], ◌∷◌, ◌++◌, Option, length, map, take, get_or, refl, sym, ap, ◌∙◌, subst, arith, length-append}
 use Rattle.std.specs.Prelude.{Some, None, slice_get, vec_capacity, option_map, unwrap_or}
 use Rattle.std.proofs.lemmas.Option.{slice_get_past, unwrap_or-slice_get}
-use Rattle.std.proofs.lemmas.List.{append-nil, take_all, length-drop, length_push, length-map, get_or-map, same_from_push}
+use Rattle.std.proofs.lemmas.List.{append-nil, take_all, length_push, length-map, get_or-map, same_from_push}
 use Rattle.entry_word.specs.declared.visit.Visit.{Visit}
 use Rattle.directory.specs.Settings.{Setting, start}
-use Rattle.directory.specs.Courses.{Course, MayStep, Step, after_steps, course_at, last_stop, move_to, switch_off, switch_on}
+use Rattle.directory.specs.Courses.{Course, MayStep, Step, after_steps, course_at, move_to, switch_off, switch_on}
 use Rattle.directory.specs.Histories.{History, own, tickets}
 use Rattle.directory.specs.Orders.{next, script_visits, steps_of}
 use Rattle.directory.specs.Outcomes.{step_line, step_lines}
@@ -22,26 +22,20 @@ use Rattle.region_plan.specs.Settings.{setting_of}
 use Rattle.distances.specs.Table.{DistanceTable}
 use Rattle.handset.specs.Kept.{GoesWith, HandsetData}
 use Rattle.handset.specs.Progress.{due, due_at}
-use Rattle.directory.specs.Amid.{course_of}
-use Rattle.handset.specs.Stands.{StandsAt, StandsFor}
+use Rattle.handset.specs.Stands.{StandsForSteps}
 use Rattle.handset.specs.declared.stage.Stage.{Stage}
 use Rattle.handset.specs.declared.stage.Stage.TheVariants.{Resting, Coming, Renewing, Committing, Confirming, Erasing, Purging, Switching}
 use Rattle.visit_log.specs.Cells.{CellData, GoWith, Hold}
 use Rattle.machine.specs.declared.subscriber.Subscriber.{Subscriber}
 use Rattle.machine.specs.Scripts.{scripts_of, step_of}
-use Rattle.machine.specs.Stands.{BelongTogether, setting_in}
+use Rattle.machine.specs.Stands.{BelongTogether, setting_over}
 use Rattle.machine.specs.Subscribers.{IsSubscriber, MayBegin, begun_line, begun_steps}
-use Rattle.machine.proofs.Looked.{TicketsGrow}
 use Rattle.machine.proofs.ScriptLaws.{steps-are}
 use Rattle.machine.proofs.Steps.{lines-partial, some-write}
-use Rattle.machine.proofs.Seen.{OwnGrow, Seen, TicketsAreOwn, next-sub, seen-after, step-allowed, tickets-count}
-
--- a handset at rest
-pub record Rests (setting : Setting) (handset : HandsetData) (steps : List Step) (made : ℕ) : Type 0 where
-  pub place : handset.place ≡ last_stop (after_steps setting (course_at (start setting handset.sub)) steps)
-  pub number : handset.number ≡ length (after_steps setting (course_at (start setting handset.sub)) steps).moves
-  pub is_off : handset.is_off ≡ (after_steps setting (course_at (start setting handset.sub)) steps).is_off
-  pub all : made ≡ length (writes setting (course_at (start setting handset.sub)) steps)
+use Rattle.machine.proofs.Seen.{Seen, seen-after, step-allowed}
+use Rattle.directory.specs.HistoryLaws.{next-sub, tickets-count}
+use Rattle.directory.specs.Statements.{TicketsGrow, OwnGrow, TicketsAreOwn}
+use Rattle.handset.specs.StageLaws.{IsRestAfter, rest-after}
 
 none-of : {A B : Type 0} (f : A → B) (o : Option A) → option_map f o ≡ None → o ≡ None
 none-of f None h = refl
@@ -59,26 +53,11 @@ stage-rests setting handset (Purging node) h = cc
 stage-rests setting handset (Switching off) h = cc
 
 pub rests : (setting : Setting) (handset : HandsetData) (steps : List Step) (made : ℕ)
-    → StandsFor setting handset steps made → due setting handset ≡ None → Rests setting handset steps made
+    → StandsForSteps setting handset steps made → due setting handset ≡ None
+    → IsRestAfter setting handset.sub handset steps made
 rests setting handset steps made stands none =
-    let still : handset.stage ≡ Resting =
-    stage-rests setting handset handset.stage
-    (none-of (visit_of handset.sub) (due_at setting handset handset.stage) none) in
-    let at : StandsAt setting handset Resting steps made =
-    subst (λ stage. StandsAt setting handset stage steps made) still stands in
-    let over : at.over ≡ steps = sym (append-nil at.over) ∙ sym at.begun in
-    record {
-      place = at.place ∙ ap (λ ss. last_stop (course_of setting handset.sub ss)) over;
-      number = at.number ∙ ap (λ ss. length (course_of setting handset.sub ss).moves) over;
-      is_off = at.is_off ∙ ap (λ ss. (course_of setting handset.sub ss).is_off) over;
-      all = omega (
-        arith,
-        at.few,
-        ap length at.left,
-        length-drop made (visits setting handset.sub steps),
-        length-map (writes setting (course_at (start setting handset.sub)) steps) (visit_of handset.sub),
-      );
-    }
+    rest-after setting handset steps made stands (stage-rests setting handset handset.stage
+    (none-of (visit_of handset.sub) (due_at setting handset handset.stage) none))
 
 -- a call that is a step
 abbrev IsStep : Call → Type 0
@@ -89,7 +68,7 @@ IsStep calls.On = Unit {0}
 
 -- a step that may come may begin
 may-begin : (plan : PlanData) (starts : List ℕ) (handset : HandsetData) (steps : List Step) (made : ℕ) (call : Call)
-    → Rests (setting_of plan starts) handset steps made → IsStep call
+    → IsRestAfter (setting_of plan starts) handset.sub handset steps made → IsStep call
     → MayStep (setting_of plan starts)
     (after_steps (setting_of plan starts) (course_at (start (setting_of plan starts) handset.sub)) steps) (step_of call)
     → MayBegin plan handset call
@@ -132,18 +111,19 @@ pub record Begins (input : Contents) (plan : PlanData) (history : History) (sub 
     (call : Call) : Type 0 where
   pub may : MayBegin plan old.handset call
   pub line : (ticket : ℕ) → begun_line plan old.handset call ticket
-      ≡ step_line (setting_in input plan) sub
-      (after_steps (setting_in input plan) (course_at (start (setting_in input plan) sub)) (begun_steps input sub old))
+      ≡ step_line (setting_over input plan) sub
+      (after_steps (setting_over input plan) (course_at (start (setting_over input plan) sub))
+      (begun_steps input sub old))
       (step_of call) (ticket ∷ [])
   pub more : take (suc (length old.lines.items)) (steps_of (scripts_of input) sub)
       ≡ begun_steps input sub old ++ step_of call ∷ []
   pub all : length (own sub history)
-      ≡ length (writes (setting_in input plan) (course_at (start (setting_in input plan) sub))
+      ≡ length (writes (setting_over input plan) (course_at (start (setting_over input plan) sub))
       (begun_steps input sub old))
 
 first-line : (plan : PlanData) (starts : List ℕ) (handset : HandsetData) (steps : List Step) (made sub : ℕ)
     (call : Call) (ticket : ℕ)
-    → Rests (setting_of plan starts) handset steps made → handset.sub ≡ sub → IsStep call
+    → IsRestAfter (setting_of plan starts) handset.sub handset steps made → handset.sub ≡ sub → IsStep call
     → begun_line plan handset call ticket
     ≡ step_line (setting_of plan starts) sub
     (after_steps (setting_of plan starts) (course_at (start (setting_of plan starts) sub)) steps)
@@ -189,12 +169,12 @@ first-line plan starts handset steps made sub call ticket at same its =
 pub begins : (input : Contents) (plan : PlanData) (distances : DistanceTable) (history : History) (sub : ℕ)
     (old : Subscriber) (call : Call)
     → BelongTogether input plan distances → sub < length input.homes → IsSubscriber input plan history sub old
-    → due (setting_in input plan) old.handset ≡ None → length old.lines.items < length (get_or input.scripts sub [])
+    → due (setting_over input plan) old.handset ≡ None → length old.lines.items < length (get_or input.scripts sub [])
     → call ≡ get_or (get_or input.scripts sub []) (length old.lines.items) call
     → Begins input plan history sub old call
 begins input plan distances history sub old call together low its none short same =
-    let setting : Setting = setting_in input plan in
-    let at : Rests setting old.handset (begun_steps input sub old) (length (own sub history)) =
+    let setting : Setting = setting_over input plan in
+    let at : IsRestAfter setting old.handset.sub old.handset (begun_steps input sub old) (length (own sub history)) =
     rests setting old.handset (begun_steps input sub old) (length (own sub history)) its.handset none in
     let is_step : IsStep call = subst IsStep (sym same)
     (course-steps input.format input.nodes (get_or input.homes sub 0) false (get_or input.scripts sub [])
@@ -216,17 +196,19 @@ begins input plan distances history sub old call together low its none short sam
           (length (own sub history)) sub call ticket at its.its is_step;
       more = more;
       all = at.all
-          ∙ ap (λ s. length (writes setting (course_at (start setting s)) (begun_steps input sub old))) its.its;
+          ∙ (length-map (writes setting (course_at (start setting old.handset.sub)) (begun_steps input sub old))
+          (visit_of old.handset.sub)
+          ∙ ap (λ s. length (writes setting (course_at (start setting s)) (begun_steps input sub old))) its.its);
     }
 
 -- nothing is left where each step is done
 pub all-written : (input : Contents) (plan : PlanData) (history : History) (sub : ℕ) (old : Subscriber)
     → IsValid input → sub < length input.homes → IsSubscriber input plan history sub old
-    → due (setting_in input plan) old.handset ≡ None → length old.lines.items ≡ length (get_or input.scripts sub [])
-    → next (setting_in input plan) (scripts_of input) history sub ≡ None
+    → due (setting_over input plan) old.handset ≡ None → length old.lines.items ≡ length (get_or input.scripts sub [])
+    → next (setting_over input plan) (scripts_of input) history sub ≡ None
 all-written input plan history sub old valid low its none same =
-    let setting : Setting = setting_in input plan in
-    let at : Rests setting old.handset (begun_steps input sub old) (length (own sub history)) =
+    let setting : Setting = setting_over input plan in
+    let at : IsRestAfter setting old.handset.sub old.handset (begun_steps input sub old) (length (own sub history)) =
     rests setting old.handset (begun_steps input sub old) (length (own sub history)) its.handset none in
     let whole : begun_steps input sub old ≡ steps_of (scripts_of input) sub =
     take_all (length old.lines.items) (steps_of (scripts_of input) sub)
@@ -238,8 +220,10 @@ all-written input plan history sub old valid low its none same =
     )) in
     let count : length (own sub history)
     ≡ length (writes setting (course_at (start setting sub)) (steps_of (scripts_of input) sub)) =
-    at.all ∙ (ap (λ s. length (writes setting (course_at (start setting s)) (begun_steps input sub old))) its.its
-    ∙ ap (λ ss. length (writes setting (course_at (start setting sub)) ss)) whole) in
+    at.all ∙ (length-map (writes setting (course_at (start setting old.handset.sub)) (begun_steps input sub old))
+    (visit_of old.handset.sub)
+    ∙ (ap (λ s. length (writes setting (course_at (start setting s)) (begun_steps input sub old))) its.its
+    ∙ ap (λ ss. length (writes setting (course_at (start setting sub)) ss)) whole)) in
     next-sub setting (scripts_of input) history sub low
     ∙ slice_get_past (script_visits setting (scripts_of input) sub) (length (own sub history))
     (omega (
@@ -275,21 +259,21 @@ pub written-first : OwnGrow → TicketsGrow → TicketsAreOwn → (input : Conte
     (line : Done)
     → sub < length input.homes → length history ≡ ticket → IsSubscriber input plan history sub old
     → Begins input plan history sub old call
-    → slice_get (visits (setting_in input plan) old.handset.sub (begun_steps input sub old ++ step_of call ∷ []))
+    → slice_get (visits (setting_over input plan) old.handset.sub (begun_steps input sub old ++ step_of call ∷ []))
     (length (own sub history)) ≡ Some visit
-    → StandsFor (setting_in input plan) new.handset (begun_steps input sub old ++ step_of call ∷ [])
+    → StandsForSteps (setting_over input plan) new.handset (begun_steps input sub old ++ step_of call ∷ [])
     (suc (length (own sub history)))
     → GoesWith plan new.handset → new.handset.sub ≡ old.handset.sub
     → new.lines.items ≡ old.lines.items ++ line ∷ [] → vec_capacity old.lines ≤ vec_capacity new.lines
     → line ≡ begun_line plan old.handset call ticket → length old.lines.items < length (steps_of (scripts_of input) sub)
     → GoWith plan after → Hold plan input.homes after (history ++ visit ∷ [])
-    → (v : Visit) × (next (setting_in input plan) (scripts_of input) history sub ≡ Some v)
+    → (v : Visit) × (next (setting_over input plan) (scripts_of input) history sub ≡ Some v)
     × IsSubscriber input plan (history ++ v ∷ []) sub new × GoWith plan after
     × Hold plan input.homes after (history ++ v ∷ [])
 written-first own_law ticket_law tell input plan after history sub ticket old new call visit line low place its begin at
     stands goes same
     lines room line_is short go hold =
-    let setting : Setting = setting_in input plan in
+    let setting : Setting = setting_over input plan in
     let course : Course = course_at (start setting sub) in
     let longer : length new.lines.items ≡ suc (length old.lines.items) =
     omega (arith, ap length lines, length_push old.lines.items line) in
@@ -304,12 +288,13 @@ written-first own_law ticket_law tell input plan after history sub ticket old ne
     seen-after own_law ticket_law input plan history sub (suc (length old.lines.items)) visit low here in
     let last : Course = after_steps setting course (begun_steps input sub old) in
     let count : length (tickets sub history) ≡ length (writes setting course (begun_steps input sub old)) =
-    tickets-count tell sub history ∙ begin.all in (
+    tickets-count sub history ∙ begin.all in (
       visit,
       seen.turn,
       record {
-        handset = subst (λ ss. StandsFor setting new.handset ss (length (own sub (history ++ visit ∷ [])))) (sym steps)
-            (subst (StandsFor setting new.handset (begun_steps input sub old ++ step_of call ∷ []))
+        handset = subst (λ ss. StandsForSteps setting new.handset ss (length (own sub (history ++ visit ∷ []))))
+            (sym steps)
+            (subst (StandsForSteps setting new.handset (begun_steps input sub old ++ step_of call ∷ []))
             (sym seen.count) stands);
         goes = goes;
         its = same ∙ its.its;

@@ -6,15 +6,16 @@ use Rattle.std.proofs.lemmas.List.Elements.{All-map}
 use Rattle.std.proofs.lemmas.List.Sums.{fold-append}
 use Rattle.directory.specs.Settings.{Setting, start, subs}
 use Rattle.directory.specs.Courses.{Course, MaySteps, Move, after_step, course_at, last_stop, move_to, next_move, switch_off, switch_on}
-use Rattle.directory.specs.Orders.{AreValid, IsFindCall, finds_of, steps_of}
+use Rattle.directory.specs.Orders.{IsFindCall, finds_of, steps_of}
 use Rattle.net_reader.specs.declared.said.Call.{Call}
 use Rattle.net_reader.specs.declared.said.Call.TheVariants as calls
 use Rattle.net_reader.specs.Input.{Contents}
 use Rattle.net_reader.specs.Table.{most_calls}
 use Rattle.net_reader.specs.Valid.{IsCourse, IsSearch, IsValid, count_calls}
-use Rattle.region_plan.specs.Plan.{PlanData, nodes_of}
+use Rattle.region_plan.specs.Plan.{PlanData}
 use Rattle.machine.specs.Scripts.{find_of, scripts_of, step_of}
-use Rattle.machine.specs.Stands.{setting_in}
+use Rattle.machine.specs.Stands.{setting_over}
+use Rattle.machine.specs.InputLaws.{ScriptsAreValid}
 
 -- the steps of a subscriber, and the finds of a caller
 pub steps-are : (input : Contents) (sub : ℕ) → IsValid input → sub < length input.homes
@@ -26,7 +27,7 @@ steps-are input sub valid low =
     ∙ ap (map step_of) (get_or-take (length input.homes) input.scripts sub [] low)
 
 pub finds-are : (input : Contents) (plan : PlanData) (actor : ℕ) → length input.homes ≤ actor
-    → actor < length input.scripts → finds_of (setting_in input plan) (scripts_of input) actor
+    → actor < length input.scripts → finds_of (setting_over input plan) (scripts_of input) actor
     ≡ map find_of (get_or input.scripts actor [])
 finds-are input plan actor high low =
     let back : length input.homes + (actor - length input.homes) ≡ actor = omega arith in
@@ -107,8 +108,7 @@ same-at (x ∷ xs) zero a b l = refl
 same-at (x ∷ xs) (suc i) a b l = same-at xs i a b (omega (arith, l))
 
 -- the scripts of a valid input are valid
-pub scripts-valid : (input : Contents) (plan : PlanData) → IsValid input → nodes_of plan ≡ input.nodes
-    → AreValid (setting_in input plan) (scripts_of input)
+pub scripts-valid : ScriptsAreValid
 scripts-valid input plan valid nodes =
     record {
       some = valid.some_homes;
@@ -118,15 +118,15 @@ scripts-valid input plan valid nodes =
         known = low;
         begins = subst (λ n. get_or input.homes sub 0 < n) (sym nodes) (homes-inside input sub valid low);
         allowed =
-            subst (MaySteps (setting_in input plan) (course_at (start (setting_in input plan) sub)))
+            subst (MaySteps (setting_over input plan) (course_at (start (setting_over input plan) sub)))
             (sym (steps-are input sub valid low))
-            (course-may (setting_in input plan) (course_at (start (setting_in input plan) sub)) input.format
+            (course-may (setting_over input plan) (course_at (start (setting_over input plan) sub)) input.format
             (get_or input.homes sub 0) false (get_or input.scripts sub [])
             (subst (λ n. IsCourse input.format n (get_or input.homes sub 0) false (get_or input.scripts sub []))
             (sym nodes) (valid.courses sub low)) refl refl (omega (arith, calls-few input sub valid)));
       };
       finds =
-          All-map (λ calls. All (IsFindCall (setting_in input plan)) calls) (map find_of)
+          All-map (λ calls. All (IsFindCall (setting_over input plan)) calls) (map find_of)
           (drop (length input.homes) input.scripts) each;
     }
   where
@@ -134,17 +134,17 @@ scripts-valid input plan valid nodes =
     low k h = omega (arith, h, length-drop (length input.homes) input.scripts)
 
     searched : (k : ℕ) (e : List Call) → k < length (drop (length input.homes) input.scripts)
-        → All (λ call. IsFindCall (setting_in input plan) (find_of call))
+        → All (λ call. IsFindCall (setting_over input plan) (find_of call))
         (get_or input.scripts (length input.homes + k) e)
-    searched k e h = subst (λ script. All (λ call. IsFindCall (setting_in input plan) (find_of call)) script)
+    searched k e h = subst (λ script. All (λ call. IsFindCall (setting_over input plan) (find_of call)) script)
         (same-at input.scripts (length input.homes + k) [] e (low k h))
-        (λ j c g. search-means (setting_in input plan) _
+        (λ j c g. search-means (setting_over input plan) _
         (subst (λ n. IsSearch n (length input.homes) (get_or (get_or input.scripts (length input.homes + k) []) j c))
         (sym nodes)
         (searches-of input (length input.homes + k) valid (omega arith) (low k h) j c g)))
 
-    each : All (λ script. All (IsFindCall (setting_in input plan)) (map find_of script))
+    each : All (λ script. All (IsFindCall (setting_over input plan)) (map find_of script))
         (drop (length input.homes) input.scripts)
-    each k d h = All-map (IsFindCall (setting_in input plan)) find_of _
-        (subst (λ script. All (λ call. IsFindCall (setting_in input plan) (find_of call)) script)
+    each k d h = All-map (IsFindCall (setting_over input plan)) find_of _
+        (subst (λ script. All (λ call. IsFindCall (setting_over input plan) (find_of call)) script)
         (sym (get_or-drop (length input.homes) input.scripts k d)) (searched k d h))

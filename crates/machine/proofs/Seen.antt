@@ -1,46 +1,25 @@
 -- What is known of a subscriber after a visit of its own: whose turn it was, and which step the visit belongs to.
 use Rattle.std.proofs.Common.{◌≡◌, ℕ, zero, suc, ◌+◌, ◌-◌, ◌<◌, ◌≤◌, ◌==◌, true, cond, List, [], ◌∷◌, ◌++◌, length, map, take, drop, refl, sym, ap, ◌∙◌, subst, arith}
 use Rattle.std.specs.Prelude.{Some, slice_get}
-use Rattle.std.proofs.lemmas.Bool.{eq-eqb, lt-ltb}
+use Rattle.std.proofs.lemmas.Bool.{eq-eqb}
 use Rattle.std.proofs.lemmas.List.{append-nil, take-append-drop, length_push, length-map}
 use Rattle.entry_word.specs.declared.visit.Visit.{Visit}
-use Rattle.directory.specs.Settings.{Setting, start, subs}
+use Rattle.directory.specs.Settings.{Setting, start}
 use Rattle.directory.specs.Courses.{Course, MayStep, MaySteps, Step, after_steps, course_at, last_stop}
 use Rattle.directory.specs.Histories.{History, own, tickets}
 use Rattle.directory.specs.Legal.{IsScript}
-use Rattle.directory.specs.Orders.{AreValid, Scripts, next, script_visits, steps_of}
+use Rattle.directory.specs.Orders.{AreValid, next, steps_of}
 use Rattle.directory.specs.StepLaws.{visits-append, visits_in}
 use Rattle.directory.specs.Writes.{Write, step_writes, visit_of, visits, writes}
 use Rattle.net_reader.specs.Input.{Contents}
 use Rattle.region_plan.specs.Plan.{PlanData, nodes_of}
 use Rattle.distances.specs.Table.{DistanceTable}
 use Rattle.machine.specs.Scripts.{scripts_of}
-use Rattle.machine.specs.Stands.{BelongTogether, setting_in}
-use Rattle.machine.proofs.Looked.{TicketsGrow}
+use Rattle.machine.specs.Stands.{BelongTogether, setting_over}
 use Rattle.machine.proofs.ScriptLaws.{scripts-valid}
 use Rattle.machine.proofs.Steps.{may-at}
-
--- an actor's own visits after a visit
-abbrev pub OwnGrow : Type 0
-OwnGrow = (actor : ℕ) (history : History) (visit : Visit)
-    → own actor (history ++ visit ∷ []) ≡ own actor history ++ cond (visit.actor == actor) (visit ∷ []) []
-
--- and its tickets are as many
-abbrev pub TicketsAreOwn : Type 0
-TicketsAreOwn = (actor : ℕ) (history : History)
-    → map (slice_get history) (tickets actor history) ≡ map Some (own actor history)
-
-pub tickets-count : TicketsAreOwn → (actor : ℕ) (history : History)
-    → length (tickets actor history) ≡ length (own actor history)
-tickets-count law actor history =
-    sym (length-map (tickets actor history) (slice_get history))
-    ∙ (ap length (law actor history) ∙ length-map (own actor history) Some)
-
--- whose turn it is
-pub next-sub : (setting : Setting) (scripts : Scripts) (history : History) (actor : ℕ) → actor < subs setting
-    → next setting scripts history actor ≡ slice_get (script_visits setting scripts actor)
-    (length (own actor history))
-next-sub setting scripts history actor low = rw (lt-ltb actor (subs setting) low) refl
+use Rattle.directory.specs.HistoryLaws.{next-sub}
+use Rattle.directory.specs.Statements.{TicketsGrow, OwnGrow}
 
 -- elements of joined lists
 get-left : {A : Type 0} (xs ys : List A) (i : ℕ) (x : A) → slice_get xs i ≡ Some x → slice_get (xs ++ ys) i ≡ Some x
@@ -109,21 +88,21 @@ last-visit setting sub n before step visit past h =
 
 -- what is known of a subscriber after a visit of its own
 pub record Seen (input : Contents) (plan : PlanData) (history : History) (sub : ℕ) (visit : Visit) : Type 0 where
-  pub turn : next (setting_in input plan) (scripts_of input) history sub ≡ Some visit
+  pub turn : next (setting_over input plan) (scripts_of input) history sub ≡ Some visit
   pub count : length (own sub (history ++ visit ∷ [])) ≡ suc (length (own sub history))
   pub seen : tickets sub (history ++ visit ∷ []) ≡ tickets sub history ++ length history ∷ []
 
 pub seen-after : OwnGrow → TicketsGrow → (input : Contents) (plan : PlanData) (history : History) (sub k : ℕ)
     (visit : Visit) → sub < length input.homes
-    → slice_get (visits (setting_in input plan) sub (take k (steps_of (scripts_of input) sub)))
+    → slice_get (visits (setting_over input plan) sub (take k (steps_of (scripts_of input) sub)))
     (length (own sub history)) ≡ Some visit
     → Seen input plan history sub visit
 seen-after own_law ticket_law input plan history sub k visit low at =
     let mine : (visit.actor == sub) ≡ true =
     eq-eqb visit.actor sub (actor-of sub _ (length (own sub history)) visit at) in
     record {
-      turn = next-sub (setting_in input plan) (scripts_of input) history sub low
-          ∙ in-script (setting_in input plan) sub k (length (own sub history))
+      turn = next-sub (setting_over input plan) (scripts_of input) history sub low
+          ∙ in-script (setting_over input plan) sub k (length (own sub history))
           (steps_of (scripts_of input) sub) visit at;
       count = ap length (own_law sub history visit ∙ ap (λ b. own sub history ++ cond b (visit ∷ []) []) mine)
           ∙ omega (arith, length_push (own sub history) visit);
@@ -135,21 +114,21 @@ pub step-allowed : (input : Contents) (plan : PlanData) (distances : DistanceTab
     (step : Step)
     → BelongTogether input plan distances → sub < length input.homes
     → take k (steps_of (scripts_of input) sub) ≡ before ++ step ∷ []
-    → MayStep (setting_in input plan)
-    (after_steps (setting_in input plan) (course_at (start (setting_in input plan) sub)) before) step
-    × (last_stop (after_steps (setting_in input plan) (course_at (start (setting_in input plan) sub)) before)
+    → MayStep (setting_over input plan)
+    (after_steps (setting_over input plan) (course_at (start (setting_over input plan) sub)) before) step
+    × (last_stop (after_steps (setting_over input plan) (course_at (start (setting_over input plan) sub)) before)
     < nodes_of plan)
 step-allowed input plan distances sub k before step together low same =
-    let valid : AreValid (setting_in input plan) (scripts_of input) =
+    let valid : AreValid (setting_over input plan) (scripts_of input) =
     scripts-valid input plan together.valid together.nodes in
-    let script : IsScript (setting_in input plan) sub (steps_of (scripts_of input) sub) = valid.steps sub low in
+    let script : IsScript (setting_over input plan) sub (steps_of (scripts_of input) sub) = valid.steps sub low in
     let whole : steps_of (scripts_of input) sub ≡ before ++ step ∷ drop k (steps_of (scripts_of input) sub) =
     sym (take-append-drop k (steps_of (scripts_of input) sub))
     ∙ (ap (λ ss. ss ++ drop k (steps_of (scripts_of input) sub)) same
     ∙ assoc before step (drop k (steps_of (scripts_of input) sub))) in
-    may-at (setting_in input plan) (course_at (start (setting_in input plan) sub)) before step
+    may-at (setting_over input plan) (course_at (start (setting_over input plan) sub)) before step
     (drop k (steps_of (scripts_of input) sub))
-    (subst (MaySteps (setting_in input plan) (course_at (start (setting_in input plan) sub))) whole script.allowed)
+    (subst (MaySteps (setting_over input plan) (course_at (start (setting_over input plan) sub))) whole script.allowed)
     script.begins
   where
     assoc : (xs : List Step) (x : Step) (ys : List Step) → (xs ++ x ∷ []) ++ ys ≡ xs ++ x ∷ ys

@@ -1,6 +1,6 @@
 -- The lines of steps, a ticket more, and which visit of a move commits it.
 use Rattle.std.proofs.Common.{◌≡◌, ◌⊎◌, inl, inr, ℕ, zero, suc, ◌+◌, ◌-◌, ◌<◌, ◌≤◌, ◌^◌, Bool, true, false, List, [], ◌∷◌, ◌++◌, length, map, take, drop, get_or, refl, sym, ap, ◌∙◌, subst, arith, length-append}
-use Rattle.std.specs.Prelude.{Some, slice_get, if◌then◌else◌, unwrap_or}
+use Rattle.std.specs.Prelude.{Some, slice_get, if◌then◌else◌}
 use Rattle.std.proofs.lemmas.Bool.Decides.{nat_tests}
 use Rattle.std.proofs.lemmas.List.{take-append-le, drop-append-le, length-drop, get_or_push, get_or_past, length_push, length-map}
 use Rattle.std.proofs.Math.ListN.{get_or-append}
@@ -16,6 +16,8 @@ use Rattle.std.specs.Prelude.{◌==◌}
 use Rattle.directory.specs.declared.answers.Done.TheVariants.{Moved}
 use Rattle.machine.specs.Subscribers.{is_commit, line_after, says_gone}
 use Rattle.machine.proofs.ScriptLaws.{last-push}
+use Rattle.entry_word.specs.MarkLaws.{read-mark}
+use Rattle.node_set.specs.SetLaws.{length-passing_all}
 
 -- the lines of steps, the last of which may be under way
 pub lines-partial : (setting : Setting) (sub : ℕ) (course : Course) (done : List Step) (step : Step)
@@ -113,13 +115,6 @@ gone-at sub (x ∷ xs) gone ys q g r (suc i) visit h =
     let deep = gone-at sub xs gone ys q.1 g r i visit h in
     record { there = λ t. ap suc (deep.there t); alone = λ e. deep.alone (omega arith) }
 
-read-mark : MarksUnpack → (mark : PresenceMark) → IsSmallMark mark → mark_in (mark_word mark) ≡ mark
-read-mark unpack mark small = ap (λ o. unwrap_or o Empty) (unpack mark small)
-
-numbers-count : (x k : ℕ) → length (numbers_from x k) ≡ k
-numbers-count x zero = refl
-numbers-count x (suc k) = ap suc (numbers-count (suc x) k)
-
 pub move-commits : MarksUnpack → (setting : Setting) (sub : ℕ) (course : Course) (move : Move) → move.number < 2 ^ 32
     → move.from < 2 ^ 16 → move.to < 2 ^ 16 → (i : ℕ) (visit : Visit)
     → slice_get (map (visit_of sub) (move_writes setting course move)) i ≡ Some visit
@@ -132,7 +127,7 @@ move-commits unpack setting sub course move number from to i visit h =
     ∷ map (new_address setting move) (numbers_from 0 (suc move.renewed)) in
     let count : length front ≡ suc (suc move.renewed) =
     ap suc (length-map (numbers_from 0 (suc move.renewed)) (new_address setting move)
-    ∙ numbers-count 0 (suc move.renewed)) in
+    ∙ length-passing_all 0 (suc move.renewed)) in
     subst (Tells (is_commit visit.act) i) count
     (gone-at sub front (mark_at move.from (Gone move.number move.to))
     (mark_at move.to (Here move.number) ∷ (erasure_writes setting course move ++ purge_writes setting course move)) (

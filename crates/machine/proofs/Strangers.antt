@@ -10,8 +10,8 @@ use Rattle.net_reader.specs.Input.{Contents}
 use Rattle.net_reader.specs.Valid.{IsValid}
 use Rattle.region_plan.specs.Plan.{PlanData}
 use Rattle.machine.specs.Scripts.{find_of, scripts_of}
-use Rattle.machine.specs.Stands.{setting_in}
-use Rattle.machine.proofs.Looking.{next-caller}
+use Rattle.machine.specs.Stands.{setting_over}
+use Rattle.directory.specs.HistoryLaws.{next-caller}
 
 -- a caller without finds looks at nothing, whatever it reads
 keyless : (setting : Setting) (words : List ℕ) (seeker : Seeker) → seeker.calls ≡ []
@@ -22,12 +22,12 @@ keyless setting (word ∷ words) seeker none =
     (ap (λ calls. (read_by setting seeker calls word).calls) none ∙ none)
 
 pub stranger-done : (input : Contents) (plan : PlanData) (history : History) (actor : ℕ) → IsValid input
-    → length input.scripts ≤ actor → next (setting_in input plan) (scripts_of input) history actor ≡ None
+    → length input.scripts ≤ actor → next (setting_over input plan) (scripts_of input) history actor ≡ None
 stranger-done input plan history actor valid high =
-    next-caller (setting_in input plan) (scripts_of input) history actor (omega (arith, high, valid.scripts))
+    next-caller (setting_over input plan) (scripts_of input) history actor (omega (arith, high, valid.scripts))
     ∙ ap (option_map (look_by actor))
-    (keyless (setting_in input plan) (words_read (setting_in input plan) actor history)
-    (caller_at (finds_of (setting_in input plan) (scripts_of input) actor))
+    (keyless (setting_over input plan) (words_read (setting_over input plan) actor history)
+    (caller_at (finds_of (setting_over input plan) (scripts_of input) actor))
     (get_or_past (scripts_of input).finds (actor - length input.homes) []
     (omega (
       arith,

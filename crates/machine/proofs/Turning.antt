@@ -12,25 +12,24 @@ use Rattle.directory.specs.Courses.{course_at}
 use Rattle.directory.specs.Histories.{History, own, tickets, word_after}
 use Rattle.directory.specs.Keys.{opening}
 use Rattle.directory.specs.Looks.{look_by}
-use Rattle.directory.specs.Orders.{Caller as Seeker, IsPlayed, Scripts, caller_in, next}
+use Rattle.directory.specs.Orders.{Caller as Seeker, Scripts, caller_in, next}
 use Rattle.directory.specs.Outcomes.{answer_line, step_lines}
-use Rattle.directory.specs.Statements.{CallersKept}
+use Rattle.directory.specs.Statements.{CallersKept, TicketsGrow, OwnGrow, MoreIsPlayed}
 use Rattle.directory.specs.Writes.{writes}
 use Rattle.net_reader.specs.Input.{Contents}
 use Rattle.region_plan.specs.Plan.{PlanData}
 use Rattle.region_plan.specs.Settings.{setting_of}
-use Rattle.handset.specs.Stands.{StandsFor as HandsetStands}
+use Rattle.handset.specs.Stands.{StandsForSteps}
 use Rattle.visit_log.specs.Cells.{CellData, GoWith, Hold}
 use Rattle.machine.specs.declared.caller.Caller.{Caller}
 use Rattle.machine.specs.declared.machine.Machine.{Machine}
 use Rattle.machine.specs.declared.subscriber.Subscriber.{Subscriber}
 use Rattle.machine.specs.Scripts.{scripts_of}
-use Rattle.machine.specs.Stands.{Sees, setting_in}
+use Rattle.machine.specs.Stands.{Sees, setting_over}
 use Rattle.machine.specs.Callers.{IsCaller}
 use Rattle.machine.specs.Subscribers.{IsSubscriber, begun_steps}
-use Rattle.machine.specs.Machines.{StandsFor, input_at, scripts_at, setting_at}
-use Rattle.machine.proofs.Looked.{TicketsGrow, by-parts}
-use Rattle.machine.proofs.Seen.{OwnGrow}
+use Rattle.machine.specs.Machines.{HasHistory, input_at, scripts_at, setting_at}
+use Rattle.machine.proofs.Looked.{by-parts}
 
 -- a visit of another changes nothing of a subscriber
 sub-kept : OwnGrow → TicketsGrow → (input : Contents) (plan : PlanData) (history : History) (sub : ℕ)
@@ -45,16 +44,16 @@ sub-kept own_law ticket_law input plan history sub subscriber visit other its =
     ∙ (ap (λ b. tickets sub history ++ cond b (length history ∷ []) []) other ∙ append-nil (tickets sub history)) in
     record {
       handset = subst
-          (λ n. HandsetStands (setting_in input plan) subscriber.handset (begun_steps input sub subscriber) n)
+          (λ n. StandsForSteps (setting_over input plan) subscriber.handset (begun_steps input sub subscriber) n)
           (sym (ap length same)) its.handset;
       goes = its.goes;
       its = its.its;
       lines = its.lines
-          ∙ ap (step_lines (setting_in input plan) sub (course_at (start (setting_in input plan) sub))
+          ∙ ap (step_lines (setting_over input plan) sub (course_at (start (setting_over input plan) sub))
           (begun_steps input sub subscriber)) (sym seen);
       few = its.few;
       under = λ before step split. subst
-          (λ n. length (writes (setting_in input plan) (course_at (start (setting_in input plan) sub)) before) < n)
+          (λ n. length (writes (setting_over input plan) (course_at (start (setting_over input plan) sub)) before) < n)
           (sym (ap length same)) (its.under before step split);
       room = its.room;
     }
@@ -65,12 +64,13 @@ caller-kept : CallersKept
     → (visit.actor == actor) ≡ false → IsCaller input plan history actor caller
     → IsCaller input plan (history ++ visit ∷ []) actor caller
 caller-kept law input plan history actor caller visit other its =
-    let same = law (setting_in input plan) (scripts_of input) history actor visit other in
+    let same = law (setting_over input plan) (scripts_of input) history actor visit other in
     by-parts input plan (history ++ visit ∷ []) actor
-    (caller_in (setting_in input plan) (scripts_of input) history actor)
+    (caller_in (setting_over input plan) (scripts_of input) history actor)
     (tickets actor history) caller same.0 same.1 its.walk its.first
     (its.lines ∙
-    (ap (λ ts. map (answer_line actor ts) (caller_in (setting_in input plan) (scripts_of input) history actor).answers)
+    (ap (λ ts. map (answer_line actor ts)
+    (caller_in (setting_over input plan) (scripts_of input) history actor).answers)
     (sym same.1)
     ∙ ap (λ (s : Seeker). map (answer_line actor (tickets actor (history ++ visit ∷ []))) s.answers) (sym same.0)))
     its.left its.room
@@ -95,20 +95,18 @@ set-length (y ∷ xs) (suc i) x = ap suc (set-length xs i x)
 
 -- after a subscriber's visit
 pub sub-turned : OwnGrow → TicketsGrow → CallersKept
-    → ((setting : Setting) (scripts : Scripts) (history : History) (actor : ℕ) (visit : Visit)
-    → next setting scripts history actor ≡ Some visit → IsPlayed setting scripts history
-    → IsPlayed setting scripts (history ++ visit ∷ []))
+    → MoreIsPlayed
     → ((setting : Setting) (scripts : Scripts) (history : History) (actor : ℕ) (visit : Visit)
     → next setting scripts history actor ≡ Some visit → visit.actor ≡ actor)
     → (old : Machine) (history : History) (actor : ℕ) (visit : Visit) (subscriber : Subscriber) (cells : CellData)
-    (subscribers : Vec Subscriber Global) (order : Vec ℕ Global) → StandsFor old history
+    (subscribers : Vec Subscriber Global) (order : Vec ℕ Global) → HasHistory old history
     → actor < length (input_at old).homes
     → next (setting_at old) (scripts_at old) history actor ≡ Some visit
     → IsSubscriber (input_at old) old.plan.now (history ++ visit ∷ []) actor subscriber → GoWith old.plan.now cells
     → Hold old.plan.now (input_at old).homes cells (history ++ visit ∷ [])
     → subscribers.items ≡ slice_set old.subscribers.items actor subscriber
     → order.items ≡ old.order.items ++ actor ∷ [] → vec_capacity old.order ≤ vec_capacity order
-    → StandsFor (record old { cells = cells; subscribers = subscribers; order = order }) (history ++ visit ∷ [])
+    → HasHistory (record old { cells = cells; subscribers = subscribers; order = order }) (history ++ visit ∷ [])
 sub-turned own_law ticket_law kept more mine old history actor visit subscriber cells subscribers order stands low wants
     its goes hold items pushed room =
     let is_own : visit.actor ≡ actor = mine (setting_at old) (scripts_at old) history actor visit wants in
@@ -165,18 +163,16 @@ hold-look plan starts cells history actor key hold =
     }
 
 pub caller-turned : OwnGrow → TicketsGrow → CallersKept
-    → ((setting : Setting) (scripts : Scripts) (history : History) (actor : ℕ) (visit : Visit)
-    → next setting scripts history actor ≡ Some visit → IsPlayed setting scripts history
-    → IsPlayed setting scripts (history ++ visit ∷ []))
+    → MoreIsPlayed
     → (old : Machine) (history : History) (actor place : ℕ) (key : Key) (caller : Caller)
-    (callers : Vec Caller Global) (order : Vec ℕ Global) → StandsFor old history
+    (callers : Vec Caller Global) (order : Vec ℕ Global) → HasHistory old history
     → actor ≡ length (input_at old).homes + place
     → actor < length (input_at old).scripts
     → next (setting_at old) (scripts_at old) history actor ≡ Some (look_by actor key)
     → IsCaller (input_at old) old.plan.now (history ++ look_by actor key ∷ []) actor caller
     → callers.items ≡ slice_set old.callers.items place caller
     → order.items ≡ old.order.items ++ actor ∷ [] → vec_capacity old.order ≤ vec_capacity order
-    → StandsFor (record old { callers = callers; order = order }) (history ++ look_by actor key ∷ [])
+    → HasHistory (record old { callers = callers; order = order }) (history ++ look_by actor key ∷ [])
 caller-turned own_law ticket_law kept more old history actor place key caller callers order stands at low wants its
     items pushed room =
     let visit : Visit = look_by actor key in
@@ -221,14 +217,15 @@ caller-turned own_law ticket_law kept more old history actor place key caller ca
     }
 
 -- what a turn leans on
-pub at-sub : (machine : Machine) (history : History) (actor : ℕ) (x : Subscriber) → StandsFor machine history
+pub at-sub : (machine : Machine) (history : History) (actor : ℕ) (x : Subscriber) → HasHistory machine history
     → actor < length (input_at machine).homes → x ≡ get_or machine.subscribers.items actor x
     → IsSubscriber (input_at machine) machine.plan.now history actor x
 at-sub machine history actor x stands low same =
     subst (λ y. IsSubscriber (input_at machine) machine.plan.now history actor y) (sym same)
     (stands.subscribers actor x low)
 
-pub at-caller : (machine : Machine) (history : History) (actor place : ℕ) (x : Caller) → StandsFor machine history
+pub at-caller : (machine : Machine) (history : History) (actor place : ℕ) (x : Caller)
+    → HasHistory machine history
     → actor ≡ length (input_at machine).homes + place → actor < length (input_at machine).scripts
     → x ≡ get_or machine.callers.items place x
     → IsCaller (input_at machine) machine.plan.now history actor x
@@ -238,7 +235,7 @@ at-caller machine history actor place x stands at low same =
     (sym same)
     (stands.callers place x (omega (arith, at, low, stands.together.valid.scripts))))
 
-pub ticket-is : (machine : Machine) (history : History) (ticket : ℕ) → StandsFor machine history
+pub ticket-is : (machine : Machine) (history : History) (ticket : ℕ) → HasHistory machine history
     → ticket ≡ length machine.order.items → length history ≡ ticket
 ticket-is machine history ticket stands same =
     sym (same ∙ (ap length stands.order ∙ length-map history (λ (v : Visit). v.actor)))
@@ -251,10 +248,11 @@ set-itself (y ∷ xs) (suc i) x e h = ap (λ zs. y ∷ zs) (set-itself xs i x e 
 
 pub sub-kept-machine : (old : Machine) (history : History) (actor : ℕ) (x y : Subscriber) (cells : CellData)
     (subscribers : Vec Subscriber Global)
-    → StandsFor old history → actor < length (input_at old).homes → x ≡ get_or old.subscribers.items actor x → y ≡ x
+    → HasHistory old history → actor < length (input_at old).homes → x ≡ get_or old.subscribers.items actor x
+    → y ≡ x
     → cells ≡ old.cells
     → subscribers.items ≡ slice_set old.subscribers.items actor y
-    → StandsFor (record old { cells = cells; subscribers = subscribers }) history
+    → HasHistory (record old { cells = cells; subscribers = subscribers }) history
 sub-kept-machine old history actor x y cells subscribers stands low at same kept items =
     let its : subscribers.items ≡ old.subscribers.items =
     items ∙ (ap (λ z. slice_set old.subscribers.items actor z) same
@@ -276,9 +274,9 @@ sub-kept-machine old history actor x y cells subscribers stands low at same kept
     }
 
 pub caller-kept-machine : (old : Machine) (history : History) (place : ℕ) (x y : Caller) (callers : Vec Caller Global)
-    → StandsFor old history → place < (input_at old).callers → x ≡ get_or old.callers.items place x → y ≡ x
+    → HasHistory old history → place < (input_at old).callers → x ≡ get_or old.callers.items place x → y ≡ x
     → callers.items ≡ slice_set old.callers.items place y
-    → StandsFor (record old { callers = callers }) history
+    → HasHistory (record old { callers = callers }) history
 caller-kept-machine old history place x y callers stands low at same items =
     let its : callers.items ≡ old.callers.items =
     items ∙ (ap (λ z. slice_set old.callers.items place z) same

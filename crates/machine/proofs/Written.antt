@@ -17,15 +17,16 @@ use Rattle.net_reader.specs.Input.{Contents}
 use Rattle.region_plan.specs.Plan.{PlanData}
 use Rattle.distances.specs.Table.{DistanceTable}
 use Rattle.handset.specs.Kept.{GoesWith}
-use Rattle.handset.specs.Stands.{StandsFor}
+use Rattle.handset.specs.Stands.{StandsForSteps}
 use Rattle.visit_log.specs.Cells.{CellData, GoWith, Hold}
 use Rattle.machine.specs.declared.subscriber.Subscriber.{Subscriber}
 use Rattle.machine.specs.Scripts.{scripts_of}
-use Rattle.machine.specs.Stands.{BelongTogether, setting_in}
+use Rattle.machine.specs.Stands.{BelongTogether, setting_over}
 use Rattle.machine.specs.Subscribers.{IsSubscriber, begun_steps, is_commit, line_after}
-use Rattle.machine.proofs.Looked.{TicketsGrow}
 use Rattle.machine.proofs.Steps.{line-grows, lines-partial}
-use Rattle.machine.proofs.Seen.{HasLast, OwnGrow, Seen, TicketsAreOwn, last-visit, seen-after, step-allowed, steps-last, tickets-count}
+use Rattle.machine.proofs.Seen.{HasLast, Seen, last-visit, seen-after, step-allowed, steps-last}
+use Rattle.directory.specs.HistoryLaws.{tickets-count}
+use Rattle.directory.specs.Statements.{TicketsGrow, OwnGrow, TicketsAreOwn}
 
 -- the lines of a subscriber with a step under way, now and a visit later
 pub record Under (input : Contents) (plan : PlanData) (history : History) (sub : ℕ) (old : Subscriber)
@@ -33,7 +34,7 @@ pub record Under (input : Contents) (plan : PlanData) (history : History) (sub :
   pub rows : List Done
   pub row : Done
   pub are : old.lines.items ≡ rows ++ row ∷ []
-  pub then : step_lines (setting_in input plan) sub (course_at (start (setting_in input plan) sub))
+  pub then : step_lines (setting_over input plan) sub (course_at (start (setting_over input plan) sub))
       (begun_steps input sub old)
       (tickets sub history ++ length history ∷ []) ≡ rows ++ line_after row (is_commit visit.act) (length history) ∷ []
 
@@ -41,17 +42,18 @@ pub under-way : MarksUnpack → TicketsAreOwn
     → (input : Contents) (plan : PlanData) (distances : DistanceTable) (history : History) (sub : ℕ)
     (old : Subscriber) (visit : Visit) → BelongTogether input plan distances → sub < length input.homes
     → IsSubscriber input plan history sub old
-    → slice_get (visits (setting_in input plan) sub (begun_steps input sub old)) (length (own sub history)) ≡ Some visit
+    → slice_get (visits (setting_over input plan) sub (begun_steps input sub old)) (length (own sub history))
+    ≡ Some visit
     → Under input plan history sub old visit
 under-way unpack own_law input plan distances history sub old visit together low its at =
-    let setting : Setting = setting_in input plan in
+    let setting : Setting = setting_over input plan in
     let course : Course = course_at (start setting sub) in
     let split : HasLast (begun_steps input sub old) =
     steps-last setting sub (length (own sub history)) (begun_steps input sub old) visit at in
     let past : length (writes setting course split.before) < length (own sub history) =
     its.under split.before split.last split.are in
     let after : Course = after_steps setting course split.before in
-    let count : length (tickets sub history) ≡ length (own sub history) = tickets-count own_law sub history in
+    let count : length (tickets sub history) ≡ length (own sub history) = tickets-count sub history in
     let n : ℕ = length (writes setting course split.before) in
     let p : List ℕ = drop n (tickets sub history) in
     let size : length p ≡ length (own sub history) - n = length-drop n (tickets sub history) ∙ ap (λ k. k - n) count in
@@ -105,21 +107,22 @@ pub written-on : MarksUnpack → OwnGrow → TicketsGrow → TicketsAreOwn → (
     (visit : Visit) (line default : Done)
     → BelongTogether input plan distances → sub < length input.homes → length history ≡ ticket
     → IsSubscriber input plan history sub old
-    → slice_get (visits (setting_in input plan) old.handset.sub (begun_steps input sub old)) (length (own sub history))
+    → slice_get (visits (setting_over input plan) old.handset.sub (begun_steps input sub old))
+    (length (own sub history))
     ≡ Some visit
-    → StandsFor (setting_in input plan) new.handset (begun_steps input sub old) (suc (length (own sub history)))
+    → StandsForSteps (setting_over input plan) new.handset (begun_steps input sub old) (suc (length (own sub history)))
     → GoesWith plan new.handset → new.handset.sub ≡ old.handset.sub
     → new.lines.items ≡ slice_set old.lines.items last line → vec_capacity old.lines ≤ vec_capacity new.lines
     → suc last ≡ length old.lines.items
     → line ≡ line_after (get_or old.lines.items last default) (is_commit visit.act) ticket
     → GoWith plan after → Hold plan input.homes after (history ++ visit ∷ [])
-    → (v : Visit) × (next (setting_in input plan) (scripts_of input) history sub ≡ Some v)
+    → (v : Visit) × (next (setting_over input plan) (scripts_of input) history sub ≡ Some v)
     × IsSubscriber input plan (history ++ v ∷ []) sub new × GoWith plan after
     × Hold plan input.homes after (history ++ v ∷ [])
 written-on unpack own_law ticket_law tell input plan distances after history sub ticket last old new visit line default
     together low place its at
     stands goes same lines room last_is line_is go hold =
-    let setting : Setting = setting_in input plan in
+    let setting : Setting = setting_over input plan in
     let course : Course = course_at (start setting sub) in
     let here : slice_get (visits setting sub (begun_steps input sub old)) (length (own sub history)) ≡ Some visit =
     ap (λ s. slice_get (visits setting s (begun_steps input sub old)) (length (own sub history))) (sym its.its) ∙ at in
@@ -140,8 +143,8 @@ written-on unpack own_law ticket_law tell input plan distances after history sub
       visit,
       seen.turn,
       record {
-        handset = subst (λ ss. StandsFor setting new.handset ss (length (own sub (history ++ visit ∷ [])))) steps
-            (subst (StandsFor setting new.handset (begun_steps input sub old)) (sym seen.count) stands);
+        handset = subst (λ ss. StandsForSteps setting new.handset ss (length (own sub (history ++ visit ∷ [])))) steps
+            (subst (StandsForSteps setting new.handset (begun_steps input sub old)) (sym seen.count) stands);
         goes = goes;
         its = same ∙ its.its;
         lines = now

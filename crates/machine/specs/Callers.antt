@@ -13,7 +13,7 @@ use Rattle.machine.specs.declared.caller.Caller.{Caller}
 use Rattle.machine.specs.declared.turn.Turn.{Turn}
 use Rattle.machine.specs.declared.turn.Turn.TheVariants.{Visited, Finished}
 use Rattle.machine.specs.Scripts.{scripts_of}
-use Rattle.machine.specs.Stands.{IsWalking, setting_in}
+use Rattle.machine.specs.Stands.{IsWalking, setting_over}
 
 -- the ticket of the first look of the find under way, if it has looked
 abbrev pub first_ticket : Seeker → List ℕ → Option ℕ
@@ -24,23 +24,24 @@ first_ticket seeker seen =
 pub record IsCaller (input : Contents) (plan : PlanData) (history : History) (actor : ℕ)
     (caller : Caller) : Type 0 where
   pub walk : IsWalking plan
-      (caller_in (setting_in input plan) (scripts_of input) history actor).calls
-      (caller_in (setting_in input plan) (scripts_of input) history actor).stage caller.walk
+      (caller_in (setting_over input plan) (scripts_of input) history actor).calls
+      (caller_in (setting_over input plan) (scripts_of input) history actor).stage caller.walk
   pub first : caller.first
-      ≡ first_ticket (caller_in (setting_in input plan) (scripts_of input) history actor)
+      ≡ first_ticket (caller_in (setting_over input plan) (scripts_of input) history actor)
       (tickets actor history)
   pub lines : caller.lines.items
-      ≡ caller_lines (setting_in input plan) (scripts_of input) history actor
-  pub left : (caller_in (setting_in input plan) (scripts_of input) history actor).calls
-      ≡ drop (length caller.lines.items) (finds_of (setting_in input plan) (scripts_of input) actor)
-  pub room : length (finds_of (setting_in input plan) (scripts_of input) actor)
+      ≡ caller_lines (setting_over input plan) (scripts_of input) history actor
+  pub left : (caller_in (setting_over input plan) (scripts_of input) history actor).calls
+      ≡ drop (length caller.lines.items)
+      (finds_of (setting_over input plan) (scripts_of input) actor)
+  pub room : length (finds_of (setting_over input plan) (scripts_of input) actor)
       ≤ vec_capacity caller.lines
 
 -- a turn makes its next look, or none is left and nothing changes
 abbrev pub HasLooked : Contents → PlanData → History → ℕ → Caller → Caller → Turn → Type 0
 HasLooked input plan history actor old new Finished =
-    (next (setting_in input plan) (scripts_of input) history actor ≡ None) × (new ≡ old)
+    (next (setting_over input plan) (scripts_of input) history actor ≡ None) × (new ≡ old)
 HasLooked input plan history actor old new Visited =
-    (key : Key) × (next (setting_in input plan) (scripts_of input) history actor
+    (key : Key) × (next (setting_over input plan) (scripts_of input) history actor
     ≡ Some (look_by actor key))
     × IsCaller input plan (history ++ look_by actor key ∷ []) actor new

@@ -3,3 +3,4 @@ pub mod Stands
 pub mod Callers
 pub mod Subscribers
 pub mod Machines
+pub mod InputLaws

@@ -22,22 +22,24 @@ use Rattle.machine.specs.declared.subscriber.Subscriber.{Subscriber}
 use Rattle.machine.specs.declared.turn.Turn.{Turn}
 use Rattle.machine.specs.declared.turn.Turn.TheVariants.{Visited, Finished}
 use Rattle.machine.specs.Scripts.{most_visits, scripts_of}
-use Rattle.machine.specs.Stands.{BelongTogether, Sees, setting_in}
+use Rattle.machine.specs.Stands.{BelongTogether, Sees, setting_over}
 use Rattle.machine.specs.Callers.{IsCaller}
 use Rattle.machine.specs.Subscribers.{IsSubscriber}
 
--- the input of a machine, its setting and its scripts
+-- the input of a machine
 abbrev pub input_at : Machine → Contents
 input_at machine = seen_input machine.input.now
 
+-- the setting of a machine
 abbrev pub setting_at : Machine → Setting
-setting_at machine = setting_in (input_at machine) machine.plan.now
+setting_at machine = setting_over (input_at machine) machine.plan.now
 
+-- the scripts of a machine
 abbrev pub scripts_at : Machine → Scripts
 scripts_at machine = scripts_of (input_at machine)
 
 -- a machine stands for a history
-pub record StandsFor (machine : Machine) (history : History) : Type 0 where
+pub record HasHistory (machine : Machine) (history : History) : Type 0 where
   pub together : BelongTogether (input_at machine) machine.plan.now machine.distances.now
   pub sees : Sees (input_at machine) machine.plan.now machine.cells history
   pub order : machine.order.items ≡ map (λ visit. visit.actor) history
@@ -59,11 +61,11 @@ pub record StandsFor (machine : Machine) (history : History) : Type 0 where
 -- for
 abbrev pub HasTurned : Machine → Machine → History → ℕ → Turn → Type 0
 HasTurned old new history actor Finished =
-    (next (setting_at old) (scripts_at old) history actor ≡ None) × StandsFor new history
+    (next (setting_at old) (scripts_at old) history actor ≡ None) × HasHistory new history
     × (new.cells ≡ old.cells) × (new.order ≡ old.order)
 HasTurned old new history actor Visited =
     (visit : Visit) × (next (setting_at old) (scripts_at old) history actor ≡ Some visit)
-    × StandsFor new (history ++ visit ∷ [])
+    × HasHistory new (history ++ visit ∷ [])
 
 -- a machine keeps its input, its plan and its distances
 abbrev pub IsSame : Machine → Machine → Type 0
@@ -84,18 +86,18 @@ TellRisingNumbers calls =
     → TellsNumber other sub q later → earlier ≤ later → p ≤ q
 
 -- the actor of a line
-abbrev pub actor_of : Done → ℕ
-actor_of (Moved actor number from to weight first commit last) = actor
-actor_of (Switched actor off node number ticket) = actor
-actor_of (FoundBy actor from sub node number level weight first last) = actor
-actor_of (OffBy actor from sub node number level weight first last) = actor
-actor_of (AgainBy actor from sub why weight first last) = actor
+abbrev pub line_actor : Done → ℕ
+line_actor (Moved actor number from to weight first commit last) = actor
+line_actor (Switched actor off node number ticket) = actor
+line_actor (FoundBy actor from sub node number level weight first last) = actor
+line_actor (OffBy actor from sub node number level weight first last) = actor
+line_actor (AgainBy actor from sub why weight first last) = actor
 
 -- of two lines of an actor that tell numbers, the one that comes later has no earlier last visit,
 -- so that along one actor's finds of a subscriber the numbers never fall
 abbrev pub TellInTurn : List Done → Type 0
 TellInTurn calls =
     (i j : ℕ) (one other : Done) → i ≤ j → slice_get calls i ≡ Some one
-    → slice_get calls j ≡ Some other → actor_of one ≡ actor_of other
+    → slice_get calls j ≡ Some other → line_actor one ≡ line_actor other
     → (sub s p q earlier later : ℕ) → TellsNumber one sub p earlier → TellsNumber other s q later
     → earlier ≤ later

@@ -33,15 +33,17 @@ scripts_of input =
       finds = map (map find_of) (drop (length input.homes) input.scripts);
     }
 
--- no call has a visit more than these, and no scripts
+-- no call has a visit more than these
 abbrev pub most_of : Setting → Call → ℕ
 most_of setting (calls.Move to) = most_writes setting
 most_of setting (calls.Find from sub) = most_looks setting from
 most_of setting calls.Off = 1
 most_of setting calls.On = 1
 
+-- no script has a visit more than these
 abbrev pub most_in : Setting → List Call → ℕ
 most_in setting script = sum_by (most_of setting) script
 
+-- and no scripts together
 abbrev pub most_visits : Setting → List (List Call) → ℕ
 most_visits setting scripts = sum_by (most_in setting) scripts

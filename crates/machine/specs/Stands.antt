@@ -15,18 +15,19 @@ use Rattle.region_plan.specs.Plan.{PlanData, nodes_of}
 use Rattle.region_plan.specs.Settings.{setting_of}
 use Rattle.region_plan.specs.Matched.{IsMatched, IsWithinReach}
 use Rattle.visit_log.specs.Cells.{CellData, GoWith, Hold}
-use Rattle.walk.specs.Walks.{GoesWith, WalkData, call_of, stage_of}
+use Rattle.walk.specs.Walks.{IsWalkOver, WalkData, call_of, stage_of}
 use Rattle.machine.specs.Scripts.{scripts_of}
 
 -- a find begins at one of so many nodes
-abbrev pub IsInside : ℕ → Call → Type 0
-IsInside nodes (calls.Move to) = Unit {0}
-IsInside nodes (calls.Find from sub) = from < nodes
-IsInside nodes calls.Off = Unit {0}
-IsInside nodes calls.On = Unit {0}
+abbrev pub BeginsInside : ℕ → Call → Type 0
+BeginsInside nodes (calls.Move to) = Unit {0}
+BeginsInside nodes (calls.Find from sub) = from < nodes
+BeginsInside nodes calls.Off = Unit {0}
+BeginsInside nodes calls.On = Unit {0}
 
-abbrev pub AreInside : ℕ → List Call → Type 0
-AreInside nodes script = All (IsInside nodes) script
+-- all finds of a script do
+abbrev pub BeginInside : ℕ → List Call → Type 0
+BeginInside nodes script = All (BeginsInside nodes) script
 
 -- the input is valid, and the plan is one of its nodes, with these distances
 pub record BelongTogether (input : Contents) (plan : PlanData)
@@ -38,13 +39,13 @@ pub record BelongTogether (input : Contents) (plan : PlanData)
   pub reached : IsWithinReach plan
 
 -- the setting of an input and a plan
-abbrev pub setting_in : Contents → PlanData → Setting
-setting_in input plan = setting_of plan input.homes
+abbrev pub setting_over : Contents → PlanData → Setting
+setting_over input plan = setting_of plan input.homes
 
 -- each visit of a history was its actor's next one, and cells hold what the history leaves
 pub record Sees (input : Contents) (plan : PlanData) (cells : CellData)
     (history : History) : Type 0 where
-  pub played : IsPlayed (setting_in input plan) (scripts_of input) history
+  pub played : IsPlayed (setting_over input plan) (scripts_of input) history
   pub goes : GoWith plan cells
   pub hold : Hold plan input.homes cells history
 
@@ -54,5 +55,5 @@ IsWalking plan [] stage None = Unit {0}
 IsWalking plan [] stage (Some walk) = ⊥
 IsWalking plan (call ∷ later) stage None = ⊥
 IsWalking plan (call ∷ later) stage (Some walk) =
-    (call_of walk ≡ call) × (stage_of plan walk ≡ stage) × GoesWith plan walk
+    (call_of walk ≡ call) × (stage_of plan walk ≡ stage) × IsWalkOver plan walk
     × (answer_of stage ≡ None)

@@ -23,13 +23,13 @@ use Rattle.net_reader.specs.Input.{Contents}
 use Rattle.region_plan.specs.Plan.{PlanData, nodes_of}
 use Rattle.region_plan.specs.Settings.{setting_of}
 use Rattle.handset.specs.Kept.{GoesWith, HandsetData}
-use Rattle.handset.specs.Stands.{StandsFor}
+use Rattle.handset.specs.Stands.{StandsForSteps}
 use Rattle.visit_log.specs.Cells.{CellData, GoWith, Hold}
 use Rattle.machine.specs.declared.subscriber.Subscriber.{Subscriber}
 use Rattle.machine.specs.declared.turn.Turn.{Turn}
 use Rattle.machine.specs.declared.turn.Turn.TheVariants.{Visited, Finished}
 use Rattle.machine.specs.Scripts.{scripts_of}
-use Rattle.machine.specs.Stands.{setting_in}
+use Rattle.machine.specs.Stands.{setting_over, Sees}
 
 -- whether a mark says that its subscriber is gone
 abbrev pub says_gone : PresenceMark → Bool
@@ -85,19 +85,19 @@ begun_steps input sub subscriber =
 -- a subscriber is as far as a history says
 pub record IsSubscriber (input : Contents) (plan : PlanData) (history : History) (sub : ℕ)
     (subscriber : Subscriber) : Type 0 where
-  pub handset : StandsFor (setting_in input plan) subscriber.handset
+  pub handset : StandsForSteps (setting_over input plan) subscriber.handset
       (begun_steps input sub subscriber) (length (own sub history))
   pub goes : GoesWith plan subscriber.handset
   pub its : subscriber.handset.sub ≡ sub
   pub lines : subscriber.lines.items
-      ≡ step_lines (setting_in input plan) sub (course_at (start (setting_in input plan) sub))
+      ≡ step_lines (setting_over input plan) sub (course_at (start (setting_over input plan) sub))
       (begun_steps input sub subscriber) (tickets sub history)
   pub few : length subscriber.lines.items ≤ length (steps_of (scripts_of input) sub)
   -- the step under way has made a visit
   pub under : (before : List Step) (step : Step)
       → begun_steps input sub subscriber ≡ before ++ step ∷ []
-      → length (writes (setting_in input plan)
-      (course_at (start (setting_in input plan) sub)) before)
+      → length (writes (setting_over input plan)
+      (course_at (start (setting_over input plan) sub)) before)
       < length (own sub history)
   pub room : length (steps_of (scripts_of input) sub) ≤ vec_capacity subscriber.lines
 
@@ -105,9 +105,24 @@ pub record IsSubscriber (input : Contents) (plan : PlanData) (history : History)
 abbrev pub HasWritten : Contents → PlanData → History → ℕ → Subscriber → Subscriber → CellData
     → CellData → Turn → Type 0
 HasWritten input plan history sub old new cells after Finished =
-    (next (setting_in input plan) (scripts_of input) history sub ≡ None) × (new ≡ old)
+    (next (setting_over input plan) (scripts_of input) history sub ≡ None) × (new ≡ old)
     × (after ≡ cells)
 HasWritten input plan history sub old new cells after Visited =
-    (visit : Visit) × (next (setting_in input plan) (scripts_of input) history sub ≡ Some visit)
+    (visit : Visit) × (next (setting_over input plan) (scripts_of input) history sub ≡ Some visit)
     × IsSubscriber input plan (history ++ visit ∷ []) sub new × GoWith plan after
     × Hold plan input.homes after (history ++ visit ∷ [])
+
+-- a subscriber has its turn with a ticket: it is as far as some history of so many visits says,
+-- which the cells hold
+abbrev pub MayTakeTurn : Contents → PlanData → CellData → ℕ → ℕ → Subscriber → Type 0
+MayTakeTurn input plan cells ticket sub subscriber =
+    (history : History) × Sees input plan cells history × (length history ≡ ticket)
+    × IsSubscriber input plan history sub subscriber
+
+-- it takes its turn, whichever history that is
+abbrev pub TakesTurn : Contents → PlanData → ℕ → ℕ → Subscriber → Subscriber → CellData → CellData
+    → Turn → Type 0
+TakesTurn input plan ticket sub old new cells after turn =
+    (history : History) → Sees input plan cells history → length history ≡ ticket
+    → IsSubscriber input plan history sub old
+    → HasWritten input plan history sub old new cells after turn

@@ -7,7 +7,7 @@ ghost use Rattle.net_reader.specs.Seen.{seen_input};
 ghost use Rattle.net_reader.specs.Valid.{count_calls};
 ghost use Rattle.trail_laws.specs.Lines.{IsRightLine};
 ghost use Rattle.machine.specs.Callers.{IsCaller};
-ghost use Rattle.machine.specs.Machines.{HasTurned, IsSame, StandsFor, TellInTurn, TellRisingNumbers, result_of, scripts_at, setting_at};
+ghost use Rattle.machine.specs.Machines.{HasTurned, IsSame, HasHistory, TellInTurn, TellRisingNumbers, result_of, scripts_at, setting_at};
 ghost use Rattle.machine.specs.Stands.{BelongTogether};
 ghost use Rattle.machine.specs.Subscribers.{IsSubscriber};
 ghost use Rattle.machine.specs.declared.caller.Caller.{Caller};
@@ -65,7 +65,7 @@ impl<'a> Machine<'a> {
         ensures made { IfOk result
             (λ machine. (machine.input.now ≡ input.now) × (machine.plan.now ≡ plan.now)
             × (machine.distances.now ≡ distances.now)) }
-        ensures stands { IfOk result (λ machine. StandsFor machine []) }
+        ensures stands { IfOk result (λ machine. HasHistory machine []) }
     {
         let cells = PlainCells::new(alloc, plan, &input.homes)?;
         let subscribers = subscribers_of(alloc, input, plan, distances)?;
@@ -87,14 +87,14 @@ impl<'a> Machine<'a> {
     /// An actor's next visit, if it has one left; else nothing changes. An actor that the input
     /// doesn't have has none.
     pub fn turn(&mut self, actor: u32) -> Turn
-        requires stands { (history : History) × StandsFor self.old history }
-        ensures finished { (history : History) → StandsFor self.old history
+        requires stands { (history : History) × HasHistory self.old history }
+        ensures finished { (history : History) → HasHistory self.old history
             → ((result ≡ Finished)
             ↔ (next (setting_at self.old) (scripts_at self.old) history actor ≡ None)) }
         ensures still { result ≡ Finished
             → (self.new.cells ≡ self.old.cells) × (self.new.order ≡ self.old.order) }
-        ensures stands { (history : History) → StandsFor self.old history
-            → StandsFor self.new
+        ensures stands { (history : History) → HasHistory self.old history
+            → HasHistory self.new
             (after_turn (setting_at self.old) (scripts_at self.old) history actor) }
         ensures same { IsSame self.old self.new }
     {
@@ -103,13 +103,13 @@ impl<'a> Machine<'a> {
 
     /// The visits that are left, actor by actor. It takes no memory.
     pub fn finish(&mut self)
-        requires stands { (history : History) × StandsFor self.old history }
-        ensures stands { (history : History) → StandsFor self.old history → StandsFor self.new
+        requires stands { (history : History) × HasHistory self.old history }
+        ensures stands { (history : History) → HasHistory self.old history → HasHistory self.new
             (after_turns (setting_at self.old) (scripts_at self.old) history
             (last_turns (setting_at self.old) (scripts_at self.old))) }
         ensures order { (order : List ℕ)
-            → StandsFor self.old (after_turns (setting_at self.old) (scripts_at self.old) [] order)
-            → StandsFor self.new (history_of (setting_at self.old) (scripts_at self.old) order) }
+            → HasHistory self.old (after_turns (setting_at self.old) (scripts_at self.old) [] order)
+            → HasHistory self.new (history_of (setting_at self.old) (scripts_at self.old) order) }
         ensures same { IsSame self.old self.new }
     {
         'actors: for actor in 0..self.input.scripts.len() as u32 {
@@ -119,19 +119,19 @@ impl<'a> Machine<'a> {
 
     /// What became of all calls, once no actor has a visit left. It takes no memory.
     pub fn outcome(self) -> Outcome
-        requires stands { (history : History) × StandsFor self history
+        requires stands { (history : History) × HasHistory self history
             × ((actor : ℕ) → IsDone (setting_at self) (scripts_at self) history actor) }
-        ensures result { (history : History) → StandsFor self.entry history
+        ensures result { (history : History) → HasHistory self.entry history
             → ((actor : ℕ) → IsDone (setting_at self.entry) (scripts_at self.entry) history actor)
             → result_of result
             ≡ outcome_in (setting_at self.entry) (scripts_at self.entry) history }
-        ensures right { (history : History) → StandsFor self.entry history
+        ensures right { (history : History) → HasHistory self.entry history
             → ((actor : ℕ) → IsDone (setting_at self.entry) (scripts_at self.entry) history actor)
             → All (IsRightLine (setting_at self.entry) history) (result_of result).calls }
-        ensures numbers { (history : History) → StandsFor self.entry history
+        ensures numbers { (history : History) → HasHistory self.entry history
             → ((actor : ℕ) → IsDone (setting_at self.entry) (scripts_at self.entry) history actor)
             → TellRisingNumbers (result_of result).calls }
-        ensures in_turn { (history : History) → StandsFor self.entry history
+        ensures in_turn { (history : History) → HasHistory self.entry history
             → ((actor : ℕ) → IsDone (setting_at self.entry) (scripts_at self.entry) history actor)
             → TellInTurn (result_of result).calls }
     {
@@ -159,8 +159,8 @@ impl<'a> Machine<'a> {
 
     // The visits that are left of an actor.
     fn finish_actor(&mut self, actor: u32)
-        requires stands { (history : History) × StandsFor self.old history }
-        ensures stands { (history : History) → StandsFor self.old history → StandsFor self.new
+        requires stands { (history : History) × HasHistory self.old history }
+        ensures stands { (history : History) → HasHistory self.old history → HasHistory self.new
             (after_turns (setting_at self.old) (scripts_at self.old) history
             (replicate (most_turns (setting_at self.old) (scripts_at self.old) actor) actor)) }
         ensures same { IsSame self.old self.new }
@@ -172,8 +172,8 @@ impl<'a> Machine<'a> {
 
     // A turn, as the parts make it.
     fn act(&mut self, actor: u32) -> Turn
-        requires stands { (history : History) × StandsFor self.old history }
-        ensures turned { (history : History) → StandsFor self.old history
+        requires stands { (history : History) × HasHistory self.old history }
+        ensures turned { (history : History) → HasHistory self.old history
             → HasTurned self.old self.new history actor result }
         ensures same { IsSame self.old self.new }
     {
@@ -188,9 +188,9 @@ impl<'a> Machine<'a> {
 
     // A subscriber's turn.
     fn write(&mut self, actor: u32) -> Turn
-        requires stands { (history : History) × StandsFor self.old history }
+        requires stands { (history : History) × HasHistory self.old history }
         requires known { actor < length self.old.input.now.homes.items }
-        ensures turned { (history : History) → StandsFor self.old history
+        ensures turned { (history : History) → HasHistory self.old history
             → HasTurned self.old self.new history actor result }
         ensures same { IsSame self.old self.new }
     {
@@ -220,10 +220,10 @@ impl<'a> Machine<'a> {
 
     // A caller's turn.
     fn look(&mut self, actor: u32) -> Turn
-        requires stands { (history : History) × StandsFor self.old history }
+        requires stands { (history : History) × HasHistory self.old history }
         requires high { length self.old.input.now.homes.items ≤ actor }
         requires known { actor < length self.old.input.now.scripts.items }
-        ensures turned { (history : History) → StandsFor self.old history
+        ensures turned { (history : History) → HasHistory self.old history
             → HasTurned self.old self.new history actor result }
         ensures same { IsSame self.old self.new }
     {

@@ -1,7 +1,7 @@
 //! How many visits scripts have at most.
 ghost use Rattle.std.specs.Prelude.{◌≡◌, ◌<◌, All, IfOk, List, ℕ, map};
 ghost use Rattle.machine.specs.Scripts.{most_in, most_of, most_visits};
-ghost use Rattle.machine.specs.Stands.{AreInside, IsInside};
+ghost use Rattle.machine.specs.Stands.{BeginInside, BeginsInside};
 ghost use Rattle.region_plan.specs.Settings.{setting_of};
 ghost use Rattle.region_plan.specs.Plan.{nodes_of};
 
@@ -12,7 +12,7 @@ use std::alloc::AllocError;
 
 // The most visits of a call.
 fn most_of(plan: &Plan, call: Call) -> u64
-    requires inside { IsInside (nodes_of plan.now) call }
+    requires inside { BeginsInside (nodes_of plan.now) call }
     ensures { (starts : List ℕ) → result ≡ most_of (setting_of plan.now starts) call }
 {
     match call {
@@ -24,7 +24,7 @@ fn most_of(plan: &Plan, call: Call) -> u64
 
 // The most visits of a script.
 pub fn most_of_script(plan: &Plan, script: &[Call]) -> Result<u64, OutOfMemory>
-    requires inside { AreInside (nodes_of plan.now) script.now }
+    requires inside { BeginInside (nodes_of plan.now) script.now }
     ensures { IfOk result
         (λ most. (starts : List ℕ) → most ≡ most_in (setting_of plan.now starts) script.now) }
 {
@@ -37,7 +37,7 @@ pub fn most_of_script(plan: &Plan, script: &[Call]) -> Result<u64, OutOfMemory>
 
 // The most visits of all scripts.
 pub fn most_visits(plan: &Plan, scripts: &[Vec<Call>]) -> Result<u64, OutOfMemory>
-    requires inside { All (λ script. AreInside (nodes_of plan.now) script.items) scripts.now }
+    requires inside { All (λ script. BeginInside (nodes_of plan.now) script.items) scripts.now }
     ensures { IfOk result (λ most. (starts : List ℕ) → most
         ≡ most_visits (setting_of plan.now starts) (map (λ script. script.items) scripts.now)) }
 {

@@ -10,11 +10,11 @@ ghost use Rattle.region_plan.specs.Plan.{PlanData, nodes_of};
 ghost use Rattle.region_plan.specs.Settings.{setting_of};
 ghost use Rattle.handset.specs.Kept.{GoesWith};
 ghost use Rattle.handset.specs.Progress.{due};
-ghost use Rattle.handset.specs.Stands.{StandsFor, switch_to};
-ghost use Rattle.visit_log.specs.Cells.{AreHomes, GoWith, Hold};
+ghost use Rattle.handset.specs.Stands.{StandsForSteps, switch_to};
+ghost use Rattle.visit_log.specs.Cells.{HasHomes, GoWith, Hold};
 ghost use Rattle.machine.specs.Scripts.{step_of};
-ghost use Rattle.machine.specs.Stands.{BelongTogether, Sees};
-ghost use Rattle.machine.specs.Subscribers.{HasWritten, IsSubscriber, MayBegin, begun_line, is_commit, line_after};
+ghost use Rattle.machine.specs.Stands.{BelongTogether};
+ghost use Rattle.machine.specs.Subscribers.{MayBegin, begun_line, is_commit, line_after, MayTakeTurn, TakesTurn};
 
 use crate::turn::Turn;
 use directory::{Done, own_after, scripts_in_order, tickets_tell};
@@ -46,7 +46,7 @@ impl Subscriber {
         requires node { home < nodes_of plan.now }
         ensures handset { IfOk result
             (λ subscriber. (starts : List ℕ) → slice_index starts sub ≡ home
-            → StandsFor (setting_of plan.now starts) subscriber.handset [] 0) }
+            → StandsForSteps (setting_of plan.now starts) subscriber.handset [] 0) }
         ensures goes { IfOk result (λ subscriber. GoesWith plan.now subscriber.handset) }
         ensures its { IfOk result (λ subscriber. subscriber.handset.sub ≡ sub) }
         ensures lines { IfOk result (λ subscriber. subscriber.lines.items ≡ []) }
@@ -70,15 +70,10 @@ impl Subscriber {
     ) -> Turn
         requires together { BelongTogether (seen_input input.now) plan.now distances.now }
         requires low { sub < length input.now.homes.items }
-        requires stands { (history : History)
-            × Sees (seen_input input.now) plan.now cells.old history
-            × (length history ≡ ticket)
-            × IsSubscriber (seen_input input.now) plan.now history sub self.old }
-        ensures { (history : History) → Sees (seen_input input.now) plan.now cells.old history
-            → length history ≡ ticket
-            → IsSubscriber (seen_input input.now) plan.now history sub self.old
-            → HasWritten (seen_input input.now) plan.now history sub self.old self.new
-            cells.old cells.new result }
+        requires stands { MayTakeTurn (seen_input input.now) plan.now cells.old ticket sub
+            self.old }
+        ensures { TakesTurn (seen_input input.now) plan.now ticket sub self.old self.new cells.old
+            cells.new result }
     {
         own_after();
         tickets_tell();
@@ -104,15 +99,10 @@ impl Subscriber {
         requires together { BelongTogether (seen_input input.now) plan.now distances.now }
         requires low { sub < length input.now.homes.items }
         requires rests { due (setting_of plan.now []) self.old.handset ≡ None }
-        requires stands { (history : History)
-            × Sees (seen_input input.now) plan.now cells.old history
-            × (length history ≡ ticket)
-            × IsSubscriber (seen_input input.now) plan.now history sub self.old }
-        ensures { (history : History) → Sees (seen_input input.now) plan.now cells.old history
-            → length history ≡ ticket
-            → IsSubscriber (seen_input input.now) plan.now history sub self.old
-            → HasWritten (seen_input input.now) plan.now history sub self.old self.new
-            cells.old cells.new result }
+        requires stands { MayTakeTurn (seen_input input.now) plan.now cells.old ticket sub
+            self.old }
+        ensures { TakesTurn (seen_input input.now) plan.now ticket sub self.old self.new cells.old
+            cells.new result }
     {
         own_after();
         tickets_tell();
@@ -136,19 +126,19 @@ impl Subscriber {
 fn make(handset: &mut Handset, plan: &Plan, cells: &mut PlainCells) -> Option<Visit>
     requires goes { GoesWith plan.now handset.old }
     requires cells { GoWith plan.now cells.old }
-    requires homes { AreHomes plan.now }
+    requires homes { HasHomes plan.now }
     requires known { handset.old.sub < cells.old.subs }
     ensures exact { result ≡ due (setting_of plan.now []) handset.old }
     ensures visit { (starts : List ℕ) (steps : List Step) (made : ℕ)
-        → StandsFor (setting_of plan.now starts) handset.old steps made
+        → StandsForSteps (setting_of plan.now starts) handset.old steps made
         → result ≡ slice_get (visits (setting_of plan.now starts) handset.old.sub steps) made }
     ensures rests { result ≡ None → (handset.new ≡ handset.old) × (cells.new ≡ cells.old) }
     ensures goes { GoesWith plan.now handset.new }
     ensures its { handset.new.sub ≡ handset.old.sub }
     ensures cells { GoWith plan.now cells.new }
     ensures stands { OnSome result ((starts : List ℕ) (steps : List Step) (made : ℕ)
-        → StandsFor (setting_of plan.now starts) handset.old steps made
-        → StandsFor (setting_of plan.now starts) handset.new steps (suc made)) }
+        → StandsForSteps (setting_of plan.now starts) handset.old steps made
+        → StandsForSteps (setting_of plan.now starts) handset.new steps (suc made)) }
     ensures hold { OnSome result ((starts : List ℕ) (history : History)
         → Hold plan.now starts cells.old history
         → (visit : Visit) → result ≡ Some visit
@@ -178,8 +168,9 @@ fn begin_step(
     ensures goes { GoesWith plan.now handset.new }
     ensures its { handset.new.sub ≡ handset.old.sub }
     ensures stands { (starts : List ℕ) (steps : List Step) (made : ℕ)
-        → StandsFor (setting_of plan.now starts) handset.old steps made
-        → StandsFor (setting_of plan.now starts) handset.new (steps ++ step_of call ∷ []) made }
+        → StandsForSteps (setting_of plan.now starts) handset.old steps made
+        → StandsForSteps (setting_of plan.now starts) handset.new (steps ++ step_of call ∷ [])
+        made }
 {
     match call {
         Call::Move { to } => {
@@ -213,8 +204,8 @@ fn switch(handset: &mut Handset, off: bool, ticket: u64) -> Done
     ensures goes { (plan : PlanData) → GoesWith plan handset.old → GoesWith plan handset.new }
     ensures its { handset.new.sub ≡ handset.old.sub }
     ensures stands { (setting : Setting) (steps : List Step) (made : ℕ)
-        → StandsFor setting handset.old steps made
-        → StandsFor setting handset.new (steps ++ switch_to off ∷ []) made }
+        → StandsForSteps setting handset.old steps made
+        → StandsForSteps setting handset.new (steps ++ switch_to off ∷ []) made }
 {
     if handset.switch(off).is_err() {
         unreachable!()

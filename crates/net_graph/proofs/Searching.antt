@@ -14,7 +14,7 @@ use Rattle.net_graph.specs.Network.{Network}
 use Rattle.net_graph.specs.Trees.{at_node, AreLeastWeights}
 use Rattle.net_graph.specs.Layout.{make_arc, IsArc, AreArcsOf}
 use Rattle.net_graph.specs.Least.{IsAtMost}
-use Rattle.net_graph.specs.Queue.{Waiting, make_waiting, AreSettled, IsNext}
+use Rattle.net_graph.specs.Queue.{Waiting, make_waiting, AreSettled, IsNextUnsettled}
 use Rattle.net_graph.specs.Search.{IsRelaxed}
 use Rattle.std.specs.Prelude.{IsPermutation}
 use Rattle.std.proofs.lemmas.List.Sorted.{Contains-permutation, IsPermutation-sym}
@@ -266,7 +266,7 @@ module _ (network : Network) (inside : ℕ → Bool) (root : ℕ) (unsettled : L
 -- the queue's next is the lightest
 module _ (unsettled : List Bool) (weights : List (Option ℕ)) (waiting rest : List Waiting)
     (queue : IsQueue unsettled weights waiting)
-    (best : Candidate) (next : IsNext unsettled waiting rest best) where
+    (best : Candidate) (next : IsNextUnsettled unsettled waiting rest best) where
   pub next_is_lightest : IsLightest unsettled weights best
   next_is_lightest =
       let y = at_most_some (at_node weights best.node) best.weight
@@ -341,7 +341,7 @@ pub record IsUnderWay (network : Network) (inside : ℕ → Bool) (root : ℕ) (
 pub search_settles : (network : Network) (inside : ℕ → Bool) (root : ℕ) (unsettled : List Bool)
     (weights : List (Option ℕ))
     (waiting remaining after : List Waiting) → IsUnderWay network inside root unsettled weights waiting
-    → (best : Candidate) → IsNext unsettled waiting remaining best
+    → (best : Candidate) → IsNextUnsettled unsettled waiting remaining best
     → (arcs : List Arc) → AreArcsOf network.nodes network.edges best.node arcs
     → (new rest : List (Option ℕ)) (k : ℕ)
     → IsRelaxed arcs best.weight (set unsettled best.node false) weights new remaining after → length new ≡ k

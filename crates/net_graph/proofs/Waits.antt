@@ -9,7 +9,7 @@ use Rattle.std.specs.Ordering.{is_lt, nat_cmp, ordering_then}
 use Rattle.std.specs.declared.cmp.Ordering.{Ordering}
 use Rattle.std.proofs.lemmas.Bool.{cases_lt}
 use Rattle.net_graph.specs.Walks.{among}
-use Rattle.net_graph.specs.Queue.{Waiting, make_waiting, lighter_first, AreSettled, IsNext}
+use Rattle.net_graph.specs.Queue.{Waiting, make_waiting, lighter_first, AreSettled, IsNextUnsettled}
 
 -- the unsettled nodes wait still, and no new ones
 pub record StillWait (unsettled : List Bool) (old now : List Waiting) : Type 0 where
@@ -81,7 +81,7 @@ module _ (unsettled : List Bool) (old now rest : List Waiting) (so_far : StillWa
   -- an unsettled node is the next
   pub next_is : (best : Candidate) → best.node ≡ node → best.weight ≡ weight → node < length unsettled
       → among unsettled node ≡ true → IsUpperBound lighter_first (make_waiting weight node) now
-      → IsNext unsettled old rest best
+      → IsNextUnsettled unsettled old rest best
   next_is best node_is weight_is below waits bound = record {
     below = omega (arith, node_is);
     waits = ap (among unsettled) node_is ∙ waits;

@@ -1,5 +1,6 @@
 -- The arcs of each node as a chain: each arc leads to the one that was noted before it at the same
 -- node. These definitions serve the private type `Chains`, from which a graph's rows are made.
+-- Key law: `chains_of` makes a chain for each node, of all its arcs to others (`AreChains`).
 use Rattle.std.specs.Prelude.{◌≡◌, ◌≢◌, ◌↔◌, ℕ, ◌<◌, List, [], ◌∷◌, Option, None, Some, Contains, length, slice_index_or}
 use Rattle.net_graph.specs.declared.edge.Edge.{Edge}
 use Rattle.net_graph.specs.declared.neighbours.Arc.{Arc}

@@ -1,4 +1,5 @@
 -- When a list of edges gives no graph.
+-- Key law: `Graph::new` gives no other fault.
 use Rattle.std.specs.Prelude.{ℕ, List, ⊤}
 use Rattle.net_graph.specs.declared.edge.Edge.{Edge}
 use Rattle.net_graph.specs.declared.fault.GraphFault.{GraphFault}

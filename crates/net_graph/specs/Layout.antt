@@ -1,6 +1,7 @@
 -- How a network lies in memory: each node's arcs stand in one row of a flat array, and `starts`
 -- says where each row begins. These definitions serve the private type `Neighbours`; clauses of
 -- `Graph` see a `Network` alone.
+-- Key law: `Graph::arcs_of` gives the arcs of a node (`AreArcsOf`).
 use Rattle.std.specs.Prelude.{◌≡◌, ℕ, zero, suc, ◌+◌, ◌<◌, ◌≤◌, List, [], ◌++◌, length, map, Contains, All, slice_index_or, slice_range}
 use Rattle.net_graph.specs.declared.edge.Edge.{Edge}
 use Rattle.net_graph.specs.declared.edge.TheConstants.{MAX_NODES, MAX_WEIGHT}

@@ -1,4 +1,5 @@
 -- Numbers that may be missing.
+-- Key law: `lower` leaves the lesser of a number that may be missing and another (`lesser_of`).
 use Rattle.std.specs.Prelude.{ℕ, ◌≤◌, Option, None, Some, min}
 
 -- there is a number, and it is at most this

@@ -1,4 +1,5 @@
 -- What the private functions on parents find.
+-- Key law: `parents_in` finds the least neighbours that make up the weights (`AreLeastNeighbours`).
 use Rattle.std.specs.Prelude.{◌≡◌, ℕ, ◌+◌, ◌<◌, List, Option, Some, length, Contains}
 use Rattle.net_graph.specs.declared.edge.Edge.{Edge}
 use Rattle.net_graph.specs.declared.neighbours.Arc.{Arc}

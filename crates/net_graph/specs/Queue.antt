@@ -1,4 +1,5 @@
 -- Nodes that wait to be settled, each with the weight at which it was reached, the lightest first.
+-- Key law: `next_unsettled` takes the lightest that waits and isn't settled (`IsNextUnsettled`).
 use Rattle.std.specs.Prelude.{◌≡◌, ◌≢◌, ℕ, ◌<◌, ◌≤◌, Bool, true, List, Contains, length}
 use Rattle.std.specs.Ordering.{nat_cmp, ordering_then}
 use Rattle.std.specs.declared.cmp.Ordering.{Ordering}
@@ -25,7 +26,8 @@ AreSettled unsettled waiting = (w v : ℕ) → Contains waiting (make_waiting w 
 
 -- the best is the lightest unsettled one of those that waited; the other unsettled ones wait still,
 -- and no new ones
-pub record IsNext (unsettled : List Bool) (old new : List Waiting) (best : Candidate) : Type 0 where
+pub record IsNextUnsettled (unsettled : List Bool) (old new : List Waiting) (best : Candidate) :
+    Type 0 where
   pub below : best.node < length unsettled
   pub waits : among unsettled best.node ≡ true
   pub there : Contains old (make_waiting best.weight best.node)

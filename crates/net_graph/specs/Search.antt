@@ -1,5 +1,6 @@
 -- Steps of the search for least walks, on the list of the weights found so far and on the nodes
 -- that wait.
+-- Key law: `relax` takes one step of the search (`IsRelaxed`).
 use Rattle.std.specs.Prelude.{◌≡◌, ◌⊎◌, ℕ, ◌+◌, ◌<◌, Bool, true, false, List, Option, Some, Contains, length}
 use Rattle.net_graph.specs.declared.neighbours.Arc.{Arc}
 use Rattle.net_graph.specs.Walks.{among}

@@ -1,5 +1,7 @@
 -- A tree of least walks: the least weight of a walk from the root to each node inside a set, and
 -- each node's parent.
+-- Key laws: `Graph::weights_from` and `Graph::tree_from` give the least weights
+-- (`AreLeastWeights`), and the tree the parents (`AreParents`).
 use Rattle.std.specs.Prelude.{◌≡◌, ◌≢◌, ℕ, ◌+◌, ◌-◌, ◌*◌, ◌<◌, ◌≤◌, Bool, List, Option, None, Some, length, slice_index, slice_index_or}
 use Rattle.net_graph.specs.declared.edge.Edge.{Edge}
 use Rattle.net_graph.specs.declared.edge.TheConstants.{MAX_WEIGHT}

@@ -1,5 +1,5 @@
--- Laws of walks, of their weights and of least weights, for proofs over networks. The laws in words
--- are public functions of `laws`: `least_weight_is_one`, `least_weight_turned`,
+-- Laws of walks, of their weights and of least weights, for proofs over networks. Key laws,
+-- in words public functions of `laws`: `least_weight_is_one`, `least_weight_turned`,
 -- `least_weights_add_up`, `reached_has_a_least_weight`.
 use Rattle.std.proofs.Common.{◌≡◌, ◌≢◌, ℕ, ◌+◌, ◌<◌, ◌≤◌, Bool, true, false, List, [], ◌∷◌, ◌++◌, length, refl, sym, ◌∙◌, subst, inl, inr, arith}
 use Rattle.std.specs.Prelude.{All, ◌↔◌}

@@ -3,7 +3,7 @@
 ghost use Rattle.std.specs.Prelude.{◌≡◌, ◌<◌, ℕ, [], ◌∷◌, Contains, IfNone, IfSome, IsPermutation, OnOk, length};
 ghost use Rattle.std.specs.BinaryHeap.{IsHeap, heap_items};
 ghost use Rattle.std.proofs.Props.{props};
-ghost use Rattle.net_graph.specs.Queue.{AreSettled, IsNext, lighter_first, make_waiting};
+ghost use Rattle.net_graph.specs.Queue.{AreSettled, IsNextUnsettled, lighter_first, make_waiting};
 
 use std::alloc::{AllocError, Global};
 use std::cmp::Reverse;
@@ -49,7 +49,7 @@ impl Queue {
         requires { (w v : ℕ) → Contains (heap_items self.old.heap) (make_waiting w v)
             → v < length unsettled.now }
         ensures next { IfSome result
-            (IsNext unsettled.now (heap_items self.old.heap) (heap_items self.new.heap)) }
+            (IsNextUnsettled unsettled.now (heap_items self.old.heap) (heap_items self.new.heap)) }
         ensures none { IfNone result (AreSettled unsettled.now (heap_items self.old.heap)) }
     {
         while let Some(Reverse((weight, node))) = self.heap.pop() {

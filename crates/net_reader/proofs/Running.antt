@@ -9,7 +9,8 @@ use Rattle.net_reader.specs.declared.line.Open.TheVariants as opens
 use Rattle.net_reader.specs.Lines.{is_blank}
 use Rattle.net_reader.specs.Steps.{IsRun, LineState, close, close_as, is_inside, is_plain, keep, more, pack, put}
 
-and-left : (a b : Bool) → (a && b) ≡ true → (a ≡ true) × (b ≡ true)
+-- both are true
+pub and-left : (a b : Bool) → (a && b) ≡ true → (a ≡ true) × (b ≡ true)
 and-left true b e = (refl, e)
 and-left false b e = cc
 

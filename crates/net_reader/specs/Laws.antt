@@ -1,4 +1,5 @@
 -- The laws of what texts say, as named statements.
+-- Key laws: `text_says_one` (`TextSaysOne`), `inputs_are_valid` (`InputsAreValid`).
 use Rattle.std.specs.Prelude.{◌≡◌, ℕ, List, Result, Ok}
 use Rattle.net_reader.specs.declared.fault.InputFault.{InputFault}
 use Rattle.net_reader.specs.Input.{Contents, IsInput}

@@ -1,4 +1,5 @@
 -- What the code keeps, as the steps see it.
+-- Key law: `Scan::read` takes what it keeps from byte to byte as the steps do.
 use Rattle.std.specs.Prelude.{◌≡◌, ℕ, ◌<◌, ◌≤◌, Bool, false, List, length, map, Option, Some, None, Result, Ok, Err, slice_index, slice_index_or}
 use Rattle.net_graph.specs.Network.{IsGraphOf, Network}
 use Rattle.net_reader.specs.declared.fault.InputCause.{InputCause}
@@ -20,6 +21,7 @@ use Rattle.net_reader.specs.Steps.{LineState, ReaderState, number_of_place}
 abbrev pub seen_line : Line → LineState
 seen_line line = record { open_field = line.field; word = line.word; numbers = line.numbers.items }
 
+-- what was said, as the code keeps it
 abbrev pub seen_known : Known → Said
 seen_known known =
     record {
@@ -48,14 +50,14 @@ pub record Stands (homes : List ℕ) (calls : List Spoken) (places : List ℕ)
   pub no_switches : (s : ℕ) → length homes ≤ s → off_after false (script_of s calls) ≡ false
 
 -- what is kept is within limits, and places and states go with the calls
-pub record IsKept (known : Known) : Type 0 where
+pub record KeepsLimits (known : Known) : Type 0 where
   pub few : length known.homes.items ≤ 64
   pub few_callers : known.callers ≤ 64
   pub stands : Stands known.homes.items known.calls.items known.places.items known.off.items
 
 -- what the code made of a line is what the table says, unless memory ran out
 abbrev pub Judges : Result (Unit {0}) Stop → Known → Result Said InputCause → Type 0
-Judges (Ok done) known verdict = (verdict ≡ Ok (seen_known known)) × IsKept known
+Judges (Ok done) known verdict = (verdict ≡ Ok (seen_known known)) × KeepsLimits known
 Judges (Err (stops.Fault cause)) known verdict = verdict ≡ Err cause
 Judges (Err stops.Memory) known verdict = Unit {0}
 
@@ -64,6 +66,7 @@ abbrev pub said_or_fault : Option InputFault → Said → Result Said InputFault
 said_or_fault None said = Ok said
 said_or_fault (Some fault) said = Err fault
 
+-- the state of a reader, as the code keeps it
 abbrev pub seen_scan : Scan → ReaderState
 seen_scan scan =
     record {
@@ -76,15 +79,16 @@ seen_scan scan =
 
 -- what is kept is sound unless there is a fault
 abbrev pub IsWell : Option InputFault → Known → Type 0
-IsWell None known = IsKept known
+IsWell None known = KeepsLimits known
 IsWell (Some fault) known = Unit {0}
 
 -- what the code answers is what was said or the first fault, unless memory ran out
 abbrev pub Finishes : Result (Known × ℕ) ReadRefusal → Result (Said × ℕ) InputFault → Type 0
-Finishes (Ok found) read = (read ≡ Ok (seen_known found.0, found.1)) × IsKept found.0
+Finishes (Ok found) read = (read ≡ Ok (seen_known found.0, found.1)) × KeepsLimits found.0
 Finishes (Err (refusals.Fault fault)) read = read ≡ Err fault
 Finishes (Err refusals.OutOfMemory) read = Unit {0}
 
+-- the contents of an input
 abbrev pub seen_input : Input → Contents
 seen_input input =
     record {

@@ -1,4 +1,5 @@
 -- What is read has the nodes and edges of a network, connected or not.
+-- Key law: `Reader::end` makes an input of such alone, so that it has a graph.
 use Rattle.std.specs.Prelude.{◌≤◌, All}
 use Rattle.net_graph.specs.Network.{IsEdge}
 use Rattle.net_reader.specs.Said.{Said}

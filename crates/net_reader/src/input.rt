@@ -2,7 +2,7 @@
 ghost use Rattle.std.specs.Prelude.{◌≡◌, [], map, IfOk, Ok};
 ghost use Rattle.net_reader.specs.Said.{script_of};
 ghost use Rattle.net_reader.specs.Input.{numbers_from};
-ghost use Rattle.net_reader.specs.Seen.{seen_known, IsKept, Answers};
+ghost use Rattle.net_reader.specs.Seen.{seen_known, KeepsLimits, Answers};
 ghost use Rattle.net_reader.specs.Sound.{IsSound};
 
 use crate::fault::{InputCause, InputFault, ReadRefusal};
@@ -53,7 +53,7 @@ fn scripts_of(alloc: Global, actors: u32, calls: &[Spoken]) -> Result<Vec<Vec<Ca
 
 // The input that was read and the graph of its network, where each node has a walk from node 0.
 pub(crate) fn answer(alloc: Global, known: Known, lines: u32) -> Result<(Input, Graph), ReadRefusal>
-    requires kept { IsKept known }
+    requires kept { KeepsLimits known }
     requires sound { IsSound (seen_known known) }
     ensures { Answers result (Ok (seen_known known, lines)) }
 {

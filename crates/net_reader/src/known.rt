@@ -4,7 +4,7 @@ ghost use Rattle.std.specs.List.{list_any};
 ghost use Rattle.net_reader.specs.Table.{judge_word, row_of, verdict, track_row, nodes_row, k_row, edge_row, sub_row, callers_row, move_row, find_row, switch_row, order_row, most_calls, most_nodes};
 ghost use Rattle.net_reader.specs.Said.{nothing};
 ghost use Rattle.net_reader.specs.Steps.{word_in};
-ghost use Rattle.net_reader.specs.Seen.{seen_known, IsKept, Judges};
+ghost use Rattle.net_reader.specs.Seen.{seen_known, KeepsLimits, Judges};
 
 use crate::fault::InputCause;
 use crate::said::{Call, Spoken};
@@ -69,7 +69,7 @@ fn push_known(order: &mut Vec<u32>, limit: u64, numbers: &[u64]) -> Result<bool,
 impl Known {
     pub(crate) fn new(alloc: Global) -> Known
         ensures nothing { seen_known result ≡ nothing }
-        ensures kept { IsKept result }
+        ensures kept { KeepsLimits result }
     {
         Known {
             place: Place::Start,
@@ -87,7 +87,7 @@ impl Known {
     }
 
     fn track(&mut self, numbers: &[u64]) -> Result<(), Stop>
-        requires { IsKept self.old }
+        requires { KeepsLimits self.old }
         ensures { Judges result self.new (verdict (track_row (seen_known self.old) numbers.now)) }
     {
         let &[format] = numbers else {
@@ -102,7 +102,7 @@ impl Known {
     }
 
     fn nodes(&mut self, numbers: &[u64]) -> Result<(), Stop>
-        requires { IsKept self.old }
+        requires { KeepsLimits self.old }
         ensures { Judges result self.new (verdict (nodes_row (seen_known self.old) numbers.now)) }
     {
         let &[nodes] = numbers else {
@@ -120,7 +120,7 @@ impl Known {
     }
 
     fn edge(&mut self, numbers: &[u64]) -> Result<(), Stop>
-        requires { IsKept self.old }
+        requires { KeepsLimits self.old }
         ensures { Judges result self.new (verdict (edge_row (seen_known self.old) numbers.now)) }
     {
         let &[a, b, weight] = numbers else {
@@ -146,7 +146,7 @@ impl Known {
     }
 
     fn k(&mut self, numbers: &[u64]) -> Result<(), Stop>
-        requires { IsKept self.old }
+        requires { KeepsLimits self.old }
         ensures { Judges result self.new (verdict (k_row (seen_known self.old) numbers.now)) }
     {
         let &[k] = numbers else {
@@ -164,7 +164,7 @@ impl Known {
     }
 
     fn sub(&mut self, numbers: &[u64]) -> Result<(), Stop>
-        requires { IsKept self.old }
+        requires { KeepsLimits self.old }
         ensures { Judges result self.new (verdict (sub_row (seen_known self.old) numbers.now)) }
     {
         let &[node] = numbers else {
@@ -185,7 +185,7 @@ impl Known {
     }
 
     fn callers(&mut self, numbers: &[u64]) -> Result<(), Stop>
-        requires { IsKept self.old }
+        requires { KeepsLimits self.old }
         ensures { Judges result self.new (verdict (callers_row (seen_known self.old) numbers.now)) }
     {
         let &[callers] = numbers else {
@@ -206,7 +206,7 @@ impl Known {
     }
 
     fn move_to(&mut self, numbers: &[u64]) -> Result<(), Stop>
-        requires { IsKept self.old }
+        requires { KeepsLimits self.old }
         ensures { Judges result self.new (verdict (move_row (seen_known self.old) numbers.now)) }
     {
         let &[sub, to] = numbers else {
@@ -235,7 +235,7 @@ impl Known {
     }
 
     fn find(&mut self, numbers: &[u64]) -> Result<(), Stop>
-        requires { IsKept self.old }
+        requires { KeepsLimits self.old }
         ensures { Judges result self.new (verdict (find_row (seen_known self.old) numbers.now)) }
     {
         let &[caller, from, sub] = numbers else {
@@ -260,7 +260,7 @@ impl Known {
 
     // What the line says of a subscriber that switches off, or on.
     fn switch(&mut self, off: bool, numbers: &[u64]) -> Result<(), Stop>
-        requires { IsKept self.old }
+        requires { KeepsLimits self.old }
         ensures { Judges result self.new
             (verdict (switch_row off (seen_known self.old) numbers.now)) }
     {
@@ -288,7 +288,7 @@ impl Known {
     }
 
     fn order(&mut self, numbers: &[u64]) -> Result<(), Stop>
-        requires { IsKept self.old }
+        requires { KeepsLimits self.old }
         ensures { Judges result self.new (verdict (order_row (seen_known self.old) numbers.now)) }
     {
         if numbers.is_empty() {
@@ -306,7 +306,7 @@ impl Known {
     }
 
     fn row(&mut self, word: Word, numbers: &[u64]) -> Result<(), Stop>
-        requires { IsKept self.old }
+        requires { KeepsLimits self.old }
         ensures { Judges result self.new (verdict (row_of (seen_known self.old) word numbers.now)) }
     {
         match word {
@@ -326,7 +326,7 @@ impl Known {
 
     /// What a line with this word and these numbers says.
     pub(crate) fn hear(&mut self, packed: u64, numbers: &[u64]) -> Result<(), Stop>
-        requires { IsKept self.old }
+        requires { KeepsLimits self.old }
         ensures { Judges result self.new (judge_word (seen_known self.old) (word_in packed) (Some
             numbers.now)) }
     {

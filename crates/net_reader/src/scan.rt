@@ -2,7 +2,7 @@
 //! them.
 ghost use Rattle.std.specs.Prelude.{◌≡◌, ◌<◌, ◌≤◌, ◌+◌, ◌^◌, length, IfOk, OnOk, None, nat_lt, true, if◌then◌else◌};
 ghost use Rattle.net_reader.specs.Steps.{end_line, past_line, release, byte_read, next, after_bytes, end_result, fresh_reader, number_of_place};
-ghost use Rattle.net_reader.specs.Seen.{seen_line, seen_known, seen_scan, IsKept, Finishes, IsWell, Judges};
+ghost use Rattle.net_reader.specs.Seen.{seen_line, seen_known, seen_scan, KeepsLimits, Finishes, IsWell, Judges};
 
 use crate::fault::{InputCause, InputFault, ReadRefusal};
 use crate::known::Known;
@@ -35,7 +35,7 @@ fn release(held: bool, line: &mut Line) -> Result<(), AllocError>
 // What a line says that is at its end.
 #[tactic(auto, unfolding(crate::specs::Steps::end_line))]
 fn end_line(line: &mut Line, known: &mut Known) -> Result<(), Stop>
-    requires { IsKept known.old }
+    requires { KeepsLimits known.old }
     ensures { Judges result known.new (end_line (seen_line line.old) (seen_known known.old)) }
 {
     line.close()?;

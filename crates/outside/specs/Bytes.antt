@@ -1,5 +1,5 @@
 -- Bytes that may be known or not. A source in memory tells the bytes that it has left, and one over
--- a pipe can't: what isn't known stays so, and clauses about it say nothing. Laws:
+-- a pipe can't: what isn't known stays so, and clauses about it say nothing. Key laws:
 -- prepend_known-append, append_known-append, prepend_known-nil.
 use Rattle.std.specs.Prelude.{◌≡◌, List, [], ◌++◌, ℕ, Option, Some, None, refl}
 use Rattle.std.proofs.Common.{sym, ap, append_assoc}

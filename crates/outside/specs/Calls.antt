@@ -1,5 +1,7 @@
 -- What one call of a source or of a sink may answer, and what the count of its faults does. The
 -- largest count is 2^64-1, where it stands still.
+-- Key laws: `Source::read` (`TakesWithin`, `CountsRead`) and `Sink::write` (`GivesWithin`,
+-- `CountsWrite`).
 use Rattle.std.specs.Prelude.{◌≡◌, ◌⊎◌, ℕ, ◌+◌, ◌<◌, ◌≤◌, min}
 use Rattle.outside.specs.declared.source.Took.{Took}
 use Rattle.outside.specs.declared.source.Took.TheVariants.{Got, End}

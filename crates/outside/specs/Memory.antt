@@ -1,6 +1,7 @@
 -- The state of a source and of a sink in memory, as contracts see it, and what one call of each
 -- does: it fails where its number is among those that were named, and else moves as many bytes as
 -- it may.
+-- Key laws: `MemorySource::read` and `MemorySink::write` (`fails`, `takes`, `gives`, `counted`).
 use Rattle.std.specs.Prelude.{ℕ, List}
 
 -- a source with these bytes left, after so many calls

@@ -1,4 +1,6 @@
 -- The pieces of texts: one after another, and numbers behind a blank.
+-- Key laws: those of the texts that are made of them, `plan_text` and `report` of report_text and
+-- `census_text`.
 use Rattle.std.specs.Prelude.{ℕ, List, ◌∷◌, ◌++◌, flat_map}
 use Rattle.std.specs.Fmt.{decimal}
 

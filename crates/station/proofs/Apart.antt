@@ -5,18 +5,11 @@ use Rattle.std.specs.Prelude.{slice_index}
 use Rattle.entry_word.specs.declared.visit.Key.{Key}
 use Rattle.directory.specs.Keys.{key_node}
 use Rattle.directory.specs.Histories.{History}
-use Rattle.region_plan.specs.Plan.{PlanData}
-use Rattle.region_plan.specs.Cells.{IsCell}
-use Rattle.visit_log.specs.Numbers.{cell_number}
+use Rattle.visit_log.specs.Numbers.{cell_number, NumbersApart}
 use Rattle.station.specs.Setup.{Setup, setting_in, nodes_in, subs_in, IsCellOf, lock_word, tally_word, cell_word}
-use Rattle.station.specs.Views.{IsSound}
-use Rattle.station.specs.Rule.{IsKept, IsViewOf}
+use Rattle.station.specs.Views.{IsSoundView}
+use Rattle.station.specs.Rule.{KeepsRule, IsViewOf}
 use Rattle.station.specs.declared.view.View.{View}
-
--- different cells have different numbers
-abbrev pub NumbersApart : Type 0
-NumbersApart = (plan : PlanData) (subs : ℕ) (key other : Key) → IsCell plan subs key → IsCell plan subs other
-    → cell_number plan subs key ≡ cell_number plan subs other → key ≡ other
 
 -- a word of a node: its lock word, its tally word, or the word of a cell that lies there
 pub data IsWordAt (setup : Setup) (node i : ℕ) : Type 0 where
@@ -63,7 +56,7 @@ else_where law setup ws x y i k new inx iny ne a b =
 
 -- two views are never inside one node
 pub one_inside : (setup : Setup) (s : Rattle.atomic_table.specs.Table.State
-    Rattle.entry_word.specs.declared.visit.Act.Act View) (o : IsKept setup s)
+    Rattle.entry_word.specs.declared.visit.Act.Act View) (o : KeepsRule setup s)
     (j k node : ℕ) (v u : View) → IsViewOf s.views j v → IsViewOf s.views k u → v.inside ≡ Some node
     → u.inside ≡ Some node → k ≡ j
 one_inside setup s o j k node v u at at' inv inu =
@@ -76,9 +69,9 @@ one_inside setup s o j k node v u at at' inv inu =
 
 -- what the rule says of a view stays while the words of its node stay
 pub resound : (setup : Setup) (ws new : List ℕ) (history : History) (owner : ℕ → ℕ) (k : ℕ) (u : View)
-    → IsSound setup ws history owner k u
+    → IsSoundView setup ws history owner k u
     → ((node i : ℕ) → u.inside ≡ Some node → IsWordAt setup node i → slice_index new i ≡ slice_index ws i)
-    → IsSound setup new history owner k u
+    → IsSoundView setup new history owner k u
 resound setup ws new history owner k u o same =
     record {
       setup_is = o.setup_is;

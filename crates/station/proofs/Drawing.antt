@@ -15,19 +15,20 @@ use Rattle.directory.specs.Settings.{Setting}
 use Rattle.directory.specs.Keys.{act_node, key_node}
 use Rattle.directory.specs.Histories.{History, cell, changes_here, own}
 use Rattle.station.specs.Setup.{Setup, setting_in}
-use Rattle.station.specs.Views.{IsSound, IsInside, StandsFor, visits_at}
-use Rattle.station.specs.Rule.{IsKept, IsViewOf}
+use Rattle.station.specs.Views.{IsSoundView, IsInsideNode, StandsForActor, visits_at}
+use Rattle.station.specs.Rule.{KeepsRule, IsViewOf}
 use Rattle.station.specs.Plays.{Seat, visit_by, key_put, word_before, view_with_ticket, DrawsTicket}
 use Rattle.station.specs.Visits.{MayDraw}
 use Rattle.station.specs.declared.view.View.{View}
-use Rattle.station.proofs.Fronts.{front-longer, front-itself, own-other, own-mine}
-use Rattle.station.proofs.Staying.{SameKey}
+use Rattle.station.proofs.Fronts.{front-longer, own-other, own-mine}
 use Rattle.station.proofs.Steps.{St, with, owned, seat_below}
-use Rattle.station.proofs.Turning.{written_here, tallied_here, no_key, same_some, some_not_none}
+use Rattle.station.proofs.Turning.{written_here, tallied_here, no_key, some_not_none, same_some}
 use Rattle.station.proofs.Reading.{alone}
 use Rattle.station.proofs.Writing.{still_held}
 use Rattle.station.proofs.Growing.{cell-push, word-unput, census-push, at-push, few_visits, no_wrap}
 use Rattle.station.proofs.Lawful.{legal_more, puts-seen}
+use Rattle.directory.specs.HistoryLaws.{front-itself}
+use Rattle.directory.specs.Statements.{SameKey}
 
 drop_all : (history : History) (visit : Visit) → drop (suc (length history)) (history ++ visit ∷ []) ≡ []
 drop_all [] visit = refl
@@ -50,9 +51,10 @@ put_before setup history (Census node) key e = absurd (no_key key e)
 same_act : (act other : Act) → Some act ≡ Some other → act ≡ other
 same_act act other e = ap (λ (o : Option Act). Rattle.std.specs.Prelude.unwrap_or o act) e
 
-pub grows : SameKey → (s : St) (id x new : ℕ) (v : View) (act : Act) (o : IsKept v.setup s)
+pub grows : SameKey → (s : St) (id x new : ℕ) (v : View) (act : Act) (o : KeepsRule v.setup s)
     → IsViewOf s.views id v → MayDraw v x act
-    → new ≡ suc (length o.history) → IsKept v.setup (with (set s.words 0 new) s id (view_with_ticket v x act o.history))
+    → new ≡ suc (length o.history)
+    → KeepsRule v.setup (with (set s.words 0 new) s id (view_with_ticket v x act o.history))
 grows law s id x new v act o me may is =
     let setup = v.setup in
     let setting = setting_in setup in
@@ -66,7 +68,7 @@ grows law s id x new v act o me may is =
     let near = seat_below s.views id v me in
     let wide : 0 < length s.words = omega (arith, o.size) in
     let others = alone setup s o id x v me may.inside in
-    let stands : StandsFor v v.low = (omega arith, omega (arith, here.alone)) in
+    let stands : StandsForActor v v.low = (omega arith, omega (arith, here.alone)) in
     let mine = was.owner_is v.low stands in
     let words : (k : ℕ) → slice_index ws (suc k) ≡ slice_index s.words (suc k) = λ k. get_or-set_other s.words 0
     (suc k) new 0 (λ e. omega arith) in
@@ -78,8 +80,8 @@ grows law s id x new v act o me may is =
       few_actors = o.few_actors;
       tickets = get_or-set_same s.words 0 new 0 wide ∙ (is ∙ sym (omega (arith, length-append history (visit ∷ []))));
       views = λ k u there. ⊎_elim
-          (λ (t : (k ≡ id) × (w ≡ u)). subst (λ (y : View). IsSound setup ws longer o.owner k y) t.1
-          (subst (λ (i : ℕ). IsSound setup ws longer o.owner i w) (sym t.0) record {
+          (λ (t : (k ≡ id) × (w ≡ u)). subst (λ (y : View). IsSoundView setup ws longer o.owner k y) t.1
+          (subst (λ (i : ℕ). IsSoundView setup ws longer o.owner i w) (sym t.0) record {
             setup_is = λ _. refl;
             has = record {
               seen = front-itself longer;
@@ -91,7 +93,7 @@ grows law s id x new v act o me may is =
             };
             owner_is = was.owner_is;
             inside = λ node at. let e : x ≡ node = same_some x node (sym may.inside ∙ at) in
-                subst (λ (y : ℕ). IsInside setup ws longer w y) e record {
+                subst (λ (y : ℕ). IsInsideNode setup ws longer w y) e record {
                   known = here.known;
                   alone = here.alone;
                   lock = words x ∙ here.lock;
@@ -178,13 +180,13 @@ grows law s id x new v act o me may is =
     calm false h = refl
 
 pub draws : SameKey → (n id x : ℕ) (m : Seat) (act : Act) → MayDraw m.0 x act
-    → Allows (IsKept m.0.setup) n id m 0 (λ y. (y + 1) % 2 ^ 64) (DrawsTicket (step n 0 1 0 none) m)
+    → Allows (KeepsRule m.0.setup) n id m 0 (λ y. (y + 1) % 2 ^ 64) (DrawsTicket (step n 0 1 0 none) m)
 draws law n id x m act may s o wide me small =
     let v = m.0 in
     let found = slice_index s.words 0 in
     let was = o.views id v me in
     let here = was.inside x may.inside in
-    let stands : StandsFor v v.low = (omega arith, omega (arith, here.alone)) in
+    let stands : StandsForActor v v.low = (omega arith, omega (arith, here.alone)) in
     let new : (found + 1) % 2 ^ 64 ≡ suc (length o.history) =
     ap (λ (k : ℕ). (k + 1) % 2 ^ 64) o.tickets
     ∙ no_wrap (length o.history) (few_visits v.setup.actors o.history o.few_actors o.known o.few) in (

@@ -1,5 +1,5 @@
 -- How the passes of all actors tell the order of all tickets.
-use Rattle.std.proofs.Common.{◌≡◌, ◌≢◌, ℕ, zero, suc, ◌≤◌, ◌==◌, eq-eqb, ne_eqb, List, [], ◌∷◌, ◌++◌, length, map, take, drop, get_or, refl, sym, ap, ◌∙◌, subst, arith, Option, Some, length-append}
+use Rattle.std.proofs.Common.{◌≡◌, ◌≢◌, ℕ, zero, suc, ◌≤◌, ◌==◌, eq-eqb, ne_eqb, List, [], ◌∷◌, ◌++◌, length, map, take, drop, get_or, refl, sym, ap, ◌∙◌, arith, Option, Some, length-append}
 use Rattle.std.specs.Prelude.{slice_get, slice_index, if◌then◌else◌, unwrap_or}
 use mathlib.Core.Logic.{dite}
 use native.Mathlib.Decide.{ℕ_discrete, dec_le}
@@ -7,15 +7,10 @@ use Rattle.node_set.specs.Ascending.{has}
 use Rattle.entry_word.specs.declared.visit.Visit.{Visit}
 use Rattle.directory.specs.Histories.{History, IsFront, own, tickets}
 use Rattle.station.specs.Passes.{PassData, actor_of}
-use Rattle.station.specs.Closing.{IsMissing}
+use Rattle.station.specs.Closing.{HasNoPass}
 use Rattle.station.specs.Plays.{longer}
-use Rattle.station.proofs.Fronts.{front-longer}
 use Rattle.station.specs.TicketLaws.{front-rest, own-nil}
 use Rattle.station.proofs.Joining.{longer_one, longer_other}
-
-pub front-through : (xs ys zs : List Visit) → IsFront xs ys → IsFront ys zs → IsFront xs zs
-front-through xs ys zs f g =
-    subst (λ (l : List Visit). IsFront xs l) (sym (front-rest ys zs g)) (front-longer xs ys (drop (length ys) zs) f)
 
 -- the longer of a front and its whole is the whole
 pub longer-whole : (xs zs : List Visit) → IsFront xs zs → longer xs zs ≡ zs
@@ -42,7 +37,7 @@ pub same_pass : (p q : PassData) → Some p ≡ Some q → p ≡ q
 same_pass p q e = ap (λ (o : Option PassData). unwrap_or o p) e
 
 -- an actor that isn't missing has a pass
-pub find_pass : (passes : List PassData) (actor : ℕ) → ¬ IsMissing passes actor
+pub find_pass : (passes : List PassData) (actor : ℕ) → ¬ HasNoPass passes actor
     → (k : ℕ) × (pass : PassData) × (slice_get passes k ≡ Some pass) × (actor_of pass ≡ actor)
 find_pass [] actor there = absurd (there (λ k pass e is. nothing k pass e))
   where
@@ -51,14 +46,14 @@ find_pass [] actor there = absurd (there (λ k pass e is. nothing k pass e))
     nothing (suc k) pass e = cc
 find_pass (x ∷ passes) actor there = go (λ h. find_pass passes actor h) (ℕ_discrete (actor_of x) actor)
   where
-    go : (¬ IsMissing passes actor → (k : ℕ) × (pass : PassData) × (slice_get passes k ≡ Some pass) ×
+    go : (¬ HasNoPass passes actor → (k : ℕ) × (pass : PassData) × (slice_get passes k ≡ Some pass) ×
         (actor_of pass ≡ actor))
         → Dec (actor_of x ≡ actor) → (k : ℕ) × (pass : PassData) × (slice_get (x ∷ passes) k ≡ Some pass) ×
         (actor_of pass ≡ actor)
     go later (yes e) = (0, x, refl, e)
     go later (no ne) = let t = later (λ missing. there (λ k pass e. shift missing k pass e)) in (suc t.0, t.1, t.2, t.3)
       where
-        shift : IsMissing passes actor → (k : ℕ) (pass : PassData) → slice_get (x ∷ passes) k ≡ Some pass
+        shift : HasNoPass passes actor → (k : ℕ) (pass : PassData) → slice_get (x ∷ passes) k ≡ Some pass
             → actor_of pass ≢ actor
         shift missing zero pass e is = ne (ap (λ (o : Option PassData). actor_of (unwrap_or o x)) e ∙ is)
         shift missing (suc k) pass e is = missing k pass e is

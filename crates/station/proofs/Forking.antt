@@ -11,14 +11,15 @@ use Rattle.directory.specs.Courses.{MaySteps}
 use Rattle.directory.specs.Puts.{steps_from}
 use Rattle.directory.specs.Legal.{IsLegal}
 use Rattle.station.specs.Setup.{Setup, CellsLie, setting_in, nodes_in, subs_in, cell_word}
-use Rattle.station.specs.Views.{IsSound, StandsFor}
-use Rattle.station.specs.Rule.{IsKept, IsViewOf}
+use Rattle.station.specs.Views.{IsSoundView, StandsForActor}
+use Rattle.station.specs.Rule.{KeepsRule, IsViewOf}
 use Rattle.station.specs.Opening.{AreOpening}
 use Rattle.station.specs.Plays.{first_view, view_of_first, view_of_rest}
 use Rattle.station.specs.declared.view.View.{View}
 use Rattle.station.proofs.Steps.{St, seat_below, no_some}
 use Rattle.station.proofs.Turning.{no_key}
-use Rattle.station.proofs.Writing.{NumbersBelow, cell_below}
+use Rattle.station.proofs.Writing.{cell_below}
+use Rattle.visit_log.specs.Numbers.{NumbersBelow}
 
 -- no visit is legal
 pub nothing_legal : (setting : Setting) (sub : ℕ) → sub < subs setting → start setting sub < setting.nodes
@@ -35,7 +36,7 @@ one_view v u (suc k) e = absurd (some-ne-none u (sym e))
 
 pub opens : NumbersBelow → (setup : Setup) (words : List ℕ) → CellsLie setup → setup.actors ≤ 128
     → ((sub : ℕ) → sub < subs_in setup → start (setting_in setup) sub < nodes_in setup)
-    → AreOpening setup words → IsKept setup (opening words [] (first_view setup))
+    → AreOpening setup words → KeepsRule setup (opening words [] (first_view setup))
 opens below setup words lies few inside all =
     let v = first_view setup in
     let o = all.laid in
@@ -47,7 +48,7 @@ opens below setup words lies few inside all =
       few_actors = few;
       tickets = o.ticket (omega (arith, all.size));
       views = λ k u at. let t = one_view v u k at in
-          subst (λ (y : View). IsSound setup words [] (λ _. 0) k y) t.1 record {
+          subst (λ (y : View). IsSoundView setup words [] (λ _. 0) k y) t.1 record {
             setup_is = λ _. refl;
             has = record { seen = refl; told = refl; visits = λ _ _. refl; had = refl; kept = λ _ _. refl };
             owner_is = λ actor stands. (sym t.0, stands.1);
@@ -78,22 +79,22 @@ end_there [] a = refl
 end_there (x ∷ xs) a = end_there xs a
 
 -- a seat j is split: its view becomes one, and a new seat has the other
-pub record Forks (setup : Setup) (s : St) (o : IsKept setup s) (j : ℕ) (v l r : View) (owner : ℕ → ℕ) : Type 0 where
+pub record Forks (setup : Setup) (s : St) (o : KeepsRule setup s) (j : ℕ) (v l r : View) (owner : ℕ → ℕ) : Type 0 where
   pub me : IsViewOf s.views j v
-  pub left : (actor : ℕ) → StandsFor l actor → StandsFor v actor × (owner actor ≡ o.owner actor)
-  pub right : (actor : ℕ) → StandsFor r actor → StandsFor v actor × (owner actor ≡ length s.views)
-  pub either : (actor : ℕ) → StandsFor v actor → StandsFor l actor ⊎ StandsFor r actor
-  pub others : (actor : ℕ) → ¬ StandsFor v actor → owner actor ≡ o.owner actor
+  pub left : (actor : ℕ) → StandsForActor l actor → StandsForActor v actor × (owner actor ≡ o.owner actor)
+  pub right : (actor : ℕ) → StandsForActor r actor → StandsForActor v actor × (owner actor ≡ length s.views)
+  pub either : (actor : ℕ) → StandsForActor v actor → StandsForActor l actor ⊎ StandsForActor r actor
+  pub others : (actor : ℕ) → ¬ StandsForActor v actor → owner actor ≡ o.owner actor
   pub kept : (node : ℕ) → v.inside ≡ Some node → (l.low ≡ v.low) × (l.high ≡ v.high)
   pub inside : l.inside ≡ v.inside
   pub unwritten : l.unwritten ≡ v.unwritten
   pub owes : l.owes ≡ v.owes
-  pub sound : IsSound setup s.words o.history owner j l
-  pub new : IsSound setup s.words o.history owner (length s.views) r
+  pub sound : IsSoundView setup s.words o.history owner j l
+  pub new : IsSoundView setup s.words o.history owner (length s.views) r
 
-pub forked : (setup : Setup) (s : St) (o : IsKept setup s) (j : ℕ) (v l r : View) (owner : ℕ → ℕ)
+pub forked : (setup : Setup) (s : St) (o : KeepsRule setup s) (j : ℕ) (v l r : View) (owner : ℕ → ℕ)
     → Forks setup s o j v l r owner
-    → IsKept setup (record { words = s.words; homes = s.homes; views = set s.views j l ++ r ∷ [] })
+    → KeepsRule setup (record { words = s.words; homes = s.homes; views = set s.views j l ++ r ∷ [] })
 forked setup s o j v l r owner f =
     let near = seat_below s.views j v f.me in
     let vs : List View = set s.views j l in
@@ -103,7 +104,7 @@ forked setup s o j v l r owner f =
     λ k u ne at. at_longer vs (r ∷ []) k u (set_else s.views j k l ne ∙ at) in
     let mine : (k : ℕ) (u : View) → k ≡ j → IsViewOf s.views k u → u ≡ v =
     λ k u e at. some-injective u v (sym at ∙ (ap (get_elem? s.views) e ∙ f.me)) in
-    let stands : (actor : ℕ) → StandsFor v actor
+    let stands : (actor : ℕ) → StandsForActor v actor
     → o.owner actor ≡ j = λ actor st. ((o.views j v f.me).owner_is actor st).0 in
     record {
       history = o.history;
@@ -114,8 +115,8 @@ forked setup s o j v l r owner f =
       tickets = o.tickets;
       views = λ k u at. ⊎_elim
           (λ (old : get_elem? vs k ≡ some u). ⊎_elim
-          (λ (t : (k ≡ j) × (l ≡ u)). subst (λ (y : View). IsSound setup s.words o.history owner k y) t.1
-          (subst (λ (i : ℕ). IsSound setup s.words o.history owner i l) (sym t.0) f.sound))
+          (λ (t : (k ≡ j) × (l ≡ u)). subst (λ (y : View). IsSoundView setup s.words o.history owner k y) t.1
+          (subst (λ (i : ℕ). IsSoundView setup s.words o.history owner i l) (sym t.0) f.sound))
           (λ (t : (k ≢ j) × (get_elem? s.views k ≡ some u)). let was = o.views k u t.1 in record {
             setup_is = was.setup_is;
             has = was.has;
@@ -126,19 +127,19 @@ forked setup s o j v l r owner f =
             outside = was.outside;
           })
           (at_set s.views j k l u old))
-          (λ (t : (k ≡ length vs) × (r ≡ u)). subst (λ (y : View). IsSound setup s.words o.history owner k y) t.1
-          (subst (λ (i : ℕ). IsSound setup s.words o.history owner i r) (sym (t.0 ∙ count)) f.new))
+          (λ (t : (k ≡ length vs) × (r ≡ u)). subst (λ (y : View). IsSoundView setup s.words o.history owner k y) t.1
+          (subst (λ (i : ℕ). IsSoundView setup s.words o.history owner i r) (sym (t.0 ∙ count)) f.new))
           (at_end vs r u k at);
       actors = λ actor below. let t = o.actors actor below in dite (ℕ_discrete (o.owner actor) j)
           (λ e. let same = mine (o.owner actor) t.0 e t.1 in
-          let st : StandsFor v actor = subst (λ (y : View). StandsFor y actor) same t.2 in ⊎_elim
-          (λ (sl : StandsFor l actor). (
+          let st : StandsForActor v actor = subst (λ (y : View). StandsForActor y actor) same t.2 in ⊎_elim
+          (λ (sl : StandsForActor l actor). (
             l,
             subst (λ k. IsViewOf (vs ++ r ∷ []) k l) (sym ((f.left actor sl).1
                 ∙ e)) here,
             sl,
           ))
-          (λ (sr : StandsFor r actor). (
+          (λ (sr : StandsForActor r actor). (
             r,
             subst (λ k. IsViewOf (vs ++ r ∷ []) k r) (count
                 ∙ sym (f.right actor sr).1) (end_there vs r),
@@ -159,7 +160,7 @@ forked setup s o j v l r owner f =
           let low : v.low ≡ actor = ap (λ (y : View). y.low) (sym same) ∙ t.3 in
           let ends = f.kept node in_node in
           let high = ((o.views j v f.me).inside node in_node).alone in
-          let sl : StandsFor l actor = (omega (arith, ends.0), omega (arith, ends.1)) in (
+          let sl : StandsForActor l actor = (omega (arith, ends.0), omega (arith, ends.1)) in (
             l,
             subst (λ k. IsViewOf (vs ++ r ∷ []) k l) (sym ((f.left actor sl).1 ∙ e)) here,
             f.inside
@@ -186,7 +187,7 @@ forked setup s o j v l r owner f =
 
 -- the first of its actors is dealt to a new seat
 pub deals : (setup : Setup) (id : ℕ) (v : View) → v.low < v.high → v.inside ≡ None → v.unwritten ≡ None
-    → Splits (IsKept setup) id v (view_of_rest v) (view_of_first v)
+    → Splits (KeepsRule setup) id v (view_of_rest v) (view_of_first v)
 deals setup id v more out clear s o me =
     let owner : ℕ → ℕ = λ actor. cond (actor == v.low) (length s.views) (o.owner actor) in
     let was = o.views id v me in

@@ -9,7 +9,7 @@ use Rattle.region_plan.specs.Plan.{PlanData, nodes_of, leader}
 use Rattle.region_plan.specs.Matched.{IsMatched}
 use Rattle.station.specs.Setup.{Setup, CellsLie, setting_in}
 use Rattle.station.specs.Plays.{first_view}
-use Rattle.station.specs.Passes.{TrackerData, PassData, IsFresh, IsPassOf, AreFresh, fresh_view}
+use Rattle.station.specs.Passes.{TrackerData, PassData, IsFreshPass, IsPassOf, AreFresh, fresh_view}
 use Rattle.station.specs.declared.view.View.{View}
 
 -- in a matched plan each cell lies at a node
@@ -37,10 +37,10 @@ get_push (x ∷ ps) p q (suc k) e = ⊎_elim (λ h. inl h) (λ h. inr (ap suc h.
 
 pub fresh_push : (tracker : TrackerData) (ps : List PassData) (p : PassData) (actor : ℕ) → length ps ≡ actor
     → AreFresh tracker ps
-    → IsFresh tracker actor p → AreFresh tracker (ps ++ p ∷ [])
+    → IsFreshPass tracker actor p → AreFresh tracker (ps ++ p ∷ [])
 fresh_push tracker ps p actor count all one k q e =
     ⊎_elim (λ h. all k q h)
-    (λ h. subst (λ (x : PassData). IsFresh tracker k x) h.1 (subst (λ (i : ℕ). IsFresh tracker i p) (sym (h.0
+    (λ h. subst (λ (x : PassData). IsFreshPass tracker k x) h.1 (subst (λ (i : ℕ). IsFreshPass tracker i p) (sym (h.0
     ∙ count)) one))
     (get_push ps p q k e)
 
@@ -68,8 +68,8 @@ fresh_of tracker ps fresh =
 -- the last of some fresh passes, and the others
 pub fresh_last : (tracker : TrackerData) (left : List PassData) (p : PassData) (actor : ℕ)
     → AreFresh tracker (left ++ p ∷ []) → length left ≡ actor
-    → IsFresh tracker actor p
-fresh_last tracker left p actor all count = subst (λ (k : ℕ). IsFresh tracker k p) count (all (length left) p
+    → IsFreshPass tracker actor p
+fresh_last tracker left p actor all count = subst (λ (k : ℕ). IsFreshPass tracker k p) count (all (length left) p
     (last_there left))
   where
     last_there : (l : List PassData) → slice_get (l ++ p ∷ []) (length l) ≡ Some p

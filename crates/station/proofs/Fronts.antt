@@ -1,10 +1,10 @@
 -- Histories that begin with others, and what is filtered from them.
 use Rattle.std.proofs.Common.{◌≡◌, ◌≢◌, ℕ, zero, suc, ◌+◌, ◌<◌, ◌≤◌, eqb, eqb-true, ne_eqb, eq-eqb, Bool, true, false, cond, ◌==◌, List, [], ◌∷◌, ◌++◌, length, take, drop, refl, sym, ap, ◌∙◌, subst, arith, append_assoc, length-append}
-use Rattle.std.proofs.lemmas.List.{append-nil, take_all}
-use Rattle.std.proofs.Math.Seq.{take-append_seam}
+use Rattle.std.proofs.lemmas.List.{append-nil}
 use Rattle.entry_word.specs.declared.visit.Visit.{Visit}
 use Rattle.directory.specs.Histories.{IsFront, own}
 use Rattle.station.specs.TicketLaws.{front-rest, own-append, own-beyond}
+use Rattle.directory.specs.HistoryLaws.{front-append}
 
 module _ {A : Type 0} where
   -- of two fronts of one list the shorter is a front of the longer
@@ -16,12 +16,6 @@ module _ {A : Type 0} where
       let first : x ≡ y = ap (λ (l : List A). Rattle.std.proofs.Common.get_or l 0 x) e in
       let t = split_at xs ps ys qs (ap (drop 1) e) (omega arith) in
       (t.0, (λ i. sym first i ∷ t.1 i), t.2)
-
-pub front-append : (xs ys : List Visit) → IsFront xs (xs ++ ys)
-front-append xs ys = sym (take-append_seam xs ys)
-
-pub front-itself : (xs : List Visit) → IsFront xs xs
-front-itself xs = sym (take_all (length xs) xs (omega arith))
 
 pub front-longer : (xs zs more : List Visit) → IsFront xs zs → IsFront xs (zs ++ more)
 front-longer xs zs more f =

@@ -18,8 +18,9 @@ use Rattle.directory.specs.Histories.{History, cell, changes_here, is_put_for, o
 use Rattle.directory.specs.Census.{census}
 use Rattle.station.specs.Views.{visits_at}
 use Rattle.station.specs.Plays.{key_put}
-use Rattle.station.proofs.Staying.{SameKey, word-elsewhere}
+use Rattle.station.proofs.Staying.{word-elsewhere}
 use Rattle.station.specs.TicketLaws.{own-nil}
+use Rattle.directory.specs.Statements.{SameKey}
 
 pub cell-push : (setting : Setting) (key : Key) (history : History) (visit : Visit)
     → cell setting (history ++ visit ∷ []) key ≡ word_after key (cell setting history key) visit.act

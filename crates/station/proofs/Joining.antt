@@ -12,8 +12,8 @@ use Rattle.directory.specs.Histories.{History, IsFront, own}
 use Rattle.directory.specs.Legal.{IsLegal}
 use Rattle.trail_laws.specs.Within.{HistoryFrontsAreLegal}
 use Rattle.station.specs.Setup.{Setup, setting_in}
-use Rattle.station.specs.Views.{IsSound, StandsFor}
-use Rattle.station.specs.Rule.{IsKept, IsViewOf}
+use Rattle.station.specs.Views.{IsSoundView, StandsForActor}
+use Rattle.station.specs.Rule.{KeepsRule, IsViewOf}
 use Rattle.station.specs.Plays.{Seat, note_of, longer, view_with_note, spent_view, IsLearned, Learns}
 use Rattle.station.specs.Passes.{IsPass}
 use Rattle.station.specs.declared.view.View.{View}
@@ -24,7 +24,7 @@ use Rattle.station.proofs.Forking.{forked}
 use Rattle.station.proofs.Reading.{unmoved}
 use Rattle.station.specs.TicketLaws.{tickets-same}
 
-pub notes : (setup : Setup) (id : ℕ) (v : View) → Splits (IsKept setup) id v v (note_of v)
+pub notes : (setup : Setup) (id : ℕ) (v : View) → Splits (KeepsRule setup) id v v (note_of v)
 notes setup id v s o me =
     let was = o.views id v me in
     forked setup s o id v v (note_of v) o.owner record {
@@ -55,24 +55,24 @@ notes setup id v s o me =
     }
 
 -- a seat id takes in the seat of another, which is spent
-pub record Takes (setup : Setup) (s : St) (o : IsKept setup s) (id other : ℕ) (v w b : View) (owner : ℕ
+pub record Takes (setup : Setup) (s : St) (o : KeepsRule setup s) (id other : ℕ) (v w b : View) (owner : ℕ
     → ℕ) : Type 0 where
   pub me : IsViewOf s.views id v
   pub them : IsViewOf s.views other w
   pub apart : ¬ (other ≡ id)
-  pub of_mine : (actor : ℕ) → StandsFor v actor → StandsFor b actor
-  pub of_theirs : (actor : ℕ) → StandsFor w actor → StandsFor b actor
-  pub owned : (actor : ℕ) → StandsFor b actor → owner actor ≡ id
-  pub others : (actor : ℕ) → ¬ StandsFor v actor → ¬ StandsFor w actor → owner actor ≡ o.owner actor
+  pub of_mine : (actor : ℕ) → StandsForActor v actor → StandsForActor b actor
+  pub of_theirs : (actor : ℕ) → StandsForActor w actor → StandsForActor b actor
+  pub owned : (actor : ℕ) → StandsForActor b actor → owner actor ≡ id
+  pub others : (actor : ℕ) → ¬ StandsForActor v actor → ¬ StandsForActor w actor → owner actor ≡ o.owner actor
   pub out : w.inside ≡ None
   pub inside : b.inside ≡ v.inside
   pub unwritten : b.unwritten ≡ v.unwritten
   pub owes : b.owes ≡ v.owes
   pub kept : (node : ℕ) → v.inside ≡ Some node → b.low ≡ v.low
-  pub sound : IsSound setup s.words o.history owner id b
+  pub sound : IsSoundView setup s.words o.history owner id b
 
 spent_sound : (setup : Setup) (words : List ℕ) (history : History) (owner : ℕ → ℕ) (seat : ℕ)
-    → IsSound setup words history owner seat spent_view
+    → IsSoundView setup words history owner seat spent_view
 spent_sound setup words history owner seat = record {
   setup_is = λ e. absurd (true≢false e);
   has = record {
@@ -88,9 +88,9 @@ spent_sound setup words history owner seat = record {
   outside = λ _. (refl, refl);
 }
 
-pub taken : (setup : Setup) (s : St) (o : IsKept setup s) (id other : ℕ) (v w b : View) (owner : ℕ → ℕ)
+pub taken : (setup : Setup) (s : St) (o : KeepsRule setup s) (id other : ℕ) (v w b : View) (owner : ℕ → ℕ)
     → Takes setup s o id other v w b owner
-    → IsKept setup (record { words = s.words; homes = s.homes; views = set (set s.views id b) other spent_view })
+    → KeepsRule setup (record { words = s.words; homes = s.homes; views = set (set s.views id b) other spent_view })
 taken setup s o id other v w b owner t =
     let near = seat_below s.views id v t.me in
     let far = seat_below s.views other w t.them in
@@ -105,9 +105,9 @@ taken setup s o id other v w b owner t =
     → u ≡ v = λ k u e at. some-injective u v (sym at ∙ (ap (get_elem? s.views) e ∙ t.me)) in
     let theirs : (k : ℕ) (u : View) → k ≡ other → IsViewOf s.views k u
     → u ≡ w = λ k u e at. some-injective u w (sym at ∙ (ap (get_elem? s.views) e ∙ t.them)) in
-    let v_stands : (actor : ℕ) → StandsFor v actor
+    let v_stands : (actor : ℕ) → StandsForActor v actor
     → o.owner actor ≡ id = λ actor st. ((o.views id v t.me).owner_is actor st).0 in
-    let w_stands : (actor : ℕ) → StandsFor w actor
+    let w_stands : (actor : ℕ) → StandsForActor w actor
     → o.owner actor ≡ other = λ actor st. ((o.views other w t.them).owner_is actor st).0 in
     record {
       history = o.history;
@@ -117,11 +117,12 @@ taken setup s o id other v w b owner t =
       few_actors = o.few_actors;
       tickets = o.tickets;
       views = λ k u at. ⊎_elim
-          (λ (x : (k ≡ other) × (spent_view ≡ u)). subst (λ (y : View). IsSound setup s.words o.history owner k y) x.1
+          (λ (x : (k ≡ other) × (spent_view ≡ u)). subst
+          (λ (y : View). IsSoundView setup s.words o.history owner k y) x.1
           (spent_sound setup s.words o.history owner k))
           (λ (x : (k ≢ other) × (get_elem? vs k ≡ some u)). ⊎_elim
-          (λ (y : (k ≡ id) × (b ≡ u)). subst (λ (z : View). IsSound setup s.words o.history owner k z) y.1
-          (subst (λ (i : ℕ). IsSound setup s.words o.history owner i b) (sym y.0) t.sound))
+          (λ (y : (k ≡ id) × (b ≡ u)). subst (λ (z : View). IsSoundView setup s.words o.history owner k z) y.1
+          (subst (λ (i : ℕ). IsSoundView setup s.words o.history owner i b) (sym y.0) t.sound))
           (λ (y : (k ≢ id) × (get_elem? s.views k ≡ some u)). let was = o.views k u y.1 in record {
             setup_is = was.setup_is;
             has = was.has;
@@ -137,11 +138,12 @@ taken setup s o id other v w b owner t =
           (at_set s.views id k b u x.1))
           (at_set vs other k spent_view u at);
       actors = λ actor below. let x = o.actors actor below in dite (ℕ_discrete (o.owner actor) id)
-          (λ e. let st : StandsFor b actor = t.of_mine actor (subst (λ (y : View). StandsFor y actor) (mine
+          (λ e. let st : StandsForActor b actor = t.of_mine actor (subst (λ (y : View). StandsForActor y actor) (mine
           (o.owner actor) x.0 e x.1) x.2) in
           (b, subst (λ k. IsViewOf (set vs other spent_view) k b) (sym (t.owned actor st)) here, st))
           (λ ne. dite (ℕ_discrete (o.owner actor) other)
-          (λ e. let st : StandsFor b actor = t.of_theirs actor (subst (λ (y : View). StandsFor y actor) (theirs
+          (λ e. let st : StandsForActor b actor = t.of_theirs actor
+          (subst (λ (y : View). StandsForActor y actor) (theirs
           (o.owner actor) x.0 e x.1) x.2) in
           (b, subst (λ k. IsViewOf (set vs other spent_view) k b) (sym (t.owned actor st)) here, st))
           (λ no_other. (
@@ -158,7 +160,7 @@ taken setup s o id other v w b owner t =
           let in_node : v.inside ≡ Some node = ap (λ (y : View). y.inside) (sym same) ∙ x.2 in
           let low : v.low ≡ actor = ap (λ (y : View). y.low) (sym same) ∙ x.3 in
           let high = ((o.views id v t.me).inside node in_node).alone in
-          let st : StandsFor b actor = t.of_mine actor (omega (arith, low), omega (arith, high, low)) in (
+          let st : StandsForActor b actor = t.of_mine actor (omega (arith, low), omega (arith, high, low)) in (
             b,
             subst (λ k. IsViewOf (set vs other spent_view) k b) (sym (t.owned actor st)) here,
             t.inside
@@ -221,7 +223,7 @@ longer_long one other = dite (dec_le (length other) (length one))
 
 -- a note is heard
 pub hears : (setup : Setup) (id other : ℕ) (v w : View) → w.low ≡ 0 → w.high ≡ 0 → w.inside ≡ None
-    → Joins (IsKept setup) id v other w (view_with_note v w) spent_view
+    → Joins (KeepsRule setup) id v other w (view_with_note v w) spent_view
 hears setup id other v w low high out s o me ne at =
     let them : IsViewOf s.views other w = sym (set_else s.views id other (view_with_note v w) ne) ∙ at in
     let was = o.views id v me in
@@ -262,7 +264,7 @@ hears setup id other v w low high out s o me ne at =
 -- what was heard is learned
 pub learns : HistoryFrontsAreLegal → (n id i : ℕ) (m : Seat) → (setting_in m.0.setup).nodes ≤ 2 ^ 16
     → length m.0.told ≤ length m.0.seen → length m.0.had ≤ length m.0.seen
-    → Allows (IsKept m.0.setup) n id m i (λ y. y) (Learns (step n i 0 0 none) m)
+    → Allows (KeepsRule m.0.setup) n id m i (λ y. y) (Learns (step n i 0 0 none) m)
 learns law n id i m low short had s o wide me small =
     let v = m.0 in
     let was = o.views id v me in (

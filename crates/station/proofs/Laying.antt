@@ -13,10 +13,10 @@ use Rattle.directory.specs.Settings.{Setting, subs, start}
 use Rattle.directory.specs.Histories.{cell}
 use Rattle.directory.specs.Census.{census}
 use Rattle.region_plan.specs.Plan.{PlanData, Level, levels_of, clusters_of, no_level}
-use Rattle.visit_log.specs.Numbers.{cell_number, clusters_below, cluster_count}
+use Rattle.visit_log.specs.Numbers.{cell_number, clusters_below, cluster_count, NumbersApart}
 use Rattle.station.specs.Setup.{Setup, setting_in, nodes_in, subs_in, IsCellOf, lock_word, tally_word, cell_word}
 use Rattle.station.specs.Opening.{AreLaid}
-use Rattle.station.proofs.Apart.{NumbersApart, behind, behind_tally, same_number}
+use Rattle.station.proofs.Apart.{behind, behind_tally, same_number}
 
 at_push : (ws : List ℕ) (x i : ℕ) → i < length (ws ++ x ∷ [])
     → ((i < length ws) × (slice_index (ws ++ x ∷ []) i ≡ slice_index ws i)) ⊎ ((length ws ≡ i) × (slice_index

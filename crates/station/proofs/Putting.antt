@@ -20,18 +20,21 @@ use Rattle.directory.specs.Writes.{Write, mark_at, entry_at, visit_of, visits, w
 use Rattle.region_plan.specs.Plan.{PlanData, nodes_of, levels_of}
 use Rattle.region_plan.specs.Settings.{setting_of}
 use Rattle.region_plan.specs.Cells.{IsPlace}
-use Rattle.visit_log.specs.Cells.{AreHomes}
-use Rattle.handset.specs.Kept.{GoesWith, HandsetData, IsWithin}
+use Rattle.visit_log.specs.Cells.{HasHomes}
+use Rattle.handset.specs.Kept.{GoesWith, HandsetData, IsMoveStage}
 use Rattle.handset.specs.Progress.{after_write, due, due_at, erasing_from, erasure, go_on, purging_from, switch_mark}
-use Rattle.handset.specs.Stands.{StandsFor}
+use Rattle.handset.specs.Stands.{StandsForSteps}
 use Rattle.handset.specs.declared.stage.Stage.{Stage}
 use Rattle.handset.specs.declared.stage.Stage.TheVariants.{Resting, Coming, Renewing, Committing, Confirming, Erasing, Purging, Switching}
 use Rattle.station.specs.Setup.{Setup, setting_in, subs_in, IsCellOf}
-use Rattle.station.specs.Handsets.{GoesOn, IsHandsetOf, Moves, moves_here, put_of}
+use Rattle.station.specs.Handsets.{HandsetGoesOn, IsHandsetOf, Moves, moves_here, put_of}
 use Rattle.station.specs.Plays.{view_inside}
 use Rattle.station.specs.Visits.{MayDraw}
 use Rattle.station.specs.declared.view.View.{View}
 use Rattle.station.proofs.Growing.{cell-push, puts-append}
+use Rattle.node_set.specs.SetLaws.{length-passing-le}
+use Rattle.directory.specs.StepLaws.{take-more}
+use Rattle.station.proofs.Turning.{same_some}
 
 -- a put that is due: into a cell of its subscriber
 pub record IsDue (plan : PlanData) (sub : ℕ) (visit : Visit) : Type 0 where
@@ -61,9 +64,9 @@ from_write plan sub w visit e place =
       place = place;
     }
 
-due_by : (plan : PlanData) (handset : HandsetData) (visit : Visit) → GoesWith plan handset → AreHomes plan
+due_by : (plan : PlanData) (handset : HandsetData) (visit : Visit) → GoesWith plan handset → HasHomes plan
     → (stage : Stage)
-    → IsWithin (nodes_of plan) handset.last stage
+    → IsMoveStage (nodes_of plan) handset.last stage
     → option_map (visit_of handset.sub) (due_at (setting_of plan []) handset stage) ≡ Some visit
     → IsDue plan handset.sub visit
 due_by plan handset visit g homes Resting within e = absurd (nothing visit e)
@@ -93,19 +96,9 @@ due_by plan handset visit g homes (Purging node) within e = from_write plan hand
 due_by plan handset visit g homes (Switching off) within e = from_write plan handset.sub
     (switch_mark handset off) visit e g.place
 
-pub due_is : (plan : PlanData) (handset : HandsetData) (visit : Visit) → GoesWith plan handset → AreHomes plan
+pub due_is : (plan : PlanData) (handset : HandsetData) (visit : Visit) → GoesWith plan handset → HasHomes plan
     → due (setting_of plan []) handset ≡ Some visit → IsDue plan handset.sub visit
 due_is plan handset visit g homes e = due_by plan handset visit g homes handset.stage g.stage e
-
--- one put more of a script
-pub one-more : (xs : List Visit) (k : ℕ) (x : Visit) → slice_get xs k ≡ Some x → take k xs ++ x ∷ [] ≡ take (suc k) xs
-one-more [] k x e = absurd (nothing x k e)
-  where
-    nothing : (v : Visit) (k : ℕ) → slice_get [] k ≡ Some v → ⊥
-    nothing v zero e = cc
-    nothing v (suc k) e = cc
-one-more (y ∷ ys) zero x e = ap (λ o. unwrap_or o y ∷ []) (sym e)
-one-more (y ∷ ys) (suc k) x e = ap (λ l. y ∷ l) (one-more ys k x e)
 
 put-alone : (sub : ℕ) (history : History) (key : Key) (word actor : ℕ) → key_sub key ≡ sub
     → puts_to sub (history ++ record { actor = actor; act = Put key word } ∷ []) ≡ puts_to sub history ++ record {
@@ -134,7 +127,7 @@ due_legal law setup view handset key word low h next mine =
     (visits setting s h.steps) made ≡ Some visit) h.sub next in
     let puts : puts_to view.low (view.seen ++ visit ∷ []) ≡ take (suc made) vs =
     put-alone view.low view.seen key word view.low mine ∙ (ap (λ l. l ++ visit ∷ []) h.made
-    ∙ one-more vs made visit next') in
+    ∙ sym (take-more vs made visit next')) in
     subst (λ (l : List Visit). ArePuts setting view.low l) (sym puts) (law setting view.low h.steps
     (suc made) low h.script)
 
@@ -147,8 +140,8 @@ pub handset_after : (setup : Setup) (view after : View) (handset new : HandsetDa
     → key_sub key ≡ view.low → after.low ≡ view.low
     → after.seen ≡ earlier ++ record { actor = view.low; act = Put key word } ∷ []
     → puts_to view.low earlier ≡ puts_to view.low view.seen → GoesWith setup.plan new → new.sub ≡ handset.sub
-    → StandsFor (setting_in setup) new h.steps (suc (length (puts_to view.low view.seen)))
-    → GoesOn setup view after new h.steps (put_of view.low key word)
+    → StandsForSteps (setting_in setup) new h.steps (suc (length (puts_to view.low view.seen)))
+    → HandsetGoesOn setup view after new h.steps (put_of view.low key word)
 handset_after setup view after handset new key word earlier h next mine low seen puts goes sub stands =
     let setting = setting_in setup in
     let visit : Visit = record { actor = view.low; act = Put key word } in
@@ -162,14 +155,14 @@ handset_after setup view after handset new key word earlier h next mine low seen
     let count : length (puts_to after.low after.seen) ≡ suc made = ap length now
     ∙ omega (arith, length-append (puts_to view.low view.seen) (visit ∷ [])) in
     let whole : puts_to after.low after.seen ≡ take (suc made) vs = now ∙ (ap (λ l. l ++ visit ∷ []) h.made
-    ∙ one-more vs made visit next') in
+    ∙ sym (take-more vs made visit next')) in
     record {
       own = record {
         goes = goes;
         sub = sub ∙ (h.sub ∙ sym low);
         steps = h.steps;
         script = subst (λ (s : ℕ). IsScript setting s h.steps) (sym low) h.script;
-        stands = subst (λ (k : ℕ). StandsFor setting new h.steps k) (sym count) stands;
+        stands = subst (λ (k : ℕ). StandsForSteps setting new h.steps k) (sym count) stands;
         made = whole ∙ (λ i. take (back count i) (visits setting (back low i) h.steps));
       };
       steps_are = refl;
@@ -216,15 +209,6 @@ passing-gains f g v (suc n) k low high same off on =
     later false false e h = h
     later true false e h = absurd (true≢false e)
     later false true e h = absurd (true≢false (sym e))
-
-pub passing-short : (f : ℕ → Bool) (v n : ℕ) → length (sift f v n) ≤ n
-passing-short f v zero = omega arith
-passing-short f v (suc n) = go (f v) (passing-short f (suc v) n)
-  where
-    go : (b : Bool) → length (sift f (suc v) n) ≤ n
-        → length (cond b (v ∷ sift f (suc v) n) (sift f (suc v) n)) ≤ suc n
-    go true h = omega arith
-    go false h = omega arith
 
 put-here : (setting : Setting) (earlier : History) (node sub word actor : ℕ)
     → says_here (mark_in (cell setting (earlier ++ record {
@@ -350,11 +334,8 @@ moves setup view earlier node old new actor (Presence place sub) known at seen o
 
 pub census-short : (setting : Setting) (history : History) (node : ℕ)
     → length (census setting history node) ≤ subs setting
-census-short setting history node = passing-short (λ s. says_here (mark_in (cell setting history
+census-short setting history node = length-passing-le (λ s. says_here (mark_in (cell setting history
     (Presence node s)))) 0 (subs setting)
-
-key_same : (key other : Key) → Some key ≡ Some other → key ≡ other
-key_same key other e = ap (λ (o : Option Key). unwrap_or o key) e
 
 pub may_put : (view : View) (node : ℕ) (key : Key) (word : ℕ) → view.has_drawn ≡ false → view.unwritten ≡ None
     → view.owes ≡ false
@@ -370,7 +351,7 @@ may_put view node key word undrawn unwritten clear at few cell mine legal = reco
   clear = clear;
   at = sym at;
   few = few;
-  cell = λ other e. subst (λ (k : Key). IsCellOf view.setup k) (key_same key other e) cell;
+  cell = λ other e. subst (λ (k : Key). IsCellOf view.setup k) (same_some key other e) cell;
   may = (mine, legal);
 }
 

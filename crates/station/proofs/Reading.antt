@@ -11,35 +11,39 @@ use Rattle.directory.specs.Histories.{cell}
 use Rattle.directory.specs.Census.{census}
 use Rattle.station.specs.Setup.{Setup, setting_in, nodes_in, subs_in, IsCellOf, tally_word, cell_word}
 use Rattle.station.specs.Views.{visits_at}
-use Rattle.station.specs.Rule.{IsKept, IsViewOf}
+use Rattle.station.specs.Rule.{KeepsRule, IsViewOf}
 use Rattle.station.specs.Plays.{Seat, ReadsCell, ReadsTally, Witnesses}
 use Rattle.station.specs.Visits.{HasTurn}
 use Rattle.station.specs.declared.view.View.{View}
-use Rattle.station.proofs.Apart.{NumbersApart, one_inside, same_number}
-use Rattle.station.proofs.Staying.{SameKey, cell-stays, census-stays}
+use Rattle.station.proofs.Apart.{one_inside, same_number}
+use Rattle.station.proofs.Staying.{cell-stays, census-stays}
 use Rattle.station.proofs.Steps.{St, with}
 use Rattle.station.proofs.Turning.{written_here, tallied_here, no_key}
+use Rattle.directory.specs.Statements.{SameKey}
+use Rattle.visit_log.specs.Numbers.{NumbersApart}
 
 -- a load changes nothing
-pub unmoved : (setup : Setup) (s : St) (i j : ℕ) (v : View) → IsKept setup s → IsViewOf s.views j v
-    → IsKept setup (with (set s.words i (slice_index s.words i)) s j v)
+pub unmoved : (setup : Setup) (s : St) (i j : ℕ) (v : View) → KeepsRule setup s → IsViewOf s.views j v
+    → KeepsRule setup (with (set s.words i (slice_index s.words i)) s j v)
 unmoved setup s i j v o me =
-    subst (λ (ws : List ℕ). IsKept setup (with ws s j v)) (sym (set-get_or s.words i 0))
-    (subst (λ (vs : List View). IsKept setup (record { words = s.words; homes = s.homes; views = vs })) (sym
+    subst (λ (ws : List ℕ). KeepsRule setup (with ws s j v)) (sym (set-get_or s.words i 0))
+    (subst (λ (vs : List View). KeepsRule setup (record { words = s.words; homes = s.homes; views = vs })) (sym
     (set_again s.views j v me)) o)
 
-pub witnesses : (n id i : ℕ) (m : Seat) → Allows (IsKept m.0.setup) n id m i (λ y. y) (Witnesses (step n i 0 0 none) m)
+pub witnesses : (n id i : ℕ) (m : Seat)
+    → Allows (KeepsRule m.0.setup) n id m i (λ y. y) (Witnesses (step n i 0 0 none) m)
 witnesses n id i m s o wide me small =
     (m.0, keeps, tt, unmoved m.0.setup s i id m.0 o me, (refl, record { state = s; seat = id; kept = o; view_is = me }))
 
-pub all_seen : (setup : Setup) (s : St) (o : IsKept setup s) (j x : ℕ) (v : View) → IsViewOf s.views j v → HasTurn v x
+pub all_seen : (setup : Setup) (s : St) (o : KeepsRule setup s) (j x : ℕ) (v : View) → IsViewOf s.views j v
+    → HasTurn v x
     → visits_at (setting_in setup) x (drop (length v.seen) o.history) ≡ []
 all_seen setup s o j x v me turn =
     subst (λ (k : ℕ). visits_at (setting_in setup) x (drop k o.history) ≡ []) turn.count
     (((o.views j v me).inside x turn.inside).last turn.has_drawn)
 
 -- what the history leaves in a cell there is what the view has seen of it
-pub cell_seen : SameKey → (setup : Setup) (s : St) (o : IsKept setup s) (j : ℕ) (v : View) (key : Key)
+pub cell_seen : SameKey → (setup : Setup) (s : St) (o : KeepsRule setup s) (j : ℕ) (v : View) (key : Key)
     → IsViewOf s.views j v
     → HasTurn v (key_node (setting_in setup) key)
     → cell (setting_in setup) o.history key ≡ cell (setting_in setup) v.seen key
@@ -47,13 +51,13 @@ cell_seen law setup s o j v key me turn = cell-stays law (setting_in setup) key 
     (setting_in setup) key) v.seen o.history
     (o.views j v me).has.seen refl (all_seen setup s o j (key_node (setting_in setup) key) v me turn)
 
-pub census_seen : SameKey → (setup : Setup) (s : St) (o : IsKept setup s) (j x : ℕ) (v : View)
+pub census_seen : SameKey → (setup : Setup) (s : St) (o : KeepsRule setup s) (j x : ℕ) (v : View)
     → IsViewOf s.views j v → HasTurn v x
     → census (setting_in setup) o.history x ≡ census (setting_in setup) v.seen x
 census_seen law setup s o j x v me turn = census-stays law (setting_in setup) x v.seen o.history
     (o.views j v me).has.seen (all_seen setup s o j x v me turn)
 
-pub alone : (setup : Setup) (s : St) (o : IsKept setup s) (j x : ℕ) (v : View) → IsViewOf s.views j v
+pub alone : (setup : Setup) (s : St) (o : KeepsRule setup s) (j x : ℕ) (v : View) → IsViewOf s.views j v
     → v.inside ≡ Some x
     → (k : ℕ) (u : View) → k ≢ j → IsViewOf s.views k u → u.inside ≢ Some x
 alone setup s o j x v me there k u ne at is = ne (one_inside setup s o j k x v u me at there is)
@@ -61,7 +65,7 @@ alone setup s o j x v me there k u ne at is = ne (one_inside setup s o j k x v u
 pub reads_cell : NumbersApart → SameKey → (n id i : ℕ) (m : Seat) (key : Key) → IsCellOf m.0.setup key
     → i ≡ cell_word m.0.setup key
     → HasTurn m.0 (key_node (setting_in m.0.setup) key)
-    → Allows (IsKept m.0.setup) n id m i (λ y. y) (ReadsCell (step n i 0 0 none) m)
+    → Allows (KeepsRule m.0.setup) n id m i (λ y. y) (ReadsCell (step n i 0 0 none) m)
 reads_cell law same n id i m key known at turn s o wide me small =
     let setup = m.0.setup in
     let node = key_node (setting_in setup) key in (
@@ -87,7 +91,7 @@ reads_cell law same n id i m key known at turn s o wide me small =
     )
 
 pub reads_tally : SameKey → (n id i : ℕ) (m : Seat) (node : ℕ) → i ≡ tally_word m.0.setup node → HasTurn m.0 node
-    → Allows (IsKept m.0.setup) n id m i (λ y. y) (ReadsTally (step n i 0 0 none) m)
+    → Allows (KeepsRule m.0.setup) n id m i (λ y. y) (ReadsTally (step n i 0 0 none) m)
 reads_tally same n id i m node at turn s o wide me small =
     let setup = m.0.setup in
     let here = (o.views id m.0 me).inside node turn.inside in (

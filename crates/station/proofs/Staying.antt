@@ -1,5 +1,5 @@
 -- What stays while no visit is at a node: its cells and its census.
-use Rattle.std.proofs.Common.{◌≡◌, ◌≢◌, ◌↔◌, ℕ, ◌==◌, eq-eqb, Bool, true, false, cond, List, [], ◌∷◌, length, drop, refl, sym, ap, ◌∙◌, arith, true≢false}
+use Rattle.std.proofs.Common.{◌≡◌, ◌≢◌, ℕ, ◌==◌, eq-eqb, Bool, true, false, cond, List, [], ◌∷◌, length, drop, refl, sym, ap, ◌∙◌, arith, true≢false}
 use Rattle.std.specs.Prelude.{fold, if◌then◌else◌}
 use Rattle.std.proofs.lemmas.List.Sums.{fold-append}
 use Rattle.node_set.specs.Ascending.{sift}
@@ -15,10 +15,7 @@ use Rattle.directory.specs.Histories.{History, IsFront, cell, word_after}
 use Rattle.directory.specs.Census.{census}
 use Rattle.station.specs.Views.{visits_at}
 use Rattle.station.specs.TicketLaws.{front-rest}
-
--- the test of keys means that they are the same
-abbrev pub SameKey : Type 0
-SameKey = (one other : Key) → (same_key one other ≡ true) ↔ (one ≡ other)
+use Rattle.directory.specs.Statements.{SameKey}
 
 -- an act at another node leaves a cell
 pub word-elsewhere : SameKey → (setting : Setting) (key : Key) (word : ℕ) (act : Act)

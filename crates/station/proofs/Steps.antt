@@ -13,8 +13,8 @@ use Rattle.directory.specs.Keys.{key_node}
 use Rattle.directory.specs.Histories.{History, IsFront, cell, own}
 use Rattle.directory.specs.Census.{census}
 use Rattle.station.specs.Setup.{Setup, setting_in, nodes_in, IsCellOf, lock_word, tally_word, cell_word}
-use Rattle.station.specs.Views.{HasSeen, IsSound, StandsFor}
-use Rattle.station.specs.Rule.{IsKept, IsViewOf, IsOwned, IsHeld}
+use Rattle.station.specs.Views.{HasSeen, IsSoundView, StandsForActor}
+use Rattle.station.specs.Rule.{KeepsRule, IsViewOf, IsOwned, IsHeld}
 use Rattle.station.specs.declared.view.View.{View}
 use Rattle.station.proofs.Apart.{IsWordAt, is_lock, is_tally, is_cell, resound}
 
@@ -49,7 +49,7 @@ seat_below (x ∷ xs) (suc j) v e = omega (arith, seat_below xs j v e)
 pub has-kept : (history : History) (v w : View) → w.seen ≡ v.seen → w.told ≡ v.told → w.had ≡ v.had → w.low ≡ v.low
     → w.high ≡ v.high → HasSeen history v → HasSeen history w
 has-kept history v w seen told had low high has =
-    let stands : (actor : ℕ) → StandsFor w actor → StandsFor v actor =
+    let stands : (actor : ℕ) → StandsForActor w actor → StandsForActor v actor =
     λ actor its. (omega (arith, its.0, low), omega (arith, its.1, high)) in
     record {
       seen = subst (λ l. IsFront l history) (sym seen) has.seen;
@@ -60,7 +60,7 @@ has-kept history v w seen told had low high has =
     }
 
 -- a seat's view and a word of the node that it is inside are replaced
-pub record Changes (setup : Setup) (s : St) (o : IsKept setup s) (j x : ℕ) (v w : View) (new : List ℕ) : Type 0 where
+pub record Changes (setup : Setup) (s : St) (o : KeepsRule setup s) (j x : ℕ) (v w : View) (new : List ℕ) : Type 0 where
   pub me : IsViewOf s.views j v
   pub known : x < nodes_in setup
   pub before : (v.inside ≡ None) ⊎ (v.inside ≡ Some x)
@@ -70,7 +70,7 @@ pub record Changes (setup : Setup) (s : St) (o : IsKept setup s) (j x : ℕ) (v 
   pub first : slice_index new 0 ≡ slice_index s.words 0
   pub elsewhere : (y k : ℕ) → y < nodes_in setup → x ≢ y → IsWordAt setup y k
       → slice_index new k ≡ slice_index s.words k
-  pub mine : IsSound setup new o.history o.owner j w
+  pub mine : IsSoundView setup new o.history o.owner j w
   -- nobody else is inside the node
   pub alone : (k : ℕ) (u : View) → k ≢ j → IsViewOf s.views k u → u.inside ≢ Some x
   pub lock : (actor : ℕ) → slice_index new (lock_word x) ≡ suc actor → IsHeld (set s.views j w) o.owner x actor
@@ -87,8 +87,8 @@ other_node v x y ne (inl out) e = no_some y (sym out ∙ e)
 other_node v x y ne (inr there) e = let same : Some x ≡ Some y = sym there ∙ e in
     ne (ap (λ (o : Option ℕ). Rattle.std.specs.Prelude.unwrap_or o x) same)
 
-pub changed : (setup : Setup) (s : St) (o : IsKept setup s) (j x : ℕ) (v w : View) (new : List ℕ)
-    → Changes setup s o j x v w new → IsKept setup (with new s j w)
+pub changed : (setup : Setup) (s : St) (o : KeepsRule setup s) (j x : ℕ) (v w : View) (new : List ℕ)
+    → Changes setup s o j x v w new → KeepsRule setup (with new s j w)
 changed setup s o j x v w new c =
     let near = seat_below s.views j v c.me in
     record {
@@ -99,8 +99,8 @@ changed setup s o j x v w new c =
       few_actors = o.few_actors;
       tickets = c.first ∙ o.tickets;
       views = λ k u at. ⊎_elim
-          (λ (t : (k ≡ j) × (w ≡ u)). subst (λ (y : View). IsSound setup new o.history o.owner k y) t.1
-          (subst (λ (i : ℕ). IsSound setup new o.history o.owner i w) (sym t.0) c.mine))
+          (λ (t : (k ≡ j) × (w ≡ u)). subst (λ (y : View). IsSoundView setup new o.history o.owner k y) t.1
+          (subst (λ (i : ℕ). IsSoundView setup new o.history o.owner i w) (sym t.0) c.mine))
           (λ (t : (k ≢ j) × (get_elem? s.views k ≡ some u)). let was = o.views k u t.1 in
           resound setup s.words new o.history o.owner k u was (λ node i is word.
           c.elsewhere node i (was.inside node is).known (λ e. c.alone k u t.0 t.1 (is

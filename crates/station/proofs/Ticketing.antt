@@ -9,25 +9,14 @@ use Rattle.entry_word.specs.declared.visit.Visit.{Visit}
 use Rattle.directory.specs.Histories.{History, IsFront, before, own, tickets, tickets_from}
 use Rattle.directory.specs.Legal.{IsLegal}
 use Rattle.station.specs.Setup.{Setup, setting_in, subs_in}
-use Rattle.station.specs.Plays.{Draws, view_with_ticket, view_inside, view_outside, visit_by}
+use Rattle.station.specs.Plays.{Draws, view_with_ticket, view_inside, view_outside, visit_by, key_put, MayDo}
 use Rattle.station.specs.Passes.{IsPass, PassData}
-use Rattle.station.specs.Visits.{HasLeft, HasVisited}
+use Rattle.station.specs.Visits.{HasLeft, HasVisited, MayDraw}
 use Rattle.station.specs.declared.view.View.{View}
 use Rattle.station.specs.TicketLaws.{tickets-mine, tickets-same}
-
-from-count : (actor t : ℕ) (xs : History) → length (tickets_from actor t xs) ≡ length (own actor xs)
-unfolding tickets_from
-from-count actor t [] = refl
-from-count actor t (x ∷ xs) = go (x.actor == actor) (from-count actor (suc t) xs)
-  where
-    go : (b : Bool) → length (tickets_from actor (suc t) xs) ≡ length (own actor xs)
-        → length (cond b (t ∷ tickets_from actor (suc t) xs) (tickets_from actor (suc t) xs)) ≡ length (cond b
-        (x ∷ own actor xs) (own actor xs))
-    go true h = ap suc h
-    go false h = h
-
-pub tickets-count : (actor : ℕ) (history : History) → length (tickets actor history) ≡ length (own actor history)
-tickets-count actor history = from-count actor 0 history
+use Rattle.directory.specs.HistoryLaws.{tickets-count}
+use Rattle.entry_word.specs.declared.visit.Key.{Key}
+use Rattle.directory.specs.Keys.{act_node}
 
 -- a pass has room for one visit more
 pub own_few : (me : Me Act View) (actor seen spare : ℕ) (kept : List ℕ) (room : ℕ)
@@ -108,6 +97,39 @@ pass_done me one two new actor seen spare left node ticket kept room act p less 
     (gone_by.real ∙ ap (λ (x : View). x.is_spent) there)
     gone_by.undrawn gone_by.unwritten gone_by.clear
     (gone_by.seen ∙ ap (λ (x : View). x.seen) there)
+
+-- a pass that has its turn at a node may draw the ticket of an act that puts nothing
+pub may_draw : (me one : Me Act View) (actor seen spare : ℕ) (kept : List ℕ) (room node : ℕ) (act : Act)
+    → IsPass me actor seen spare kept room → 1 ≤ spare → one ≡ (view_inside me.0 node act, me.1)
+    → act_node (setting_in one.0.setup) act ≡ node → ((key : Key) → key_put act ≡ Some key → ⊥) → MayDo one.0 act
+    → MayDraw one.0 node act
+may_draw me one actor seen spare kept room node act p some turn at none may = record {
+  inside = ap (λ (m : Me Act View). m.0.inside) turn;
+  intended = ap (λ (m : Me Act View). m.0.intended) turn;
+  undrawn = ap (λ (m : Me Act View). m.0.has_drawn) turn ∙ p.undrawn;
+  unwritten = ap (λ (m : Me Act View). m.0.unwritten) turn ∙ p.unwritten;
+  clear = ap (λ (m : Me Act View). m.0.owes) turn ∙ p.clear;
+  at = at;
+  few = subst (λ (m : Me Act View). length (own m.0.low m.0.seen) < 2 ^ 56) (sym turn)
+      (own_few me actor seen spare kept room p some);
+  cell = λ key e. absurd (none key e);
+  may = may;
+}
+
+-- a pass that has drawn the ticket of a look, and has looked, leaves the node with its visit made
+pub look_done : (me one two there new : Me Act View) (actor seen spare left node ticket : ℕ) (kept : List ℕ)
+    (room : ℕ) (act : Act)
+    → IsPass me actor seen spare kept room → left + 1 ≡ spare → one ≡ (view_inside me.0 node act, me.1)
+    → Draws one.0 node act ticket two.0 → two.1 ≡ one.1 → there ≡ two → new ≡ (view_outside there.0, there.1)
+    → two.0.unwritten ≡ None → two.0.owes ≡ false
+    → IsPass new actor (suc ticket) left (kept ++ ticket ∷ []) room
+look_done me one two there new actor seen spare left node ticket kept room act p less turn d slots same gone unwritten
+    clear =
+    pass_done me one two new actor seen spare left node ticket kept room act p less turn d
+    (left_by two.0 new.0 (ap (λ (m : Me Act View). m.0) gone ∙ ap (λ (m : Me Act View). view_outside m.0) same)
+    unwritten clear)
+    (ap (λ (m : Me Act View). m.1) gone ∙ (ap (λ (m : Me Act View). m.1) same
+    ∙ (slots ∙ ap (λ (m : Me Act View). m.1) turn)))
 
 pub visit_done : (old new : PassData) (one two : Me Act View) (node ticket : ℕ) (act : Act)
     → one.0 ≡ view_inside old.view node act → Draws one.0 node act ticket two.0 → HasLeft two.0 new.view

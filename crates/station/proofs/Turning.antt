@@ -1,5 +1,5 @@
 -- The turn at a node: it is won or lost, and given back.
-use Rattle.std.proofs.Common.{◌≡◌, ◌≢◌, ℕ, suc, ◌-◌, ◌<◌, ◌≤◌, ◌==◌, true, false, true≢false, List, length, set, refl, sym, ap, ◌∙◌, subst, inl, inr, ⊎_elim, arith, Option, Some, None, get_or-set_other, get_or-set_same, length-set}
+use Rattle.std.proofs.Common.{◌≡◌, ◌≢◌, ℕ, suc, ◌-◌, ◌<◌, ◌≤◌, ◌==◌, true, false, true≢false, List, length, set, refl, sym, ap, ◌∙◌, subst, inl, inr, ⊎_elim, arith, Some, None, get_or-set_other, get_or-set_same, length-set}
 use Rattle.std.specs.Prelude.{slice_index}
 use Rattle.std.proofs.lemmas.List.{set-get_or}
 use mathlib.Core.Option.{some, none, some-injective}
@@ -13,12 +13,17 @@ use Rattle.entry_word.specs.declared.visit.Key.{Key}
 use Rattle.entry_word.specs.declared.visit.Act.{Act}
 use Rattle.directory.specs.Keys.{key_node}
 use Rattle.station.specs.Setup.{Setup, setting_in, nodes_in, lock_word, tally_word, cell_word}
-use Rattle.station.specs.Views.{IsSound, IsInside}
-use Rattle.station.specs.Rule.{IsKept, IsViewOf, IsHeld, IsWritten, IsTallied}
+use Rattle.station.specs.Views.{IsSoundView, IsInsideNode}
+use Rattle.station.specs.Rule.{KeepsRule, IsViewOf, IsHeld, IsCellWritten, IsTallied}
 use Rattle.station.specs.Plays.{Seat, view_inside, view_held, Turns, view_outside, Leaves}
 use Rattle.station.specs.declared.view.View.{View}
-use Rattle.station.proofs.Apart.{NumbersApart, is_lock, else_where, one_inside, behind}
+use Rattle.station.proofs.Apart.{is_lock, else_where, one_inside, behind}
 use Rattle.station.proofs.Steps.{St, with, owned, seat_below, changed, has-kept, no_some}
+use Rattle.visit_log.specs.Numbers.{NumbersApart}
+
+-- what is given is the same
+pub same_some : {A : Type 0} (x y : A) → Some x ≡ Some y → x ≡ y
+same_some x y e = cc
 
 -- a view is in no node and has no duty
 pub record IsIdle (view : View) : Type 0 where
@@ -26,15 +31,16 @@ pub record IsIdle (view : View) : Type 0 where
   pub unwritten : view.unwritten ≡ None
 
 -- what is unwritten, or owed, at a node where nobody else is
-pub written_here : (setup : Setup) (s : St) (o : IsKept setup s) (j x : ℕ) (v : View) (key : Key) → IsViewOf s.views j v
+pub written_here : (setup : Setup) (s : St) (o : KeepsRule setup s) (j x : ℕ) (v : View) (key : Key)
+    → IsViewOf s.views j v
     → ((k : ℕ) (u : View) → k ≢ j → IsViewOf s.views k u → u.inside ≢ Some x)
-    → key_node (setting_in setup) key ≡ x → v.unwritten ≢ Some key → IsWritten s.views key
+    → key_node (setting_in setup) key ≡ x → v.unwritten ≢ Some key → IsCellWritten s.views key
 written_here setup s o j x v key me alone at mine k u there is = dite (ℕ_discrete k j)
     (λ e. let same : u ≡ v = some-injective u v (sym there ∙ (ap (get_elem? s.views) e ∙ me)) in
     mine (ap (λ (y : View). y.unwritten) (sym same) ∙ is))
     (λ ne. alone k u ne there (((o.views k u there).unwritten key is).inside ∙ ap (λ (n : ℕ). Some n) at))
 
-pub tallied_here : (setup : Setup) (s : St) (o : IsKept setup s) (j x : ℕ) (v : View) → IsViewOf s.views j v
+pub tallied_here : (setup : Setup) (s : St) (o : KeepsRule setup s) (j x : ℕ) (v : View) → IsViewOf s.views j v
     → ((k : ℕ) (u : View) → k ≢ j → IsViewOf s.views k u → u.inside ≢ Some x)
     → (v.owes ≡ true → v.inside ≢ Some x) → IsTallied s.views x
 tallied_here setup s o j x v me alone mine k u there owes is = dite (ℕ_discrete k j)
@@ -43,9 +49,9 @@ tallied_here setup s o j x v me alone mine k u there owes is = dite (ℕ_discret
     (λ ne. alone k u ne there is)
 
 -- the view of a seat changes in what the rule doesn't speak of
-pub restated : (setup : Setup) (s : St) (o : IsKept setup s) (j : ℕ) (v w : View) → IsViewOf s.views j v
+pub restated : (setup : Setup) (s : St) (o : KeepsRule setup s) (j : ℕ) (v w : View) → IsViewOf s.views j v
     → w.low ≡ v.low → w.high ≡ v.high → w.inside ≡ v.inside → w.unwritten ≡ v.unwritten → w.owes ≡ v.owes
-    → IsSound setup s.words o.history o.owner j w → IsKept setup (with s.words s j w)
+    → IsSoundView setup s.words o.history o.owner j w → KeepsRule setup (with s.words s j w)
 restated setup s o j v w me low high inside unwritten owes mine =
     let near = seat_below s.views j v me in
     record {
@@ -56,8 +62,8 @@ restated setup s o j v w me low high inside unwritten owes mine =
       few_actors = o.few_actors;
       tickets = o.tickets;
       views = λ k u at. ⊎_elim
-          (λ (t : (k ≡ j) × (w ≡ u)). subst (λ (y : View). IsSound setup s.words o.history o.owner k y) t.1
-          (subst (λ (i : ℕ). IsSound setup s.words o.history o.owner i w) (sym t.0) mine))
+          (λ (t : (k ≡ j) × (w ≡ u)). subst (λ (y : View). IsSoundView setup s.words o.history o.owner k y) t.1
+          (subst (λ (i : ℕ). IsSoundView setup s.words o.history o.owner i w) (sym t.0) mine))
           (λ (t : (k ≢ j) × (get_elem? s.views k ≡ some u)). o.views k u t.1)
           (at_set s.views j k w u at);
       actors = λ actor below. owned s o.owner j actor v w me low high near (o.actors actor below);
@@ -88,16 +94,13 @@ restated setup s o j v w me low high inside unwritten owes mine =
 pub some_not_none : (x : ℕ) → Some x ≡ None → ⊥
 some_not_none x e = cc
 
-pub same_some : (x y : ℕ) → Some x ≡ Some y → x ≡ y
-same_some x y e = ap (λ (o : Option ℕ). Rattle.std.specs.Prelude.unwrap_or o x) e
-
 pub no_key : (key : Key) → None ≡ Some key → ⊥
 no_key key e = cc
 
-entering : NumbersApart → (setup : Setup) (s : St) (o : IsKept setup s) (j x : ℕ) (v : View) (act : Act)
+entering : NumbersApart → (setup : Setup) (s : St) (o : KeepsRule setup s) (j x : ℕ) (v : View) (act : Act)
     → IsViewOf s.views j v
     → x < nodes_in setup → v.high ≡ suc v.low → IsIdle v → slice_index s.words (lock_word x) ≡ 0
-    → IsKept setup (with (set s.words (lock_word x) (suc v.low)) s j (view_inside v x act))
+    → KeepsRule setup (with (set s.words (lock_word x) (suc v.low)) s j (view_inside v x act))
 entering law setup s o j x v act me known alone idle free =
     let new = set s.words (lock_word x) (suc v.low) in
     let w = view_inside v x act in
@@ -122,7 +125,7 @@ entering law setup s o j x v act me known alone idle free =
         has = has-kept o.history v w refl refl refl refl refl was.has;
         owner_is = was.owner_is;
         inside = λ node is. let e : x ≡ node = same_some x node is in
-            subst (λ (n : ℕ). IsInside setup new o.history w n) e record {
+            subst (λ (n : ℕ). IsInsideNode setup new o.history w n) e record {
               known = known;
               alone = alone;
               lock = get_or-set_same s.words (lock_word x) (suc v.low) 0 wide;
@@ -148,12 +151,12 @@ entering law setup s o j x v act me known alone idle free =
 
 pub turns : NumbersApart → (setup : Setup) (n id x : ℕ) (m : Seat) (act : Act) → x < nodes_in setup
     → m.0.high ≡ suc m.0.low → IsIdle m.0
-    → Allows (IsKept setup) n id m (lock_word x) (λ y. either (y == 0) (suc m.0.low) y)
+    → Allows (KeepsRule setup) n id m (lock_word x) (λ y. either (y == 0) (suc m.0.low) y)
     (Turns (step n (lock_word x) 0 (suc m.0.low) (some act)) m)
 turns law setup n id x m act known alone idle s o wide me small =
     let word = slice_index s.words (lock_word x) in
     let Goes : ℕ → Type 0 = λ k. (w : View) × (a : Rattle.atomic_table.specs.Table.Act Act) × Valid s.homes m.1 a
-    × IsKept setup (stepped s (lock_word x) k id m.1 w a)
+    × KeepsRule setup (stepped s (lock_word x) k id m.1 w a)
     × Turns (step n (lock_word x) 0 (suc m.0.low) (some act)) m word (w, carried_after m.1 a) in
     exchanged word 0 (suc m.0.low) Goes
     (λ free. (
@@ -181,7 +184,7 @@ turns law setup n id x m act known alone idle s o wide me small =
       w,
       keeps,
       tt,
-      subst (λ (ws : List ℕ). IsKept setup (with ws s id w)) (sym (set-get_or s.words (lock_word x) 0))
+      subst (λ (ws : List ℕ). KeepsRule setup (with ws s id w)) (sym (set-get_or s.words (lock_word x) 0))
           (restated setup s o id m.0 w me refl refl refl refl refl record {
             setup_is = was.setup_is;
             has = has-kept o.history m.0 w refl refl refl refl refl was.has;
@@ -198,7 +201,7 @@ turns law setup n id x m act known alone idle s o wide me small =
 
 pub leaves : NumbersApart → (setup : Setup) (n id x : ℕ) (m : Seat) → m.0.inside ≡ Some x → m.0.unwritten ≡ None
     → m.0.owes ≡ false
-    → Allows (IsKept setup) n id m (lock_word x) (λ _. 0) (λ _. Leaves (step n (lock_word x) 0 0 none) m 0)
+    → Allows (KeepsRule setup) n id m (lock_word x) (λ _. 0) (λ _. Leaves (step n (lock_word x) 0 0 none) m 0)
 leaves law setup n id x m there unwritten owes s o wide me small =
     let v = m.0 in
     let new = set s.words (lock_word x) 0 in
@@ -246,9 +249,9 @@ leaves law setup n id x m there unwritten owes s o wide me small =
 pub turns_at : NumbersApart → (setup : Setup) (n id x i new : ℕ) (m : Seat) (act : Act) → x < nodes_in setup
     → m.0.high ≡ suc m.0.low → IsIdle m.0
     → i ≡ lock_word x → new ≡ suc m.0.low
-    → Allows (IsKept setup) n id m i (λ y. either (y == 0) new y) (Turns (step n i 0 new (some act)) m)
+    → Allows (KeepsRule setup) n id m i (λ y. either (y == 0) new y) (Turns (step n i 0 new (some act)) m)
 turns_at law setup n id x i new m act known alone idle at is =
-    let P : ℕ → ℕ → Type 0 = λ k w. Allows (IsKept setup) n id m k (λ y. either (y == 0) w y) (Turns (step n k 0 w
+    let P : ℕ → ℕ → Type 0 = λ k w. Allows (KeepsRule setup) n id m k (λ y. either (y == 0) w y) (Turns (step n k 0 w
     (some act)) m) in
     subst (λ (k : ℕ). P k new) (sym at) (subst (λ (w : ℕ). P (lock_word x) w) (sym is)
     (turns law setup n id x m act known alone idle))
@@ -256,7 +259,7 @@ turns_at law setup n id x i new m act known alone idle at is =
 pub leaves_at : NumbersApart → (setup : Setup) (n id x i : ℕ) (m : Seat) → m.0.inside ≡ Some x
     → m.0.unwritten ≡ None → m.0.owes ≡ false
     → i ≡ lock_word x
-    → Allows (IsKept setup) n id m i (λ _. 0) (λ _. Leaves (step n i 0 0 none) m 0)
+    → Allows (KeepsRule setup) n id m i (λ _. 0) (λ _. Leaves (step n i 0 0 none) m 0)
 leaves_at law setup n id x i m there unwritten owes at =
-    subst (λ (k : ℕ). Allows (IsKept setup) n id m k (λ _. 0) (λ _. Leaves (step n k 0 0 none) m 0)) (sym at)
+    subst (λ (k : ℕ). Allows (KeepsRule setup) n id m k (λ _. 0) (λ _. Leaves (step n k 0 0 none) m 0)) (sym at)
     (leaves law setup n id x m there unwritten owes)

@@ -11,25 +11,18 @@ use Rattle.entry_word.specs.declared.visit.Key.{Key}
 use Rattle.directory.specs.Keys.{key_node}
 use Rattle.directory.specs.Histories.{History, cell}
 use Rattle.directory.specs.Census.{census}
-use Rattle.region_plan.specs.Cells.{IsCell}
-use Rattle.visit_log.specs.Numbers.{cell_number, cell_count}
-use Rattle.region_plan.specs.Plan.{PlanData}
+use Rattle.visit_log.specs.Numbers.{NumbersApart, NumbersBelow}
 use Rattle.station.specs.Setup.{Setup, setting_in, nodes_in, subs_in, IsCellOf, lock_word, tally_word, cell_word, word_count}
-use Rattle.station.specs.Views.{HasUnwritten, IsInside, IsSound}
-use Rattle.station.specs.Rule.{IsKept, IsViewOf, IsHeld}
+use Rattle.station.specs.Views.{HasUnwritten, IsInsideNode, IsSoundView}
+use Rattle.station.specs.Rule.{KeepsRule, IsViewOf, IsHeld}
 use Rattle.station.specs.Plays.{Seat, view_after_put, view_after_tally, Writes, Tallies}
 use Rattle.station.specs.Visits.{HasTurn}
 use Rattle.station.specs.declared.view.View.{View}
-use Rattle.station.proofs.Apart.{NumbersApart, is_tally, is_cell, else_where, behind, behind_tally, same_number}
-use Rattle.station.proofs.Staying.{SameKey}
+use Rattle.station.proofs.Apart.{is_tally, is_cell, else_where, behind, behind_tally, same_number}
 use Rattle.station.proofs.Steps.{St, seat_below, changed, has-kept, no_some}
 use Rattle.station.proofs.Turning.{written_here, tallied_here, no_key, same_some}
 use Rattle.station.proofs.Reading.{cell_seen, census_seen, alone}
-
--- a cell's number is below the count of cells
-abbrev pub NumbersBelow : Type 0
-NumbersBelow = (plan : PlanData) (subs : ℕ) (key : Key) → IsCell plan subs key
-    → cell_number plan subs key < cell_count plan subs
+use Rattle.directory.specs.Statements.{SameKey}
 
 pub cell_below : NumbersBelow → (setup : Setup) (key : Key) → IsCellOf setup key
     → cell_word setup key < word_count setup
@@ -37,9 +30,6 @@ cell_below law setup key known = step_up (nodes_in setup) _ _ (law setup.plan (s
   where
     step_up : (n c d : ℕ) → c < d → suc (2 * n + c) < suc (2 * n + d)
     step_up n c d h = omega arith
-
-key_same : (key other : Key) → Some key ≡ Some other → key ≡ other
-key_same key other e = ap (λ (o : Option Key). Rattle.std.specs.Prelude.unwrap_or o key) e
 
 -- who is inside a node when another of its words changes
 pub still_held : (s : St) (o : ℕ → ℕ) (j x actor : ℕ) (v w : View) → IsViewOf s.views j v → w.inside ≡ v.inside
@@ -56,12 +46,12 @@ still_held s o j x actor v w me inside low t = dite (ℕ_discrete (o actor) j)
 
 -- the view that stores a word of the node that it is inside, but not the lock
 sound-stored : (setup : Setup) (words ws : List ℕ) (history : History) (owner : ℕ → ℕ) (j x : ℕ) (v : View)
-    (unwritten : Option Key) (owes : Bool) → (was : IsSound setup words history owner j v) → v.inside ≡ Some x
+    (unwritten : Option Key) (owes : Bool) → (was : IsSoundView setup words history owner j v) → v.inside ≡ Some x
     → slice_index ws (lock_word x) ≡ slice_index words (lock_word x)
     → (owes ≡ true → slice_index ws (tally_word setup x) ≡ v.tally)
     → ((key : Key) → unwritten ≡ Some key
     → HasUnwritten setup ws (record v { unwritten = unwritten; owes = owes }) key)
-    → IsSound setup ws history owner j (record v { unwritten = unwritten; owes = owes })
+    → IsSoundView setup ws history owner j (record v { unwritten = unwritten; owes = owes })
 sound-stored setup words ws history owner j x v unwritten owes was there lock tally puts =
     let w : View = record v { unwritten = unwritten; owes = owes } in
     let here = was.inside x there in
@@ -69,13 +59,14 @@ sound-stored setup words ws history owner j x v unwritten owes was there lock ta
       setup_is = was.setup_is;
       has = has-kept history v w refl refl refl refl refl was.has;
       owner_is = was.owner_is;
-      inside = λ node is. subst (λ (k : ℕ). IsInside setup ws history w k) (same_some x node (sym there ∙ is)) record {
-        known = here.known;
-        alone = here.alone;
-        lock = lock ∙ here.lock;
-        last = here.last;
-        tally = tally;
-      };
+      inside = λ node is. subst (λ (k : ℕ). IsInsideNode setup ws history w k)
+          (same_some x node (sym there ∙ is)) record {
+            known = here.known;
+            alone = here.alone;
+            lock = lock ∙ here.lock;
+            last = here.last;
+            tally = tally;
+          };
       unwritten = puts;
       outside = λ out. absurd (no_some x (sym out ∙ there));
     }
@@ -83,7 +74,7 @@ sound-stored setup words ws history owner j x v unwritten owes was there lock ta
 pub writes : NumbersApart → NumbersBelow → SameKey → (n id i new : ℕ) (m : Seat) (key : Key) → m.0.unwritten ≡ Some key
     → IsCellOf m.0.setup key → i ≡ cell_word m.0.setup key → HasTurn m.0 (key_node (setting_in m.0.setup) key)
     → new ≡ cell (setting_in m.0.setup) m.0.seen key
-    → Allows (IsKept m.0.setup) n id m i (λ _. new) (λ _. Writes (step n i new 0 none) m new)
+    → Allows (KeepsRule m.0.setup) n id m i (λ _. new) (λ _. Writes (step n i new 0 none) m new)
 writes law below same n id i new m key put known at turn is s o wide me small =
     let v = m.0 in
     let setup = v.setup in
@@ -126,7 +117,7 @@ writes law below same n id i new m key put known at turn is s o wide me small =
             (ap (slice_index ws) (sym at) ∙ word))
             (λ ne. get_or-set_other s.words i (cell_word setup other) new 0 ne
             ∙ o.cells other cell_there (written_here setup s o id x v other me others there (λ had.
-            ne (ap (cell_word setup) (key_same other key (sym had ∙ put)) ∙ sym at))));
+            ne (ap (cell_word setup) (same_some other key (sym had ∙ put)) ∙ sym at))));
         tally = λ quiet. get_or-set_other s.words i (tally_word setup x) new 0 not_tally
             ∙ o.tallies x here.known (tallied_here setup s o id x v me others quiet);
       },
@@ -138,7 +129,7 @@ writes law below same n id i new m key put known at turn is s o wide me small =
 
 pub tallies : NumbersApart → SameKey → (n id x i new : ℕ) (m : Seat) → HasTurn m.0 x → i ≡ tally_word m.0.setup x
     → new ≡ length (census (setting_in m.0.setup) m.0.seen x)
-    → Allows (IsKept m.0.setup) n id m i (λ _. new) (λ _. Tallies (step n i new 0 none) m new)
+    → Allows (KeepsRule m.0.setup) n id m i (λ _. new) (λ _. Tallies (step n i new 0 none) m new)
 tallies law same n id x i new m turn at is s o wide me small =
     let v = m.0 in
     let setup = v.setup in

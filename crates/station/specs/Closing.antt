@@ -22,18 +22,18 @@ pub record IsOrder (setup : Setup) (passes : List PassData) (order : List ℕ) :
   pub legal : (sub : ℕ) → sub < subs_in setup → IsLegal (setting_in setup) sub history
 
 -- no pass of an actor is among these
-abbrev pub IsMissing : List PassData → ℕ → Type 0
-IsMissing passes actor =
+abbrev pub HasNoPass : List PassData → ℕ → Type 0
+HasNoPass passes actor =
     (k : ℕ) (pass : PassData) → slice_get passes k ≡ Some pass → actor_of pass ≢ actor
 
 -- each of the first actors has a pass among these
 abbrev pub ArePresent : ℕ → List PassData → Type 0
-ArePresent actors passes = (actor : ℕ) → actor < actors → ¬ IsMissing passes actor
+ArePresent actors passes = (actor : ℕ) → actor < actors → ¬ HasNoPass passes actor
 
 -- why a tracker isn't closed: the first actor that is missing, or want of memory where none is
 abbrev pub IsCause : ℕ → List PassData → CloseCause → Type 0
 IsCause actors passes (Missing actor) =
-    (actor < actors) × IsMissing passes actor × ArePresent actor passes
+    (actor < actors) × HasNoPass passes actor × ArePresent actor passes
 IsCause actors passes OutOfMemory = ArePresent actors passes
 
 -- a history goes on from what each of these passes has seen, by known actors alone, and is legal

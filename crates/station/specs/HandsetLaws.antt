@@ -4,8 +4,8 @@
 use Rattle.std.proofs.Common.{◌≡◌, ◌≢◌, ℕ, suc, ◌-◌, ◌^◌, ◌<◌, ◌≤◌, ◌==◌, Bool, true, false, not, List, [], ◌∷◌, ◌++◌, Some, None, length, take, refl, sym, ap, ◌∙◌, subst, arith}
 use Rattle.std.specs.Prelude.{nat_le, if◌then◌else◌}
 use Rattle.std.proofs.lemmas.Bool.{eqb-false, leb-false}
-use Rattle.std.proofs.lemmas.List.{append-nil, length-drop}
-use Rattle.directory.specs.Courses.{Course, MayStep, MaySteps, Step, after_step, after_steps, course_at, last_stop, move_to}
+use Rattle.std.proofs.lemmas.List.{append-nil}
+use Rattle.directory.specs.Courses.{Course, MayStep, MaySteps, Step, after_step, after_steps, course_at, move_to}
 use Rattle.directory.specs.Histories.{puts_to}
 use Rattle.directory.specs.Settings.{Setting, start}
 use Rattle.directory.specs.StepLaws.{take-append, visits-append, visits_in}
@@ -13,16 +13,17 @@ use Rattle.directory.specs.Writes.{visits}
 use Rattle.handset.specs.Beginning.{begin_move, is_rest, move_fault}
 use Rattle.handset.specs.Kept.{GoesWith, HandsetData, begun_at}
 use Rattle.directory.specs.Amid.{course_of}
-use Rattle.handset.specs.Stands.{StandsAt, StandsFor}
+use Rattle.handset.specs.Stands.{StandsForSteps}
 use Rattle.handset.specs.declared.fault.MoveFault.TheVariants.{NoNode, SamePlace, UnderWay, IsOff, NumbersSpent}
 use Rattle.handset.specs.declared.stage.Stage.{Stage}
-use Rattle.handset.specs.declared.stage.Stage.TheVariants.{Resting, Coming, Renewing, Committing, Confirming, Erasing, Purging, Switching}
 use Rattle.region_plan.specs.Plan.{PlanData, nodes_of}
 use Rattle.station.specs.Handsets.{IsHandsetOf}
 use Rattle.station.specs.Passes.{fresh_view}
 use Rattle.station.specs.Setup.{Setup, nodes_in, setting_in, subs_in}
 use Rattle.station.specs.declared.view.View.{View}
+use Rattle.handset.specs.StageLaws.{rest-means, IsRestAfter, rest-after}
 
+-- no steps may always be made
 no-steps : (setting : Setting) (course : Course) → MaySteps setting course []
 unfolding MaySteps
 no-steps setting course = tt
@@ -31,7 +32,8 @@ no-steps setting course = tt
 pub new-handset : (setup : Setup) (handset : HandsetData) (sub : ℕ)
     → GoesWith setup.plan handset → handset.sub ≡ sub → sub < subs_in setup
     → start (setting_in setup) sub < nodes_in setup
-    → StandsFor (setting_in setup) handset [] 0 → IsHandsetOf setup (fresh_view setup sub) handset
+    → StandsForSteps (setting_in setup) handset [] 0
+    → IsHandsetOf setup (fresh_view setup sub) handset
 new-handset setup handset sub goes same known begins stands =
     record {
       goes = goes;
@@ -46,44 +48,13 @@ new-handset setup handset sub goes same known begins stands =
       made = refl;
     }
 
--- the stage of a handset at rest
-pub rest-means : (stage : Stage) → is_rest stage ≡ true → stage ≡ Resting
-rest-means Resting rests = refl
-rest-means Coming rests = cc
-rest-means (Renewing level) rests = cc
-rest-means Committing rests = cc
-rest-means Confirming rests = cc
-rest-means (Erasing level) rests = cc
-rest-means (Purging node) rests = cc
-rest-means (Switching off) rests = cc
-
--- a handset at rest, and the course of its steps
-pub record IsRest (setting : Setting) (sub : ℕ) (handset : HandsetData) (steps : List Step)
-    (made : ℕ) : Type 0 where
-  pub place : handset.place ≡ last_stop (course_of setting sub steps)
-  pub number : handset.number ≡ length (course_of setting sub steps).moves
-  pub is_off : handset.is_off ≡ (course_of setting sub steps).is_off
-  pub all : made ≡ length (visits setting sub steps)
-
+-- a handset at rest stands at the end of the course of its steps
 pub at-rest : (setting : Setting) (sub : ℕ) (handset : HandsetData) (steps : List Step) (made : ℕ)
-    → handset.sub ≡ sub → StandsFor setting handset steps made → is_rest handset.stage ≡ true
-    → IsRest setting sub handset steps made
+    → handset.sub ≡ sub → StandsForSteps setting handset steps made → is_rest handset.stage ≡ true
+    → IsRestAfter setting sub handset steps made
 at-rest setting sub handset steps made same stands rests =
-    let at : StandsAt setting handset Resting steps made =
-    subst (λ stage. StandsAt setting handset stage steps made) (rest-means handset.stage rests)
-    stands in
-    let over : at.over ≡ steps = sym (append-nil at.over) ∙ sym at.begun in
-    subst (λ s. IsRest setting s handset steps made) same (record {
-      place = at.place ∙ ap (λ ss. last_stop (course_of setting handset.sub ss)) over;
-      number = at.number ∙ ap (λ ss. length (course_of setting handset.sub ss).moves) over;
-      is_off = at.is_off ∙ ap (λ ss. (course_of setting handset.sub ss).is_off) over;
-      all = omega (
-        arith,
-        at.few,
-        ap length at.left,
-        length-drop made (visits setting handset.sub steps),
-      );
-    })
+    subst (λ s. IsRestAfter setting s handset steps made) same
+    (rest-after setting handset steps made stands (rest-means handset.stage rests))
 
 -- what it means that a move may begin
 abbrev pub Conditions : PlanData → HandsetData → ℕ → Type 0
@@ -91,6 +62,7 @@ Conditions plan handset to =
     (to < nodes_of plan) × (to ≢ handset.place) × (is_rest handset.stage ≡ true)
     × (handset.is_off ≡ false) × (handset.number ≢ 2 ^ 32 - 1)
 
+-- where no fault is found, none is there
 no-fault : (a b c d e : Bool)
     → (if a then Some NoNode else if b then Some SamePlace else if not c then Some UnderWay
     else if d then Some IsOff else if e then Some NumbersSpent else None) ≡ None
@@ -102,6 +74,7 @@ no-fault false false true true e h = cc
 no-fault false false true false true h = cc
 no-fault false false true false false h = (refl, refl, refl, refl, refl)
 
+-- where a move has no fault, it may begin
 pub conditions : (plan : PlanData) (handset : HandsetData) (to : ℕ)
     → move_fault plan handset to ≡ None → Conditions plan handset to
 conditions plan handset to none =
@@ -140,8 +113,8 @@ made-still setting sub made steps step few =
 pub begun-handset : (setup : Setup) (view : View) (handset begun : HandsetData) (to : ℕ)
     → (its : IsHandsetOf setup view handset) → move_fault setup.plan handset to ≡ None
     → begun ≡ begin_move (setting_in setup) handset to → GoesWith setup.plan begun
-    → ((steps : List Step) (made : ℕ) → StandsFor (setting_in setup) handset steps made
-    → StandsFor (setting_in setup) begun (steps ++ move_to to ∷ []) made)
+    → ((steps : List Step) (made : ℕ) → StandsForSteps (setting_in setup) handset steps made
+    → StandsForSteps (setting_in setup) begun (steps ++ move_to to ∷ []) made)
     → (next : IsHandsetOf setup view begun) × (next.steps ≡ its.steps ++ move_to to ∷ [])
 begun-handset setup view handset begun to its begins is goes stands =
     let setting : Setting = setting_in setup in

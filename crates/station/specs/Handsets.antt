@@ -1,5 +1,6 @@
 -- The handset that goes with a pass: it stands for steps that its subscriber may make, and just the
--- puts among what the pass has seen are made.
+-- puts among what the pass has seen are made. Key law: `visit_put`, by its clauses `made` (the
+-- handset goes with the pass after it) and `goes_on` (the put is the last that the pass has seen).
 use Rattle.std.specs.Prelude.{◌≡◌, ℕ, ◌+◌, Bool, true, false, not, if◌then◌else◌, List, [], ◌∷◌, ◌++◌, length, take}
 use Rattle.entry_word.specs.Marks.{mark_in, says_here}
 use Rattle.entry_word.specs.declared.visit.Key.{Key}
@@ -12,7 +13,7 @@ use Rattle.directory.specs.Courses.{Step}
 use Rattle.directory.specs.Legal.{IsScript}
 use Rattle.directory.specs.Writes.{visits}
 use Rattle.handset.specs.Kept.{GoesWith, HandsetData}
-use Rattle.handset.specs.Stands.{StandsFor}
+use Rattle.handset.specs.Stands.{StandsForSteps}
 use Rattle.station.specs.Setup.{Setup, setting_in}
 use Rattle.station.specs.declared.view.View.{View}
 
@@ -22,14 +23,14 @@ pub record IsHandsetOf (setup : Setup) (view : View) (handset : HandsetData) : T
   pub sub : handset.sub ≡ view.low
   pub steps : List Step
   pub script : IsScript (setting_in setup) view.low steps
-  pub stands : StandsFor (setting_in setup) handset steps
+  pub stands : StandsForSteps (setting_in setup) handset steps
       (length (puts_to view.low view.seen))
   pub made : puts_to view.low view.seen ≡ take (length (puts_to view.low view.seen))
       (visits (setting_in setup) view.low steps)
 
 -- a handset goes on by a put of its pass: it stands for the same steps, and the put is the last one
 -- of its subscriber that the pass has seen
-pub record GoesOn (setup : Setup) (old new : View) (moved : HandsetData) (steps : List Step)
+pub record HandsetGoesOn (setup : Setup) (old new : View) (moved : HandsetData) (steps : List Step)
     (put : Visit) : Type 0 where
   pub own : IsHandsetOf setup new moved
   pub steps_are : own.steps ≡ steps

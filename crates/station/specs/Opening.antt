@@ -1,4 +1,5 @@
--- The words at the opening, and how they are laid, one after another.
+-- The words at the opening, and how they are laid, one after another. Key law: `opening_words`, by
+-- its clause `opening` (it gives all words of the opening).
 use Rattle.std.specs.Prelude.{◌≡◌, ℕ, ◌<◌, List, [], length, slice_index}
 use Rattle.entry_word.specs.declared.visit.Key.{Key}
 use Rattle.directory.specs.Histories.{cell}

@@ -1,10 +1,11 @@
--- What contracts see of a tracker and of a pass.
+-- What contracts see of a tracker and of a pass. Key law: `Pass::reserve`, by its clauses (a pass
+-- has room for so many visits more, or memory is wanting and it is as before).
 use Rattle.std.specs.Prelude.{◌≡◌, ℕ, suc, ◌+◌, ◌^◌, ◌<◌, ◌≤◌, false, List, [], length, Some, None, slice_get}
 use Rattle.atomic_table.specs.Seated.{TableId}
 use Rattle.atomic_table.specs.Table.{Me}
 use Rattle.entry_word.specs.declared.visit.Act.{Act}
 use Rattle.directory.specs.Histories.{tickets}
-use Rattle.visit_log.specs.Cells.{AreHomes}
+use Rattle.visit_log.specs.Cells.{HasHomes}
 use Rattle.station.specs.Setup.{Setup, CellsLie, nodes_in, subs_in, word_count}
 use Rattle.station.specs.Plays.{first_view}
 use Rattle.station.specs.declared.turns.Stay.{Stay}
@@ -35,7 +36,7 @@ pub record IsTracker (table : TableId) (setup : Setup) (nodes subs actors : ℕ)
   pub some_actors : 1 ≤ actors
   pub few_actors : actors ≤ 128
   pub lies : CellsLie setup
-  pub homes : AreHomes setup.plan
+  pub homes : HasHomes setup.plan
 
 -- a pass stands for its actor; between two calls it has nothing to write; and it keeps the tickets
 -- of its own visits, with room for more
@@ -92,7 +93,7 @@ abbrev pub fresh_view : Setup → ℕ → View
 fresh_view setup actor = record (first_view setup) { low = actor; high = suc actor }
 
 -- a pass of a new tracker
-pub record IsFresh (tracker : TrackerData) (actor : ℕ) (pass : PassData) : Type 0 where
+pub record IsFreshPass (tracker : TrackerData) (actor : ℕ) (pass : PassData) : Type 0 where
   pub table : pass.table ≡ tracker.table
   pub view : pass.view ≡ fresh_view tracker.setup actor
   pub spare : pass.spare ≡ 0
@@ -101,7 +102,7 @@ pub record IsFresh (tracker : TrackerData) (actor : ℕ) (pass : PassData) : Typ
 abbrev pub AreFresh : TrackerData → List PassData → Type 0
 AreFresh tracker passes =
     (actor : ℕ) (pass : PassData) → slice_get passes actor ≡ Some pass
-    → IsFresh tracker actor pass
+    → IsFreshPass tracker actor pass
 
 -- a pass of a tracker is in no node, and has room for so many visits
 pub record IsFree (tracker : TrackerData) (visits : ℕ) (pass : PassData) : Type 0 where

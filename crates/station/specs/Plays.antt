@@ -1,4 +1,5 @@
 -- What each step tells its seat: of the step, the seat before, the number found and the seat after.
+-- Key law: `Tracker::witness`, by its clause `rule` (the rule holds of a state with the view).
 use Rattle.std.specs.Prelude.{◌≡◌, ◌≢◌, ℕ, suc, ◌^◌, ◌<◌, ◌≤◌, true, false, [], ◌∷◌, ◌++◌, length, nat_lt, if◌then◌else◌, Option, Some, None}
 use mathlib.Core.Option.{some}
 use Rattle.atomic_table.specs.Table.{Me, State, Step}
@@ -11,8 +12,8 @@ use Rattle.directory.specs.Histories.{History, IsFront, cell, changes_here, own,
 use Rattle.directory.specs.Legal.{IsLegal}
 use Rattle.directory.specs.Census.{census}
 use Rattle.station.specs.Setup.{Setup, setting_in, subs_in, IsCellOf, lock_word, tally_word, cell_word}
-use Rattle.station.specs.Views.{StandsFor}
-use Rattle.station.specs.Rule.{IsKept, IsViewOf}
+use Rattle.station.specs.Views.{StandsForActor}
+use Rattle.station.specs.Rule.{KeepsRule, IsViewOf}
 use Rattle.station.specs.declared.view.View.{View}
 
 -- a view with its slots, of which it has none
@@ -23,10 +24,11 @@ Seat = Me Act View
 abbrev pub Play : Type 1
 Play = Step Act → Seat → ℕ → Seat → Type 0
 
--- the view inside a node where it means to do an act, and the view that lost the turn
+-- the view inside a node where it means to do an act
 abbrev pub view_inside : View → ℕ → Act → View
 view_inside view node act = record view { inside = Some node; intended = Some act }
 
+-- the view that lost the turn
 abbrev pub view_held : View → ℕ → ℕ → View
 view_held view node word =
     record view { lost = view.lost ++ record { node = node; word = word } ∷ [] }
@@ -61,10 +63,11 @@ first_view setup =
       lost = [];
     }
 
--- the first actor of a view is dealt to a new seat
+-- the first actor of a view is dealt to a new seat: the view stands for the others then
 abbrev pub view_of_rest : View → View
 view_of_rest view = record view { low = suc view.low }
 
+-- the view of the new seat stands for that actor alone
 abbrev pub view_of_first : View → View
 view_of_first view = record view { high = suc view.low }
 
@@ -86,11 +89,12 @@ note_of view =
 abbrev pub longer : History → History → History
 longer one other = if nat_lt (length one) (length other) then other else one
 
--- a view that takes a note in, and what the note is left with
+-- a view that takes a note in
 abbrev pub view_with_note : View → View → View
 view_with_note view note =
     record view { seen = longer view.seen note.seen; told = note.seen; had = view.seen }
 
+-- the setup that a spent note is left with
 abbrev pub no_setup : Setup
 no_setup =
     record {
@@ -113,22 +117,25 @@ spent_view = record (note_of (first_view no_setup)) { is_spent = true }
 pub record IsLearned (view : View) : Type 0 where
   pub told : IsFront view.told view.seen
   pub had : IsFront view.had view.seen
-  pub visits : (actor : ℕ) → StandsFor view actor → own actor view.seen ≡ own actor view.had
+  pub visits : (actor : ℕ) → StandsForActor view actor → own actor view.seen ≡ own actor view.had
   pub known : (actor : ℕ) → view.setup.actors ≤ actor → own actor view.seen ≡ []
   pub legal : (sub : ℕ) → sub < subs_in view.setup → IsLegal (setting_in view.setup) sub view.seen
 
+-- a seat learns that, and its view stays
 abbrev pub Learns : Play
 Learns step before found after = (after ≡ before) × IsLearned before.0
 
--- the visit that an act is, and what it puts
+-- the visit that an act is
 abbrev pub visit_by : View → Act → Visit
 visit_by view act = record { actor = view.low; act = act }
 
+-- the cell that an act puts into, if it is a put
 abbrev pub key_put : Act → Option Key
 key_put (Look key) = None
 key_put (Put key word) = Some key
 key_put (Census node) = None
 
+-- the word that its cell held before, if it is a put
 abbrev pub word_before : Setup → History → Act → ℕ
 word_before setup history (Look key) = 0
 word_before setup history (Put key word) = cell (setting_in setup) history key
@@ -170,6 +177,7 @@ pub record Draws (before : View) (node : ℕ) (act : Act) (found : ℕ) (after :
   pub legal : (sub : ℕ) → sub < subs_in before.setup
       → IsLegal (setting_in before.setup) sub after.seen
 
+-- a seat inside a node draws the ticket of the act that it means to do
 abbrev pub DrawsTicket : Play
 DrawsTicket step before found after =
     (node : ℕ) (act : Act) → before.0.inside ≡ Some node → before.0.intended ≡ Some act
@@ -191,22 +199,27 @@ ReadsTally step before found after =
     → found ≡ length (census (setting_in before.0.setup) before.0.seen node))
     × (before.0.owes ≡ true → found ≡ before.0.tally))
 
--- the put is written; the tally is written; the node is left
+-- the put is written
 abbrev pub view_after_put : View → View
 view_after_put view = record view { unwritten = None }
 
+-- the tally is written
 abbrev pub view_after_tally : View → View
 view_after_tally view = record view { owes = false }
 
+-- the node is left
 abbrev pub view_outside : View → View
 view_outside view = record view { inside = None; intended = None; has_drawn = false }
 
+-- a seat writes its put
 abbrev pub Writes : Play
 Writes step before found after = after ≡ (view_after_put before.0, before.1)
 
+-- a seat writes its tally
 abbrev pub Tallies : Play
 Tallies step before found after = after ≡ (view_after_tally before.0, before.1)
 
+-- a seat leaves its node
 abbrev pub Leaves : Play
 Leaves step before found after = after ≡ (view_outside before.0, before.1)
 
@@ -214,8 +227,9 @@ Leaves step before found after = after ≡ (view_outside before.0, before.1)
 pub record IsWitnessed (view : View) : Type 0 where
   pub state : State Act View
   pub seat : ℕ
-  pub kept : IsKept view.setup state
+  pub kept : KeepsRule view.setup state
   pub view_is : IsViewOf state.views seat view
 
+-- a seat learns that, and its view stays
 abbrev pub Witnesses : Play
 Witnesses step before found after = (after ≡ before) × IsWitnessed before.0

@@ -16,7 +16,7 @@ use Rattle.directory.specs.Histories.{History, cell, own}
 use Rattle.directory.specs.Legal.{IsLegal}
 use Rattle.directory.specs.Census.{census}
 use Rattle.station.specs.Setup.{Setup, setting_in, nodes_in, subs_in, IsCellOf, CellsLie, lock_word, tally_word, cell_word, word_count}
-use Rattle.station.specs.Views.{IsSound, StandsFor}
+use Rattle.station.specs.Views.{IsSoundView, StandsForActor}
 use Rattle.station.specs.declared.view.View.{View}
 
 -- the view of a seat
@@ -25,7 +25,8 @@ IsViewOf views seat view = get_elem? views seat ≡ some view
 
 -- a view stands for the actor, at its owner's seat
 abbrev pub IsOwned : List View → (ℕ → ℕ) → ℕ → Type 0
-IsOwned views owner actor = (view : View) × IsViewOf views (owner actor) view × StandsFor view actor
+IsOwned views owner actor =
+    (view : View) × IsViewOf views (owner actor) view × StandsForActor view actor
 
 -- the pass of an actor is inside a node
 abbrev pub IsHeld : List View → (ℕ → ℕ) → ℕ → ℕ → Type 0
@@ -33,11 +34,12 @@ IsHeld views owner node actor =
     (view : View) × IsViewOf views (owner actor) view × (view.inside ≡ Some node)
     × (view.low ≡ actor)
 
--- no view has a put into this cell that isn't written; no view owes the tally of this node
-abbrev pub IsWritten : List View → Key → Type 0
-IsWritten views key =
+-- no view has a put into this cell that isn't written
+abbrev pub IsCellWritten : List View → Key → Type 0
+IsCellWritten views key =
     (seat : ℕ) (view : View) → IsViewOf views seat view → view.unwritten ≢ Some key
 
+-- no view owes the tally of this node
 abbrev pub IsTallied : List View → ℕ → Type 0
 IsTallied views node =
     (seat : ℕ) (view : View) → IsViewOf views seat view → view.owes ≡ true
@@ -45,7 +47,7 @@ IsTallied views node =
 
 -- the rule, of a state's words and views: there is a history, and an owner of each actor, of which
 -- all this holds
-pub record IsKept (setup : Setup) (state : State Act View) : Type 0 where
+pub record KeepsRule (setup : Setup) (state : State Act View) : Type 0 where
   pub history : History
   -- the seat that stands for an actor
   pub owner : ℕ → ℕ
@@ -55,7 +57,7 @@ pub record IsKept (setup : Setup) (state : State Act View) : Type 0 where
   -- the ticket word counts the visits
   pub tickets : slice_index state.words 0 ≡ length history
   pub views : (seat : ℕ) (view : View) → IsViewOf state.views seat view
-      → IsSound setup state.words history owner seat view
+      → IsSoundView setup state.words history owner seat view
   -- each actor has its seat, nobody else has a visit, and each has few
   pub actors : (actor : ℕ) → actor < setup.actors → IsOwned state.views owner actor
   pub known : (actor : ℕ) → setup.actors ≤ actor → own actor history ≡ []
@@ -64,7 +66,7 @@ pub record IsKept (setup : Setup) (state : State Act View) : Type 0 where
   pub locks : (node actor : ℕ) → node < nodes_in setup
       → slice_index state.words (lock_word node) ≡ suc actor → IsHeld state.views owner node actor
   -- a cell holds what the history leaves there, and a tally counts who is at its node
-  pub cells : (key : Key) → IsCellOf setup key → IsWritten state.views key
+  pub cells : (key : Key) → IsCellOf setup key → IsCellWritten state.views key
       → slice_index state.words (cell_word setup key) ≡ cell (setting_in setup) history key
   pub tallies : (node : ℕ) → node < nodes_in setup → IsTallied state.views node
       → slice_index state.words (tally_word setup node)

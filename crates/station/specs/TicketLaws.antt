@@ -12,21 +12,24 @@ pub front-rest : (xs zs : History) → IsFront xs zs → zs ≡ xs ++ drop (leng
 front-rest xs zs f =
     sym (take-append-drop (length xs) zs) ∙ ap (λ l. l ++ drop (length xs) zs) (sym f)
 
--- an actor's own visits: none is beyond a front that has all of them
+-- a list that more leaves as it is gets nothing
 goes_on-nil : (xs ys : History) → xs ++ ys ≡ xs → ys ≡ []
 goes_on-nil [] ys e = e
 goes_on-nil (x ∷ xs) ys e = goes_on-nil xs ys (ap (drop 1) e)
 
+-- more visits only add to those of an actor
 pub own-append : (actor : ℕ) (xs ys : History)
     → own actor (xs ++ ys) ≡ own actor xs ++ own actor ys
 own-append actor xs ys = filter-append (λ (v : Visit). v.actor == actor) xs ys
 
+-- where a longer history has no more visits of an actor, none is in what it adds
 pub own-beyond : (actor : ℕ) (xs zs : History) → IsFront xs zs → own actor zs ≡ own actor xs
     → own actor (drop (length xs) zs) ≡ []
 own-beyond actor xs zs f same = goes_on-nil (own actor xs) (own actor (drop (length xs) zs))
     (sym (own-append actor xs (drop (length xs) zs))
     ∙ (ap (own actor) (sym (front-rest xs zs f)) ∙ same))
 
+-- where an actor has no visit, neither the first is one nor a later
 pub own-nil : (actor : ℕ) (visit : Visit) (later : History) → own actor (visit ∷ later) ≡ []
     → (visit.actor ≢ actor) × (own actor later ≡ [])
 own-nil actor visit later e = go (visit.actor == actor) refl e
@@ -82,6 +85,7 @@ tickets-mine actor zs visit mine = from-append actor 0 zs (visit ∷ [])
     ∙ ap (λ l. tickets actor zs ++ l)
     (from-one actor (0 + length zs) visit mine ∙ ap (λ (k : ℕ). k ∷ []) (omega arith))
 
+-- an actor's next ticket, where others went between
 pub tickets-more : (actor : ℕ) (xs earlier : History) (visit : Visit) → IsFront xs earlier
     → own actor earlier ≡ own actor xs → visit.actor ≡ actor
     → tickets actor (earlier ++ visit ∷ []) ≡ tickets actor xs ++ length earlier ∷ []

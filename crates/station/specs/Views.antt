@@ -1,6 +1,7 @@
 -- What one view knows, and what the rule says of it. A view stands for the actors from the lowest
 -- on, up to another: for one of them while the tracker is open. A note's view stands for none.
 -- What an actor has visited is what its view has seen of it.
+-- Key law: `Tracker::witness`, by its clause `rule`: the rule says so of the view of each pass.
 use Rattle.std.specs.Prelude.{◌≡◌, ℕ, suc, ◌<◌, ◌≤◌, true, false, List, [], drop, Some, None, slice_index, ◌==◌}
 use Rattle.std.specs.List.{filter}
 use Rattle.entry_word.specs.declared.visit.Key.{Key}
@@ -16,8 +17,8 @@ abbrev pub visits_at : Setting → ℕ → History → List Visit
 visits_at setting node history = filter (λ visit. act_node setting visit.act == node) history
 
 -- a view stands for an actor
-abbrev pub StandsFor : View → ℕ → Type 0
-StandsFor view actor = (view.low ≤ actor) × (actor < view.high)
+abbrev pub StandsForActor : View → ℕ → Type 0
+StandsForActor view actor = (view.low ≤ actor) × (actor < view.high)
 
 -- what a view has seen, what it had seen before it was told more, and what it was told, are fronts
 -- of the history; and all visits of the actors that it stands for are among what it has seen, and
@@ -26,12 +27,12 @@ pub record HasSeen (history : History) (view : View) : Type 0 where
   pub seen : IsFront view.seen history
   pub told : IsFront view.told history
   pub had : IsFront view.had history
-  pub visits : (actor : ℕ) → StandsFor view actor → own actor history ≡ own actor view.seen
-  pub kept : (actor : ℕ) → StandsFor view actor → own actor history ≡ own actor view.had
+  pub visits : (actor : ℕ) → StandsForActor view actor → own actor history ≡ own actor view.seen
+  pub kept : (actor : ℕ) → StandsForActor view actor → own actor history ≡ own actor view.had
 
 -- a view is inside a node: it stands for one actor, the lock word names that actor, and once it has
 -- drawn its ticket there, no later visit is at the node
-pub record IsInside (setup : Setup) (words : List ℕ) (history : History) (view : View)
+pub record IsInsideNode (setup : Setup) (words : List ℕ) (history : History) (view : View)
     (node : ℕ) : Type 0 where
   pub known : node < nodes_in setup
   pub alone : view.high ≡ suc view.low
@@ -50,13 +51,13 @@ pub record HasUnwritten (setup : Setup) (words : List ℕ) (view : View) (key : 
 
 -- what the rule says of the view of a seat: it holds the one setup, unless it is spent; the seat is
 -- the owner of its actors; and it draws its ticket, and owes a tally, only inside a node
-pub record IsSound (setup : Setup) (words : List ℕ) (history : History) (owner : ℕ → ℕ)
+pub record IsSoundView (setup : Setup) (words : List ℕ) (history : History) (owner : ℕ → ℕ)
     (seat : ℕ) (view : View) : Type 0 where
   pub setup_is : view.is_spent ≡ false → view.setup ≡ setup
   pub has : HasSeen history view
-  pub owner_is : (actor : ℕ) → StandsFor view actor
+  pub owner_is : (actor : ℕ) → StandsForActor view actor
       → (owner actor ≡ seat) × (actor < setup.actors)
   pub inside : (node : ℕ) → view.inside ≡ Some node
-      → IsInside setup words history view node
+      → IsInsideNode setup words history view node
   pub unwritten : (key : Key) → view.unwritten ≡ Some key → HasUnwritten setup words view key
   pub outside : view.inside ≡ None → (view.has_drawn ≡ false) × (view.owes ≡ false)

@@ -1,6 +1,6 @@
 //! The end of a tracker.
 ghost use Rattle.std.specs.Prelude.{◌≡◌, ◌<◌, ◌≤◌, ℕ, All, IfErr, IfOk, MatchBool, MatchOption, OnOk, length};
-ghost use Rattle.station.specs.Closing.{ArePresent, HasGathered, IsCause, IsMissing, IsOrder};
+ghost use Rattle.station.specs.Closing.{ArePresent, HasGathered, IsCause, HasNoPass, IsOrder};
 ghost use Rattle.station.specs.Passes.{IsNoteOf, IsPassOf};
 
 use crate::notes::Note;
@@ -74,7 +74,7 @@ impl Tracker {
 // The first actor that has no pass among these.
 fn first_missing(actors: u32, passes: &[Pass]) -> Option<u32>
     ensures { MatchOption result (ArePresent actors passes.now)
-        (λ actor. (actor < actors) × IsMissing passes.now actor × ArePresent actor passes.now) }
+        (λ actor. (actor < actors) × HasNoPass passes.now actor × ArePresent actor passes.now) }
 {
     for actor in 0..actors {
         if !has_pass(passes, actor) {
@@ -86,7 +86,7 @@ fn first_missing(actors: u32, passes: &[Pass]) -> Option<u32>
 
 // Whether an actor has a pass among these.
 fn has_pass(passes: &[Pass], actor: u32) -> bool
-    ensures { MatchBool result (IsMissing passes.now actor → ⊥) (IsMissing passes.now actor) }
+    ensures { MatchBool result (HasNoPass passes.now actor → ⊥) (HasNoPass passes.now actor) }
 {
     for k in 0..passes.len() {
         if passes[k].actor() == actor {

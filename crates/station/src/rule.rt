@@ -7,10 +7,10 @@ use entry_word::Act;
 pub struct Watch;
 
 impl TableRule<Act, View, About> for Watch {
-    ghost use Rattle.station.specs.Rule.{IsKept};
+    ghost use Rattle.station.specs.Rule.{KeepsRule};
     ghost use Rattle.station.specs.Plays.{first_view};
 
-    ghost holds = { λ about. IsKept about };
+    ghost holds = { λ about. KeepsRule about };
 
     ghost first = { first_view };
 }

@@ -9,7 +9,7 @@ ghost use Rattle.directory.specs.Writes.{visits};
 ghost use Rattle.handset.specs.Kept.{GoesWith};
 ghost use Rattle.handset.specs.Progress.{after_write, due};
 ghost use Rattle.region_plan.specs.Settings.{setting_of};
-ghost use Rattle.station.specs.Handsets.{GoesOn, IsHandsetOf, put_of};
+ghost use Rattle.station.specs.Handsets.{HandsetGoesOn, IsHandsetOf, put_of};
 ghost use Rattle.station.specs.Passes.{IsPassOf};
 ghost use Rattle.station.specs.Setup.{IsCellOf, nodes_in, setting_in, subs_in};
 ghost use Rattle.station.specs.Visits.{HasLost, HasVisited, IsCensus, Makes, MayDraw};
@@ -92,7 +92,8 @@ impl Tracker {
             × (handset.new ≡ handset.old)) }
         ensures goes_on { OnOk result (IfSome (due (setting_of plan.now []) handset.old)
             (λ visit. (own : IsHandsetOf self.now.setup pass.old.view handset.old)
-            → GoesOn self.now.setup pass.old.view pass.new.view handset.new own.steps visit)) }
+            → HandsetGoesOn self.now.setup pass.old.view pass.new.view handset.new own.steps
+            visit)) }
     {
         let (key, word) = self.next_put(plan, handset);
         let node = self.node_of(plan, key);

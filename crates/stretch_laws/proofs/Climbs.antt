@@ -2,7 +2,7 @@
 use Rattle.std.proofs.Common.{◌≡◌, ◌⊎◌, inl, inr, ℕ, zero, suc, ◌+◌, ◌*◌, ◌<◌, ◌≤◌, ◌^◌, Bool, true, false, ◌==◌, ◌||◌, List, [], ◌∷◌, ◌++◌, Option, Some, None, length, map, refl, sym, ap, ◌∙◌, subst, arith}
 use Rattle.std.specs.Prelude.{flat_map}
 use Rattle.std.proofs.Math.Nat.{mul-le-mul_left, mul-le-mul_right}
-use Rattle.std.proofs.lemmas.Bool.{eqb-true, eq-eqb}
+use Rattle.std.proofs.lemmas.Bool.{eqb-true}
 use Rattle.node_set.specs.Ascending.{has}
 use Rattle.entry_word.specs.declared.address.Address.{Address}
 use Rattle.directory.specs.Settings.{Setting}
@@ -11,8 +11,9 @@ use Rattle.directory.specs.Writes.{numbers_from}
 use Rattle.directory.specs.Finds.{FindCall, Reader}
 use Rattle.directory.specs.Standing.{number, standing}
 use Rattle.trail_laws.specs.Trail.{entry_seen, IsLed, KnowsAtMost, mark_seen}
-use Rattle.trail_laws.specs.Within.{Affords, AffordsAddress, EntryAsks, IsAtMost}
+use Rattle.trail_laws.specs.Within.{Affords, AffordsAddress, EntryAsks, WeighsAtMost}
 use Rattle.stretch_laws.proofs.Heights.{scaled-more, scaled-next}
+use Rattle.node_set.specs.SetLaws.{has_head}
 
 -- what these clusters of a level, where they have an address, lead to, over ways of at most this weight
 abbrev pub Pays : Setting → ℕ → History → ℕ → ℕ → List ℕ → Type 0
@@ -27,9 +28,6 @@ Pays setting sub seen chase level cs =
 abbrev pub HasAddress : Setting → ℕ → History → ℕ → List ℕ → Type 0
 HasAddress setting sub seen level cs =
     (c : ℕ) × (address : Address) × (has c cs ≡ true) × (entry_seen setting sub seen level c ≡ Some address)
-
-pub head-has : (c : ℕ) (cs : List ℕ) → has c (c ∷ cs) ≡ true
-head-has c cs = ap (λ b. b || has c cs) (eq-eqb c c refl)
 
 pub tail-has : (x c : ℕ) (cs : List ℕ) → has x cs ≡ true → has x (c ∷ cs) ≡ true
 tail-has x c cs h = at_test (x == c)
@@ -47,9 +45,9 @@ module _ (setting : Setting) (seen : History) (call : FindCall) (most reads chas
   row-affords : (level r : ℕ) (cs : List ℕ) (rest : List Reader) (weight : ℕ)
       → ((c : ℕ) → has c cs ≡ true → setting.inside level c call.from ≤ r)
       → Pays setting call.sub seen chase level cs → weight + 2 * (length cs * r) ≤ reads
-      → ((w : ℕ) → w ≤ weight + 2 * (length cs * r) → Affords setting call.sub seen call (IsAtMost most) w rest)
+      → ((w : ℕ) → w ≤ weight + 2 * (length cs * r) → Affords setting call.sub seen call (WeighsAtMost most) w rest)
       ⊎ HasAddress setting call.sub seen level cs
-      → Affords setting call.sub seen call (IsAtMost most) weight
+      → Affords setting call.sub seen call (WeighsAtMost most) weight
       (map (λ c. record { level = level; cluster = c }) cs ++ rest)
   unfolding Affords
   row-affords level r [] rest weight near pays few (inl on) = on weight (omega arith)
@@ -57,20 +55,20 @@ module _ (setting : Setting) (seen : History) (call : FindCall) (most reads chas
   row-affords level r (c ∷ cs) rest weight near pays few ends = at_entry (entry_seen setting call.sub seen level c) refl
       (λ e. row-affords level r cs rest (weight + 2 * setting.inside level c call.from)
       (λ x h. near x (tail-has x c cs h)) (λ x a k h. pays x a k (tail-has x c cs h))
-      (omega (arith, few, one-more (length cs) r, near c (head-has c cs))) (later ends e))
+      (omega (arith, few, one-more (length cs) r, near c (has_head c cs))) (later ends e))
     where
       later : ((w : ℕ) → w ≤ weight + 2 * (suc (length cs) * r)
-          → Affords setting call.sub seen call (IsAtMost most) w rest)
+          → Affords setting call.sub seen call (WeighsAtMost most) w rest)
           ⊎ HasAddress setting call.sub seen level (c ∷ cs) → entry_seen setting call.sub seen level c ≡ None
           → ((w : ℕ) → w ≤ weight + 2 * setting.inside level c call.from + 2 * (length cs * r)
-          → Affords setting call.sub seen call (IsAtMost most) w rest)
+          → Affords setting call.sub seen call (WeighsAtMost most) w rest)
           ⊎ HasAddress setting call.sub seen level cs
-      later (inl on) e = inl (λ w h. on w (omega (arith, h, one-more (length cs) r, near c (head-has c cs))))
+      later (inl on) e = inl (λ w h. on w (omega (arith, h, one-more (length cs) r, near c (has_head c cs))))
       later (inr found) e = at_test (found.0 == c) refl found.2
         where
           at_test : (b : Bool) → (found.0 == c) ≡ b → (b || has found.0 cs) ≡ true
               → ((w : ℕ) → w ≤ weight + 2 * setting.inside level c call.from + 2 * (length cs * r)
-              → Affords setting call.sub seen call (IsAtMost most) w rest)
+              → Affords setting call.sub seen call (WeighsAtMost most) w rest)
               ⊎ HasAddress setting call.sub seen level cs
           at_test false g h = inr (found.0, found.1, h, found.3)
           at_test true g h =
@@ -79,21 +77,21 @@ module _ (setting : Setting) (seen : History) (call : FindCall) (most reads chas
 
       at_entry : (entry : Option Address) → entry_seen setting call.sub seen level c ≡ entry
           → (entry_seen setting call.sub seen level c ≡ None
-          → Affords setting call.sub seen call (IsAtMost most) (weight + 2 * setting.inside level c call.from)
+          → Affords setting call.sub seen call (WeighsAtMost most) (weight + 2 * setting.inside level c call.from)
           (map (λ x. record { level = level; cluster = x }) cs ++ rest))
           → EntryAsks entry
-          (Affords setting call.sub seen call (IsAtMost most) (weight + 2 * setting.inside level c call.from)
+          (Affords setting call.sub seen call (WeighsAtMost most) (weight + 2 * setting.inside level c call.from)
           (map (λ x. record { level = level; cluster = x }) cs ++ rest))
-          (λ address. AffordsAddress setting call.sub seen call (IsAtMost most) weight
+          (λ address. AffordsAddress setting call.sub seen call (WeighsAtMost most) weight
           (record { level = level; cluster = c }) address)
       at_entry None e on = on e
       at_entry (Some address) e on = λ known knows.
-          let there = pays c address known (head-has c cs) e knows in (
+          let there = pays c address known (has_head c cs) e knows in (
             there.0,
             there.1,
             there.2,
             there.3,
-            omega (arith, there.4, room, few, one-more (length cs) r, near c (head-has c cs)),
+            omega (arith, there.4, room, few, one-more (length cs) r, near c (has_head c cs)),
           )
 
   -- the climb through the levels up to one where a reader has an address
@@ -106,7 +104,7 @@ module _ (setting : Setting) (seen : History) (call : FindCall) (most reads chas
       → 4 * (readers * (width * 2 ^ last)) ≤ reads
       → (fuel level count weight : ℕ) → fuel + level ≡ last → last < level + count
       → weight + 2 * (readers * (width * 2 ^ 0)) ≤ 2 * (readers * (width * 2 ^ level))
-      → Affords setting call.sub seen call (IsAtMost most) weight
+      → Affords setting call.sub seen call (WeighsAtMost most) weight
       (flat_map (λ i. map (λ c. record { level = i; cluster = c }) (setting.readers i call.from))
       (numbers_from level count))
   climb-affords width readers last few near pays found enough fuel level zero weight count within so_far = absurd

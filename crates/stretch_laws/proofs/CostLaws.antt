@@ -15,8 +15,9 @@ use Rattle.trail_laws.specs.Trail.{EntriesTell, EntryTells}
 use Rattle.trail_laws.specs.Ways.{LevelsStayNear, PassagesAreOpen, StandsInside}
 use Rattle.stretch_laws.specs.Costs.{AfterConfirm, AtRest, ClimbsEndEarly, Costs, CurrentAfterConfirm, InPassage, IsMet, NewBeforeCommit, OldBeforeCommit, ReadingIsBounded}
 use Rattle.stretch_laws.specs.Tracking.{IsTracking, radius}
-use Rattle.stretch_laws.proofs.Climbs.{head-has, one-more, tail-has}
+use Rattle.stretch_laws.proofs.Climbs.{one-more, tail-has}
 use Rattle.stretch_laws.proofs.Heights.{Ends, ends, scaled-next}
+use Rattle.node_set.specs.SetLaws.{has_head}
 
 -- what is used of the laws
 pub record CostUsed : Type 0 where
@@ -190,7 +191,7 @@ row-weight setting call level r (c ∷ cs) near = omega (
   sum_by-cons (λ (reader : Reader). 2 * way_in setting call reader) (record { level = level; cluster = c })
       (map (λ x. record { level = level; cluster = x }) cs),
   row-weight setting call level r cs (λ x h. near x (tail-has x c cs h)),
-  near c (head-has c cs),
+  near c (has_head c cs),
   one-more (length cs) r,
 )
 

@@ -1,9 +1,9 @@
 -- The level at which a climb ends: its radius is less than four times the distance.
 use Rattle.std.proofs.Common.{◌≡◌, ◌⊎◌, inl, inr, ℕ, zero, suc, ◌+◌, ◌-◌, ◌*◌, ◌<◌, ◌≤◌, ◌^◌, ap, ◌∙◌, subst, arith}
 use Rattle.std.proofs.Math.Nat.{mul-le-mul_left}
-use Rattle.std.proofs.lemmas.Bool.Decides.{nat_tests}
 use Rattle.directory.specs.Settings.{Setting}
 use Rattle.stretch_laws.specs.Tracking.{radius, stretch}
+use Rattle.std.proofs.lemmas.Bool.{cases_lt}
 
 -- a level whose radius is less than four times the distance, and that is the top level or reaches as far as the
 -- distance and what it has gathered
@@ -12,9 +12,6 @@ pub record Ends (setting : Setting) (d : ℕ) : Type 0 where
   pub low : level ≤ setting.top
   pub small : radius level < 4 * d
   pub reaches : (level ≡ setting.top) ⊎ (d + setting.threshold level ≤ radius level + 1)
-
-cases : (a b : ℕ) → (a ≤ b) ⊎ (b < a)
-cases a b = grind (arith, nat_tests)
 
 twice : (level : ℕ) → 2 ^ suc level ≡ 2 * 2 ^ level
 twice level = omega arith
@@ -28,13 +25,13 @@ ends-from setting d halves zero level count small = record {
   reaches = inl (let e : level ≡ setting.top = omega (arith, count) in e);
 }
 ends-from setting d halves (suc fuel) level count small =
-    at_case (cases (d + setting.threshold level) (radius level + 1))
+    at_case (cases_lt (radius level + 1) (d + setting.threshold level))
     (λ small_next. ends-from setting d halves fuel (suc level) (omega (arith, count)) small_next)
   where
-    at_case : (d + setting.threshold level ≤ radius level + 1) ⊎ (radius level + 1 < d + setting.threshold level)
+    at_case : (radius level + 1 < d + setting.threshold level) ⊎ (d + setting.threshold level ≤ radius level + 1)
         → (radius (suc level) < 4 * d → Ends setting d) → Ends setting d
-    at_case (inl near) next = record { level = level; low = omega (arith, count); small = small; reaches = inr near }
-    at_case (inr more) next = next (omega (arith, twice level, more, halves level (omega (arith, count))))
+    at_case (inr near) next = record { level = level; low = omega (arith, count); small = small; reaches = inr near }
+    at_case (inl more) next = next (omega (arith, twice level, more, halves level (omega (arith, count))))
 
 pub ends : (setting : Setting) (d : ℕ) → ((i : ℕ) → i ≤ setting.top → 2 * setting.threshold i ≤ radius i + 1)
     → 1 ≤ d → Ends setting d

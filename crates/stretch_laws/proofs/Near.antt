@@ -6,14 +6,14 @@ use Rattle.entry_word.specs.declared.mark.PresenceMark.TheVariants.{Empty, Here,
 use Rattle.directory.specs.Settings.{levels, Setting}
 use Rattle.directory.specs.Histories.{before, History, through}
 use Rattle.directory.specs.Legal.{IsLegal}
-use Rattle.directory.specs.Finds.{all_readers, FindCall, weight_of}
+use Rattle.directory.specs.Finds.{all_readers, FindCall, found_weight}
 use Rattle.directory.specs.Looks.{first_of, last_of}
 use Rattle.directory.specs.Standing.{passage, standing}
 use Rattle.directory.specs.Parts.{known_after}
 use Rattle.trail_laws.specs.Trail.{answers, EntriesTell, EntryTells, IsLed, mark_seen}
 use Rattle.trail_laws.specs.Answers.{IsAnswered}
 use Rattle.trail_laws.specs.Ways.{AddressesLeadShortly, ComingsLeadShortly, IsOpenAtMost, LevelsStayNear, PassagesAreOpen, StandsInside}
-use Rattle.trail_laws.specs.Within.{Affords, Begins, HistoryFrontsAreLegal, IsAtMost, QuietFindsStandStill, QuietFindsStayWithin}
+use Rattle.trail_laws.specs.Within.{Affords, Begins, HistoryFrontsAreLegal, WeighsAtMost, QuietFindsStandStill, QuietFindsStayWithin}
 use Rattle.stretch_laws.specs.Tracking.{IsTracking, QuietFindsAreNear, radius, stretch}
 use Rattle.stretch_laws.proofs.Heights.{Ends, ends, scaled-more, within-one, within-stretch}
 use Rattle.stretch_laws.proofs.Climbs.{climb-affords, HasAddress, Pays}
@@ -148,7 +148,7 @@ module _ (used : Used) (setting : Setting) (width readers : ℕ) (seen : History
           ))
 
   climbs-near : 1 ≤ setting.distance call.from (standing setting call.sub seen)
-      → Affords setting call.sub seen call (IsAtMost (most setting width readers seen call pass)) 0
+      → Affords setting call.sub seen call (WeighsAtMost (most setting width readers seen call pass)) 0
       (all_readers setting call.from)
   climbs-near apart =
       let end = ends setting (setting.distance call.from (standing setting call.sub seen)) tracking.halves apart in
@@ -167,7 +167,7 @@ module _ (used : Used) (setting : Setting) (width readers : ℕ) (seen : History
       (λ i h. pays i end.level h end.low) (found-at end) (omega arith)
       end.level 0 (levels setting) 0 (omega arith) (omega (arith, end.low)) (omega arith)
 
-  pub begins-near : Begins setting seen call (IsAtMost (most setting width readers seen call pass))
+  pub begins-near : Begins setting seen call (WeighsAtMost (most setting width readers seen call pass))
   begins-near = record {
     here = omega arith;
     climbing = λ c h o. climbs-near (tracking.apart call.from (standing setting call.sub seen) inside there_inside
@@ -204,7 +204,7 @@ near used setting width readers history actor call found tickets low tracking in
     )
 
     sure : (pass : ℕ) → IsOpenAtMost setting call.sub (before (first_of tickets) history) pass
-        → IsAnswered found × (weight_of found ≤ most setting width readers (before (first_of tickets) history) call
+        → IsAnswered found × (found_weight found ≤ most setting width readers (before (first_of tickets) history) call
         pass)
     sure pass opens = used.stays setting history actor call found tickets
         (most setting width readers (before (first_of tickets) history) call pass) low inside legal
@@ -218,12 +218,13 @@ near used setting width readers history actor call found tickets low tracking in
         (passage setting call.sub (through (last_of tickets) history))
     still = used.still setting history actor call found tickets low legal find quiet
 
-    at_last : IsAnswered found × (weight_of found ≤ most setting width readers (before (first_of tickets) history) call
+    at_last : IsAnswered found
+        × (found_weight found ≤ most setting width readers (before (first_of tickets) history) call
         (passage setting call.sub (through (last_of tickets) history)))
     at_last = sure (passage setting call.sub (through (last_of tickets) history)) still.1
 
-    ended_near : weight_of found ≤ stretch width readers * setting.distance call.from
+    ended_near : found_weight found ≤ stretch width readers * setting.distance call.from
         (standing setting call.sub (through (last_of tickets) history))
         + 2 * passage setting call.sub (through (last_of tickets) history)
-    ended_near = subst (λ n. weight_of found ≤ stretch width readers * setting.distance call.from n
+    ended_near = subst (λ n. found_weight found ≤ stretch width readers * setting.distance call.from n
         + 2 * passage setting call.sub (through (last_of tickets) history)) (sym still.0) at_last.1

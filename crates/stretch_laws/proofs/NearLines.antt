@@ -1,11 +1,11 @@
 -- The lines of quiet finds are within the limit, since each is made by the looks of a find.
-use Rattle.std.proofs.Common.{◌≡◌, ℕ, ◌+◌, ◌*◌, ◌<◌, ◌≤◌, ◌^◌, List, [], ◌∷◌, sym, subst}
+use Rattle.std.proofs.Common.{◌≡◌, ℕ, ◌+◌, ◌*◌, ◌<◌, ◌≤◌, ◌^◌, List, sym, subst}
 use Rattle.std.specs.Prelude.{All}
-use Rattle.std.proofs.lemmas.List.Elements.{All-cons, All-head, All-nil, All-tail}
+use Rattle.std.proofs.lemmas.List.Elements.{All-weaker}
 use Rattle.directory.specs.Settings.{Setting, subs}
 use Rattle.directory.specs.Histories.{History, through}
 use Rattle.directory.specs.Legal.{IsLegal}
-use Rattle.directory.specs.Finds.{FindCall, weight_of}
+use Rattle.directory.specs.Finds.{FindCall, found_weight}
 use Rattle.directory.specs.ScriptLaws.{call_of_valid}
 use Rattle.directory.specs.Looks.{first_of, IsFind, IsQuiet, last_of}
 use Rattle.directory.specs.Orders.{AreValid, history_of, IsFindCall, Scripts}
@@ -27,7 +27,8 @@ FindsAreWithin limit setting history =
     (actor : ℕ) (call : FindCall) (found : Found) (seen : List ℕ) → call.from < setting.nodes
     → IsLegal setting call.sub history → IsFind setting history actor call found seen
     → IsQuiet history call.sub (first_of seen) (last_of seen)
-    → IsAnswered found × IsLimited limit setting call.from call.sub (weight_of found) (through (last_of seen) history)
+    → IsAnswered found
+    × IsLimited limit setting call.from call.sub (found_weight found) (through (last_of seen) history)
 
 -- the line of a find is within the limit
 near_line : (limit : ℕ → ℕ → ℕ) (setting : Setting) (history : History) → FindsAreWithin limit setting history
@@ -67,11 +68,6 @@ made_near limit setting scripts history within valid legal (AgainBy actor from s
     near_line limit setting history within actor (record { from = from; sub = sub }) h.found h.seen _ is
     (legal sub is.known) h.find h.tells
 
-all_near : {A : Type 0} (P Q : A → Type 0) (xs : List A) → ((x : A) → P x → Q x) → All P xs → All Q xs
-all_near P Q [] more all = All-nil Q
-all_near P Q (x ∷ xs) more all = All-cons Q x xs (more x (All-head P x xs all))
-    (all_near P Q xs more (All-tail P x xs all))
-
 -- what is used of the laws of orders
 pub record OrderLaws : Type 0 where
   pub played : OrdersArePlayed
@@ -84,11 +80,12 @@ within-outcome : OrderLaws → (limit : ℕ → ℕ → ℕ) (setting : Setting)
     → AreValid setting scripts
     → All (IsLineWithin limit setting (history_of setting scripts order)) (outcome_of setting scripts order).calls
 within-outcome laws limit setting scripts order low within valid =
-    all_near (IsMade setting scripts (history_of setting scripts order))
-    (IsLineWithin limit setting (history_of setting scripts order)) (outcome_of setting scripts order).calls
+    All-weaker (IsMade setting scripts (history_of setting scripts order))
+    (IsLineWithin limit setting (history_of setting scripts order))
     (made_near limit setting scripts (history_of setting scripts order) within valid
     (λ sub below. laws.legal setting scripts (history_of setting scripts order) sub low valid below
     (laws.played setting scripts order)))
+    (outcome_of setting scripts order).calls
     (laws.made setting scripts (history_of setting scripts order) (laws.played setting scripts order)
     (laws.done setting scripts order))
 

@@ -11,7 +11,7 @@ use Rattle.directory.specs.Standing.{number, standing}
 use Rattle.trail_laws.specs.Phases.{AddressesLeadByPhase, IsAtRest, IsSettled, RestIsSettled}
 use Rattle.trail_laws.specs.Trail.{mark_seen, MarksTell, MarkTells}
 use Rattle.trail_laws.specs.Ways.{IsOpenAtMost}
-use Rattle.trail_laws.specs.Within.{Affords, Begins, IsAtMost}
+use Rattle.trail_laws.specs.Within.{Affords, Begins, WeighsAtMost}
 use Rattle.stretch_laws.specs.Tracking.{IsTracking, resting_stretch, RestingFindsAreNearer}
 use Rattle.stretch_laws.proofs.Heights.{ends, scaled-more}
 use Rattle.stretch_laws.proofs.Climbs.{climb-affords, Pays}
@@ -85,7 +85,7 @@ module _ (all : RestUsed) (setting : Setting) (width readers : ℕ) (seen : Hist
       )
 
   climbs : 1 ≤ setting.distance call.from (standing setting call.sub seen)
-      → Affords setting call.sub seen call (IsAtMost (resting_stretch width readers
+      → Affords setting call.sub seen call (WeighsAtMost (resting_stretch width readers
       * setting.distance call.from (standing setting call.sub seen))) 0 (all_readers setting call.from)
   climbs apart =
       let end = ends setting (setting.distance call.from (standing setting call.sub seen)) tracking.halves apart in
@@ -119,7 +119,7 @@ module _ (all : RestUsed) (setting : Setting) (width readers : ℕ) (seen : Hist
       at_cases (inr late) = settled.1 u (ap (mark_seen setting call.sub seen) (sym late.1)
           ∙ (comes ∙ ap (λ n. Coming n u) late.0))
 
-  pub begins-nearer : Begins setting seen call (IsAtMost (resting_stretch width readers
+  pub begins-nearer : Begins setting seen call (WeighsAtMost (resting_stretch width readers
       * setting.distance call.from (standing setting call.sub seen)))
   begins-nearer = record {
     here = omega arith;

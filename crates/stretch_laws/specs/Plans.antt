@@ -5,7 +5,7 @@
 use Rattle.std.specs.Prelude.{ℕ, ◌+◌, ◌*◌, ◌<◌, ◌≤◌, ◌^◌, List}
 use Rattle.directory.specs.Histories.{before, History, through}
 use Rattle.directory.specs.Legal.{IsLegal}
-use Rattle.directory.specs.Finds.{FindCall, weight_of}
+use Rattle.directory.specs.Finds.{FindCall, found_weight}
 use Rattle.directory.specs.Looks.{first_of, IsFind, IsQuiet, last_of}
 use Rattle.directory.specs.Standing.{passage, standing}
 use Rattle.directory.specs.declared.answers.Found.{Found}
@@ -31,7 +31,7 @@ bound_of plan distance passing = stretch_of plan * distance + 2 * passing
 abbrev pub IsWithinBound : PlanData → List ℕ → FindCall → Found → History → Type 0
 IsWithinBound plan starts call found history =
     IsAnswered found
-    × (weight_of found ≤ bound_of plan
+    × (found_weight found ≤ bound_of plan
     ((setting_of plan starts).distance call.from
     (standing (setting_of plan starts) call.sub history))
     (passage (setting_of plan starts) call.sub history))

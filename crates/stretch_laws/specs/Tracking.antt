@@ -6,13 +6,13 @@ use Rattle.node_set.specs.Ascending.{has}
 use Rattle.directory.specs.Settings.{Setting}
 use Rattle.directory.specs.Histories.{before, History, through}
 use Rattle.directory.specs.Legal.{IsLegal}
-use Rattle.directory.specs.Finds.{FindCall, weight_of}
+use Rattle.directory.specs.Finds.{FindCall, found_weight}
 use Rattle.directory.specs.Looks.{first_of, IsFind, IsQuiet, last_of}
 use Rattle.directory.specs.Standing.{passage, standing}
 use Rattle.directory.specs.declared.answers.Found.{Found}
 use Rattle.trail_laws.specs.Answers.{IsAnswered}
 use Rattle.trail_laws.specs.Phases.{IsAtRest}
-use Rattle.trail_laws.specs.Trail.{IsMetric}
+use Rattle.trail_laws.specs.Trail.{HasMetric}
 
 -- the radius of a level, a power of two
 abbrev pub radius : ℕ → ℕ
@@ -24,7 +24,7 @@ radius level = 2 ^ level
 -- is within a level's radius of a node reads its home, and at the top level everybody does; and
 -- the way from a leader to a reader is no shorter than their distance
 pub record IsTracking (setting : Setting) (width most_readers : ℕ) : Type 0 where
-  pub metric : IsMetric setting
+  pub metric : HasMetric setting
   pub apart : (u v : ℕ) → u < setting.nodes → v < setting.nodes → u ≢ v
       → 1 ≤ setting.distance u v
   pub gathers : (i : ℕ) → i ≤ setting.top → 1 ≤ setting.threshold i
@@ -52,7 +52,7 @@ stretch width most_readers = 16 * most_readers * width + 12 * width + 5
 abbrev pub IsNear : Setting → ℕ → ℕ → FindCall → Found → History → Type 0
 IsNear setting width most_readers call found history =
     IsAnswered found
-    × (weight_of found ≤ stretch width most_readers
+    × (found_weight found ≤ stretch width most_readers
     * setting.distance call.from (standing setting call.sub history)
     + 2 * passage setting call.sub history)
 
@@ -82,5 +82,5 @@ RestingFindsAreNearer =
     → IsLegal setting call.sub history → IsFind setting history actor call found tickets
     → IsQuiet history call.sub (first_of tickets) (last_of tickets)
     → IsAtRest setting call.sub (before (first_of tickets) history)
-    → IsAnswered found × (weight_of found ≤ resting_stretch width most_readers
+    → IsAnswered found × (found_weight found ≤ resting_stretch width most_readers
     * setting.distance call.from (standing setting call.sub (before (first_of tickets) history)))

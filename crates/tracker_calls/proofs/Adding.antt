@@ -2,7 +2,7 @@
 use Rattle.std.proofs.Common.{◌≡◌, ℕ, suc, ◌-◌, List, [], ◌∷◌, ◌++◌, None, length, refl, sym, ap, ◌∙◌, subst, arith, append_assoc, length-append}
 use Rattle.std.proofs.lemmas.List.{append-nil, get_or_push}
 use Rattle.entry_word.specs.declared.visit.Act.{Act}
-use Rattle.directory.specs.Histories.{History, IsFront, tickets}
+use Rattle.directory.specs.Histories.{IsFront, tickets}
 use Rattle.directory.specs.Looks.{last_of}
 use Rattle.station.specs.Passes.{PassData, actor_of}
 use Rattle.station.specs.Plays.{view_held, visit_by}
@@ -13,16 +13,7 @@ use Rattle.station.specs.declared.view.Lost.{Lost}
 use Rattle.station.specs.TicketLaws.{tickets-more}
 use Rattle.tracker_calls.specs.Added.{HasAdded, HasTried, KeepsLost}
 use Rattle.tracker_calls.proofs.Wanted.{legal-seen}
-
--- the laws of fronts
-abbrev pub Itself : Type 0
-Itself = (history : History) → IsFront history history
-
-abbrev pub Longer : Type 0
-Longer = (history more : History) → IsFront history (history ++ more)
-
-abbrev pub Through : Type 0
-Through = (one two three : History) → IsFront one two → IsFront two three → IsFront one three
+use Rattle.directory.specs.Statements.{BeginsWithItself, BeginsWithFront, BeginsThrough}
 
 -- no turns are lost; and some, and then more
 keeps-none : (pass : PassData) → KeepsLost pass pass
@@ -35,7 +26,8 @@ keeps-through one two three first second = (
 )
 
 -- nothing is added
-pub added-none : Itself → (setup : Setup) (pass : PassData) → pass.view.inside ≡ None → HasAdded setup pass [] pass
+pub added-none : BeginsWithItself → (setup : Setup) (pass : PassData) → pass.view.inside ≡ None
+    → HasAdded setup pass [] pass
 added-none itself setup pass outside =
     record {
       begins = itself pass.view.seen;
@@ -48,13 +40,15 @@ added-none itself setup pass outside =
     }
 
 -- what a pass had seen before a visit is a front of what it has seen
-pub visited-front : Longer → Through → (old new : PassData) (act : Act) (ticket : ℕ) → HasVisited old act ticket new
+pub visited-front : BeginsWithFront → BeginsThrough → (old new : PassData) (act : Act) (ticket : ℕ)
+    → HasVisited old act ticket new
     → IsFront old.view.seen new.view.seen
 visited-front longer through old new act ticket visited =
     through old.view.seen visited.earlier new.view.seen visited.begins
     (subst (IsFront visited.earlier) (sym visited.seen) (longer visited.earlier (visit_by old.view act ∷ [])))
 
-pub added-more : Longer → Through → (setup : Setup) (begun pass new : PassData) (made : List ℕ) (act : Act)
+pub added-more : BeginsWithFront → BeginsThrough
+    → (setup : Setup) (begun pass new : PassData) (made : List ℕ) (act : Act)
     (ticket : ℕ) → pass.view.setup ≡ setup → HasAdded setup begun made pass → HasVisited pass act ticket new
     → HasAdded setup begun (made ++ ticket ∷ []) new
 added-more longer through setup begun pass new made act ticket told added visited =

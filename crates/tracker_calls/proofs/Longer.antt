@@ -1,13 +1,12 @@
 -- Histories that begin with others: their visits and the numbers that they tell.
 use Rattle.std.proofs.Common.{◌≡◌, ℕ, zero, suc, ◌≤◌, [], ◌∷◌, ◌++◌, Some, length, take, drop, refl, sym, ap, ◌∙◌, subst, arith, length-append}
-use Rattle.std.specs.Prelude.{filter_map, slice_get}
+use Rattle.std.specs.Prelude.{slice_get}
 use Rattle.std.proofs.lemmas.List.{take-take}
-use Rattle.std.proofs.lemmas.List.Elements.{filter-append, filter_map-append}
 use Rattle.entry_word.specs.declared.visit.Visit.{Visit}
-use Rattle.directory.specs.Histories.{History, IsFront, before, is_put_for, puts_to}
-use Rattle.directory.specs.Puts.{mark_put, node_put}
-use Rattle.directory.specs.Standing.{commit_of, commits, number}
+use Rattle.directory.specs.Histories.{History, IsFront, before}
+use Rattle.directory.specs.Standing.{commits, number}
 use Rattle.station.specs.TicketLaws.{front-rest}
+use Rattle.directory.specs.HistoryLaws.{commits-append}
 
 -- a visit of a front is one of the whole, and what is before it is the same
 take-get : (n t : ℕ) (zs : History) (v : Visit) → slice_get (take n zs) t ≡ Some v → slice_get zs t ≡ Some v
@@ -29,13 +28,6 @@ front-before t xs zs front low = ap (take t) front ∙ take-take t (length xs) z
 pub get-last : (xs : History) (v : Visit) → slice_get (xs ++ v ∷ []) (length xs) ≡ Some v
 get-last [] v = refl
 get-last (x ∷ xs) v = get-last xs v
-
--- a subscriber's number only grows
-commits-append : (sub : ℕ) (xs ys : History) → commits sub (xs ++ ys) ≡ commits sub xs ++ commits sub ys
-commits-append sub xs ys =
-    ap (filter_map (λ (v : Visit). commit_of (node_put v.act) (mark_put v.act)))
-    (filter-append (λ (v : Visit). is_put_for sub v.act) xs ys)
-    ∙ filter_map-append (λ (v : Visit). commit_of (node_put v.act) (mark_put v.act)) (puts_to sub xs) (puts_to sub ys)
 
 pub number-front : (sub t : ℕ) (xs zs : History) → IsFront xs zs → length xs ≤ t
     → number sub xs ≤ number sub (before t zs)

@@ -1,26 +1,14 @@
 -- One look more of a find, in a history that goes on.
 use Rattle.std.proofs.Common.{◌≡◌, ℕ, suc, ◌<◌, ◌≤◌, List, [], ◌∷◌, ◌++◌, Some, length, sym, ap, ◌∙◌, subst, arith}
-use Rattle.std.specs.Prelude.{flat_map, fold, slice_get}
+use Rattle.std.specs.Prelude.{slice_get}
 use Rattle.std.proofs.lemmas.Option.{slice_get_within}
 use Rattle.entry_word.specs.declared.visit.Key.{Key}
 use Rattle.directory.specs.Settings.{Setting}
-use Rattle.directory.specs.Histories.{History, IsFront, before, cell, words_at, words_by}
+use Rattle.directory.specs.Histories.{History, IsFront, before, cell}
 use Rattle.directory.specs.Finds.{FindCall, Stage, after_word, key_of}
 use Rattle.directory.specs.Looks.{AreLooks, look_by}
 use Rattle.tracker_calls.proofs.Longer.{front-before, front-get}
-
--- the stage after the words of some looks
-abbrev pub stage_after : Setting → History → FindCall → Stage → List ℕ → Stage
-stage_after setting history call stage made =
-    fold (after_word setting call) stage (flat_map (words_at setting history) made)
-
-stage-step : (setting : Setting) (history : History) (actor : ℕ) (call : FindCall) (stage : Stage) (ticket : ℕ)
-    (key : Key) (later : List ℕ) → slice_get history ticket ≡ Some (look_by actor key)
-    → stage_after setting history call stage (ticket ∷ later)
-    ≡ stage_after setting history call (after_word setting call stage (cell setting (before ticket history) key)) later
-stage-step setting history actor call stage ticket key later h =
-    ap (λ o. fold (after_word setting call) stage (words_by setting (before ticket history) o
-    ++ flat_map (words_at setting history) later)) h
+use Rattle.directory.specs.LookLaws.{stage_after, stage-step}
 
 pub looks-more : (setting : Setting) (seen more : History) (actor : ℕ) (call : FindCall) (key : Key) (ticket : ℕ)
     → IsFront seen more → length seen ≤ ticket → slice_get more ticket ≡ Some (look_by actor key)

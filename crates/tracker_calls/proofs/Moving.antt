@@ -9,12 +9,12 @@ use Rattle.directory.specs.Courses.{Course, Step, course_at, move_to}
 use Rattle.directory.specs.Histories.{own, puts_to}
 use Rattle.directory.specs.Settings.{Setting, start}
 use Rattle.directory.specs.StepLaws.{own-push, visits-append}
-use Rattle.directory.specs.Writes.{Write, most_writes, step_writes, visit_of, visits, writes}
+use Rattle.directory.specs.Writes.{Write, step_writes, visit_of, visits, writes}
 use Rattle.handset.specs.Beginning.{begin_move, is_rest}
 use Rattle.handset.specs.Kept.{GoesWith, HandsetData}
 use Rattle.handset.specs.Progress.{after_write, due, due_at, left_at}
 use Rattle.directory.specs.Amid.{course_of}
-use Rattle.handset.specs.Stands.{StandsFor}
+use Rattle.handset.specs.Stands.{StandsForSteps}
 use Rattle.handset.specs.declared.stage.Stage.{Stage}
 use Rattle.handset.specs.declared.stage.Stage.TheVariants.{Resting, Coming, Renewing, Committing, Confirming, Erasing, Purging, Switching}
 use Rattle.region_plan.specs.Plan.{PlanData}
@@ -27,11 +27,8 @@ use Rattle.station.specs.Setup.{Setup, setting_in}
 use Rattle.tracker_calls.specs.Added.{HasAdded, HasTried}
 use Rattle.tracker_calls.specs.Moves.{HasStepped}
 use Rattle.tracker_calls.specs.WholeMoves.{MayMoveTo, after_writes, puts_of_move}
-use Rattle.tracker_calls.proofs.Adding.{Itself, Longer, Through, added-more, added-none, added-tried}
-
-abbrev pub MovesAreShort : Type 0
-MovesAreShort = (setting : Setting) (course : Course) (node : ℕ)
-    → length (step_writes setting course (move_to node)) ≤ most_writes setting
+use Rattle.tracker_calls.proofs.Adding.{added-more, added-none, added-tried}
+use Rattle.directory.specs.Statements.{MovesAreShort, BeginsWithItself, BeginsWithFront, BeginsThrough}
 
 -- a handset rests just where nothing is left
 pub due-rests : (setting : Setting) (handset : HandsetData) (stage : Stage)
@@ -104,7 +101,7 @@ move-visits setting sub steps to =
 pub record HasPut (setup : Setup) (begun : PassData) (from : HandsetData) (to : ℕ) (made : List ℕ)
     (pass : PassData) (handset : HandsetData) : Type 0 where
   pub steps : List Step
-  pub stood : StandsFor (setting_in setup) from steps (length (puts_to (actor_of begun) begun.view.seen))
+  pub stood : StandsForSteps (setting_in setup) from steps (length (puts_to (actor_of begun) begun.view.seen))
   pub all : puts_to (actor_of begun) begun.view.seen ≡ visits (setting_in setup) (actor_of begun) steps
   pub added : HasAdded setup begun made pass
   pub put : List Visit
@@ -128,11 +125,12 @@ unfolding after_writes
 one-written setting handset count = refl
 
 -- a move that is begun
-pub put-none : Itself → MovesAreShort → (setup : Setup) (pass : PassData) (handset begun : HandsetData) (to : ℕ)
+pub put-none : BeginsWithItself → MovesAreShort
+    → (setup : Setup) (pass : PassData) (handset begun : HandsetData) (to : ℕ)
     → (its : IsHandsetOf setup pass.view handset) → MayMoveTo setup.plan pass handset to → pass.view.inside ≡ None
     → begun ≡ begin_move (setting_in setup) handset to → GoesWith setup.plan begun
-    → ((steps : List Step) (made : ℕ) → StandsFor (setting_in setup) handset steps made
-    → StandsFor (setting_in setup) begun (steps ++ move_to to ∷ []) made)
+    → ((steps : List Step) (made : ℕ) → StandsForSteps (setting_in setup) handset steps made
+    → StandsForSteps (setting_in setup) begun (steps ++ move_to to ∷ []) made)
     → HasPut setup pass handset to [] pass begun
 put-none itself short setup pass handset begun to its may outside is goes stands =
     let setting : Setting = setting_in setup in
@@ -165,17 +163,17 @@ put-none itself short setup pass handset begun to its may outside is goes stands
     }
 
 -- the same, as the code reads its plan
-pub put-begun : Itself → MovesAreShort → (setup : Setup) (plan : PlanData) (pass : PassData)
+pub put-begun : BeginsWithItself → MovesAreShort → (setup : Setup) (plan : PlanData) (pass : PassData)
     (handset begun : HandsetData) (to : ℕ) → plan ≡ setup.plan → (its : IsHandsetOf setup pass.view handset)
     → MayMoveTo plan pass handset to → pass.view.inside ≡ None
     → begun ≡ begin_move (setting_of plan []) handset to → GoesWith plan begun
-    → ((starts : List ℕ) (steps : List Step) (made : ℕ) → StandsFor (setting_of plan starts) handset steps made
-    → StandsFor (setting_of plan starts) begun (steps ++ move_to to ∷ []) made)
+    → ((starts : List ℕ) (steps : List Step) (made : ℕ) → StandsForSteps (setting_of plan starts) handset steps made
+    → StandsForSteps (setting_of plan starts) begun (steps ++ move_to to ∷ []) made)
     → HasPut setup pass handset to [] pass begun
 put-begun itself short setup plan pass handset begun to same its may outside is goes stands =
     subst (λ p. MayMoveTo p pass handset to → begun ≡ begin_move (setting_of p []) handset to → GoesWith p begun
-    → ((starts : List ℕ) (steps : List Step) (made : ℕ) → StandsFor (setting_of p starts) handset steps made
-    → StandsFor (setting_of p starts) begun (steps ++ move_to to ∷ []) made)
+    → ((starts : List ℕ) (steps : List Step) (made : ℕ) → StandsForSteps (setting_of p starts) handset steps made
+    → StandsForSteps (setting_of p starts) begun (steps ++ move_to to ∷ []) made)
     → HasPut setup pass handset to [] pass begun) (sym same)
     (λ may_there is_there goes_there stands_there. put-none itself short setup pass handset begun to its
     may_there outside is_there goes_there (stands_there setup.homes)) may is goes stands
@@ -208,7 +206,8 @@ put-tried setup begun from to made pass tried handset lost at =
     })
 
 -- one put more
-pub put-more : Longer → Through → (setup : Setup) (begun : PassData) (from : HandsetData) (to : ℕ) (made : List ℕ)
+pub put-more : BeginsWithFront → BeginsThrough
+    → (setup : Setup) (begun : PassData) (from : HandsetData) (to : ℕ) (made : List ℕ)
     (pass new : PassData) (handset moved : HandsetData) (ticket : ℕ) → pass.view.setup ≡ setup
     → HasPut setup begun from to made pass handset → HasStepped setup pass handset ticket new moved
     → HasPut setup begun from to (made ++ ticket ∷ []) new moved
@@ -264,13 +263,14 @@ put-more longer through setup begun from to made pass new handset moved ticket t
 -- how many puts are made, in the steps that the handset stands for
 stands-for : (setup : Setup) (begun : PassData) (from : HandsetData) (to : ℕ) (made : List ℕ) (pass : PassData)
     (handset : HandsetData) → (at : HasPut setup begun from to made pass handset)
-    → (handset.sub ≡ actor_of begun) × StandsFor (setting_in setup) handset (at.steps ++ move_to to ∷ [])
+    → (handset.sub ≡ actor_of begun) × StandsForSteps (setting_in setup) handset (at.steps ++ move_to to ∷ [])
     (length (puts_to (actor_of begun) pass.view.seen))
 stands-for setup begun from to made pass handset at = (
   at.its.sub ∙ at.added.same.actor,
-  subst (λ a. StandsFor (setting_in setup) handset (at.steps ++ move_to to ∷ []) (length (puts_to a pass.view.seen)))
+  subst (λ a. StandsForSteps (setting_in setup) handset (at.steps ++ move_to to ∷ [])
+      (length (puts_to a pass.view.seen)))
       at.added.same.actor
-      (subst (λ ss. StandsFor (setting_in setup) handset ss (length (puts_to pass.view.low pass.view.seen)))
+      (subst (λ ss. StandsForSteps (setting_in setup) handset ss (length (puts_to pass.view.low pass.view.seen)))
       at.steps_are at.its.stands),
 )
 

@@ -1,8 +1,6 @@
 -- An answer tells rightly: the laws of the trail and of the stretch, in what the pass has seen.
 use Rattle.std.proofs.Common.{◌≡◌, ℕ, suc, ◌<◌, ◌≤◌, ◌^◌, List, [], ◌∷◌, length, sym, ◌∙◌, arith}
 use Rattle.std.specs.Prelude.{flat_map}
-use Rattle.node_set.specs.Ascending.{has}
-use Rattle.node_set.specs.SetLaws.{has-passing}
 use Rattle.directory.specs.Settings.{Setting}
 use Rattle.directory.specs.Histories.{History, IsFront, through, words_at}
 use Rattle.directory.specs.Finds.{FindCall, ended, find}
@@ -12,25 +10,13 @@ use Rattle.directory.specs.Standing.{number}
 use Rattle.directory.specs.declared.answers.Found.{Found}
 use Rattle.directory.specs.declared.answers.Found.TheVariants.{At, Off, Again}
 use Rattle.region_plan.specs.Matched.{IsMatched}
-use Rattle.region_plan.specs.Plan.{PlanData, cluster_in, clusters_of, home, level_at, top_of}
-use Rattle.region_plan.specs.Settings.{setting_of}
 use Rattle.station.specs.Passes.{PassData}
 use Rattle.station.specs.Setup.{Setup, nodes_in, setting_in}
 use Rattle.stretch_laws.specs.Plans.{PlanFindsAreNear}
-use Rattle.trail_laws.specs.Answers.{AnswersAreRight, HasNumber, IsRight, QuietFindsAnswer, ReadsTop}
+use Rattle.trail_laws.specs.Answers.{AnswersAreRight, HasNumber, IsRight, QuietFindsAnswer}
 use Rattle.tracker_calls.specs.Answers.{TellsRightly}
 use Rattle.tracker_calls.proofs.Longer.{number-front}
-
--- over a matched plan each node reads the home of each node at the top level
-reads-top : (plan : PlanData) (starts : List ℕ) → IsMatched plan → ReadsTop (setting_of plan starts)
-reads-top plan starts matched u v below_u below_v =
-    rw (
-      matched.read (top_of plan) v (omega (arith, matched.some)) below_v,
-      has-passing (λ c. has v (cluster_in (level_at plan (top_of plan)).clusters c).members)
-          (home plan (top_of plan) u) 0 (clusters_of plan (top_of plan)) (omega arith)
-          (omega (arith, matched.homes (top_of plan) u (omega (arith, matched.some)) below_u)),
-    )
-    (matched.whole v u below_v below_u)
+use Rattle.walk.specs.ReaderLaws.{reads-top}
 
 -- a find that has its answer has made a look
 pub looked-once : (setting : Setting) (history : History) (call : FindCall) (found : Found) (made : List ℕ)

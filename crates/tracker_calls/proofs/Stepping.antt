@@ -8,7 +8,7 @@ use Rattle.handset.specs.Kept.{HandsetData}
 use Rattle.handset.specs.Progress.{after_write, due}
 use Rattle.region_plan.specs.Plan.{PlanData}
 use Rattle.region_plan.specs.Settings.{setting_of}
-use Rattle.station.specs.Handsets.{GoesOn, IsHandsetOf}
+use Rattle.station.specs.Handsets.{HandsetGoesOn, IsHandsetOf}
 use Rattle.station.specs.Passes.{PassData}
 use Rattle.station.specs.Setup.{Setup, setting_in}
 use Rattle.station.specs.Visits.{HasLost, HasVisited}
@@ -43,7 +43,7 @@ pub stepped : (setup : Setup) (plan : PlanData) (old new : PassData) (handset mo
     → IfSome (due (setting_of plan []) handset) (λ visit. HasVisited old visit.act ticket new)
     → moved ≡ after_write (setting_of plan []) handset handset.stage → IsHandsetOf setup new.view moved
     → IfSome (due (setting_of plan []) handset) (λ visit. (own : IsHandsetOf setup old.view handset)
-    → GoesOn setup old.view new.view moved own.steps visit)
+    → HandsetGoesOn setup old.view new.view moved own.steps visit)
     → HasStepped setup old handset ticket new moved
 stepped setup plan old new handset moved ticket same next room visited made own goes_on =
     record {
@@ -54,7 +54,7 @@ stepped setup plan old new handset moved ticket same next room visited made own 
       made = made ∙ ap (λ p. after_write (setting_of p []) handset handset.stage) same;
       own = own;
       goes_on = on-due setup plan handset next.0 (λ visit. (own : IsHandsetOf setup old.view handset)
-          → GoesOn setup old.view new.view moved own.steps visit) same next.1 goes_on;
+          → HandsetGoesOn setup old.view new.view moved own.steps visit) same next.1 goes_on;
     }
 
 -- the turn at the node of the next put is lost once more

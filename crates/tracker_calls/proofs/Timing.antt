@@ -6,7 +6,7 @@ use Rattle.std.proofs.lemmas.Bool.{ltb-false}
 use Rattle.directory.specs.Courses.{Move}
 use Rattle.directory.specs.Settings.{Setting}
 use Rattle.handset.specs.Beginning.{begin_move, is_rest, journey_to}
-use Rattle.handset.specs.Kept.{HandsetData, IsWithin}
+use Rattle.handset.specs.Kept.{HandsetData, IsMoveStage}
 use Rattle.handset.specs.Progress.{after_write, erasing_at, first_with, go_on, is_behind, is_old, purging_at, purging_from}
 use Rattle.handset.specs.declared.stage.Stage.{Stage}
 use Rattle.handset.specs.declared.stage.Stage.TheVariants.{Resting, Coming, Renewing, Committing, Confirming, Erasing, Purging, Switching}
@@ -101,7 +101,7 @@ timed-first setting from to = record { last = refl; early = λ e. (refl, refl); 
 -- one put more
 timed-by : (setting : Setting) (nodes : ℕ) (move : Move) (number : ℕ) (handset : HandsetData) (made : List ℕ)
     (commit ticket : ℕ) → move.number ≡ suc number → handset.last ≡ move
-    → (stage : Stage) → IsWithin nodes handset.last stage → is_rest stage ≡ false
+    → (stage : Stage) → IsMoveStage nodes handset.last stage → is_rest stage ≡ false
     → (is_early stage ≡ true → IsEarly move number handset stage made)
     → (is_early stage ≡ false → IsLate move number handset made commit)
     → IsTimed move number (after_write setting handset stage) (made ++ ticket ∷ [])
@@ -163,7 +163,7 @@ timed-by setting nodes move number handset made commit ticket next last (Switchi
     late-timed move number handset _ made commit ticket last (late refl) (refl, refl, refl)
 
 timed-as : (setting : Setting) (nodes : ℕ) (move : Move) (number : ℕ) (handset : HandsetData) (made : List ℕ)
-    (commit ticket : ℕ) → move.number ≡ suc number → IsWithin nodes handset.last handset.stage
+    (commit ticket : ℕ) → move.number ≡ suc number → IsMoveStage nodes handset.last handset.stage
     → is_rest handset.stage ≡ false → IsTimed move number handset made commit → (b : Bool)
     → is_early handset.stage ≡ b
     → IsTimed move number (after_write setting handset handset.stage) (made ++ ticket ∷ [])
@@ -176,7 +176,7 @@ timed-as setting nodes move number handset made commit ticket next within busy t
 
 -- until the number changes the put may be the commit, and no later one is
 pub timed-early : (setting : Setting) (nodes : ℕ) (move : Move) (number : ℕ) (handset : HandsetData) (made : List ℕ)
-    (commit ticket : ℕ) → move.number ≡ suc number → IsWithin nodes handset.last handset.stage
+    (commit ticket : ℕ) → move.number ≡ suc number → IsMoveStage nodes handset.last handset.stage
     → is_rest handset.stage ≡ false → handset.number ≡ number → IsTimed move number handset made commit
     → IsTimed move number (after_write setting handset handset.stage) (made ++ ticket ∷ []) ticket
 timed-early setting nodes move number handset made commit ticket next within busy same timed =
@@ -188,7 +188,7 @@ timed-early setting nodes move number handset made commit ticket next within bus
     go false is = absurd (omega (arith, same, (timed.late is).2))
 
 pub timed-late : (setting : Setting) (nodes : ℕ) (move : Move) (number : ℕ) (handset : HandsetData) (made : List ℕ)
-    (commit ticket : ℕ) → move.number ≡ suc number → IsWithin nodes handset.last handset.stage
+    (commit ticket : ℕ) → move.number ≡ suc number → IsMoveStage nodes handset.last handset.stage
     → is_rest handset.stage ≡ false → (handset.number ≡ number → ⊥) → IsTimed move number handset made commit
     → IsTimed move number (after_write setting handset handset.stage) (made ++ ticket ∷ []) commit
 timed-late setting nodes move number handset made commit ticket next within busy other timed =

@@ -6,7 +6,7 @@ use Rattle.entry_word.specs.declared.visit.Key.{Key}
 use Rattle.entry_word.specs.declared.visit.Act.TheVariants.{Look}
 use Rattle.directory.specs.Settings.{Setting}
 use Rattle.directory.specs.Histories.{History, IsFront, before, cell, words_at}
-use Rattle.directory.specs.Finds.{FindCall, Stage, after_word, at_origin, ended, find, key_of, looks_left, most_looks}
+use Rattle.directory.specs.Finds.{FindCall, after_word, at_origin, ended, find, key_of, looks_left, most_looks}
 use Rattle.directory.specs.Looks.{AreLooks, IsFind, last_of, look_by}
 use Rattle.directory.specs.declared.answers.Found.{Found}
 use Rattle.region_plan.specs.Matched.{IsMatched}
@@ -14,13 +14,14 @@ use Rattle.station.specs.Passes.{PassData, actor_of}
 use Rattle.station.specs.Setup.{Setup, nodes_in, setting_in, subs_in}
 use Rattle.stretch_laws.specs.Plans.{PlanFindsAreNear}
 use Rattle.trail_laws.specs.Answers.{AnswersAreRight, QuietFindsAnswer}
-use Rattle.walk.specs.Walks.{GoesWith, WalkData, call_of, stage_of}
+use Rattle.walk.specs.Walks.{IsWalkOver, WalkData, call_of, stage_of}
 use Rattle.tracker_calls.specs.Added.{HasAdded, HasTried}
 use Rattle.tracker_calls.specs.Finds.{HasFound, HasLookedOn}
-use Rattle.tracker_calls.proofs.Adding.{Itself, Longer, Through, added-more, added-none, added-tried, last-push, visited-front}
+use Rattle.tracker_calls.proofs.Adding.{added-more, added-none, added-tried, last-push, visited-front}
 use Rattle.tracker_calls.proofs.Longer.{get-last}
 use Rattle.tracker_calls.proofs.Looks.{looks-more}
 use Rattle.tracker_calls.proofs.Rightly.{looked-once, tells-rightly}
+use Rattle.directory.specs.Statements.{LooksFall, BeginsWithItself, BeginsWithFront, BeginsThrough}
 
 -- the looks so far, the walk that stands for their words, and room for all that are left
 pub record IsWalked (setup : Setup) (begun : PassData) (call : FindCall) (pass : PassData)
@@ -31,21 +32,16 @@ pub record IsWalked (setup : Setup) (begun : PassData) (call : FindCall) (pass :
   pub stage : stage_of setup.plan walk
       ≡ find (setting_in setup) call (flat_map (words_at (setting_in setup) pass.view.seen) made)
   pub late : 1 ≤ length made → length begun.view.seen ≤ last_of made
-  pub goes : GoesWith setup.plan walk
+  pub goes : IsWalkOver setup.plan walk
   pub its : call_of walk ≡ call
   pub room : looks_left (setting_in setup) call (stage_of setup.plan walk) ≤ pass.spare
-
-abbrev pub LooksFall : Type 0
-LooksFall = (setting : Setting) (call : FindCall) (stage : Stage) (word : ℕ) (key : Key)
-    → key_of call stage ≡ Some key
-    → looks_left setting call (after_word setting call stage word) < looks_left setting call stage
 
 no-looks : (setting : Setting) (history : History) (actor : ℕ) (call : FindCall)
     → AreLooks setting history actor call 0 at_origin []
 unfolding AreLooks
 no-looks setting history actor call = tt
 
-pub walked-first : Itself → (setup : Setup) (pass : PassData) (walk : WalkData) → GoesWith setup.plan walk
+pub walked-first : BeginsWithItself → (setup : Setup) (pass : PassData) (walk : WalkData) → IsWalkOver setup.plan walk
     → stage_of setup.plan walk ≡ at_origin → pass.view.inside ≡ None
     → most_looks (setting_in setup) walk.from ≤ pass.spare → IsWalked setup pass (call_of walk) pass walk
 walked-first itself setup pass walk goes origin outside room =
@@ -63,7 +59,7 @@ walked-first itself setup pass walk goes origin outside room =
 front-short : (xs zs : History) → IsFront xs zs → length xs ≤ length zs
 front-short xs zs front = omega (arith, ap length front, length-take (length xs) zs)
 
-pub walked-on : Longer → Through → LooksFall → (setup : Setup) (begun : PassData) (call : FindCall)
+pub walked-on : BeginsWithFront → BeginsThrough → LooksFall → (setup : Setup) (begun : PassData) (call : FindCall)
     (pass new : PassData) (walk moved : WalkData) (key : Key) → pass.view.setup ≡ setup
     → (at : IsWalked setup begun call pass walk)
     → key_of (call_of walk) (stage_of setup.plan walk) ≡ Some key

@@ -4,12 +4,11 @@ use Rattle.std.specs.Prelude.{Some}
 use Rattle.entry_word.specs.declared.visit.Key.{Key}
 use Rattle.directory.specs.Histories.{cell}
 use Rattle.directory.specs.Legal.{IsLegal}
-use Rattle.directory.specs.Finds.{Stage, answer_of, at_origin, chases, climbs, ended, key_of}
-use Rattle.directory.specs.declared.answers.Found.{Found}
+use Rattle.directory.specs.Finds.{key_of}
 use Rattle.trail_laws.specs.Trail.{EntriesTell, MarksTell}
 use Rattle.region_plan.specs.Plan.{PlanData, nodes_of}
 use Rattle.region_plan.specs.Matched.{IsMatched}
-use Rattle.walk.specs.Walks.{GoesWith, IsWordBelow, WalkData, call_of, stage_of}
+use Rattle.walk.specs.Walks.{IsWalkOver, IsWordBelow, WalkData, call_of, stage_of}
 use Rattle.station.specs.Passes.{PassData}
 use Rattle.station.specs.Setup.{Setup, setting_in, subs_in}
 use Rattle.station.specs.Visits.{HasVisited}
@@ -17,13 +16,6 @@ use Rattle.entry_word.specs.declared.visit.Act.{Act}
 use Rattle.directory.specs.Histories.{before}
 use Rattle.trail_laws.specs.Within.{HistoryFrontsAreLegal}
 use Rattle.walk.specs.LookLaws.{word-wanted}
-
--- a find that has its answer is ended
-pub ended-is : (stage : Stage) (found : Found) → answer_of stage ≡ Some found → stage ≡ ended found
-ended-is at_origin found h = cc
-ended-is (climbs known weight reader later) found h = cc
-ended-is (chases chase node) found h = cc
-ended-is (ended other) found h = cc
 
 -- what a pass has seen is legal once it has made a visit
 pub legal-seen : (setup : Setup) (old new : PassData) (act : Act) (ticket : ℕ) → old.view.setup ≡ setup
@@ -37,7 +29,7 @@ pub word-seen : MarksTell → EntriesTell → HistoryFrontsAreLegal → (setup :
     (old new : PassData) (act : Act) (ticket word : ℕ) (walk : WalkData) (key : Key) → plan ≡ setup.plan
     → IsMatched plan → old.view.setup ≡ setup → HasVisited old act ticket new
     → word ≡ cell (setting_in setup) (before ticket new.view.seen) key → walk.sub < subs_in setup
-    → GoesWith setup.plan walk → key_of (call_of walk) (stage_of setup.plan walk) ≡ Some key
+    → IsWalkOver setup.plan walk → key_of (call_of walk) (stage_of setup.plan walk) ≡ Some key
     → IsWordBelow (nodes_of plan) walk.progress word
 word-seen marks entries fronts setup plan old new act ticket word walk key same matched told visited reads known goes
     wanted =

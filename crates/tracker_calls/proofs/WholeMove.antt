@@ -10,16 +10,17 @@ use Rattle.handset.specs.Kept.{HandsetData}
 use Rattle.handset.specs.Progress.{due}
 use Rattle.region_plan.specs.Plan.{PlanData}
 use Rattle.region_plan.specs.Settings.{setting_of}
-use Rattle.station.specs.HandsetLaws.{rest-means}
 use Rattle.station.specs.Passes.{PassData, actor_of}
 use Rattle.station.specs.Setup.{Setup, nodes_in, setting_in}
 use Rattle.tracker_calls.specs.Added.{HasTried}
 use Rattle.tracker_calls.specs.Moves.{HasStepped}
 use Rattle.tracker_calls.specs.WholeMoves.{HasMoved}
 use Rattle.tracker_calls.specs.declared.whole_moves.Moved.{Moved}
-use Rattle.tracker_calls.proofs.Adding.{Longer, Through, last-push}
+use Rattle.tracker_calls.proofs.Adding.{last-push}
 use Rattle.tracker_calls.proofs.Moving.{HasPut, none-rests, put-all, put-more, put-room, put-tried, some-busy}
 use Rattle.tracker_calls.proofs.Timing.{IsTimed, is_early, timed-early, timed-first, timed-late}
+use Rattle.directory.specs.Statements.{BeginsWithFront, BeginsThrough}
+use Rattle.handset.specs.StageLaws.{rest-means}
 
 pub record IsMoving (setup : Setup) (begun : PassData) (from : HandsetData) (to : ℕ) (times : Moved)
     (pass : PassData) (handset : HandsetData) : Type 0 where
@@ -52,7 +53,7 @@ timed-step setup begun from to commit made tried new handset moved ticket at ste
     )
 
 -- the first put of a move
-pub moving-first : Longer → Through → (setup : Setup) (begun : PassData) (from : HandsetData) (to : ℕ)
+pub moving-first : BeginsWithFront → BeginsThrough → (setup : Setup) (begun : PassData) (from : HandsetData) (to : ℕ)
     (tried new : PassData) (handset moved : HandsetData) (ticket : ℕ) → begun.view.setup ≡ setup
     → HasTried begun tried → HasPut setup begun from to [] begun handset
     → handset ≡ begin_move (setting_in setup) from to → HasStepped setup tried handset ticket new moved
@@ -74,7 +75,8 @@ moving-first longer through setup begun from to tried new handset moved ticket t
     }
 
 -- and one put more
-pub moving-on : Longer → Through → (setup : Setup) (begun : PassData) (from : HandsetData) (to : ℕ) (times : Moved)
+pub moving-on : BeginsWithFront → BeginsThrough
+    → (setup : Setup) (begun : PassData) (from : HandsetData) (to : ℕ) (times : Moved)
     (pass tried new : PassData) (handset moved : HandsetData) (ticket : ℕ) → begun.view.setup ≡ setup
     → HasTried pass tried → IsMoving setup begun from to times pass handset
     → HasStepped setup tried handset ticket new moved

@@ -1,4 +1,5 @@
 -- What a whole call adds to what its pass has seen: its own visits alone, with these tickets.
+-- Key laws: `find`, `find_now` and `move_to`, whose answers come with what they added.
 use Rattle.std.specs.Prelude.{◌≡◌, ℕ, ◌+◌, ◌<◌, ◌≤◌, List, ◌++◌, length, None}
 use Rattle.directory.specs.Histories.{IsFront, tickets}
 use Rattle.directory.specs.Legal.{IsLegal}

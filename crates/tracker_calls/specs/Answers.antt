@@ -1,5 +1,6 @@
 -- What the answer of a find over the tracker tells, in the history that its pass has then seen: the
--- laws of the trail and of the stretch, used there.
+-- laws of the trail and of the stretch, used there. Key laws: `find` and `find_now`, by their
+-- clauses `find` (each answer tells so).
 use Rattle.std.specs.Prelude.{ℕ, ◌≤◌, List}
 use Rattle.directory.specs.Histories.{History, before, through}
 use Rattle.directory.specs.Finds.{FindCall}

@@ -1,7 +1,7 @@
 -- What a find over the tracker does to its pass: its looks are the pass's next own visits, and its
 -- answer is theirs, in the history that the pass has then seen. Key laws: `find_now` and `find`, by
 -- their clauses `find`.
-use Rattle.std.specs.Prelude.{◌≡◌, ℕ, ◌<◌, ◌≤◌, List, flat_map, Some}
+use Rattle.std.specs.Prelude.{◌≡◌, ℕ, ◌<◌, ◌≤◌, List, flat_map, Some, None}
 use Rattle.entry_word.specs.declared.visit.Key.{Key}
 use Rattle.entry_word.specs.declared.visit.Act.TheVariants.{Look}
 use Rattle.directory.specs.Histories.{before, cell, words_at}
@@ -9,17 +9,32 @@ use Rattle.directory.specs.Finds.{FindCall, after_word, at_origin, find, key_of,
 use Rattle.directory.specs.Keys.{key_node}
 use Rattle.directory.specs.Looks.{AreLooks, IsFind}
 use Rattle.directory.specs.declared.answers.Found.{Found}
-use Rattle.station.specs.Passes.{PassData, actor_of}
+use Rattle.station.specs.Passes.{PassData, actor_of, IsPassOf, TrackerData}
 use Rattle.station.specs.Setup.{Setup, nodes_in, setting_in, subs_in}
 use Rattle.station.specs.Visits.{HasLost, HasVisited}
 use Rattle.station.specs.declared.turns.Held.{Held}
-use Rattle.walk.specs.Walks.{GoesWith, WalkData, call_of, stage_of}
+use Rattle.walk.specs.Walks.{IsWalkOver, WalkData, call_of, stage_of}
 use Rattle.tracker_calls.specs.Added.{HasAdded}
 use Rattle.tracker_calls.specs.Answers.{TellsRightly}
 use Rattle.tracker_calls.specs.declared.finds.FindFault.{FindFault}
 use Rattle.tracker_calls.specs.declared.finds.FindFault.TheVariants.{NoNode, NoSubscriber, Unreserved, Held as HeldBy}
 use Rattle.tracker_calls.specs.declared.finds.FindRefusal.{FindRefusal}
 use Rattle.tracker_calls.specs.declared.finds.FindRefusal.TheVariants as refusals
+use Rattle.distances.specs.Table.{DistanceTable}
+use Rattle.region_plan.specs.Plan.{PlanData}
+use Rattle.region_plan.specs.Matched.{IsMatched, IsWithinReach}
+
+-- a walk may go on by looks of a pass, in no node, over the tracker's own plan and its distances
+pub record MayWalkOn (tracker : TrackerData) (plan : PlanData) (distances : DistanceTable)
+    (pass : PassData) (walk : WalkData) : Type 0 where
+  pub of : IsPassOf tracker pass
+  pub plan_is : plan ≡ tracker.setup.plan
+  pub belongs : plan.distances ≡ distances
+  pub matched : IsMatched plan
+  pub reached : IsWithinReach plan
+  pub outside : pass.view.inside ≡ None
+  pub goes : IsWalkOver tracker.setup.plan walk
+  pub known : walk.sub < subs_in tracker.setup
 
 -- a walk has made its next look
 pub record HasLookedOn (setup : Setup) (old : PassData) (walk : WalkData) (key : Key)
@@ -29,7 +44,7 @@ pub record HasLookedOn (setup : Setup) (old : PassData) (walk : WalkData) (key :
   pub stage : stage_of setup.plan moved ≡ after_word (setting_in setup) (call_of walk)
       (stage_of setup.plan walk) (cell (setting_in setup) (before ticket new.view.seen) key)
   pub call : call_of moved ≡ call_of walk
-  pub goes : GoesWith setup.plan moved
+  pub goes : IsWalkOver setup.plan moved
 
 -- the pass has made the looks of a find, and this is their answer, which tells rightly
 pub record HasFound (setup : Setup) (old : PassData) (call : FindCall) (found : Found)

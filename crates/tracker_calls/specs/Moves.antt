@@ -5,7 +5,7 @@ use Rattle.entry_word.specs.declared.visit.Visit.{Visit}
 use Rattle.directory.specs.Keys.{act_node}
 use Rattle.handset.specs.Kept.{HandsetData}
 use Rattle.handset.specs.Progress.{after_write, due}
-use Rattle.station.specs.Handsets.{GoesOn, IsHandsetOf}
+use Rattle.station.specs.Handsets.{HandsetGoesOn, IsHandsetOf}
 use Rattle.station.specs.Passes.{PassData}
 use Rattle.station.specs.Setup.{Setup, setting_in}
 use Rattle.station.specs.Visits.{HasLost, HasVisited}
@@ -22,7 +22,7 @@ pub record HasStepped (setup : Setup) (old : PassData) (handset : HandsetData) (
   pub made : moved ≡ after_write (setting_in setup) handset handset.stage
   pub own : IsHandsetOf setup new.view moved
   pub goes_on : (own : IsHandsetOf setup old.view handset)
-      → GoesOn setup old.view new.view moved own.steps visit
+      → HandsetGoesOn setup old.view new.view moved own.steps visit
 
 -- why it isn't made: nothing is left, or the pass has no room, and nothing changes; or the turn
 -- at the node of the next visit was lost, and nothing else changes

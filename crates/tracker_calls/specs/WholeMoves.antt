@@ -11,7 +11,7 @@ use Rattle.handset.specs.Beginning.{begin_move, journey_to, move_fault}
 use Rattle.handset.specs.Kept.{HandsetData}
 use Rattle.handset.specs.Progress.{after_write, due}
 use Rattle.directory.specs.Amid.{course_of}
-use Rattle.handset.specs.Stands.{StandsFor}
+use Rattle.handset.specs.Stands.{StandsForSteps}
 use Rattle.handset.specs.declared.fault.MoveFault.TheVariants as begins
 use Rattle.region_plan.specs.Plan.{PlanData}
 use Rattle.region_plan.specs.Settings.{setting_of}
@@ -62,7 +62,7 @@ after_writes setting handset (suc count) =
 pub record HasMoved (setup : Setup) (old : PassData) (handset : HandsetData) (to : ℕ)
     (moved : Moved) (new : PassData) (after : HandsetData) : Type 0 where
   pub steps : List Step
-  pub stood : StandsFor (setting_in setup) handset steps
+  pub stood : StandsForSteps (setting_in setup) handset steps
       (length (puts_to (actor_of old) old.view.seen))
   pub made : List ℕ
   pub added : HasAdded setup old made new

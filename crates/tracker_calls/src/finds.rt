@@ -4,7 +4,7 @@ ghost use Rattle.directory.specs.Finds.{FindCall, at_origin};
 ghost use Rattle.region_plan.specs.Matched.{IsMatched, IsWithinReach};
 ghost use Rattle.station.specs.Passes.{IsPassOf, TrackerData};
 ghost use Rattle.station.specs.Setup.{subs_in};
-ghost use Rattle.walk.specs.Walks.{GoesWith, call_of, stage_of};
+ghost use Rattle.walk.specs.Walks.{IsWalkOver, call_of, stage_of};
 ghost use Rattle.tracker_calls.specs.Finds.{HasFound, IsFindFault, IsRefusal, MayFind};
 
 use crate::walking::{walk_on, walk_through};
@@ -109,7 +109,7 @@ fn begin_walk(pass: &Pass, plan: &Plan, subs: u32, from: u32, sub: u32) -> Resul
         → let call : FindCall = record { from = from; sub = sub } in MatchResult result
         (λ walk. MayFind tracker.setup pass.now call
         × (call_of walk ≡ call)
-        × GoesWith tracker.setup.plan walk × (stage_of tracker.setup.plan walk ≡ at_origin))
+        × IsWalkOver tracker.setup.plan walk × (stage_of tracker.setup.plan walk ≡ at_origin))
         (λ refusal. IsRefusal tracker.setup pass.now call refusal) }
 {
     let walk = match Walk::new(from, sub, subs, plan) {

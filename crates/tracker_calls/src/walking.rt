@@ -1,14 +1,13 @@
 //! A walk over the tracker.
-ghost use Rattle.std.specs.Prelude.{◌≡◌, ◌<◌, ◌≤◌, Some, None, MatchResult};
+ghost use Rattle.std.specs.Prelude.{◌≡◌, ◌≤◌, Some, MatchResult};
 ghost use Rattle.directory.specs.Finds.{at_origin, key_of, most_looks};
 ghost use Rattle.directory.specs.Keys.{key_node};
-ghost use Rattle.region_plan.specs.Matched.{IsMatched, IsWithinReach};
-ghost use Rattle.station.specs.Passes.{IsPassOf, PassData};
-ghost use Rattle.station.specs.Setup.{setting_in, subs_in};
+ghost use Rattle.station.specs.Passes.{PassData};
+ghost use Rattle.station.specs.Setup.{setting_in};
 ghost use Rattle.station.specs.Visits.{HasLost};
-ghost use Rattle.walk.specs.Walks.{GoesWith, call_of, stage_of};
+ghost use Rattle.walk.specs.Walks.{call_of, stage_of};
 ghost use Rattle.tracker_calls.specs.Added.{HasTried};
-ghost use Rattle.tracker_calls.specs.Finds.{HasFound, HasLookedOn, HasStopped};
+ghost use Rattle.tracker_calls.specs.Finds.{HasFound, HasLookedOn, HasStopped, MayWalkOn};
 
 use directory::{Found, histories_begin, looks_fall, own_after};
 use distances::Distances;
@@ -31,15 +30,8 @@ pub fn walk_on(
     distances: &Distances,
     walk: &mut Walk,
 ) -> Result<Found, Held>
-    requires of { IsPassOf tracker.now pass.old }
-    requires plan { plan.now ≡ tracker.now.setup.plan }
-    requires belongs { plan.now.distances ≡ distances.now }
-    requires matched { IsMatched plan.now }
-    requires reached { IsWithinReach plan.now }
-    requires outside { pass.old.view.inside ≡ None }
-    requires goes { GoesWith tracker.now.setup.plan walk.old }
+    requires way { MayWalkOn tracker.now plan.now distances.now pass.old walk.old }
     requires origin { stage_of tracker.now.setup.plan walk.old ≡ at_origin }
-    requires known { walk.old.sub < subs_in tracker.now.setup }
     requires spare { most_looks (setting_in tracker.now.setup) walk.old.from ≤ pass.old.spare }
     ensures found { MatchResult result
         (λ found. HasFound tracker.now.setup pass.old (call_of walk.old) found pass.new
@@ -70,15 +62,8 @@ pub fn walk_through<R: Wait>(
     distances: &Distances,
     walk: &mut Walk,
 ) -> Found
-    requires of { IsPassOf tracker.now pass.old }
-    requires plan { plan.now ≡ tracker.now.setup.plan }
-    requires belongs { plan.now.distances ≡ distances.now }
-    requires matched { IsMatched plan.now }
-    requires reached { IsWithinReach plan.now }
-    requires outside { pass.old.view.inside ≡ None }
-    requires goes { GoesWith tracker.now.setup.plan walk.old }
+    requires way { MayWalkOn tracker.now plan.now distances.now pass.old walk.old }
     requires origin { stage_of tracker.now.setup.plan walk.old ≡ at_origin }
-    requires known { walk.old.sub < subs_in tracker.now.setup }
     requires spare { most_looks (setting_in tracker.now.setup) walk.old.from ≤ pass.old.spare }
     ensures found { HasFound tracker.now.setup pass.old (call_of walk.old) result pass.new }
 {
@@ -107,15 +92,8 @@ fn look_when_free<R: Wait>(
     walk: &mut Walk,
     key: Key,
 )
-    requires of { IsPassOf tracker.now pass.old }
-    requires plan { plan.now ≡ tracker.now.setup.plan }
-    requires belongs { plan.now.distances ≡ distances.now }
-    requires matched { IsMatched plan.now }
-    requires reached { IsWithinReach plan.now }
-    requires outside { pass.old.view.inside ≡ None }
+    requires way { MayWalkOn tracker.now plan.now distances.now pass.old walk.old }
     requires spare { 1 ≤ pass.old.spare }
-    requires goes { GoesWith tracker.now.setup.plan walk.old }
-    requires known { walk.old.sub < subs_in tracker.now.setup }
     requires wanted { key_of (call_of walk.old) (stage_of tracker.now.setup.plan walk.old)
         ≡ Some key }
     ensures looked { (tried : PassData) × HasTried pass.old tried
@@ -138,15 +116,8 @@ fn look_on(
     walk: &mut Walk,
     key: Key,
 ) -> Result<(), Held>
-    requires of { IsPassOf tracker.now pass.old }
-    requires plan { plan.now ≡ tracker.now.setup.plan }
-    requires belongs { plan.now.distances ≡ distances.now }
-    requires matched { IsMatched plan.now }
-    requires reached { IsWithinReach plan.now }
-    requires outside { pass.old.view.inside ≡ None }
+    requires way { MayWalkOn tracker.now plan.now distances.now pass.old walk.old }
     requires spare { 1 ≤ pass.old.spare }
-    requires goes { GoesWith tracker.now.setup.plan walk.old }
-    requires known { walk.old.sub < subs_in tracker.now.setup }
     requires wanted { key_of (call_of walk.old) (stage_of tracker.now.setup.plan walk.old)
         ≡ Some key }
     ensures looked { MatchResult result

@@ -1,5 +1,5 @@
 -- What addresses tell, and where the marks lead from their nodes.
-use Rattle.std.proofs.Common.{◌≡◌, ◌≢◌, ◌⊎◌, inl, inr, ℕ, zero, suc, ◌+◌, ◌*◌, ◌<◌, ◌≤◌, Bool, true, false, cond, ◌==◌, ◌&&◌, ◌||◌, not, List, [], ◌∷◌, ◌++◌, Option, Some, length, map, take, refl, sym, ap, ◌∙◌, subst, arith, length-append}
+use Rattle.std.proofs.Common.{◌≡◌, ◌≢◌, ◌⊎◌, inl, inr, ℕ, zero, suc, ◌+◌, ◌*◌, ◌<◌, ◌≤◌, Bool, true, false, cond, ◌==◌, ◌&&◌, ◌||◌, not, List, [], ◌∷◌, ◌++◌, Option, Some, length, map, take, refl, sym, ap, ◌∙◌, subst, arith}
 use Rattle.std.specs.Prelude.{slice_index}
 use Rattle.std.proofs.lemmas.Bool.{eqb-true, eq-eqb}
 use Rattle.std.proofs.lemmas.List.{get_or_append_left, get_or_at, length-map, map-append}
@@ -13,12 +13,12 @@ use Rattle.directory.specs.Courses.{Move, Course, address_node, base, last_stop}
 use Rattle.directory.specs.Writes.{old_home, trail}
 use Rattle.directory.specs.Standing.{Commit, commit_by}
 use Rattle.trail_laws.specs.Trail.{answers, KnowsAtMost}
-use Rattle.trail_laws.proofs.Links.{IsSound, base-low, stop-inside}
+use Rattle.trail_laws.proofs.Links.{IsSound, base-low, stop-inside, moves-count}
 use Rattle.trail_laws.proofs.ClosedMarks.{IsNext, mark_coming, mark_erasing, mark_passing, rest_mark}
 use Rattle.trail_laws.proofs.ClosedEntries.{entry_erased}
 use Rattle.trail_laws.proofs.Holders.{erased-some, IsNew, IsOld, only-new, rest-some, written-some}
 use Rattle.trail_laws.proofs.ClosedViews.{clearing, coming, IsPhase, old_levels, passage, Phase, phase_commits, phase_entry, phase_mark, purge_nodes, purged_nodes, renewed_levels, View, while_clearing}
-use Rattle.trail_laws.proofs.Chases.{above, Arrival, arrived, gone_above, longer, passing-fewer, some-out, stop_at, stops-inside, weight_from}
+use Rattle.trail_laws.proofs.Chases.{above, Arrival, arrived, gone_above, longer, passing-fewer, some-out, stop_at, weight_from, old-inside}
 use Rattle.trail_laws.proofs.Tells.{next-stands, rest-stands, stands}
 use Rattle.trail_laws.proofs.Fine.{fine-clearing, fine-coming, fine-coming_new, fine-new, fine-passing, fine-rest, IsFine}
 use Rattle.trail_laws.proofs.Prices.{IsPriced, lazy-front, price-clearing, price-coming, price-coming_new, price-new, price-passing, price-passing_new, price-rest}
@@ -54,12 +54,6 @@ above-but_one : (setting : Setting) (marks : ℕ → PresenceMark) (q x p from :
 above-but_one setting marks q x p from low comes = some-out (λ v. gone_above q (marks v)) x setting.nodes low
     (ap (gone_above q) comes)
 
--- the node of an old address is a stop of its course
-old-inside : (setting : Setting) (course : Course) (level : ℕ) → IsSound setting course
-    → address_node course level < setting.nodes
-old-inside setting course level sound = stops-inside setting course.start 0 course.moves
-    (base level course.moves) sound.linked sound.begins (base-low setting course level sound)
-
 old-stop : (setting : Setting) (course : Course) (more : List Move) (level : ℕ) → IsSound setting course
     → stop_at course.start (course.moves ++ more) (base level course.moves) ≡ address_node course level
 old-stop setting course more level sound =
@@ -78,9 +72,6 @@ new-stop setting course move next =
     ap (λ xs. slice_index (course.start ∷ xs) move.number) (map-append (λ (m : Move). m.to) course.moves (move ∷ []))
     ∙ get_or_at (course.start ∷ map (λ (m : Move). m.to) course.moves) move.to [] 0 move.number
     (omega (arith, length-map course.moves (λ (m : Move). m.to), next.number))
-
-counted : (course : Course) (move : Move) → length (course.moves ++ move ∷ []) ≡ suc (length course.moves)
-counted course move = omega (arith, length-append course.moves (move ∷ []))
 
 pub rest-placed : (setting : Setting) (from : ℕ) (marks : ℕ → PresenceMark) (course : Course) (level cluster : ℕ)
     (address : Address) → IsSound setting course → course.start ≡ from → level ≤ setting.top
@@ -123,7 +114,7 @@ coming-placed setting from marks course move level cluster address sound next be
     (course.moves ++ move ∷ []) level cluster a) (sym old.0) (record {
       inside = old-inside setting course level sound;
       home_is = eqb-true cluster (old_home setting course level) old.1;
-      few = omega (arith, base-low setting course level sound, counted course move);
+      few = omega (arith, base-low setting course level sound, moves-count course move);
       is_stop = sym (old-stop setting course (move ∷ []) level sound)
           ∙ ap (λ f. slice_index (f ∷ map (λ (m : Move). m.to) (course.moves ++ move ∷ [])) (base level course.moves))
           begins;
@@ -152,7 +143,7 @@ coming-placed setting from marks course move level cluster address sound next be
     (course.moves ++ move ∷ []) level cluster a) (sym new.0) (record {
       inside = next.inside;
       home_is = eqb-true cluster (setting.home level move.to) new.1;
-      few = omega (arith, next.number, counted course move);
+      few = omega (arith, next.number, moves-count course move);
       is_stop = sym (new-stop setting course move next)
           ∙ ap (λ f. slice_index (f ∷ map (λ (m : Move). m.to) (course.moves ++ move ∷ [])) move.number) begins;
       most_way = setting.distance move.to (last_stop course) + 0;
@@ -180,7 +171,7 @@ passing-placed setting from marks course move level cluster address sound next b
     (course.moves ++ move ∷ []) level cluster a) (sym old.0) (record {
       inside = old-inside setting course level sound;
       home_is = eqb-true cluster (old_home setting course level) old.1;
-      few = omega (arith, base-low setting course level sound, counted course move);
+      few = omega (arith, base-low setting course level sound, moves-count course move);
       is_stop = sym (old-stop setting course (move ∷ []) level sound)
           ∙ ap (λ f. slice_index (f ∷ map (λ (m : Move). m.to) (course.moves ++ move ∷ [])) (base level course.moves))
           begins;
@@ -202,7 +193,7 @@ passing-placed setting from marks course move level cluster address sound next b
           (passage-leads setting course move marks sound next marks_are (base level course.moves)
           (address_node course level) known (base-top setting course level sound below)
           (base-low setting course level sound) (old-inside setting course level sound) refl
-          (subst (λ n. KnowsAtMost n known) (length-map (course.moves ++ move ∷ []) commit_by ∙ counted course move)
+          (subst (λ n. KnowsAtMost n known) (length-map (course.moves ++ move ∷ []) commit_by ∙ moves-count course move)
           knows)));
     })
 passing-placed setting from marks course move level cluster address sound next begins below marks_are (inl new) =
@@ -210,7 +201,7 @@ passing-placed setting from marks course move level cluster address sound next b
     (course.moves ++ move ∷ []) level cluster a) (sym new.0) (record {
       inside = next.inside;
       home_is = eqb-true cluster (setting.home level move.to) new.1;
-      few = omega (arith, next.number, counted course move);
+      few = omega (arith, next.number, moves-count course move);
       is_stop = sym (new-stop setting course move next)
           ∙ ap (λ f. slice_index (f ∷ map (λ (m : Move). m.to) (course.moves ++ move ∷ [])) move.number) begins;
       most_way = setting.distance move.to move.from + (setting.distance move.from move.to + 0);
@@ -253,7 +244,7 @@ new-placed setting from marks course move level cluster address sound next begin
     (course.moves ++ move ∷ []) level cluster a) (sym new.0) (record {
       inside = next.inside;
       home_is = eqb-true cluster (setting.home level move.to) new.1;
-      few = omega (arith, next.number, counted course move);
+      few = omega (arith, next.number, moves-count course move);
       is_stop = sym (new-stop setting course move next)
           ∙ ap (λ f. slice_index (f ∷ map (λ (m : Move). m.to) (course.moves ++ move ∷ [])) move.number) begins;
       most_way = 0;
@@ -277,7 +268,7 @@ clearing-placed setting from marks course move level cluster address sound next 
     (course.moves ++ move ∷ []) level cluster a) (sym old.0) (record {
       inside = old-inside setting course level sound;
       home_is = eqb-true cluster (old_home setting course level) old.1;
-      few = omega (arith, base-low setting course level sound, counted course move);
+      few = omega (arith, base-low setting course level sound, moves-count course move);
       is_stop = sym (old-stop setting course (move ∷ []) level sound)
           ∙ ap (λ f. slice_index (f ∷ map (λ (m : Move). m.to) (course.moves ++ move ∷ [])) (base level course.moves))
           begins;
@@ -296,7 +287,7 @@ clearing-placed setting from marks course move level cluster address sound next 
           (omega (arith, base-low setting course level sound)) (old-inside setting course level sound)
           (old-stop setting course (move ∷ []) level sound)
           (subst (λ n. KnowsAtMost n known) (length-map (course.moves ++ move ∷ []) commit_by
-          ∙ counted course move) knows)));
+          ∙ moves-count course move) knows)));
     })
 clearing-placed setting from marks course move level cluster address sound next begins below marks_are (inl new) =
     new-placed setting from marks course move level cluster address sound next begins below

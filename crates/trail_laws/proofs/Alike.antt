@@ -31,7 +31,7 @@ use Rattle.trail_laws.specs.Trail.{answers, entry_seen, IsLed, mark_seen}
 use Rattle.trail_laws.proofs.Links.{stop-inside}
 use Rattle.trail_laws.proofs.ClosedMarks.{since_top, there, trail_mark}
 use Rattle.trail_laws.proofs.Views.{rest-marks_of, sound-script}
-use Rattle.trail_laws.proofs.Passing.{commits-append}
+use Rattle.directory.specs.HistoryLaws.{commits-append}
 
 -- two marks lead and answer alike
 abbrev pub AreAlike : PresenceMark → PresenceMark → Type 0

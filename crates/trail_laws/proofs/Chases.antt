@@ -8,12 +8,13 @@ use Rattle.node_set.specs.Ascending.{sift}
 use Rattle.entry_word.specs.declared.mark.PresenceMark.{PresenceMark}
 use Rattle.entry_word.specs.declared.mark.PresenceMark.TheVariants.{Empty, Here, Gone, Coming, Off}
 use Rattle.directory.specs.Settings.{Setting}
-use Rattle.directory.specs.Courses.{Move}
+use Rattle.directory.specs.Courses.{Move, Course, address_node, base}
 use Rattle.directory.specs.Finds.{is_known, known_with}
 use Rattle.directory.specs.Parts.{known_after, lead}
-use Rattle.trail_laws.specs.Trail.{answers, IsLed, IsMetric, KnowsAtMost}
-use Rattle.trail_laws.proofs.Links.{AreLinked}
-use Rattle.trail_laws.proofs.ClosedMarks.{trail_mark}
+use Rattle.trail_laws.specs.Trail.{answers, IsLed, HasMetric, KnowsAtMost}
+use Rattle.trail_laws.proofs.Links.{AreLinked, base-low, IsSound}
+use Rattle.trail_laws.proofs.ClosedMarks.{trail_mark, there}
+use Rattle.node_set.specs.SetLaws.{length-passing_all}
 
 -- ---- how many pass a test
 pub passing-fewer : (f g : ℕ → Bool) (v k : ℕ) → ((x : ℕ) → f x ≡ true → g x ≡ true)
@@ -53,16 +54,12 @@ passing-less f g x v (suc k) low high h out within = at_place (cases v x)
     at_place (inl e) more = rw (ap f e ∙ out, ap g e ∙ within) (omega (arith, passing-fewer f g (suc v) k h))
     at_place (inr e) more = at_tests (f v) (g v) (h v) (more (grind (arith, nat_tests)))
 
-all-pass : (v k : ℕ) → length (sift (λ x. true) v k) ≡ k
-all-pass v zero = refl
-all-pass v (suc k) = ap suc (all-pass (suc v) k)
-
 pub some-out : (test : ℕ → Bool) (x n : ℕ) → x < n → test x ≡ false → suc (length (sift test 0 n)) ≤ n
 some-out test x n low out = omega (
   arith,
   passing-less test (λ y. true) x 0 n (omega arith) (omega arith)
       (λ y e. refl) out refl,
-  all-pass 0 n,
+  length-passing_all 0 n,
 )
 
 -- ---- how many nodes hold a Gone above a number
@@ -230,7 +227,7 @@ pub record Arrival (setting : Setting) (marks : ℕ → PresenceMark) (known : O
   pub way : ℕ
   pub led : IsLed setting marks known node last hops way
   pub few : hops ≤ most_hops
-  pub short : IsMetric setting → way ≤ most_way
+  pub short : HasMetric setting → way ≤ most_way
 
 pub arrived : (setting : Setting) (marks : ℕ → PresenceMark) (known : Option ℕ) (node last most_hops most_way : ℕ)
     → node ≡ last → answers known (marks node) ≡ true → Arrival setting marks known node last most_hops most_way
@@ -252,8 +249,14 @@ hopped setting marks known node to last most_hops most_way leads more = record {
   short = λ metric. omega (arith, more.short metric);
 }
 
+-- what is known stays within the most
+pub knows-with : (most p : ℕ) (known : Option ℕ) → KnowsAtMost most known → p ≤ most
+    → KnowsAtMost most (known_with p known)
+knows-with most p None knows low = low
+knows-with most p (Some k) knows low = omega (arith, knows)
+
 pub longer : (setting : Setting) (marks : ℕ → PresenceMark) (known : Option ℕ)
-    (node last few few_more short short_more : ℕ) → few ≤ few_more → (IsMetric setting → short ≤ short_more)
+    (node last few few_more short short_more : ℕ) → few ≤ few_more → (HasMetric setting → short ≤ short_more)
     → Arrival setting marks known node last few short → Arrival setting marks known node last few_more short_more
 longer setting marks known node last few few_more short short_more h g a = record {
   hops = a.hops;
@@ -263,11 +266,6 @@ longer setting marks known node last few few_more short short_more h g a = recor
   short = λ metric. omega
       (arith, a.short metric, g metric);
 }
-
-knows-gone : (most number : ℕ) (known : Option ℕ) → KnowsAtMost most known → number ≤ most
-    → KnowsAtMost most (known_with number known)
-knows-gone most number None h low = low
-knows-gone most number (Some k) h low = omega (arith, h)
 
 knows-it : (number : ℕ) (known : Option ℕ) → is_known number (known_with number known) ≡ true
 knows-it number None = let e : nat_le number number ≡ true = grind (arith, nat_tests) in e
@@ -356,7 +354,7 @@ leads setting marks from number last moves most more_hops more_way linked all ex
             (weight_from moves (suc left.place) + more_way)) (sym gone)
             (more (suc left.place) left.move.to (known_with left.move.number known) (omega (arith, enough, late))
             (omega (arith, left.within)) left.inside left.goes_on
-            (knows-gone most left.move.number known knows (omega (arith, left.its_number, left.within, all))))))
+            (knows-with most left.move.number known knows (omega (arith, left.its_number, left.within, all))))))
           where
             late : i ≤ left.place
             late = left.last i goes.1 is_stop
@@ -406,7 +404,7 @@ stops-inside setting from number (m ∷ later) (suc i) (f0, f1, f2, f3, f4, f5, 
 
 -- the way to the end is no longer than the moves to it
 pub way-short : (setting : Setting) (from number : ℕ) (moves : List Move) (i : ℕ)
-    → AreLinked setting from number moves → from < setting.nodes → IsMetric setting → i ≤ length moves
+    → AreLinked setting from number moves → from < setting.nodes → HasMetric setting → i ≤ length moves
     → setting.distance (stop_at from moves i) (stop_at from moves (length moves)) ≤ weight_from moves i
 unfolding AreLinked
 way-short setting from number [] zero linked begins metric low = omega (arith, metric.none from begins)
@@ -459,7 +457,7 @@ coming-exits setting marks from number last moves most p to linked begins ends a
         (subst (λ x. Arrival setting marks known x last 1 (setting.distance x last + 0)) (sym at_to)
         (back-leads setting marks last most p to known above_most knows comes answered)))
       where
-        way : IsMetric setting → setting.distance v last ≤ weight_from moves i
+        way : HasMetric setting → setting.distance v last ≤ weight_from moves i
         way metric = subst (λ x. setting.distance x last ≤ weight_from moves i) is_stop
             (subst (λ x. setting.distance (stop_at from moves i) x ≤ weight_from moves i) ends
             (way-short setting from number moves i linked begins metric low))
@@ -530,3 +528,9 @@ passing-exits setting marks from number left moves most p to ends above_all left
         at_end : (i < length moves) ⊎ (i ≡ length moves) → Goal
         at_end (inl l) = inr (others v inside off_left off_to, l)
         at_end (inr e) = absurd (off_left (sym is_stop ∙ (ap (stop_at from moves) e ∙ ends)))
+
+-- the node of the address of a level is one
+pub old-inside : (setting : Setting) (course : Course) (level : ℕ) → IsSound setting course
+    → address_node course level < setting.nodes
+old-inside setting course level sound = stops-inside setting course.start 0 course.moves
+    (base level course.moves) sound.linked sound.begins (base-low setting course level sound)

@@ -15,6 +15,7 @@ use Rattle.directory.specs.Courses.{Move, Course, last_stop, base, next_move, Ma
 use Rattle.directory.specs.Writes.{Write, mark_at, entry_at, trail}
 use Rattle.directory.specs.States.{mark_after}
 use Rattle.trail_laws.proofs.Links.{IsSound, base-low, renewed-low}
+use Rattle.node_set.specs.SetLaws.{has-append}
 
 -- the marks that moves leave behind: at each node the last leaving
 unfoldable pub trail_mark : List Move → ℕ → PresenceMark → PresenceMark
@@ -114,15 +115,6 @@ is-next setting course node may = record {
   moving = may.moving;
   is_on = may.is_on;
 }
-
-pub has-append : (v : ℕ) (xs ys : List ℕ) → has v (xs ++ ys) ≡ (has v xs || has v ys)
-has-append v [] ys = refl
-has-append v (x ∷ xs) ys = at_test (v == x) (has-append v xs ys)
-  where
-    at_test : (b : Bool) → has v (xs ++ ys) ≡ (has v xs || has v ys)
-        → (b || has v (xs ++ ys)) ≡ ((b || has v xs) || has v ys)
-    at_test true h = refl
-    at_test false h = h
 
 -- the course after a move
 abbrev pub with_move : Course → Move → Course

@@ -1,5 +1,5 @@
 -- What the writes of steps leave in closed form: of a move in each phase, and of whole steps.
-use Rattle.std.proofs.Common.{◌≡◌, ◌⊎◌, inl, inr, ℕ, suc, ◌<◌, ◌≤◌, Bool, true, false, cond, not, ◌==◌, ◌&&◌, List, [], ◌∷◌, ◌++◌, Option, None, length, map, fold, refl, sym, ap, ◌∙◌, arith, append_assoc}
+use Rattle.std.proofs.Common.{◌≡◌, inl, inr, ℕ, suc, ◌<◌, Bool, true, false, cond, not, ◌==◌, ◌&&◌, List, [], ◌∷◌, ◌++◌, Option, None, length, map, fold, refl, sym, ap, ◌∙◌, arith, append_assoc}
 use Rattle.std.specs.Prelude.{nat_le, filter_map}
 use Rattle.std.proofs.lemmas.Bool.Decides.{nat_tests}
 use Rattle.std.proofs.lemmas.List.{append-nil, map-append}
@@ -19,6 +19,7 @@ use Rattle.trail_laws.proofs.Links.{IsSound, sound-step}
 use Rattle.trail_laws.proofs.ClosedMarks.{IsNext, is-next, rest_mark, mark_coming, mark_passing, mark_erasing, marked, marked-append, marked-entries, marked-purges, with_move, marks-rest, since_top, there, trail_mark}
 use Rattle.trail_laws.proofs.ClosedEntries.{rest_entry, entry_written, entry_erased, new_entry, entered, entered-append, entered-levels, entered-purges, entries-rest}
 use Rattle.trail_laws.proofs.ClosedViews.{old_levels, purge_nodes, purged_nodes, renewed_levels}
+use Rattle.std.proofs.lemmas.Bool.{cases_lt}
 
 -- ---- the writes of a move, by lists of levels and nodes
 unfoldable pub coming_shape : Setting → Move → List ℕ → List Write
@@ -206,15 +207,12 @@ whole-shape setting course move =
     at_test true = refl
     at_test false = refl
 
-cases_le : (a b : ℕ) → (a ≤ b) ⊎ (b < a)
-cases_le a b = grind (arith, nat_tests)
-
 -- which levels and nodes pass a test
 in-passing : (test : ℕ → Bool) (x n : ℕ) → has x (sift test 0 (suc n)) ≡ (nat_le x n && test x)
-in-passing test x n = elim (cases_le x n) as (λ _. has x (sift test 0 (suc n)) ≡ (nat_le x n && test x)) [
-  | inl low ↦ let e : nat_le x n ≡ true = grind (arith, nat_tests, low) in rw e
+in-passing test x n = elim (cases_lt n x) as (λ _. has x (sift test 0 (suc n)) ≡ (nat_le x n && test x)) [
+  | inr low ↦ let e : nat_le x n ≡ true = grind (arith, nat_tests, low) in rw e
       (has-passing test x 0 (suc n) (omega arith) (omega arith))
-  | inr high ↦ let e : nat_le x n ≡ false = grind (arith, nat_tests, high) in rw e
+  | inl high ↦ let e : nat_le x n ≡ false = grind (arith, nat_tests, high) in rw e
       (passing_over test x 0 (suc n) (omega arith))
 ]
 

@@ -11,12 +11,12 @@ use Rattle.directory.specs.Settings.{Setting}
 use Rattle.directory.specs.Courses.{Move, Course, address_node, base, last_stop}
 use Rattle.directory.specs.Writes.{old_home}
 use Rattle.directory.specs.Standing.{Commit}
-use Rattle.trail_laws.proofs.Links.{base-low, IsSound}
+use Rattle.trail_laws.proofs.Links.{IsSound}
 use Rattle.trail_laws.proofs.ClosedMarks.{mark_coming, mark_erasing, mark_passing, rest_mark, since_top, there, trail_mark}
 use Rattle.trail_laws.proofs.ClosedEntries.{entry_written, new_entry, rest_entry}
 use Rattle.trail_laws.proofs.ClosedViews.{clearing, coming, IsPhase, old_levels, passage, Phase, phase_commits, phase_entry, phase_mark, purged_nodes, renewed_levels, View, while_clearing}
 use Rattle.trail_laws.proofs.ClosedWrites.{in-levels}
-use Rattle.trail_laws.proofs.Chases.{Arrival, arrived, IsLeft, last-left, left-leads, longer, stop_at, stops-inside}
+use Rattle.trail_laws.proofs.Chases.{Arrival, arrived, IsLeft, last-left, left-leads, longer, stop_at, old-inside}
 use Rattle.node_set.specs.SetLaws.{has-passing, passing_over}
 use Rattle.trail_laws.proofs.Addresses.{not-taken}
 use Rattle.trail_laws.proofs.Tells.{next-stands, rest-stands, stands}
@@ -173,11 +173,6 @@ written-has setting course move written level = at_test
       record { number = base level course.moves; node = address_node course level },
       rest-has setting course level,
     )
-
-old-inside : (setting : Setting) (course : Course) (level : ℕ) → IsSound setting course
-    → address_node course level < setting.nodes
-old-inside setting course level sound = stops-inside setting course.start 0 course.moves
-    (base level course.moves) sound.linked sound.begins (base-low setting course level sound)
 
 pub top-has : (setting : Setting) (from : ℕ) (marks : ℕ → PresenceMark) (entries : ℕ → ℕ → Option Address)
     (commits : List Commit) (off : Bool) (moves : List Move) → View setting from marks entries commits off moves

@@ -7,7 +7,7 @@ use Rattle.entry_word.specs.declared.address.Address.{Address}
 use Rattle.directory.specs.Settings.{Setting}
 use Rattle.directory.specs.Courses.{address_node, base, Course, last_stop, Move}
 use Rattle.directory.specs.Standing.{commit_by}
-use Rattle.trail_laws.specs.Trail.{answers, IsMetric}
+use Rattle.trail_laws.specs.Trail.{answers, HasMetric}
 use Rattle.trail_laws.proofs.Links.{base-low, IsSound}
 use Rattle.trail_laws.proofs.ClosedMarks.{IsNext, mark_coming, mark_erasing, mark_passing}
 use Rattle.trail_laws.proofs.Chases.{weight_from}
@@ -19,16 +19,16 @@ use Rattle.trail_laws.proofs.Prices.{AreLazy, lazy-front, lazy-whole, price-clea
 -- one; between commit and confirm; and after the confirm, from an old address and from one that stays
 pub record IsFine (setting : Setting) (marks : ℕ → PresenceMark) (last number : ℕ) (moves : List Move) (level : ℕ)
     (address : Address) (way : ℕ) : Type 0 where
-  pub before_old : IsMetric setting → AreLazy setting moves → length moves ≡ suc number → address.number ≤ number
+  pub before_old : HasMetric setting → AreLazy setting moves → length moves ≡ suc number → address.number ≤ number
       → way < setting.threshold level
-  pub before_new : IsMetric setting → AreLazy setting moves → length moves ≡ suc number
+  pub before_new : HasMetric setting → AreLazy setting moves → length moves ≡ suc number
       → address.number ≡ suc number → way ≤ setting.distance address.node last
-  pub passing : IsMetric setting → AreLazy setting moves → (u : ℕ) → marks last ≡ Coming number u
+  pub passing : HasMetric setting → AreLazy setting moves → (u : ℕ) → marks last ≡ Coming number u
       → way < setting.threshold level + 2 * setting.distance u last
-  pub settled : IsMetric setting → AreLazy setting moves → length moves ≡ number
+  pub settled : HasMetric setting → AreLazy setting moves → length moves ≡ number
       → ((u : ℕ) → marks last ≢ Coming number u)
       → way + 2 ≤ 2 * setting.threshold level + setting.distance address.node last
-  pub current : IsMetric setting → AreLazy setting moves → length moves ≡ number
+  pub current : HasMetric setting → AreLazy setting moves → length moves ≡ number
       → ((u : ℕ) → marks last ≢ Coming number u) → address.number ≡ base level moves
       → way < setting.threshold level
 
@@ -100,7 +100,7 @@ pub fine-passing : (setting : Setting) (from : ℕ) (marks : ℕ → PresenceMar
     (level : ℕ) (address : Address) (way : ℕ) → IsSound setting course → IsNext setting course move
     → course.start ≡ from
     → ((v : ℕ) → v < setting.nodes → marks v ≡ mark_passing setting course move v)
-    → (IsMetric setting → AreLazy setting (course.moves ++ move ∷ [])
+    → (HasMetric setting → AreLazy setting (course.moves ++ move ∷ [])
     → way < setting.threshold level + 2 * setting.distance move.from move.to)
     → IsFine setting marks (stands from (map commit_by (course.moves ++ move ∷ [])))
     (length (map commit_by (course.moves ++ move ∷ []))) (course.moves ++ move ∷ []) level address way

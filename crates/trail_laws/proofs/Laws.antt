@@ -16,12 +16,12 @@ use Rattle.directory.specs.Courses.{course_at}
 use Rattle.directory.specs.Puts.{steps_in}
 use Rattle.directory.specs.Parts.{lead}
 use Rattle.trail_laws.specs.Trail.{answers}
-use Rattle.trail_laws.proofs.Links.{start-kept}
 use Rattle.trail_laws.proofs.ClosedViews.{View}
 use Rattle.trail_laws.proofs.Views.{legal-view}
 use Rattle.trail_laws.proofs.Tells.{mark-is, MarkIs}
 use Rattle.trail_laws.proofs.Addresses.{entry-placed, IsPlaced}
 use Rattle.trail_laws.proofs.Comings.{coming-leads_on, coming-one, top-has}
+use Rattle.directory.specs.StepLaws.{start-kept}
 
 -- what is taken from the laws of the directory
 pub record Laws : Type 0 where

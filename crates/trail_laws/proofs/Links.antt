@@ -1,8 +1,9 @@
 -- The moves of a course are linked: each begins where the one before ended, and is numbered after it.
-use Rattle.std.proofs.Common.{◌≡◌, ◌≢◌, ℕ, zero, suc, ◌+◌, ◌<◌, ◌≤◌, Bool, true, false, cond, List, [], ◌∷◌, ◌++◌, length, fold, refl, ◌∙◌, arith}
+use Rattle.std.proofs.Common.{◌≡◌, ◌≢◌, ℕ, suc, ◌+◌, ◌<◌, ◌≤◌, Bool, true, false, cond, List, [], ◌∷◌, ◌++◌, length, fold, refl, ◌∙◌, arith, length-append}
 use Rattle.std.specs.Prelude.{nat_le, if◌then◌else◌}
 use Rattle.directory.specs.Settings.{Setting}
-use Rattle.directory.specs.Courses.{highest, Step, move_to, switch_off, switch_on, Move, Course, last_stop, base, next_move, after_step, after_steps, MayStep, MaySteps}
+use Rattle.directory.specs.Courses.{Step, move_to, switch_off, switch_on, Move, Course, last_stop, base, next_move, after_step, after_steps, MayStep, MaySteps}
+use Rattle.directory.specs.StepLaws.{highest-low}
 
 -- moves after this node and this number
 unfoldable pub AreLinked : Setting → ℕ → ℕ → List Move → Type 0
@@ -42,20 +43,6 @@ linked-push setting from number (first ∷ later) move h g a b c d w (f0, f1, f2
       d w f7,
 )
 
-highest-below : (test : ℕ → Bool) (limit : ℕ) → highest test (suc limit) ≤ limit
-unfolding highest
-highest-below test zero = at_test (test 0)
-  where
-    at_test : (b : Bool) → cond b 0 0 ≤ 0
-    at_test true = omega arith
-    at_test false = omega arith
-highest-below test (suc limit) = at_test (test (suc limit)) (highest-below test limit)
-  where
-    at_test : (b : Bool) → highest test (suc limit) ≤ limit
-        → cond b (suc limit) (highest test (suc limit)) ≤ suc limit
-    at_test true h = omega arith
-    at_test false h = omega (arith, h)
-
 last-inside : (setting : Setting) (from number : ℕ) (moves : List Move) → from < setting.nodes
     → AreLinked setting from number moves → fold (λ node (m : Move). m.to) from moves < setting.nodes
 unfolding AreLinked
@@ -69,7 +56,7 @@ stop-inside setting course sound = last-inside setting course.start 0 course.mov
 
 pub renewed-low : (setting : Setting) (course : Course) (node : ℕ)
     → (next_move setting course node).renewed ≤ setting.top
-renewed-low setting course node = highest-below _ setting.top
+renewed-low setting course node = highest-low _ setting.top
 
 pub sound-step : (setting : Setting) (course : Course) (step : Step) → IsSound setting course
     → MayStep setting course step → IsSound setting (after_step setting course step)
@@ -114,9 +101,6 @@ base-low setting course level sound = omega (
       (omega arith) sound.linked,
 )
 
-pub start-kept : (setting : Setting) (course : Course) (steps : List Step)
-    → (after_steps setting course steps).start ≡ course.start
-start-kept setting course [] = refl
-start-kept setting course (move_to node ∷ steps) = start-kept setting (after_step setting course (move_to node)) steps
-start-kept setting course (switch_off ∷ steps) = start-kept setting (after_step setting course switch_off) steps
-start-kept setting course (switch_on ∷ steps) = start-kept setting (after_step setting course switch_on) steps
+-- one move more is moves-count
+pub moves-count : (course : Course) (move : Move) → length (course.moves ++ move ∷ []) ≡ suc (length course.moves)
+moves-count course move = omega (arith, length-append course.moves (move ∷ []))

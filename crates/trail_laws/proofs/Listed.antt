@@ -1,25 +1,17 @@
 -- Whom a census lists: what the mark of a subscriber at its node says.
-use Rattle.std.proofs.Common.{◌≡◌, ℕ, ◌<◌, true, false, sym, ap, ◌∙◌, subst, inl, inr}
-use Rattle.node_set.specs.Ascending.{has}
+use Rattle.std.proofs.Common.{◌≡◌, ℕ, true, false, sym, ap, ◌∙◌, subst, inl, inr}
 use Rattle.entry_word.specs.Marks.{says_here}
 use Rattle.entry_word.specs.declared.mark.PresenceMark.{PresenceMark}
 use Rattle.entry_word.specs.declared.mark.PresenceMark.TheVariants.{Empty, Here, Gone, Coming, Off}
-use Rattle.directory.specs.Settings.{Setting, subs}
-use Rattle.directory.specs.Census.{census}
+use Rattle.directory.specs.Settings.{Setting}
 use Rattle.directory.specs.Histories.{History}
 use Rattle.directory.specs.Legal.{IsLegal}
 use Rattle.directory.specs.Orders.{history_of}
 use Rattle.directory.specs.Standing.{number, off}
-use Rattle.directory.specs.Statements.{DoneIsRest, OrdersAreDone, OrdersArePlayed, PlayedIsLegal}
+use Rattle.directory.specs.Statements.{DoneIsRest, OrdersAreDone, OrdersArePlayed, PlayedIsLegal, CensusIsMark}
 use Rattle.trail_laws.specs.Censuses.{CensusesEndRight, IsOnAt, ListedStandThere, RestingAreListed}
 use Rattle.trail_laws.specs.Phases.{RestIsSettled}
 use Rattle.trail_laws.specs.Trail.{mark_seen, MarksTell, MarkTells}
-
--- what a census says of a subscriber
-abbrev pub CensusIsMark : Type 0
-CensusIsMark =
-    (setting : Setting) (history : History) (node sub : ℕ) → sub < subs setting
-    → has sub (census setting history node) ≡ says_here (mark_seen setting sub history node)
 
 here-tells : (setting : Setting) (sub : ℕ) (history : History) (node : ℕ) (mark : PresenceMark)
     → says_here mark ≡ true → MarkTells setting sub history node mark → IsOnAt setting sub history node

@@ -11,17 +11,17 @@ use Rattle.directory.specs.Settings.{Setting}
 use Rattle.directory.specs.Courses.{address_node, base, Course, Move}
 use Rattle.directory.specs.Writes.{old_home}
 use Rattle.directory.specs.Standing.{Commit, commit_by}
-use Rattle.trail_laws.specs.Trail.{IsMetric}
+use Rattle.trail_laws.specs.Trail.{HasMetric}
 use Rattle.trail_laws.proofs.Links.{base-low, IsSound, stop-inside}
 use Rattle.trail_laws.proofs.ClosedMarks.{base-with, IsNext}
 use Rattle.trail_laws.proofs.ClosedEntries.{entry_written, new_entry, rest_entry}
 use Rattle.trail_laws.proofs.ClosedViews.{clearing, coming, IsPhase, old_levels, passage, Phase, phase_commits, phase_entry, purged_nodes, renewed_levels, View, while_clearing}
 use Rattle.trail_laws.proofs.ClosedWrites.{in-levels}
-use Rattle.trail_laws.proofs.Chases.{weight_from}
+use Rattle.trail_laws.proofs.Chases.{weight_from, old-inside}
 use Rattle.trail_laws.proofs.Tells.{next-stands, rest-stands, stands}
 use Rattle.trail_laws.proofs.Addresses.{not-taken}
 use Rattle.trail_laws.proofs.Comings.{rest-has, written-has}
-use Rattle.trail_laws.proofs.Prices.{address-inside, address-near, AreLazy, lazy-front, lazy-whole, weight-push}
+use Rattle.trail_laws.proofs.Prices.{address-near, AreLazy, lazy-front, lazy-whole, weight-push}
 
 -- the home of a node near this one has an address
 abbrev pub HasNear : Setting → (ℕ → ℕ → Option Address) → ℕ → ℕ → Type 0
@@ -31,7 +31,7 @@ HasNear setting entries level last =
     × (entries level (setting.home level node) ≡ Some address)
 
 -- at a level that a move doesn't renew the address stays near
-near-kept : (setting : Setting) (course : Course) (move : Move) (level : ℕ) → IsMetric setting
+near-kept : (setting : Setting) (course : Course) (move : Move) (level : ℕ) → HasMetric setting
     → IsSound setting course → IsNext setting course move → level ≤ setting.top
     → AreLazy setting (course.moves ++ move ∷ []) → nat_le level move.renewed ≡ false
     → setting.distance (address_node course level) move.to < setting.threshold level
@@ -51,16 +51,16 @@ near-kept setting course move level metric sound next below lazy e = omega (
     from_inside = subst (λ n. n < setting.nodes) (sym next.from) (stop-inside setting course sound)
 
     old_inside : address_node course level < setting.nodes
-    old_inside = address-inside setting course level sound
+    old_inside = old-inside setting course level sound
 
 pub level-has : (setting : Setting) (from : ℕ) (marks : ℕ → PresenceMark) (entries : ℕ → ℕ → Option Address)
-    (commits : List Commit) (off : Bool) (moves : List Move) (level : ℕ) → IsMetric setting → level ≤ setting.top
+    (commits : List Commit) (off : Bool) (moves : List Move) (level : ℕ) → HasMetric setting → level ≤ setting.top
     → AreLazy setting moves → View setting from marks entries commits off moves
     → HasNear setting entries level (stands from commits)
 level-has setting from marks entries commits off moves level metric below lazy (inl h) = (
   address_node h.course level,
   _,
-  address-inside setting h.course level h.sound,
+  old-inside setting h.course level h.sound,
   subst (λ n. setting.distance (address_node h.course level) n < setting.threshold level)
       (sym (ap (stands from) h.commits_are ∙ rest-stands h.course from h.begins))
       (omega (
@@ -90,7 +90,7 @@ level-has setting from marks entries commits off moves level metric below lazy (
         in (
           address_node course level,
           found.0,
-          address-inside setting course level h.sound,
+          old-inside setting course level h.sound,
           near,
           e (setting.home level (address_node course level)) ∙ found.1,
         )
@@ -193,7 +193,7 @@ level-has setting from marks entries commits off moves level metric below lazy (
             let found = written-has setting course move (renewed_levels move) level in (
               address_node course level,
               found.0,
-              address-inside setting course level h.sound,
+              old-inside setting course level h.sound,
               old_near c t,
               e (setting.home level (address_node course level))
                   ∙ (ap (λ b. cond (b && setting.home level

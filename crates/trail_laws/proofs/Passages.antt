@@ -22,7 +22,8 @@ use Rattle.directory.specs.Standing.{Commit, commit_of, commits, confirms, numbe
 use Rattle.directory.specs.StepLaws.{by_fronts, puts-push, steps-append, take-more}
 use Rattle.directory.specs.Statements.{CellsOfPuts, CommitsAreMoves, FrontsAreLegal}
 use Rattle.trail_laws.specs.Trail.{mark_seen, MarksTell, MarkTells}
-use Rattle.trail_laws.proofs.Passing.{commits-append, front-legal}
+use Rattle.trail_laws.proofs.Passing.{front-legal}
+use Rattle.directory.specs.HistoryLaws.{commits-append}
 
 -- a confirm is a Here with its number at its node
 confirm-here : (c : Commit) (node : ℕ) (mark : PresenceMark) → confirms c node mark ≡ true

@@ -1,18 +1,17 @@
 -- What a legal history is at its fronts: they are legal, numbers only grow, and a look changes nothing.
 use Rattle.std.proofs.Common.{◌≡◌, ℕ, zero, suc, ◌+◌, ◌-◌, ◌≤◌, ◌^◌, Bool, true, false, cond, List, [], ◌∷◌, ◌++◌, Some, length, take, filter, refl, sym, ap, ◌∙◌, subst, arith, length-append}
-use Rattle.std.specs.Prelude.{filter_map, slice_get}
+use Rattle.std.specs.Prelude.{slice_get}
 use Rattle.std.proofs.lemmas.List.{append-nil, length-take}
-use Rattle.std.proofs.lemmas.List.Elements.{filter-append, filter_map-append}
 use Rattle.entry_word.specs.declared.visit.Key.{Key}
 use Rattle.entry_word.specs.declared.visit.Visit.{Visit}
 use Rattle.directory.specs.Settings.{Setting}
 use Rattle.directory.specs.Histories.{before, History, is_put_for, puts_to, through}
-use Rattle.directory.specs.Puts.{mark_put, node_put}
 use Rattle.directory.specs.Legal.{ArePuts, IsLegal}
 use Rattle.directory.specs.Looks.{look_by}
-use Rattle.directory.specs.Standing.{commit_of, commits, number}
+use Rattle.directory.specs.Standing.{commits, number}
 use Rattle.directory.specs.StepLaws.{puts-push, take-more}
 use Rattle.directory.specs.Statements.{FrontsAreLegal}
+use Rattle.directory.specs.HistoryLaws.{commits-append}
 
 filter-front : (p : Visit → Bool) (t : ℕ) (xs : List Visit)
     → filter p (take t xs) ≡ take (length (filter p (take t xs))) (filter p xs)
@@ -37,13 +36,6 @@ front-legal fronts setting sub history t low legal =
     (fronts setting sub (puts_to sub history) (length (puts_to sub (take t history))) low
     (omega (arith, ap length same, length-take (length (puts_to sub (take t history))) (puts_to sub history)))
     legal)
-
--- more visits only add commits
-pub commits-append : (sub : ℕ) (xs ys : History) → commits sub (xs ++ ys) ≡ commits sub xs ++ commits sub ys
-commits-append sub xs ys =
-    ap (filter_map (λ (v : Visit). commit_of (node_put v.act) (mark_put v.act)))
-    (filter-append (λ (v : Visit). is_put_for sub v.act) xs ys)
-    ∙ filter_map-append (λ (v : Visit). commit_of (node_put v.act) (mark_put v.act)) (puts_to sub xs) (puts_to sub ys)
 
 take-further : (k t : ℕ) (xs : History) → (rest : History) × (take (k + t) xs ≡ take t xs ++ rest)
 take-further k zero xs = (take (k + 0) xs, refl)

@@ -9,10 +9,10 @@ use Rattle.entry_word.specs.declared.mark.PresenceMark.TheVariants.{Coming}
 use Rattle.directory.specs.Settings.{Setting}
 use Rattle.directory.specs.Courses.{Move, Course, address_node, base, last_stop}
 use Rattle.directory.specs.Standing.{commit_by}
-use Rattle.trail_laws.specs.Trail.{IsMetric}
+use Rattle.trail_laws.specs.Trail.{HasMetric}
 use Rattle.trail_laws.proofs.Links.{IsSound, base-low, stop-inside}
 use Rattle.trail_laws.proofs.ClosedMarks.{IsNext, mark_passing}
-use Rattle.trail_laws.proofs.Chases.{stops-inside, way-short, weight_from}
+use Rattle.trail_laws.proofs.Chases.{way-short, weight_from, old-inside}
 use Rattle.trail_laws.proofs.Tells.{next-stands, rest-stands, stands}
 use Rattle.trail_laws.proofs.Leads.{passing-at_to, stop-end}
 
@@ -30,7 +30,7 @@ IsOpenAtMost setting marks last number pass =
 -- the way from the node of an address of a level is short
 abbrev pub IsPriced : Setting → (ℕ → PresenceMark) → ℕ → ℕ → List Move → ℕ → ℕ → ℕ → Type 0
 IsPriced setting marks last number moves level node most_way =
-    (pass : ℕ) → IsMetric setting → AreLazy setting moves → IsOpenAtMost setting marks last number pass
+    (pass : ℕ) → HasMetric setting → AreLazy setting moves → IsOpenAtMost setting marks last number pass
     → most_way + 2 ≤ 2 * setting.threshold level + setting.distance node last + 2 * pass
 
 take-left : (xs ys : List Move) → take (length xs) (xs ++ ys) ≡ xs
@@ -59,7 +59,7 @@ weight-push moves move b low = ap (sum_by (λ (m : Move). m.weight)) (drop-appen
     ∙ sum_by_push (λ (m : Move). m.weight) (drop b moves) move
 
 -- how far the address of a level is from the last stop
-pub address-near : (setting : Setting) (course : Course) (level : ℕ) → IsSound setting course → IsMetric setting
+pub address-near : (setting : Setting) (course : Course) (level : ℕ) → IsSound setting course → HasMetric setting
     → setting.distance (address_node course level) (last_stop course) ≤ weight_from course.moves
     (base level course.moves)
 address-near setting course level sound metric =
@@ -67,11 +67,6 @@ address-near setting course level sound metric =
     (stop-end course.start course.moves)
     (way-short setting course.start 0 course.moves (base level course.moves) sound.linked sound.begins metric
     (base-low setting course level sound))
-
-pub address-inside : (setting : Setting) (course : Course) (level : ℕ) → IsSound setting course
-    → address_node course level < setting.nodes
-address-inside setting course level sound = stops-inside setting course.start 0 course.moves
-    (base level course.moves) sound.linked sound.begins (base-low setting course level sound)
 
 pub price-rest : (setting : Setting) (marks : ℕ → PresenceMark) (course : Course) (level last number : ℕ)
     → level ≤ setting.top
@@ -178,4 +173,4 @@ price-clearing setting from marks course move level number sound next begins bel
     from_inside = subst (λ n. n < setting.nodes) (sym next.from) (stop-inside setting course sound)
 
     old_inside : address_node course level < setting.nodes
-    old_inside = address-inside setting course level sound
+    old_inside = old-inside setting course level sound

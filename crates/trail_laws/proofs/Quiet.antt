@@ -15,13 +15,13 @@ use Rattle.directory.specs.Settings.{levels, Setting}
 use Rattle.directory.specs.Histories.{before, cell, History, words_at}
 use Rattle.directory.specs.Writes.{numbers_from}
 use Rattle.directory.specs.Legal.{IsLegal}
-use Rattle.directory.specs.Finds.{after_entry, after_mark, after_origin, after_word, all_readers, at_origin, Chase, chases, climb, climbs, ended, find, FindCall, hop, is_known, known_with, Reader, Stage, way_in, weight_of}
+use Rattle.directory.specs.Finds.{after_entry, after_mark, after_origin, after_word, all_readers, at_origin, Chase, chases, climb, climbs, ended, find, FindCall, hop, is_known, known_with, Reader, Stage, way_in, found_weight}
 use Rattle.directory.specs.Looks.{AreLooks, first_of, IsFind, IsQuiet, last_of, look_by, moves_at}
 use Rattle.directory.specs.declared.answers.Found.{Found}
 use Rattle.directory.specs.declared.answers.Found.TheVariants.{At, Again}
 use Rattle.trail_laws.specs.Trail.{entry_seen}
 use Rattle.trail_laws.specs.Answers.{AgainHasItsCause, IsAnswered, QuietFindsAnswer, ReadsTop}
-use Rattle.trail_laws.specs.Within.{Affords, AffordsAddress, Begins, EntryAsks, IsAtMost, QuietFindsStayWithin}
+use Rattle.trail_laws.specs.Within.{Affords, AffordsAddress, Begins, EntryAsks, WeighsAtMost, QuietFindsStayWithin}
 use Rattle.trail_laws.proofs.Passing.{front-legal}
 use Rattle.trail_laws.proofs.Right.{last-more, Low, read-one, readers-low}
 use Rattle.trail_laws.proofs.Sure.{IsSure, Used, look-sure, sure-until}
@@ -114,7 +114,7 @@ sure-looks : Used → (setting : Setting) (history : History) (actor : ℕ) (cal
     → AreLooks setting history actor call (suc t) stage later
     → ((u : ℕ) → t ≤ u → u ≤ last_of (t ∷ later) → moves_at call.sub history u ≡ false)
     → fold (after_word setting call) stage (flat_map (words_at setting history) later) ≡ ended found
-    → IsAnswered found × Within (weight_of found)
+    → IsAnswered found × Within (found_weight found)
 unfolding AreLooks
 sure-looks used setting history actor call Within found low inside legal [] t stage is_begun sure looks quiet ends =
     subst (IsSure setting call.sub (before t history) call Within) ends sure
@@ -143,7 +143,7 @@ pub quiet-within : Used → (setting : Setting) (history : History) (actor : ℕ
     (found : Found) (tickets : List ℕ) → setting.nodes ≤ 2 ^ 16 → call.from < setting.nodes
     → IsLegal setting call.sub history → Begins setting (before (first_of tickets) history) call Within
     → IsFind setting history actor call found tickets
-    → IsQuiet history call.sub (first_of tickets) (last_of tickets) → IsAnswered found × Within (weight_of found)
+    → IsQuiet history call.sub (first_of tickets) (last_of tickets) → IsAnswered found × Within (found_weight found)
 unfolding AreLooks
 quiet-within used setting history actor call Within found [] low inside legal begins find quiet =
     let clash : at_origin ≡ ended found = find.answer in cc
@@ -151,7 +151,7 @@ quiet-within used setting history actor call Within found (t ∷ later) low insi
     at_looks find.looks
   where
     at_looks : AreLooks setting history actor call 0 at_origin (t ∷ later) → IsAnswered found
-        × Within (weight_of found)
+        × Within (found_weight found)
     at_looks (first, (key, wanted, is_look, rest)) =
         sure-looks used setting history actor call Within found low inside legal later t
         (after_word setting call at_origin (cell setting (before t history) key))
@@ -317,4 +317,4 @@ again-cause used setting history actor call why weight tickets low reads inside 
 -- a quiet find whose beginning is sure of a bound stays within it
 pub quiet-stays : Used → QuietFindsStayWithin
 quiet-stays used setting history actor call found tickets most low inside legal begins find quiet =
-    quiet-within used setting history actor call (IsAtMost most) found tickets low inside legal begins find quiet
+    quiet-within used setting history actor call (WeighsAtMost most) found tickets low inside legal begins find quiet

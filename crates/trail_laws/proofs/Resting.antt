@@ -15,7 +15,7 @@ use Rattle.directory.specs.Standing.{commit_by, commits, number, standing}
 use Rattle.directory.specs.States.{entry_left, mark_left, write_commit, write_off, writes_made}
 use Rattle.trail_laws.specs.Trail.{entry_seen, mark_seen}
 use Rattle.trail_laws.specs.Phases.{AddressesLeadByPhase, IsAtRest, IsCurrent, IsMarked, RestEndsItsCourse, RestIsSettled}
-use Rattle.trail_laws.proofs.Links.{AreLinked, start-kept, stop-inside}
+use Rattle.trail_laws.proofs.Links.{AreLinked, stop-inside}
 use Rattle.trail_laws.proofs.ClosedMarks.{since_top, there, trail_mark}
 use Rattle.trail_laws.proofs.ClosedEntries.{entered, rest_entry}
 use Rattle.trail_laws.proofs.ClosedWrites.{commits-steps, entries-steps, off-steps}
@@ -24,6 +24,7 @@ use Rattle.trail_laws.proofs.Tells.{rest-stands, stands}
 use Rattle.trail_laws.proofs.Holders.{IsOld, rest-some}
 use Rattle.trail_laws.proofs.Laws.{Laws, placed}
 use Rattle.trail_laws.proofs.Lazy.{legal-lazy}
+use Rattle.directory.specs.StepLaws.{start-kept}
 
 pub addresses-by_phase : Laws → AddressesLeadByPhase
 addresses-by_phase laws setting sub history low metric some legal level cluster address known below is_some knows =

@@ -27,6 +27,7 @@ use Rattle.directory.specs.declared.answers.Found.TheVariants.{At, Off as OffAt,
 use Rattle.trail_laws.specs.Trail.{entry_seen, EntryTells, EntriesTell, KnowsAtMost, mark_seen, MarksTell, MarkTells}
 use Rattle.trail_laws.specs.Answers.{AnswersAreRight, HasNumber, IsRight, NumbersNeverFall}
 use Rattle.trail_laws.proofs.Passing.{front-legal, number-grows, through-puts}
+use Rattle.trail_laws.proofs.Chases.{knows-with}
 
 -- a stage that isn't the end
 abbrev pub IsUnderWay : Stage → Type 0
@@ -130,11 +131,6 @@ hop-good : (setting : Setting) (sub : ℕ) (seen : History) (known level : Optio
     → IsGood setting sub seen (hop setting known level weight hops_left node to)
 hop-good setting sub seen known level weight zero node to knows inside = tt
 hop-good setting sub seen known level weight (suc more) node to knows inside = (knows, inside)
-
-pub knows-with : (most p : ℕ) (known : Option ℕ) → KnowsAtMost most known → p ≤ most
-    → KnowsAtMost most (known_with p known)
-knows-with most p None knows low = low
-knows-with most p (Some k) knows low = omega (arith, knows)
 
 known-low : (most p : ℕ) (known : Option ℕ) → KnowsAtMost most known → is_known p known ≡ true → p ≤ most
 known-low most p None knows h = cc

@@ -1,7 +1,7 @@
 -- The lines of outcomes are right, since each is made by the looks of a find.
 use Rattle.std.proofs.Common.{◌≡◌, ℕ, zero, suc, ◌<◌, ◌≤◌, ◌^◌, List, [], ◌∷◌, sym, subst, arith}
 use Rattle.std.specs.Prelude.{All, Some, slice_get}
-use Rattle.std.proofs.lemmas.List.Elements.{All-head, All-tail, All-nil, All-cons}
+use Rattle.std.proofs.lemmas.List.Elements.{All-head, All-tail, All-weaker}
 use Rattle.directory.specs.Settings.{Setting, subs}
 use Rattle.directory.specs.Histories.{History}
 use Rattle.directory.specs.Legal.{IsLegal}
@@ -62,19 +62,15 @@ made_right right cause setting scripts history low reads valid legal
     right_line right cause setting history actor (record { from = from; sub = sub }) h.found h.seen _ low reads is
     (legal sub is.known) h.find h.tells
 
-all_right : {A : Type 0} (P Q : A → Type 0) (xs : List A) → ((x : A) → P x → Q x) → All P xs → All Q xs
-all_right P Q [] more all = All-nil Q
-all_right P Q (x ∷ xs) more all = All-cons Q x xs (more x (All-head P x xs all))
-    (all_right P Q xs more (All-tail P x xs all))
-
 pub outcomes-right : AnswersAreRight → AgainHasItsCause → OrdersArePlayed → OrdersAreDone → PlayedIsLegal
     → LinesAreMade → OutcomesAreRight
 outcomes-right right cause played done legal made setting scripts order low reads valid =
-    all_right (IsMade setting scripts (history_of setting scripts order))
-    (IsRightLine setting (history_of setting scripts order)) (outcome_of setting scripts order).calls
+    All-weaker (IsMade setting scripts (history_of setting scripts order))
+    (IsRightLine setting (history_of setting scripts order))
     (made_right right cause setting scripts (history_of setting scripts order) low reads valid
     (λ sub below. legal setting scripts (history_of setting scripts order) sub low valid below
     (played setting scripts order)))
+    (outcome_of setting scripts order).calls
     (made setting scripts (history_of setting scripts order) (played setting scripts order)
     (done setting scripts order))
 

@@ -12,7 +12,7 @@ use Rattle.entry_word.specs.declared.visit.Visit.{Visit}
 use Rattle.directory.specs.Settings.{Setting}
 use Rattle.directory.specs.Histories.{before, cell, History}
 use Rattle.directory.specs.Legal.{IsLegal}
-use Rattle.directory.specs.Finds.{after_entry, after_mark, after_origin, after_word, all_readers, at_origin, Chase, chases, climb, climbs, ended, FindCall, hop, is_known, key_of, known_with, Reader, Stage, way_in, weight_of}
+use Rattle.directory.specs.Finds.{after_entry, after_mark, after_origin, after_word, all_readers, at_origin, Chase, chases, climb, climbs, ended, FindCall, hop, is_known, key_of, known_with, Reader, Stage, way_in, found_weight}
 use Rattle.directory.specs.Looks.{moves_at, moves_by}
 use Rattle.directory.specs.Parts.{known_after, lead}
 use Rattle.directory.specs.Standing.{number, standing}
@@ -35,7 +35,7 @@ IsSure setting sub seen call Within (chases chase node) =
     (hops : ℕ) × (way : ℕ) × (hops ≤ chase.hops_left)
     × IsLed setting (mark_seen setting sub seen) chase.known node (standing setting sub seen) hops way
     × Within (chase.weight + way)
-IsSure setting sub seen call Within (ended found) = IsAnswered found × Within (weight_of found)
+IsSure setting sub seen call Within (ended found) = IsAnswered found × Within (found_weight found)
 
 -- ---- it stays
 address-alike : (setting : Setting) (sub : ℕ) (one other : History) (call : FindCall) (Within : ℕ → Type 0)

@@ -1,5 +1,5 @@
 -- What marks tell.
-use Rattle.std.proofs.Common.{◌≡◌, ◌⊎◌, inl, inr, ℕ, zero, suc, ◌+◌, ◌-◌, ◌<◌, ◌≤◌, Bool, true, false, cond, ◌==◌, List, [], ◌∷◌, ◌++◌, Option, Some, length, map, drop, fold, refl, sym, ap, ◌∙◌, subst, arith, length-append}
+use Rattle.std.proofs.Common.{◌≡◌, ◌⊎◌, inl, inr, ℕ, zero, suc, ◌+◌, ◌-◌, ◌<◌, ◌≤◌, Bool, true, false, cond, ◌==◌, List, [], ◌∷◌, ◌++◌, Option, Some, length, map, drop, fold, refl, sym, ap, ◌∙◌, subst, arith}
 use Rattle.std.specs.Prelude.{slice_get}
 use Rattle.std.proofs.lemmas.Bool.{eqb-true, eq-eqb}
 use Rattle.std.proofs.lemmas.List.{append-nil, length-map, map-append}
@@ -11,7 +11,7 @@ use Rattle.entry_word.specs.declared.address.Address.{Address}
 use Rattle.directory.specs.Settings.{Setting}
 use Rattle.directory.specs.Courses.{Move, Course, base, last_stop}
 use Rattle.directory.specs.Standing.{Commit, commit_by}
-use Rattle.trail_laws.proofs.Links.{AreLinked, IsSound, base-low, stop-inside}
+use Rattle.trail_laws.proofs.Links.{AreLinked, IsSound, base-low, stop-inside, moves-count}
 use Rattle.trail_laws.proofs.ClosedMarks.{IsNext, rest_mark, mark_coming, mark_passing, mark_erasing, since_top, there, trail_mark}
 use Rattle.trail_laws.proofs.ClosedViews.{clearing, coming, IsPhase, passage, Phase, phase_commits, phase_mark, View}
 use Rattle.trail_laws.proofs.Chases.{IsLeft, last-left, stop_at}
@@ -107,10 +107,6 @@ gone-is from marks off all setting course node mark more sound same =
             (sym (slice_get-drop course.moves low left.place) ∙ left.is_move))
             ∙ ap (λ f. Some (record { number = left.move.number; from = f; to = left.move.to })) left.its_from)
 
-bool-cases : (b : Bool) → (b ≡ true) ⊎ (b ≡ false)
-bool-cases true = inl refl
-bool-cases false = inr refl
-
 -- at rest
 rest-is : (from : ℕ) (marks : ℕ → PresenceMark) (all : List Move) (setting : Setting) (course : Course) (node : ℕ)
     → IsSound setting course → course.start ≡ from
@@ -150,9 +146,6 @@ pub rest-stands : (course : Course) (from : ℕ) → course.start ≡ from
 rest-stands course from begins = stands-moves from course.moves
     ∙ ap (λ f. fold (λ n (m : Move). m.to) f course.moves) (sym begins)
 
-counted : (course : Course) (move : Move) → length (course.moves ++ move ∷ []) ≡ suc (length course.moves)
-counted course move = omega (arith, length-append course.moves (move ∷ []))
-
 -- the Gone of the move itself
 own-gone : (setting : Setting) (course : Course) (move : Move) → IsNext setting course move
     → slice_get (map commit_by (course.moves ++ move ∷ [])) (move.number - 1) ≡ Some (commit_by move)
@@ -173,7 +166,7 @@ coming-is setting from marks course move node sound next begins = at_to (node ==
     at_to : (b : Bool) → (node == move.to) ≡ b → MarkIs setting.nodes from marks (map commit_by course.moves) false
         (course.moves ++ move ∷ []) node (cond b (Coming move.number move.from) (rest_mark setting course node))
     at_to true e = (
-      next.number ∙ sym (counted course move),
+      next.number ∙ sym (moves-count course move),
       subst (λ n. n < setting.nodes) (sym next.from) (stop-inside setting course sound),
       refl,
       inl (
@@ -229,11 +222,11 @@ passing-is setting from marks course move node sound next begins gone = at_from 
             (map commit_by (course.moves ++ move ∷ [])) false (course.moves ++ move ∷ []) node
             (cond b (Coming move.number move.from) (rest_mark setting course node))
         at_to true t = (
-          next.number ∙ sym (counted course move),
+          next.number ∙ sym (moves-count course move),
           subst (λ n. n < setting.nodes) (sym next.from) (stop-inside setting course sound),
           refl,
           inr (
-            next.number ∙ (sym (counted course move) ∙ sym (length-map (course.moves ++ move ∷ []) commit_by)),
+            next.number ∙ (sym (moves-count course move) ∙ sym (length-map (course.moves ++ move ∷ []) commit_by)),
             eqb-true node move.to t ∙ sym (next-stands setting course move from next begins),
             gone ∙ ap (λ n. Gone move.number n) (sym (eqb-true node move.to t)),
           ),
@@ -262,7 +255,7 @@ clearing-is setting from marks course move purged node sound next begins = at_pu
     at_to true t = (
       eqb-true node move.to t ∙ sym (next-stands setting course move from next begins),
       next.number
-          ∙ (sym (counted course move) ∙ sym (length-map (course.moves ++ move ∷ []) commit_by)),
+          ∙ (sym (moves-count course move) ∙ sym (length-map (course.moves ++ move ∷ []) commit_by)),
       refl,
     )
     at_to false t = at_from (node == move.from) (node == move.to) refl t

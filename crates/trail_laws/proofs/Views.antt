@@ -1,5 +1,5 @@
 -- What a legal history leaves, in closed form: its subscriber rests, or is in a phase of a move.
-use Rattle.std.proofs.Common.{◌≡◌, ◌⊎◌, inl, inr, ℕ, zero, suc, ◌<◌, ◌≤◌, ◌^◌, Bool, true, false, cond, ◌==◌, List, [], ◌∷◌, ◌++◌, Option, None, length, map, take, fold, refl, sym, ap, ◌∙◌, subst, arith, append_assoc}
+use Rattle.std.proofs.Common.{◌≡◌, ◌⊎◌, inl, inr, ℕ, zero, suc, ◌<◌, ◌≤◌, ◌^◌, Bool, true, false, cond, ◌==◌, List, [], ◌∷◌, ◌++◌, Option, None, length, map, take, fold, refl, sym, ap, ◌∙◌, subst, arith}
 use Rattle.std.specs.Prelude.{filter_map}
 use Rattle.std.proofs.lemmas.Bool.{lt-ltb}
 use Rattle.std.proofs.lemmas.List.{append-nil, length-map, length-take, take-map, take_all, map-append}
@@ -18,15 +18,16 @@ use Rattle.directory.specs.Puts.{course_in}
 use Rattle.directory.specs.Amid.{IsAmid}
 use Rattle.directory.specs.Statements.{CommitsAreTold, EntriesAreLeft, LegalIsAmid, MarksAreLeft, OffIsTold}
 use Rattle.directory.specs.Courses.{Step, move_to, switch_off, switch_on, Move, Course, course_at, next_move, after_step, after_steps, MayMove, MayStep, MaySteps}
-use Rattle.directory.specs.Writes.{Write, mark_at, entry_at, new_address, old_home, erasure_writes, purge_writes, move_writes, step_writes, writes}
+use Rattle.directory.specs.Writes.{Write, mark_at, entry_at, new_address, old_home, erasure_writes, purge_writes, move_writes, writes}
 use Rattle.directory.specs.Standing.{Commit, commit_by, commits, off}
 use Rattle.directory.specs.States.{entry_left, mark_left, opening_entry, opening_mark, write_commit, write_off, writes_made}
-use Rattle.trail_laws.proofs.Links.{AreLinked, IsSound, sound-steps, start-kept}
+use Rattle.trail_laws.proofs.Links.{AreLinked, IsSound, sound-steps}
 use Rattle.trail_laws.proofs.Fronts.{IsFrontOf, nothing_made, is_coming, is_passing, is_erasing, fronts}
 use Rattle.trail_laws.proofs.ClosedMarks.{is-next, rest_mark, marked, marked-append, trail_mark}
 use Rattle.trail_laws.proofs.ClosedEntries.{rest_entry, entered, entered-append}
 use Rattle.trail_laws.proofs.ClosedViews.{clearing, coming, IsPhase, old_levels, passage, Phase, phase_commits, phase_entry, phase_mark, purge_nodes, purged_nodes, renewed_levels, View, while_clearing, while_coming, while_passing}
 use Rattle.trail_laws.proofs.ClosedWrites.{clearing-commits, clearing-entries, clearing-marks, clearing-on, clearing_shape, coming-commits, coming-entries, coming-marks, coming-on, coming_shape, commits-steps, entries-steps, marks-steps, off-steps, offs-append, passing-commits, passing-entries, passing-marks, passing-on, passing_shape}
+use Rattle.directory.specs.StepLaws.{writes-more, start-kept}
 
 -- ---- what writes leave from the opening on
 opens-marks : (setting : Setting) (sub v : ℕ) → sub < subs setting
@@ -312,17 +313,6 @@ view-along setting from marks other_marks entries other_entries commits other_co
       off_is = o ∙ h.off_is;
       moves_are = m ∙ h.moves_are;
     })
-
-writes-more : (setting : Setting) (course : Course) (steps : List Step) (step : Step)
-    → writes setting course (steps ++ step ∷ []) ≡ writes setting course steps ++ step_writes setting
-    (after_steps setting course steps) step
-unfolding writes
-writes-more setting course [] step = append-nil (step_writes setting course step)
-writes-more setting course (first ∷ steps) step =
-    ap (λ ws. step_writes setting course first ++ ws) (writes-more setting
-    (after_step setting course first) steps step)
-    ∙ sym (append_assoc (step_writes setting course first) (writes setting (after_step setting course first) steps)
-    (step_writes setting (after_steps setting (after_step setting course first) steps) step))
 
 -- so it is amid each step
 amid-view : (setting : Setting) (sub : ℕ) (before under : List Step) (made : ℕ)

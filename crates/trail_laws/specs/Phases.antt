@@ -12,7 +12,7 @@ use Rattle.directory.specs.Courses.{base, last_stop}
 use Rattle.directory.specs.Puts.{course_in, puts_left}
 use Rattle.directory.specs.Legal.{IsLegal}
 use Rattle.directory.specs.Standing.{number, off, standing}
-use Rattle.trail_laws.specs.Trail.{entry_seen, IsLed, IsMetric, KnowsAtMost, mark_seen}
+use Rattle.trail_laws.specs.Trail.{entry_seen, IsLed, HasMetric, KnowsAtMost, mark_seen}
 use Rattle.trail_laws.specs.Ways.{GathersSome}
 
 -- how many moves a subscriber has begun
@@ -67,7 +67,7 @@ pub record IsShortByPhase (setting : Setting) (sub : ℕ) (history : History) (l
 -- phase (`marks_lead_by_phase`)
 abbrev pub AddressesLeadByPhase : Type 0
 AddressesLeadByPhase =
-    (setting : Setting) (sub : ℕ) (history : History) → setting.nodes ≤ 2 ^ 16 → IsMetric setting
+    (setting : Setting) (sub : ℕ) (history : History) → setting.nodes ≤ 2 ^ 16 → HasMetric setting
     → GathersSome setting → IsLegal setting sub history
     → (level cluster : ℕ) (address : Address) (known : Option ℕ) → level ≤ setting.top
     → entry_seen setting sub history level cluster ≡ Some address

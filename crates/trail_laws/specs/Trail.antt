@@ -18,10 +18,11 @@ use Rattle.directory.specs.Standing.{commits, number, off, standing}
 use Rattle.directory.specs.Finds.{is_known}
 use Rattle.directory.specs.Parts.{known_after, lead}
 
--- the mark of a subscriber at a node after a history, and its entry at a cluster of a level
+-- the mark of a subscriber at a node after a history
 abbrev pub mark_seen : Setting → ℕ → History → ℕ → PresenceMark
 mark_seen setting sub history node = mark_in (cell setting history (Presence node sub))
 
+-- the entry of a subscriber at a cluster of a level after a history
 abbrev pub entry_seen : Setting → ℕ → History → ℕ → ℕ → Option Address
 entry_seen setting sub history level cluster =
     address_in (cell setting history (Entry level cluster sub))
@@ -148,7 +149,7 @@ NumbersGoUp =
     → GoesUp p (mark_seen setting sub history to)
 
 -- the distances of a setting are those of a network: the same both ways, and no detour is shorter
-pub record IsMetric (setting : Setting) : Type 0 where
+pub record HasMetric (setting : Setting) : Type 0 where
   pub none : (u : ℕ) → u < setting.nodes → setting.distance u u ≡ 0
   pub both_ways : (u v : ℕ) → u < setting.nodes → v < setting.nodes
       → setting.distance u v ≡ setting.distance v u

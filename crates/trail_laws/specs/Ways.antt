@@ -8,7 +8,7 @@ use Rattle.directory.specs.Settings.{Setting}
 use Rattle.directory.specs.Histories.{History}
 use Rattle.directory.specs.Legal.{IsLegal}
 use Rattle.directory.specs.Standing.{number, passage, standing}
-use Rattle.trail_laws.specs.Trail.{entry_seen, IsLed, IsMetric, KnowsAtMost, mark_seen}
+use Rattle.trail_laws.specs.Trail.{entry_seen, IsLed, HasMetric, KnowsAtMost, mark_seen}
 
 -- no level is renewed before it has gathered something
 abbrev pub GathersSome : Setting → Type 0
@@ -24,7 +24,7 @@ StandsInside =
 -- where the subscriber stands (`levels_stay_near`)
 abbrev pub LevelsStayNear : Type 0
 LevelsStayNear =
-    (setting : Setting) (sub : ℕ) (history : History) → setting.nodes ≤ 2 ^ 16 → IsMetric setting
+    (setting : Setting) (sub : ℕ) (history : History) → setting.nodes ≤ 2 ^ 16 → HasMetric setting
     → GathersSome setting → IsLegal setting sub history → (level : ℕ) → level ≤ setting.top
     → (node : ℕ) × (address : Address) × (node < setting.nodes)
     × (setting.distance node (standing setting sub history) < setting.threshold level)
@@ -42,7 +42,7 @@ IsOpenAtMost setting sub history pass =
 -- (`marks_lead_shortly`)
 abbrev pub AddressesLeadShortly : Type 0
 AddressesLeadShortly =
-    (setting : Setting) (sub : ℕ) (history : History) → setting.nodes ≤ 2 ^ 16 → IsMetric setting
+    (setting : Setting) (sub : ℕ) (history : History) → setting.nodes ≤ 2 ^ 16 → HasMetric setting
     → GathersSome setting → IsLegal setting sub history
     → (level cluster : ℕ) (address : Address) (known : Option ℕ) (pass : ℕ) → level ≤ setting.top
     → entry_seen setting sub history level cluster ≡ Some address
@@ -57,7 +57,7 @@ AddressesLeadShortly =
 -- and twice the open passage (`marks_lead_shortly`)
 abbrev pub ComingsLeadShortly : Type 0
 ComingsLeadShortly =
-    (setting : Setting) (sub : ℕ) (history : History) → setting.nodes ≤ 2 ^ 16 → IsMetric setting
+    (setting : Setting) (sub : ℕ) (history : History) → setting.nodes ≤ 2 ^ 16 → HasMetric setting
     → IsLegal setting sub history → (node p from pass : ℕ) → node < setting.nodes
     → mark_seen setting sub history node ≡ Coming p from → IsOpenAtMost setting sub history pass
     → (hops : ℕ) × (way : ℕ) × (hops ≤ setting.nodes)

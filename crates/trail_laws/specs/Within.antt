@@ -8,7 +8,7 @@ use Rattle.entry_word.specs.declared.mark.PresenceMark.TheVariants.{Here, Coming
 use Rattle.directory.specs.Settings.{Setting}
 use Rattle.directory.specs.Histories.{before, History, through}
 use Rattle.directory.specs.Legal.{IsLegal}
-use Rattle.directory.specs.Finds.{all_readers, FindCall, Reader, way_in, weight_of}
+use Rattle.directory.specs.Finds.{all_readers, FindCall, Reader, way_in, found_weight}
 use Rattle.directory.specs.Looks.{first_of, IsFind, IsQuiet, last_of}
 use Rattle.directory.specs.Standing.{number, passage, standing}
 use Rattle.directory.specs.declared.answers.Found.{Found}
@@ -57,8 +57,8 @@ pub record Begins (setting : Setting) (seen : History) (call : FindCall) (Within
       × Within (setting.distance call.from from + way)
 
 -- a weight is at most this one
-abbrev pub IsAtMost : ℕ → ℕ → Type 0
-IsAtMost most weight = weight ≤ most
+abbrev pub WeighsAtMost : ℕ → ℕ → Type 0
+WeighsAtMost most weight = weight ≤ most
 
 -- a quiet find whose beginning is sure of this bound has an answer within it
 -- (`quiet_finds_stay_within`)
@@ -67,10 +67,10 @@ QuietFindsStayWithin =
     (setting : Setting) (history : History) (actor : ℕ) (call : FindCall) (found : Found)
     (tickets : List ℕ) (most : ℕ) → setting.nodes ≤ 2 ^ 16 → call.from < setting.nodes
     → IsLegal setting call.sub history
-    → Begins setting (before (first_of tickets) history) call (IsAtMost most)
+    → Begins setting (before (first_of tickets) history) call (WeighsAtMost most)
     → IsFind setting history actor call found tickets
     → IsQuiet history call.sub (first_of tickets) (last_of tickets)
-    → IsAnswered found × (weight_of found ≤ most)
+    → IsAnswered found × (found_weight found ≤ most)
 
 -- a front of a legal history is legal (`front_of_history_is_legal`)
 abbrev pub HistoryFrontsAreLegal : Type 0

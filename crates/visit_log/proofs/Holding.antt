@@ -1,36 +1,27 @@
 -- What plain cells hold after a put.
 use Rattle.std.proofs.Common.{◌≡◌, ℕ, ◌<◌, Bool, true, false, cond, List, [], ◌∷◌, ◌++◌, length, refl, sym, ap, ◌∙◌, subst}
-use Rattle.std.specs.Prelude.{get_or, slice_set, ◌↔◌}
+use Rattle.std.specs.Prelude.{get_or, slice_set}
 use Rattle.std.proofs.lemmas.List.{get_or-set_same, get_or-set_other}
 use Rattle.entry_word.specs.declared.visit.Key.{Key}
 use Rattle.entry_word.specs.declared.visit.Act.TheVariants.{Put}
-use Rattle.entry_word.specs.declared.visit.Visit.{Visit}
 use Rattle.directory.specs.Keys.{same_key}
-use Rattle.directory.specs.Settings.{Setting}
-use Rattle.directory.specs.Histories.{History, cell, word_after}
+use Rattle.directory.specs.Histories.{History}
 use Rattle.region_plan.specs.Plan.{PlanData}
 use Rattle.region_plan.specs.Settings.{setting_of}
 use Rattle.region_plan.specs.Cells.{IsCell}
-use Rattle.visit_log.specs.Cells.{CellData, GoWith, Hold, slot_of, word_of}
+use Rattle.visit_log.specs.Cells.{CellData, GoWith, Hold, slot_of, word_at}
 use Rattle.visit_log.proofs.Places.{slot-apart, slot-within}
-
--- a cell after a put
-abbrev pub CellAfter : Type 0
-CellAfter = (setting : Setting) (history : History) (visit : Visit) (key : Key)
-    → cell setting (history ++ visit ∷ []) key ≡ word_after key (cell setting history key) visit.act
-
-abbrev pub SameKey : Type 0
-SameKey = (one other : Key) → (same_key one other ≡ true) ↔ (one ≡ other)
+use Rattle.directory.specs.Statements.{SameKey, CellAfter}
 
 pub word-after : SameKey → (plan : PlanData) (cells : CellData) (key other : Key) (word : ℕ) → GoWith plan cells
     → IsCell plan cells.subs key → IsCell plan cells.subs other
-    → word_of plan (record cells { words = slice_set cells.words (slot_of plan key) word }) other
-    ≡ cond (same_key other key) word (word_of plan cells other)
+    → word_at plan (record cells { words = slice_set cells.words (slot_of plan key) word }) other
+    ≡ cond (same_key other key) word (word_at plan cells other)
 word-after law plan cells key other word goes mine its = at_test (same_key other key) refl
   where
     at_test : (b : Bool) → same_key other key ≡ b → get_or (slice_set cells.words
         (slot_of plan key) word) (slot_of plan other) 0
-        ≡ cond b word (word_of plan cells other)
+        ≡ cond b word (word_at plan cells other)
     at_test true test =
         let same : other ≡ key = (law other key).0 test in
         let inside : slot_of plan key < length cells.words = slot-within plan cells key goes mine in

@@ -11,8 +11,9 @@ use Rattle.directory.specs.Keys.{same_key, key_sub, opening}
 use Rattle.region_plan.specs.Plan.{PlanData, home, levels_of}
 use Rattle.region_plan.specs.Settings.{setting_of}
 use Rattle.region_plan.specs.Cells.{IsPlace, IsCell}
-use Rattle.visit_log.specs.Cells.{CellData, GoWith, open_word, slot_of, word_of}
-use Rattle.visit_log.proofs.Holding.{SameKey, word-after}
+use Rattle.visit_log.specs.Cells.{CellData, GoWith, open_word, slot_of, word_at}
+use Rattle.visit_log.proofs.Holding.{word-after}
+use Rattle.directory.specs.Statements.{SameKey}
 
 -- tests of one number more
 below-more : (t n : ℕ) → (t == n) ≡ false → nat_lt t (n + 1) ≡ nat_lt t n
@@ -89,24 +90,24 @@ more-opened plan sub start level cluster (Entry l c other) word same = at_test (
 pub set-first : SameKey → (plan : PlanData) (cells : CellData) (sub start word : ℕ) (key : Key)
     → GoWith plan cells → IsCell plan cells.subs (Presence start sub) → word ≡ mark_word (Here 0)
     → IsCell plan cells.subs key
-    → word_of plan (record cells {
+    → word_at plan (record cells {
       words = slice_set cells.words (slot_of plan (Presence start sub)) word;
-    }) key ≡ open_word plan sub start 0 key (word_of plan cells key)
+    }) key ≡ open_word plan sub start 0 key (word_at plan cells key)
 set-first law plan cells sub start word key goes mine same its =
     word-after law plan cells (Presence start sub) key word goes mine its
-    ∙ (ap (λ w. cond (same_key key (Presence start sub)) w (word_of plan cells key)) same
-    ∙ first-opened plan sub start key (word_of plan cells key))
+    ∙ (ap (λ w. cond (same_key key (Presence start sub)) w (word_at plan cells key)) same
+    ∙ first-opened plan sub start key (word_at plan cells key))
 
 pub set-more : SameKey → (plan : PlanData) (cells : CellData) (sub start level cluster word old : ℕ) (key : Key)
     → GoWith plan cells → IsCell plan cells.subs (Entry level cluster sub)
     → word ≡ address_word (Some (record { number = 0; node = start })) → cluster ≡ home plan level start
-    → IsCell plan cells.subs key → word_of plan cells key ≡ open_word plan sub start level key old
-    → word_of plan (record cells {
+    → IsCell plan cells.subs key → word_at plan cells key ≡ open_word plan sub start level key old
+    → word_at plan (record cells {
       words = slice_set cells.words (slot_of plan (Entry level cluster sub)) word;
     }) key ≡ open_word plan sub start (level + 1) key old
 set-more law plan cells sub start level cluster word old key goes mine same at its so_far =
     word-after law plan cells (Entry level cluster sub) key word goes mine its
-    ∙ (ap (λ w. cond (same_key key (Entry level cluster sub)) w (word_of plan cells key)) same
+    ∙ (ap (λ w. cond (same_key key (Entry level cluster sub)) w (word_at plan cells key)) same
     ∙ (ap (cond (same_key key (Entry level cluster sub)) (address_word (Some (record {
       number = 0;
       node = start;

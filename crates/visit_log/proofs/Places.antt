@@ -11,7 +11,7 @@ use Rattle.directory.specs.Keys.{key_sub}
 use Rattle.region_plan.specs.Plan.{PlanData, Level, no_level, nodes_of, levels_of, clusters_of}
 use Rattle.visit_log.specs.Cells.{CellData, GoWith, slot_of, width_of}
 use Rattle.region_plan.specs.Cells.{IsPlace, IsCell}
-use Rattle.visit_log.specs.Numbers.{clusters_below, cluster_count, place_of, cell_number, cell_count}
+use Rattle.visit_log.specs.Numbers.{clusters_below, cluster_count, key_place, NumbersBelow, NumbersApart}
 
 -- the clusters of a level come before those of each later one, and are among all
 abbrev pub size : Level → ℕ
@@ -35,7 +35,7 @@ below-all levels i h = subst (λ n. n ≤ sum_by size levels) (sum_by_more size 
 
 -- places
 pub place-below : (plan : PlanData) (key : Key) → IsPlace plan key
-    → place_of plan key < nodes_of plan + cluster_count plan
+    → key_place plan key < nodes_of plan + cluster_count plan
 place-below plan (Presence node sub) h = omega (arith, h)
 place-below plan (Entry level cluster sub) h = omega (arith, h.1, below-all plan.levels level h.0)
 
@@ -92,8 +92,8 @@ number-apart p q subs s t hs ht same = at_tests (nat_lt p q) (nat_lt q p) refl r
         (e, let f : p * subs ≡ q * subs = ap (λ n. n * subs) e in omega (arith, f, same))
 
 -- keys
-same-key : (plan : PlanData) (key other : Key) → IsPlace plan key → IsPlace plan other → place_of plan key
-    ≡ place_of plan other → key_sub key ≡ key_sub other → key ≡ other
+same-key : (plan : PlanData) (key other : Key) → IsPlace plan key → IsPlace plan other → key_place plan key
+    ≡ key_place plan other → key_sub key ≡ key_sub other → key ≡ other
 same-key plan (Presence node sub) (Presence other t) h l same subs = cc
 same-key plan (Presence node sub) (Entry level cluster t) h l same subs = absurd (omega (arith, h, same))
 same-key plan (Entry level cluster sub) (Presence node t) h l same subs = absurd (omega (arith, l, same))
@@ -102,16 +102,14 @@ same-key plan (Entry level cluster sub) (Entry other c t) h l same subs =
     (arith, same)) in
     let e = both.0 in let f = both.1 in cc
 
-pub cell-below : (plan : PlanData) (subs : ℕ) (key : Key) → IsCell plan subs key
-    → cell_number plan subs key < cell_count plan subs
-cell-below plan subs key h = number-below (place_of plan key) (nodes_of plan + cluster_count plan) subs
+pub cell-below : NumbersBelow
+cell-below plan subs key h = number-below (key_place plan key) (nodes_of plan + cluster_count plan) subs
     (key_sub key) (place-below plan key h.place) h.known
 
-pub cell-apart : (plan : PlanData) (subs : ℕ) (key other : Key) → IsCell plan subs key → IsCell plan subs other
-    → cell_number plan subs key ≡ cell_number plan subs other → key ≡ other
+pub cell-apart : NumbersApart
 cell-apart plan subs key other h l same =
-    let both : (place_of plan key ≡ place_of plan other) × (key_sub key ≡ key_sub other) =
-    number-apart (place_of plan key) (place_of plan other) subs (key_sub key)
+    let both : (key_place plan key ≡ key_place plan other) × (key_sub key ≡ key_sub other) =
+    number-apart (key_place plan key) (key_place plan other) subs (key_sub key)
     (key_sub other) h.known l.known same in
     same-key plan key other h.place l.place both.0 both.1
 
@@ -122,13 +120,13 @@ slot-within plan cells key goes h =
     omega (
       arith,
       goes.words,
-      number-below (key_sub key) cells.subs (width_of plan) (place_of plan key) h.known (place-below plan key h.place),
+      number-below (key_sub key) cells.subs (width_of plan) (key_place plan key) h.known (place-below plan key h.place),
     )
 
 pub slot-apart : (plan : PlanData) (subs : ℕ) (key other : Key) → IsCell plan subs key → IsCell plan subs other
     → slot_of plan key ≡ slot_of plan other → key ≡ other
 slot-apart plan subs key other h l same =
-    let both : (key_sub key ≡ key_sub other) × (place_of plan key ≡ place_of plan other) =
-    number-apart (key_sub key) (key_sub other) (width_of plan) (place_of plan key) (place_of plan other)
+    let both : (key_sub key ≡ key_sub other) × (key_place plan key ≡ key_place plan other) =
+    number-apart (key_sub key) (key_sub other) (width_of plan) (key_place plan key) (key_place plan other)
     (place-below plan key h.place) (place-below plan other l.place) same in
     same-key plan key other h.place l.place both.1 both.0

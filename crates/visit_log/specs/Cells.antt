@@ -13,7 +13,7 @@ use Rattle.directory.specs.Keys.{key_sub}
 use Rattle.region_plan.specs.Plan.{PlanData, clusters_of, home, levels_of, nodes_of}
 use Rattle.region_plan.specs.Settings.{setting_of}
 use Rattle.region_plan.specs.Cells.{IsCell}
-use Rattle.visit_log.specs.Numbers.{cluster_count, clusters_below, place_of}
+use Rattle.visit_log.specs.Numbers.{cluster_count, clusters_below, key_place}
 
 -- what contracts see of plain cells
 pub record CellData : Type 0 where
@@ -28,7 +28,7 @@ width_of plan = nodes_of plan + cluster_count plan
 
 -- the place of a cell's word: subscriber by subscriber, and then by node or cluster
 abbrev pub slot_of : PlanData → Key → ℕ
-slot_of plan key = key_sub key * width_of plan + place_of plan key
+slot_of plan key = key_sub key * width_of plan + key_place plan key
 
 -- plain cells go with a plan: they have a word for each of its cells, and the places of its
 -- clusters
@@ -40,21 +40,21 @@ pub record GoWith (plan : PlanData) (cells : CellData) : Type 0 where
   pub words : length cells.words ≡ cells.subs * width_of plan
 
 -- each home of a plan is a cluster of its level
-abbrev pub AreHomes : PlanData → Type 0
-AreHomes plan =
+abbrev pub HasHomes : PlanData → Type 0
+HasHomes plan =
     (level node : ℕ) → level < levels_of plan → node < nodes_of plan
     → home plan level node < clusters_of plan level
 
 -- the word of a cell
-abbrev pub word_of : PlanData → CellData → Key → ℕ
-word_of plan cells key = slice_index cells.words (slot_of plan key)
+abbrev pub word_at : PlanData → CellData → Key → ℕ
+word_at plan cells key = slice_index cells.words (slot_of plan key)
 
 -- plain cells hold what a history leaves in the cells of subscribers that start at these nodes
 pub record Hold (plan : PlanData) (starts : List ℕ) (cells : CellData)
     (history : History) : Type 0 where
   pub subs : cells.subs ≡ length starts
   pub words : (key : Key) → IsCell plan (length starts) key
-      → word_of plan cells key ≡ cell (setting_of plan starts) history key
+      → word_at plan cells key ≡ cell (setting_of plan starts) history key
 
 -- the word of a cell once a subscriber is put at its start node, and its address at the homes of
 -- that node below a level

@@ -6,7 +6,7 @@ ghost use Rattle.directory.specs.Histories.{History, cell};
 ghost use Rattle.region_plan.specs.Plan.{levels_of, nodes_of};
 ghost use Rattle.region_plan.specs.Settings.{setting_of};
 ghost use Rattle.region_plan.specs.Cells.{IsCell};
-ghost use Rattle.visit_log.specs.Cells.{AreHomes, GoWith, Hold, open_word, slot_of, width_of, word_of};
+ghost use Rattle.visit_log.specs.Cells.{HasHomes, GoWith, Hold, open_word, slot_of, width_of, word_at};
 
 use crate::numbers::clusters_below;
 use directory::{cell_after, same_key_means};
@@ -44,7 +44,7 @@ impl PlainCells {
         requires some { 1 ≤ length homes.now }
         requires few { length homes.now ≤ 64 }
         requires inside { All (λ home. home < nodes_of plan.now) homes.now }
-        requires clusters { AreHomes plan.now }
+        requires clusters { HasHomes plan.now }
         ensures goes { IfOk result (GoWith plan.now) }
         ensures opening { IfOk result (λ cells. Hold plan.now homes.now cells []) }
     {
@@ -62,7 +62,7 @@ impl PlainCells {
     pub fn look(&self, plan: &Plan, key: Key) -> u64
         requires goes { GoWith plan.now self.now }
         requires cell { IsCell plan.now self.now.subs key }
-        ensures word { result ≡ word_of plan.now self.now key }
+        ensures word { result ≡ word_at plan.now self.now key }
         ensures history { (starts : List ℕ) (history : History)
             → Hold plan.now starts self.now history
             → result ≡ cell (setting_of plan.now starts) history key }
@@ -128,12 +128,12 @@ impl PlainCells {
         requires goes { GoWith plan.now self.old }
         requires known { sub < self.old.subs }
         requires inside { home < nodes_of plan.now }
-        requires homes { AreHomes plan.now }
+        requires homes { HasHomes plan.now }
         ensures goes { GoWith plan.now self.new }
         ensures subs { self.new.subs ≡ self.old.subs }
         ensures words { (key : Key) → IsCell plan.now self.old.subs key
-            → word_of plan.now self.new key ≡ open_word plan.now sub home (levels_of plan.now) key
-            (word_of plan.now self.old key) }
+            → word_at plan.now self.new key ≡ open_word plan.now sub home (levels_of plan.now) key
+            (word_at plan.now self.old key) }
     {
         same_key_means();
         // The call tells the proof that nodes are few.

@@ -1,11 +1,11 @@
 //! Where a cell lies, and its number.
-ghost use Rattle.std.specs.Prelude.{◌≡◌, ◌*◌, ◌<◌, ◌≤◌, ℕ, []};
+ghost use Rattle.std.specs.Prelude.{◌≡◌, ◌*◌, ◌≤◌, []};
 ghost use Rattle.entry_word.specs.declared.visit.Key.{Key};
 ghost use Rattle.directory.specs.Keys.{key_node};
-ghost use Rattle.region_plan.specs.Plan.{PlanData, levels_of};
+ghost use Rattle.region_plan.specs.Plan.{levels_of};
 ghost use Rattle.region_plan.specs.Settings.{setting_of};
 ghost use Rattle.region_plan.specs.Cells.{IsCell, IsPlace};
-ghost use Rattle.visit_log.specs.Numbers.{cell_count, cell_number, clusters_below};
+ghost use Rattle.visit_log.specs.Numbers.{cell_count, cell_number, clusters_below, NumbersApart, NumbersBelow};
 
 use entry_word::Key;
 use region_plan::Plan;
@@ -51,11 +51,8 @@ pub fn cell_number(plan: &Plan, subs: u32, key: Key) -> u64
 
 /// A cell's number is below the count of cells, and different cells have different numbers.
 pub fn cell_numbers()
-    ensures below { (plan : PlanData) (subs : ℕ) (key : Key) → IsCell plan subs key
-        → cell_number plan subs key < cell_count plan subs }
-    ensures apart { (plan : PlanData) (subs : ℕ) (key other : Key)
-        → IsCell plan subs key → IsCell plan subs other
-        → cell_number plan subs key ≡ cell_number plan subs other → key ≡ other }
+    ensures below { NumbersBelow }
+    ensures apart { NumbersApart }
 {}
 
 // How many clusters the levels below one have.

@@ -1,11 +1,11 @@
 -- The readers of a node: clusters that contain it, few at each level, and one after another in the climb.
-use Rattle.std.proofs.Common.{◌≡◌, ℕ, zero, suc, ◌+◌, ◌-◌, ◌*◌, ◌^◌, ◌<◌, ◌≤◌, Bool, true, false, cond, List, [], ◌∷◌, ◌++◌, length, map, drop, refl, sym, ap, ◌∙◌, subst, arith, Option}
+use Rattle.std.proofs.Common.{◌≡◌, ℕ, suc, ◌+◌, ◌-◌, ◌*◌, ◌^◌, ◌<◌, ◌≤◌, true, List, [], ◌∷◌, ◌++◌, length, map, drop, refl, sym, ap, ◌∙◌, subst, arith, Option}
 use Rattle.std.proofs.Math.Nat.{mul-le-mul, pow-le-pow_right}
 use Rattle.std.proofs.lemmas.List.Sums.{fold-append}
 use Rattle.std.specs.Prelude.{get_or, Some, None, flat_map, ◌==◌}
 use Rattle.std.proofs.lemmas.Bool.Decides.{nat_tests}
 use Rattle.std.proofs.lemmas.List.{length-map, drop_all}
-use Rattle.node_set.specs.Ascending.{has, sift}
+use Rattle.node_set.specs.Ascending.{has}
 use Rattle.directory.specs.Settings.{Setting, levels}
 use Rattle.directory.specs.Writes.{numbers_from}
 use Rattle.entry_word.specs.Addresses.{address_in}
@@ -18,18 +18,9 @@ use Rattle.region_plan.specs.Matched.{IsMatched, IsWithinReach}
 use Rattle.region_plan.specs.Settings.{setting_of}
 use Rattle.walk.specs.declared.progress.Progress.{Progress}
 use Rattle.walk.specs.declared.progress.Progress.TheVariants.{AtOrigin, Chasing, Climbing, Ended}
-use Rattle.walk.specs.Walks.{GoesWith, IsWithin, IsWordBelow, StandsFor, WalkData, call_of, reader_in, readers_at, readers_above, stage_at, stage_of}
+use Rattle.walk.specs.Walks.{IsWalkOver, IsProgressWithin, IsWordBelow, StandsForWords, WalkData, call_of, reader_in, readers_at, readers_above, stage_at, stage_of}
 use Rattle.walk.specs.ReaderLaws.{climb-here}
-
--- there are few of the numbers that pass a test
-passing-short : (test : ℕ → Bool) (x k : ℕ) → length (sift test x k) ≤ k
-passing-short test x zero = omega arith
-passing-short test x (suc k) = at_test (test x) (passing-short test (suc x) k)
-  where
-    at_test : (b : Bool) → length (sift test (suc x) k) ≤ k → length (cond b (x ∷ sift test (suc x) k)
-        (sift test (suc x) k)) ≤ suc k
-    at_test true h = omega (arith, h)
-    at_test false h = omega (arith, h)
+use Rattle.node_set.specs.SetLaws.{length-passing-le}
 
 -- so there are few readers
 pub readers-few : (plan : PlanData) (level node : ℕ) → IsMatched plan → IsKept plan → level < levels_of plan
@@ -39,7 +30,7 @@ readers-few plan level node matched kept h l =
     subst (λ rs. length rs ≤ 1024) (sym (matched.read level node h l))
     (omega (
       arith,
-      passing-short (λ c. has node (cluster_in (level_at plan level).clusters c).members) 0 (length
+      length-passing-le (λ c. has node (cluster_in (level_at plan level).clusters c).members) 0 (length
           (level_at plan level).clusters),
       sized.clusters,
       kept.metric.few,
@@ -80,20 +71,20 @@ above-empty setting node level h none =
 
 -- a walk that climbs
 pub answer-climbing : (plan : PlanData) (from : ℕ) (progress : Progress) (known : Option ℕ)
-    (weight level index : ℕ) → progress ≡ Climbing known weight level index → IsWithin plan from progress
+    (weight level index : ℕ) → progress ≡ Climbing known weight level index → IsProgressWithin plan from progress
     → None ≡ answer_of (stage_at (setting_of plan []) from progress)
 answer-climbing plan from progress known weight level index same within =
-    let inside = subst (IsWithin plan from) same within in
+    let inside = subst (IsProgressWithin plan from) same within in
     sym (ap (λ q. answer_of (stage_at (setting_of plan []) from q)) same
     ∙ ap answer_of (climb-here (setting_of plan []) from known weight level index (readers_above
     (setting_of plan []) from (suc level)) inside.1))
 
 pub next-climbing : (plan : PlanData) (walk : WalkData) (known : Option ℕ) (weight level index cluster : ℕ)
-    → walk.progress ≡ Climbing known weight level index → GoesWith plan walk
+    → walk.progress ≡ Climbing known weight level index → IsWalkOver plan walk
     → cluster ≡ get_or (readers plan level walk.from) index 0 → Some (Entry level cluster walk.sub)
     ≡ key_of (call_of walk) (stage_of plan walk)
 next-climbing plan walk known weight level index cluster same goes here =
-    let inside = subst (IsWithin plan walk.from) same goes.progress in
+    let inside = subst (IsProgressWithin plan walk.from) same goes.progress in
     ap (λ c. Some (Entry level c walk.sub)) here
     ∙ sym (ap (λ q. key_of (call_of walk) (stage_at (setting_of plan []) walk.from q)) same
     ∙ ap (key_of (call_of walk)) (climb-here (setting_of plan []) walk.from known weight level index (readers_above
@@ -119,7 +110,7 @@ word-climbing plan from sub known weight level index word address inside same =
 -- one word more
 pub find-more : (plan : PlanData) (old new : WalkData) (words : List ℕ) (word : ℕ) → call_of new ≡ call_of old
     → stage_of plan new ≡ after_word (setting_of plan []) (call_of old) (stage_of plan old) word
-    → StandsFor plan old words → StandsFor plan new (words ++ word ∷ [])
+    → StandsForWords plan old words → StandsForWords plan new (words ++ word ∷ [])
 find-more plan old new words word same stage stands =
     stage ∙ (ap (λ s. after_word (setting_of plan []) (call_of old) s word) stands
     ∙ (sym (fold-append (after_word (setting_of plan []) (call_of old)) at_origin words (word ∷ []))

@@ -1,8 +1,8 @@
 -- Laws of the next look of a walk, for proofs: which cell it is at, and which nodes the word names
 -- that is read there. Key laws: `cell-wanted` (the cell is one of the plan, of the walk's own
 -- subscriber), `word-wanted` (the word names nodes of the plan).
-use Rattle.std.proofs.Common.{◌≡◌, ℕ, suc, ◌^◌, ◌<◌, ◌≤◌, List, [], length, get_or, refl, sym, ap, ◌∙◌, subst, arith, Option}
-use Rattle.std.specs.Prelude.{Some, None}
+use Rattle.std.proofs.Common.{◌≡◌, ℕ, suc, ◌^◌, ◌<◌, ◌≤◌, List, [], length, refl, sym, ap, ◌∙◌, subst, arith, Option}
+use Rattle.std.specs.Prelude.{Some, None, slice_index}
 use Rattle.entry_word.specs.Marks.{mark_in}
 use Rattle.entry_word.specs.Addresses.{address_in}
 use Rattle.entry_word.specs.declared.address.Address.{Address}
@@ -23,49 +23,48 @@ use Rattle.region_plan.specs.Cells.{IsCell, IsPlace}
 use Rattle.walk.specs.declared.progress.Progress.{Progress}
 use Rattle.walk.specs.declared.progress.Progress.TheVariants.{AtOrigin, Chasing, Climbing, Ended}
 use Rattle.walk.specs.ReaderLaws.{climb-here, reader-held}
-use Rattle.walk.specs.Walks.{GoesWith, IsAddressBelow, IsMarkBelow, IsWithin, IsWordBelow, WalkData, call_of, readers_above, stage_at, stage_of}
+use Rattle.walk.specs.Walks.{IsWalkOver, IsAddressBelow, IsMarkBelow, IsProgressWithin, IsWordBelow, WalkData, call_of, readers_above, stage_at, stage_of}
 
--- the cell that a walk wants is one of the plan, of its own subscriber
-unsome : {A : Type 0} (x y : A) → Some x ≡ Some y → x ≡ y
-unsome x y h = cc
-
+-- the cell of a climb is the entry of its reader
 climbing-key : (plan : PlanData) (from sub : ℕ) (known : Option ℕ) (weight level index : ℕ)
     (key : Key) → index < length (readers plan level from)
     → key_of (record { from = from; sub = sub }) (stage_at (setting_of plan []) from
     (Climbing known weight level index)) ≡ Some key
-    → Entry level (get_or (readers plan level from) index 0) sub ≡ key
+    → Entry level (slice_index (readers plan level from) index) sub ≡ key
 climbing-key plan from sub known weight level index key inside wanted =
     let later = readers_above (setting_of plan []) from (suc level) in
-    unsome _ _ (sym
-    (ap (λ s. key_of (record { from = from; sub = sub }) s)
-    (climb-here (setting_of plan []) from known weight level index later inside)) ∙ wanted)
+    let found : Some (Entry level (slice_index (readers plan level from) index) sub) ≡ Some key =
+    sym (ap (λ s. key_of (record { from = from; sub = sub }) s)
+    (climb-here (setting_of plan []) from known weight level index later inside)) ∙ wanted in cc
 
+-- the cell that a walk wants lies in the plan, and is of its own subscriber
 place-wanted : (plan : PlanData) (from sub : ℕ) (progress : Progress) → IsMatched plan
-    → from < nodes_of plan → IsWithin plan from progress → (key : Key)
+    → from < nodes_of plan → IsProgressWithin plan from progress → (key : Key)
     → key_of (record { from = from; sub = sub }) (stage_at (setting_of plan []) from progress)
     ≡ Some key
     → IsPlace plan key × (key_sub key ≡ sub)
 place-wanted plan from sub AtOrigin matched inside within key wanted =
-    let e : Presence from sub ≡ key = unsome _ _ wanted in
+    let e : Presence from sub ≡ key = cc in
     subst (λ k. IsPlace plan k × (key_sub k ≡ sub)) e (inside, refl)
 place-wanted plan from sub (Climbing known weight level index) matched inside within key wanted =
     subst (λ k. IsPlace plan k × (key_sub k ≡ sub))
     (climbing-key plan from sub known weight level index key within.1 wanted)
     ((within.0, (reader-held plan level from index matched within.0 inside within.1).1), refl)
 place-wanted plan from sub (Chasing chase node) matched inside within key wanted =
-    let e : Presence node sub ≡ key = unsome _ _ wanted in
+    let e : Presence node sub ≡ key = cc in
     subst (λ k. IsPlace plan k × (key_sub k ≡ sub)) e (within.0, refl)
 place-wanted plan from sub (Ended found) matched inside within key wanted = cc
 
+-- so it is a cell of the plan
 pub cell-wanted : (plan : PlanData) (walk : WalkData) (count : ℕ) (key : Key) → IsMatched plan
-    → GoesWith plan walk → walk.sub < count
+    → IsWalkOver plan walk → walk.sub < count
     → key_of (call_of walk) (stage_of plan walk) ≡ Some key → IsCell plan count key
 cell-wanted plan walk count key matched goes low wanted =
     let found : IsPlace plan key × (key_sub key ≡ walk.sub) =
     place-wanted plan walk.from walk.sub walk.progress matched goes.from goes.progress key wanted in
     record { place = found.0; known = omega (arith, found.1, low) }
 
--- the word that it reads there names nodes of the plan
+-- a mark that tells of a history names nodes of the plan
 mark-below : (setting : Setting) (sub : ℕ) (history : History) (node : ℕ) (mark : PresenceMark)
     → MarkTells setting sub history node mark → IsMarkBelow setting.nodes mark
 mark-below setting sub history node Empty tells = tt
@@ -74,22 +73,24 @@ mark-below setting sub history node (Gone number to) tells = tells.2
 mark-below setting sub history node (Coming number from) tells = tells.1
 mark-below setting sub history node (Off number) tells = tt
 
+-- and so does an entry
 entry-below : (setting : Setting) (sub : ℕ) (history : History) (level cluster : ℕ)
     (entry : Option Address)
     → EntryTells setting sub history level cluster entry → IsAddressBelow setting.nodes entry
 entry-below setting sub history level cluster None tells = tt
 entry-below setting sub history level cluster (Some address) tells = tells.0
 
+-- the word at the cell that a walk wants names nodes of the plan
 word-below : MarksTell → EntriesTell → (plan : PlanData) (starts : List ℕ) (history : History)
     (from sub : ℕ) (progress : Progress) → IsMatched plan → nodes_of plan ≤ 2 ^ 16
     → IsLegal (setting_of plan starts) sub history
-    → from < nodes_of plan → IsWithin plan from progress → (key : Key)
+    → from < nodes_of plan → IsProgressWithin plan from progress → (key : Key)
     → key_of (record { from = from; sub = sub }) (stage_at (setting_of plan []) from progress)
     ≡ Some key
     → IsWordBelow (nodes_of plan) progress (cell (setting_of plan starts) history key)
 word-below marks entries plan starts history from sub AtOrigin matched small legal inside within
     key wanted =
-    let e : Presence from sub ≡ key = unsome _ _ wanted in
+    let e : Presence from sub ≡ key = cc in
     subst (λ k. IsMarkBelow (nodes_of plan) (mark_in (cell (setting_of plan starts) history k))) e
     (mark-below (setting_of plan starts) sub history from _
     (marks (setting_of plan starts) sub history small legal from inside))
@@ -102,16 +103,17 @@ word-below marks entries plan starts history from sub (Climbing known weight lev
     (entries (setting_of plan starts) sub history small legal level _ (omega (arith, within.0))))
 word-below marks entries plan starts history from sub (Chasing chase node) matched small legal
     inside within key wanted =
-    let e : Presence node sub ≡ key = unsome _ _ wanted in
+    let e : Presence node sub ≡ key = cc in
     subst (λ k. IsMarkBelow (nodes_of plan) (mark_in (cell (setting_of plan starts) history k))) e
     (mark-below (setting_of plan starts) sub history node _
     (marks (setting_of plan starts) sub history small legal node within.0))
 word-below marks entries plan starts history from sub (Ended found) matched small legal inside
     within key wanted = cc
 
+-- and so does what a walk reads there
 pub word-wanted : MarksTell → EntriesTell → (plan : PlanData) (starts : List ℕ)
     (history : History) (walk : WalkData) (key : Key) → IsMatched plan → nodes_of plan ≤ 2 ^ 16
-    → IsLegal (setting_of plan starts) walk.sub history → GoesWith plan walk
+    → IsLegal (setting_of plan starts) walk.sub history → IsWalkOver plan walk
     → key_of (call_of walk) (stage_of plan walk) ≡ Some key
     → IsWordBelow (nodes_of plan) walk.progress (cell (setting_of plan starts) history key)
 word-wanted marks entries plan starts history walk key matched small legal goes wanted =

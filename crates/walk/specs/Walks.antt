@@ -29,11 +29,12 @@ pub record WalkData : Type 0 where
 abbrev pub call_of : WalkData → FindCall
 call_of walk = record { from = walk.from; sub = walk.sub }
 
--- the readers of a node at a level, and at a level and all above it
+-- the readers of a node at a level
 abbrev pub readers_at : Setting → ℕ → ℕ → List Reader
 readers_at setting node level =
     map (λ cluster. record { level = level; cluster = cluster }) (setting.readers level node)
 
+-- the readers of a node at a level and at all above it
 abbrev pub readers_above : Setting → ℕ → ℕ → List Reader
 readers_above setting node level =
     flat_map (readers_at setting node) (numbers_from level (levels setting - level))
@@ -63,31 +64,32 @@ stage_at setting from (Chasing chase node) =
     chases (chase_of chase) node
 stage_at setting from (Ended found) = ended found
 
+-- the stage of a walk
 abbrev pub stage_of : PlanData → WalkData → Stage
 stage_of plan walk = stage_at (setting_of plan []) walk.from walk.progress
 
 -- a walk stands for the words that it saw
-abbrev pub StandsFor : PlanData → WalkData → List ℕ → Type 0
-StandsFor plan walk words =
+abbrev pub StandsForWords : PlanData → WalkData → List ℕ → Type 0
+StandsForWords plan walk words =
     stage_of plan walk ≡ find (setting_of plan []) (call_of walk) words
 
 -- the progress is within the plan, and the weight so far isn't too great
-abbrev pub IsWithin : PlanData → ℕ → Progress → Type 0
-IsWithin plan from AtOrigin = Unit {0}
-IsWithin plan from (Climbing known weight level index) =
+abbrev pub IsProgressWithin : PlanData → ℕ → Progress → Type 0
+IsProgressWithin plan from AtOrigin = Unit {0}
+IsProgressWithin plan from (Climbing known weight level index) =
     (level < levels_of plan) × (index < length (readers plan level from))
     × (weight ≤ (level * 1024 + index) * 2 ^ 36)
-IsWithin plan from (Chasing chase node) =
+IsProgressWithin plan from (Chasing chase node) =
     (node < nodes_of plan) × (chase.hops_left ≤ nodes_of plan + 2)
     × (chase.weight ≤ 2 ^ 52 + (nodes_of plan + 2 - chase.hops_left) * 2 ^ 30)
-IsWithin plan from (Ended found) = Unit {0}
+IsProgressWithin plan from (Ended found) = Unit {0}
 
 -- a walk goes with a plan
-pub record GoesWith (plan : PlanData) (walk : WalkData) : Type 0 where
+pub record IsWalkOver (plan : PlanData) (walk : WalkData) : Type 0 where
   pub from : walk.from < nodes_of plan
-  pub progress : IsWithin plan walk.from walk.progress
+  pub progress : IsProgressWithin plan walk.from walk.progress
 
--- the node that a mark names, or an address, is one of so many nodes
+-- the node that a mark names is one of so many nodes
 abbrev pub IsMarkBelow : ℕ → PresenceMark → Type 0
 IsMarkBelow nodes Empty = Unit {0}
 IsMarkBelow nodes (Here number) = Unit {0}
@@ -95,6 +97,7 @@ IsMarkBelow nodes (Gone number to) = to < nodes
 IsMarkBelow nodes (Coming number from) = from < nodes
 IsMarkBelow nodes (Off number) = Unit {0}
 
+-- the node of an address, if there is one, is one of so many nodes
 abbrev pub IsAddressBelow : ℕ → Option Address → Type 0
 IsAddressBelow nodes None = Unit {0}
 IsAddressBelow nodes (Some address) = address.node < nodes

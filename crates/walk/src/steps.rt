@@ -8,7 +8,7 @@ ghost use Rattle.region_plan.specs.Kept.{IsKept};
 ghost use Rattle.region_plan.specs.Matched.{IsMatched, IsWithinReach};
 ghost use Rattle.region_plan.specs.Plan.{clusters_of, inside, leader, levels_of, members_of, nodes_of, readers};
 ghost use Rattle.region_plan.specs.Settings.{setting_of};
-ghost use Rattle.walk.specs.Walks.{IsAddressBelow, IsMarkBelow, IsWithin, IsWordBelow, chase_of, reader_in, readers_above, readers_at, stage_at};
+ghost use Rattle.walk.specs.Walks.{IsAddressBelow, IsMarkBelow, IsProgressWithin, IsWordBelow, chase_of, reader_in, readers_above, readers_at, stage_at};
 
 use crate::progress::{Chase, Progress};
 use directory::{Found, Why};
@@ -25,7 +25,7 @@ pub fn progress_after(
     word: u64,
 ) -> Progress
     requires from { from < nodes_of plan.now }
-    requires within { IsWithin plan.now from progress }
+    requires within { IsProgressWithin plan.now from progress }
     requires belongs { plan.now.distances ≡ distances.now }
     requires matched { IsMatched plan.now }
     requires reached { IsWithinReach plan.now }
@@ -33,7 +33,7 @@ pub fn progress_after(
     ensures stage { (sub : ℕ) → let call : FindCall = record { from = from; sub = sub } in
         stage_at (setting_of plan.now []) from result ≡ after_word (setting_of plan.now []) call
         (stage_at (setting_of plan.now []) from progress) word }
-    ensures within { IsWithin plan.now from result }
+    ensures within { IsProgressWithin plan.now from result }
 {
     match progress {
         Progress::AtOrigin => from_origin(plan, distances, from, mark_of(word)),
@@ -82,7 +82,7 @@ fn from_origin(plan: &Plan, distances: &Distances, from: u32, mark: PresenceMark
     ensures stage { (sub : ℕ) → let call : FindCall = record { from = from; sub = sub } in
         stage_at (setting_of plan.now []) from result
         ≡ after_origin (setting_of plan.now []) call mark }
-    ensures within { IsWithin plan.now from result }
+    ensures within { IsProgressWithin plan.now from result }
 {
     match mark {
         PresenceMark::Empty => climb_from(plan, from, None, 0, 0),
@@ -117,7 +117,7 @@ fn climb_from(plan: &Plan, from: u32, known: Option<u32>, weight: u64, level: u3
     requires light { weight ≤ level * 1024 * 2 ^ 36 }
     ensures stage { stage_at (setting_of plan.now []) from result ≡ climb known weight
         (readers_above (setting_of plan.now []) from level) }
-    ensures within { IsWithin plan.now from result }
+    ensures within { IsProgressWithin plan.now from result }
 {
     // The call tells the proof that there is a level.
     let _nodes = plan.nodes();
@@ -149,7 +149,7 @@ fn past_entry(
     index: u32,
 ) -> Progress
     requires from { from < nodes_of plan.now }
-    requires within { IsWithin plan.now from (Progress.Climbing known weight level index) }
+    requires within { IsProgressWithin plan.now from (Progress.Climbing known weight level index) }
     requires matched { IsMatched plan.now }
     requires reached { IsWithinReach plan.now }
     ensures stage { (sub : ℕ) → let call : FindCall = record { from = from; sub = sub } in
@@ -158,7 +158,7 @@ fn past_entry(
         (reader_in plan.now from level index)
         (drop (suc index) (readers_at (setting_of plan.now []) from level) ++ readers_above
         (setting_of plan.now []) from (suc level)) None }
-    ensures within { IsWithin plan.now from result }
+    ensures within { IsProgressWithin plan.now from result }
 {
     let weight = weight + 2 * way_in(plan, from, level, index);
     if (index as usize) + 1 < plan.readers(level, from).len() {
@@ -262,7 +262,7 @@ fn chase_from(
     requires light { weight ≤ 2 ^ 52 }
     ensures stage { (from : ℕ) → stage_at (setting_of plan.now []) from result
         ≡ begin_chase (setting_of plan.now []) known level weight node }
-    ensures within { (from : ℕ) → IsWithin plan.now from result }
+    ensures within { (from : ℕ) → IsProgressWithin plan.now from result }
 {
     let chase = Chase {
         known,
@@ -281,12 +281,12 @@ fn at_mark(
     node: u32,
     mark: PresenceMark,
 ) -> Progress
-    requires within { IsWithin plan.now 0 (Progress.Chasing chase node) }
+    requires within { IsProgressWithin plan.now 0 (Progress.Chasing chase node) }
     requires belongs { plan.now.distances ≡ distances.now }
     requires mark { IsMarkBelow (nodes_of plan.now) mark }
     ensures stage { (from : ℕ) → stage_at (setting_of plan.now []) from result
         ≡ after_mark (setting_of plan.now []) (chase_of chase) node mark }
-    ensures within { (from : ℕ) → IsWithin plan.now from result }
+    ensures within { (from : ℕ) → IsProgressWithin plan.now from result }
 {
     match mark {
         PresenceMark::Empty => Progress::Ended {
@@ -340,13 +340,13 @@ fn here(chase: Chase, node: u32, number: u32) -> Progress
 
 // The chase hops on from a node to another, if it has a hop left.
 fn hop_to(plan: &Plan, distances: &Distances, chase: Chase, node: u32, to: u32) -> Progress
-    requires within { IsWithin plan.now 0 (Progress.Chasing chase node) }
+    requires within { IsProgressWithin plan.now 0 (Progress.Chasing chase node) }
     requires belongs { plan.now.distances ≡ distances.now }
     requires to { to < nodes_of plan.now }
     ensures stage { (from : ℕ) → stage_at (setting_of plan.now []) from result
         ≡ hop (setting_of plan.now []) chase.known chase.level chase.weight chase.hops_left node
         to }
-    ensures within { (from : ℕ) → IsWithin plan.now from result }
+    ensures within { (from : ℕ) → IsProgressWithin plan.now from result }
 {
     // The call tells the proof that distances are small.
     let _nodes = plan.nodes();

@@ -4,7 +4,7 @@ ghost use Rattle.directory.specs.Finds.{after_word, answer_of, key_of};
 ghost use Rattle.region_plan.specs.Matched.{IsMatched, IsWithinReach};
 ghost use Rattle.region_plan.specs.Plan.{PlanData, nodes_of};
 ghost use Rattle.region_plan.specs.Settings.{setting_of};
-ghost use Rattle.walk.specs.Walks.{GoesWith, IsWordBelow, StandsFor, call_of, stage_of, walk_or_fault};
+ghost use Rattle.walk.specs.Walks.{IsWalkOver, IsWordBelow, StandsForWords, call_of, stage_of, walk_or_fault};
 
 use crate::progress::Progress;
 use crate::steps::progress_after;
@@ -45,8 +45,8 @@ impl Walk {
     /// A find of `sub`, one of so many subscribers, from a node.
     pub fn new(from: u32, sub: u32, subs: u32, plan: &Plan) -> Result<Walk, WalkFault>
         ensures faults { result ≡ walk_or_fault plan.now from sub subs }
-        ensures goes { IfOk result (GoesWith plan.now) }
-        ensures stands { IfOk result (λ walk. StandsFor plan.now walk []) }
+        ensures goes { IfOk result (IsWalkOver plan.now) }
+        ensures stands { IfOk result (λ walk. StandsForWords plan.now walk []) }
     {
         if from >= plan.nodes() {
             return Err(WalkFault::NoNode);
@@ -63,7 +63,7 @@ impl Walk {
 
     /// The cell that it looks at next, if it has no answer.
     pub fn next(&self, plan: &Plan) -> Option<Key>
-        requires goes { GoesWith plan.now self.now }
+        requires goes { IsWalkOver plan.now self.now }
         ensures { result ≡ key_of (call_of self.now) (stage_of plan.now self.now) }
     {
         let sub = self.sub;
@@ -87,7 +87,7 @@ impl Walk {
 
     /// The answer, if no look is left.
     pub fn answer(&self) -> Option<Found>
-        ensures { (plan : PlanData) → GoesWith plan self.now → result
+        ensures { (plan : PlanData) → IsWalkOver plan self.now → result
             ≡ answer_of (stage_of plan self.now) }
     {
         match self.progress {
@@ -100,7 +100,7 @@ impl Walk {
 
     /// The look that came next read this word.
     pub fn saw(&mut self, plan: &Plan, distances: &Distances, word: u64)
-        requires goes { GoesWith plan.now self.old }
+        requires goes { IsWalkOver plan.now self.old }
         requires belongs { plan.now.distances ≡ distances.now }
         requires matched { IsMatched plan.now }
         requires reached { IsWithinReach plan.now }
@@ -108,16 +108,16 @@ impl Walk {
         ensures stage { stage_of plan.now self.new ≡ after_word (setting_of plan.now [])
             (call_of self.old) (stage_of plan.now self.old) word }
         ensures call { call_of self.new ≡ call_of self.old }
-        ensures goes { GoesWith plan.now self.new }
-        ensures stands { (words : List ℕ) → StandsFor plan.now self.old words
-            → StandsFor plan.now self.new (words ++ word ∷ []) }
+        ensures goes { IsWalkOver plan.now self.new }
+        ensures stands { (words : List ℕ) → StandsForWords plan.now self.old words
+            → StandsForWords plan.now self.new (words ++ word ∷ []) }
     {
         self.step(plan, distances, word);
     }
 
     // One more word.
     fn step(&mut self, plan: &Plan, distances: &Distances, word: u64)
-        requires goes { GoesWith plan.now self.old }
+        requires goes { IsWalkOver plan.now self.old }
         requires belongs { plan.now.distances ≡ distances.now }
         requires matched { IsMatched plan.now }
         requires reached { IsWithinReach plan.now }
@@ -125,7 +125,7 @@ impl Walk {
         ensures stage { stage_of plan.now self.new ≡ after_word (setting_of plan.now [])
             (call_of self.old) (stage_of plan.now self.old) word }
         ensures call { call_of self.new ≡ call_of self.old }
-        ensures goes { GoesWith plan.now self.new }
+        ensures goes { IsWalkOver plan.now self.new }
     {
         self.progress = progress_after(plan, distances, self.from, self.progress, word);
     }

@@ -1,6 +1,7 @@
 -- The words of the command line: the forms that there are, and the command that each is. The first
 -- word is the command's name, and the others are numbers, each within its limits; there are no more
--- words. Computed: `example_words`.
+-- words. Key laws: `read_words` gives the command of the words (`command_of`); `example_words`
+-- computes some.
 use Rattle.std.specs.Prelude.{ℕ, Bool, List, [], ◌∷◌, map, length, String, string_bytes, Option, Some, None, nat_le, ◌==◌, ◌&&◌, ◌||◌, if◌then◌else◌, codes}
 use Rattle.std.specs.Char.{is_ascii_digit}
 use Rattle.std.specs.Global.{Global}

@@ -1,5 +1,5 @@
-use Rattle.directory.proofs.HistoryLaws.{front-itself, front-append, front-through}
 use Rattle.directory.proofs.histories.histories_begin.Goals as goal
+use Rattle.directory.specs.HistoryLaws.{front-itself, front-append, front-through}
 
 pub returns-clause-itself : goal.returns-clause-itself
 returns-clause-itself c = front-itself

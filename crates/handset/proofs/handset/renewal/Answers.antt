@@ -2,8 +2,9 @@ use Rattle.std.proofs.Common.{◌≡◌, ℕ, ◌+◌, ◌-◌, ◌<◌, ◌≤�
 use Rattle.std.specs.Prelude.{nat_le}
 use Rattle.directory.specs.Courses.{highest}
 use Rattle.region_plan.specs.Plan.{PlanData, levels_of, threshold}
-use Rattle.handset.proofs.Lists.{highest-here, highest-later, highest-none, le-passes, le-fails}
+use Rattle.handset.proofs.Lists.{highest-here, highest-later, highest-none, le-passes}
 use Rattle.handset.proofs.handset.renewal.Goals as goal
+use Rattle.std.proofs.lemmas.Bool.{lt-leb}
 
 -- whether a level is reached
 abbrev reaches : PlanData → List ℕ → ℕ → ℕ → Bool
@@ -36,7 +37,7 @@ loop-limit-preserved c =
     record {
       within = omega arith;
       same = highest-later (reaches c.args.plan.now c.args.gathered.now c.args.weight) c.loop-limit.limit
-          c.loop-limit-test.true (le-fails _ _ missed)
+          c.loop-limit-test.true (lt-leb _ _ missed)
           ∙ c.loop-limit.invariant.same;
     }
 

@@ -4,7 +4,7 @@ use Rattle.directory.specs.Finds.{after_word}
 use Rattle.region_plan.specs.Matched.{IsMatched}
 use Rattle.region_plan.specs.Settings.{setting_of}
 use Rattle.station.specs.Setup.{setting_in, subs_in}
-use Rattle.walk.specs.Walks.{GoesWith, call_of, stage_of}
+use Rattle.walk.specs.Walks.{IsWalkOver, call_of, stage_of}
 use Rattle.tracker_calls.proofs.Wanted.{word-seen}
 use Rattle.walk.specs.LookLaws.{cell-wanted}
 use Rattle.tracker_calls.proofs.walking.look_on.Goals as goal
@@ -12,15 +12,17 @@ use Rattle.tracker_calls.proofs.walking.look_on.Goals as goal
 pub visit_look-requires-clause-cell : goal.visit_look-requires-clause-cell
 visit_look-requires-clause-cell c =
     cell-wanted c.args.tracker.now.setup.plan c.args.walk.now (subs_in c.args.tracker.now.setup) c.args.key
-    (subst IsMatched c.requires.plan c.requires.matched) c.requires.goes c.requires.known c.requires.wanted
+    (subst IsMatched c.requires.way.plan_is c.requires.way.matched) c.requires.way.goes c.requires.way.known
+    c.requires.wanted
 
 pub saw-requires-clause-word : goal.saw-requires-clause-word
 saw-requires-clause-word c =
     let looked = c.in_ok-looked.ensures.looked in
     word-seen c.marks_tell.ensures.marks c.entries_tell.ensures.entries c.front_of_history_is_legal.ensures
     c.args.tracker.now.setup c.args.plan.now c.args.pass.now c.visit_look.new.pass (Look c.args.key)
-    c.in_ok-looked.looked.ticket c.in_ok-looked.looked.word c.args.walk.now c.args.key c.requires.plan
-    c.requires.matched c.requires.of.setup looked.0 looked.1 c.requires.known c.requires.goes c.requires.wanted
+    c.in_ok-looked.looked.ticket c.in_ok-looked.looked.word c.args.walk.now c.args.key c.requires.way.plan_is
+    c.requires.way.matched c.requires.way.of.setup looked.0 looked.1 c.requires.way.known c.requires.way.goes
+    c.requires.wanted
 
 pub returns : goal.returns
 returns c =
@@ -29,7 +31,7 @@ returns c =
     let stage : stage_of setup.plan c.saw.new.self ≡ after_word (setting_in setup) (call_of c.args.walk.now)
     (stage_of setup.plan c.args.walk.now) c.in_ok-looked.looked.word =
     subst (λ p. stage_of p c.saw.new.self ≡ after_word (setting_of p []) (call_of c.args.walk.now)
-    (stage_of p c.args.walk.now) c.in_ok-looked.looked.word) c.requires.plan c.saw.ensures.stage in record {
+    (stage_of p c.args.walk.now) c.in_ok-looked.looked.word) c.requires.way.plan_is c.saw.ensures.stage in record {
       looked = record {
         ticket = c.in_ok-looked.looked.ticket;
         visited = looked.0;
@@ -37,6 +39,6 @@ returns c =
             ∙ ap (after_word (setting_in setup) (call_of c.args.walk.now) (stage_of setup.plan c.args.walk.now))
             looked.1;
         call = c.saw.ensures.call;
-        goes = subst (λ p. GoesWith p c.saw.new.self) c.requires.plan c.saw.ensures.goes;
+        goes = subst (λ p. IsWalkOver p c.saw.new.self) c.requires.way.plan_is c.saw.ensures.goes;
       };
     }

@@ -3,14 +3,14 @@ use Rattle.std.specs.Prelude.{get_or}
 use Rattle.directory.specs.Finds.{after_word, begin_chase, FindCall}
 use Rattle.region_plan.specs.Plan.{inside, leader, readers}
 use Rattle.region_plan.specs.Settings.{setting_of}
-use Rattle.walk.specs.Walks.{IsWithin, stage_at}
+use Rattle.walk.specs.Walks.{IsProgressWithin, stage_at}
 use Rattle.walk.proofs.Readers.{word-climbing}
 use Rattle.walk.proofs.steps.progress_after.Goals as goal
 
 pub returns-in-None-clause-stage : goal.returns-in-None-clause-stage
 returns-in-None-clause-stage c = λ sub.
     let call : FindCall = record { from = c.args.from; sub = sub } in
-    let within = subst (IsWithin c.args.plan.now c.args.from) c.in-Climbing.is c.requires.within in
+    let within = subst (IsProgressWithin c.args.plan.now c.args.from) c.in-Climbing.is c.requires.within in
     c.past_entry.ensures.stage sub
     ∙ sym (ap (λ p. after_word (setting_of c.args.plan.now []) call (stage_at
     (setting_of c.args.plan.now []) c.args.from p) c.args.word) c.in-Climbing.is
@@ -20,7 +20,7 @@ returns-in-None-clause-stage c = λ sub.
 pub returns-in-Some-clause-stage : goal.returns-in-Some-clause-stage
 returns-in-Some-clause-stage c = λ sub.
     let call : FindCall = record { from = c.args.from; sub = sub } in
-    let within = subst (IsWithin c.args.plan.now c.args.from) c.in-Climbing.is c.requires.within in
+    let within = subst (IsProgressWithin c.args.plan.now c.args.from) c.in-Climbing.is c.requires.within in
     let way = inside c.args.plan.now c.in-Climbing.level (get_or (readers c.args.plan.now c.in-Climbing.level
     c.args.from) c.in-Climbing.index 0) c.args.from in
     let far = (setting_of c.args.plan.now []).distance (leader c.args.plan.now c.in-Climbing.level (get_or

@@ -1,11 +1,12 @@
 use Rattle.std.proofs.Common.{◌≡◌, ◌++◌, ◌∷◌, [], arith, ◌∙◌, ap, subst, sym}
 use Rattle.directory.specs.Courses.{move_to}
 use Rattle.region_plan.specs.Settings.{setting_of}
-use Rattle.handset.specs.Stands.{StandsFor}
+use Rattle.handset.specs.Stands.{StandsForSteps}
 use Rattle.handset.proofs.Begun.{begin-stands}
 use Rattle.handset.specs.Kept.{GoesWith, HandsetData}
-use Rattle.handset.proofs.Going.{goes-begun, resting-means}
+use Rattle.handset.proofs.Going.{goes-begun}
 use Rattle.handset.proofs.handset.Handset.begin.Goals as goal
+use Rattle.handset.specs.StageLaws.{rest-means}
 
 pub returns-clause-goes : goal.returns-clause-goes
 returns-clause-goes c =
@@ -14,16 +15,16 @@ returns-clause-goes c =
     let stage = ap (λ (h : HandsetData). h.stage) (sym c.self.view_is) in
     subst (GoesWith c.args.plan.now) (sym c.start.ensures)
     (goes-begun c.args.plan.now c.args.self.now c.args.to c.nodes.ensures.sound c.requires.goes (omega arith)
-    (stage ∙ resting-means c.self.inside.stage (sym c.is_rest.ensures ∙ c.if-not-is_rest.false)) (omega arith))
+    (stage ∙ rest-means c.self.inside.stage (sym c.is_rest.ensures ∙ c.if-not-is_rest.false)) (omega arith))
 
 pub returns-clause-stands : goal.returns-clause-stands
 returns-clause-stands c = λ starts steps made stands.
-    subst (λ h. StandsFor (setting_of c.args.plan.now starts) h (steps ++ move_to c.args.to ∷ []) made)
+    subst (λ h. StandsForSteps (setting_of c.args.plan.now starts) h (steps ++ move_to c.args.to ∷ []) made)
     (sym c.start.ensures)
     (begin-stands (setting_of c.args.plan.now starts) c.args.self.now steps made c.args.to
     (c.levels_after_move.ensures.address (setting_of c.args.plan.now starts)) (c.levels_after_move.ensures.gathered
     (setting_of c.args.plan.now starts))
     (omega (arith, c.nodes.ensures.sound.some, c.requires.goes.gathered))
-    (ap (λ (h : HandsetData). h.stage) (sym c.self.view_is) ∙ resting-means c.self.inside.stage
+    (ap (λ (h : HandsetData). h.stage) (sym c.self.view_is) ∙ rest-means c.self.inside.stage
     (sym c.is_rest.ensures ∙ c.if-not-is_rest.false)) (ap (λ (h : HandsetData). h.is_off) (sym c.self.view_is)
     ∙ c.if-self.false) stands)

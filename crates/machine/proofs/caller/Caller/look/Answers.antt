@@ -3,7 +3,7 @@ use Rattle.std.specs.Prelude.{Some, if◌then◌else◌}
 use Rattle.std.proofs.lemmas.List.{length_push}
 use Rattle.directory.specs.Orders.{finds_of}
 use Rattle.machine.specs.Scripts.{scripts_of}
-use Rattle.machine.specs.Stands.{setting_in}
+use Rattle.machine.specs.Stands.{setting_over}
 use Rattle.machine.proofs.Looking.{ok-of}
 use Rattle.directory.specs.Outcomes.{found_line}
 use Rattle.net_reader.specs.Seen.{seen_input}
@@ -107,7 +107,7 @@ returns c = λ history sees place its.
           c.in-Some.walk c.requires.high low its c.in-Some.is,
     )) (left ∙ ap
     (λ n. drop n
-    (finds_of (setting_in (seen_input c.args.input.now) c.args.plan.now)
+    (finds_of (setting_over (seen_input c.args.input.now) c.args.plan.now)
     (scripts_of (seen_input c.args.input.now)) c.args.actor)) count))
     ∙ ap (λ f. found_line c.args.actor call c.in-Some-answer.found f c.args.ticket) c.unwrap_or-first.ensures))
     lines (omega

@@ -4,7 +4,7 @@ use Rattle.directory.specs.Orders.{after_turn, after_turns, last_turns}
 use Rattle.std.proofs.lemmas.List.{length-map}
 use Rattle.std.proofs.lemmas.List.Sums.{fold-append}
 use Rattle.net_reader.specs.declared.said.Call.{Call}
-use Rattle.machine.specs.Machines.{StandsFor, scripts_at, setting_at}
+use Rattle.machine.specs.Machines.{HasHistory, scripts_at, setting_at}
 use Rattle.machine.proofs.Finishing.{same-through, turns-all, turns-following, turns_of}
 use Rattle.machine.proofs.machine.Machine.finish.Goals as goal
 
@@ -12,7 +12,7 @@ pub actors-preserved : goal.actors-preserved
 actors-preserved c = record {
   same = same-through c.args.self.now c.actors.self c.finish_actor.new.self c.actors.invariant.same
       c.finish_actor.ensures.same;
-  stands = λ history is. subst (λ n. StandsFor c.finish_actor.new.self (after_turns (setting_at c.args.self.now)
+  stands = λ history is. subst (λ n. HasHistory c.finish_actor.new.self (after_turns (setting_at c.args.self.now)
       (scripts_at c.args.self.now) history (turns_of (setting_at c.args.self.now) (scripts_at c.args.self.now) n)))
       (let e : suc c.actors.actor ≡ c.actors.actor + 1 = omega arith in e)
       (turns-following c.args.self.now c.actors.self c.finish_actor.new.self history c.actors.actor
@@ -30,7 +30,8 @@ count-had actor end count scripts low high one two =
 
 pub returns-clause-stands : goal.returns-clause-stands
 returns-clause-stands c history is =
-    subst (λ order. StandsFor c.actors.self (after_turns (setting_at c.args.self.now) (scripts_at c.args.self.now)
+    subst (λ order. HasHistory c.actors.self
+    (after_turns (setting_at c.args.self.now) (scripts_at c.args.self.now)
     history order))
     (ap (turns_of (setting_at c.args.self.now) (scripts_at c.args.self.now))
     (count-had c.actors.actor c.len-actor-end.result c.args.self.now.input.now.scripts.len
@@ -41,10 +42,11 @@ returns-clause-stands c history is =
 pub returns-clause-order : goal.returns-clause-order
 returns-clause-order c order is =
     let reached : History = after_turns (setting_at c.args.self.now) (scripts_at c.args.self.now) [] order in
-    subst (StandsFor c.actors.self)
+    subst (HasHistory c.actors.self)
     (sym (fold-append (after_turn (setting_at c.args.self.now) (scripts_at c.args.self.now)) [] order
     (last_turns (setting_at c.args.self.now) (scripts_at c.args.self.now))))
-    (subst (λ later. StandsFor c.actors.self (after_turns (setting_at c.args.self.now) (scripts_at c.args.self.now)
+    (subst (λ later. HasHistory c.actors.self
+    (after_turns (setting_at c.args.self.now) (scripts_at c.args.self.now)
     reached later))
     (ap (turns_of (setting_at c.args.self.now) (scripts_at c.args.self.now))
     (count-had c.actors.actor c.len-actor-end.result c.args.self.now.input.now.scripts.len

@@ -2,7 +2,7 @@ use Rattle.std.proofs.Common.{◌≡◌, suc, ap, ◌∙◌, subst}
 use Rattle.std.specs.Prelude.{replicate}
 use Rattle.directory.specs.Histories.{History}
 use Rattle.directory.specs.Orders.{after_turn, after_turns}
-use Rattle.machine.specs.Machines.{StandsFor, scripts_at, setting_at}
+use Rattle.machine.specs.Machines.{HasHistory, scripts_at, setting_at}
 use Rattle.machine.proofs.Finishing.{same-scripts, same-setting, same-through, turns-ended as ended, turns-more, turns-smaller as smaller, not-visited}
 use Rattle.machine.specs.declared.turn.Turn.TheVariants.{Visited, Finished}
 use Rattle.machine.proofs.machine.Machine.finish_actor.Goals as goal
@@ -26,7 +26,7 @@ turns-preserved c = record {
       let goes = c.turn.ensures.stands (after_turns (setting_at c.args.self.now) (scripts_at c.args.self.now) history
       (replicate far.0 c.args.actor)) far.1 in (
         suc far.0,
-        subst (StandsFor c.turn.new.self)
+        subst (HasHistory c.turn.new.self)
             (ap (λ setting. after_turn setting (scripts_at c.turns.self) (after_turns (setting_at c.args.self.now)
             (scripts_at c.args.self.now) history (replicate far.0 c.args.actor)) c.args.actor)
             (same-setting c.args.self.now c.turns.self c.turns.invariant.same)

@@ -7,15 +7,16 @@ use Rattle.net_reader.specs.Valid.{count_calls}
 use Rattle.visit_log.specs.Cells.{Hold}
 use Rattle.region_plan.specs.Plan.{nodes_of}
 use Rattle.machine.specs.Scripts.{most_visits, scripts_of}
-use Rattle.machine.specs.Stands.{AreInside, setting_in}
-use Rattle.machine.proofs.Opening.{none-played, scripts-inside}
+use Rattle.machine.specs.Stands.{BeginInside, setting_over}
+use Rattle.machine.proofs.Opening.{scripts-inside}
 use Rattle.machine.proofs.machine.Machine.new.Goals as goal
+use Rattle.directory.specs.HistoryLaws.{none-played}
 
 pub most_visits-requires : goal.most_visits-requires
 most_visits-requires c = record {
   inside = subst
       (λ (xs : List (Vec Call Global)). (k : ℕ) (d : Vec Call Global) → k < length xs
-      → AreInside (nodes_of c.args.plan.now) (get_or xs k d).items)
+      → BeginInside (nodes_of c.args.plan.now) (get_or xs k d).items)
       (sym c.deref-2.ensures.value)
       (scripts-inside (seen_input c.args.input.now) c.args.input.now.scripts.items
       (nodes_of c.args.plan.now) c.requires.together.valid refl c.requires.together.nodes);
@@ -25,7 +26,7 @@ pub returns-clause-stands : goal.returns-clause-stands
 returns-clause-stands c = record {
   together = c.requires.together;
   sees = record {
-    played = none-played (setting_in (seen_input c.args.input.now) c.args.plan.now)
+    played = none-played (setting_over (seen_input c.args.input.now) c.args.plan.now)
         (scripts_of (seen_input c.args.input.now));
     goes = c.in_ok-cells.ensures.goes;
     hold = subst
@@ -37,7 +38,7 @@ returns-clause-stands c = record {
     arith,
     c.in_ok-most_visits.ensures c.args.input.now.homes.items,
     c.in_ok-order.ensures.exact,
-    ap (λ xs. most_visits (setting_in (seen_input c.args.input.now) c.args.plan.now)
+    ap (λ xs. most_visits (setting_over (seen_input c.args.input.now) c.args.plan.now)
         (map (λ (s : Vec Call Global). s.items) xs)) c.deref-2.ensures.value,
   );
   subscribers_count = omega (arith, c.in_ok-subscribers.ensures.count);

@@ -3,7 +3,7 @@ use Rattle.std.specs.Prelude.{slice_get, if◌then◌else◌}
 use Rattle.directory.specs.Histories.{own}
 use Rattle.directory.specs.Writes.{visits}
 use Rattle.net_reader.specs.Seen.{seen_input}
-use Rattle.machine.specs.Stands.{setting_in}
+use Rattle.machine.specs.Stands.{setting_over}
 use Rattle.machine.specs.Subscribers.{begun_steps}
 use Rattle.machine.specs.Scripts.{step_of}
 use Rattle.machine.proofs.Looking.{ok-of}
@@ -113,7 +113,7 @@ returns c = λ history sees place its.
     c.args.plan.now c.make.new.cells history c.args.sub c.args.ticket c.args.self.now _ _ found.0
     c.begin_step-line.result c.requires.low place its at.begin
     (ap (λ s. slice_get
-    (visits (setting_in (seen_input c.args.input.now) c.args.plan.now) s
+    (visits (setting_over (seen_input c.args.input.now) c.args.plan.now) s
     (begun_steps (seen_input c.args.input.now) c.args.sub c.args.self.now
     ++ step_of (get_or c.as_slice-script.result.now c.len-place.result
     (Rattle.net_reader.specs.declared.said.Call.TheVariants.Move 0)) ∷ [])) (length (own c.args.sub history)))

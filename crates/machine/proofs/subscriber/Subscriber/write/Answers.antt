@@ -4,7 +4,7 @@ use Rattle.std.proofs.lemmas.List.{length_push}
 use Rattle.directory.specs.Histories.{own}
 use Rattle.directory.specs.Writes.{visits}
 use Rattle.net_reader.specs.Seen.{seen_input}
-use Rattle.machine.specs.Stands.{setting_in}
+use Rattle.machine.specs.Stands.{setting_over}
 use Rattle.machine.specs.Subscribers.{begun_steps, line_after}
 use Rattle.machine.proofs.Beginning.{on-some}
 use Rattle.machine.proofs.Written.{under-way, written-on}
@@ -14,7 +14,7 @@ pub returns : goal.returns
 returns c = λ history sees place its.
     let visit = c.make.ensures.visit c.args.input.now.homes.items _ _ its.handset in
     let at = sym visit ∙ c.in-Some.is in
-    let here = ap (λ s. slice_get (visits (setting_in (seen_input c.args.input.now) c.args.plan.now) s
+    let here = ap (λ s. slice_get (visits (setting_over (seen_input c.args.input.now) c.args.plan.now) s
     (begun_steps (seen_input c.args.input.now) c.args.sub c.args.self.now)) (length (own c.args.sub history)))
     (sym its.its) ∙ at in
     let way = under-way c.mark_words.ensures.unpacked c.tickets_tell.ensures.visits

@@ -1,7 +1,7 @@
 use Rattle.std.proofs.Common.{arith, ap, sym, ◌∙◌, ◌≡◌, ◌≤◌, ◌+◌, ◌^◌, length, subst, ℕ}
 use Rattle.directory.specs.Histories.{own}
-use Rattle.station.proofs.Ticketing.{tickets-count}
 use Rattle.station.proofs.pass.Pass.reserve.Goals as goal
+use Rattle.directory.specs.HistoryLaws.{tickets-count}
 
 pub invariant_of-self-then-self-visits : goal.invariant_of-self-then-self-visits
 invariant_of-self-then-self-visits c =

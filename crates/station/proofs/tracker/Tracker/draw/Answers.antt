@@ -1,7 +1,7 @@
 use Rattle.std.proofs.Common.{rules, arith, subst, sym, ap, ◌∙◌, ◌≡◌, ◌%◌, ◌+◌, ◌^◌}
 use Rattle.atomic_table.specs.Table.{Allows, step}
 use mathlib.Core.Option.{none}
-use Rattle.station.specs.Rule.{IsKept}
+use Rattle.station.specs.Rule.{KeepsRule}
 use Rattle.station.specs.Plays.{DrawsTicket}
 use Rattle.station.proofs.Drawing.{draws}
 use Rattle.station.proofs.tracker.Tracker.draw.Goals as goal
@@ -14,7 +14,7 @@ fetch_add-requires c =
       search rules,
       omega (arith, c.self.invariant.words),
       subst (λ k. Allows
-          (IsKept k) c.self.inside.table.shared.table_id.slots c.args.seat.now.id m 0 (λ y. (y + 1) % 2 ^ 64)
+          (KeepsRule k) c.self.inside.table.shared.table_id.slots c.args.seat.now.id m 0 (λ y. (y + 1) % 2 ^ 64)
           (DrawsTicket (step c.self.inside.table.shared.table_id.slots 0 1 0 none) m)) e
           (draws c.same_key_means.ensures _ _ c.args._node m c.args._act.now c.requires.may),
     )

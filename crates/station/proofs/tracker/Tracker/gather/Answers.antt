@@ -6,8 +6,8 @@ use mathlib.Core.Logic.{dite}
 use native.Mathlib.Decide.{dec_le}
 use Rattle.directory.specs.Histories.{IsFront}
 use Rattle.station.specs.Passes.{PassData}
-use Rattle.station.proofs.Ending.{front-through}
 use Rattle.station.proofs.tracker.Tracker.gather.Goals as goal
+use Rattle.directory.specs.HistoryLaws.{front-through}
 
 pub loop-k-preserved : goal.loop-k-preserved
 loop-k-preserved c =

@@ -2,7 +2,7 @@ use Rattle.std.proofs.Common.{rules, arith, subst, sym, ap, ◌∙◌, ◌≡◌
 use Rattle.atomic_table.specs.Table.{Allows, step}
 use mathlib.Core.Option.{none}
 use Rattle.station.specs.Setup.{setting_in, nodes_in}
-use Rattle.station.specs.Rule.{IsKept}
+use Rattle.station.specs.Rule.{KeepsRule}
 use Rattle.station.specs.Plays.{Learns}
 use Rattle.station.proofs.Joining.{hears, learns, longer_long}
 use Rattle.station.proofs.tracker.Tracker.learn.Goals as goal
@@ -35,7 +35,7 @@ load-requires c =
       search rules,
       omega (arith, c.self.invariant.words),
       subst (λ k. Allows
-          (IsKept k) slots c.join_seat.new.seat.id m 0 (λ y. y) (Learns (step slots 0 0 0 none) m)) e
+          (KeepsRule k) slots c.join_seat.new.seat.id m 0 (λ y. y) (Learns (step slots 0 0 0 none) m)) e
           (learns c.front_of_history_is_legal.ensures slots c.join_seat.new.seat.id 0 m few
           (omega (arith, long, ap (λ q. length q.0.told) joined, ap (λ q. length q.0.seen) joined))
           (omega (arith, long, ap (λ q. length q.0.had) joined, ap (λ q. length q.0.seen) joined))),

@@ -1,8 +1,8 @@
 use Rattle.std.proofs.Common.{rules, arith, ◌≡◌, ◌∙◌, ◌<◌, ◌+◌, ◌^◌, sym, ap, refl, subst, ℕ, List, [], length}
 use Rattle.atomic_table.specs.Table.{opening}
 use Rattle.station.specs.Setup.{Setup}
-use Rattle.region_plan.specs.Kept.{IsKept as IsPlanKept}
-use Rattle.station.specs.Rule.{IsKept}
+use Rattle.region_plan.specs.Kept.{IsKept}
+use Rattle.station.specs.Rule.{KeepsRule}
 use Rattle.station.specs.Passes.{IsTracker}
 use Rattle.station.specs.Opening.{setup_of}
 use Rattle.station.specs.Plays.{first_view}
@@ -15,8 +15,8 @@ of_words-requires c =
     let plan = c.args.plan.now in let homes = c.args.homes.now in let actors = length homes + c.args.callers in
     let e : setup_of plan homes actors ≡ c.new-about.result = search rules in
     let words : c.in_ok-words.words.items ≡ c.deref.result.now = search rules in
-    subst (λ (s : Setup). IsKept s (opening c.deref.result.now [] (first_view s))) e
-    (subst (λ (ws : List ℕ). IsKept (setup_of plan homes actors) (opening ws [] (first_view
+    subst (λ (s : Setup). KeepsRule s (opening c.deref.result.now [] (first_view s))) e
+    (subst (λ (ws : List ℕ). KeepsRule (setup_of plan homes actors) (opening ws [] (first_view
     (setup_of plan homes actors)))) words
     (opens c.cell_numbers.ensures.below (setup_of plan homes actors) c.in_ok-words.words.items
     (matched_lies plan homes actors c.requires.matched)
@@ -31,7 +31,7 @@ invariant_of-tracker c =
     let table = c.in_ok-table.table.shared in
     let key : setup_of plan homes actors ≡ table.key = sym (c.in_ok-table.ensures.5 ∙ e) in
     let words : c.deref.result.now ≡ c.in_ok-words.words.items = search rules in
-    let sound : IsPlanKept plan = c.nodes.ensures.sound in
+    let sound : IsKept plan = c.nodes.ensures.sound in
     subst (λ (s : Setup). IsTracker table.table_id s c.nodes.result (length homes) actors) key record {
       words = c.in_ok-table.ensures.0 ∙ (ap length words ∙ (c.in_ok-words.ensures.opening actors).size);
       slots = c.in_ok-table.ensures.1;

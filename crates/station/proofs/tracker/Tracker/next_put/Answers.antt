@@ -6,8 +6,8 @@ use Rattle.directory.specs.Histories.{puts_to}
 use Rattle.directory.specs.Writes.{visits}
 use Rattle.region_plan.specs.Plan.{PlanData}
 use Rattle.region_plan.specs.Settings.{setting_of}
-use Rattle.handset.specs.Stands.{StandsFor}
-use Rattle.visit_log.specs.Cells.{AreHomes}
+use Rattle.handset.specs.Stands.{StandsForSteps}
+use Rattle.visit_log.specs.Cells.{HasHomes}
 use Rattle.station.specs.Setup.{nodes_in}
 use Rattle.station.specs.Handsets.{put_of}
 use Rattle.station.proofs.Putting.{due_is, due_legal}
@@ -21,7 +21,7 @@ returns-clause-legal c = λ view own.
     let key = c.in-Put.key in
     let word = c.in-Put.word in
     let told = ap (λ t. t.setup) c.self.view_is in
-    let homes : AreHomes c.args.plan.now = subst AreHomes (sym (c.requires.plan
+    let homes : HasHomes c.args.plan.now = subst HasHomes (sym (c.requires.plan
     ∙ sym (ap (λ s. s.plan) told))) c.self.invariant.homes in
     let d = due_is c.args.plan.now handset visit c.requires.goes homes (sym c.next.ensures.exact ∙ c.in-Some.is) in
     let act = sym d.act ∙ c.in-Put.is in
@@ -29,7 +29,7 @@ returns-clause-legal c = λ view own.
     let mine : key_sub key ≡ view.low = sym (ap key_sub same) ∙ (d.key_of ∙ own.sub) in
     let whole : visit ≡ put_of view.low key word = λ i. record { actor = (d.actor ∙ own.sub) i; act = c.in-Put.is i } in
     let made = length (puts_to view.low view.seen) in
-    let next = subst (λ (p : PlanData). StandsFor (setting_of p setup.homes) handset own.steps made
+    let next = subst (λ (p : PlanData). StandsForSteps (setting_of p setup.homes) handset own.steps made
     → c.next.result ≡ slice_get (visits (setting_of p setup.homes) handset.sub own.steps) made) c.requires.plan
     (c.next.ensures.stands setup.homes own.steps made) own.stands in
     let few : nodes_in setup ≤ 2 ^ 16 = omega

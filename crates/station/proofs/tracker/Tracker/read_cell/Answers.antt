@@ -4,7 +4,7 @@ use mathlib.Core.Option.{none}
 use Rattle.directory.specs.Keys.{key_node}
 use Rattle.station.specs.Setup.{IsCellOf, cell_word, setting_in}
 use Rattle.station.specs.Visits.{HasTurn}
-use Rattle.station.specs.Rule.{IsKept}
+use Rattle.station.specs.Rule.{KeepsRule}
 use Rattle.station.specs.Plays.{ReadsCell}
 use Rattle.station.proofs.Reading.{reads_cell}
 use Rattle.station.proofs.tracker.Tracker.read_cell.Goals as goal
@@ -20,7 +20,7 @@ load-requires c =
     let slots = c.self.inside.table.shared.table_id.slots in (
       search rules,
       search rules,
-      subst (λ k. Allows (IsKept k) slots c.args.seat.now.id m place (λ y. y) (ReadsCell
+      subst (λ k. Allows (KeepsRule k) slots c.args.seat.now.id m place (λ y. y) (ReadsCell
           (step slots place 0 0 none) m)) e
           (reads_cell c.cell_numbers.ensures.apart c.same_key_means.ensures _ _ place m key (subst
           (λ s. IsCellOf s key) back c.requires.cell) (c.cell_place-place.ensures.place

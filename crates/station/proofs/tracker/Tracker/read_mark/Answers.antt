@@ -5,7 +5,7 @@ use Rattle.entry_word.specs.declared.visit.Key.{Key}
 use Rattle.entry_word.specs.declared.visit.Key.TheVariants.{Presence}
 use Rattle.directory.specs.Histories.{cell}
 use Rattle.station.specs.Setup.{Setup, IsCellOf, cell_word, setting_in, nodes_in, subs_in, word_count}
-use Rattle.station.specs.Rule.{IsKept}
+use Rattle.station.specs.Rule.{KeepsRule}
 use Rattle.station.specs.Plays.{ReadsCell}
 use Rattle.station.proofs.Reading.{reads_cell}
 use Rattle.station.proofs.Writing.{cell_below}
@@ -37,7 +37,7 @@ load-requires c =
       search rules,
       omega (arith, at, below, ap word_count e, c.self.invariant.words),
       subst (λ k. Allows
-          (IsKept k) slots c.args.seat.now.id m place (λ y. y) (ReadsCell (step slots place 0 0 none) m)) e
+          (KeepsRule k) slots c.args.seat.now.id m place (λ y. y) (ReadsCell (step slots place 0 0 none) m)) e
           (reads_cell c.cell_numbers.ensures.apart c.same_key_means.ensures slots c.args.seat.now.id place m key
           cell_here at c.requires.turn),
     )

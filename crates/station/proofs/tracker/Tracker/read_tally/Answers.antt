@@ -2,7 +2,7 @@ use Rattle.std.proofs.Common.{rules, arith, subst, sym, ap, ◌∙◌, ◌≡◌
 use Rattle.atomic_table.specs.Table.{Allows, step}
 use mathlib.Core.Option.{none}
 use Rattle.station.specs.Setup.{nodes_in}
-use Rattle.station.specs.Rule.{IsKept}
+use Rattle.station.specs.Rule.{KeepsRule}
 use Rattle.station.specs.Plays.{ReadsTally}
 use Rattle.station.proofs.Reading.{reads_tally}
 use Rattle.station.proofs.tracker.Tracker.read_tally.Goals as goal
@@ -19,7 +19,7 @@ load-requires c =
     let nodes : c.self.inside.nodes ≡ nodes_in m.0.setup = c.self.invariant.nodes_are ∙ ap nodes_in (sym e) in (
       search rules,
       omega (arith, c.self.invariant.words, c.self.invariant.nodes_are, known),
-      subst (λ k. Allows (IsKept k) slots c.args.seat.now.id m place (λ y. y) (ReadsTally
+      subst (λ k. Allows (KeepsRule k) slots c.args.seat.now.id m place (λ y. y) (ReadsTally
           (step slots place 0 0 none) m)) e
           (reads_tally c.same_key_means.ensures _ _ place m node (omega (arith, nodes)) c.requires.turn),
     )

@@ -5,11 +5,11 @@ use Rattle.directory.specs.Histories.{puts_to}
 use Rattle.directory.specs.Keys.{key_node}
 use Rattle.directory.specs.Legal.{IsLegal}
 use Rattle.handset.specs.Kept.{GoesWith}
-use Rattle.handset.specs.Stands.{StandsFor}
+use Rattle.handset.specs.Stands.{StandsForSteps}
 use Rattle.region_plan.specs.Settings.{setting_of}
 use Rattle.station.specs.Setup.{Setup, setting_in, subs_in, IsCellOf}
 use Rattle.station.specs.Plays.{view_inside}
-use Rattle.station.specs.Handsets.{GoesOn, IsHandsetOf, put_of}
+use Rattle.station.specs.Handsets.{HandsetGoesOn, IsHandsetOf, put_of}
 use Rattle.station.specs.Visits.{HasVisited, MayDraw}
 use Rattle.station.specs.declared.view.View.{View}
 use Rattle.station.proofs.Putting.{may_put, handset_after, put_due, write-sub}
@@ -84,8 +84,8 @@ returns c =
     (λ p. GoesWith p c.made.new.self) c.requires.plan c.made.ensures.goes)
     (ap (λ q. q.sub) c.made.ensures.exact ∙ write-sub
     (setting_of c.args.plan.now []) c.args.handset.now c.args.handset.now.stage)
-    (subst (λ p. StandsFor (setting_of p setup.homes) c.made.new.self own.steps (suc made_count)) c.requires.plan
-    (c.made.ensures.stands setup.homes own.steps made_count (subst (λ p. StandsFor
+    (subst (λ p. StandsForSteps (setting_of p setup.homes) c.made.new.self own.steps (suc made_count)) c.requires.plan
+    (c.made.ensures.stands setup.homes own.steps made_count (subst (λ p. StandsForSteps
     (setting_of p setup.homes) c.args.handset.now own.steps made_count) (sym c.requires.plan) own.stands))) in
     let is_due = λ (P : Visit → Type 0). put_due _ c.args.handset.now.sub old.view.low key word P
     c.next_put-key.ensures.due h.sub in
@@ -96,5 +96,5 @@ returns c =
         (made_by h).own,
       );
       goes_on = is_due (λ (visit : Visit). (own : IsHandsetOf setup old.view c.args.handset.now)
-          → GoesOn setup old.view c.make_put-ticket.new.seat.me.0 c.made.new.self own.steps visit) made_by;
+          → HandsetGoesOn setup old.view c.make_put-ticket.new.seat.me.0 c.made.new.self own.steps visit) made_by;
     }

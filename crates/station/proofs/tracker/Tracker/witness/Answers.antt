@@ -1,7 +1,7 @@
 use Rattle.std.proofs.Common.{rules, arith, subst, ◌≡◌}
 use Rattle.atomic_table.specs.Table.{Allows, step}
 use mathlib.Core.Option.{none}
-use Rattle.station.specs.Rule.{IsKept}
+use Rattle.station.specs.Rule.{KeepsRule}
 use Rattle.station.specs.Plays.{Witnesses}
 use Rattle.station.proofs.Reading.{witnesses}
 use Rattle.station.proofs.tracker.Tracker.witness.Goals as goal
@@ -14,6 +14,6 @@ load-requires c =
       search rules,
       omega (arith, c.self.invariant.words),
       subst (λ k. Allows
-          (IsKept k) c.self.inside.table.shared.table_id.slots c.pass.inside.seat.id m 0 (λ y. y) (Witnesses
+          (KeepsRule k) c.self.inside.table.shared.table_id.slots c.pass.inside.seat.id m 0 (λ y. y) (Witnesses
           (step c.self.inside.table.shared.table_id.slots 0 0 0 none) m)) e (witnesses _ _ _ m),
     )

@@ -5,7 +5,7 @@ use Rattle.directory.specs.Keys.{key_node}
 use Rattle.directory.specs.Histories.{cell}
 use Rattle.station.specs.Setup.{IsCellOf, cell_word, setting_in}
 use Rattle.station.specs.Visits.{HasTurn}
-use Rattle.station.specs.Rule.{IsKept}
+use Rattle.station.specs.Rule.{KeepsRule}
 use Rattle.station.specs.Plays.{Writes}
 use Rattle.station.proofs.Writing.{writes}
 use Rattle.station.proofs.tracker.Tracker.write_cell.Goals as goal
@@ -22,7 +22,7 @@ store-requires c =
     let word = c.args.word in (
       search rules,
       search rules,
-      subst (λ k. Allows (IsKept k) slots c.args.seat.now.id m place (λ _. word) (λ _. Writes
+      subst (λ k. Allows (KeepsRule k) slots c.args.seat.now.id m place (λ _. word) (λ _. Writes
           (step slots place word 0 none) m word)) e
           (writes c.cell_numbers.ensures.apart c.cell_numbers.ensures.below c.same_key_means.ensures _ _ place word
           m key c.requires.put (subst (λ s. IsCellOf s key) back c.requires.cell)

@@ -3,7 +3,7 @@ use Rattle.atomic_table.specs.Table.{Allows, step}
 use mathlib.Core.Option.{none}
 use Rattle.directory.specs.Census.{census}
 use Rattle.station.specs.Setup.{nodes_in, setting_in}
-use Rattle.station.specs.Rule.{IsKept}
+use Rattle.station.specs.Rule.{KeepsRule}
 use Rattle.station.specs.Plays.{Tallies}
 use Rattle.station.proofs.Writing.{tallies}
 use Rattle.station.proofs.tracker.Tracker.write_tally.Goals as goal
@@ -22,7 +22,7 @@ store-requires c =
     let nodes : c.self.inside.nodes ≡ nodes_in m.0.setup = c.self.invariant.nodes_are ∙ ap nodes_in (sym e) in (
       search rules,
       omega (arith, c.self.invariant.words, c.self.invariant.nodes_are, known),
-      subst (λ k. Allows (IsKept k) slots c.args.seat.now.id m place (λ _. tally) (λ _. Tallies
+      subst (λ k. Allows (KeepsRule k) slots c.args.seat.now.id m place (λ _. tally) (λ _. Tallies
           (step slots place tally 0 none) m tally)) e
           (tallies c.cell_numbers.ensures.apart c.same_key_means.ensures _ _ node place tally m c.requires.turn
           (omega (arith, nodes)) (c.requires.tally ∙ ap (λ s. length (census

@@ -1,7 +1,7 @@
 use Rattle.std.proofs.Common.{◌<◌, arith, ap, subst, sym, ◌∙◌}
 use Rattle.region_plan.specs.Plan.{levels_of, clusters_of}
 use Rattle.region_plan.specs.Cells.{IsCell}
-use Rattle.visit_log.specs.Cells.{CellData, word_of}
+use Rattle.visit_log.specs.Cells.{CellData, word_at}
 use Rattle.visit_log.proofs.Opening.{set-first, set-more}
 use Rattle.visit_log.proofs.cells.PlainCells.open.Goals as goal
 
@@ -10,7 +10,7 @@ loop-level-init c = record {
   goes = c.set.ensures.goes;
   subs = ap (λ (cells : CellData). cells.subs) c.set.ensures.words;
   words = λ key its.
-      ap (λ cells. word_of c.args.plan.now cells key) c.set.ensures.words
+      ap (λ cells. word_at c.args.plan.now cells key) c.set.ensures.words
       ∙ set-first c.same_key_means.ensures c.args.plan.now c.args.self.now c.args.sub c.args.home
       c.pack_mark-here.result key c.requires.goes
       (record { place = c.requires.inside; known = c.requires.known }) c.pack_mark-here.ensures its;
@@ -31,10 +31,10 @@ loop-level-preserved c =
       goes = c.set-in-loop-level.ensures.goes;
       subs = ap (λ (cells : CellData). cells.subs) c.set-in-loop-level.ensures.words ∙ c.loop-level.invariant.subs;
       words = λ key its.
-          ap (λ cells. word_of c.args.plan.now cells key) c.set-in-loop-level.ensures.words
+          ap (λ cells. word_at c.args.plan.now cells key) c.set-in-loop-level.ensures.words
           ∙ set-more c.same_key_means.ensures c.args.plan.now c.loop-level.self c.args.sub c.args.home
           c.loop-level.level c.home-cluster.result c.pack_address-address.result
-          (word_of c.args.plan.now c.args.self.now key) key c.loop-level.invariant.goes (record {
+          (word_at c.args.plan.now c.args.self.now key) key c.loop-level.invariant.goes (record {
             place =
                 (low, held);
             known = known;

@@ -1,7 +1,7 @@
 use Rattle.std.proofs.Common.{◌≡◌, Some, ap, subst, sym, get_or}
 use Rattle.entry_word.specs.declared.visit.Key.TheVariants.{Entry}
 use Rattle.directory.specs.Finds.{key_of}
-use Rattle.walk.specs.Walks.{GoesWith, call_of, stage_of}
+use Rattle.walk.specs.Walks.{IsWalkOver, call_of, stage_of}
 use Rattle.walk.proofs.Readers.{next-climbing}
 use Rattle.walk.proofs.walk.Walk.next.Goals as goal
 
@@ -15,5 +15,5 @@ returns-in-Climbing c =
       progress =
           c.self.inside.progress;
     }) c.in-Climbing.known c.in-Climbing.weight c.in-Climbing.level c.in-Climbing.index
-    (get_or c.readers.result.now c.in-Climbing.index 0) c.in-Climbing.is (subst (GoesWith c.args.plan.now)
+    (get_or c.readers.result.now c.in-Climbing.index 0) c.in-Climbing.is (subst (IsWalkOver c.args.plan.now)
     (sym c.self.view_is) c.requires.goes) (ap (λ rs. get_or rs c.in-Climbing.index 0) c.readers.ensures))
