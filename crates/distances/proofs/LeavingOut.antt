@@ -4,31 +4,32 @@ use Rattle.std.specs.Prelude.{All, Contains}
 use Rattle.std.proofs.lemmas.List.{length-set, get_or-set_same, get_or-set_other, get_or_past, get_or-replicate, length-replicate}
 use Rattle.std.proofs.lemmas.List.Elements.{All-nil, All-pop, All-push, All-contains, All-weaker}
 use Rattle.std.proofs.lemmas.Bool.{cases_eq, cases_lt}
-use Rattle.std.proofs.lemmas.Nat.{same_from_place, mul-add-lt, row_fits}
+use Rattle.std.proofs.lemmas.Nat.{same_from_place, row_fits}
 use Rattle.std.proofs.lemmas.List.Edits.{length-between, get_or-between}
 use Rattle.std.specs.List.{between}
 use Rattle.net_graph.specs.Walks.{among}
 use Rattle.distances.specs.declared.elimination.Near.{Near}
 use Rattle.distances.specs.declared.elimination.Stage.{Stage}
 use Rattle.distances.specs.declared.elimination.TheConstants.{FAR}
-use Rattle.distances.specs.Lowering.{Among, AreNearBelow, IsLowered, IsWithin, PairOffer, cell}
+use Rattle.distances.specs.Lowering.{Among, AreNearBelow, IsLowered, IsWithin, PairOffer, cell_at}
 use Rattle.distances.specs.Stages.{AreLengths, AreStages, IsFresh, AreAllStages, KeepsLengths, IsStage, IsStageWithin, make_near}
 use Rattle.distances.specs.Stages.AreStages.{none, more}
 use Rattle.distances.proofs.OneLess.{left_out, stage}
 use Rattle.distances.proofs.Lowered.{lowered_light}
 
 -- what leaving out nodes keeps
-pub record IsLeavingSome (n : ℕ) (first : List ℕ) (left : List Bool) (stages : List Stage)
+pub record IsLeavingSome (n width : ℕ) (first : List ℕ) (left : List Bool) (stages : List Stage)
     (table : List ℕ) : Type 0 where
   pub left_count : length left ≡ n
-  pub count : length table ≡ n * n
+  pub count : length table ≡ n * width
   pub light : All (λ w. w ≤ FAR) table
   pub within : All (IsStageWithin n) stages
   pub left_is_fresh : (x : ℕ) → among left x ≡ true → IsFresh n stages x
   pub fresh_is_left : (x : ℕ) → IsFresh n stages x → among left x ≡ true
-  pub keeps : (d : ℕ → ℕ → ℕ) → AreLengths n d → KeepsLengths (λ x. x < n) (cell n first) d
-      → KeepsLengths (λ x. among left x ≡ true) (cell n table) d
-  pub holds : (d : ℕ → ℕ → ℕ) → AreLengths n d → KeepsLengths (λ x. x < n) (cell n first) d → AreStages n d stages
+  pub keeps : (d : ℕ → ℕ → ℕ) → AreLengths n d → KeepsLengths (λ x. x < n) (cell_at width first) d
+      → KeepsLengths (λ x. among left x ≡ true) (cell_at width table) d
+  pub holds : (d : ℕ → ℕ → ℕ) → AreLengths n d → KeepsLengths (λ x. x < n) (cell_at width first) d → AreStages n d
+      stages
 
 least_is_min : (x c s : ℕ) → x ≤ c → x ≤ s → (x ≡ c) ⊎ (x ≡ s) → x ≡ min c s
 least_is_min x c s le_c le_s (inl e) = omega arith
@@ -72,18 +73,19 @@ module _ (left : List Bool) (v : ℕ) (v_left : among left v ≡ true) where
   rest x h other = get_or-set_other left v x false false other ∙ h
 
 -- what lowering the cells of near nodes comes to
-module _ (n : ℕ) (v : ℕ) (new : ℕ → Type 0) (row : List ℕ) (near : List Near) (old table : List ℕ)
+module _ (n width : ℕ) (wide : n ≤ width) (v : ℕ) (new : ℕ → Type 0) (row : List ℕ) (near : List Near)
+    (old table : List ℕ)
     (within : (x : ℕ) → new x → x < n) (row_count : length row ≡ n)
-    (is_row : (x : ℕ) → x < n → get_or row x 0 ≡ cell n old v x)
+    (is_row : (x : ℕ) → x < n → get_or row x 0 ≡ cell_at width old v x)
     (are_near : AreNearBelow (length row) row new near) where
-  pub near_sound : (x w : ℕ) → Contains near (make_near x w) → new x × (w ≡ cell n old v x) × (w < FAR)
+  pub near_sound : (x w : ℕ) → Contains near (make_near x w) → new x × (w ≡ cell_at width old v x) × (w < FAR)
   near_sound x w has =
       let s = All-contains (λ (a : Near). new a.node × (a.node < length row) × (a.weight ≡ get_or row a.node 0)
       × (a.weight < FAR))
       near (make_near x w) are_near.sound has in
       (s.0, s.2 ∙ is_row x (within x s.0), s.3)
 
-  pub near_whole : (x : ℕ) → new x → cell n old v x < FAR → Contains near (make_near x (cell n old v x))
+  pub near_whole : (x : ℕ) → new x → cell_at width old v x < FAR → Contains near (make_near x (cell_at width old v x))
   near_whole x x_new light =
       let x_below = within x x_new in
       let e = is_row x x_below in
@@ -94,45 +96,48 @@ module _ (n : ℕ) (v : ℕ) (new : ℕ → Type 0) (row : List ℕ) (near : Lis
       × (a.weight < FAR)) (IsWithin n)
       (λ (a : Near) s. record { below = within a.node s.0; light = omega (arith, s.3) }) near are_near.sound
 
-  pub pairs_lowered : length old ≡ n * n → All (λ w. w ≤ FAR) old
-      → IsLowered (Among near (λ a. Among near (PairOffer n a))) old table
-      → (a b : ℕ) → new a → new b → cell n table a b ≡ min (cell n old a b) (cell n old v a + cell n old v b)
+  pub pairs_lowered : length old ≡ n * width → All (λ w. w ≤ FAR) old
+      → IsLowered (Among near (λ a. Among near (PairOffer width a))) old table
+      → (a b : ℕ) → new a → new b → cell_at width table a b ≡ min (cell_at width old a b)
+      (cell_at width old v a + cell_at width old v b)
   pairs_lowered count light lowered a b a_new b_new =
       let a_below = within a a_new in
       let b_below = within b b_new in
-      let most : cell n old a b ≤ FAR = light (a * n + b) 0 (omega (arith, mul-add-lt a n b n a_below b_below, count))
-      in
-      least_is_min (cell n table a b) (cell n old a b) (cell n old v a + cell n old v b) (lowered.falls (a * n + b))
-      (elim (cases_lt (cell n old v a) FAR) [
-        | inr far ↦ omega (arith, lowered.falls (a * n + b))
-        | inl a_light ↦ elim (cases_lt (cell n old v b) FAR) [
-          | inr far ↦ omega (arith, lowered.falls (a * n + b))
-          | inl b_light ↦ lowered.reached (a * n + b) (cell n old v a + cell n old v b) (
-            make_near a (cell n old v a),
+      let most : cell_at width old a b ≤ FAR = light (a * width + b) 0
+      (omega (arith, row_fits a width n width a_below (omega arith), wide, b_below, count)) in
+      least_is_min (cell_at width table a b) (cell_at width old a b) (cell_at width old v a + cell_at width old v b)
+      (lowered.falls (a * width + b))
+      (elim (cases_lt (cell_at width old v a) FAR) [
+        | inr far ↦ omega (arith, lowered.falls (a * width + b))
+        | inl a_light ↦ elim (cases_lt (cell_at width old v b) FAR) [
+          | inr far ↦ omega (arith, lowered.falls (a * width + b))
+          | inl b_light ↦ lowered.reached (a * width + b) (cell_at width old v a + cell_at width old v b) (
+            make_near a (cell_at width old v a),
             near_whole a a_new a_light,
-            (make_near b (cell n old v b), near_whole b b_new b_light, (refl, refl)),
+            (make_near b (cell_at width old v b), near_whole b b_new b_light, (refl, refl)),
           )
         ]
       ])
-      (elim (lowered.cause (a * n + b)) [
+      (elim (lowered.cause (a * width + b)) [
         | inl kept ↦ inl kept
         | inr (p, has_p, (q, has_q, (at, sum))) ↦
             let p_is = near_sound p.node p.weight has_p in
             let q_is = near_sound q.node q.weight has_q in
-            let place = same_from_place a b p.node q.node n b_below (within q.node q_is.0) at in
-            inr (sum ∙ ap (λ w. w + q.weight) p_is.1 ∙ ap (λ w. cell n old v p.node + w) q_is.1
-            ∙ ap (λ x. cell n old v x + cell n old v q.node) (sym place.0)
-            ∙ ap (λ x. cell n old v a + cell n old v x) (sym place.1))
+            let place = same_from_place a b p.node q.node width (omega (arith, wide))
+            (omega (arith, wide, within q.node q_is.0)) at in
+            inr (sum ∙ ap (λ w. w + q.weight) p_is.1 ∙ ap (λ w. cell_at width old v p.node + w) q_is.1
+            ∙ ap (λ x. cell_at width old v x + cell_at width old v q.node) (sym place.0)
+            ∙ ap (λ x. cell_at width old v a + cell_at width old v x) (sym place.1))
       ])
 
 -- one more node is left out
-module _ (n : ℕ) (first : List ℕ) (left : List Bool) (stages : List Stage) (old : List ℕ)
-    (so_far : IsLeavingSome n first left stages old)
+module _ (n width : ℕ) (wide : n ≤ width) (first : List ℕ) (left : List Bool) (stages : List Stage) (old : List ℕ)
+    (so_far : IsLeavingSome n width first left stages old)
     (v : ℕ) (v_left : among left v ≡ true) (row : List ℕ) (row_count : length row ≡ n)
-    (is_row : (x : ℕ) → x < n → get_or row x 0 ≡ cell n old v x)
+    (is_row : (x : ℕ) → x < n → get_or row x 0 ≡ cell_at width old v x)
     (s : Stage) (s_node : s.node ≡ v)
     (are_near : AreNearBelow (length row) row (λ x. among (set left v false) x ≡ true) s.near.items)
-    (table : List ℕ) (lowered : IsLowered (Among s.near.items (λ a. Among s.near.items (PairOffer n a))) old table)
+    (table : List ℕ) (lowered : IsLowered (Among s.near.items (λ a. Among s.near.items (PairOffer width a))) old table)
   where
     now : ℕ → Type 0
     now x = among (set left v false) x ≡ true
@@ -154,34 +159,40 @@ module _ (n : ℕ) (first : List ℕ) (left : List Bool) (stages : List Stage) (
         let parts = All-pop (λ (t : Stage). t.node ≢ x) (stages ++ s ∷ []) stages (Some s) refl h.1 in
         rest left v v_left x (so_far.fresh_is_left x (h.0, parts.0)) (λ e. parts.1 (s_node ∙ sym e))
 
-    next_keeps : (d : ℕ → ℕ → ℕ) → AreLengths n d → KeepsLengths (λ x. x < n) (cell n first) d
-        → KeepsLengths (λ x. among (set left v false) x ≡ true) (cell n table) d
+    next_keeps : (d : ℕ → ℕ → ℕ) → AreLengths n d → KeepsLengths (λ x. x < n) (cell_at width first) d
+        → KeepsLengths (λ x. among (set left v false) x ≡ true) (cell_at width table) d
     next_keeps d lengths begun =
         left_out n d lengths (λ x. among left x ≡ true) (λ x. among (set left v false) x ≡ true) v below v_left
-        (fewer left v v_left) (rest left v v_left) (cell n old) (cell n table) (so_far.keeps d lengths begun)
-        (pairs_lowered n v (λ x. among (set left v false) x ≡ true) row s.near.items old table below_now row_count
+        (fewer left v v_left) (rest left v v_left) (cell_at width old) (cell_at width table)
+        (so_far.keeps d lengths begun)
+        (pairs_lowered n width wide v (λ x. among (set left v false) x ≡ true) row s.near.items old table below_now
+        row_count
         is_row are_near so_far.count so_far.light lowered)
 
-    next_stage : (d : ℕ → ℕ → ℕ) → AreLengths n d → KeepsLengths (λ x. x < n) (cell n first) d
+    next_stage : (d : ℕ → ℕ → ℕ) → AreLengths n d → KeepsLengths (λ x. x < n) (cell_at width first) d
         → IsStage (λ x. among (set left v false) x ≡ true) d v s.near.items
     next_stage d lengths begun =
         stage n d lengths (λ x. among left x ≡ true) (λ x. among (set left v false) x ≡ true) v below v_left
-        (fewer left v v_left) (rest left v v_left) (cell n old) (cell n table) (so_far.keeps d lengths begun)
+        (fewer left v v_left) (rest left v v_left) (cell_at width old) (cell_at width table)
+        (so_far.keeps d lengths begun)
         s.near.items
-        (near_sound n v (λ x. among (set left v false) x ≡ true) row s.near.items old table below_now row_count is_row
+        (near_sound n width wide v (λ x. among (set left v false) x ≡ true) row s.near.items old table below_now
+        row_count is_row
         are_near)
-        (near_whole n v (λ x. among (set left v false) x ≡ true) row s.near.items old table below_now row_count is_row
+        (near_whole n width wide v (λ x. among (set left v false) x ≡ true) row s.near.items old table below_now
+        row_count is_row
         are_near)
 
-    pub leaving_step : IsLeavingSome n first (set left v false) (stages ++ s ∷ []) table
+    pub leaving_step : IsLeavingSome n width first (set left v false) (stages ++ s ∷ []) table
     leaving_step = record {
       left_count = length-set left v false ∙ so_far.left_count;
       count = lowered.count ∙ so_far.count;
-      light = lowered_light (Among s.near.items (λ a. Among s.near.items (PairOffer n a))) old table FAR lowered
+      light = lowered_light (Among s.near.items (λ a. Among s.near.items (PairOffer width a))) old table FAR lowered
           so_far.light;
       within = All-push (IsStageWithin n) stages s so_far.within (record {
         node = subst (λ x. x < n) (sym s_node) (below v v_left);
-        near = near_within n v (λ x. among (set left v false) x ≡ true) row s.near.items old table below_now row_count
+        near = near_within n width wide v (λ x. among (set left v false) x ≡ true) row s.near.items old table below_now
+            row_count
             is_row are_near;
       });
       left_is_fresh = now_fresh;
@@ -195,9 +206,9 @@ module _ (n : ℕ) (first : List ℕ) (left : List Bool) (stages : List Stage) (
     }
 
 -- the beginning, and the end
-pub leaving_begins : (n : ℕ) (first : List ℕ) → length first ≡ n * n → All (λ w. w ≤ FAR) first
-    → IsLeavingSome n first (replicate n true) [] first
-leaving_begins n first count light = record {
+pub leaving_begins : (n width : ℕ) (first : List ℕ) → length first ≡ n * width → All (λ w. w ≤ FAR) first
+    → IsLeavingSome n width first (replicate n true) [] first
+leaving_begins n width first count light = record {
   left_count = length-replicate n true;
   count = count;
   light = light;
@@ -213,7 +224,7 @@ leaving_begins n first count light = record {
     All-nil (λ (s : Stage). s.node ≢ x),
   );
   fresh_is_left = λ x h. get_or-replicate n x true false h.0;
-  keeps = λ d lengths begun. keeps_as (λ x. x < n) (λ x. among (replicate n true) x ≡ true) (cell n first) d
+  keeps = λ d lengths begun. keeps_as (λ x. x < n) (λ x. among (replicate n true) x ≡ true) (cell_at width first) d
       (λ x below. get_or-replicate n x true false below)
       (λ x h. elim (cases_lt x n) [
         | inl below ↦ below
@@ -225,42 +236,43 @@ leaving_begins n first count light = record {
   holds = λ d lengths begun. none;
 }
 
-pub leaving_ends : (n : ℕ) (first : List ℕ) (left : List Bool) (stages : List Stage) (table : List ℕ)
-    → IsLeavingSome n first left stages table
-    → ((x : ℕ) → among left x ≡ true → ⊥) → AreAllStages n first stages
-leaving_ends n first left stages table so_far none_left = record {
+pub leaving_ends : (n width : ℕ) (first : List ℕ) (left : List Bool) (stages : List Stage) (table : List ℕ)
+    → IsLeavingSome n width first left stages table
+    → ((x : ℕ) → among left x ≡ true → ⊥) → AreAllStages n width first stages
+leaving_ends n width first left stages table so_far none_left = record {
   within = so_far.within;
   all = λ x fresh. none_left x (so_far.fresh_is_left x fresh);
   holds = so_far.holds;
 }
 
 -- the step as the code has it
-pub leaving_next : (n : ℕ) (first : List ℕ) (left seen next : List Bool) (stages later : List Stage)
+pub leaving_next : (n width : ℕ) → n ≤ width → (first : List ℕ) (left seen next : List Bool) (stages later : List Stage)
     (old table : List ℕ) (v : ℕ) (s : Stage) (near : List Near)
-    → IsLeavingSome n first left stages old → seen ≡ left → (v < length seen) × (among seen v ≡ true) → s.node ≡ v
+    → IsLeavingSome n width first left stages old → seen ≡ left → (v < length seen) × (among seen v ≡ true) → s.node ≡ v
     → next ≡ set left v false
-    → AreNearBelow (length (between (v * n) ((v + 1) * n) old)) (between (v * n) ((v + 1) * n) old)
+    → AreNearBelow (length (between (v * width) (v * width + n) old)) (between (v * width) (v * width + n) old)
     (λ x. among next x ≡ true) s.near.items
-    → near ≡ s.near.items → IsLowered (Among near (λ a. Among near (PairOffer n a))) old table
+    → near ≡ s.near.items → IsLowered (Among near (λ a. Among near (PairOffer width a))) old table
     → later ≡ stages ++ s ∷ []
-    → IsLeavingSome n first (set left v false) later table
-leaving_next n first left seen next stages later old table v s near so_far seen_is v_left s_node next_is are_near
+    → IsLeavingSome n width first (set left v false) later table
+leaving_next n width wide first left seen next stages later old table v s near so_far seen_is v_left s_node next_is
+    are_near
     near_is lowered later_is =
     let v_in_left : among left v ≡ true = subst (λ xs. among xs v ≡ true) seen_is v_left.1 in
     let v_below : v < n = (so_far.left_is_fresh v v_in_left).0 in
-    let end_fits : (v + 1) * n ≤ length old = omega (arith, row_fits v n n n v_below (omega arith), so_far.count) in
-    subst (λ xs. IsLeavingSome n first (set left v false) xs table) (sym later_is)
-    (leaving_step n first left stages old so_far v v_in_left (between (v * n) ((v + 1) * n) old)
-    (length-between old (v * n) ((v + 1) * n) end_fits ∙ row_width v n)
-    (λ x below. get_or-between old (v * n) ((v + 1) * n) x 0 (omega arith))
+    let end_fits : v * width + n ≤ length old =
+    omega (arith, row_fits v width n width v_below (omega arith), so_far.count, wide) in
+    subst (λ xs. IsLeavingSome n width first (set left v false) xs table) (sym later_is)
+    (leaving_step n width wide first left stages old so_far v v_in_left (between (v * width) (v * width + n) old)
+    (length-between old (v * width) (v * width + n) end_fits ∙ (let e : v * width + n - v * width ≡ n = omega arith in
+    e))
+    (λ x below. get_or-between old (v * width) (v * width + n) x 0 (omega arith))
     s s_node
-    (subst (λ xs. AreNearBelow (length (between (v * n) ((v + 1) * n) old)) (between (v * n) ((v + 1) * n) old)
+    (subst (λ xs. AreNearBelow (length (between (v * width) (v * width + n) old))
+    (between (v * width) (v * width + n) old)
     (λ x. among xs x ≡ true) s.near.items) next_is are_near)
     table
-    (subst (λ xs. IsLowered (Among xs (λ a. Among xs (PairOffer n a))) old table) near_is lowered))
-  where
-    row_width : (v n : ℕ) → (v + 1) * n - v * n ≡ n
-    row_width v n = omega arith
+    (subst (λ xs. IsLowered (Among xs (λ a. Among xs (PairOffer width a))) old table) near_is lowered))
 
 pub none_left_in : (left seen : List Bool) → seen ≡ left → ((x : ℕ) → x < length seen → among seen x ≡ true → ⊥)
     → (x : ℕ) → among left x ≡ true → ⊥

@@ -2,9 +2,11 @@ mod Balls
 mod Filling
 mod OneLess
 mod Lengths
+mod Existing
 mod Lowered
 mod Writing
 mod FirstTable
 mod Chunks
 mod LeavingOut
 mod TakingBack
+mod Closing

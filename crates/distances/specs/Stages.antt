@@ -1,13 +1,15 @@
 -- All distances by leaving out one node after another, as the private functions do; callers stand
 -- on `Table` alone, and proofs/ joins the two. `c` are the weights in a table, `d` the lengths of
 -- least walks, and `left` says which nodes are left.
+-- Key laws: `leave_out_all` makes the stages of a first table (`AreAllStages`), and `take_back_all`
+-- fills the table with the lengths of which the stages hold (`IsFilled`).
 use Rattle.std.specs.Prelude.{◌≡◌, ◌≢◌, ◌⊎◌, ℕ, ◌+◌, ◌*◌, ◌<◌, ◌≤◌, List, [], ◌∷◌, ◌++◌, All, Contains, length}
 use Rattle.distances.specs.declared.elimination.Near.{Near}
 use Rattle.distances.specs.declared.elimination.Stage.{Stage}
 use Rattle.distances.specs.declared.elimination.TheConstants.{FAR}
 use Rattle.net_graph.specs.Walks.{IsLeastWeight, Joins, everywhere}
 use Rattle.net_graph.specs.Network.{Network}
-use Rattle.distances.specs.Lowering.{IsWithin, cell}
+use Rattle.distances.specs.Lowering.{IsWithin, cell_at}
 
 -- d are the least weights of walks between the nodes of the network
 abbrev pub AreLeast : Network → (ℕ → ℕ → ℕ) → Type 0
@@ -68,25 +70,25 @@ pub data AreStages (n : ℕ) (d : ℕ → ℕ → ℕ) : List Stage → Type 0 w
       → IsStage (IsFresh n stages) d stage.node stage.near.items → AreStages n d stages
 
 -- the stages by which all nodes were left out of a table
-pub record AreAllStages (n : ℕ) (first : List ℕ) (stages : List Stage) : Type 0 where
+pub record AreAllStages (n width : ℕ) (first : List ℕ) (stages : List Stage) : Type 0 where
   pub within : All (IsStageWithin n) stages
   pub all : (x : ℕ) → IsFresh n stages x → ⊥
-  pub holds : (d : ℕ → ℕ → ℕ) → AreLengths n d → KeepsLengths (λ x. x < n) (cell n first) d
+  pub holds : (d : ℕ → ℕ → ℕ) → AreLengths n d → KeepsLengths (λ x. x < n) (cell_at width first) d
       → AreStages n d stages
 
 -- the table has the lengths of which the stages hold
-pub record IsFilled (n : ℕ) (stages : List Stage) (table : List ℕ) : Type 0 where
-  pub count : length table ≡ n * n
+pub record IsFilled (n width : ℕ) (stages : List Stage) (table : List ℕ) : Type 0 where
+  pub count : length table ≡ n * width
   pub each : (d : ℕ → ℕ → ℕ) → AreLengths n d → AreStages n d stages
       → ((x : ℕ) → IsFresh n stages x → ⊥)
-      → (a b : ℕ) → a < n → b < n → cell n table a b ≡ d a b
+      → (a b : ℕ) → a < n → b < n → cell_at width table a b ≡ d a b
 
 -- the table has the least weights of edges, FAR where there is none
-pub record IsFirstTable (network : Network) (table : List ℕ) : Type 0 where
-  pub count : length table ≡ network.nodes * network.nodes
+pub record IsFirstTable (network : Network) (width : ℕ) (table : List ℕ) : Type 0 where
+  pub count : length table ≡ network.nodes * width
   pub light : All (λ w. w ≤ FAR) table
   pub sound : (u v : ℕ) → u < network.nodes → v < network.nodes
-      → (cell network.nodes table u v ≡ FAR)
-      ⊎ Joins network.edges u v (cell network.nodes table u v)
+      → (cell_at width table u v ≡ FAR)
+      ⊎ Joins network.edges u v (cell_at width table u v)
   pub whole : (u v w : ℕ) → u < network.nodes → v < network.nodes → Joins network.edges u v w
-      → cell network.nodes table u v ≤ w
+      → cell_at width table u v ≤ w

@@ -1,8 +1,7 @@
--- Laws of tables of distances and of balls, for proofs. In words they are the public functions
+-- Laws of tables of distances and of balls, for proofs. Key laws, in words the public functions
 -- `distances_are_one` and `members_of_a_ball`.
-use Rattle.std.proofs.Common.{◌≡◌, ℕ, ◌+◌, ◌*◌, ◌/◌, ◌%◌, ◌<◌, ◌≤◌, true, List, length, get_or, sym, ◌∙◌, ap, subst, inl, inr, arith, false, leb-true, le-leb, drop, ◌-◌}
-use Rattle.std.specs.Prelude.{◌↔◌, nat_le, slice_range}
-use Rattle.std.proofs.lemmas.Bool.Decides.{nat_tests}
+use Rattle.std.proofs.Common.{◌≡◌, ℕ, ◌+◌, ◌*◌, ◌/◌, ◌%◌, ◌<◌, ◌≤◌, true, List, length, sym, ◌∙◌, ap, subst, inl, inr, arith, false, leb-true, le-leb, drop, ◌-◌}
+use Rattle.std.specs.Prelude.{◌↔◌, nat_le, slice_range, slice_index}
 use Rattle.node_set.specs.Ascending.{has, IsAscending}
 use Rattle.node_set.specs.SetLaws.{has-passing, passing_over, ascending-passing}
 use Rattle.std.proofs.lemmas.List.{get_or_default, same_lists}
@@ -39,28 +38,25 @@ one_table network one two p q =
     count = p.count ∙ ap (λ n. n * n) nodes ∙ sym q.count
 
     at : (u v : ℕ) → u < one.nodes → v < one.nodes
-        → get_or one.cells (u * one.nodes + v) 0 ≡ get_or two.cells (u * one.nodes + v) 0
+        → slice_index one.cells (u * one.nodes + v) ≡ slice_index two.cells (u * one.nodes + v)
     at u v u_below v_below =
         least_weight_one network.edges everywhere u v (dist one u v) (dist two u v)
         (p.each u v u_below v_below)
         (q.each u v (omega (arith, nodes)) (omega (arith, nodes)))
-        ∙ ap (λ n. get_or two.cells (u * n + v) 0) (sym nodes)
+        ∙ ap (λ n. slice_index two.cells (u * n + v)) (sym nodes)
 
     cells : one.cells ≡ two.cells
     cells = same_lists one.cells two.cells count (λ k d below.
         let small : k < one.nodes * one.nodes = omega (arith, p.count) in
         let some : 0 < one.nodes = positive_side one.nodes k small in
         get_or_default one.cells k d 0 below
-        ∙ ap (λ i. get_or one.cells i 0) (sym (div-add-mod' k one.nodes))
+        ∙ ap (λ i. slice_index one.cells i) (sym (div-add-mod' k one.nodes))
         ∙ at (k / one.nodes) (k % one.nodes) (div_below k one.nodes one.nodes some small)
         (omega arith)
-        ∙ ap (λ i. get_or two.cells i 0) (div-add-mod' k one.nodes)
+        ∙ ap (λ i. slice_index two.cells i) (div-add-mod' k one.nodes)
         ∙ get_or_default two.cells k 0 d (omega (arith, count)))
 
 -- ---- balls
-
-pub not_within : (x y : ℕ) → y < x → nat_le x y ≡ false
-not_within x y past = grind (arith, nat_tests)
 
 -- a ball ascends
 pub ball_ascends : (table : DistanceTable) (v radius : ℕ) → IsAscending (ball_of table v radius)

@@ -4,16 +4,18 @@ ghost use Rattle.std.specs.Prelude.{◌≡◌, ◌+◌, ◌*◌, ◌<◌, ◌≤
 ghost use Rattle.distances.specs.Table.{AreDistancesOf, IsDiameter, IsMetric, IsRowOf, ball_of, dist};
 
 use crate::elimination::{degrees_of, first_table, leave_out_all, take_back_all};
+use crate::rows::{close_rows, width_for};
 use net_graph::{Graph, OutOfMemory, greatest_weight, reached_has_a_least_weight};
 use node_set::NodeSet;
 use std::alloc::Global;
 use std::marker::Model;
+use std::sync::Arc;
 
-/// The distance between each two nodes of a network.
+/// The distance between each two nodes of a network. Copies share one table.
 #[derive(Debug, Drop)]
 pub struct Distances {
     nodes: u32,
-    table: Vec<u32>,
+    table: Arc<Vec<u32>>,
     diameter: u32,
 }
 
@@ -23,9 +25,9 @@ impl Model for Distances {
 
     ghost Value = { DistanceTable };
 
-    ghost view = { λ d. record { nodes = d.nodes; cells = d.table.items } };
+    ghost view = { λ d. record { nodes = d.nodes; cells = d.table.value.items } };
 
-    ghost invariant = { λ d. IsSoundTable (record { nodes = d.nodes; cells = d.table.items })
+    ghost invariant = { λ d. IsSoundTable (record { nodes = d.nodes; cells = d.table.value.items })
         d.diameter };
 }
 
@@ -39,25 +41,28 @@ impl Distances {
     {
         reached_has_a_least_weight();
         let nodes = graph.nodes();
-        let mut table = first_table(alloc, graph)?;
+        let n = nodes as usize;
+        let width = width_for(n);
+        let mut table = first_table(alloc, graph, width)?;
         let mut degrees = degrees_of(alloc, graph)?;
-        let stages = leave_out_all(alloc, &mut table, nodes as usize, &mut degrees)?;
-        take_back_all(alloc, &mut table, nodes as usize, stages)?;
+        let stages = leave_out_all(alloc, &mut table, n, width, &mut degrees)?;
+        take_back_all(alloc, &mut table, n, width, stages)?;
+        close_rows(&mut table, n, width);
         let diameter = greatest_weight(&table);
         Ok(Distances {
             nodes,
-            table,
+            table: Arc::new(alloc, table)?,
             diameter,
         })
     }
 
-    /// A copy in memory of its own.
-    pub fn copy(&self, alloc: Global) -> Result<Distances, OutOfMemory>
+    /// A copy, which shares the table and takes no memory.
+    pub fn copy(&self) -> Result<Distances, OutOfMemory>
         ensures { IfOk result (λ copy. copy ≡ self.now) }
     {
         Ok(Distances {
             nodes: self.nodes,
-            table: self.table.to_vec(alloc)?,
+            table: Arc::try_clone(&self.table)?,
             diameter: self.diameter,
         })
     }
@@ -149,7 +154,7 @@ mod tests {
         assert_eq!(rt; ball.room(), 4);
         assert_eq!(rt; ball.count(), 3);
         assert!(rt; ball.room() == 4 && ball.has(0) && ball.has(1) && ball.has(2) && !ball.has(3));
-        let copy = distances.copy(rt.alloc())?;
+        let copy = distances.copy()?;
         assert_eq!(rt; copy.nodes(), 4);
         assert_eq!(rt; copy.between(0, 3), 3);
         assert_eq!(rt; copy.diameter(), 3);

@@ -8,7 +8,7 @@ ghost use Rattle.net_graph.specs.Walks.{among};
 ghost use Rattle.net_graph.specs.Layout.{IsArc};
 ghost use Rattle.distances.specs.Remaining.{IsLeftBelow};
 ghost use Rattle.distances.specs.Stages.{IsFilled, IsFirstTable, AreAllStages, IsStageWithin};
-ghost use Rattle.distances.specs.Lowering.{Among, AreNearBelow, ArcOffer, Below, ChunkOffer, IsLowered, IsWithin, IsWritten, OwnOffer, PairOffer, RowOffer, SpanOffer};
+ghost use Rattle.distances.specs.Lowering.{Among, AreNearBelow, ArcOffer, Below, ChunkOffer, IsLowered, IsWithin, IsNodeWritten, OwnOffer, PairOffer, RowOffer, SpanOffer};
 
 use net_graph::{Arc, Graph, OutOfMemory};
 use std::alloc::{AllocError, Global};
@@ -42,15 +42,17 @@ fn lower(weights: &mut [u32], place: usize, weight: u32)
 }
 
 // Lowers the cells of a node's arcs to their weights.
-fn lower_to_arcs(table: &mut [u32], n: usize, u: usize, arcs: &[Arc])
+fn lower_to_arcs(table: &mut [u32], n: usize, width: usize, u: usize, arcs: &[Arc])
     requires few { n ≤ MAX_NODES }
-    requires count { length table.old ≡ n * n }
+    requires wide { n ≤ width }
+    requires narrow { width ≤ 2048 }
+    requires count { length table.old ≡ n * width }
     requires below { u < n }
     requires arcs { All (IsArc n) arcs.now }
-    ensures { IsLowered (Among arcs.now (ArcOffer n u)) table.old table.new }
+    ensures { IsLowered (Among arcs.now (ArcOffer width u)) table.old table.new }
 {
     for arc in arcs {
-        lower(table, u * n + arc.target as usize, arc.weight);
+        lower(table, u * width + arc.target as usize, arc.weight);
     }
 }
 
@@ -73,15 +75,17 @@ fn near_of(alloc: Global, row: &[u32], left: &[bool]) -> Result<Vec<Near>, Alloc
 }
 
 // Lowers the cells of a near node and each other one to the sums of their weights.
-fn lower_row(table: &mut [u32], n: usize, a: Near, near: &[Near])
+fn lower_row(table: &mut [u32], n: usize, width: usize, a: Near, near: &[Near])
     requires few { n ≤ MAX_NODES }
-    requires count { length table.old ≡ n * n }
+    requires wide { n ≤ width }
+    requires narrow { width ≤ 2048 }
+    requires count { length table.old ≡ n * width }
     requires a { IsWithin n a }
     requires near { All (IsWithin n) near.now }
-    ensures { IsLowered (Among near.now (PairOffer n a)) table.old table.new }
+    ensures { IsLowered (Among near.now (PairOffer width a)) table.old table.new }
 {
     for b in near {
-        lower(table, a.node * n + b.node, a.weight + b.weight);
+        lower(table, a.node * width + b.node, a.weight + b.weight);
     }
 }
 
@@ -136,15 +140,17 @@ fn lower_span(weights: &mut [u32], place: usize, row: &[u32], from: usize, count
 }
 
 // Lowers weights to those through a near node.
-fn lower_through(weights: &mut [u32], table: &[u32], n: usize, near: Near)
+fn lower_through(weights: &mut [u32], table: &[u32], n: usize, width: usize, near: Near)
     requires few { n ≤ MAX_NODES }
-    requires count { length table.now ≡ n * n }
+    requires wide { n ≤ width }
+    requires narrow { width ≤ 2048 }
+    requires count { length table.now ≡ n * width }
     requires light { All (λ w. w ≤ FAR) table.now }
     requires near { IsWithin n near }
     requires row { length weights.old ≡ n }
-    ensures { IsLowered (RowOffer n table.now near) weights.old weights.new }
+    ensures { IsLowered (RowOffer n width table.now near) weights.old weights.new }
 {
-    lower_span(weights, 0, table, near.node * n, n, near.weight);
+    lower_span(weights, 0, table, near.node * width, n, near.weight);
 }
 
 // Writes the weights of near nodes at their places, and FAR elsewhere.
@@ -160,29 +166,33 @@ fn spread(weights: &mut [u32], near: &[Near])
 
 // Lowers the cells of a near node and each other one to the sums of their weights, the whole row at
 // once.
-fn lower_whole_row(table: &mut [u32], n: usize, a: Near, near: &[Near], mine: &[u32])
+fn lower_whole_row(table: &mut [u32], n: usize, width: usize, a: Near, near: &[Near], mine: &[u32])
     requires few { n ≤ MAX_NODES }
-    requires count { length table.old ≡ n * n }
+    requires wide { n ≤ width }
+    requires narrow { width ≤ 2048 }
+    requires count { length table.old ≡ n * width }
     requires a { IsWithin n a }
     requires near { All (IsWithin n) near.now }
     requires light { All (λ w. w ≤ FAR) table.old }
     requires width { length mine.now ≡ n }
     requires mine { IsLowered (Among near.now OwnOffer) (replicate n FAR) mine.now }
-    ensures { IsLowered (Among near.now (PairOffer n a)) table.old table.new }
+    ensures { IsLowered (Among near.now (PairOffer width a)) table.old table.new }
 {
-    lower_span(table, a.node * n, mine, 0, n, a.weight);
+    lower_span(table, a.node * width, mine, 0, n, a.weight);
 }
 
 // How many of the cells of a near node and each other one have no weight.
-fn count_far(table: &[u32], n: usize, a: Near, near: &[Near]) -> usize
+fn count_far(table: &[u32], n: usize, width: usize, a: Near, near: &[Near]) -> usize
     requires few { n ≤ MAX_NODES }
-    requires count { length table.now ≡ n * n }
+    requires wide { n ≤ width }
+    requires narrow { width ≤ 2048 }
+    requires count { length table.now ≡ n * width }
     requires a { IsWithin n a }
     requires near { All (IsWithin n) near.now }
 {
     let mut more: usize = 0;
     for b in near {
-        if table[a.node * n + b.node] == FAR && a.node != b.node {
+        if table[a.node * width + b.node] == FAR && a.node != b.node {
             more = more.wrapping_add(1);
         }
     }
@@ -194,18 +204,22 @@ fn count_far(table: &[u32], n: usize, a: Near, near: &[Near]) -> usize
 fn lower_pairs(
     table: &mut [u32],
     n: usize,
+    width: usize,
     near: &[Near],
     degrees: &mut [usize],
     mine: &mut [u32],
     counts: bool,
 )
     requires few { n ≤ MAX_NODES }
-    requires count { length table.old ≡ n * n }
+    requires wide { n ≤ width }
+    requires narrow { width ≤ 2048 }
+    requires count { length table.old ≡ n * width }
     requires near { All (IsWithin n) near.now }
     requires degrees { length degrees.old ≡ n }
     requires light { All (λ w. w ≤ FAR) table.old }
     requires width { length mine.old ≡ n }
-    ensures { IsLowered (Among near.now (λ a. Among near.now (PairOffer n a))) table.old table.new }
+    ensures { IsLowered (Among near.now (λ a. Among near.now (PairOffer width a))) table.old
+        table.new }
 {
     let by_row = 5 * near.len() > n;
     if by_row {
@@ -213,56 +227,69 @@ fn lower_pairs(
     }
     for a in near {
         let more = if counts {
-            count_far(table, n, *a, near)
+            count_far(table, n, width, *a, near)
         } else {
             0
         };
         if by_row {
-            lower_whole_row(table, n, *a, near, mine);
+            lower_whole_row(table, n, width, *a, near, mine);
         } else {
-            lower_row(table, n, *a, near);
+            lower_row(table, n, width, *a, near);
         }
         degrees[a.node] = degrees[a.node].wrapping_add(more).wrapping_sub(1);
     }
 }
 
 // The least weights through near nodes.
-fn fold_rows(weights: &mut [u32], table: &[u32], n: usize, near: &[Near])
+fn fold_rows(weights: &mut [u32], table: &[u32], n: usize, width: usize, near: &[Near])
     requires few { n ≤ MAX_NODES }
-    requires count { length table.now ≡ n * n }
+    requires wide { n ≤ width }
+    requires narrow { width ≤ 2048 }
+    requires count { length table.now ≡ n * width }
     requires light { All (λ w. w ≤ FAR) table.now }
     requires near { All (IsWithin n) near.now }
     requires row { length weights.old ≡ n }
-    ensures { IsLowered (Among near.now (RowOffer n table.now)) (replicate n FAR) weights.new }
+    ensures { IsLowered (Among near.now (RowOffer n width table.now)) (replicate n FAR)
+        weights.new }
 {
     weights.fill(FAR);
     for a in near {
-        lower_through(weights, table, n, *a);
+        lower_through(weights, table, n, width, *a);
     }
 }
 
-// Writes row v and column v.
-fn write_node(table: &mut [u32], n: usize, v: usize, mine: &[u32])
+// Writes row v, and column v at the nodes that are back. At the others a column isn't read before
+// their own rows are written, and each of its cells lies in a line of the cache of its own.
+fn write_node(table: &mut [u32], n: usize, width: usize, v: usize, mine: &[u32], back: &[usize])
     requires few { n ≤ MAX_NODES }
-    requires count { length table.old ≡ n * n }
+    requires wide { n ≤ width }
+    requires narrow { width ≤ 2048 }
+    requires count { length table.old ≡ n * width }
     requires below { v < n }
     requires row { length mine.now ≡ n }
-    ensures { IsWritten n v n mine.now table.old table.new }
+    requires back { All (λ x. x < n) back.now }
+    ensures { IsNodeWritten n width v back.now mine.now table.old table.new }
 {
-    for x in 0..n {
-        table[v * n + x] = mine[x];
-        table[x * n + v] = mine[x];
+    table[v * width..v * width + n].copy_from_slice(mine);
+    for x in back {
+        table[*x * width + v] = mine[*x];
     }
 }
 
 // The least weights of the edges between each two nodes, `FAR` where there is none.
-pub(crate) fn first_table(alloc: Global, graph: &Graph) -> Result<Vec<u32>, OutOfMemory>
-    ensures { IfOk result (λ table. IsFirstTable graph.now table.items) }
+pub(crate) fn first_table(
+    alloc: Global,
+    graph: &Graph,
+    width: usize,
+) -> Result<Vec<u32>, OutOfMemory>
+    requires wide { graph.now.nodes ≤ width }
+    requires narrow { width ≤ 2048 }
+    ensures { IfOk result (λ table. IsFirstTable graph.now width table.items) }
 {
     let n = graph.nodes() as usize;
-    let mut table = vec![in alloc; FAR; n * n]?;
+    let mut table = vec![in alloc; FAR; n * width]?;
     for u in 0..n {
-        lower_to_arcs(&mut table, n, u, graph.arcs_of(u as u32));
+        lower_to_arcs(&mut table, n, width, u, graph.arcs_of(u as u32));
     }
     Ok(table)
 }
@@ -313,23 +340,26 @@ pub(crate) fn leave_out_all(
     alloc: Global,
     table: &mut [u32],
     n: usize,
+    width: usize,
     degrees: &mut [usize],
 ) -> Result<Vec<Stage>, AllocError>
     requires few { n ≤ MAX_NODES }
-    requires count { length table.old ≡ n * n }
+    requires wide { n ≤ width }
+    requires narrow { width ≤ 2048 }
+    requires count { length table.old ≡ n * width }
     requires degrees { length degrees.old ≡ n }
     requires light { All (λ w. w ≤ FAR) table.old }
     ensures light { OnOk result (All (λ w. w ≤ FAR) table.new) }
-    ensures stages { IfOk result (λ stages. AreAllStages n table.old stages.items) }
+    ensures stages { IfOk result (λ stages. AreAllStages n width table.old stages.items) }
 {
     let mut left = vec![in alloc; true; n]?;
     let mut stages = Vec::with_capacity(alloc, n)?;
     let mut mine = vec![in alloc; FAR; n]?;
     while let Some(node) = least_left(&left, degrees) {
         left[node] = false;
-        let near = near_of(alloc, &table[node * n..(node + 1) * n], &left)?;
+        let near = near_of(alloc, &table[node * width..node * width + n], &left)?;
         let counts = stages.len().wrapping_add(near.len()).wrapping_add(1) < n;
-        lower_pairs(table, n, &near, degrees, &mut mine, counts);
+        lower_pairs(table, n, width, &near, degrees, &mut mine, counts);
         stages.push(Stage { node, near })?;
     }
     Ok(stages)
@@ -340,19 +370,24 @@ pub(crate) fn take_back_all(
     alloc: Global,
     table: &mut [u32],
     n: usize,
+    width: usize,
     mut stages: Vec<Stage>,
 ) -> Result<(), AllocError>
     requires few { n ≤ MAX_NODES }
-    requires count { length table.old ≡ n * n }
+    requires wide { n ≤ width }
+    requires narrow { width ≤ 2048 }
+    requires count { length table.old ≡ n * width }
     requires light { All (λ w. w ≤ FAR) table.old }
     requires stages { All (IsStageWithin n) stages.items }
-    ensures { OnOk result (IsFilled n stages.items table.new) }
+    ensures { OnOk result (IsFilled n width stages.items table.new) }
 {
     let mut mine = vec![in alloc; FAR; n]?;
+    let mut back = Vec::with_capacity(alloc, n)?;
     while let Some(stage) = stages.pop() {
-        fold_rows(&mut mine, table, n, &stage.near);
+        fold_rows(&mut mine, table, n, width, &stage.near);
         mine[stage.node] = 0;
-        write_node(table, n, stage.node, &mine);
+        write_node(table, n, width, stage.node, &mine, &back);
+        back.push(stage.node)?;
     }
     Ok(())
 }

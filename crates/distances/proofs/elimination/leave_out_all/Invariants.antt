@@ -4,13 +4,13 @@ use Rattle.distances.specs.declared.elimination.Stage.{Stage}
 use Rattle.distances.proofs.LeavingOut.{IsLeavingSome}
 use Rattle.distances.proofs.elimination.leave_out_all.Given as goal
 
-pub record IsLeavingOut (n : ℕ) (first : List ℕ) (left : List Bool) (stages : List Stage)
+pub record IsLeavingOut (n width : ℕ) (first : List ℕ) (left : List Bool) (stages : List Stage)
     (table mine : List ℕ) : Type 0 where
-  pub leaving : IsLeavingSome n first left stages table
-  pub width : length mine ≡ n
+  pub leaving : IsLeavingSome n width first left stages table
+  pub row : length mine ≡ n
 
 abbrev pub invariant-loop-node : goal.invariant-loop-node
-invariant-loop-node l = IsLeavingOut l.n l.fn.table l.left.items l.stages.items l.table l.mine.items
+invariant-loop-node l = IsLeavingOut l.n l.width l.fn.table l.left.items l.stages.items l.table l.mine.items
 
 abbrev pub decreases-loop-node : goal.decreases-loop-node
 decreases-loop-node l = count_by (λ is_left. is_left) l.left.items

@@ -8,45 +8,55 @@ pub loop-stage-init : goal.loop-stage-init
 loop-stage-init c =
     let filled : c.in_ok-mine.mine.items ≡ replicate c.args.n FAR = search rules in
     record {
-      filling = fill_begins c.args.n c.args.stages.items c.args.table.now c.requires.count c.requires.light
-          c.requires.stages;
+      filling = rw c.in_ok-back.ensures.items
+          (fill_begins c.args.n c.args.width c.args.stages.items c.args.table.now c.requires.count c.requires.light
+          c.requires.stages);
       row = ap length filled ∙ length-replicate c.args.n FAR;
     }
 
 pub fold_rows-requires-clause-near : goal.fold_rows-requires-clause-near
 fold_rows-requires-clause-near c =
-    near_fits c.args.n c.args.stages.items c.loop-stage.stages.items c.pop.new.self.items c.in-Some.stage
+    near_fits c.args.n c.args.width c.args.stages.items c.loop-stage.stages.items c.pop.new.self.items c.in-Some.stage
     c.in-Some.ensures.items
-    c.loop-stage.table c.loop-stage.invariant.filling c.deref.result.now c.deref.ensures.value
+    c.loop-stage.back.items c.loop-stage.table c.loop-stage.invariant.filling c.deref.result.now c.deref.ensures.value
 
 pub index_mut-requires : goal.index_mut-requires
 index_mut-requires c =
-    let within = stage_within c.args.n c.args.stages.items c.loop-stage.stages.items c.pop.new.self.items
+    let within = stage_within c.args.n c.args.width c.args.stages.items c.loop-stage.stages.items c.pop.new.self.items
     c.in-Some.stage c.in-Some.ensures.items
-    c.loop-stage.table c.loop-stage.invariant.filling in
+    c.loop-stage.back.items c.loop-stage.table c.loop-stage.invariant.filling in
     omega (arith, within.node, c.loop-stage.invariant.row, c.deref_mut.ensures.len, ap length c.deref_mut.ensures.value)
 
 pub write_node-requires-clause-below : goal.write_node-requires-clause-below
 write_node-requires-clause-below c =
-    (stage_within c.args.n c.args.stages.items c.loop-stage.stages.items c.pop.new.self.items c.in-Some.stage
+    (stage_within c.args.n c.args.width c.args.stages.items c.loop-stage.stages.items c.pop.new.self.items
+    c.in-Some.stage
     c.in-Some.ensures.items
-    c.loop-stage.table c.loop-stage.invariant.filling).node
+    c.loop-stage.back.items c.loop-stage.table c.loop-stage.invariant.filling).node
 
 pub loop-stage-preserved : goal.loop-stage-preserved
 loop-stage-preserved c =
     let count : length c.fold_rows.new.weights ≡ c.loop-stage.mine.len =
     omega (arith, c.fold_rows.auto.weights, c.deref_mut.ensures.len) in
     record {
-      filling = fill_next c.args.n c.args.stages.items c.loop-stage.stages.items c.pop.new.self.items c.in-Some.stage
+      filling = fill_next c.args.n c.args.width c.args.stages.items c.loop-stage.stages.items c.pop.new.self.items
+          c.in-Some.stage
           c.in-Some.ensures.items
-          c.loop-stage.table c.loop-stage.invariant.filling c.deref.result.now c.deref.ensures.value
+          c.loop-stage.back.items c.loop-stage.table c.loop-stage.invariant.filling c.deref.result.now
+          c.deref.ensures.value
           c.fold_rows.new.weights (drop (length c.fold_rows.new.weights) c.loop-stage.mine.items)
           c.deref-in-Some.result.now c.write_node.new.table
-          c.loop-stage.mine.len count c.fold_rows.ensures c.deref-in-Some.ensures.value c.write_node.ensures;
-      row = row_kept c.args.n c.args.stages.items c.loop-stage.stages.items c.pop.new.self.items c.in-Some.stage
+          c.loop-stage.mine.len count c.fold_rows.ensures c.deref-in-Some.ensures.value c.deref-in-Some-2.result.now
+          c.push.new.self.items
+          c.deref-in-Some-2.ensures.value c.write_node.ensures c.in_ok-push.ensures.items;
+      row = row_kept c.args.n c.args.width c.args.stages.items c.loop-stage.stages.items c.pop.new.self.items
+          c.in-Some.stage
           c.in-Some.ensures.items
-          c.loop-stage.table c.loop-stage.invariant.filling c.deref.result.now c.deref.ensures.value
+          c.loop-stage.back.items c.loop-stage.table c.loop-stage.invariant.filling c.deref.result.now
+          c.deref.ensures.value
           c.fold_rows.new.weights (drop (length c.fold_rows.new.weights) c.loop-stage.mine.items)
           c.deref-in-Some.result.now c.write_node.new.table
-          c.loop-stage.mine.len count c.fold_rows.ensures c.deref-in-Some.ensures.value c.write_node.ensures;
+          c.loop-stage.mine.len count c.fold_rows.ensures c.deref-in-Some.ensures.value c.deref-in-Some-2.result.now
+          c.push.new.self.items
+          c.deref-in-Some-2.ensures.value c.write_node.ensures c.in_ok-push.ensures.items;
     }

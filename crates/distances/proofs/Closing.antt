@@ -1,0 +1,67 @@
+-- Moving the rows of a table together.
+use Rattle.std.proofs.Common.{◌≡◌, ℕ, ◌+◌, ◌-◌, ◌*◌, ◌<◌, ◌≤◌, List, length, get_or, take, refl, sym, ◌∙◌, ap, subst, inl, inr, arith}
+use Rattle.std.proofs.lemmas.List.{get_or-take, length-take}
+use Rattle.std.proofs.lemmas.Nat.{mul-add-lt, mul-le, row_fits}
+use Rattle.std.proofs.lemmas.Bool.{cases_lt}
+use Rattle.std.specs.List.{CopiedTo, SameBelow, SameFrom}
+use Rattle.distances.specs.Lowering.{cell_at}
+use Rattle.distances.specs.Rows.{AreClosed}
+
+-- the first u rows are side by side, and the others are where they were
+pub record IsClosing (n width u : ℕ) (rows table : List ℕ) : Type 0 where
+  pub count : length table ≡ n * width
+  pub done : (a v : ℕ) → a < u → v < n → cell_at n table a v ≡ cell_at width rows a v
+  pub rest : (a v : ℕ) → u ≤ a → a < n → v < n → cell_at width table a v ≡ cell_at width rows a v
+
+pub closing_begins : (n width : ℕ) (rows : List ℕ) → length rows ≡ n * width → IsClosing n width 0 rows rows
+closing_begins n width rows count = record {
+  count = count;
+  done = λ a v none below. absurd (omega (arith, none));
+  rest = λ a v from a_below below. refl;
+}
+
+-- one more row
+pub closing_step : (n width u size : ℕ) (rows old new : List ℕ) → n ≤ width → u < n → size ≡ n
+    → IsClosing n width u rows old → length new ≡ length old → CopiedTo old new (u * width) (u * n) size
+    → SameBelow old new (u * n) → SameFrom old new (u * n + size) → IsClosing n width (u + 1) rows new
+closing_step n width u size rows old new wide u_below is so_far count copied below from = record {
+  count = count ∙ so_far.count;
+  done = λ a v a_below v_below. elim (cases_lt a u) [
+    | inl earlier ↦
+        below (a * n + v) 0 (omega (arith, row_fits a n u n earlier (omega arith)))
+        ∙ so_far.done a v earlier v_below
+    | inr last ↦
+        let here : a ≡ u = omega arith in
+        let at : u * n + v - u * n ≡ v = omega arith in
+        subst (λ i. cell_at n new i v ≡ cell_at width rows i v) (sym here)
+        (copied (u * n + v) 0 (omega arith) (omega (arith, is))
+        ∙ ap (λ i. get_or old (u * width + i) 0) at
+        ∙ so_far.rest u v (omega arith) u_below v_below)
+  ];
+  rest = λ a v a_from a_below v_below.
+      from (a * width + v) 0 (omega (
+        arith,
+        is,
+        row_fits u width a width (omega (arith, a_from)) (omega arith),
+        mul-le u n u width (omega arith) wide,
+      ))
+      ∙ so_far.rest a v (omega arith) a_below v_below;
+}
+
+-- what is behind the rows is left out
+pub closing_ends : (n width u : ℕ) (rows table closed : List ℕ) → n ≤ width → n ≤ u → IsClosing n width u rows table
+    → closed ≡ take (n * n) table → AreClosed n width rows closed
+closing_ends n width u rows table closed wide all so_far is = subst (AreClosed n width rows) (sym is) (record {
+  count = let e : length (take (n * n) table) ≡ n * n =
+      omega (arith, length-take (n * n) table, so_far.count, mul-le n n n width (omega arith) wide) in e;
+  each = λ a v a_below v_below.
+      get_or-take (n * n) table (a * n + v) 0 (mul-add-lt a n v n a_below v_below)
+      ∙ so_far.done a v (omega (arith, all)) v_below;
+})
+
+-- rows without anything behind them are closed
+pub closed_already : (n width : ℕ) (rows : List ℕ) → n ≡ width → length rows ≡ n * width → AreClosed n width rows rows
+closed_already n width rows same count = record {
+  count = count ∙ ap (λ k. n * k) (sym same);
+  each = λ a v a_below v_below. ap (λ k. cell_at k rows a v) same;
+}
