@@ -16,7 +16,7 @@ use Rattle.cluster_tree.specs.declared.weighing.Weighed.{Weighed}
 use Rattle.cluster_tree.specs.Tree.{weight_beside, within, IsTreeOf, IsSoundTree}
 use Rattle.cluster_tree.specs.Faults.{IsFirstOutside, IsTreeFault}
 use Rattle.cluster_tree.specs.Weighing.{AreFlagsBelow, AreWeighedBelow, IsFirstMissing, IsMissing}
-use Rattle.cluster_tree.specs.PlaceLaws.{has_place, place_of, beside_place}
+use Rattle.cluster_tree.specs.PlaceLaws.{has_place, member_place, beside_place}
 use Rattle.cluster_tree.proofs.Places.{beside_contained}
 
 -- an error that is handed on
@@ -31,7 +31,7 @@ pub sound_tree : (leader : ℕ) (members weights : List ℕ) → IsAscending mem
     → (0 < length weights → Contains weights depth)
     → IsSoundTree (record { leader = leader; members = members; weights = weights }) depth
 sound_tree leader members weights ascending count leads depth bound attained =
-    let some = place_of leader members leads in
+    let some = member_place leader members leads in
     let at = attained (omega (arith, some.1, count)) in
     let short : at.0 < length members = omega (arith, at.1, count) in
     record {

@@ -1,7 +1,6 @@
 -- Where each member is joined to a nearer one, the weights inside a cluster are the distances.
-use Rattle.std.proofs.Common.{◌≡◌, ℕ, zero, suc, ◌+◌, ◌-◌, ◌<◌, ◌≤◌, Bool, true, false, cond, ◌||◌, List, [], ◌∷◌, ◌++◌}
-use Rattle.std.proofs.Common.{length, map, take, drop, get_or, refl, sym, ◌∙◌, ap, subst, inl, inr, arith, eq-eqb}
-use Rattle.std.proofs.Common.{ne_eqb}
+use Rattle.std.proofs.Common.{◌≡◌, ℕ, zero, suc, ◌+◌, ◌-◌, ◌<◌, ◌≤◌, Bool, true, List, [], ◌∷◌, ◌++◌}
+use Rattle.std.proofs.Common.{length, map, take, drop, get_or, refl, sym, ◌∙◌, ap, subst, inl, inr, arith}
 use Rattle.std.specs.Prelude.{All, Contains, slice_index}
 use Rattle.std.proofs.lemmas.List.{get_or_default, take_more, take_all, drop_at, length-map, length-append}
 use Rattle.std.proofs.lemmas.List.Elements.{All-contains, Contains-push_cases}
@@ -16,9 +15,9 @@ use Rattle.net_graph.specs.Trees.{AreDistancesFrom}
 use Rattle.node_set.specs.Nodes.{Nodes, AreNodes}
 use Rattle.node_set.specs.Ascending.{has, IsAscending}
 use Rattle.node_set.specs.SetLaws.{below-has}
-use Rattle.cluster_tree.specs.Tree.{weight_beside, within}
-use Rattle.cluster_tree.specs.PlaceLaws.{place_of, has_place}
-use Rattle.cluster_tree.specs.Inside.{IsAppended, IsWritten, HasNearer, ComesBy, AreJoined}
+use Rattle.cluster_tree.specs.Tree.{within}
+use Rattle.cluster_tree.specs.PlaceLaws.{beside_map, has_place, member_place}
+use Rattle.cluster_tree.specs.Inside.{IsAppended, AreWeightsWritten, HasNearer, ComesBy, AreJoined}
 use Rattle.cluster_tree.proofs.Growing.{sound_tree}
 
 -- ---- members one after another
@@ -65,17 +64,8 @@ all_joined network members listed leader row i past so_far =
 -- ---- lists of distances
 
 has_contained : (v : ℕ) (xs : List ℕ) → has v xs ≡ true → Contains xs v
-has_contained v xs h = let place = place_of v xs h
+has_contained v xs h = let place = member_place v xs h
     in (place.0, place.1, get_or_default xs place.0 v 0 place.1 ∙ place.2)
-
-beside_map : (f : ℕ → ℕ) (v : ℕ) (xs : List ℕ) → has v xs ≡ true → weight_beside v xs (map f xs) ≡ f v
-beside_map f v [] h = let both : false ≡ true = h in cc
-beside_map f v (x ∷ xs) h = elim (cases_eq v x) [
-  | inl same ↦ ap (λ b. cond b (f x) (weight_beside v xs (map f xs))) (eq-eqb v x same) ∙ ap f (sym same)
-  | inr other ↦
-      ap (λ b. cond b (f x) (weight_beside v xs (map f xs))) (ne_eqb v x other)
-      ∙ beside_map f v xs (subst (λ b. (b || has v xs) ≡ true) (ne_eqb v x other) h)
-]
 
 pub members_below : (set : Nodes) → AreNodes set → (n : ℕ) → set.room ≡ n → All (λ v. v < n) set.members
 members_below set nodes n room k d short =
@@ -144,7 +134,7 @@ pub is_written : (network : Network) (members : List ℕ) (leader : ℕ) (old ne
     → All (λ x. x ≤ depth) (take (length new - start) (drop start new))
     → (0 < length (take (length new - start) (drop start new))
     → Contains (take (length new - start) (drop start new)) depth)
-    → IsWritten network members leader old new depth
+    → AreWeightsWritten network members leader old new depth
 is_written network members leader old new start depth ascending leads is_start made bound attained =
     let k : ℕ = length new - start in
     let long : length new ≡ length old + length made.weights = ap length made.appended

@@ -4,7 +4,7 @@ use Rattle.std.proofs.Common.{ap, subst, inl, inr, arith, eqb, eq-eqb, ne_eqb}
 use Rattle.std.proofs.lemmas.Bool.{cases_eq, or_left}
 use Rattle.node_set.specs.Ascending.{has, IsAscending}
 use Rattle.cluster_tree.specs.Tree.{weight_beside}
-use Rattle.cluster_tree.specs.PlaceLaws.{place_of, beside_place}
+use Rattle.cluster_tree.specs.PlaceLaws.{member_place, beside_place}
 
 pub beside_old : (v y w : ℕ) (xs ws : List ℕ) → has v xs ≡ true → length ws ≡ length xs
     → weight_beside v (xs ++ y ∷ []) (ws ++ w ∷ []) ≡ weight_beside v xs ws
@@ -36,7 +36,7 @@ beside_new v w (x ∷ xs) (u ∷ ws) h count = elim (cases_eq v x) [
 pub beside_contained : (v : ℕ) (xs ws : List ℕ) → IsAscending xs → has v xs ≡ true → length ws ≡ length xs
     → (k : ℕ) × (k < length ws) × (weight_beside v xs ws ≡ get_or ws k 0)
 beside_contained v xs ws ascending h count =
-    let place = place_of v xs h in (
+    let place = member_place v xs h in (
       place.0,
       omega (arith, place.1),
       ap (λ x. weight_beside x xs ws) (sym place.2)

@@ -1,4 +1,5 @@
 -- When a cluster has no tree from its leader.
+-- Key law: `ClusterTree::new` gives no other fault (`fault`).
 use Rattle.std.specs.Prelude.{◌≡◌, ℕ, ◌<◌, true, List, ⊤}
 use Rattle.net_graph.specs.Walks.{IsReached, IsUnreached}
 use Rattle.net_graph.specs.Network.{Network}

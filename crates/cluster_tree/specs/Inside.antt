@@ -1,4 +1,5 @@
 -- The weights inside a cluster, written after others in one flat list.
+-- Key law: `inside_weights`, by its clauses `written` and `kept`.
 use Rattle.std.specs.Prelude.{◌≡◌, ◌≢◌, ℕ, ◌+◌, ◌≤◌, true, List, ◌++◌, length, Contains}
 use Rattle.std.specs.Prelude.{slice_index}
 use Rattle.net_graph.specs.declared.neighbours.Arc.{Arc}
@@ -27,7 +28,7 @@ pub record IsAppended (network : Network) (members : List ℕ) (leader : ℕ) (o
   pub tree : IsTreeOf network members leader (make_cluster leader members weights)
 
 -- the weights inside the cluster stand after the old ones, and the greatest of them is the depth
-pub record IsWritten (network : Network) (members : List ℕ) (leader : ℕ) (old new : List ℕ)
+pub record AreWeightsWritten (network : Network) (members : List ℕ) (leader : ℕ) (old new : List ℕ)
     (depth : ℕ) : Type 0 where
   pub weights : List ℕ
   pub appended : new ≡ old ++ weights

@@ -1,4 +1,5 @@
 -- The tree of a cluster: the least weight inside the cluster from its leader to each member.
+-- Key law: `ClusterTree::new` gives the tree of its cluster (`tree`).
 use Rattle.std.specs.Prelude.{◌≡◌, ℕ, ◌≤◌, Bool, true, List, [], ◌∷◌, length, ◌==◌, if◌then◌else◌}
 use Rattle.net_graph.specs.Walks.{IsLeastWeight}
 use Rattle.net_graph.specs.Network.{Network}
@@ -34,7 +35,7 @@ pub record IsTreeOf (network : Network) (members : List ℕ) (leader : ℕ) (clu
       → IsLeastWeight network.edges (within members) leader v (inside_weight cluster v)
 
 -- a member whose weight is this
-pub record IsAttained (cluster : WeighedCluster) (w : ℕ) : Type 0 where
+pub record IsMemberWeight (cluster : WeighedCluster) (w : ℕ) : Type 0 where
   pub node : ℕ
   pub member : has node cluster.members ≡ true
   pub far : inside_weight cluster node ≡ w
@@ -42,7 +43,7 @@ pub record IsAttained (cluster : WeighedCluster) (w : ℕ) : Type 0 where
 -- the greatest weight of a member
 pub record IsDepth (cluster : WeighedCluster) (w : ℕ) : Type 0 where
   pub greatest : (v : ℕ) → has v cluster.members ≡ true → inside_weight cluster v ≤ w
-  pub attained : IsAttained cluster w
+  pub attained : IsMemberWeight cluster w
 
 -- what every tree keeps
 pub record IsSoundTree (cluster : WeighedCluster) (depth : ℕ) : Type 0 where

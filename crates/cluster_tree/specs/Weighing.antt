@@ -1,4 +1,5 @@
 -- What the private functions that weigh the members find.
+-- Key law: `inside_weights`, which they make up.
 use Rattle.std.specs.Prelude.{◌≡◌, ℕ, ◌<◌, Bool, true, List, Option, None, Some, length, ⊤}
 use Rattle.net_graph.specs.Walks.{among}
 use Rattle.net_graph.specs.Trees.{at_node}

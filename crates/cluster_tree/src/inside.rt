@@ -1,13 +1,13 @@
 //! The weights inside a cluster, for callers that keep those of many clusters in one flat list.
 
-ghost use Rattle.std.specs.Prelude.{◌≡◌, ◌<◌, ◌++◌, All, Contains, IfErr, IfOk, IsTrue};
+ghost use Rattle.std.specs.Prelude.{◌≡◌, ◌<◌, ◌≤◌, ◌++◌, All, Contains, IfErr, IfOk, IsTrue};
 ghost use Rattle.std.specs.Prelude.{OnErr, OnOk, length, map, slice_index, true};
 ghost use Rattle.net_graph.specs.Layout.{IsArc};
 ghost use Rattle.net_graph.specs.Trees.{AreDistancesFrom};
 ghost use Rattle.node_set.specs.Ascending.{IsAscending, has};
 ghost use Rattle.node_set.specs.Nodes.{AreNodes};
 ghost use Rattle.cluster_tree.specs.Faults.{IsTreeFault};
-ghost use Rattle.cluster_tree.specs.Inside.{AreJoined, HasNearer, IsAppended, IsWritten};
+ghost use Rattle.cluster_tree.specs.Inside.{AreJoined, HasNearer, IsAppended, AreWeightsWritten};
 ghost use Rattle.cluster_tree.specs.Inside.{StandBefore};
 
 use crate::fault::TreeFault;
@@ -38,7 +38,7 @@ pub fn inside_weights(
     requires leader { IsTrue (has leader cluster.now.members) }
     requires row { AreDistancesFrom graph.now leader row.now }
     ensures written { IfOk result
-        (IsWritten graph.now members.now leader weights.old.items weights.new.items) }
+        (AreWeightsWritten graph.now members.now leader weights.old.items weights.new.items) }
     ensures fault { IfErr result (IsTreeFault graph.now members.now leader) }
     ensures kept { OnErr result (StandBefore weights.old.items weights.new.items) }
 {
@@ -155,7 +155,7 @@ fn push_found(
 #[cfg(test)]
 mod tests {
     use super::*;
-    use net_graph::Edge;
+    use net_graph::{Edge, MAX_NODES};
     use std::test::Fail;
 
     // The distances from a node.
@@ -230,6 +230,67 @@ mod tests {
         let depth = inside_weights(rt.alloc(), &graph, &row, &cluster, &[0, 2], 0, &mut weights)?;
         assert_eq!(rt; weights.as_slice(), [7, 0, 5].as_slice());
         assert_eq!(rt; depth, 5);
+        Ok(())
+    }
+
+    // A path of `n` nodes, joined by edges of weight 1.
+    fn path_of(alloc: Global, n: u32) -> Result<Graph, Fail>
+        requires some { 1 ≤ n }
+        requires few { n ≤ MAX_NODES }
+        ensures { IfOk result (λ graph. graph.nodes ≡ n) }
+    {
+        let mut edges = Vec::new(alloc);
+        for b in 1..n {
+            edges.push(Edge {
+                a: b - 1,
+                b,
+                weight: 1,
+            })?;
+        }
+        Ok(Graph::new(alloc, n, &edges)?)
+    }
+
+    #[test]
+    fn pairs_past_two_words(rt: HostRuntime) -> Result<(), Fail> {
+        let graph = path_of(rt.alloc(), 130)?;
+        let row = distances_from(rt.alloc(), &graph, 129)?;
+        let mut near = NodeSet::empty(rt.alloc(), 130)?;
+        near.insert(129);
+        near.insert(128);
+        let mut weights = vec![in rt.alloc(); 7; 1]?;
+        let pair = [128, 129];
+        let depth = inside_weights(rt.alloc(), &graph, &row, &near, &pair, 129, &mut weights)?;
+        assert_eq!(rt; weights.as_slice(), [7, 1, 0].as_slice());
+        assert_eq!(rt; depth, 1);
+        let mut far = NodeSet::empty(rt.alloc(), 130)?;
+        far.insert(129);
+        far.insert(64);
+        let pair = [64, 129];
+        let fault = inside_weights(rt.alloc(), &graph, &row, &far, &pair, 129, &mut weights).err();
+        assert!(rt; matches!(fault, Some(TreeFault::Outside { node: 64 })));
+        Ok(())
+    }
+
+    #[test]
+    fn a_pair_of_the_most_nodes(rt: HostRuntime) -> Result<(), Fail> {
+        let graph = path_of(rt.alloc(), MAX_NODES)?;
+        let row = distances_from(rt.alloc(), &graph, 1022)?;
+        let mut cluster = NodeSet::empty(rt.alloc(), MAX_NODES)?;
+        cluster.insert(1023);
+        cluster.insert(1022);
+        let mut weights = Vec::new(rt.alloc());
+        let pair = [1022, 1023];
+        let depth = inside_weights(
+            rt.alloc(),
+            &graph,
+            &row,
+            &cluster,
+            &pair,
+            1022,
+            &mut weights,
+        )?;
+        assert_eq!(rt; weights.as_slice(), [0, 1].as_slice());
+        assert_eq!(rt; depth, 1);
         Ok(())
     }
 }

@@ -11,7 +11,7 @@ use Rattle.node_set.specs.Ascending.{has, share}
 use Rattle.whole_powers.specs.Bounds.{PowersAdd, OnePhase}
 use Rattle.coarse_cover.specs.Coarsening.{IsShaped, without_home, all_clusters, coarsening, HomesAreFound}
 use Rattle.coarse_cover.specs.Coarsening.{ClustersAreShaped}
-use Rattle.coarse_cover.specs.Covers.{cluster_list, as_cluster, IsCover, AreApart, nodes_of}
+use Rattle.coarse_cover.specs.Covers.{cluster_list, as_cluster, IsCover, AreApart, member_lists}
 use Rattle.coarse_cover.specs.Progress.{phases_of, Agrees, IsBetween}
 use Rattle.coarse_cover.specs.declared.cover.Cluster.{Cluster}
 use Rattle.coarse_cover.specs.declared.cover.Cover.{Cover}
@@ -113,9 +113,10 @@ no_cluster = record { first = 0; growths = 0; homed = []; members = [] }
 
 -- the nodes of a cluster in the list are those of the one that was grown
 nodes_at : (n i : ℕ) (all : List (List GrownCluster)) (clusters : List Cluster) → clusters ≡ cluster_list n 0 all
-    → i < length (all_clusters all) → get_or (nodes_of clusters) i [] ≡ (get_or (all_clusters all) i no_cluster).members
+    → i < length (all_clusters all) → get_or (member_lists clusters) i [] ≡
+    (get_or (all_clusters all) i no_cluster).members
 nodes_at n i all clusters e h =
-    ap (λ (l : List (List ℕ)). get_or l i []) (ap nodes_of e ∙ cluster_list_nodes n 0 all)
+    ap (λ (l : List (List ℕ)). get_or l i []) (ap member_lists e ∙ cluster_list_nodes n 0 all)
     ∙ get_or-map (λ (c : GrownCluster). c.members) (all_clusters all) i no_cluster [] h
 
 -- the cluster that is a ball's home has the ball's nodes
@@ -135,7 +136,7 @@ home_has_nodes balls k v x left all are waits inside =
     (home_has balls k (all_clusters all) v no_cluster homed) inside)
 
 pub homes_hold : (balls : List (List ℕ)) (k n : ℕ) (cover : Cover) → 0 < k → AreCentred balls → n ≡ length balls
-    → IsCover n (coarsening balls k) cover → AreHomes balls (nodes_of cover.clusters.items) cover.home.items
+    → IsCover n (coarsening balls k) cover → AreHomes balls (member_lists cover.clusters.items) cover.home.items
 homes_hold balls k n cover some centred size is = λ v h.
     let are : ArePhases balls k (centres (length balls)) (coarsening balls k) =
     coarsening_phases balls k some centred in
@@ -147,13 +148,13 @@ homes_hold balls k n cover some centred size is = λ v h.
     home_within balls k (all_clusters (coarsening balls k)) v
     (all_homed balls k (centres (length balls)) (coarsening balls k) are v waits)
     in
-    let count : length (nodes_of cover.clusters.items) ≡ length (all_clusters (coarsening balls k)) =
+    let count : length (member_lists cover.clusters.items) ≡ length (all_clusters (coarsening balls k)) =
     length-map cover.clusters.items (λ (c : Cluster). c.members.members)
     ∙ (ap length is.clusters ∙ length-cluster_list n 0 (coarsening balls k))
     in (
-      subst (λ (i : ℕ). i < length (nodes_of cover.clusters.items)) (sym home)
+      subst (λ (i : ℕ). i < length (member_lists cover.clusters.items)) (sym home)
           (subst (λ (m : ℕ). home_of (all_clusters (coarsening balls k)) v < m) (sym count) within),
-      λ x inside. subst (λ (i : ℕ). has x (get_or (nodes_of cover.clusters.items) i []) ≡ true) (sym home)
+      λ x inside. subst (λ (i : ℕ). has x (get_or (member_lists cover.clusters.items) i []) ≡ true) (sym home)
           (subst (λ (l : List ℕ). has x l ≡ true)
           (sym (nodes_at n (home_of (all_clusters (coarsening balls k)) v) (coarsening balls k) cover.clusters.items
           is.clusters within))

@@ -12,7 +12,7 @@ use Rattle.coarse_cover.specs.Covers.{cluster_list, as_cluster}
 use Rattle.coarse_cover.specs.Progress.{phase_of, phases_of, IsReady, Agrees, IsInPhase, IsBetween, IsAdded}
 use Rattle.coarse_cover.specs.declared.cover.Cluster.{Cluster}
 use Rattle.coarse_cover.specs.declared.cover.Cover.{Cover}
-use Rattle.coarse_cover.specs.declared.phasing.Work.{Work}
+use Rattle.coarse_cover.specs.declared.workspace.Workspace.{Workspace}
 use Rattle.coarse_cover.proofs.Phase.{IsCluster, IsPhase, apart, apart_fewer, cluster_ready, ready_filter, phase_is}
 use Rattle.node_set.specs.Balls.{touches, GrownCluster, is_homed, home_of, centres, AreCentred}
 use Rattle.node_set.specs.FilterLaws.{filter_keeps, filter_has, filter_twice, filter_same, has-filter}
@@ -275,7 +275,7 @@ leader_gone balls k r a waiting rest leads ready =
     has-filter (λ v. not (touches balls (cluster_of balls k r waiting a).members v)) a waiting
     ∙ (ap (λ (b : Bool). has a waiting && not b) touched ∙ and_right (has a waiting) false refl)
 
-pub in_phase_next : (balls : List (List ℕ)) (k r a : ℕ) (rest : List ℕ) (old new : Work) (before after : Cover)
+pub in_phase_next : (balls : List (List ℕ)) (k r a : ℕ) (rest : List ℕ) (old new : Workspace) (before after : Cover)
     → old.waiting.members ≡ a ∷ rest →
     IsInPhase balls k r old.waiting.members old.left.members before.clusters.items before.home.items before.phases →
     IsAdded (length balls) balls (cluster_of balls k r old.waiting.members a) old new before after →

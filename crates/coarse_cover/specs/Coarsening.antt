@@ -4,8 +4,8 @@
 -- `home_means` (each ball finds a home), and the clauses of `coarsen`: `apart` (clusters of one
 -- phase are disjoint), `phases` (their number p has p ^ k ≤ k ^ k * n), `homes` (each ball lies in
 -- its home).
-use Rattle.std.specs.Prelude.{◌≡◌, ℕ, zero, suc, ◌*◌, ◌^◌, ◌<◌, Bool, true, not, List, [], ◌∷◌}
-use Rattle.std.specs.Prelude.{◌++◌, length, get_or, filter, nat_le, All}
+use Rattle.std.specs.Prelude.{◌≡◌, ℕ, zero, suc, ◌*◌, ◌^◌, ◌<◌, Bool, true, not, List, [], ◌∷◌, slice_index_or}
+use Rattle.std.specs.Prelude.{◌++◌, length, filter, nat_le, All}
 use Rattle.node_set.specs.Ascending.{has}
 use Rattle.node_set.specs.Balls.{centres, AreCentred, union_of, touches, growth, least}
 use Rattle.node_set.specs.Balls.{GrownCluster, is_homed, home_of}
@@ -77,5 +77,5 @@ abbrev pub HomesAreFound : Type 0
 HomesAreFound = (balls : List (List ℕ)) (k v : ℕ) (d : GrownCluster) → 0 < k → AreCentred balls
     → v < length balls
     → (home_of (all_clusters (coarsening balls k)) v < length (all_clusters (coarsening balls k)))
-    × (has v (get_or (all_clusters (coarsening balls k))
+    × (has v (slice_index_or (all_clusters (coarsening balls k))
     (home_of (all_clusters (coarsening balls k)) v) d).homed ≡ true)

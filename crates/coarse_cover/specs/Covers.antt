@@ -34,5 +34,5 @@ AreApart (c ∷ cs) = All (λ (d : Cluster). d.phase ≡ c.phase
     → share c.members.members d.members.members ≡ false) cs × AreApart cs
 
 -- the nodes of each cluster
-abbrev pub nodes_of : List Cluster → List (List ℕ)
-nodes_of clusters = map (λ (c : Cluster). c.members.members) clusters
+abbrev pub member_lists : List Cluster → List (List ℕ)
+member_lists clusters = map (λ (c : Cluster). c.members.members) clusters

@@ -3,3 +3,4 @@ pub mod Covers
 pub mod CoverLaws
 pub mod Progress
 pub mod Turned
+pub mod Workspaces

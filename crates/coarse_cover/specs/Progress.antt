@@ -1,15 +1,17 @@
 -- How far the making of a cover has come: what is done, followed by what the definition gives for
 -- the balls that are left, is what it gives for all. Only the private functions of this crate speak
 -- of it.
-use Rattle.std.specs.Prelude.{◌≡◌, ℕ, ◌+◌, ◌<◌, ◌≤◌, true, cond, not, List, [], ◌∷◌, ◌++◌, length}
-use Rattle.std.specs.Prelude.{get_or, filter}
+-- Key law: `make_phase` keeps that the cover is between two phases (`IsBetween`).
+use Rattle.std.specs.Prelude.{◌≡◌, ℕ, ◌+◌, ◌<◌, ◌≤◌, true, cond, not, List, [], ◌∷◌, ◌++◌, length, slice_index}
+use Rattle.std.specs.Prelude.{filter}
 use Rattle.node_set.specs.Ascending.{has, IsAscending}
 use Rattle.coarse_cover.specs.Coarsening.{phase, phases, without_home, all_clusters, coarsening}
 use Rattle.coarse_cover.specs.Covers.{cluster_list, as_cluster}
 use Rattle.coarse_cover.specs.declared.cover.Cluster.{Cluster}
 use Rattle.coarse_cover.specs.declared.cover.Cover.{Cover}
 use Rattle.node_set.specs.Balls.{ball, touches, GrownCluster, home_of}
-use Rattle.coarse_cover.specs.declared.phasing.Work.{Work}
+use Rattle.coarse_cover.specs.Workspaces.{IsWorkspace}
+use Rattle.coarse_cover.specs.declared.workspace.Workspace.{Workspace}
 
 -- the clusters of a phase, from these waiting balls on
 unfoldable pub phase_of : List (List ℕ) → ℕ → ℕ → List ℕ → List GrownCluster
@@ -32,7 +34,7 @@ pub record Agrees (n : ℕ) (all later : List (List GrownCluster)) (left : List 
     (clusters : List Cluster) (home : List ℕ) (p : ℕ) : Type 0 where
   pub clusters_so_far : clusters ++ cluster_list n p later ≡ cluster_list n 0 all
   pub homes_so_far : (v : ℕ) → v < n
-      → cond (has v left) (length clusters + home_of (all_clusters later) v) (get_or home v 0)
+      → cond (has v left) (length clusters + home_of (all_clusters later) v) (slice_index home v)
       ≡ home_of (all_clusters all) v
   pub phases_so_far : p + length later ≡ length all
 
@@ -53,24 +55,17 @@ pub record IsBetween (balls : List (List ℕ)) (k : ℕ) (left : List ℕ) (clus
   pub so_far : Agrees (length balls) (coarsening balls k) (phases_of balls k left) left clusters
       home p
 
--- each set of balls has room for all of them
-pub record IsSized (n : ℕ) (work : Work) : Type 0 where
-  pub left : work.left.room ≡ n
-  pub waiting : work.waiting.room ≡ n
-  pub taken : work.growth.taken.room ≡ n
-  pub touched : work.growth.touched.room ≡ n
-
 -- the cluster c was added: its balls have their home and are left no more, those that touch it wait
 -- no more
-pub record IsAdded (n : ℕ) (balls : List (List ℕ)) (c : GrownCluster) (old new : Work)
+pub record IsAdded (n : ℕ) (balls : List (List ℕ)) (c : GrownCluster) (old new : Workspace)
     (before after : Cover) : Type 0 where
   pub waiting : new.waiting.members
       ≡ filter (λ v. not (touches balls c.members v)) old.waiting.members
   pub left : new.left.members ≡ filter (λ v. not (has v c.homed)) old.left.members
   pub clusters : after.clusters.items ≡ before.clusters.items ++ as_cluster n before.phases c ∷ []
   pub homes : (v : ℕ) → v < n
-      → get_or after.home.items v 0 ≡
-      cond (has v c.homed) (length before.clusters.items) (get_or before.home.items v 0)
+      → slice_index after.home.items v ≡
+      cond (has v c.homed) (length before.clusters.items) (slice_index before.home.items v)
   pub phases : after.phases ≡ before.phases
-  pub sized : IsSized n new
+  pub sized : IsWorkspace n new
   pub home_count : length after.home.items ≡ n

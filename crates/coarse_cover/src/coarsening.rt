@@ -5,13 +5,16 @@ ghost use Rattle.std.specs.Prelude.{OnOk};
 ghost use Rattle.node_set.specs.Ascending.{has};
 ghost use Rattle.node_set.specs.Nodes.{Nodes};
 ghost use Rattle.coarse_cover.specs.Coarsening.{coarsening, all_clusters};
+ghost use Rattle.coarse_cover.specs.Workspaces.{IsWorkspace};
 ghost use Rattle.coarse_cover.specs.Turned.{AreTurned};
 ghost use Rattle.node_set.specs.Balls.{sets, AreCentred, AreHomes};
-ghost use Rattle.coarse_cover.specs.Covers.{IsCover, nodes_of, AreApart};
+ghost use Rattle.coarse_cover.specs.Covers.{IsCover, member_lists, AreApart};
 
 use crate::cover::Cover;
-use crate::phasing::{Work, make_phase};
+use crate::marks::fill_all;
+use crate::phasing::make_phase;
 use crate::turning::rows_of;
+use crate::workspace::Workspace;
 use node_set::{NodeSet, OutOfMemory};
 use std::alloc::Global;
 use whole_powers::{one_phase, powers_add};
@@ -35,7 +38,7 @@ pub fn coarsen(alloc: Global, balls: &[NodeSet], k: u32) -> Result<Cover, OutOfM
     ensures growths { OnOk result (All (λ c. c.growths ≤ k - 1)
         (all_clusters (coarsening (sets balls.now) k))) }
     ensures homes { IfOk result
-        (λ cover. AreHomes (sets balls.now) (nodes_of cover.clusters.items) cover.home.items) }
+        (λ cover. AreHomes (sets balls.now) (member_lists cover.clusters.items) cover.home.items) }
     ensures apart { IfOk result (λ cover. AreApart cover.clusters.items) }
     ensures phases { IfOk result (λ cover. cover.phases ^ k ≤ k ^ k * length balls.now) }
     ensures overlap { IfOk result (λ cover. (x : ℕ)
@@ -43,19 +46,22 @@ pub fn coarsen(alloc: Global, balls: &[NodeSet], k: u32) -> Result<Cover, OutOfM
     ensures few { IfOk result (λ cover. length cover.clusters.items ≤ length balls.now) }
 {
     let rows = rows_of(alloc, balls)?;
-    let cover = coarsen_by_rows(alloc, balls, &rows, k)?;
+    let mut work = Workspace::new(alloc, balls.len() as u32)?;
+    let cover = coarsen_by_rows(alloc, balls, &rows, k, &mut work)?;
     powers_add();
     one_phase();
     Ok(cover)
 }
 
 /// Coarsens balls as `coarsen` does, where their rows are there: the row of each node is the set of
-/// the centres of the balls that have it. Balls of distances are their own rows.
+/// the centres of the balls that have it. Balls of distances are their own rows. The workspace is
+/// for as many balls.
 pub fn coarsen_by_rows(
     alloc: Global,
     balls: &[NodeSet],
     rows: &[NodeSet],
     k: u32,
+    work: &mut Workspace,
 ) -> Result<Cover, OutOfMemory>
     requires small { length balls.now ≤ 1024 }
     requires rooms { All (λ (b : Nodes). b.room ≡ length balls.now) balls.now }
@@ -65,19 +71,20 @@ pub fn coarsen_by_rows(
     requires centred { AreCentred (sets balls.now) }
     requires low { 1 ≤ k }
     requires high { k ≤ 8 }
+    requires work { IsWorkspace (length balls.now) work.old }
+    ensures work { OnOk result (IsWorkspace (length balls.now) work.new) }
     ensures exact { IfOk result (λ cover.
         IsCover (length balls.now) (coarsening (sets balls.now) k) cover) }
     ensures few { IfOk result (λ cover. length cover.clusters.items ≤ length balls.now) }
 {
-    let n = balls.len();
-    let mut work = Work::new(alloc, n as u32)?;
+    fill_all(&mut work.left);
     let mut cover = Cover {
         clusters: Vec::new(alloc),
-        home: vec![in alloc; 0u32; n]?,
+        home: vec![in alloc; 0u32; balls.len()]?,
         phases: 0,
     };
     'phase: while work.left.count() > 0 {
-        make_phase(alloc, balls, rows, k, &mut work, &mut cover)?;
+        make_phase(alloc, balls, rows, k, work, &mut cover)?;
     }
     Ok(cover)
 }

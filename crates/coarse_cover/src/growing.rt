@@ -8,16 +8,19 @@ ghost use Rattle.node_set.specs.Balls.{touches, sets};
 ghost use Rattle.coarse_cover.specs.Progress.{IsReady};
 
 use crate::marks::{absorb_balls, touch};
+use crate::workspace::empty_set;
 use node_set::{NodeSet, OutOfMemory};
 use std::alloc::Global;
 use std::mem;
 use whole_powers::at_most;
 
-// The balls of the cluster that grows, and the waiting balls that touch it.
+// The balls of the cluster that grows, and the waiting balls that touch it; and sets to make
+// clusters of.
 #[derive(Drop)]
 pub struct Growth {
     pub taken: NodeSet,
     pub touched: NodeSet,
+    pub spare: Vec<NodeSet>,
 }
 
 // Grows the cluster that `first` leads, until one more growth would not multiply its balls enough.
@@ -41,6 +44,7 @@ pub fn grow(
     requires waiting { waiting.now.room ≡ length balls.now }
     requires taken { growth.old.taken.room ≡ length balls.now }
     requires touched { growth.old.touched.room ≡ length balls.now }
+    requires spare { All (λ (s : Nodes). s.room ≡ length balls.now) growth.old.spare.items }
     requires ready { IsReady (sets balls.now) k r waiting.now.members }
     requires first { first < length balls.now }
     requires leads { (rest : List ℕ) × (waiting.now.members ≡ first ∷ rest) }
@@ -56,8 +60,10 @@ pub fn grow(
         waiting.now.members) }
     ensures taken_room { OnOk result (growth.new.taken.room ≡ length balls.now) }
     ensures touched_room { OnOk result (growth.new.touched.room ≡ length balls.now) }
+    ensures spare_rooms { OnOk result
+        (All (λ (s : Nodes). s.room ≡ length balls.now) growth.new.spare.items) }
 {
-    let mut members = NodeSet::empty(alloc, balls.len() as u32)?;
+    let mut members = empty_set(alloc, &mut growth.spare, balls.len() as u32)?;
     members.absorb(&balls[first]);
     growth.taken.clear();
     growth.taken.insert(first as u32);

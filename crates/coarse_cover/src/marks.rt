@@ -1,31 +1,29 @@
 //! Sets of balls, by their centres, and what a walk over one does.
 
-ghost use Rattle.std.specs.Prelude.{◌≡◌, ℕ, ◌≤◌, ◌<◌, ◌||◌, cond, filter, get_or, length, All};
+ghost use Rattle.std.specs.Prelude.{◌≡◌, ℕ, ◌≤◌, ◌<◌, ◌||◌, cond, filter, length, All, slice_index};
 ghost use Rattle.std.specs.Prelude.{IfOk};
 ghost use Rattle.node_set.specs.Ascending.{has, IsAscending};
 ghost use Rattle.node_set.specs.Nodes.{AreNodes, Nodes};
 ghost use Rattle.node_set.specs.Balls.{centres as all_centres, union_of, sets};
 
-use node_set::{NodeSet, OutOfMemory};
-use std::alloc::Global;
+use node_set::NodeSet;
 
-// The set of all balls.
-pub fn all_balls(alloc: Global, n: u32) -> Result<NodeSet, OutOfMemory>
-    requires { n ≤ 1024 }
-    ensures { IfOk result (λ all. all ≡ record { room = n; members = all_centres n }) }
+// Makes the set that of all balls.
+pub fn fill_all(set: &mut NodeSet)
+    ensures { set.new ≡ record { room = set.old.room; members = all_centres set.old.room } }
 {
-    let mut all = NodeSet::empty(alloc, n)?;
+    set.clear();
+    let n = set.room();
     for v in 0..n {
-        all.insert(v);
+        set.insert(v);
     }
-    Ok(all)
 }
 
 // Gives these balls this home.
 pub fn set_homes(taken: &NodeSet, number: u32, home: &mut [u32])
     requires { taken.now.room ≡ length home.old }
     ensures { (v : ℕ) → v < length home.old
-        → get_or home.new v 0 ≡ cond (has v taken.now.members) number (get_or home.old v 0) }
+        → slice_index home.new v ≡ cond (has v taken.now.members) number (slice_index home.old v) }
 {
     // The call tells the proof that numbers of balls are small.
     let _room = taken.room();

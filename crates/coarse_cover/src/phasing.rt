@@ -3,41 +3,17 @@
 ghost use Rattle.std.specs.Prelude.{◌≡◌, ℕ, ◌+◌, ◌≤◌, ◌<◌, ◌∷◌, ◌^◌, List, length, All, IfOk, OnOk};
 ghost use Rattle.node_set.specs.Nodes.{Nodes};
 ghost use Rattle.coarse_cover.specs.Coarsening.{cluster_of};
-ghost use Rattle.node_set.specs.Balls.{centres, sets, AreCentred};
-ghost use Rattle.coarse_cover.specs.Progress.{IsReady, IsSized, IsAdded, IsBetween};
+ghost use Rattle.node_set.specs.Balls.{sets, AreCentred};
+ghost use Rattle.coarse_cover.specs.Progress.{IsReady, IsAdded, IsBetween};
+ghost use Rattle.coarse_cover.specs.Workspaces.{IsWorkspace};
 ghost use Rattle.coarse_cover.specs.Turned.{AreTurned};
 
 use crate::cover::{Cluster, Cover};
-use crate::growing::{Growth, grow};
-use crate::marks::{all_balls, set_homes};
+use crate::growing::grow;
+use crate::marks::set_homes;
+use crate::workspace::Workspace;
 use node_set::{NodeSet, OutOfMemory};
 use std::alloc::Global;
-
-// The balls that are left, those that wait in this phase, and those of the cluster that grows.
-#[derive(Drop)]
-pub struct Work {
-    pub left: NodeSet,
-    pub waiting: NodeSet,
-    pub growth: Growth,
-}
-
-impl Work {
-    // All of `n` balls are left.
-    pub fn new(alloc: Global, n: u32) -> Result<Self, OutOfMemory>
-        requires { n ≤ 1024 }
-        ensures sized { IfOk result (λ work. IsSized n work) }
-        ensures all_left { IfOk result (λ work. work.left.members ≡ centres n) }
-    {
-        Ok(Self {
-            left: all_balls(alloc, n)?,
-            waiting: NodeSet::empty(alloc, n)?,
-            growth: Growth {
-                taken: NodeSet::empty(alloc, n)?,
-                touched: NodeSet::empty(alloc, n)?,
-            },
-        })
-    }
-}
 
 // Adds the cluster that `first` leads.
 fn add_cluster(
@@ -47,7 +23,7 @@ fn add_cluster(
     k: u32,
     r: u32,
     first: usize,
-    work: &mut Work,
+    work: &mut Workspace,
     cover: &mut Cover,
 ) -> Result<(), OutOfMemory>
     requires small { length balls.now ≤ 1024 }
@@ -57,7 +33,7 @@ fn add_cluster(
     requires turned { AreTurned (sets balls.now) (sets rows.now) }
     requires few { k ≤ 8 }
     requires within { r ≤ 1024 }
-    requires sized { IsSized (length balls.now) work.old }
+    requires sized { IsWorkspace (length balls.now) work.old }
     requires home_count { length cover.old.home.items ≡ length balls.now }
     requires numbers { length cover.old.clusters.items < 2 ^ 32 }
     requires ready { IsReady (sets balls.now) k r work.old.waiting.members }
@@ -95,7 +71,7 @@ pub fn make_phase(
     balls: &[NodeSet],
     rows: &[NodeSet],
     k: u32,
-    work: &mut Work,
+    work: &mut Workspace,
     cover: &mut Cover,
 ) -> Result<(), OutOfMemory>
     requires small { length balls.now ≤ 1024 }
@@ -106,7 +82,7 @@ pub fn make_phase(
     requires centred { AreCentred (sets balls.now) }
     requires low { 1 ≤ k }
     requires few { k ≤ 8 }
-    requires sized { IsSized (length balls.now) work.old }
+    requires sized { IsWorkspace (length balls.now) work.old }
     requires home_count { length cover.old.home.items ≡ length balls.now }
     requires between { IsBetween (sets balls.now) k work.old.left.members
         cover.old.clusters.items cover.old.home.items cover.old.phases }
@@ -114,7 +90,7 @@ pub fn make_phase(
     ensures between { OnOk result (IsBetween (sets balls.now) k work.new.left.members
         cover.new.clusters.items cover.new.home.items cover.new.phases) }
     ensures next { OnOk result (cover.new.phases ≡ cover.old.phases + 1) }
-    ensures sized { OnOk result (IsSized (length balls.now) work.new) }
+    ensures sized { OnOk result (IsWorkspace (length balls.now) work.new) }
     ensures home_count { OnOk result (length cover.new.home.items ≡ length balls.now) }
 {
     // The call tells the proof that no more balls are left than there are.

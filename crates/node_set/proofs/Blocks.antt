@@ -9,7 +9,7 @@ use Rattle.std.proofs.lemmas.Nat.Bits.{bit_at-zero, bit_at_and, bit_at-lt, bit_a
 use Rattle.std.proofs.lemmas.Bool.Decides.{nat_tests}
 use Rattle.std.proofs.lemmas.Simd.{get_or-zip2, get_or-chunk, length-chunk, length-zip2, get_or-put_chunk_below, get_or-put_chunk_at, get_or-put_chunk_above, length-put_chunk}
 use lib.Lanes.{fold_l, zip2, chunk, put_chunk}
-use Rattle.node_set.specs.Lanes.{Meet, MeetWithin, AreJoinedWithin}
+use Rattle.node_set.specs.Lanes.{Meet, MeetWithin, AreWordsJoinedWithin}
 
 -- ---- the bits of all lanes
 
@@ -104,7 +104,8 @@ module _ (a b : List ℕ) (at : ℕ) (fits_a : at + 4 ≤ length a) (fits_b : at
       (ap (λ n. bit_or n (get_or (chunk at 4 b) i 0)) (get_or-chunk at 4 a i 0 h)
       ∙ ap (λ n. bit_or (get_or a (at + i) 0) n) (get_or-chunk at 4 b i 0 h)))
 
-  pub block_joined : AreJoinedWithin a b (put_chunk at a (zip2 bit_or (take 4 (drop at a)) (take 4 (drop at b)))) at
+  pub block_joined : AreWordsJoinedWithin a b
+      (put_chunk at a (zip2 bit_or (take 4 (drop at a)) (take 4 (drop at b)))) at
       (at + 4)
   unfolding either
   block_joined = record {

@@ -1,12 +1,12 @@
 -- The places of numbers within a limit, bit by bit.
-use Rattle.std.proofs.Common.{◌≡◌, inl, inr, ℕ, ◌+◌, ◌*◌, ◌/◌, ◌%◌, ◌<◌, ◌≤◌, ◌^◌, Bool, true, false, cond, ◌&&◌, List, [], ◌∷◌, ◌++◌, length, get_or, refl, sym, ◌∙◌, ap, subst, arith, w64}
+use Rattle.std.proofs.Common.{◌≡◌, inl, inr, ℕ, ◌+◌, ◌*◌, ◌/◌, ◌%◌, ◌<◌, ◌≤◌, ◌^◌, Bool, true, false, cond, ◌&&◌, List, [], ◌∷◌, ◌++◌, length, get_or, take, set, refl, sym, ◌∙◌, ap, subst, arith, w64}
 use Rattle.std.specs.Prelude.{◌==◌, bit_or, nat_le, nat_lt, slice_index}
 use Rattle.std.specs.Int.{bit_at}
 use lib.Lanes.{mask_l}
 use Rattle.std.proofs.lemmas.Simd.{bit_mask_l}
 use Rattle.std.proofs.lemmas.Bool.Decides.{nat_tests}
 use Rattle.std.proofs.lemmas.Bool.{cases_lt, cases_eq, lt-ltb, le-ltb}
-use Rattle.std.proofs.lemmas.List.{length_push, get_or_append_left, get_or_push}
+use Rattle.std.proofs.lemmas.List.{length_push, length-set, get_or_append_left, get_or_push, take_all, take_more_set}
 use Rattle.std.proofs.lemmas.Nat.Bits.{bit_at_set_same, bit_at_set_other}
 use Rattle.node_set.specs.Ascending.{has, sift}
 use Rattle.node_set.specs.Limits.{AreWithin}
@@ -20,9 +20,6 @@ bit_of_mask ms i = ap (λ n. n == 1) (bit_mask_l ms i) ∙ at (get_or ms i false
     at : (b : Bool) → (cond b 1 0 == 1) ≡ b
     at true = refl
     at false = refl
-
-pub not_within : (x y : ℕ) → y < x → nat_le x y ≡ false
-not_within x y past = grind (arith, nat_tests)
 
 -- the next number is within the limit
 pub one_more : (test : ℕ → Bool) (word i : ℕ) → i < 64 → test i ≡ true
@@ -125,3 +122,26 @@ pub none_after : (numbers : List ℕ) (limit : ℕ) (words : List ℕ) → AreWi
     → (v : ℕ) → length numbers ≤ v → is_set words v ≡ false
 none_after numbers limit words all v over =
     all.each v ∙ ap (λ t. t && nat_le (slice_index numbers v) limit) (le-ltb v (length numbers) over)
+
+-- ---- words that were there, filled one by one
+
+module _ (numbers : List ℕ) (limit block : ℕ) (words : List ℕ) (count : length words ≡ (length numbers + 63) / 64)
+    (whole : block ≡ length numbers / 64) (before : AreWithin numbers limit (64 * block) (take block words)) where
+  -- no word is left
+  pub all_filled : length numbers % 64 ≡ 0 → AreWithin numbers limit (length numbers) words
+  all_filled none =
+      let reached : 64 * block ≡ length numbers = omega arith in
+      subst (λ n. AreWithin numbers limit n words) reached
+      (subst (λ (l : List ℕ). AreWithin numbers limit (64 * block) l) (take_all block words (omega arith)) before)
+
+  -- one word is left
+  pub last_filled : (w : ℕ) → 0 < length numbers % 64
+      → ((i : ℕ) → i < 64 → (bit_at w i == 1)
+      ≡ (nat_lt (64 * block + i) (length numbers) && nat_le (slice_index numbers (64 * block + i)) limit))
+      → AreWithin numbers limit (length numbers) (set words block w)
+  last_filled w some bits =
+      let written : take (block + 1) (set words block w) ≡ set words block w =
+      take_all (block + 1) (set words block w) (omega (arith, length-set words block w)) in
+      subst (λ (l : List ℕ). AreWithin numbers limit (length numbers) l)
+      (sym (take_more_set words block w (omega arith)) ∙ written)
+      (word_more numbers limit block (length numbers) w (take block words) before (omega arith) (omega arith) bits)

@@ -1,13 +1,12 @@
 -- What is left of a set's words where those of another cut them.
-use Rattle.std.proofs.Common.{◌≡◌, inl, inr, ℕ, ◌-◌, ◌/◌, ◌%◌, ◌<◌, ◌^◌, ◌&&◌, List, ◌++◌, length, filter, take, drop, get_or, min, refl, sym, ◌∙◌, ap, arith, not, w64}
+use Rattle.std.proofs.Common.{◌≡◌, inl, inr, ℕ, ◌-◌, ◌/◌, ◌%◌, ◌<◌, ◌^◌, ◌&&◌, List, length, filter, get_or, min, refl, sym, ◌∙◌, ap, arith, not, w64}
 use Rattle.std.specs.Prelude.{◌==◌, bit_and}
 use Rattle.std.specs.Int.{bit_at, bit_not}
-use Rattle.std.proofs.Math.Seq.{take-append_seam}
 use Rattle.std.proofs.lemmas.Bool.Decides.{nat_tests}
 use Rattle.std.proofs.lemmas.Bool.{cases_lt}
 use Rattle.std.proofs.lemmas.Nat.Bits.{bit_at_and, bit_at_not, bit_at-lt}
 use Rattle.node_set.specs.Ascending.{has}
-use Rattle.node_set.specs.Lanes.{AreKept, AreRemoved}
+use Rattle.node_set.specs.Lanes.{AreWordsKept, AreWordsRemoved}
 use Rattle.node_set.specs.Nodes.{AreWords, is_set, set_bits}
 use Rattle.node_set.specs.FilterLaws.{ascending-filter, has-filter}
 use Rattle.node_set.proofs.Words.{is_set_past, has-set_bits, ascending-set_bits, same_as_bits}
@@ -17,7 +16,7 @@ use Rattle.node_set.proofs.Words.{is_set_past, has-set_bits, ascending-set_bits,
 bit_both : (a b : ℕ) → a < 2 → b < 2 → min a b == 1 ≡ (a == 1 && b == 1)
 bit_both a b h k = grind (arith, nat_tests)
 
-is_set-kept : (a b new : List ℕ) (x : ℕ) → AreKept a b new → length a ≡ length b
+is_set-kept : (a b new : List ℕ) (x : ℕ) → AreWordsKept a b new → length a ≡ length b
     → is_set new x ≡ (is_set a x && is_set b x)
 is_set-kept a b new x all same =
     elim (cases_lt (x / 64) (length a)) [
@@ -28,7 +27,7 @@ is_set-kept a b new x all same =
       | inr over ↦ rw (is_set_past new x (omega (arith, all.enough)), is_set_past a x over) refl
     ]
 
-pub keep_bits : (a b new : List ℕ) → AreKept a b new → length a ≡ length b
+pub keep_bits : (a b new : List ℕ) → AreWordsKept a b new → length a ≡ length b
     → set_bits new ≡ filter (λ v. has v (set_bits b)) (set_bits a)
 keep_bits a b new all same =
     same_as_bits new (filter (λ v. has v (set_bits b)) (set_bits a))
@@ -36,7 +35,7 @@ keep_bits a b new all same =
     (λ x. is_set-kept a b new x all same
     ∙ sym (rw (has-filter (λ v. has v (set_bits b)) x (set_bits a), has-set_bits a x, has-set_bits b x) refl))
 
-pub words-keep : (room : ℕ) (a b new : List ℕ) → AreWords room a → AreKept a b new → length a ≡ length b
+pub words-keep : (room : ℕ) (a b new : List ℕ) → AreWords room a → AreWordsKept a b new → length a ≡ length b
     → AreWords room new
 words-keep room a b new ok all same = record {
   small = ok.small;
@@ -49,7 +48,7 @@ words-keep room a b new ok all same = record {
 bit_less : (a b : ℕ) → a < 2 → b < 2 → a - b == 1 ≡ (a == 1 && not (b == 1))
 bit_less a b h k = grind (arith, nat_tests)
 
-is_set-removed : (a b new : List ℕ) (x : ℕ) → AreRemoved a b new → length a ≡ length b
+is_set-removed : (a b new : List ℕ) (x : ℕ) → AreWordsRemoved a b new → length a ≡ length b
     → is_set new x ≡ (is_set a x && not (is_set b x))
 is_set-removed a b new x all same =
     elim (cases_lt (x / 64) (length a)) [
@@ -60,7 +59,7 @@ is_set-removed a b new x all same =
       | inr over ↦ rw (is_set_past new x (omega (arith, all.enough)), is_set_past a x over) refl
     ]
 
-pub remove_bits : (a b new : List ℕ) → AreRemoved a b new → length a ≡ length b
+pub remove_bits : (a b new : List ℕ) → AreWordsRemoved a b new → length a ≡ length b
     → set_bits new ≡ filter (λ v. not (has v (set_bits b))) (set_bits a)
 remove_bits a b new all same =
     same_as_bits new (filter (λ v. not (has v (set_bits b))) (set_bits a))
@@ -68,7 +67,7 @@ remove_bits a b new all same =
     (λ x. is_set-removed a b new x all same
     ∙ sym (rw (has-filter (λ v. not (has v (set_bits b))) x (set_bits a), has-set_bits a x, has-set_bits b x) refl))
 
-pub words-remove : (room : ℕ) (a b new : List ℕ) → AreWords room a → AreRemoved a b new → length a ≡ length b
+pub words-remove : (room : ℕ) (a b new : List ℕ) → AreWords room a → AreWordsRemoved a b new → length a ≡ length b
     → AreWords room new
 words-remove room a b new ok all same = record {
   small = ok.small;
@@ -84,9 +83,3 @@ word_without x y i small below =
     bit_at_and x (bit_not w64 y) i
     ∙ ap (min (bit_at x i)) (bit_at_not w64 y i small below)
     ∙ bit_without (bit_at x i) (bit_at y i) (bit_at-lt x i) (bit_at-lt y i)
-
--- ---- words that were written over whole
-
-pub whole : (n : ℕ) (new old : List ℕ) → length new ≡ length old → n ≡ length old
-    → take n (new ++ drop (length new) old) ≡ new
-whole n new old same all = let e : n ≡ length new = all ∙ sym same in rw (e, take-append_seam) refl

@@ -10,7 +10,7 @@ use Rattle.std.proofs.lemmas.Grind.{get_or_default_zero}
 use Rattle.std.proofs.lemmas.List.{get_or_past, get_or-replicate, length-replicate, get_or-set_same, get_or-set_other}
 use Rattle.std.proofs.lemmas.Nat.Bits.{bit_at-zero, bit_at-suc, bit_at_lowest, bit_at_or, bit_at-lt, bit_at_set_same, bit_at_set_other, shr_and_one}
 use Rattle.node_set.specs.Ascending.{has, IsAscending, with_number, union, share, sift}
-use Rattle.node_set.specs.Lanes.{Meet, AreJoined}
+use Rattle.node_set.specs.Lanes.{Meet, AreWordsJoined}
 use Rattle.node_set.specs.Nodes.{AreNodes, AreWords, is_set, set_bits}
 use Rattle.node_set.specs.SetLaws.{passing_over, length-passing-le, has-passing, ascending-passing, length-cond, length-passing-add, same_members, has-inserted, has-union, ascending-inserted, ascending-union, below_from_has, share_from, share_gives}
 
@@ -138,7 +138,7 @@ words-insert room words v w ok below h e = record {
 bit_either : (a b : ℕ) → a < 2 → b < 2 → max a b == 1 ≡ (b == 1 || a == 1)
 bit_either a b h k = grind (arith, nat_tests)
 
-is_set-joined : (words more both : List ℕ) (x : ℕ) → AreJoined words more both → length words ≡ length more
+is_set-joined : (words more both : List ℕ) (x : ℕ) → AreWordsJoined words more both → length words ≡ length more
     → is_set both x ≡ (is_set more x || is_set words x)
 is_set-joined words more both x all same =
     elim (cases_lt (x / 64) (length words)) [
@@ -154,7 +154,7 @@ is_set-joined words more both x all same =
       ) refl
     ]
 
-pub absorb_bits : (words more both : List ℕ) → AreJoined words more both → length words ≡ length more
+pub absorb_bits : (words more both : List ℕ) → AreWordsJoined words more both → length words ≡ length more
     → set_bits both ≡ union (set_bits more) (set_bits words)
 absorb_bits words more both all same =
     same_as_bits both (union (set_bits more) (set_bits words))
@@ -163,7 +163,7 @@ absorb_bits words more both all same =
     ∙ sym (rw (has-union x (set_bits more) (set_bits words), has-set_bits more x, has-set_bits words x) refl))
 
 pub words-absorb : (room : ℕ) (words more both : List ℕ) → AreWords room words → AreWords room more
-    → AreJoined words more both → AreWords room both
+    → AreWordsJoined words more both → AreWords room both
 words-absorb room words more both ok ok_more all = record {
   small = ok.small;
   enough = all.enough ∙ ok.enough;

@@ -1,34 +1,40 @@
 -- Laws of balls, of their unions, of growth, and of the least number that passes a test.
 -- Key laws: `union_means`, `next_growth_means`, `growth_leader` (the leader's ball stays),
 -- `growth_size` (no growth has more balls than wait), `least_passes`, `least_first`, `least_is`.
-use Rattle.std.proofs.Common.{◌≡◌, inl, inr, ℕ, zero, suc, ◌+◌, ◌<◌, ◌≤◌, Bool, ◌↔◌, true, false, cond, List, [], ◌∷◌, length, filter, get_or, map, refl, sym, ◌∙◌, ap, subst, arith}
-use Rattle.std.specs.Prelude.{◌==◌}
+use Rattle.std.proofs.Common.{◌≡◌, inl, inr, ℕ, zero, suc, ◌+◌, ◌<◌, ◌≤◌, Bool, ◌↔◌, true, false, cond, List, [], ◌∷◌, length, filter, map, refl, sym, ◌∙◌, ap, subst, arith}
+use Rattle.std.specs.Prelude.{◌==◌, slice_index_or}
 use Rattle.std.proofs.lemmas.Bool.{cases_lt, false≢true, eqb-true, ne_eqb, or_cases, or_left, or_right}
 use Rattle.std.proofs.lemmas.List.{get_or-map, length-map}
 use Rattle.node_set.specs.Ascending.{has, IsBelowAll, IsAscending, share, union}
 use Rattle.node_set.specs.Nodes.{Nodes}
 use Rattle.node_set.specs.Balls.{sets, centres, ball, union_of, touches, growth, least}
-use Rattle.node_set.specs.SetLaws.{has_head, has-union, ascending-union, share_from, has-passing, passing_over, length-passing_all, get_or-passing_all}
+use Rattle.node_set.specs.SetLaws.{has_head, has-union, ascending-union, share_from, has-passing, passing_over, length-passing_all, passing_all-each}
 use Rattle.node_set.specs.FilterLaws.{filter_keeps, filter_has, filter_own, filter_fewer}
 
 -- ---- lists of balls, and of centres
 
-pub ball_at : (balls : List Nodes) (v : ℕ) (b : Nodes) → v < length balls → b ≡ get_or balls v b
+-- the ball at a place of the list
+pub ball_at : (balls : List Nodes) (v : ℕ) (b : Nodes) → v < length balls
+    → b ≡ slice_index_or balls v b
     → ball (sets balls) v ≡ b.members
 ball_at [] v b h e = absurd (omega arith)
 ball_at (c ∷ cs) zero b h e = ap (λ (n : Nodes). n.members) (sym e)
 ball_at (c ∷ cs) (suc v) b h e = ball_at cs v b (omega arith) e
 
+-- there are as many lists as sets
 pub length-sets : (balls : List Nodes) → length (sets balls) ≡ length balls
 length-sets [] = refl
 length-sets (c ∷ cs) = ap suc (length-sets cs)
 
+-- there are n centres
 pub length-centres : (n : ℕ) → length (centres n) ≡ n
 length-centres n = length-passing_all 0 n
 
+-- each number below n is a centre
 pub has_centre : (n v : ℕ) → v < n → has v (centres n) ≡ true
 has_centre n v h = has-passing (λ x. true) v 0 n (omega arith) (omega arith)
 
+-- and nothing else is
 pub below_centre : (n v : ℕ) → has v (centres n) ≡ true → v < n
 below_centre n v h = elim (cases_lt v n) [
   | inl below ↦ below
@@ -37,19 +43,21 @@ below_centre n v h = elim (cases_lt v n) [
 
 -- a list with one entry for each centre, at one of them
 pub get_or-map_centres : {X : Type 0} (f : ℕ → X) (n v : ℕ) (d : X) → v < n
-    → get_or (map f (centres n)) v d ≡ f v
+    → slice_index_or (map f (centres n)) v d ≡ f v
 get_or-map_centres f n v d h =
     get_or-map f (centres n) v 0 d (omega (arith, length-centres n))
-    ∙ ap f (get_or-passing_all 0 n v 0 h ∙ none v)
+    ∙ ap f (passing_all-each 0 n v 0 h ∙ none v)
   where
     none : (v : ℕ) → 0 + v ≡ v
     none v = omega arith
 
+-- a list with one entry for each centre is that long
 pub length-map_centres : {X : Type 0} (f : ℕ → X) (n : ℕ) → length (map f (centres n)) ≡ n
 length-map_centres f n = length-map (centres n) f ∙ length-centres n
 
 -- ---- unions
 
+-- who is in one of the balls is in their union
 pub union_has : (balls : List (List ℕ)) (x v : ℕ) (vs : List ℕ) → has v vs ≡ true
     → has x (ball balls v) ≡ true → has x (union_of balls vs) ≡ true
 unfolding union_of
@@ -63,6 +71,7 @@ union_has balls x v (w ∷ ws) h e =
           (union_has balls x v ws later e)
     ]
 
+-- and who is in the union is in one of the balls
 pub union_from : (balls : List (List ℕ)) (x : ℕ) (vs : List ℕ) → has x (union_of balls vs) ≡ true
     → (v : ℕ) × (has v vs ≡ true) × (has x (ball balls v) ≡ true)
 unfolding union_of
@@ -77,17 +86,20 @@ union_from balls x (w ∷ ws) h =
           (v.0, or_right (v.0 == w) (has v.0 ws) v.1, v.2)
     ]
 
+-- a union ascends
 pub ascending-union_of : (balls : List (List ℕ)) (vs : List ℕ) → IsAscending (union_of balls vs)
 unfolding union_of
 ascending-union_of balls [] = tt
 ascending-union_of balls (w ∷ ws) =
     ascending-union (ball balls w) (union_of balls ws) (ascending-union_of balls ws)
 
+-- the union of one ball
 pub union_first : (balls : List (List ℕ)) (a : ℕ)
     → union (ball balls a) [] ≡ union_of balls (a ∷ [])
 unfolding union_of
 union_first balls a = refl
 
+-- the union of more balls has what that of fewer has
 pub union_more : (balls : List (List ℕ)) (x : ℕ) (vs ws : List ℕ)
     → ((v : ℕ) → has v vs ≡ true → has v ws ≡ true) → has x (union_of balls vs) ≡ true
     → has x (union_of balls ws) ≡ true
@@ -153,12 +165,14 @@ module _ (balls : List (List ℕ)) (a : ℕ) (rest : List ℕ) where
   growth_picked below (suc j) = filter_own
       (touches balls (union_of balls (growth balls (a ∷ rest) a j))) (a ∷ rest)
 
+-- a growth takes the waiting balls that touch the union so far
 pub growth_next : (balls : List (List ℕ)) (waiting : List ℕ) (a j : ℕ)
     → growth balls waiting a (suc j) ≡ filter
     (touches balls (union_of balls (growth balls waiting a j))) waiting
 unfolding growth
 growth_next balls waiting a j = refl
 
+-- before any growth there is the ball of the leader alone
 pub growth_first : (balls : List (List ℕ)) (waiting : List ℕ) (a : ℕ)
     → growth balls waiting a 0 ≡ a ∷ []
 unfolding growth
@@ -166,6 +180,7 @@ growth_first balls waiting a = refl
 
 -- ---- the least number that passes
 
+-- the least number is at most the limit
 pub least_within : (test : ℕ → Bool) (limit : ℕ) → least test limit ≤ limit
 unfolding least
 least_within test zero = omega arith
@@ -176,6 +191,7 @@ least_within test (suc limit) = at (test 0) (least_within (λ j. test (suc j)) l
     at true h = omega arith
     at false h = omega arith
 
+-- the least number passes, where it is below the limit
 pub least_passes : (test : ℕ → Bool) (limit : ℕ) → least test limit < limit
     → test (least test limit) ≡ true
 unfolding least
@@ -189,6 +205,7 @@ least_passes test (suc limit) h = at (test 0) refl h (least_passes (λ j. test (
     at true e less rest = e
     at false e less rest = rest (omega arith)
 
+-- no lower number passes
 pub least_first : (test : ℕ → Bool) (limit j : ℕ) → j < least test limit → test j ≡ false
 unfolding least
 least_first test zero j h = absurd (omega arith)
@@ -200,6 +217,7 @@ least_first test (suc limit) j h = at (test 0) refl j h (least_first (λ i. test
     at false e zero less rest = e
     at false e (suc j) less rest = rest j (omega arith)
 
+-- the first number that passes is the least
 pub least_is : (test : ℕ → Bool) (limit j : ℕ) → j < limit → test j ≡ true
     → ((i : ℕ) → i < j → test i ≡ false) → least test limit ≡ j
 least_is test limit j h passes first =
@@ -215,10 +233,12 @@ least_is test limit j h passes first =
 
 -- ---- in other words
 
+-- who is in a union
 pub union_means : (balls : List (List ℕ)) (vs : List ℕ) (x : ℕ) → (has x (union_of balls vs) ≡ true)
     ↔ ((v : ℕ) × (has v vs ≡ true) × (has x (ball balls v) ≡ true))
 union_means balls vs x = (union_from balls x vs, λ w. union_has balls x w.0 vs w.1 w.2)
 
+-- who is in the next growth
 pub next_growth_means : (balls : List (List ℕ)) (waiting : List ℕ) (a j v : ℕ)
     → (has v (growth balls waiting a (suc j)) ≡ true) ↔
     ((has v waiting ≡ true) × (share (ball balls v) (union_of balls (growth balls waiting a j))

@@ -2,7 +2,7 @@
 -- centre, its place in the list of balls. Clusters grow from a ball by the waiting balls that touch
 -- them. Key laws: `union_means` (who is in a union), `next_growth_means` (who is in the next
 -- growth), `least_passes` and `least_first` (the least number that passes a test).
-use Rattle.std.specs.Prelude.{◌≡◌, ℕ, zero, suc, ◌<◌, Bool, true, false, cond, List, [], ◌∷◌, length, get_or, filter, map}
+use Rattle.std.specs.Prelude.{◌≡◌, ℕ, zero, suc, ◌<◌, Bool, true, false, cond, List, [], ◌∷◌, length, slice_index, slice_index_or, filter, map}
 use Rattle.node_set.specs.Ascending.{has, union, share, sift}
 use Rattle.node_set.specs.Nodes.{Nodes}
 
@@ -16,7 +16,7 @@ centres n = sift (λ v. true) 0 n
 
 -- the nodes of the ball round v
 abbrev pub ball : List (List ℕ) → ℕ → List ℕ
-ball balls v = get_or balls v []
+ball balls v = slice_index_or balls v []
 
 -- each ball holds its centre
 abbrev pub AreCentred : List (List ℕ) → Type 0
@@ -65,6 +65,6 @@ home_of (c ∷ cs) v = cond (has v c.homed) zero (suc (home_of cs v))
 -- ball's home
 abbrev pub AreHomes : List (List ℕ) → List (List ℕ) → List ℕ → Type 0
 AreHomes balls clusters homes = (v : ℕ) → v < length balls →
-    (get_or homes v 0 < length clusters)
+    (slice_index homes v < length clusters)
     × ((x : ℕ) → has x (ball balls v) ≡ true
-    → has x (get_or clusters (get_or homes v 0) []) ≡ true)
+    → has x (slice_index_or clusters (slice_index homes v) []) ≡ true)

@@ -15,6 +15,7 @@ has_cond true x y xs h = elim (or_cases (x == y) (has x xs) h)
     [ inl e ↦ inl (eqb-true x y e, refl) | inr later ↦ inr later ]
 has_cond false x y xs h = inr h
 
+-- what is left passes, and was there
 pub filter_keeps : (p : ℕ → Bool) (x : ℕ) (xs : List ℕ) → has x (filter p xs) ≡ true
     → (has x xs ≡ true) × (p x ≡ true)
 filter_keeps p x [] h = absurd (false≢true h)
@@ -36,6 +37,7 @@ cond_has false x y xs h = h
 cond_has_head : (b : Bool) (y : ℕ) (xs : List ℕ) → b ≡ true → has y (cond b (y ∷ xs) xs) ≡ true
 cond_has_head b y xs e = rw e (has_head y xs)
 
+-- what passes is left
 pub filter_has : (p : ℕ → Bool) (x : ℕ) (xs : List ℕ) → has x xs ≡ true → p x ≡ true
     → has x (filter p xs) ≡ true
 filter_has p x [] h e = absurd (false≢true h)
@@ -108,6 +110,7 @@ filter_own p xs = filter_same p (λ x. has x (filter p xs)) xs (λ x h. at x h (
 
 -- ---- how much
 
+-- what passes and what fails is all
 pub filter_halves : (p : ℕ → Bool) (xs : List ℕ)
     → length (filter p xs) + length (filter (λ x. not (p x)) xs) ≡ length xs
 filter_halves p [] = refl
@@ -120,6 +123,7 @@ filter_halves p (y ∷ ys) = at (p y) (filter_halves p ys)
     at true e = omega arith
     at false e = omega arith
 
+-- no more are left than there were
 pub filter_fewer : (p : ℕ → Bool) (xs : List ℕ) → length (filter p xs) ≤ length xs
 filter_fewer p xs = omega (arith, filter_halves p xs)
 
@@ -146,6 +150,7 @@ below_filter p v (y ∷ ys) all = at (p y) (below_filter p v ys all.1)
     at true rest = (all.0, rest)
     at false rest = rest
 
+-- what is left ascends
 pub ascending-filter : (p : ℕ → Bool) (xs : List ℕ) → IsAscending xs → IsAscending (filter p xs)
 ascending-filter p [] all = tt
 ascending-filter p (y ∷ ys) all = at (p y) (ascending-filter p ys all.1) (below_filter p y ys all.0)
@@ -155,6 +160,7 @@ ascending-filter p (y ∷ ys) all = at (p y) (ascending-filter p ys all.1) (belo
     at true rest below = (below, rest)
     at false rest below = rest
 
+-- one test after another is both
 pub filter-passing : (p q : ℕ → Bool) (v k : ℕ) → filter q (sift p v k) ≡ sift (λ x. p x && q x) v k
 filter-passing p q v zero = refl
 filter-passing p q v (suc k) = at (p v) (q v) refl (filter-passing p q (suc v) k)

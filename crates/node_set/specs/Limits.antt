@@ -1,4 +1,5 @@
--- Which numbers of a list are within a limit, as bits by their places.
+-- Which numbers of a list are within a limit, as bits by their places. Key law: `NodeSet::within`
+-- (the set of these places).
 use Rattle.std.specs.Prelude.{◌≡◌, ℕ, ◌+◌, ◌/◌, ◌&&◌, List, length, nat_le, nat_lt, slice_index}
 use Rattle.node_set.specs.Nodes.{is_set}
 

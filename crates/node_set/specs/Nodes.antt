@@ -1,6 +1,7 @@
 -- What a set of node numbers is seen as: its room, and its members in strictly ascending order,
--- each below the room.
-use Rattle.std.specs.Prelude.{◌≡◌, ℕ, ◌+◌, ◌*◌, ◌/◌, ◌%◌, ◌≤◌, Bool, false, List, length, get_or, ◌==◌}
+-- each below the room. Key law: `all_members` (a set is the list of the numbers below its room
+-- that it has).
+use Rattle.std.specs.Prelude.{◌≡◌, ℕ, ◌+◌, ◌*◌, ◌/◌, ◌%◌, ◌≤◌, Bool, false, List, length, slice_index, ◌==◌}
 use Rattle.std.specs.Int.{bit_at}
 use Rattle.node_set.specs.Ascending.{IsAscending, AllBelow, sift}
 
@@ -17,7 +18,7 @@ pub record AreNodes (set : Nodes) : Type 0 where
 
 -- whether bit v is set in words of 64 bits
 abbrev pub is_set : List ℕ → ℕ → Bool
-is_set words v = bit_at (get_or words (v / 64) 0) (v % 64) == 1
+is_set words v = bit_at (slice_index words (v / 64)) (v % 64) == 1
 
 -- the numbers whose bits are set
 abbrev pub set_bits : List ℕ → List ℕ

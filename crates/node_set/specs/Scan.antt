@@ -1,4 +1,5 @@
--- The next number of a set: the least one from a number on.
+-- The next number of a set: the least one from a number on. Key law: `NodeSet::next_from` (it gives
+-- that number, or says that there is none).
 use Rattle.std.specs.Prelude.{◌≡◌, ℕ, ◌<◌, ◌≤◌, true, false, List}
 use Rattle.node_set.specs.Ascending.{has}
 

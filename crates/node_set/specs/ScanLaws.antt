@@ -18,6 +18,7 @@ none_between test from (suc gap) none =
     ∙ passing_skips test (from + gap) (none (from + gap) (omega arith) (omega arith))
     ∙ none_between test from gap (λ x low high. none x low (omega arith))
 
+-- the numbers up to the next one, with it
 pub next_taken : (members : List ℕ) (from v : ℕ) → IsNext members from v
     → sift (λ x. has x members) 0 (v + 1) ≡ sift (λ x. has x members) 0 from ++ v ∷ []
 next_taken members from v next =
@@ -27,6 +28,7 @@ next_taken members from v next =
     ∙ none_between (λ x. has x members) from (v - from)
     (λ x low high. next.first x low (omega (arith, gap))))
 
+-- and where there is no next one, these are all
 pub none_left : (members : List ℕ) (from : ℕ) → IsAscending members → IsNoneFrom members from
     → sift (λ x. has x members) 0 from ≡ members
 none_left members from ascending none =

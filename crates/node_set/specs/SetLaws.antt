@@ -1,10 +1,10 @@
 -- Laws of sets as ascending lists: who is in an insertion and in a union, what order they keep, and
 -- which numbers of a range pass a test. Key laws: `same_members` (an ascending list is determined
--- by its members), `has-union`, `share_means`, `below-has`, `has-passing` (a number of the range is
--- there just where it passes), `passing_over` (beyond the range there is none), `passing_takes` and
--- `passing_skips` (one number more).
-use Rattle.std.proofs.Common.{◌≡◌, inl, inr, ℕ, zero, suc, ◌+◌, zero-add, add-zero, add-one, ◌<◌, ◌≤◌, Bool, true, false, cond, ◌||◌, ◌↔◌, List, [], ◌∷◌, ◌++◌, length, get_or, refl, sym, ◌∙◌, ap, subst, arith}
-use Rattle.std.specs.Prelude.{◌==◌}
+-- by its members), `has-union`, `has-append`, `share_means`, `below-has`, `has-passing` (a number
+-- of the range is there just where it passes), `passing_over` (beyond the range there is none),
+-- `passing_takes` and `passing_skips` (one number more).
+use Rattle.std.proofs.Common.{◌≡◌, inl, inr, ℕ, zero, suc, ◌+◌, zero-add, add-zero, add-one, ◌<◌, ◌≤◌, Bool, true, false, cond, ◌||◌, ◌↔◌, List, [], ◌∷◌, ◌++◌, length, refl, sym, ◌∙◌, ap, subst, arith}
+use Rattle.std.specs.Prelude.{◌==◌, slice_index_or, slice_index}
 use Rattle.std.proofs.lemmas.Bool.Decides.{nat_tests}
 use Rattle.std.proofs.lemmas.Bool.{eqb-true, eq-eqb, or_cases, or_left, or_right, false≢true, cases_order, cases_lt, cases_eq, cases_Bool, ne_eqb, lt-ltb, le-ltb}
 use Rattle.std.proofs.lemmas.List.{append-nil}
@@ -13,10 +13,12 @@ use Rattle.node_set.specs.Nodes.{Nodes, AreNodes}
 
 -- ---- members
 
+-- who is in an insertion
 pub has-inserted : (x v : ℕ) (xs : List ℕ) → has x (with_number v xs) ≡ (x == v || has x xs)
 has-inserted x v [] = refl
 has-inserted x v (y ∷ ys) = grind (arith, nat_tests, has-inserted x v ys)
 
+-- who is in a union
 pub has-union : (x : ℕ) (xs ys : List ℕ) → has x (union xs ys) ≡ (has x xs || has x ys)
 has-union x [] ys = refl
 has-union x (z ∷ zs) ys = grind (
@@ -31,10 +33,12 @@ below-inserted : (x v : ℕ) (xs : List ℕ) → x < v → IsBelowAll x xs → I
 below-inserted x v [] h all = (h, tt)
 below-inserted x v (y ∷ ys) h all = grind (arith, nat_tests, below-inserted x v ys h all.1)
 
-below_weaker : (x y : ℕ) (ys : List ℕ) → x < y → IsBelowAll y ys → IsBelowAll x ys
+-- what is below all of a list stays so where a lower number is taken
+pub below_weaker : (x y : ℕ) (ys : List ℕ) → x < y → IsBelowAll y ys → IsBelowAll x ys
 below_weaker x y [] h all = tt
 below_weaker x y (z ∷ zs) h all = (omega (arith, all.0), below_weaker x y zs h all.1)
 
+-- an insertion ascends
 pub ascending-inserted : (v : ℕ) (xs : List ℕ) → IsAscending xs → IsAscending (with_number v xs)
 ascending-inserted v [] all = (tt, tt)
 ascending-inserted v (y ∷ ys) all =
@@ -45,9 +49,27 @@ ascending-inserted v (y ∷ ys) all =
           (below-inserted y v ys higher all.0, ascending-inserted v ys all.1)
     ]
 
+-- a union ascends
 pub ascending-union : (xs ys : List ℕ) → IsAscending ys → IsAscending (union xs ys)
 ascending-union [] ys all = all
 ascending-union (x ∷ xs) ys all = ascending-inserted x (union xs ys) (ascending-union xs ys all)
+
+-- a number below all of a list is below each
+pub below_each : (x : ℕ) (xs : List ℕ) (k : ℕ) → IsBelowAll x xs → k < length xs
+    → x < slice_index xs k
+below_each x [] k below short = absurd (omega arith)
+below_each x (y ∷ ys) zero below short = below.0
+below_each x (y ∷ ys) (suc k) below short = below_each x ys k below.1 (omega arith)
+
+-- who is in two lists one after the other
+pub has-append : (x : ℕ) (xs ys : List ℕ) → has x (xs ++ ys) ≡ (has x xs || has x ys)
+has-append x [] ys = refl
+has-append x (z ∷ zs) ys = at (x == z) (has-append x zs ys)
+  where
+    at : (b : Bool) → has x (zs ++ ys) ≡ (has x zs || has x ys)
+        → (b || has x (zs ++ ys)) ≡ ((b || has x zs) || has x ys)
+    at true h = refl
+    at false h = h
 
 -- ---- an ascending list is determined by its members
 
@@ -64,6 +86,7 @@ rest_same : (x : ℕ) (xs ys : List ℕ) → IsBelowAll x xs → IsBelowAll x ys
     → ((z : ℕ) → has z (x ∷ xs) ≡ has z (x ∷ ys)) → (z : ℕ) → has z xs ≡ has z ys
 rest_same x xs ys a b same z = grind (arith, nat_tests, same z, not_in z x xs, not_in z x ys)
 
+-- ascending lists with the same members are the same
 pub same_members : (xs ys : List ℕ) → IsAscending xs → IsAscending ys
     → ((x : ℕ) → has x xs ≡ has x ys) → xs ≡ ys
 same_members [] [] a b same = refl
@@ -85,6 +108,7 @@ same_members (x ∷ xs) (y ∷ ys) a b same =
 
 -- ---- sharing
 
+-- what is in both lists is shared
 pub share_from : (x : ℕ) (xs ys : List ℕ) → has x xs ≡ true → has x ys ≡ true → share xs ys ≡ true
 share_from x [] ys a b = absurd (false≢true a)
 share_from x (z ∷ zs) ys a b =
@@ -94,6 +118,7 @@ share_from x (z ∷ zs) ys a b =
       | inr later ↦ or_right (has z ys) (share zs ys) (share_from x zs ys later b)
     ]
 
+-- what is shared is in both
 pub share_gives : (xs ys : List ℕ) → share xs ys ≡ true → (x : ℕ) × (has x xs ≡ true)
     × (has x ys ≡ true)
 share_gives [] ys h = absurd (false≢true h)
@@ -105,18 +130,21 @@ share_gives (z ∷ zs) ys h =
           (w.0, or_right (w.0 == z) (has w.0 zs) w.1, w.2)
     ]
 
+-- two lists share a number just where some number is in both
 pub share_means : (xs ys : List ℕ) → (share xs ys ≡ true) ↔
     ((x : ℕ) × (has x xs ≡ true) × (has x ys ≡ true))
 share_means xs ys = (share_gives xs ys, λ w. share_from w.0 xs ys w.1 w.2)
 
 -- ---- bounds
 
+-- each member is below what all are below
 pub below-has : (n x : ℕ) (xs : List ℕ) → AllBelow n xs → has x xs ≡ true → x < n
 below-has n x [] all h = absurd (false≢true h)
 below-has n x (y ∷ ys) all h =
     elim (or_cases (x == y) (has x ys) h)
     [ inl e ↦ omega (arith, eqb-true x y e, all.0) | inr later ↦ below-has n x ys all.1 later ]
 
+-- and where each member is below a number, all are
 pub below_from_has : (n : ℕ) (xs : List ℕ) → ((x : ℕ) → has x xs ≡ true → x < n) → AllBelow n xs
 below_from_has n [] all = tt
 below_from_has n (y ∷ ys) all = (
@@ -127,6 +155,7 @@ below_from_has n (y ∷ ys) all = (
 
 -- ---- the numbers that pass a test
 
+-- no number below the range is there
 pub passing_under : (test : ℕ → Bool) (x v k : ℕ) → x < v → has x (sift test v k) ≡ false
 passing_under test x v zero h = refl
 passing_under test x v (suc k) h = at (test v) (passing_under test x (suc v) k (omega arith))
@@ -136,6 +165,7 @@ passing_under test x v (suc k) h = at (test v) (passing_under test x (suc v) k (
     at true rest = grind (arith, nat_tests)
     at false rest = rest
 
+-- nor one beyond it
 pub passing_over : (test : ℕ → Bool) (x v k : ℕ) → v + k ≤ x → has x (sift test v k) ≡ false
 passing_over test x v zero h = refl
 passing_over test x v (suc k) h = at (test v) (passing_over test x (suc v) k (omega arith))
@@ -156,6 +186,7 @@ passes_later : (b c : Bool) (x v : ℕ) (rest : List ℕ) → v < x → has x re
 passes_later true c x v rest h e = grind (arith, nat_tests)
 passes_later false c x v rest h e = e
 
+-- a number of the range is there just where it passes
 pub has-passing : (test : ℕ → Bool) (x v k : ℕ) → v ≤ x → x < v + k → has x (sift test v k) ≡ test x
 has-passing test x v zero h below = absurd (omega arith)
 has-passing test x v (suc k) h below =
@@ -178,6 +209,7 @@ below_passing test x v (suc k) h = at (test v) (below_passing test x (suc v) k (
     at true rest = (h, rest)
     at false rest = rest
 
+-- the numbers that pass ascend
 pub ascending-passing : (test : ℕ → Bool) (v k : ℕ) → IsAscending (sift test v k)
 ascending-passing test v zero = tt
 ascending-passing test v (suc k) = at (test v) (ascending-passing test (suc v) k)
@@ -188,11 +220,13 @@ ascending-passing test v (suc k) = at (test v) (ascending-passing test (suc v) k
     at true rest all = (all, rest)
     at false rest all = rest
 
+-- one number more or not
 pub length-cond : (b : Bool) (x : ℕ) (rest : List ℕ)
     → length (cond b (x ∷ rest) rest) ≡ cond b 1 0 + length rest
 length-cond true x rest = omega arith
 length-cond false x rest = omega arith
 
+-- the count of a longer range
 pub length-passing-add : (test : ℕ → Bool) (v j k : ℕ)
     → length (sift test v (j + k)) ≡ length (sift test v j) + length (sift test (v + j) k)
 length-passing-add test v zero k = rw (zero-add k, add-zero v) (omega arith)
@@ -234,7 +268,8 @@ passing_same p q v (suc k) same = rw (
 
 -- ---- one number more
 
-passing_grows : (test : ℕ → Bool) (v k : ℕ)
+-- the last number of a longer range
+pub passing_grows : (test : ℕ → Bool) (v k : ℕ)
     → sift test v (suc k) ≡ sift test v k ++ cond (test (v + k)) ((v + k) ∷ []) []
 passing_grows test v zero = ap (λ i. cond (test i) (i ∷ []) []) (sym (add-zero v))
 passing_grows test v (suc k) =
@@ -293,20 +328,23 @@ passing_inserts test i passes =
 
 -- ---- all the numbers of a range
 
+-- where all pass there are as many as the range has
 pub length-passing_all : (v n : ℕ) → length (sift (λ x. true) v n) ≡ n
 length-passing_all v zero = refl
 length-passing_all v (suc n) = omega (arith, length-passing_all (suc v) n)
 
-pub get_or-passing_all : (v n i d : ℕ) → i < n → get_or (sift (λ x. true) v n) i d ≡ v + i
-get_or-passing_all v zero i d h = absurd (omega arith)
-get_or-passing_all v (suc n) zero d h = omega arith
-get_or-passing_all v (suc n) (suc i) d h = get_or-passing_all (suc v) n i d (omega arith) ∙ next v i
+-- and each stands at its place
+pub passing_all-each : (v n i d : ℕ) → i < n → slice_index_or (sift (λ x. true) v n) i d ≡ v + i
+passing_all-each v zero i d h = absurd (omega arith)
+passing_all-each v (suc n) zero d h = omega arith
+passing_all-each v (suc n) (suc i) d h = passing_all-each (suc v) n i d (omega arith) ∙ next v i
   where
     next : (v i : ℕ) → suc v + i ≡ v + suc i
     next v i = omega arith
 
 -- ---- the members of a set, one number after another
 
+-- the members of a set, one number after another
 pub all_members : (set : Nodes) → AreNodes set
     → sift (λ x. has x set.members) 0 set.room ≡ set.members
 all_members set sound =

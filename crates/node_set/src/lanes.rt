@@ -1,6 +1,6 @@
 //! Lists of words side by side, four places at a time.
 ghost use Rattle.std.specs.Prelude.{◌≡◌, ◌↔◌, ◌+◌, ◌≤◌, length, IsTrue};
-ghost use Rattle.node_set.specs.Lanes.{Meet, MeetWithin, AreJoined, AreJoinedWithin};
+ghost use Rattle.node_set.specs.Lanes.{Meet, MeetWithin, AreWordsJoined, AreWordsJoinedWithin};
 
 use std::simd::prelude::*;
 
@@ -49,7 +49,7 @@ fn rest_meets(a: &[u64], b: &[u64], from: usize) -> bool
 /// Leaves at each place of `a` the bits that were set in either list, which have one length.
 pub fn lanes_absorb(a: &mut [u64], b: &[u64])
     requires { length a.old ≡ length b.now }
-    ensures { AreJoined a.old b.now a.new }
+    ensures { AreWordsJoined a.old b.now a.new }
 {
     let blocks = a.len() / LANES;
     for block in 0..blocks {
@@ -63,7 +63,7 @@ pub fn lanes_absorb(a: &mut [u64], b: &[u64])
 fn absorb_block(a: &mut [u64], b: &[u64], at: usize)
     requires a { at + 4 ≤ length a.old }
     requires b { at + 4 ≤ length b.now }
-    ensures { AreJoinedWithin a.old b.now a.new at (at + 4) }
+    ensures { AreWordsJoinedWithin a.old b.now a.new at (at + 4) }
 {
     let either = u64x4::from_slice(&a[at..]) | u64x4::from_slice(&b[at..]);
     either.copy_to_slice(&mut a[at..]);
@@ -73,7 +73,7 @@ fn absorb_block(a: &mut [u64], b: &[u64], at: usize)
 #[inline(always)]
 fn absorb_rest(a: &mut [u64], b: &[u64], from: usize)
     requires { length a.old ≡ length b.now }
-    ensures { AreJoinedWithin a.old b.now a.new from (length a.old) }
+    ensures { AreWordsJoinedWithin a.old b.now a.new from (length a.old) }
 {
     for i in from..a.len() {
         a[i] |= b[i];

@@ -1,6 +1,6 @@
 //! The places of numbers that are within a limit, as bits.
 
-ghost use Rattle.std.specs.Prelude.{◌≡◌, ◌+◌, ◌≤◌, ◌<◌, ◌&&◌, ◌==◌, ℕ, IfOk, get_or, length, nat_le, nat_lt, slice_index};
+ghost use Rattle.std.specs.Prelude.{◌≡◌, ◌+◌, ◌≤◌, ◌<◌, ◌&&◌, ◌==◌, ℕ, IfOk, length, nat_le, nat_lt, slice_index};
 ghost use Rattle.std.specs.Int.{bit_at};
 ghost use Rattle.node_set.specs.Limits.{AreWithin};
 
@@ -10,7 +10,7 @@ use std::simd::prelude::*;
 // Which of 64 numbers are at most the limit.
 #[inline(always)]
 fn lanes_within(numbers: u32x64, limit: u32) -> u64
-    ensures { (i : ℕ) → i < 64 → (bit_at result i == 1) ≡ nat_le (get_or numbers i 0) limit }
+    ensures { (i : ℕ) → i < 64 → (bit_at result i == 1) ≡ nat_le (slice_index numbers i) limit }
 {
     numbers.simd_le(u32x64::splat(limit)).to_bitmask()
 }

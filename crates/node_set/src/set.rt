@@ -4,6 +4,7 @@ ghost use Rattle.node_set.specs.Ascending.{has, with_number, sift, union, share}
 ghost use Rattle.node_set.specs.Nodes.{AreNodes};
 ghost use Rattle.node_set.specs.Scan.{IsNext, IsNoneFrom};
 
+use crate::bytes::fill_words;
 use crate::cuts::{words_keep, words_remove};
 use crate::lanes::{lanes_absorb, lanes_meet};
 use crate::limit::words_within;
@@ -116,6 +117,17 @@ impl NodeSet {
         ensures { self.new ≡ other.now }
     {
         self.words.copy_from_slice(&other.words);
+    }
+
+    /// Makes the set that of the places of the bytes that are at most the limit. There are as many
+    /// bytes as the room says.
+    pub fn fill_within(&mut self, bytes: &[u8], limit: u8)
+        requires { length bytes.now ≡ self.old.room }
+        ensures room { self.new.room ≡ self.old.room }
+        ensures members { self.new.members
+            ≡ sift (λ x. nat_le (slice_index bytes.now x) limit) 0 (length bytes.now) }
+    {
+        fill_words(&mut self.words, bytes, limit);
     }
 
     /// Takes each number out of the set that isn't in `other`.

@@ -9,7 +9,7 @@ use Rattle.net_graph.specs.declared.edge.Edge.{Edge}
 use Rattle.net_graph.specs.Network.{Network}
 use Rattle.net_graph.specs.Walks.{IsLeastWeight}
 use Rattle.node_set.specs.Ascending.{has, IsAscending}
-use Rattle.distances.specs.Table.{DistanceTable, AreDistancesOf}
+use Rattle.distances.specs.Table.{DistanceTable, DistancesAreOne}
 use Rattle.coarse_cover.specs.Coarsening.{cluster_of, phase, phases, without_home}
 use Rattle.coarse_cover.specs.Covers.{cluster_list, as_cluster}
 use Rattle.coarse_cover.specs.declared.cover.Cluster.{Cluster}
@@ -163,12 +163,7 @@ same_top table one two p q =
           [ inl greater ↦ absurd (omega (arith, p.least two greater, q.enough, le, ge)) | inr same ↦ omega arith ]
     ]
 
--- a network has one table of distances
-abbrev pub TableIsOne : Type 0
-TableIsOne = (network : Network) (one two : DistanceTable) → AreDistancesOf network one → AreDistancesOf network two
-    → one ≡ two
-
-pub one_plan : (one_table : TableIsOne) (one_weight : LeastIsOne) (network : Network) (k : ℕ) (one two : PlanData)
+pub one_plan : (one_table : DistancesAreOne) (one_weight : LeastIsOne) (network : Network) (k : ℕ) (one two : PlanData)
     → IsPlanOf network k one → IsPlanOf network k two → one ≡ two
 one_plan one_table one_weight network k one two p q =
     let a : one.distances ≡ two.distances = tables in

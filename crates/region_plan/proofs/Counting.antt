@@ -1,13 +1,14 @@
 -- The most looks and the most writes of the directory over a plan, from the plan's own data.
-use Rattle.std.proofs.Common.{◌≡◌, ℕ, suc, ◌+◌, ◌*◌, ◌-◌, ◌<◌, ◌≤◌, List, [], ◌∷◌, length, length-append, map, refl}
+use Rattle.std.proofs.Common.{◌≡◌, ℕ, suc, ◌+◌, ◌*◌, ◌-◌, ◌<◌, ◌≤◌, List, [], ◌∷◌, length, length-append, map, refl, take}
 use Rattle.std.proofs.Common.{sym, ◌∙◌, ap, arith}
 use Rattle.std.specs.Prelude.{flat_map}
 use Rattle.std.specs.List.{sum_by}
-use Rattle.std.proofs.lemmas.List.{length-map}
-use Rattle.std.proofs.lemmas.List.Sums.{sum_by-cons}
+use Rattle.std.proofs.lemmas.List.{length-map, take_more}
+use Rattle.std.proofs.lemmas.List.Sums.{sum_by-cons, sum_by_push}
 use Rattle.directory.specs.Finds.{Reader, most_looks}
 use Rattle.directory.specs.Writes.{numbers_from, most_writes}
-use Rattle.region_plan.specs.Plan.{PlanData, Level, nodes_of, levels_of, level_at, level_in, readers_in}
+use Rattle.region_plan.specs.Plan.{PlanData, Level, nodes_of, levels_of, level_at, level_in, no_level, readers_in}
+use Rattle.region_plan.specs.Kept.{Shape, readers_for, shape_of}
 use Rattle.region_plan.specs.Settings.{setting_of}
 
 module _ (v : ℕ) (at : ℕ → Level) where
@@ -53,3 +54,15 @@ looks_counted plan starts v some =
 pub writes_counted : (plan : PlanData) (starts : List ℕ) → 1 ≤ levels_of plan → most_writes (setting_of plan starts)
     ≡ 3 + 2 * levels_of plan + nodes_of plan
 writes_counted plan starts some = omega arith
+
+-- the readers of one level more
+pub looks_more : (levels : List Level) (shape : Shape) (v i old len : ℕ) → i < length levels
+    → old ≡ sum_by (λ level. length (readers_in level v)) (take i levels) → shape ≡ shape_of (level_in levels i)
+    → len ≡ length (readers_for shape v)
+    → old + len ≡ sum_by (λ level. length (readers_in level v)) (take (i + 1) levels)
+looks_more levels shape v i old len below before is counted =
+    ap (λ n. n + len) before
+    ∙ ap (λ n. sum_by (λ (level : Level). length (readers_in level v)) (take i levels) + n)
+    (counted ∙ ap (λ (s : Shape). length (readers_for s v)) is)
+    ∙ sym (sum_by_push (λ (level : Level). length (readers_in level v)) (take i levels) (level_in levels i))
+    ∙ sym (ap (sum_by (λ (level : Level). length (readers_in level v))) (take_more levels i no_level below))

@@ -11,7 +11,7 @@ use Rattle.region_plan.specs.Regions.{clusters_with, IsFlat}
 use Rattle.region_plan.specs.Matched.{IsMatched, IsWithinReach}
 use Rattle.node_set.specs.Balls.{centres}
 use Rattle.node_set.specs.BallLaws.{has_centre, below_centre, get_or-map_centres}
-use Rattle.region_plan.proofs.Lists.{beside_map}
+use Rattle.cluster_tree.specs.PlaceLaws.{beside_map}
 
 module _ (network : Network) (plan : PlanData) (flat : IsFlat network plan) where
   pub flat_member : (v : ℕ) → v < nodes_of plan → has v (members_of plan 0 0) ≡ true

@@ -1,8 +1,7 @@
 -- Balls read from rows of distances, and the clusters that contain each node.
 use Rattle.std.proofs.Common.{◌≡◌, inl, inr, ℕ, ◌+◌, ◌<◌, ◌≤◌, Bool, true, false, ◌&&◌, ◌||◌, List, [], ◌∷◌, ◌++◌}
 use Rattle.std.proofs.Common.{length, set, get_or, refl, sym, ◌∙◌, ap, arith}
-use Rattle.std.specs.Prelude.{◌==◌, nat_le, nat_lt, slice_index, take, drop}
-use Rattle.std.proofs.Math.Seq.{take-append_seam}
+use Rattle.std.specs.Prelude.{◌==◌, nat_le, nat_lt, slice_index, take}
 use Rattle.std.proofs.lemmas.Bool.Decides.{nat_tests}
 use Rattle.std.proofs.lemmas.Bool.{cases_eq, cases_lt, eq-eqb, ne_eqb, lt-ltb, le-ltb}
 use Rattle.std.proofs.lemmas.List.{get_or-set_same, get_or-set_other, get_or_default, length-set, take_more}
@@ -148,22 +147,22 @@ read_none n clusters lists none v x below =
     none v x below ∙ sym (ap (λ b. b && has v (cluster_in clusters x).members) (le-ltb x 0 (omega arith)))
 
 -- one cluster more
-pub read_more : (n number : ℕ) (clusters : List PlanCluster) (cluster : PlanCluster) (old new : List (List ℕ))
+pub read_more : (n number : ℕ) (clusters : List PlanCluster) (members : List ℕ) (old new : List (List ℕ))
     → IsReadBelow n clusters number old
-    → cluster.members ≡ (cluster_in clusters number).members
-    → ((v x : ℕ) → v < n → has x (ball new v) ≡ (has x (ball old v) || (x == number && has v cluster.members)))
+    → members ≡ (cluster_in clusters number).members
+    → ((v x : ℕ) → v < n → has x (ball new v) ≡ (has x (ball old v) || (x == number && has v members)))
     → IsReadBelow n clusters (number + 1) new
-read_more n number clusters cluster old new before is each v x below =
-    each v x below ∙ ap (λ b. b || (x == number && has v cluster.members)) (before v x below)
+read_more n number clusters members old new before is each v x below =
+    each v x below ∙ ap (λ b. b || (x == number && has v members)) (before v x below)
     ∙ elim (cases_eq x number) [
       | inl same ↦
-          ap (λ b. (b && has v (cluster_in clusters x).members) || (x == number && has v cluster.members))
+          ap (λ b. (b && has v (cluster_in clusters x).members) || (x == number && has v members))
           (le-ltb x number (omega arith))
-          ∙ ap (λ b. b && has v cluster.members) (eq-eqb x number same)
+          ∙ ap (λ b. b && has v members) (eq-eqb x number same)
           ∙ ap (has v) is ∙ ap (λ y. has v (cluster_in clusters y).members) (sym same)
           ∙ sym (ap (λ b. b && has v (cluster_in clusters x).members) (lt-ltb x (number + 1) (omega arith)))
       | inr other ↦
-          ap (λ b. (nat_lt x number && has v (cluster_in clusters x).members) || (b && has v cluster.members))
+          ap (λ b. (nat_lt x number && has v (cluster_in clusters x).members) || (b && has v members))
           (ne_eqb x number other)
           ∙ none (nat_lt x number && has v (cluster_in clusters x).members)
           ∙ ap (λ b. b && has v (cluster_in clusters x).members) (step other)
@@ -193,22 +192,15 @@ readers_are n v clusters all numbers read below is ascending =
           ∙ sym (passing_over (λ c. has v (cluster_in clusters c).members) x 0 (length clusters) (omega arith))
     ])
 
--- a list that was written over whole
-pub written : {A : Type 0} (n : ℕ) (new old : List A) → length new ≡ length old → n ≡ length old
-    → take n (new ++ drop (length new) old) ≡ new
-written n new old same whole = let e : n ≡ length new = whole ∙ sym same in rw (e, take-append_seam) refl
-
--- what is pushed for a node, from sets that were written over whole
-pub pushed_readers : (v count : ℕ) (clusters now : List PlanCluster) (before slice all : List Nodes) (s : Nodes)
-    (old new : List ℕ) → IsReadBelow (length slice) now (length now) (sets all) → now ≡ clusters → slice ≡ before
-    → length all ≡ length slice → count ≡ length before → v < length before
-    → s ≡ get_or (take count (all ++ drop (length all) before)) v s → AreNodes s → new ≡ old ++ s.members
+-- what is pushed for a node, from sets that were written over
+pub pushed_readers : (v : ℕ) (clusters now : List PlanCluster) (before all : List Nodes) (d : Nodes)
+    (old new : List ℕ) → IsReadBelow (length before) now (length now) (sets all) → now ≡ clusters
+    → length all ≡ length before → v < length before
+    → AreNodes (get_or all v d) → new ≡ old ++ (get_or all v d).members
     → new ≡ old ++ clusters_with clusters v
-pushed_readers v count clusters now before slice all s old new read value same kept whole below at sound pushed =
-    let long : length slice ≡ length before = ap (length {A = Nodes}) same in
-    let at_all : s ≡ get_or all v s =
-    at ∙ ap (λ (l : List Nodes). get_or l v s) (written count all before (kept ∙ long) whole) in
+pushed_readers v clusters now before all d old new read value kept below sound pushed =
     pushed ∙ ap (λ (l : List ℕ). old ++ l)
-    (readers_are (length slice) v now (sets all) s.members read (omega (arith, below, long))
-    (sym (ball_at all v s (omega (arith, below, long, kept)) at_all)) sound.ascending
+    (readers_are (length before) v now (sets all) (get_or all v d).members read below
+    (sym (ball_at all v (get_or all v d) (omega (arith, below, kept))
+    (get_or_default all v d (get_or all v d) (omega (arith, below, kept))))) sound.ascending
     ∙ ap (λ (cs : List PlanCluster). clusters_with cs v) value)

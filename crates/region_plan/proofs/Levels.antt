@@ -1,9 +1,10 @@
 -- A level as it is built, and the plan of all levels.
-use Rattle.std.proofs.Common.{◌≡◌, ℕ, ◌+◌, ◌-◌, ◌^◌, ◌<◌, ◌≤◌, List, [], ◌∷◌, ◌++◌, length, map, get_or, refl, sym, ◌∙◌}
+use Rattle.std.proofs.Common.{◌≡◌, ℕ, ◌+◌, ◌-◌, ◌^◌, ◌<◌, ◌≤◌, List, [], ◌∷◌, ◌++◌, length, get_or, refl, sym, ◌∙◌}
 use Rattle.std.proofs.Common.{ap, subst, inl, inr, arith, ◌*◌}
 use Rattle.std.specs.Prelude.{All, nat_le}
 use Rattle.std.proofs.lemmas.Bool.{cases_lt}
-use Rattle.std.proofs.lemmas.List.{get_or_append_left, get_or_push}
+use Rattle.std.proofs.lemmas.List.{get_or_append_left, get_or_push, length_push}
+use Rattle.std.proofs.lemmas.List.Elements.{All-push}
 use Rattle.net_graph.specs.Network.{Network, IsNetwork}
 use Rattle.node_set.specs.Nodes.{Nodes}
 use Rattle.distances.specs.Table.{DistanceTable, AreDistancesOf, IsMetric, ball_of, dist}
@@ -11,13 +12,15 @@ use Rattle.coarse_cover.specs.Coarsening.{coarsening, all_clusters, ClustersAreS
 use Rattle.coarse_cover.specs.Covers.{IsCover}
 use Rattle.coarse_cover.specs.declared.cover.Cluster.{Cluster}
 use Rattle.coarse_cover.specs.declared.cover.Cover.{Cover}
+use Rattle.coarse_cover.specs.declared.workspace.Workspace.{Workspace}
+use Rattle.coarse_cover.specs.Workspaces.{IsWorkspace}
 use Rattle.region_plan.specs.Plan.{PlanCluster, Level, PlanData, level_in, no_level}
 use Rattle.region_plan.specs.Regions.{balls_of, regions_of, readers_of, threshold_of, IsTop, AreClustersOf, IsLevelOf}
 use Rattle.region_plan.specs.Regions.{IsPlanOf}
-use Rattle.region_plan.specs.Kept.{IsSpanned, IsSized, level_of}
+use Rattle.region_plan.specs.Kept.{AreLevelsOf, IsSpanned, IsSized, Shape, level_of, shape_with}
 use Rattle.region_plan.proofs.Spanning.{centred, listed_spanned}
 use Rattle.node_set.specs.Ascending.{has}
-use Rattle.node_set.specs.Balls.{ball, home_of, centres, sets, AreCentred}
+use Rattle.node_set.specs.Balls.{ball, home_of, sets, AreCentred}
 use Rattle.node_set.specs.BallLaws.{length-sets, length-map_centres, get_or-map_centres}
 use Rattle.node_set.specs.SetLaws.{has-passing}
 use Rattle.coarse_cover.specs.Turned.{AreTurned}
@@ -39,38 +42,30 @@ balls_are_rows table metric i u v u_below v_below =
 
 module _ (network : Network) (table : DistanceTable) (metric : IsMetric table) (least : AreDistancesOf network table)
     (sound : IsNetwork network) (k i : ℕ) (low : 1 ≤ k)
-    (radius : ℕ) (radius_is : radius ≡ 2 ^ i)
-    (balls now : List Nodes) (value : now ≡ balls)
-    (are : sets balls ≡ map (λ v. ball_of table v radius) (centres table.nodes)) where
-  sets_are : sets now ≡ balls_of table i
-  sets_are = ap sets value ∙ are ∙ ap (λ r. map (λ v. ball_of table v r) (centres table.nodes)) radius_is
-
+    (now : List Nodes) (sets_are : sets now ≡ balls_of table i) where
   count : length now ≡ table.nodes
   count = sym (length-sets now) ∙ ap length sets_are ∙ length-map_centres (λ v. ball_of table v (2 ^ i)) table.nodes
 
   pub balls_few : length now ≤ 1024
   balls_few = omega (arith, count, metric.few)
 
-  pub balls_rooms : All (λ (b : Nodes). b.room ≡ table.nodes) balls → All (λ (b : Nodes). b.room ≡ length now) now
-  balls_rooms rooms = subst (λ (n : ℕ). All (λ (b : Nodes). b.room ≡ n) now) (sym count)
-      (subst (λ (bs : List Nodes). All (λ (b : Nodes). b.room ≡ table.nodes) bs) (sym value) rooms)
+  pub balls_rooms : All (λ (b : Nodes). b.room ≡ table.nodes) now → All (λ (b : Nodes). b.room ≡ length now) now
+  balls_rooms rooms = subst (λ (n : ℕ). All (λ (b : Nodes). b.room ≡ n) now) (sym count) rooms
+
+  -- the workspace is for as many balls
+  pub balls_work : (work : Workspace) → IsWorkspace table.nodes work → IsWorkspace (length now) work
+  balls_work work = subst (λ (n : ℕ). IsWorkspace n work) (sym count)
+
+  pub nodes_work : (work : Workspace) → IsWorkspace (length now) work → IsWorkspace network.nodes work
+  nodes_work work = subst (λ (n : ℕ). IsWorkspace n work) (count ∙ least.nodes)
 
   pub balls_centred : AreCentred (sets now)
   balls_centred = subst (λ (bs : List (List ℕ)). AreCentred bs) (sym sets_are)
       (centred network table metric least sound k i low)
 
   -- the balls are their own rows
-  module _ (rows : List Nodes) (rows_value : rows ≡ balls) where
-    pub balls_rows : All (λ (b : Nodes). b.room ≡ table.nodes) balls → All (λ (b : Nodes). b.room ≡ length now) rows
-    balls_rows rooms =
-        subst (λ (n : ℕ). All (λ (b : Nodes). b.room ≡ n) rows) (sym count)
-        (subst (λ (bs : List Nodes). All (λ (b : Nodes). b.room ≡ table.nodes) bs) (sym rows_value) rooms)
-
-    pub balls_turned : AreTurned (sets now) (sets rows)
-    balls_turned =
-        subst (λ (bs : List (List ℕ)). AreTurned bs (sets rows)) (sym sets_are)
-        (subst (λ (bs : List (List ℕ)). AreTurned (balls_of table i) bs)
-        (sym (ap sets (rows_value ∙ sym value) ∙ sets_are)) (balls_are_rows table metric i))
+  pub balls_turned : AreTurned (sets now) (sets now)
+  balls_turned = subst (λ (bs : List (List ℕ)). AreTurned bs bs) (sym sets_are) (balls_are_rows table metric i)
 
   module _ (cover : Cover) (exact : IsCover (length now) (coarsening (sets now) k) cover) where
     cover_is : IsCover table.nodes (regions_of table k i) cover
@@ -86,34 +81,36 @@ module _ (network : Network) (table : DistanceTable) (metric : IsMetric table) (
         ∙ length-map_centres (home_of (all_clusters (regions_of table k i))) table.nodes
 
     -- the balls' sets are as many as the homes, and have room for as many
-    pub sets_fit : length balls ≡ length cover.home.items
-    sets_fit = ap length (sym value) ∙ count ∙ sym homes_count
+    pub sets_fit : length now ≡ length cover.home.items
+    sets_fit = count ∙ sym homes_count
 
-    pub rooms_fit : All (λ (b : Nodes). b.room ≡ table.nodes) balls
-        → All (λ (b : Nodes). b.room ≡ length cover.home.items) balls
-    rooms_fit = subst (λ (n : ℕ). All (λ (b : Nodes). b.room ≡ n) balls) (sym homes_count)
+    pub rooms_fit : All (λ (b : Nodes). b.room ≡ table.nodes) now
+        → All (λ (b : Nodes). b.room ≡ length cover.home.items) now
+    rooms_fit = subst (λ (n : ℕ). All (λ (b : Nodes). b.room ≡ n) now) (sym homes_count)
 
     module _ (rows : List PlanCluster) (rows_are : AreClustersOf network cover.clusters.items rows)
         (few : length cover.clusters.items ≤ length now) where
       pub rows_few : length rows ≤ table.nodes
       rows_few = omega (arith, clusters_count network cover.clusters.items rows rows_are, count)
 
-      pub level_built : (threshold : ℕ) (level : Level) → threshold ≡ threshold_of i → level
-          ≡ level_of i threshold cover.phases rows cover.home.items
-          → IsLevelOf network table k i level
-      level_built threshold level is made = subst (λ (l : Level). IsLevelOf network table k i l) (sym made) (record {
-        exponent = refl;
-        threshold = is;
-        phases = cover_is.phases;
-        clusters = subst (λ (cs : List Cluster). AreClustersOf network cs rows) cover_is.clusters rows_are;
-        homes = cover_is.homes;
-        readers = ap (λ n. readers_of n rows) homes_count;
-      })
+      pub level_built : (shape : Shape) → shape ≡ shape_with cover.phases rows cover.home.items
+          → IsLevelOf network table k i (level_of i (threshold_of i) shape)
+      level_built shape made =
+          subst (λ (s : Shape). IsLevelOf network table k i (level_of i (threshold_of i) s)) (sym made) (record {
+            exponent = refl;
+            threshold = refl;
+            phases = cover_is.phases;
+            clusters = subst (λ (cs : List Cluster). AreClustersOf network cs rows) cover_is.clusters rows_are;
+            homes = cover_is.homes;
+            readers = ap (λ n. readers_of n rows) homes_count;
+          })
 
-      pub level_fits : (threshold : ℕ) (level : Level) → i ≤ 30 → level
-          ≡ level_of i threshold cover.phases rows cover.home.items → IsSized table.nodes level
-      level_fits threshold level light made =
-          level_sized table.nodes i threshold cover.phases rows cover.home.items level made homes_count rows_few light
+      pub level_fits : (shape : Shape) → i ≤ 30 → shape ≡ shape_with cover.phases rows cover.home.items
+          → IsSized table.nodes (level_of i (threshold_of i) shape)
+      level_fits shape light made =
+          level_sized table.nodes i (threshold_of i) cover.phases rows cover.home.items
+          (level_of i (threshold_of i) shape)
+          (ap (level_of i (threshold_of i)) made) homes_count rows_few light
 
 -- ---- the levels, one after another
 
@@ -132,6 +129,27 @@ more_levels network table k i old new level count each is now j below = elim (ca
       (subst (λ (l : Level). IsLevelOf network table k i l)
       (sym (ap (λ (ls : List Level). get_or ls i no_level) now ∙ get_or_push old level no_level i count)) is)
 ]
+
+-- one level more
+pub levels_more : (network : Network) (table : DistanceTable) (k i : ℕ) (old new : List Level) (level : Level)
+    → AreLevelsOf network table k i old → IsLevelOf network table k i level → IsSized table.nodes level
+    → new ≡ old ++ level ∷ [] → AreLevelsOf network table k (i + 1) new
+levels_more network table k i old new level before is sized now = record {
+  count_is = ap (length {A = Level}) now ∙ length_push old level ∙ ap (λ n. n + 1) before.count_is;
+  each = more_levels network table k i old new level before.count_is before.each is now;
+  sized = subst (λ (ls : List Level). All (IsSized table.nodes) ls) (sym now)
+      (All-push (IsSized table.nodes) old level before.sized sized);
+}
+
+-- a level over a table of its own
+pub levels_tabled : (network : Network) (table : DistanceTable) (k i threshold : ℕ) (old new : List Level)
+    (shape : Shape) → AreLevelsOf network table k i old
+    → IsLevelOf network table k i (level_of i (threshold_of i) shape)
+    → IsSized table.nodes (level_of i (threshold_of i) shape) → threshold ≡ threshold_of i
+    → new ≡ old ++ level_of i threshold shape ∷ [] → AreLevelsOf network table k (i + 1) new
+levels_tabled network table k i threshold old new shape before is sized same now =
+    levels_more network table k i old new (level_of i (threshold_of i) shape) before is sized
+    (now ∙ ap (λ t. old ++ level_of i t shape ∷ []) same)
 
 abbrev plan_with : ℕ → ℕ → List Level → DistanceTable → PlanData
 plan_with k reach levels t = record { k = k; reach = reach; distances = t; levels = levels }

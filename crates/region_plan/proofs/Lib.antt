@@ -6,13 +6,17 @@ mod Flatness
 mod Reaching
 mod Spanning
 mod Gathering
+mod Laying
 mod Places
 mod Levels
+mod Shapes
 mod Matching
 mod Alone
+mod Existing
 mod Uniqueness
 mod LineWalks
 mod LineLaws
 mod LinePlans
 mod Counting
 mod Exponents
+mod Spreading

@@ -1,22 +1,13 @@
 -- Numbers from 0 on, and what stands beside a member.
-use Rattle.std.proofs.Common.{◌≡◌, ℕ, zero, suc, ◌+◌, ◌<◌, ◌≤◌, true, false, cond, ◌||◌, List, [], ◌∷◌, ◌++◌, map}
-use Rattle.std.proofs.Common.{refl, sym, ◌∙◌, ap, subst, inl, inr, arith, eq-eqb, ne_eqb}
-use Rattle.std.proofs.lemmas.Bool.{cases_eq}
+use Rattle.std.proofs.Common.{◌≡◌, ℕ, zero, suc, ◌+◌, ◌<◌, ◌≤◌, true, List, [], ◌∷◌, ◌++◌, drop, length, map, take}
+use Rattle.std.proofs.Common.{refl, sym, ◌∙◌, ap, subst, arith}
+use Rattle.std.proofs.Math.Seq.{drop-append_seam, take-append_seam}
+use Rattle.std.specs.Prelude.{All}
+use Rattle.std.proofs.lemmas.List.Elements.{All-drop}
 use Rattle.std.proofs.lemmas.List.{map_push}
-use Rattle.node_set.specs.Ascending.{has, sift}
+use Rattle.node_set.specs.Ascending.{sift}
 use Rattle.node_set.specs.SetLaws.{passing_takes}
 use Rattle.node_set.specs.Balls.{centres}
-use Rattle.cluster_tree.specs.Tree.{weight_beside}
-
--- what a function gives stands beside each member
-pub beside_map : (f : ℕ → ℕ) (v : ℕ) (xs : List ℕ) → has v xs ≡ true → weight_beside v xs (map f xs) ≡ f v
-beside_map f v [] h = let both : false ≡ true = h in cc
-beside_map f v (x ∷ xs) h = elim (cases_eq v x) [
-  | inl same ↦ ap (λ b. cond b (f x) (weight_beside v xs (map f xs))) (eq-eqb v x same) ∙ ap f (sym same)
-  | inr other ↦
-      let rest : has v xs ≡ true = subst (λ b. (b || has v xs) ≡ true) (ne_eqb v x other) h in
-      ap (λ b. cond b (f x) (weight_beside v xs (map f xs))) (ne_eqb v x other) ∙ beside_map f v xs rest
-]
 
 -- one number more
 pub centres_push : (v : ℕ) → centres (v + 1) ≡ centres v ++ v ∷ []
@@ -39,3 +30,16 @@ map_same_range f g v (suc n) same =
 pub map_same : {X : Type 0} (f g : ℕ → X) (n : ℕ) → ((u : ℕ) → u < n → f u ≡ g u) → map f (centres n)
     ≡ map g (centres n)
 map_same f g n same = map_same_range f g 0 n (λ u low high. same u (omega arith))
+
+-- a list that was written over whole
+pub written : {A : Type 0} (n : ℕ) (new old : List A) → length new ≡ length old → n ≡ length old
+    → take n (new ++ drop (length new) old) ≡ new
+written n new old same whole = let e : n ≡ length new = whole ∙ sym same in rw (e, take-append_seam) refl
+
+-- what holds of all holds of the one that comes next
+pub next_holds : {X : Type 0} (P : X → Type 0) (all before rest later : List X) (x : X) → all ≡ before ++ rest
+    → rest ≡ x ∷ later → All P all → P x
+next_holds {X} P all before rest later x whole next holds =
+    let dropped : drop (length before) all ≡ x ∷ later =
+    ap (λ (xs : List X). drop (length before) xs) whole ∙ drop-append_seam before rest ∙ next in
+    subst (λ (xs : List X). All P xs) dropped (All-drop P (length before) all holds) 0 x (omega arith)

@@ -9,22 +9,23 @@ use Rattle.std.proofs.lemmas.List.{length-map, take_all, take-append-le}
 use Rattle.std.proofs.lemmas.List.{drop-append-le, drop_all}
 use Rattle.net_graph.specs.Network.{Network}
 use Rattle.node_set.specs.Ascending.{has, sift}
-use Rattle.node_set.specs.Nodes.{Nodes, AreNodes}
-use Rattle.node_set.specs.SetLaws.{ascending-passing, below_from_has, passing_takes, passing_skips, passing_same}
+use Rattle.node_set.specs.Nodes.{Nodes}
+use Rattle.node_set.specs.SetLaws.{passing_takes, passing_skips, passing_same}
 use Rattle.distances.specs.Table.{DistanceTable, IsRowOf, dist, ball_of, IsMetric, IsDiameter}
 use Rattle.distances.specs.TableLaws.{ball_members}
 use Rattle.coarse_cover.specs.declared.cover.Cluster.{Cluster}
 use Rattle.std.proofs.lemmas.Grind.{same_number_lists}
-use Rattle.cluster_tree.specs.Inside.{IsWritten, make_cluster}
+use Rattle.cluster_tree.specs.Inside.{AreWeightsWritten, make_cluster}
 use Rattle.cluster_tree.specs.Tree.{weight_beside, IsTreeOf}
 use Rattle.region_plan.specs.Plan.{PlanCluster, Level, cluster_in, weight_in}
-use Rattle.region_plan.specs.Regions.{clusters_with, readers_of, IsTop, IsWhole, IsFlatLevel, IsClusterOf}
+use Rattle.region_plan.specs.Regions.{clusters_with, readers_of, IsTop, IsWhole, IsWholeAlone, IsFlatLevel, IsClusterOf}
 use Rattle.region_plan.specs.Regions.{AreClustersOf}
-use Rattle.region_plan.specs.Kept.{AreBeside, AreRows, IsSized, level_of}
+use Rattle.region_plan.specs.Kept.{AreBeside, AreRows, IsSized, level_of, shape_with}
 use Rattle.region_plan.proofs.Rows.{length-containing}
 use Rattle.node_set.specs.Balls.{centres, sets}
 use Rattle.node_set.specs.BallLaws.{has_centre, length-centres, length-map_centres, get_or-map_centres}
-use Rattle.region_plan.proofs.Lists.{made_more, map_same, beside_map}
+use Rattle.cluster_tree.specs.PlaceLaws.{beside_map}
+use Rattle.region_plan.proofs.Lists.{made_more, map_same}
 
 -- ---- the clusters that contain a node
 
@@ -65,12 +66,12 @@ no_rows clusters starts readers starts_are readers_are = record {
   each = λ v h. absurd (omega arith);
 }
 
-range_old : (xs ys : List ℕ) (a b : ℕ) → a ≤ b → b ≤ length xs → slice_range (xs ++ ys) a b ≡ slice_range xs a b
+pub range_old : (xs ys : List ℕ) (a b : ℕ) → a ≤ b → b ≤ length xs → slice_range (xs ++ ys) a b ≡ slice_range xs a b
 range_old xs ys a b order short =
     ap (λ l. take (b - a) l) (drop-append-le a xs ys (omega arith))
     ∙ take-append-le (b - a) (drop a xs) ys (omega (arith, length-drop a xs))
 
-range_new : (xs ys : List ℕ) (a b : ℕ) → a ≡ length xs → b ≡ length (xs ++ ys) → slice_range (xs ++ ys) a b ≡ ys
+pub range_new : (xs ys : List ℕ) (a b : ℕ) → a ≡ length xs → b ≡ length (xs ++ ys) → slice_range (xs ++ ys) a b ≡ ys
 range_new xs ys a b from to =
     ap (λ l. take (b - a) l) (drop-append-le a xs ys (omega arith))
     ∙ ap (λ l. take (b - a) (l ++ ys)) (drop_all a xs (omega arith))
@@ -222,15 +223,6 @@ more_balls table radius v old new ball before is now =
     made_more (λ u. ball_of table u radius) v (sets old) (sets new) ball.members before is
     (ap sets now ∙ map_push (λ (b : Nodes). b.members) old ball)
 
-pub ball_sound : (table : DistanceTable) (v radius : ℕ) (ball : Nodes) → IsMetric table → ball.room ≡ table.nodes
-    → ball.members ≡ ball_of table v radius → AreNodes ball
-ball_sound table v radius ball metric room members = record {
-  small = omega (arith, metric.few);
-  ascending = rw members (ascending-passing (λ w. nat_le (dist table v w) radius) 0 table.nodes);
-  below = below_from_has ball.room ball.members
-      (λ x h. let inside = (ball_members table v radius x).0 (ap (has x) (sym members) ∙ h) in omega (arith, inside.0));
-}
-
 whole_ball : (table : DistanceTable) (v radius : ℕ) → v < table.nodes → IsDiameter table radius → ball_of table v radius
     ≡ centres table.nodes
 whole_ball table v radius below diameter =
@@ -284,22 +276,23 @@ module _ (table : DistanceTable) (metric : IsMetric table) (radius : ℕ) (diame
 
 -- ---- the flat level and the flat plan
 
-pub flat_level_is : (table : DistanceTable) (top : ℕ) (clusters : List PlanCluster) (homes : List ℕ) (row : PlanCluster)
-    (level : Level) → IsTop table top
-    → clusters ≡ row ∷ [] → IsWhole table row → homes ≡ replicate {A = ℕ} table.nodes 0 → level
-    ≡ level_of top 1 1 clusters homes → IsFlatLevel table level
-flat_level_is table top clusters homes row level top_is one whole zeros is =
+pub flat_level_is : (table : DistanceTable) (top : ℕ) (clusters : List PlanCluster) (homes : List ℕ) (level : Level)
+    → IsTop table top → IsWholeAlone table clusters → homes ≡ replicate {A = ℕ} table.nodes 0 → level
+    ≡ level_of top 1 (shape_with 1 clusters homes) → IsFlatLevel table level
+flat_level_is table top clusters homes level top_is alone zeros is =
     subst (λ (l : Level). IsFlatLevel table l) (sym is)
-    (subst (λ (cs : List PlanCluster). IsFlatLevel table (level_of top 1 1 cs homes)) (sym one) (record {
+    (subst (λ (cs : List PlanCluster). IsFlatLevel table (level_of top 1 (shape_with 1 cs homes))) (sym alone.alone)
+    (record {
       exponent = top_is;
       threshold = refl;
       phases = refl;
       one = refl;
-      whole = whole;
+      whole = alone.whole;
       homes = zeros ∙ replicated table.nodes;
-      readers = ap (λ n. readers_of n (row ∷ [])) (ap (length {A = ℕ}) zeros ∙ length-replicate {A = ℕ} table.nodes 0)
-          ∙ map_same (clusters_with (row ∷ [])) (λ v. 0 ∷ []) table.nodes
-          (λ v h. ap (λ b. cond b (0 ∷ []) []) (ap (has v) whole.members ∙ has_centre table.nodes v h));
+      readers = ap (λ n. readers_of n (alone.cluster ∷ []))
+          (ap (length {A = ℕ}) zeros ∙ length-replicate {A = ℕ} table.nodes 0)
+          ∙ map_same (clusters_with (alone.cluster ∷ [])) (λ v. 0 ∷ []) table.nodes
+          (λ v h. ap (λ b. cond b (0 ∷ []) []) (ap (has v) alone.whole.members ∙ has_centre table.nodes v h));
     }))
   where
     replicated_from : (v n : ℕ) → replicate {A = ℕ} n 0 ≡ map (λ v. 0) (sift (λ x. true) v n)
@@ -315,7 +308,7 @@ longer_by clusters v old new growth =
     omega (arith, ap length growth, length-append old (clusters_with clusters v), length-containing clusters v)
 
 pub level_sized : (n exponent threshold phases : ℕ) (clusters : List PlanCluster) (homes : List ℕ) (level : Level)
-    → level ≡ level_of exponent threshold phases clusters homes
+    → level ≡ level_of exponent threshold (shape_with phases clusters homes)
     → length homes ≡ n → length clusters ≤ n → exponent ≤ 30 → IsSized n level
 level_sized n exponent threshold phases clusters homes level is nodes few light =
     subst (λ (l : Level). IsSized n l) (sym is)
@@ -329,26 +322,23 @@ level_sized n exponent threshold phases clusters homes level is nodes few light 
 
 -- ---- a cluster of a cover, as a row
 
-pub row_is : (network : Network) (made : Cluster) (nodes new : List ℕ) (depth : ℕ) → nodes ≡ made.members.members
-    → IsWritten network nodes made.first [] new depth
+pub row_is : (network : Network) (made : Cluster) (nodes old new : List ℕ) (depth : ℕ) → nodes ≡ made.members.members
+    → (is : AreWeightsWritten network nodes made.first old new depth)
     → IsClusterOf network made (record {
       leader = made.first;
       phase = made.phase;
       members = nodes;
-      weights = new;
+      weights = is.weights;
       depth = depth;
     })
-row_is network made nodes new depth listed is =
-    subst (λ ws. IsClusterOf network made
-    (record { leader = made.first; phase = made.phase; members = nodes; weights = ws; depth = depth }))
-    (sym is.appended) (record {
-      leader = refl;
-      phase = refl;
-      members = listed;
-      tree = subst (λ xs. IsTreeOf network xs made.first (make_cluster made.first nodes is.weights)) listed is.tree;
-      count = is.sound.count;
-      depth = is.sound.depth_is;
-    })
+row_is network made nodes old new depth listed is = record {
+  leader = refl;
+  phase = refl;
+  members = listed;
+  tree = subst (λ xs. IsTreeOf network xs made.first (make_cluster made.first nodes is.weights)) listed is.tree;
+  count = is.sound.count;
+  depth = is.sound.depth_is;
+}
 
 pub more_clusters : (network : Network) (made : List Cluster) (rows : List PlanCluster) (c : Cluster) (d : PlanCluster)
     → AreClustersOf network made rows → IsClusterOf network c d

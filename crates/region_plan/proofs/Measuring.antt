@@ -6,8 +6,9 @@ use Rattle.std.specs.Ordering.{ord_max, nat_cmp}
 use Rattle.std.proofs.lemmas.Bool.Decides.{nat_tests}
 use Rattle.std.proofs.lemmas.List.{get_or-map, length-map, take_more, take_all}
 use Rattle.std.proofs.Math.Nat.{max-zero, zero-max, le-max_left, le-max_right}
-use Rattle.region_plan.specs.Plan.{PlanData, Level, no_level, level_at, readers, readers_in}
+use Rattle.region_plan.specs.Plan.{PlanData, Level, no_level, level_at, level_in, readers}
 use Rattle.region_plan.specs.Measures.{most, degree_in, degree_of}
+use Rattle.region_plan.specs.Kept.{Shape, readers_for, shape_of}
 
 max_both : (a b c : ℕ) → max (max a b) c ≡ max a (max b c)
 max_both a b c = omega arith
@@ -21,28 +22,27 @@ most_more : (xs : List ℕ) (i y : ℕ) → i < length xs → get_or xs i 0 ≡ 
 most_more xs i y below is = ap most (take_more xs i 0 below) ∙ most_push (take i xs) (get_or xs i 0)
     ∙ ap (λ n. max (most (take i xs)) n) is
 
-pub degree_step : (level : Level) (v old len new : ℕ) (row : List ℕ) → v < length level.readers → old
-    ≡ most (take v (map length level.readers))
-    → len ≡ length row → row ≡ readers_in level v → new ≡ max old len → new
-    ≡ most (take (v + 1) (map length level.readers))
-degree_step level v old len new row below before is reads now =
-    let at : get_or (map length level.readers) v 0 ≡ len = get_or-map length level.readers v [] 0 below
+pub degree_step : (shape : Shape) (v old len new : ℕ) (row : List ℕ) → v < length shape.readers → old
+    ≡ most (take v (map length shape.readers))
+    → len ≡ length row → row ≡ readers_for shape v → new ≡ max old len → new
+    ≡ most (take (v + 1) (map length shape.readers))
+degree_step shape v old len new row below before is reads now =
+    let at : get_or (map length shape.readers) v 0 ≡ len = get_or-map length shape.readers v [] 0 below
     ∙ ap length (sym reads) ∙ sym is in
-    now ∙ ap (λ n. max n len) before ∙ sym (most_more (map length level.readers) v len
-    (omega (arith, length-map level.readers (length {A = ℕ}))) at)
+    now ∙ ap (λ n. max n len) before ∙ sym (most_more (map length shape.readers) v len
+    (omega (arith, length-map shape.readers (length {A = ℕ}))) at)
 
-pub degree_done : (level : Level) (v degree : ℕ) → length level.readers ≤ v → degree
-    ≡ most (take v (map length level.readers)) → degree ≡ degree_in level
-degree_done level v degree past is = is
-    ∙ ap most (take_all v (map length level.readers) (omega (arith, length-map level.readers (length {A = ℕ}))))
+pub degree_done : (shape : Shape) (v degree : ℕ) → length shape.readers ≤ v → degree
+    ≡ most (take v (map length shape.readers)) → degree ≡ most (map length shape.readers)
+degree_done shape v degree past is = is
+    ∙ ap most (take_all v (map length shape.readers) (omega (arith, length-map shape.readers (length {A = ℕ}))))
 
-pub level_step : (levels : List Level) (i old d new : ℕ) (level : Level) → i < length levels → old
-    ≡ most (take i (map degree_in levels))
-    → level ≡ get_or levels i level → d ≡ degree_in level → new ≡ max old d → new
-    ≡ most (take (i + 1) (map degree_in levels))
-level_step levels i old d new level below before is reads now =
-    let at : get_or (map degree_in levels) i 0 ≡ d = get_or-map degree_in levels i level 0 below ∙ ap degree_in (sym is)
-    ∙ sym reads in
+pub level_step : (levels : List Level) (i old d new : ℕ) (shape : Shape) → i < length levels
+    → old ≡ most (take i (map degree_in levels)) → shape ≡ shape_of (level_in levels i)
+    → d ≡ most (map length shape.readers) → new ≡ max old d → new ≡ most (take (i + 1) (map degree_in levels))
+level_step levels i old d new shape below before is reads now =
+    let at : get_or (map degree_in levels) i 0 ≡ d = get_or-map degree_in levels i no_level 0 below
+    ∙ sym (reads ∙ ap (λ (s : Shape). most (map length s.readers)) is) in
     now ∙ ap (λ n. max n d) before ∙ sym (most_more (map degree_in levels) i d
     (omega (arith, length-map levels degree_in)) at)
 

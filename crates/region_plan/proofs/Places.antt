@@ -4,20 +4,21 @@ use Rattle.std.proofs.Common.{◌∷◌, ◌++◌}
 use Rattle.std.proofs.Common.{length, map, take, drop, set, get_or, refl, sym, ◌∙◌, ap, subst, arith}
 use Rattle.std.specs.Prelude.{◌==◌, replicate}
 use Rattle.std.proofs.lemmas.Bool.{cases_eq, cases_lt, eq-eqb, ne_eqb, lt-ltb, le-ltb}
-use Rattle.std.proofs.lemmas.List.{append_assoc, get_or_default, map_more, get_or-replicate, get_or-set_same}
+use Rattle.std.proofs.lemmas.List.{append_assoc, map_more, get_or-replicate, get_or-set_same}
 use Rattle.std.proofs.lemmas.List.{get_or-set_other, length-replicate, length-set, take_more, take_all}
 use Rattle.node_set.specs.Ascending.{has, IsAscending, IsBelowAll}
-use Rattle.node_set.specs.SetLaws.{ascending-passing, has-passing, passing_over}
-use Rattle.cluster_tree.specs.PlaceLaws.{has_place, place_of, below_each}
-use Rattle.region_plan.specs.Plan.{PlanCluster, cluster_in, no_cluster, weight_in}
+use Rattle.node_set.specs.SetLaws.{below_each, ascending-passing, has-passing, passing_over}
+use Rattle.cluster_tree.specs.PlaceLaws.{has_place, member_place}
+use Rattle.region_plan.specs.Plan.{PlanCluster, cluster_in, weight_in}
 use Rattle.region_plan.specs.Readers.{ArePlaces, place_in}
 use Rattle.region_plan.specs.Regions.{clusters_with}
-use Rattle.region_plan.proofs.Gathering.{has_push, written}
+use Rattle.region_plan.proofs.Gathering.{has_push}
+use Rattle.region_plan.proofs.Lists.{written}
 
 -- ---- one list of members
 
 above : (x v : ℕ) (xs : List ℕ) → IsBelowAll x xs → has v xs ≡ true → x < v
-above x v xs below member = let at = place_of v xs member in omega (arith, below_each x xs at.0 below at.1, at.2)
+above x v xs below member = let at = member_place v xs member in omega (arith, below_each x xs at.0 below at.1, at.2)
 
 later_has : (v x : ℕ) (xs : List ℕ) → (v ≡ x → ⊥) → has v (x ∷ xs) ≡ true → has v xs ≡ true
 later_has v x xs other member = subst (λ b. (b || has v xs) ≡ true) (ne_eqb v x other) member
@@ -222,12 +223,6 @@ module _ (clusters : List PlanCluster) (v : ℕ) (numbers : List ℕ) (are : num
       ∙ ap (λ (ws : List ℕ). old ++ ws)
       (ap (λ w. map (λ c. weight_in clusters c v) (take i numbers) ++ w ∷ []) is
       ∙ sym (map_more (λ c. weight_in clusters c v) numbers i 0 short))
-
-  -- a cluster that is read by its number
-  pub cluster_is : (i : ℕ) (cluster : PlanCluster) → i < length numbers
-      → cluster ≡ get_or clusters (get_or numbers i 0) cluster → cluster ≡ cluster_in clusters (get_or numbers i 0)
-  cluster_is i cluster short at =
-      at ∙ get_or_default clusters (get_or numbers i 0) cluster no_cluster (named i short).0
 
 -- the places after a node, from a list that was written over whole
 pub next_places : (v count : ℕ) (clusters now : List PlanCluster) (before slice places : List ℕ) → now ≡ clusters

@@ -1,4 +1,4 @@
--- A cluster's row, and a level's readers, as they are read.
+-- A cluster's row, and a table's readers, as they are read.
 use Rattle.std.proofs.Common.{◌≡◌, Ok, Err, ℕ, zero, suc, ◌+◌, ◌-◌, ◌<◌, ◌≤◌, true, false, List, [], ◌∷◌, length}
 use Rattle.std.proofs.Common.{drop, get_or}
 use Rattle.std.proofs.Common.{sym}
@@ -6,15 +6,15 @@ use Rattle.std.proofs.Common.{◌∙◌, ap, subst, arith}
 use Rattle.std.specs.List.Sorted.{IsBinarySearchResult}
 use Rattle.std.specs.Ordering.{nat_cmp}
 use Rattle.std.proofs.lemmas.List.Sorted.{searched}
-use Rattle.cluster_tree.specs.PlaceLaws.{always_found, below_each, has_place}
+use Rattle.cluster_tree.specs.PlaceLaws.{always_found, has_place}
 use Rattle.std.specs.Prelude.{slice_range}
 use Rattle.std.proofs.lemmas.Bool.{false_from_ne_true}
 use Rattle.std.proofs.lemmas.List.{get_or-drop, get_or_read, get_or-take, length-take}
 use Rattle.node_set.specs.Ascending.{has, IsAscending}
-use Rattle.node_set.specs.SetLaws.{length-passing-le}
-use Rattle.region_plan.specs.Plan.{PlanCluster, Level, cluster_in, readers_in, weight_in}
+use Rattle.node_set.specs.SetLaws.{below_each, length-passing-le}
+use Rattle.region_plan.specs.Plan.{PlanCluster, cluster_in, weight_in}
 use Rattle.region_plan.specs.Regions.{clusters_with}
-use Rattle.region_plan.specs.Kept.{AreRows, IsTable, level_of}
+use Rattle.region_plan.specs.Kept.{AreRows, IsTable, Shape, readers_for, shape_with}
 use Rattle.node_set.specs.BallLaws.{get_or-map_centres, length-map_centres}
 
 -- ---- what a search for a member says
@@ -39,23 +39,23 @@ missed_member xs v k ascending result =
 
 -- ---- readers
 
-pub readers_count : (exponent threshold phases : ℕ) (clusters : List PlanCluster) (homes : List ℕ) (level : Level)
-    → level_of exponent threshold phases clusters homes ≡ level → length level.readers ≡ length level.homes
-readers_count exponent threshold phases clusters homes level is =
-    subst (λ (l : Level). length l.readers ≡ length l.homes) is
+pub readers_count : (phases : ℕ) (clusters : List PlanCluster) (homes : List ℕ) (shape : Shape)
+    → shape_with phases clusters homes ≡ shape → length shape.readers ≡ length shape.homes
+readers_count phases clusters homes shape is =
+    subst (λ (l : Shape). length l.readers ≡ length l.homes) is
     (length-map_centres (clusters_with clusters) (length homes))
 
 pub length-containing : (clusters : List PlanCluster) (v : ℕ) → length (clusters_with clusters v) ≤ length clusters
 length-containing clusters v = length-passing-le (λ c. has v (cluster_in clusters c).members) 0 (length clusters)
 
-module _ (exponent threshold phases : ℕ) (clusters : List PlanCluster) (homes starts readers : List ℕ) (level : Level)
+module _ (phases : ℕ) (clusters : List PlanCluster) (homes starts readers : List ℕ) (shape : Shape)
     (v first next : ℕ) (list : List ℕ)
     (rows : AreRows (length homes) clusters starts readers)
-    (view : level_of exponent threshold phases clusters homes ≡ level) (below : v < length level.homes)
+    (view : shape_with phases clusters homes ≡ shape) (below : v < length shape.homes)
     (at_first : first ≡ get_or starts v first) (at_next : next ≡ get_or starts (v + 1) next) (whole : list ≡ readers)
   where
     short : v < length homes
-    short = subst (λ (l : Level). v < length l.homes) (sym view) below
+    short = subst (λ (l : Shape). v < length l.homes) (sym view) below
 
     row_is : slice_range list first next ≡ clusters_with clusters v
     row_is =
@@ -65,30 +65,30 @@ module _ (exponent threshold phases : ℕ) (clusters : List PlanCluster) (homes 
         get_or_read starts (v + 1) next (omega (arith, rows.count, short)) at_next 0 in
         rw (begins, ends, whole) (rows.each v short)
 
-    pub read_row : slice_range list first next ≡ readers_in level v
+    pub read_row : slice_range list first next ≡ readers_for shape v
     read_row = row_is ∙ sym (get_or-map_centres (clusters_with clusters) (length homes) v [] short)
-        ∙ ap (λ (l : Level). readers_in l v) view
+        ∙ ap (λ (l : Shape). readers_for l v) view
 
-    pub row_short : length (slice_range list first next) ≤ length level.clusters
-    row_short = subst (λ (l : Level). length (slice_range list first next) ≤ length l.clusters) view
+    pub row_short : length (slice_range list first next) ≤ length shape.clusters
+    row_short = subst (λ (l : Shape). length (slice_range list first next) ≤ length l.clusters) view
         (subst (λ xs. length xs ≤ length clusters) (sym row_is) (length-containing clusters v))
 
 -- ---- the weight beside a reader
 
-module _ (exponent threshold phases : ℕ) (clusters : List PlanCluster) (homes starts readers weights : List ℕ)
-    (level : Level) (v first place : ℕ) (table : IsTable (length homes) clusters starts readers weights)
-    (view : level_of exponent threshold phases clusters homes ≡ level) (below : v < length level.homes)
-    (inside : place < length (readers_in level v)) (at_first : first ≡ get_or starts v first) where
+module _ (phases : ℕ) (clusters : List PlanCluster) (homes starts readers weights : List ℕ)
+    (shape : Shape) (v first place : ℕ) (table : IsTable (length homes) clusters starts readers weights)
+    (view : shape_with phases clusters homes ≡ shape) (below : v < length shape.homes)
+    (inside : place < length (readers_for shape v)) (at_first : first ≡ get_or starts v first) where
   node_short : v < length homes
-  node_short = subst (λ (l : Level). v < length l.homes) (sym view) below
+  node_short = subst (λ (l : Shape). v < length l.homes) (sym view) below
 
   begins : first ≡ get_or starts v 0
   begins = get_or_read starts v first (omega (arith, table.rows.count, node_short)) at_first 0
 
-  list_is : readers_in level v ≡ slice_range readers (get_or starts v 0) (get_or starts (v + 1) 0)
+  list_is : readers_for shape v ≡ slice_range readers (get_or starts v 0) (get_or starts (v + 1) 0)
   list_is = sym (table.rows.each v node_short
       ∙ sym (get_or-map_centres (clusters_with clusters) (length homes) v [] node_short)
-      ∙ ap (λ (l : Level). readers_in l v) view)
+      ∙ ap (λ (l : Shape). readers_for l v) view)
 
   place_short : get_or starts v 0 + place < get_or starts (v + 1) 0
   place_short =
@@ -102,14 +102,14 @@ module _ (exponent threshold phases : ℕ) (clusters : List PlanCluster) (homes 
   weight_short =
       omega (arith, begins, place_short, table.beside.count, table.rows.within (v + 1) (omega (arith, node_short)))
 
-  reader_is : get_or readers (get_or starts v 0 + place) 0 ≡ get_or (readers_in level v) place 0
+  reader_is : get_or readers (get_or starts v 0 + place) 0 ≡ get_or (readers_for shape v) place 0
   reader_is = sym (ap (λ (xs : List ℕ). get_or xs place 0) list_is
       ∙ get_or-take (get_or starts (v + 1) 0 - get_or starts v 0) (drop (get_or starts v 0) readers) place 0
       (omega (arith, place_short)) ∙ get_or-drop (get_or starts v 0) readers place 0)
 
-  pub weight_read : get_or weights (first + place) 0 ≡ weight_in level.clusters (get_or (readers_in level v) place 0) v
+  pub weight_read : get_or weights (first + place) 0 ≡ weight_in shape.clusters (get_or (readers_for shape v) place 0) v
   weight_read =
       ap (λ i. get_or weights (i + place) 0) begins
       ∙ table.beside.each v (get_or starts v 0 + place) node_short (omega arith) place_short
       ∙ ap (λ c. weight_in clusters c v) reader_is
-      ∙ ap (λ (l : Level). weight_in l.clusters (get_or (readers_in level v) place 0) v) view
+      ∙ ap (λ (l : Shape). weight_in l.clusters (get_or (readers_for shape v) place 0) v) view

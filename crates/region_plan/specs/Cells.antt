@@ -1,4 +1,5 @@
 -- Which keys name cells of a plan: a presence lies at a node, an entry at a cluster of a level.
+-- Key law: in visit_log, `cell_numbers` (different cells have different numbers).
 use Rattle.std.specs.Prelude.{ℕ, ◌<◌}
 use Rattle.entry_word.specs.declared.visit.Key.{Key}
 use Rattle.entry_word.specs.declared.visit.Key.TheVariants.{Presence, Entry}

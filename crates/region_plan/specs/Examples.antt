@@ -19,6 +19,7 @@ use Rattle.directory.specs.Orders.{Scripts}
 abbrev pub line_edges : List Edge
 line_edges = make_edge 0 1 1 ∷ make_edge 1 2 1 ∷ make_edge 2 3 1 ∷ []
 
+-- the line of four as a network
 abbrev pub line_network : Network
 line_network = record { nodes = 4; edges = line_edges }
 

@@ -1,16 +1,20 @@
--- What every plan keeps: its sizes; how a level lies in memory, with a weight beside each reader;
--- and what the private functions find of clusters and exponents.
-use Rattle.std.specs.Prelude.{◌≡◌, ℕ, Bool, true, false, ◌+◌, ◌*◌, ◌^◌, ◌≤◌, ◌<◌, List, All, length}
-use Rattle.std.specs.Prelude.{get_or, slice_index, slice_range}
+-- What every plan keeps: its sizes; how a level lies in memory, with a weight beside each reader,
+-- and what levels share; and what the private functions find of clusters.
+-- Key law: `Plan::nodes`, by its clause `sound` (every plan has these sizes).
+use Rattle.std.specs.Prelude.{◌≡◌, ℕ, true, ◌+◌, ◌≤◌, ◌<◌, List, [], All}
+use Rattle.std.specs.Prelude.{length}
+use Rattle.std.specs.Prelude.{map, slice_index, slice_index_or, slice_range}
 use Rattle.net_graph.specs.Network.{Network}
 use Rattle.net_graph.specs.Walks.{IsReached}
-use Rattle.node_set.specs.Ascending.{has, IsAscending}
+use Rattle.node_set.specs.Ascending.{has}
 use Rattle.coarse_cover.specs.declared.cover.Cluster.{Cluster}
 use Rattle.cluster_tree.specs.Tree.{within}
-use Rattle.distances.specs.Table.{DistanceTable, IsMetric, dist}
-use Rattle.region_plan.specs.Plan.{PlanCluster, PlanData, Level, nodes_of, levels_of, weight_in}
-use Rattle.region_plan.specs.Regions.{clusters_with, readers_of}
+use Rattle.distances.specs.Table.{DistanceTable, IsMetric}
+use Rattle.region_plan.specs.Plan.{PlanCluster, PlanData, Level, nodes_of, levels_of, no_level}
+use Rattle.region_plan.specs.Plan.{level_in, weight_in}
+use Rattle.region_plan.specs.Regions.{IsLevelOf, clusters_with, readers_of}
 use Rattle.region_plan.specs.Measures.{degree_of}
+use Rattle.region_plan.specs.declared.sharing.LevelHead.{LevelHead}
 
 -- a level over n nodes
 pub record IsSized (n : ℕ) (level : Level) : Type 0 where
@@ -28,11 +32,6 @@ pub record IsKept (plan : PlanData) : Type 0 where
   pub near : plan.reach ≤ 17
   pub metric : IsMetric plan.distances
   pub levels : All (IsSized (nodes_of plan)) plan.levels
-
--- nodes in ascending order, and a weight for each
-pub record IsRow (nodes weights : List ℕ) : Type 0 where
-  pub ascending : IsAscending nodes
-  pub count : length weights ≡ length nodes
 
 -- the readers of n nodes lie one after another, and the starts say where those of each node begin
 -- and end
@@ -63,17 +62,57 @@ pub record IsPlanKept (plan : PlanData) (d : ℕ) : Type 0 where
   pub degree : d ≡ degree_of plan
   pub light : d ≤ 1024
 
--- a level of these parts
-abbrev pub level_of : ℕ → ℕ → ℕ → List PlanCluster → List ℕ → Level
-level_of exponent threshold phases clusters homes =
+-- what levels with equal balls share: their clusters, and each node's home and readers
+pub record Shape : Type 0 where
+  pub phases : ℕ
+  pub clusters : List PlanCluster
+  pub homes : List ℕ
+  pub readers : List (List ℕ)
+
+-- the shape of these parts
+abbrev pub shape_with : ℕ → List PlanCluster → List ℕ → Shape
+shape_with phases clusters homes =
     record {
-      exponent = exponent;
-      threshold = threshold;
       phases = phases;
       clusters = clusters;
       homes = homes;
       readers = readers_of (length homes) clusters;
     }
+
+-- a level of this shape
+abbrev pub level_of : ℕ → ℕ → Shape → Level
+level_of exponent threshold shape =
+    record {
+      exponent = exponent;
+      threshold = threshold;
+      phases = shape.phases;
+      clusters = shape.clusters;
+      homes = shape.homes;
+      readers = shape.readers;
+    }
+
+-- the shape of a level
+abbrev pub shape_of : Level → Shape
+shape_of level =
+    record {
+      phases = level.phases;
+      clusters = level.clusters;
+      homes = level.homes;
+      readers = level.readers;
+    }
+
+-- the clusters that a node reads
+abbrev pub readers_for : Shape → ℕ → List ℕ
+readers_for shape v = slice_index_or shape.readers v []
+
+-- a shape by its place
+abbrev pub shape_in : List Shape → ℕ → Shape
+shape_in shapes i = slice_index_or shapes i (shape_of no_level)
+
+-- the levels with these heads, over the shapes that they share
+abbrev pub levels_over : List Shape → List LevelHead → List Level
+levels_over shapes heads =
+    map (λ h. level_of h.exponent h.threshold (shape_in shapes h.table)) heads
 
 -- the cluster is over the network's nodes, and walks inside it lead from the centre that leads it
 -- to each member
@@ -85,24 +124,11 @@ pub record IsSpanned (network : Network) (cluster : Cluster) : Type 0 where
 
 -- the same level with another exponent and threshold
 abbrev pub level_with : ℕ → ℕ → Level → Level
-level_with exponent threshold level =
-    record {
-      exponent = exponent;
-      threshold = threshold;
-      phases = level.phases;
-      clusters = level.clusters;
-      homes = level.homes;
-      readers = level.readers;
-    }
+level_with exponent threshold level = level_of exponent threshold (shape_of level)
 
--- the distance has the mark of the exponent whose power of two just reaches it
-pub record HasExponent (marks : List Bool) (distance : ℕ) : Type 0 where
-  pub exponent : ℕ
-  pub marked : get_or marks exponent false ≡ true
-  pub reached : distance ≤ 2 ^ exponent
-  pub just : 2 ^ exponent < 2 * distance
-
--- so has each distance of two nodes, from the first so many nodes
-abbrev pub AreMarked : DistanceTable → List Bool → ℕ → Type 0
-AreMarked table marks rows = (u v : ℕ) → u < rows → v < table.nodes → 0 < dist table u v
-    → HasExponent marks (dist table u v)
+-- the first so many levels of the plan of a network
+pub record AreLevelsOf (network : Network) (table : DistanceTable) (k count : ℕ)
+    (levels : List Level) : Type 0 where
+  pub count_is : length levels ≡ count
+  pub each : (j : ℕ) → j < count → IsLevelOf network table k j (level_in levels j)
+  pub sized : All (IsSized table.nodes) levels

@@ -3,7 +3,10 @@ pub mod Regions
 pub mod Matched
 pub mod Measures
 pub mod Kept
+pub mod Laid
+pub mod Spread
 pub mod Examples
 pub mod Settings
 pub mod Readers
 pub mod Cells
+pub mod Existence

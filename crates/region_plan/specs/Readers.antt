@@ -1,4 +1,5 @@
 -- The clusters that contain each node, while they are gathered, and the weights inside them.
+-- Key law: `ReaderLists::new` lays them as the plan has them (`IsTable`).
 use Rattle.std.specs.Prelude.{◌≡◌, ℕ, suc, ◌<◌, ◌&&◌, List, [], ◌∷◌, cond, length, nat_lt}
 use Rattle.std.specs.Prelude.{slice_index}
 use Rattle.node_set.specs.Ascending.{has}

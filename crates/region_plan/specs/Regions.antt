@@ -1,7 +1,8 @@
 -- The plan of a network, level by level: level i coarsens the balls of radius 2^i; and the flat
 -- plan, one cluster of all nodes.
 -- Key laws: `Plan::build` gives the plan of its network and k, `Plan::flat` gives the flat plan,
--- and `plan_is_one` says that a network and k have one plan.
+-- `networks_have_plans` says that a network and k have a plan, and `plan_is_one` that it is the
+-- only one.
 use Rattle.std.specs.Prelude.{◌≡◌, ℕ, zero, suc, ◌-◌, ◌*◌, ◌^◌, ◌<◌, ◌≤◌, List, [], ◌∷◌, length}
 use Rattle.std.specs.Prelude.{map}
 use Rattle.net_graph.specs.Network.{Network}
@@ -96,6 +97,12 @@ pub record IsWhole (table : DistanceTable) (cluster : PlanCluster) : Type 0 wher
   pub members : cluster.members ≡ centres table.nodes
   pub weights : cluster.weights ≡ map (λ v. dist table 0 v) (centres table.nodes)
   pub depth : IsDepth (as_tree cluster) cluster.depth
+
+-- the cluster of all nodes, and no other
+pub record IsWholeAlone (table : DistanceTable) (clusters : List PlanCluster) : Type 0 where
+  pub cluster : PlanCluster
+  pub alone : clusters ≡ cluster ∷ []
+  pub whole : IsWhole table cluster
 
 -- the level of one cluster of all nodes
 pub record IsFlatLevel (table : DistanceTable) (level : Level) : Type 0 where

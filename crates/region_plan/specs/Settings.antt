@@ -1,5 +1,6 @@
 -- What the directory reads of a plan: with the start nodes of the subscribers it is a setting.
 -- Outside of its nodes the distance is 0.
+-- Key law: in stretch_laws, `plans_track` (what the directory's laws ask of a setting holds of it).
 use Rattle.std.specs.Prelude.{ℕ, ◌&&◌, nat_lt, if◌then◌else◌, List}
 use Rattle.directory.specs.Settings.{Setting}
 use Rattle.region_plan.specs.Plan.{PlanData, nodes_of, top_of, distance, threshold, home, readers}

@@ -1,15 +1,14 @@
 //! The levels' exponents, and the balls of a level.
 
-ghost use Rattle.std.specs.Prelude.{◌≡◌, ℕ, ◌<◌, ◌≤◌, ◌^◌, All, IfOk, map};
+ghost use Rattle.std.specs.Prelude.{◌≡◌, ℕ, ◌<◌, ◌≤◌, ◌^◌, All, length};
 ghost use Rattle.node_set.specs.Nodes.{Nodes};
-ghost use Rattle.distances.specs.Table.{IsMetric, ball_of};
-ghost use Rattle.node_set.specs.Balls.{centres, sets};
-ghost use Rattle.region_plan.specs.Regions.{IsTop};
+ghost use Rattle.distances.specs.Table.{IsMetric};
+ghost use Rattle.node_set.specs.Balls.{sets};
+ghost use Rattle.region_plan.specs.Regions.{IsTop, balls_of};
+ghost use Rattle.region_plan.specs.Spread.{AreExponents};
 
 use distances::Distances;
-use net_graph::OutOfMemory;
 use node_set::NodeSet;
-use std::alloc::Global;
 
 // The least exponent whose power of two reaches the diameter.
 pub fn top_for(distances: &Distances) -> u32
@@ -36,35 +35,17 @@ fn least_exponent(number: u64) -> u32
     30
 }
 
-// The nodes within this radius of `v`.
-fn ball_round(
-    alloc: Global,
-    distances: &Distances,
-    v: u32,
-    radius: u32,
-) -> Result<NodeSet, OutOfMemory>
-    requires few { distances.now.nodes ≤ 1024 }
-    requires node { v < distances.now.nodes }
-    ensures room { IfOk result (λ ball. ball.room ≡ distances.now.nodes) }
-    ensures members { IfOk result (λ ball. ball.members ≡ ball_of distances.now v radius) }
+// Makes the sets the balls of level `i` round all nodes.
+pub fn fill_balls(distances: &Distances, exponents: &[u8], i: u32, balls: &mut [NodeSet])
+    requires exponents { AreExponents distances.now exponents.now }
+    requires few { i ≤ 30 }
+    requires count { length balls.old ≡ distances.now.nodes }
+    requires rooms { All (λ (b : Nodes). b.room ≡ distances.now.nodes) balls.old }
+    ensures balls { sets balls.new ≡ balls_of distances.now i }
+    ensures rooms { All (λ (b : Nodes). b.room ≡ distances.now.nodes) balls.new }
 {
-    Ok(NodeSet::within(alloc, distances.row(v), radius)?)
-}
-
-// The balls of this radius round all nodes.
-pub fn balls_of_radius(
-    alloc: Global,
-    distances: &Distances,
-    radius: u32,
-) -> Result<Vec<NodeSet>, OutOfMemory>
-    ensures balls { IfOk result (λ balls. sets balls.items
-        ≡ map (λ v. ball_of distances.now v radius) (centres distances.now.nodes)) }
-    ensures rooms { IfOk result (λ balls.
-        All (λ (b : Nodes). b.room ≡ distances.now.nodes) balls.items) }
-{
-    let mut balls = Vec::with_capacity(alloc, distances.nodes() as usize)?;
-    for v in 0..distances.nodes() {
-        balls.push(ball_round(alloc, distances, v, radius)?)?;
+    let nodes = distances.nodes() as usize;
+    for v in 0..nodes {
+        balls[v].fill_within(&exponents[v * nodes..(v + 1) * nodes], i as u8);
     }
-    Ok(balls)
 }

@@ -1,27 +1,36 @@
-//! A level of the plan of a network.
+//! The levels of the plan of a network, one after another.
 
-ghost use Rattle.std.specs.Prelude.{◌≡◌, ◌<◌, ◌≤◌, ◌^◌, ℕ, All, IfOk, length};
+ghost use Rattle.std.specs.Prelude.{◌≡◌, ◌+◌, ◌≤◌, ◌^◌, All, IfOk, OnOk, length};
 ghost use Rattle.net_graph.specs.Network.{IsNetwork};
 ghost use Rattle.distances.specs.Table.{AreDistancesOf, IsMetric};
+ghost use Rattle.coarse_cover.specs.Workspaces.{IsWorkspace};
 ghost use Rattle.region_plan.specs.Regions.{IsLevelOf, threshold_of};
-ghost use Rattle.region_plan.specs.Kept.{AreMarked, IsSized};
-ghost use Rattle.region_plan.specs.Plan.{level_in};
+ghost use Rattle.region_plan.specs.Kept.{AreLevelsOf, IsSized, level_of};
+ghost use Rattle.region_plan.specs.Spread.{IsSpreadOf};
+ghost use Rattle.node_set.specs.Nodes.{Nodes};
 
-use crate::balls::balls_of_radius;
+use crate::balls::fill_balls;
+use crate::clusters::Clusters;
 use crate::level::LevelTable;
-use crate::row::rows_of;
-use coarse_cover::{Cover, cluster_shape, coarsen_by_rows};
+use crate::sharing::Levels;
+use crate::spread::Spread;
+use coarse_cover::{Cover, Workspace, cluster_shape, coarsen_by_rows};
 use distances::Distances;
 use net_graph::{Graph, OutOfMemory};
+use node_set::NodeSet;
 use std::alloc::Global;
 
-// Level `i` of the plan with the trade-off `k`.
-fn build_level(
+// What level `i` of the plan with the trade-off `k` shares. The sets, one for each node, and the
+// workspace are written over.
+fn build_table(
     alloc: Global,
     graph: &Graph,
     distances: &Distances,
+    spread: &Spread,
     k: u32,
     i: u32,
+    sets: &mut [NodeSet],
+    work: &mut Workspace,
 ) -> Result<LevelTable, OutOfMemory>
     requires belongs { AreDistancesOf graph.now distances.now }
     requires metric { IsMetric distances.now }
@@ -29,50 +38,63 @@ fn build_level(
     requires low { 1 ≤ k }
     requires high { k ≤ 8 }
     requires few { i ≤ 30 }
-    ensures level { IfOk result (IsLevelOf graph.now distances.now k i) }
-    ensures sized { IfOk result (IsSized distances.now.nodes) }
+    requires spread { IsSpreadOf distances.now spread.now }
+    requires count { length sets.old ≡ distances.now.nodes }
+    requires rooms { All (λ (s : Nodes). s.room ≡ distances.now.nodes) sets.old }
+    requires work { IsWorkspace distances.now.nodes work.old }
+    ensures work { OnOk result (IsWorkspace distances.now.nodes work.new) }
+    ensures rooms { OnOk result (All (λ (s : Nodes). s.room ≡ distances.now.nodes) sets.new) }
+    ensures level { IfOk result (λ table.
+        IsLevelOf graph.now distances.now k i (level_of i (threshold_of i) table)) }
+    ensures sized { IfOk result (λ table.
+        IsSized distances.now.nodes (level_of i (threshold_of i) table)) }
 {
-    let balls = balls_of_radius(alloc, distances, two_to(i))?;
+    fill_balls(distances, &spread.exponents, i, sets);
     // Distances are the same both ways, so each ball is the row of its centre.
     let Cover {
-        clusters,
+        clusters: made,
         home,
         phases,
-    } = coarsen_by_rows(alloc, &balls, &balls, k)?;
+    } = coarsen_by_rows(alloc, sets, sets, k, work)?;
     cluster_shape();
-    let rows = rows_of(alloc, graph, distances, clusters)?;
-    Ok(LevelTable::new(alloc, i, threshold_for(i), phases, rows, home, balls)?)
+    let clusters = Clusters::of_cover(alloc, graph, distances, made, work)?;
+    Ok(LevelTable::new(alloc, phases, clusters, home, sets)?)
 }
 
-// Level `i` of the plan over the levels below it: where no distance lies between its radius and the
-// one below, it has the clusters of the level below.
-pub fn next_level(
+// Adds level `i` of the plan to the levels below it: where no distance lies between its radius and
+// the one below, the two share their table. The sets, one for each node, and the workspace are
+// written over.
+pub fn push_level(
     alloc: Global,
     graph: &Graph,
     distances: &Distances,
+    spread: &Spread,
     k: u32,
     i: u32,
-    in_use: &[bool],
-    below: &[LevelTable],
-) -> Result<LevelTable, OutOfMemory>
+    sets: &mut [NodeSet],
+    work: &mut Workspace,
+    levels: &mut Levels,
+) -> Result<(), OutOfMemory>
     requires belongs { AreDistancesOf graph.now distances.now }
     requires metric { IsMetric distances.now }
     requires network { IsNetwork graph.now }
     requires low { 1 ≤ k }
     requires high { k ≤ 8 }
     requires few { i ≤ 30 }
-    requires marks { length in_use.now ≡ 31 }
-    requires marked { AreMarked distances.now in_use.now distances.now.nodes }
-    requires count { length below.now ≡ i }
-    requires each { (j : ℕ) → j < i → IsLevelOf graph.now distances.now k j (level_in below.now j) }
-    requires sized { All (IsSized distances.now.nodes) below.now }
-    ensures level { IfOk result (IsLevelOf graph.now distances.now k i) }
-    ensures sized { IfOk result (IsSized distances.now.nodes) }
+    requires spread { IsSpreadOf distances.now spread.now }
+    requires count { length sets.old ≡ distances.now.nodes }
+    requires rooms { All (λ (s : Nodes). s.room ≡ distances.now.nodes) sets.old }
+    requires work { IsWorkspace distances.now.nodes work.old }
+    requires below { AreLevelsOf graph.now distances.now k i levels.old }
+    ensures rooms { OnOk result (All (λ (s : Nodes). s.room ≡ distances.now.nodes) sets.new) }
+    ensures work { OnOk result (IsWorkspace distances.now.nodes work.new) }
+    ensures levels { OnOk result (AreLevelsOf graph.now distances.now k (i + 1) levels.new) }
 {
-    if i > 0 && !in_use[i as usize] {
-        Ok(below[i as usize - 1].copy_with(alloc, i, threshold_for(i))?)
+    if i > 0 && !spread.in_use[i as usize] {
+        Ok(levels.push_shared(i, threshold_for(i))?)
     } else {
-        build_level(alloc, graph, distances, k, i)
+        let table = build_table(alloc, graph, distances, spread, k, i, sets, work)?;
+        Ok(levels.push_table(i, threshold_for(i), table)?)
     }
 }
 

@@ -1,27 +1,35 @@
 //! The level of the flat plan.
-ghost use Rattle.std.specs.Prelude.{IfOk};
+ghost use Rattle.std.specs.Prelude.{◌≡◌, All, IfOk, length};
 ghost use Rattle.distances.specs.Table.{IsMetric};
+ghost use Rattle.region_plan.specs.Plan.{level_in};
 ghost use Rattle.region_plan.specs.Regions.{IsFlatLevel};
 ghost use Rattle.region_plan.specs.Kept.{IsSized};
 
 use crate::balls::top_for;
+use crate::clusters::Clusters;
 use crate::level::LevelTable;
 use crate::readers::empty_sets;
-use crate::row::ClusterRow;
+use crate::sharing::Levels;
 use distances::Distances;
 use net_graph::OutOfMemory;
 use std::alloc::Global;
 
 // The level of one cluster of all nodes, which is the home of each.
-pub fn flat_level(alloc: Global, distances: &Distances) -> Result<LevelTable, OutOfMemory>
-    ensures level { IfOk result (IsFlatLevel distances.now) }
-    ensures sized { IfOk result (IsSized distances.now.nodes) }
+pub fn flat_levels(alloc: Global, distances: &Distances) -> Result<Levels, OutOfMemory>
+    ensures one { IfOk result (λ levels. length levels ≡ 1) }
+    ensures level { IfOk result (λ levels. IsFlatLevel distances.now (level_in levels 0)) }
+    ensures sized { IfOk result (All (IsSized distances.now.nodes)) }
     ensures metric { IsMetric distances.now }
 {
     let top = top_for(distances);
-    let mut clusters = Vec::with_capacity(alloc, 1)?;
-    clusters.push(ClusterRow::whole(alloc, distances)?)?;
+    let clusters = Clusters::whole(alloc, distances)?;
     let homes = vec![in alloc; 0u32; distances.nodes() as usize]?;
-    let sets = empty_sets(alloc, homes.len(), distances.nodes())?;
-    Ok(LevelTable::new(alloc, top, 1, 1, clusters, homes, sets)?)
+    let mut sets = empty_sets(alloc, homes.len(), distances.nodes())?;
+    let mut levels = Levels::with_capacity(alloc, 1)?;
+    levels.push_table(
+        top,
+        1,
+        LevelTable::new(alloc, 1, clusters, homes, &mut sets)?,
+    )?;
+    Ok(levels)
 }

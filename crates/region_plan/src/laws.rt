@@ -6,6 +6,7 @@ ghost use Rattle.distances.specs.Table.{IsMetric};
 ghost use Rattle.region_plan.specs.Plan.{PlanData, nodes_of, levels_of, readers_in, distance, home};
 ghost use Rattle.region_plan.specs.Plan.{readers, leader, inside};
 ghost use Rattle.region_plan.specs.Regions.{IsFlat, IsPlanOf};
+ghost use Rattle.region_plan.specs.Existence.{NetworksHavePlans, PlanIsOne};
 ghost use Rattle.region_plan.specs.Matched.{IsMatched, IsWithinReach, PlansBoundFinds, BoundsFinds};
 ghost use Rattle.region_plan.specs.Measures.{degree_of};
 ghost use Rattle.region_plan.specs.Settings.{setting_of};
@@ -14,13 +15,12 @@ ghost use Rattle.directory.specs.Writes.{most_writes};
 ghost use Rattle.region_plan.specs.Examples.{line_network, line_of_four};
 
 use coarse_cover::{cluster_shape, home_means};
-use distances::distances_are_one;
-use net_graph::{least_weight_is_one, least_weight_turned};
+use distances::{distances_are_one, networks_have_distances};
+use net_graph::{least_weight_is_one, least_weight_turned, reached_has_a_least_weight};
 
 /// A network and a trade-off have one plan.
 pub fn plan_is_one()
-    ensures { (network : Network) (k : ℕ) (one two : PlanData) → IsPlanOf network k one
-        → IsPlanOf network k two → one ≡ two }
+    ensures { PlanIsOne }
 {
     distances_are_one();
     least_weight_is_one();
@@ -32,6 +32,16 @@ pub fn plan_is_bounding()
 {
     cluster_shape();
     home_means();
+}
+
+/// A network has a plan for each trade-off, and that bounds the weight of its finds.
+pub fn networks_have_plans()
+    ensures { NetworksHavePlans }
+{
+    networks_have_distances();
+    reached_has_a_least_weight();
+    cluster_shape();
+    plan_is_bounding();
 }
 
 /// A network has one flat plan.

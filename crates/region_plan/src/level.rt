@@ -1,124 +1,72 @@
-//! A level of a plan in flat arrays.
+//! The clusters of a level in flat arrays, with each node's home and readers.
 
-ghost use Rattle.std.specs.Prelude.{◌≡◌, ◌+◌, ◌*◌, ◌<◌, ◌≤◌, All, IfOk, length, slice_index};
+ghost use Rattle.std.specs.Prelude.{◌≡◌, ◌+◌, ◌*◌, ◌<◌, ◌≤◌, All, IfOk, OnOk, length};
+ghost use Rattle.std.specs.Prelude.{map, slice_index};
 ghost use Rattle.node_set.specs.Nodes.{Nodes};
-ghost use Rattle.region_plan.specs.Plan.{readers_in, weight_in};
+ghost use Rattle.region_plan.specs.Plan.{weight_in};
 ghost use Rattle.region_plan.specs.Regions.{clusters_with};
-ghost use Rattle.region_plan.specs.Measures.{degree_in};
-ghost use Rattle.region_plan.specs.Kept.{level_of, level_with};
+ghost use Rattle.region_plan.specs.Measures.{most};
+ghost use Rattle.region_plan.specs.Kept.{readers_for, shape_with};
 
-use crate::readers::{gather_readers, push_members, push_weights};
-use crate::row::ClusterRow;
+use crate::clusters::Clusters;
+use crate::readers::ReaderLists;
 use net_graph::OutOfMemory;
 use node_set::NodeSet;
 use std::alloc::Global;
 use std::marker::Model;
 
-// A level: its clusters, each node's home, and the numbers of the clusters of each node, one node
-// after another, with the weight inside each of them from its leader to the node.
+// What levels with equal balls share: their clusters, each node's home, and the clusters of each
+// node.
 #[derive(Drop)]
 pub struct LevelTable {
-    pub exponent: u32,
-    pub threshold: u64,
     pub phases: u32,
-    pub clusters: Vec<ClusterRow>,
+    pub clusters: Clusters,
     pub homes: Vec<u32>,
-    pub starts: Vec<u32>,
-    pub readers: Vec<u32>,
-    pub weights: Vec<u32>,
+    lists: ReaderLists,
 }
 
 impl Model for LevelTable {
     ghost use Rattle.std.specs.Prelude.{length};
-    ghost use Rattle.region_plan.specs.Plan.{Level};
     ghost use Rattle.region_plan.specs.Regions.{readers_of};
-    ghost use Rattle.region_plan.specs.Kept.{IsTable};
+    ghost use Rattle.region_plan.specs.Kept.{IsTable, Shape};
 
-    ghost Value = { Level };
+    ghost Value = { Shape };
 
     ghost view = { λ l. record {
-      exponent = l.exponent;
-      threshold = l.threshold;
       phases = l.phases;
-      clusters = l.clusters.items;
+      clusters = l.clusters;
       homes = l.homes.items;
-      readers = readers_of (length l.homes.items) l.clusters.items;
+      readers = readers_of (length l.homes.items) l.clusters;
     } };
 
-    ghost invariant = { λ l. IsTable (length l.homes.items) l.clusters.items l.starts.items
-        l.readers.items l.weights.items };
+    ghost invariant = { λ l. IsTable (length l.homes.items) l.clusters l.lists.starts.items
+        l.lists.readers.items l.lists.weights.items };
 }
 
 impl LevelTable {
-    // The level of these clusters and homes. The sets, one for each node, are used up.
+    // The table of these clusters and homes. The sets, one for each node, are written
+    // over.
     pub fn new(
         alloc: Global,
-        exponent: u32,
-        threshold: u64,
         phases: u32,
-        clusters: Vec<ClusterRow>,
+        clusters: Clusters,
         homes: Vec<u32>,
-        mut sets: Vec<NodeSet>,
+        sets: &mut [NodeSet],
     ) -> Result<LevelTable, OutOfMemory>
         requires nodes { length homes.items ≤ 1024 }
-        requires clusters { length clusters.items ≤ length homes.items }
-        requires sets { length sets.items ≡ length homes.items }
-        requires rooms { All (λ (s : Nodes). s.room ≡ length homes.items) sets.items }
-        ensures { IfOk result
-            (λ level. level ≡ level_of exponent threshold phases clusters.items homes.items) }
+        requires clusters { length clusters ≤ length homes.items }
+        requires sets { length sets.old ≡ length homes.items }
+        requires rooms { All (λ (s : Nodes). s.room ≡ length homes.items) sets.old }
+        ensures rooms { OnOk result (All (λ (s : Nodes). s.room ≡ length homes.items) sets.new) }
+        ensures table { IfOk result
+            (λ table. table ≡ shape_with phases clusters homes.items) }
     {
-        gather_readers(&mut sets, &clusters, homes.len() as u32);
-        let mut starts = Vec::with_capacity(alloc, homes.len() + 1)?;
-        let mut readers = Vec::new(alloc);
-        let mut weights = Vec::new(alloc);
-        let mut places = vec![in alloc; 0usize; clusters.len()]?;
-        starts.push(0u32)?;
-        for v in 0..homes.len() {
-            let first = readers.len();
-            push_members(&sets[v], &mut readers)?;
-            push_weights(
-                &clusters,
-                v as u32,
-                &readers[first..],
-                &mut places,
-                &mut weights,
-            )?;
-            starts.push(readers.len() as u32)?;
-        }
+        let lists = ReaderLists::new(alloc, &clusters, homes.len(), sets)?;
         Ok(LevelTable {
-            exponent,
-            threshold,
             phases,
             clusters,
             homes,
-            starts,
-            readers,
-            weights,
-        })
-    }
-
-    // The same level with another exponent and threshold, in memory of its own.
-    pub fn copy_with(
-        &self,
-        alloc: Global,
-        exponent: u32,
-        threshold: u64,
-    ) -> Result<LevelTable, OutOfMemory>
-        ensures { IfOk result (λ level. level ≡ level_with exponent threshold self.now) }
-    {
-        let mut clusters = Vec::with_capacity(alloc, self.clusters.len())?;
-        for cluster in &self.clusters {
-            clusters.push(cluster.copy(alloc)?)?;
-        }
-        Ok(LevelTable {
-            exponent,
-            threshold,
-            phases: self.phases,
-            clusters,
-            homes: self.homes.to_vec(alloc)?,
-            starts: self.starts.to_vec(alloc)?,
-            readers: self.readers.to_vec(alloc)?,
-            weights: self.weights.to_vec(alloc)?,
+            lists,
         })
     }
 
@@ -126,7 +74,7 @@ impl LevelTable {
     pub fn degree(&self) -> u32
         requires clusters { length self.now.clusters ≤ 1024 }
         requires nodes { length self.now.homes ≤ 1024 }
-        ensures exact { result ≡ degree_in self.now }
+        ensures exact { result ≡ most (map length self.now.readers) }
         ensures few { result ≤ 1024 }
     {
         let mut degree = 0;
@@ -139,19 +87,22 @@ impl LevelTable {
     // The numbers of the clusters that contain `v`.
     pub fn readers_at(&self, v: u32) -> &[u32]
         requires { v < length self.now.homes }
-        ensures numbers { result.now ≡ readers_in self.now v }
+        ensures numbers { result.now ≡ readers_for self.now v }
         ensures few { length result.now ≤ length self.now.clusters }
     {
-        &self.readers[self.starts[v as usize] as usize..self.starts[v as usize + 1] as usize]
+        let first = self.lists.starts[v as usize] as usize;
+        let end = self.lists.starts[v as usize + 1] as usize;
+        &self.lists.readers[first..end]
     }
 
     // The weight inside the reader of `v` at this place from its leader to `v`.
     pub fn reader_weight(&self, v: u32, place: u32) -> u64
         requires node { v < length self.now.homes }
-        requires place { place < length (readers_in self.now v) }
+        requires place { place < length (readers_for self.now v) }
         ensures { result
-            ≡ weight_in self.now.clusters (slice_index (readers_in self.now v) place) v }
+            ≡ weight_in self.now.clusters (slice_index (readers_for self.now v) place) v }
     {
-        u64::from(self.weights[self.starts[v as usize] as usize + place as usize])
+        let first = self.lists.starts[v as usize] as usize;
+        u64::from(self.lists.weights[first + place as usize])
     }
 }

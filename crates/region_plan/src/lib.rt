@@ -3,17 +3,18 @@
 
 mod balls;
 mod building;
+mod clusters;
 mod flat;
 mod laws;
 mod level;
 mod plan;
 mod readers;
-mod row;
+mod sharing;
 mod spread;
 
 pub use laws::{
-    degree_bounds, flat_is_one, flat_means, line_has_its_plan, plan_counts, plan_is_bounding,
-    plan_is_one,
+    degree_bounds, flat_is_one, flat_means, line_has_its_plan, networks_have_plans, plan_counts,
+    plan_is_bounding, plan_is_one,
 };
 pub use net_graph::OutOfMemory;
 pub use plan::Plan;

@@ -1,11 +1,11 @@
 //! The plan of a network.
 
-ghost use Rattle.std.specs.Prelude.{◌≡◌, ◌<◌, ◌≤◌, ◌^◌, ℕ, List, IfOk, IsTrue, length};
+ghost use Rattle.std.specs.Prelude.{◌≡◌, ◌<◌, ◌≤◌, ◌^◌, ℕ, List, IfOk, IsTrue, length, true};
 ghost use Rattle.std.specs.Prelude.{slice_index, slice_index_or};
 ghost use Rattle.node_set.specs.Ascending.{has};
 ghost use Rattle.distances.specs.Table.{AreDistancesOf};
 ghost use Rattle.region_plan.specs.Plan.{level_at, levels_of, nodes_of, clusters_of, cluster_at};
-ghost use Rattle.region_plan.specs.Plan.{members_of, inside};
+ghost use Rattle.region_plan.specs.Plan.{Repeats, members_of, inside};
 ghost use Rattle.region_plan.specs.Plan.{home as home_in, readers as readers_at};
 ghost use Rattle.region_plan.specs.Plan.{leader as leader_in, threshold as threshold_at};
 ghost use Rattle.region_plan.specs.Regions.{IsFlat, IsPlanOf};
@@ -17,11 +17,12 @@ ghost use Rattle.directory.specs.Writes.{most_writes};
 ghost use Rattle.region_plan.specs.Kept.{IsKept};
 
 use crate::balls::top_for;
-use crate::building::next_level;
-use crate::flat::flat_level;
-use crate::level::LevelTable;
-use crate::spread::exponents_in_use;
-use coarse_cover::{cluster_shape, home_means};
+use crate::building::push_level;
+use crate::flat::flat_levels;
+use crate::readers::empty_sets;
+use crate::sharing::Levels;
+use crate::spread::Spread;
+use coarse_cover::{Workspace, cluster_shape, home_means};
 use distances::Distances;
 use net_graph::{Graph, OutOfMemory};
 use std::alloc::Global;
@@ -39,7 +40,7 @@ pub struct Plan {
     reach: u32,
     degree: u32,
     distances: Distances,
-    levels: Vec<LevelTable>,
+    levels: Levels,
 }
 
 impl Model for Plan {
@@ -53,12 +54,11 @@ impl Model for Plan {
       k = p.k;
       reach = p.reach;
       distances = p.distances;
-      levels =
-          p.levels.items;
+      levels = p.levels;
     } };
 
     ghost invariant = { λ p. IsPlanKept
-        (record { k = p.k; reach = p.reach; distances = p.distances; levels = p.levels.items })
+        (record { k = p.k; reach = p.reach; distances = p.distances; levels = p.levels })
         p.degree };
 }
 
@@ -72,31 +72,28 @@ impl Plan {
         ensures matched { IfOk result IsMatched }
         ensures reached { IfOk result IsWithinReach }
     {
-        let mut levels = Vec::with_capacity(alloc, 1)?;
-        levels.push(flat_level(alloc, distances)?)?;
-        Ok(Plan::of_levels(1, 1, distances.copy(alloc)?, levels))
+        let levels = flat_levels(alloc, distances)?;
+        Ok(Plan::of_levels(1, 1, distances.copy()?, levels))
     }
 
     // The plan of these levels.
-    fn of_levels(k: u32, reach: u32, distances: Distances, levels: Vec<LevelTable>) -> Plan
+    fn of_levels(k: u32, reach: u32, distances: Distances, levels: Levels) -> Plan
         requires { IsKept (record {
           k = k;
           reach = reach;
           distances = distances;
-          levels =
-              levels.items;
+          levels = levels;
         }) }
         ensures { result ≡ record {
           k = k;
           reach = reach;
           distances = distances;
-          levels =
-              levels.items;
+          levels = levels;
         } }
     {
         let mut degree = 0;
-        for level in &levels {
-            degree = degree.max(level.degree());
+        for i in 0..levels.count() {
+            degree = degree.max(levels.table(i as u32).degree());
         }
         Plan {
             k,
@@ -124,17 +121,28 @@ impl Plan {
     {
         // The calls tell the proof that the network is connected and within the limits, and what
         // covers keep.
-        let _nodes = graph.nodes();
+        let nodes = graph.nodes();
         cluster_shape();
         home_means();
         let top = top_for(distances);
-        let mut levels = Vec::with_capacity(alloc, top as usize + 1)?;
-        let in_use = exponents_in_use(alloc, distances)?;
+        let mut levels = Levels::with_capacity(alloc, top as usize + 1)?;
+        let spread = Spread::new(alloc, distances)?;
+        let mut sets = empty_sets(alloc, nodes as usize, nodes)?;
+        let mut work = Workspace::new(alloc, nodes)?;
         for i in 0..top + 1 {
-            let level = next_level(alloc, graph, distances, k, i, &in_use, &levels)?;
-            levels.push(level)?;
+            push_level(
+                alloc,
+                graph,
+                distances,
+                &spread,
+                k,
+                i,
+                &mut sets,
+                &mut work,
+                &mut levels,
+            )?;
         }
-        Ok(Plan::of_levels(k, 2 * k - 1, distances.copy(alloc)?, levels))
+        Ok(Plan::of_levels(k, 2 * k - 1, distances.copy()?, levels))
     }
 
     /// How many nodes there are.
@@ -156,7 +164,7 @@ impl Plan {
     pub fn levels(&self) -> u32
         ensures { result ≡ levels_of self.now }
     {
-        self.levels.len() as u32
+        self.levels.count() as u32
     }
 
     /// The exponent of a level: nodes within 2^exponent of each other meet at it.
@@ -164,7 +172,7 @@ impl Plan {
         requires level { i < levels_of self.now }
         ensures { result ≡ (level_at self.now i).exponent }
     {
-        self.levels[i as usize].exponent
+        self.levels.exponent(i)
     }
 
     /// The weight that a subscriber gathers before its address at the level is renewed.
@@ -172,7 +180,15 @@ impl Plan {
         requires level { i < levels_of self.now }
         ensures { result ≡ threshold_at self.now i }
     {
-        self.levels[i as usize].threshold
+        self.levels.threshold(i)
+    }
+
+    /// Whether a level is known to have the clusters of the one below it, and so their homes.
+    pub fn repeats(&self, i: u32) -> bool
+        requires level { i < levels_of self.now }
+        ensures { result ≡ true → Repeats self.now i }
+    {
+        self.levels.shares(i)
     }
 
     /// The number of phases that made the clusters of a level.
@@ -180,7 +196,7 @@ impl Plan {
         requires level { i < levels_of self.now }
         ensures { result ≡ (level_at self.now i).phases }
     {
-        self.levels[i as usize].phases
+        self.levels.table(i).phases
     }
 
     /// How many clusters a level has.
@@ -188,7 +204,7 @@ impl Plan {
         requires level { i < levels_of self.now }
         ensures { result ≡ clusters_of self.now i }
     {
-        self.levels[i as usize].clusters.len() as u32
+        self.levels.table(i).clusters.count() as u32
     }
 
     /// The phase that made a cluster.
@@ -197,7 +213,7 @@ impl Plan {
         requires cluster { c < clusters_of self.now i }
         ensures { result ≡ (cluster_at self.now i c).phase }
     {
-        self.levels[i as usize].clusters[c as usize].phase()
+        self.levels.table(i).clusters.phase(c)
     }
 
     /// The cluster that is the home of `v`.
@@ -206,7 +222,7 @@ impl Plan {
         requires node { v < nodes_of self.now }
         ensures { result ≡ home_in self.now i v }
     {
-        self.levels[i as usize].homes[v as usize]
+        self.levels.table(i).homes[v as usize]
     }
 
     /// The ascending numbers of the clusters that contain `v`.
@@ -215,7 +231,7 @@ impl Plan {
         requires node { v < nodes_of self.now }
         ensures { result.now ≡ readers_at self.now i v }
     {
-        self.levels[i as usize].readers_at(v)
+        self.levels.table(i).readers_at(v)
     }
 
     /// The node that leads a cluster.
@@ -224,7 +240,7 @@ impl Plan {
         requires cluster { c < clusters_of self.now i }
         ensures { result ≡ leader_in self.now i c }
     {
-        self.levels[i as usize].clusters[c as usize].leader()
+        self.levels.table(i).clusters.leader(c)
     }
 
     /// Whether `v` is in a cluster.
@@ -234,7 +250,7 @@ impl Plan {
         requires node { v < nodes_of self.now }
         ensures { result ≡ has v (members_of self.now i c) }
     {
-        self.levels[i as usize].clusters[c as usize].member(v)
+        self.levels.table(i).clusters.member(c, v)
     }
 
     /// The members of a cluster, ascending.
@@ -243,7 +259,7 @@ impl Plan {
         requires cluster { c < clusters_of self.now i }
         ensures { result.now ≡ members_of self.now i c }
     {
-        self.levels[i as usize].clusters[c as usize].nodes()
+        self.levels.table(i).clusters.nodes(c)
     }
 
     /// The greatest weight of a member of a cluster.
@@ -252,7 +268,7 @@ impl Plan {
         requires cluster { c < clusters_of self.now i }
         ensures { result ≡ (cluster_at self.now i c).depth }
     {
-        self.levels[i as usize].clusters[c as usize].depth()
+        self.levels.table(i).clusters.depth(c)
     }
 
     /// The least weight inside a cluster from its leader to the member `v`.
@@ -262,7 +278,7 @@ impl Plan {
         requires member { IsTrue (has v (members_of self.now i c)) }
         ensures { result ≡ inside self.now i c v }
     {
-        self.levels[i as usize].clusters[c as usize].weight(v)
+        self.levels.table(i).clusters.weight(c, v)
     }
 
     /// The least weight inside a reader of `v` from its leader to `v`. The place is that of the
@@ -273,7 +289,7 @@ impl Plan {
         requires place { place < length (readers_at self.now i v) }
         ensures { result ≡ inside self.now i (slice_index (readers_at self.now i v) place) v }
     {
-        self.levels[i as usize].reader_weight(v, place)
+        self.levels.table(i).reader_weight(v, place)
     }
 
     /// The largest number of clusters that a node reads at a level.
@@ -298,8 +314,8 @@ impl Plan {
         ensures { (starts : List ℕ) → result ≡ most_looks (setting_of self.now starts) from }
     {
         let mut read = 0;
-        for level in &self.levels {
-            read += level.readers_at(from).len() as u64;
+        for i in 0..self.levels() {
+            read += self.levels.table(i).readers_at(from).len() as u64;
         }
         1 + read + u64::from(self.nodes()) + 3
     }

@@ -5,14 +5,67 @@ ghost use Rattle.std.specs.Prelude.{false, length, map, nat_lt, suc};
 ghost use Rattle.node_set.specs.Ascending.{has};
 ghost use Rattle.node_set.specs.Balls.{ball, sets as lists_of};
 ghost use Rattle.node_set.specs.Nodes.{AreNodes, Nodes};
+ghost use Rattle.region_plan.specs.Kept.{IsTable};
 ghost use Rattle.region_plan.specs.Plan.{weight_in};
 ghost use Rattle.region_plan.specs.Readers.{ArePlaces, IsReadBelow};
 ghost use Rattle.region_plan.specs.Regions.{clusters_with};
 
-use crate::row::ClusterRow;
+use crate::clusters::Clusters;
 use net_graph::OutOfMemory;
 use node_set::NodeSet;
 use std::alloc::Global;
+
+// The numbers of the clusters of each node, one node after another, with the weight inside each of
+// them from its leader to the node; and where those of each node begin.
+#[derive(Drop)]
+pub struct ReaderLists {
+    pub starts: Vec<u32>,
+    pub readers: Vec<u32>,
+    pub weights: Vec<u32>,
+}
+
+impl ReaderLists {
+    // The clusters of so many nodes. The sets, one for each node, are written over.
+    pub fn new(
+        alloc: Global,
+        clusters: &Clusters,
+        nodes: usize,
+        sets: &mut [NodeSet],
+    ) -> Result<ReaderLists, OutOfMemory>
+        requires nodes { nodes ≤ 1024 }
+        requires clusters { length clusters.now ≤ nodes }
+        requires sets { length sets.old ≡ nodes }
+        requires rooms { All (λ (s : Nodes). s.room ≡ nodes) sets.old }
+        ensures rooms { OnOk result (All (λ (s : Nodes). s.room ≡ nodes) sets.new) }
+        ensures table { IfOk result (λ lists. IsTable nodes clusters.now lists.starts.items
+            lists.readers.items lists.weights.items) }
+    {
+        gather_readers(sets, clusters, nodes as u32);
+        let mut starts = Vec::with_capacity(alloc, nodes + 1)?;
+        // In most levels a node has four clusters at most.
+        let mut readers = Vec::with_capacity(alloc, 4 * nodes)?;
+        let mut weights = Vec::with_capacity(alloc, 4 * nodes)?;
+        let mut places = vec![in alloc; 0usize; clusters.count()]?;
+        starts.push(0u32)?;
+        for v in 0..nodes {
+            let first = readers.len();
+            push_members(&sets[v], &mut readers)?;
+            push_weights(
+                clusters,
+                v as u32,
+                &readers[first..],
+                &mut places,
+                &mut weights,
+            )?;
+            starts.push(readers.len() as u32)?;
+        }
+        Ok(ReaderLists {
+            starts,
+            readers,
+            weights,
+        })
+    }
+}
 
 // As many empty sets.
 pub fn empty_sets(alloc: Global, count: usize, room: u32) -> Result<Vec<NodeSet>, OutOfMemory>
@@ -54,14 +107,17 @@ fn clear_sets(sets: &mut [NodeSet])
 }
 
 // Makes the set of each node that of the numbers of the clusters that contain it.
-pub fn gather_readers(sets: &mut [NodeSet], clusters: &[ClusterRow], room: u32)
+pub fn gather_readers(sets: &mut [NodeSet], clusters: &Clusters, room: u32)
     requires rooms { All (λ (s : Nodes). s.room ≡ room) sets.old }
     requires few { length clusters.now ≤ room }
-    ensures { IsReadBelow (length sets.old) clusters.now (length clusters.now) (lists_of sets.new) }
+    requires small { room ≤ 1024 }
+    ensures rooms { All (λ (s : Nodes). s.room ≡ room) sets.new }
+    ensures read { IsReadBelow (length sets.old) clusters.now (length clusters.now)
+        (lists_of sets.new) }
 {
     clear_sets(sets);
-    for (number, cluster) in clusters.iter().enumerate() {
-        add_reader(sets, number as u32, cluster.nodes());
+    for number in 0..clusters.count() as u32 {
+        add_reader(sets, number, clusters.nodes(number));
     }
 }
 
@@ -83,7 +139,7 @@ pub fn push_members(set: &NodeSet, list: &mut Vec<u32>) -> Result<(), OutOfMemor
 // Appends the weights of `v` inside the clusters that contain it. The places say how many members
 // of each cluster are below `v`, and then how many are below the next node.
 pub fn push_weights(
-    clusters: &[ClusterRow],
+    clusters: &Clusters,
     v: u32,
     numbers: &[u32],
     places: &mut [usize],
@@ -97,7 +153,7 @@ pub fn push_weights(
 {
     for number in numbers {
         let place = places[*number as usize];
-        weights.push(clusters[*number as usize].weight_at(v, place))?;
+        weights.push(clusters.weight_at(*number, v, place))?;
         places[*number as usize] = place + 1;
     }
     Ok(())

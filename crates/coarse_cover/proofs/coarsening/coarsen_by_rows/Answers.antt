@@ -13,17 +13,24 @@ use Rattle.node_set.specs.BallLaws.{length-sets}
 
 pub phase-init : goal.phase-init
 phase-init c =
-    let all : c.in_ok-work.work.left.members ≡ centres (length (sets c.args.balls.now)) =
-    c.in_ok-work.ensures.all_left ∙ ap (λ (n : ℕ). centres n) (sym (length-sets c.args.balls.now))
+    let full : c.fill_all.new.set.members ≡ centres (length c.args.balls.now) =
+    ap (λ (s : Nodes). s.members) c.fill_all.ensures ∙ ap (λ (n : ℕ). centres n) c.requires.work.left in
+    let all : c.fill_all.new.set.members ≡ centres (length (sets c.args.balls.now)) =
+    full ∙ ap (λ (n : ℕ). centres n) (sym (length-sets c.args.balls.now))
     in
     record {
       between = subst (λ (l : List Cluster).
-          IsBetween (sets c.args.balls.now) c.args.k c.in_ok-work.work.left.members l c.in_ok-vec.field-0.items 0)
-          (sym c.new-2.ensures.items)
-          (between_start (sets c.args.balls.now) c.args.k c.in_ok-work.work.left.members c.in_ok-vec.field-0.items
-          c.requires.low
-          c.requires.centred all);
-      sized = c.in_ok-work.ensures.sized;
+          IsBetween (sets c.args.balls.now) c.args.k c.fill_all.new.set.members l c.in_ok-vec.field-0.items 0)
+          (sym c.new.ensures.items)
+          (between_start (sets c.args.balls.now) c.args.k c.fill_all.new.set.members c.in_ok-vec.field-0.items
+          c.requires.low c.requires.centred all);
+      sized = record {
+        left = ap (λ (s : Nodes). s.room) c.fill_all.ensures ∙ c.requires.work.left;
+        waiting = c.requires.work.waiting;
+        taken = c.requires.work.taken;
+        touched = c.requires.work.touched;
+        spare = c.requires.work.spare;
+      };
       home_count = sym c.in_ok-vec.field-0.ok.0 ∙ c.in_ok-vec.ensures.len;
     }
 

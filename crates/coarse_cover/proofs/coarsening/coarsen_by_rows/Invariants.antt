@@ -1,13 +1,14 @@
 use Rattle.std.proofs.Common.{◌≡◌, ◌-◌, length}
 use Rattle.coarse_cover.specs.Coarsening.{coarsening}
-use Rattle.coarse_cover.specs.Progress.{IsSized, IsBetween}
+use Rattle.coarse_cover.specs.Progress.{IsBetween}
+use Rattle.coarse_cover.specs.Workspaces.{IsWorkspace}
 use Rattle.node_set.specs.Balls.{sets}
 use Rattle.coarse_cover.proofs.coarsening.coarsen_by_rows.Given as goal
 
 abbrev pub invariant-phase : goal.invariant-phase
 invariant-phase l = record {
   between : IsBetween (sets l.balls) l.k l.work.left.members l.cover.clusters.items l.cover.home.items l.cover.phases;
-  sized : IsSized (length l.balls) l.work;
+  sized : IsWorkspace (length l.balls) l.work;
   home_count : length l.cover.home.items ≡ length l.balls;
 }
 

@@ -24,7 +24,7 @@ loop-step-init c =
           ∙ ap (λ (s : Nodes). with_number c.args.first s.members) c.clear.ensures ∙ sym first;
       members = rw (
         c.absorb.ensures,
-        c.in_ok-members.ensures,
+        c.in_ok-members.ensures.set,
         growth_first (sets c.args.balls.now) c.args.waiting.now.members c.args.first,
         ← union_first (sets c.args.balls.now) c.args.first,
         ball_at c.args.balls.now c.args.first c.index-balls-first.result c.requires.first c.index-balls-first.is,
@@ -34,6 +34,7 @@ loop-step-init c =
       taken_room = ap (λ (s : Nodes). s.room) c.insert.ensures ∙ ap (λ (s : Nodes). s.room) c.clear.ensures
           ∙ c.requires.taken;
       touched_room = c.requires.touched;
+      spare_rooms = c.in_ok-members.ensures.spare;
     }
 
 -- the balls that touch the union so far
@@ -153,6 +154,7 @@ loop-step-preserved c =
       taken_room = ap (λ (s : Nodes). s.room) c.swap.ensures.x_after ∙ c.touch.ensures.room
           ∙ c.loop-step.invariant.touched_room;
       touched_room = ap (λ (s : Nodes). s.room) c.swap.ensures.y_after ∙ c.loop-step.invariant.taken_room;
+      spare_rooms = c.loop-step.invariant.spare_rooms;
     })
 
 pub unreachable-requires : goal.unreachable-requires

@@ -1,6 +1,8 @@
 use Rattle.std.proofs.Common.{◌≡◌, ℕ, ◌<◌, false, length}
 use Rattle.coarse_cover.specs.Coarsening.{is_enough}
 use Rattle.node_set.specs.Balls.{growth, union_of, sets}
+use Rattle.std.specs.Prelude.{All}
+use Rattle.node_set.specs.Nodes.{Nodes}
 use Rattle.coarse_cover.proofs.growing.grow.Given as goal
 
 abbrev pub invariant-loop-step : goal.invariant-loop-step
@@ -14,4 +16,5 @@ invariant-loop-step l = record {
   none : (i : ℕ) → i < l._step → is_enough (sets l.balls) l.k l.r l.waiting.members l.first i ≡ false;
   taken_room : l.growth.taken.room ≡ length l.balls;
   touched_room : l.growth.touched.room ≡ length l.balls;
+  spare_rooms : All (λ (s : Nodes). s.room ≡ length l.balls) l.growth.spare.items;
 }

@@ -56,6 +56,7 @@ returns c =
         waiting = c.remove-2.ensures.room ∙ c.requires.sized.waiting;
         taken = c.in_ok-members.ensures.taken_room;
         touched = c.in_ok-members.ensures.touched_room;
+        spare = c.in_ok-members.ensures.spare_rooms;
       };
       home_count = rw home (home_count ∙ c.requires.home_count);
     }

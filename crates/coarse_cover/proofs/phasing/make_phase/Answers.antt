@@ -27,6 +27,7 @@ first-init c =
         waiting = ap (λ (s : Nodes). s.room) c.assign.ensures ∙ c.requires.sized.left;
         taken = c.requires.sized.taken;
         touched = c.requires.sized.touched;
+        spare = c.requires.sized.spare;
       };
       home_count = c.requires.home_count;
       phases_kept = refl;

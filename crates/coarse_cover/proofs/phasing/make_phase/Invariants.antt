@@ -1,6 +1,7 @@
 use Rattle.std.proofs.Common.{◌≡◌, ℕ, ◌-◌, ◌<◌, ◌≤◌, false, length}
 use Rattle.node_set.specs.Ascending.{has}
-use Rattle.coarse_cover.specs.Progress.{IsSized, IsInPhase}
+use Rattle.coarse_cover.specs.Progress.{IsInPhase}
+use Rattle.coarse_cover.specs.Workspaces.{IsWorkspace}
 use Rattle.node_set.specs.Balls.{sets}
 use Rattle.coarse_cover.proofs.phasing.make_phase.Given as goal
 
@@ -9,7 +10,7 @@ invariant-first l = record {
   in_phase : IsInPhase (sets l.balls) l.k l.r l.work.waiting.members l.work.left.members l.cover.clusters.items
       l.cover.home.items l.cover.phases;
   none_before : (v : ℕ) → v < l.from → has v l.work.waiting.members ≡ false;
-  sized : IsSized (length l.balls) l.work;
+  sized : IsWorkspace (length l.balls) l.work;
   home_count : length l.cover.home.items ≡ length l.balls;
   phases_kept : l.cover.phases ≡ l.initial.cover.phases;
   small : l.r ≤ 1024;

@@ -1,6 +1,6 @@
-use Rattle.node_set.proofs.Limiting.{one_more, one_less, not_within}
+use Rattle.node_set.proofs.Limiting.{one_more, one_less}
 use Rattle.std.proofs.Common.{ℕ, ◌+◌, arith}
-use Rattle.std.proofs.lemmas.Bool.{le-leb}
+use Rattle.std.proofs.lemmas.Bool.{le-leb, lt-leb}
 use Rattle.std.specs.Prelude.{nat_le, slice_index}
 use Rattle.node_set.proofs.limit.rest_within.Goals as goal
 use Rattle.node_set.proofs.limit.rest_within.Goals.{then-numbers-at, else-numbers-at}
@@ -16,6 +16,6 @@ loop-i-preserved c = elim c.if-numbers-at.branch [
   | else-numbers-at w ↦
       rw w.word-is (one_less (λ (j : ℕ). nat_le (slice_index c.args.numbers.now (c.args.at + j)) c.args.limit)
       c.loop-i.word c.loop-i.i
-      (not_within (slice_index c.args.numbers.now (c.args.at + c.loop-i.i)) c.args.limit w.if-numbers-at.false)
+      (lt-leb (slice_index c.args.numbers.now (c.args.at + c.loop-i.i)) c.args.limit w.if-numbers-at.false)
       c.loop-i.invariant)
 ]

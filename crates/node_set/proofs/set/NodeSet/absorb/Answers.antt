@@ -1,30 +1,27 @@
 use Rattle.std.proofs.Common.{◌≡◌, ◌++◌, List, ℕ, take, drop, ap, arith, refl, length, sym, ◌∙◌, subst}
-use Rattle.std.proofs.Math.Seq.{take-append_seam}
 use Rattle.node_set.specs.Nodes.{Nodes, AreWords}
-use Rattle.node_set.specs.Lanes.{AreJoined}
+use Rattle.node_set.specs.Lanes.{AreWordsJoined}
 use Rattle.node_set.proofs.Words.{words-absorb, absorb_bits}
 use Rattle.node_set.proofs.set.NodeSet.absorb.Goals as goal
 use Rattle.node_set.proofs.set.NodeSet.absorb.Goals.{After-self-1}
+use Rattle.std.proofs.lemmas.List.{take_at}
 
 same_room : (c : After-self-1) → c.self.inside.room ≡ c.other.inside.room
 same_room c = ap (λ (s : Nodes). s.room) c.self.view_is
     ∙ (c.requires ∙ sym (ap (λ (s : Nodes). s.room) c.other.view_is))
 
-joined : (c : After-self-1) → AreJoined c.self.inside.words.items c.other.inside.words.items c.lanes_absorb.new.a
+joined : (c : After-self-1) → AreWordsJoined c.self.inside.words.items c.other.inside.words.items c.lanes_absorb.new.a
 joined c =
-    subst (λ (l : List ℕ). AreJoined l c.other.inside.words.items c.lanes_absorb.new.a) c.deref_mut.ensures.value
-    (subst (λ (l : List ℕ). AreJoined c.deref_mut.result.now l c.lanes_absorb.new.a) c.deref.ensures.value
+    subst (λ (l : List ℕ). AreWordsJoined l c.other.inside.words.items c.lanes_absorb.new.a) c.deref_mut.ensures.value
+    (subst (λ (l : List ℕ). AreWordsJoined c.deref_mut.result.now l c.lanes_absorb.new.a) c.deref.ensures.value
     c.lanes_absorb.ensures)
 
 -- the words were written over whole
-whole : (n : ℕ) (new old : List ℕ) → length new ≡ length old → n ≡ length old
-    → take n (new ++ drop (length new) old) ≡ new
-whole n new old same all = let e : n ≡ length new = all ∙ sym same in rw (e, take-append_seam) refl
-
 written : (c : After-self-1) → take c.self.inside.words.len
     (c.lanes_absorb.new.a ++ drop (length c.lanes_absorb.new.a) c.self.inside.words.items) ≡ c.lanes_absorb.new.a
-written c = whole c.self.inside.words.len c.lanes_absorb.new.a c.self.inside.words.items
-    (joined c).enough c.self.inside.words.ok.0
+written c =
+    take_at c.lanes_absorb.new.a (drop (length c.lanes_absorb.new.a) c.self.inside.words.items) c.self.inside.words.len
+    ((joined c).enough ∙ sym c.self.inside.words.ok.0)
 
 pub invariant_of-self : goal.invariant_of-self
 invariant_of-self c =

@@ -1,6 +1,6 @@
 use Rattle.std.proofs.Common.{◌≡◌, length, ap, refl, arith}
 use Rattle.std.specs.Prelude.{max}
-use Rattle.region_plan.specs.Plan.{Level}
+use Rattle.region_plan.specs.Kept.{Shape}
 use Rattle.region_plan.proofs.Rows.{readers_count}
 use Rattle.region_plan.proofs.Measuring.{greater_is, degree_step, degree_done, max_few}
 use Rattle.region_plan.proofs.level.LevelTable.degree.Goals as goal
@@ -8,9 +8,9 @@ use Rattle.region_plan.proofs.level.LevelTable.degree.Goals as goal
 pub loop-v-preserved : goal.loop-v-preserved
 loop-v-preserved c =
     let homes : length c.self.inside.homes.items
-    ≡ length c.args.self.now.homes = ap (λ (l : Level). length l.homes) c.self.view_is in
+    ≡ length c.args.self.now.homes = ap (λ (l : Shape). length l.homes) c.self.view_is in
     let count : length c.args.self.now.readers ≡ length c.args.self.now.homes =
-    readers_count c.self.inside.exponent c.self.inside.threshold c.self.inside.phases c.self.inside.clusters.items
+    readers_count c.self.inside.phases c.self.inside.clusters
     c.self.inside.homes.items c.args.self.now c.self.view_is
     in
     let greater : c.max-degree.result ≡ max c.loop-v.degree (length c.readers_at.result.now) = greater_is
@@ -26,9 +26,9 @@ loop-v-preserved c =
 pub returns-clause-exact : goal.returns-clause-exact
 returns-clause-exact c =
     let homes : length c.self.inside.homes.items
-    ≡ length c.args.self.now.homes = ap (λ (l : Level). length l.homes) c.self.view_is in
+    ≡ length c.args.self.now.homes = ap (λ (l : Shape). length l.homes) c.self.view_is in
     let count : length c.args.self.now.readers ≡ length c.args.self.now.homes =
-    readers_count c.self.inside.exponent c.self.inside.threshold c.self.inside.phases c.self.inside.clusters.items
+    readers_count c.self.inside.phases c.self.inside.clusters
     c.self.inside.homes.items c.args.self.now c.self.view_is
     in
     degree_done c.args.self.now c.loop-v.v c.loop-v.degree (omega (arith, count, homes)) c.loop-v.invariant.most

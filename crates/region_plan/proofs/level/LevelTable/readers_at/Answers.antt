@@ -3,16 +3,16 @@ use Rattle.region_plan.proofs.level.LevelTable.readers_at.Goals as goal
 
 pub returns-clause-numbers : goal.returns-clause-numbers
 returns-clause-numbers c =
-    read_row c.self.inside.exponent c.self.inside.threshold c.self.inside.phases c.self.inside.clusters.items
+    read_row c.self.inside.phases c.self.inside.clusters
     c.self.inside.homes.items
-    c.self.inside.starts.items c.self.inside.readers.items c.args.self.now c.args.v
+    c.self.inside.lists.starts.items c.self.inside.lists.readers.items c.args.self.now c.args.v
     c.index.result.now c.index-2.result.now c.deref.result.now
     c.self.invariant.rows c.self.view_is c.requires c.index.ensures c.index-2.ensures c.deref.ensures.value
 
 pub returns-clause-few : goal.returns-clause-few
 returns-clause-few c =
-    row_short c.self.inside.exponent c.self.inside.threshold c.self.inside.phases c.self.inside.clusters.items
+    row_short c.self.inside.phases c.self.inside.clusters
     c.self.inside.homes.items
-    c.self.inside.starts.items c.self.inside.readers.items c.args.self.now c.args.v
+    c.self.inside.lists.starts.items c.self.inside.lists.readers.items c.args.self.now c.args.v
     c.index.result.now c.index-2.result.now c.deref.result.now
     c.self.invariant.rows c.self.view_is c.requires c.index.ensures c.index-2.ensures c.deref.ensures.value

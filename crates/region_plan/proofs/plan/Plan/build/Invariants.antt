@@ -1,13 +1,14 @@
-use Rattle.std.proofs.Common.{◌≡◌, ◌<◌, ℕ, length}
+use Rattle.std.proofs.Common.{◌≡◌, length}
 use Rattle.std.specs.Prelude.{All}
-use Rattle.region_plan.specs.Plan.{level_in}
-use Rattle.region_plan.specs.Regions.{IsLevelOf}
-use Rattle.region_plan.specs.Kept.{IsSized}
+use Rattle.node_set.specs.Nodes.{Nodes}
+use Rattle.coarse_cover.specs.Workspaces.{IsWorkspace}
+use Rattle.region_plan.specs.Kept.{AreLevelsOf}
 use Rattle.region_plan.proofs.plan.Plan.build.Given as goal
 
 abbrev pub invariant-loop-i : goal.invariant-loop-i
 invariant-loop-i l = record {
-  count : length l.levels.items ≡ l.i;
-  each : (j : ℕ) → j < l.i → IsLevelOf l.graph l.distances l.k j (level_in l.levels.items j);
-  sized : All (IsSized l.distances.nodes) l.levels.items;
+  levels : AreLevelsOf l.graph l.distances l.k l.i l.levels;
+  count : length l.sets.items ≡ l.distances.nodes;
+  work : IsWorkspace l.distances.nodes l.work;
+  rooms : All (λ (s : Nodes). s.room ≡ l.distances.nodes) l.sets.items;
 }

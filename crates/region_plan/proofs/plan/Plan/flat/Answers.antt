@@ -11,7 +11,7 @@ returns-clause-matched c =
     flat_matched c.args.graph.now c.of_levels.result flat
     (subst (λ (t : DistanceTable). IsMetric t)
     (sym (ap (λ (p : PlanData). p.distances) c.of_levels.ensures ∙ c.in_ok-copy.ensures))
-    c.flat_level.ensures.metric)
+    c.flat_levels.ensures.metric)
 
 pub returns-clause-reached : goal.returns-clause-reached
 returns-clause-reached c =

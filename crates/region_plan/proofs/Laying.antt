@@ -1,0 +1,192 @@
+-- Clusters in flat lists, as they are pushed.
+use Rattle.std.proofs.Common.{◌≡◌, ℕ, suc, ◌+◌, ◌-◌, List, [], ◌∷◌, ◌++◌, get_or, length, refl, subst, sym, ◌∙◌, ap, arith}
+use Rattle.std.specs.Prelude.{All, slice_range}
+use Rattle.std.proofs.lemmas.List.{length-append, map_push, take_all}
+use Rattle.std.proofs.lemmas.List.Elements.{All-push}
+use Rattle.node_set.specs.Ascending.{IsAscending}
+use Rattle.net_graph.specs.Network.{Network}
+use Rattle.cluster_tree.specs.Inside.{AreWeightsWritten}
+use Rattle.coarse_cover.specs.declared.cover.Cluster.{Cluster}
+use Rattle.region_plan.specs.Laid.{AreLaid, IsLaid, IsPushed, cluster_under, clusters_of_lists, clusters_over}
+use Rattle.region_plan.specs.Plan.{PlanCluster}
+use Rattle.region_plan.specs.declared.clusters.ClusterHead.{ClusterHead}
+use Rattle.region_plan.specs.declared.clusters.ClusterLists.{ClusterLists}
+use Rattle.region_plan.proofs.Making.{range_new, range_old, row_is}
+
+-- ---- a cluster more
+
+old_laid : (nodes members : List ℕ) (heads : List ClusterHead) → All (IsLaid nodes) heads
+    → All (IsLaid (nodes ++ members)) heads
+old_laid nodes members heads each i d short =
+    let old = each i d short in
+    record {
+      order = old.order;
+      within = omega (arith, old.within, length-append nodes members);
+      ascending = subst IsAscending
+          (sym (range_old nodes members (get_or heads i d).start (get_or heads i d).end old.order old.within))
+          old.ascending;
+    }
+
+-- the clusters stay where nodes and weights are appended
+clusters_stay : (nodes members weights more : List ℕ) (heads : List ClusterHead) → length weights ≡ length nodes
+    → All (IsLaid nodes) heads
+    → clusters_over (nodes ++ members) (weights ++ more) heads ≡ clusters_over nodes weights heads
+clusters_stay nodes members weights more [] count each = refl
+clusters_stay nodes members weights more (h ∷ hs) count each =
+    let laid : IsLaid nodes h = each 0 h (omega arith) in
+    ap (λ (xs : List ℕ). make xs (slice_range (weights ++ more) h.start h.end)
+    ∷ clusters_over (nodes ++ members) (weights ++ more) hs)
+    (range_old nodes members h.start h.end laid.order laid.within)
+    ∙ ap (λ (ws : List ℕ). make (slice_range nodes h.start h.end) ws
+    ∷ clusters_over (nodes ++ members) (weights ++ more) hs)
+    (range_old weights more h.start h.end laid.order (omega (arith, laid.within, count)))
+    ∙ ap (λ (cs : List PlanCluster). cluster_under nodes weights h ∷ cs)
+    (clusters_stay nodes members weights more hs count (λ i d short. each (suc i) d (omega arith)))
+  where
+    make : List ℕ → List ℕ → PlanCluster
+    make xs ws = record { leader = h.leader; phase = h.phase; members = xs; weights = ws; depth = h.depth }
+
+module _ (old new : ClusterLists) (members weights : List ℕ) (leader phase depth start end : ℕ) (laid : AreLaid old)
+    (nodes_now : new.nodes.items ≡ old.nodes.items ++ members)
+    (weights_now : new.weights.items ≡ old.weights.items ++ weights)
+    (heads_now : new.heads.items ≡ old.heads.items ++ record {
+      leader = leader;
+      phase = phase;
+      depth = depth;
+      start = start;
+      end = end;
+    } ∷ [])
+    (count : length weights ≡ length members) (begins : start ≡ length old.nodes.items)
+    (ends : end ≡ length new.nodes.items) where
+  head : ClusterHead
+  head = record { leader = leader; phase = phase; depth = depth; start = start; end = end }
+
+  long : length new.nodes.items ≡ length old.nodes.items + length members
+  long = ap (length {A = ℕ}) nodes_now ∙ length-append old.nodes.items members
+
+  here : slice_range new.nodes.items start end ≡ members
+  here = ap (λ (xs : List ℕ). slice_range xs start end) nodes_now
+      ∙ range_new old.nodes.items members start end begins (ends ∙ ap (length {A = ℕ}) nodes_now)
+
+  beside : slice_range new.weights.items start end ≡ weights
+  beside = ap (λ (xs : List ℕ). slice_range xs start end) weights_now
+      ∙ range_new old.weights.items weights start end (omega (arith, begins, laid.count))
+      (omega (arith, ends, long, laid.count, count, length-append old.weights.items weights))
+
+  pub still_laid : IsAscending members → AreLaid new
+  unfolding head
+  still_laid ascending = record {
+    count = omega (
+      arith,
+      ap (length {A = ℕ}) weights_now,
+      length-append old.weights.items weights,
+      long,
+      laid.count,
+      count,
+    );
+    each = subst (λ (hs : List ClusterHead). All (IsLaid new.nodes.items) hs) (sym heads_now)
+        (All-push (IsLaid new.nodes.items) old.heads.items head
+        (subst (λ (xs : List ℕ). All (IsLaid xs) old.heads.items) (sym nodes_now)
+        (old_laid old.nodes.items members old.heads.items laid.each))
+        (record {
+          order = omega (arith, begins, ends, long);
+          within = omega (arith, ends);
+          ascending = subst IsAscending (sym here) ascending;
+        }));
+  }
+
+  pub cluster_pushed : clusters_of_lists new ≡ clusters_of_lists old ++ record {
+    leader = leader;
+    phase = phase;
+    members = members;
+    weights = weights;
+    depth = depth;
+  } ∷ []
+  unfolding head
+  cluster_pushed =
+      ap (clusters_over new.nodes.items new.weights.items) heads_now
+      ∙ map_push (cluster_under new.nodes.items new.weights.items) old.heads.items head
+      ∙ ap (λ (cs : List PlanCluster). cs ++ cluster_under new.nodes.items new.weights.items head ∷ [])
+      (ap (λ (xs : List ℕ). clusters_over xs new.weights.items old.heads.items) nodes_now
+      ∙ ap (λ (ws : List ℕ). clusters_over (old.nodes.items ++ members) ws old.heads.items) weights_now
+      ∙ clusters_stay old.nodes.items members old.weights.items weights old.heads.items laid.count laid.each)
+      ∙ ap (λ (xs : List ℕ). clusters_of_lists old ++ make xs (slice_range new.weights.items start end) ∷ []) here
+      ∙ ap (λ (ws : List ℕ). clusters_of_lists old ++ make members ws ∷ []) beside
+    where
+      make : List ℕ → List ℕ → PlanCluster
+      make xs ws = record { leader = leader; phase = phase; members = xs; weights = ws; depth = depth }
+
+-- ---- a cluster of a cover more
+
+module _ (network : Network) (made : Cluster) (old new : ClusterLists) (part : List ℕ) (start end depth : ℕ)
+    (laid : AreLaid old) (listed : part ≡ made.members.members)
+    (nodes_now : new.nodes.items ≡ old.nodes.items ++ made.members.members)
+    (heads_now : new.heads.items ≡ old.heads.items ++ record {
+      leader = made.first;
+      phase = made.phase;
+      depth = depth;
+      start = start;
+      end = end;
+    } ∷ [])
+    (begins : start ≡ length old.nodes.items) (ends : end ≡ length new.nodes.items)
+    (written : AreWeightsWritten network part made.first old.weights.items new.weights.items depth) where
+  is : AreWeightsWritten network made.members.members made.first old.weights.items new.weights.items depth
+  is = subst (λ xs. AreWeightsWritten network xs made.first old.weights.items new.weights.items depth) listed written
+
+  pub made_laid : IsAscending made.members.members → AreLaid new
+  made_laid ascending =
+      still_laid old new made.members.members is.weights made.first made.phase depth start end laid nodes_now
+      is.appended
+      heads_now is.sound.count begins ends ascending
+
+  pub made_pushed : IsPushed network made old new
+  made_pushed = record {
+    cluster = record {
+      leader = made.first;
+      phase = made.phase;
+      members = made.members.members;
+      weights = is.weights;
+      depth = depth;
+    };
+    is = row_is network made made.members.members old.weights.items new.weights.items depth refl is;
+    pushed = cluster_pushed old new made.members.members is.weights made.first made.phase depth start end laid nodes_now
+        is.appended heads_now is.sound.count begins ends;
+  }
+
+-- ---- one cluster
+
+module _ (lists : ClusterLists) (depth end : ℕ)
+    (heads_now : lists.heads.items ≡ record { leader = 0; phase = 0; depth = depth; start = 0; end = end } ∷ [])
+    (ends : end ≡ length lists.nodes.items) (count : length lists.weights.items ≡ length lists.nodes.items) where
+  whole_range : (xs : List ℕ) → length xs ≡ end → slice_range xs 0 end ≡ xs
+  whole_range xs same = take_all (end - 0) xs (omega arith)
+
+  pub alone_laid : IsAscending lists.nodes.items → AreLaid lists
+  alone_laid ascending = record {
+    count = count;
+    each = subst (λ (hs : List ClusterHead). All (IsLaid lists.nodes.items) hs) (sym heads_now)
+        (All-push (IsLaid lists.nodes.items) [] (record { leader = 0; phase = 0; depth = depth; start = 0; end = end })
+        (λ i d short. absurd (omega arith))
+        (record {
+          order = omega arith;
+          within = omega (arith, ends);
+          ascending = subst IsAscending (sym (whole_range lists.nodes.items (sym ends))) ascending;
+        }));
+  }
+
+  pub alone_read : clusters_of_lists lists ≡ record {
+    leader = 0;
+    phase = 0;
+    members = lists.nodes.items;
+    weights = lists.weights.items;
+    depth = depth;
+  } ∷ []
+  alone_read =
+      ap (clusters_over lists.nodes.items lists.weights.items) heads_now
+      ∙ ap (λ (xs : List ℕ). make xs (slice_range lists.weights.items 0 end) ∷ [])
+      (whole_range lists.nodes.items (sym ends))
+      ∙ ap (λ (ws : List ℕ). make lists.nodes.items ws ∷ [])
+      (whole_range lists.weights.items (omega (arith, count, ends)))
+    where
+      make : List ℕ → List ℕ → PlanCluster
+      make xs ws = record { leader = 0; phase = 0; members = xs; weights = ws; depth = depth }

@@ -1,0 +1,39 @@
+-- Levels over the shapes that they share.
+use Rattle.std.proofs.Common.{◌≡◌, ℕ, suc, ◌<◌, List, [], ◌∷◌, ◌++◌, length, refl, sym, ◌∙◌, ap, arith}
+use Rattle.std.specs.Prelude.{All}
+use Rattle.std.proofs.lemmas.List.{get_or_append_left, get_or_push, map_push}
+use Rattle.region_plan.specs.Plan.{Level, no_level}
+use Rattle.region_plan.specs.Kept.{Shape, level_of, levels_over, shape_in, shape_of}
+use Rattle.region_plan.specs.declared.sharing.LevelHead.{LevelHead}
+
+-- the level of a head
+abbrev pub level_under : List Shape → LevelHead → Level
+level_under shapes h = level_of h.exponent h.threshold (shape_in shapes h.table)
+
+-- the levels stay where a shape is added
+pub shape_added : (shapes : List Shape) (shape : Shape) (heads : List LevelHead)
+    → All (λ (h : LevelHead). h.table < length shapes) heads
+    → levels_over (shapes ++ shape ∷ []) heads ≡ levels_over shapes heads
+shape_added shapes shape [] below = refl
+shape_added shapes shape (h ∷ hs) below =
+    ap (λ (s : Shape). level_of h.exponent h.threshold s ∷ levels_over (shapes ++ shape ∷ []) hs)
+    (get_or_append_left shapes (shape ∷ []) (shape_of no_level) h.table (below 0 h (omega arith)))
+    ∙ ap (λ (ls : List Level). level_under shapes h ∷ ls)
+    (shape_added shapes shape hs (λ i d short. below (suc i) d (omega arith)))
+
+-- a level more, over a shape more
+pub level_pushed : (shapes new_shapes : List Shape) (shape : Shape) (heads new_heads : List LevelHead)
+    (levels : List Level) (exponent threshold place : ℕ) → levels_over shapes heads ≡ levels
+    → All (λ (h : LevelHead). h.table < length shapes) heads → new_shapes ≡ shapes ++ shape ∷ []
+    → place ≡ length shapes
+    → new_heads ≡ heads ++ record { exponent = exponent; threshold = threshold; table = place } ∷ []
+    → levels_over new_shapes new_heads ≡ levels ++ level_of exponent threshold shape ∷ []
+level_pushed shapes new_shapes shape heads new_heads levels exponent threshold place view below grown last now =
+    let head : LevelHead = record { exponent = exponent; threshold = threshold; table = place } in
+    ap (λ (ss : List Shape). levels_over ss new_heads) grown
+    ∙ ap (λ (hs : List LevelHead). levels_over (shapes ++ shape ∷ []) hs) now
+    ∙ map_push (level_under (shapes ++ shape ∷ [])) heads head
+    ∙ ap (λ (ls : List Level). ls ++ level_under (shapes ++ shape ∷ []) head ∷ [])
+    (shape_added shapes shape heads below ∙ view)
+    ∙ ap (λ (s : Shape). levels ++ level_of exponent threshold s ∷ [])
+    (get_or_push shapes shape (shape_of no_level) place (sym last))
