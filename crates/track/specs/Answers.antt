@@ -12,7 +12,7 @@ use Rattle.directory.specs.Orders.{history_of}
 use Rattle.directory.specs.Outcomes.{Outcome, outcome_of}
 use Rattle.trail_laws.specs.Censuses.{IsCounted, who_ends_at}
 use Rattle.trail_laws.specs.Lines.{IsRightLine}
-use Rattle.region_plan.specs.Plan.{PlanData}
+use Rattle.region_plan.specs.Plan.{PlanData, nodes_of}
 use Rattle.region_plan.specs.Settings.{setting_of}
 use Rattle.stretch_laws.specs.Plans.{bound_of}
 use Rattle.stretch_laws.specs.Lines.{IsLineWithin}
@@ -37,11 +37,12 @@ pub record IsPlanText (contents : Contents) (text : List ℕ) : Type 0 where
   pub is : IsPlanOf (network_of contents) contents.k plan
   pub text_is : text ≡ plan_text_of plan
 
--- the history of an input's calls under its order, over a plan, and what becomes of the calls
+-- the history of an input's calls under its order, over a plan
 abbrev pub history_under : Contents → PlanData → History
 history_under contents plan =
     history_of (setting_of plan contents.homes) (scripts_of contents) contents.order
 
+-- what becomes of an input's calls under its order, over a plan
 abbrev pub outcome_under : Contents → PlanData → Outcome
 outcome_under contents plan =
     outcome_of (setting_of plan contents.homes) (scripts_of contents) contents.order
@@ -80,6 +81,11 @@ pub record IsCensusText (contents : Contents) (text : List ℕ) : Type 0 where
   pub right : (plan : PlanData) → IsPlanOf (network_of contents) contents.k plan
       → (sub node : ℕ) → sub < length contents.homes → node < contents.nodes
       → IsCounted (setting_of plan contents.homes) (history_under contents plan) sub node
+  -- and there is a plan of its network, over which the text is the directory's own census then
+  pub plan : PlanData
+  pub is : IsPlanOf (network_of contents) contents.k plan
+  pub census_text_is : text ≡ census_text_of
+      (census (setting_of plan contents.homes) (history_under contents plan)) (nodes_of plan)
 
 -- whether a command is built
 abbrev pub is_served : Command → Bool
@@ -100,9 +106,9 @@ IsResult (Make load) contents text = ⊥
 IsResult (Trial load) contents text = ⊥
 
 -- the text that answers what bytes say, and the status that goes with it
-abbrev pub IsAnswer : Command → Result Contents InputFault → Status → List ℕ → Type 0
-IsAnswer command (Ok contents) status text = (status ≡ Done) × IsResult command contents text
-IsAnswer command (Err fault) status text =
+abbrev pub IsRightAnswer : Command → Result Contents InputFault → Status → List ℕ → Type 0
+IsRightAnswer command (Ok contents) status text = (status ≡ Done) × IsResult command contents text
+IsRightAnswer command (Err fault) status text =
     (status ≡ Refused) × (text ≡ refused_line_of fault)
 
 -- the text of a command over these bytes, and the status that goes with it
@@ -110,4 +116,4 @@ pub record IsText (command : Command) (bytes : List ℕ) (status : Status)
     (text : List ℕ) : Type 0 where
   pub input : Result Contents InputFault
   pub says : IsInput bytes input
-  pub answer : IsAnswer command input status text
+  pub answer : IsRightAnswer command input status text
