@@ -1,3 +1,5 @@
+mod Bodies
 mod Digits
+mod Fields
 mod Parts
 mod Pieces

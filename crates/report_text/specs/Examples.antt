@@ -1,4 +1,5 @@
--- What the worked examples are made of.
+-- What the worked examples are made of. Key laws: `example_calls` and `example_lines` (the text of
+-- each kind of line, computed).
 use Rattle.std.specs.Prelude.{ℕ, zero, suc, List, [], ◌∷◌}
 
 -- so many zeros

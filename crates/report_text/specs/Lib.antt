@@ -2,3 +2,4 @@ pub mod PlanText
 pub mod ReportText
 pub mod Written
 pub mod Examples
+pub mod Shorts

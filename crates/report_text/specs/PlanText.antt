@@ -1,6 +1,7 @@
 -- The text of a plan: a line that measures it, then level by level its clusters with their members
 -- and the homes of the nodes, then `end`. Distances, thresholds and readers aren't in it, and of
 -- the weights inside a cluster it tells the greatest.
+-- Key law: `plan_text` (it gives this text, byte for byte).
 use Rattle.std.specs.Prelude.{ℕ, ◌+◌, ◌^◌, List, [], ◌∷◌, length, codes}
 use Rattle.region_plan.specs.Plan.{PlanCluster, Level, PlanData, nodes_of, levels_of}
 use Rattle.region_plan.specs.Measures.{degree_of, stretch_of}

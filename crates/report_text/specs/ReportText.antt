@@ -1,5 +1,7 @@
 -- The text of a report: a line for each call, the actors of the tickets on lines of 64, and the
--- number of visits; and the line that refuses an input. Computed: `example_lines`.
+-- number of visits; and the line that refuses an input.
+-- Key laws: `report` and `refused_line` (they give these texts, byte for byte), `example_calls` and
+-- `example_lines` (lines of each kind, computed).
 use Rattle.std.specs.Prelude.{ℕ, zero, suc, Bool, List, [], ◌∷◌, ◌++◌, map, length, take, drop, Option, Some, None, if◌then◌else◌, codes}
 use Rattle.std.specs.List.{concat}
 use Rattle.directory.specs.declared.answers.Done.{Done}
@@ -62,19 +64,20 @@ call_line (Again actor from sub why weight first last) =
 abbrev pub order_line : List ℕ → List ℕ
 order_line actors = codes "order" then fields actors then 10 ∷ []
 
--- numbers cut into pieces of 64, fewer in the last; there are no more pieces than numbers
+-- numbers cut into at most so many pieces of 64, fewer in the last
 abbrev pub pieces_within : ℕ → List ℕ → List (List ℕ)
 pieces_within zero numbers = []
 pieces_within (suc most) [] = []
 pieces_within (suc most) (n ∷ numbers) =
     take 64 (n ∷ numbers) ∷ pieces_within most (drop 64 (n ∷ numbers))
 
+-- numbers cut into pieces of 64, fewer in the last
 abbrev pub pieces : List ℕ → List (List ℕ)
 pieces numbers = pieces_within (length numbers) numbers
 
 -- the line that ends a report of so many visits
-abbrev pub end_line : ℕ → List ℕ
-end_line visits = codes "end" then field visits then 10 ∷ []
+abbrev pub last_line : ℕ → List ℕ
+last_line visits = codes "end" then field visits then 10 ∷ []
 
 -- the lines of the actors of all tickets
 abbrev pub order_lines : List ℕ → List (List ℕ)
@@ -83,7 +86,8 @@ order_lines order = map order_line (pieces order)
 -- the lines of a report
 abbrev pub report_lines : Outcome → List (List ℕ)
 report_lines outcome =
-    map call_line outcome.calls ++ order_lines outcome.order ++ end_line (length outcome.order) ∷ []
+    map call_line outcome.calls ++ order_lines outcome.order
+    ++ last_line (length outcome.order) ∷ []
 
 -- the text of a report
 abbrev pub report_of : Outcome → List ℕ

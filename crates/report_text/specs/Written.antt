@@ -1,28 +1,31 @@
 -- What the code keeps of the lines of a report, and of the text of a plan, that are still to be
--- written.
-use Rattle.std.specs.Prelude.{◌≡◌, ℕ, ◌+◌, ◌<◌, ◌≤◌, Bool, List, [], ◌∷◌, ◌++◌, map, length, drop, if◌then◌else◌, codes}
+-- written. Key laws: `Lines::next_line` (its line is the first of those that are left) and
+-- `PlanParts::advance`, by its clause `part` (so it is of the parts of a plan's text).
+use Rattle.std.specs.Prelude.{◌≡◌, ℕ, ◌+◌, ◌<◌, ◌≤◌, Bool, true, IfSome, vec_capacity, List, [], ◌∷◌, ◌++◌, map, length, drop, if◌then◌else◌, codes}
 use Rattle.directory.specs.declared.answers.Done.{Done}
 use Rattle.region_plan.specs.Plan.{PlanData, clusters_of, level_at, levels_of, members_of, nodes_of}
 use Rattle.report_text.specs.PlanText.{clusters_text, homes_line, levels_text, plan_text_of}
-use Rattle.report_text.specs.ReportText.{call_line, order_lines, end_line}
+use Rattle.report_text.specs.ReportText.{call_line, order_lines, last_line}
 use Rattle.outside.specs.Texts.{◌then◌, fields}
+use Rattle.report_text.specs.declared.kept.Kept.{Kept}
 use Rattle.report_text.specs.declared.plan.Stage.{Stage}
 use Rattle.report_text.specs.declared.plan.Stage.TheVariants as stages
 
 -- the lines of these calls and of these tickets, and the last one where it isn't written yet
 abbrev pub lines_left : List Done → List ℕ → ℕ → Bool → List (List ℕ)
 lines_left calls order visits ended =
-    map call_line calls ++ order_lines order ++ (if ended then [] else end_line visits ∷ [])
+    map call_line calls ++ order_lines order ++ (if ended then [] else last_line visits ∷ [])
 
 -- the lines of a report: the one that was made last, and those that are left
 pub record LinesState : Type 0 where
   pub line : List ℕ
   pub left : List (List ℕ)
 
--- the levels from this one on, and what stands behind the clusters of one
+-- what follows from a level on
 abbrev pub levels_left : PlanData → ℕ → List ℕ
 levels_left plan i = levels_text i (drop i plan.levels) then codes "end" then 10 ∷ []
 
+-- what follows from a cluster of a level on
 abbrev pub clusters_left : PlanData → ℕ → ℕ → List ℕ
 clusters_left plan i c =
     clusters_text c (drop c (level_at plan i).clusters)
@@ -40,20 +43,40 @@ plan_left plan (stages.Homes i from) =
 plan_left plan stages.Done = []
 
 -- a stage names what the plan has
-abbrev pub IsStage : PlanData → Stage → Type 0
-IsStage plan stages.Measures = Unit {0}
-IsStage plan (stages.Level i) = Unit {0}
-IsStage plan (stages.Cluster i c) = i < levels_of plan
-IsStage plan (stages.Members i c from) =
+abbrev pub IsStageOf : PlanData → Stage → Type 0
+IsStageOf plan stages.Measures = Unit {0}
+IsStageOf plan (stages.Level i) = Unit {0}
+IsStageOf plan (stages.Cluster i c) = i < levels_of plan
+IsStageOf plan (stages.Members i c from) =
     (i < levels_of plan) × (c < clusters_of plan i) × (from ≤ length (members_of plan i c))
-IsStage plan (stages.Homes i from) = (i < levels_of plan) × (from ≤ nodes_of plan)
-IsStage plan stages.Done = Unit {0}
+IsStageOf plan (stages.Homes i from) = (i < levels_of plan) × (from ≤ nodes_of plan)
+IsStageOf plan stages.Done = Unit {0}
+
+-- the text from a stage on, before which the kept body may have to be written
+abbrev pub text_left : PlanData → Stage → Kept → List ℕ
+text_left plan stage kept =
+    (if kept.waits then kept.body.items else []) ++ plan_left plan stage
+
+-- what is kept of the body of a level: with what stands behind it, it is the text from the body on
+pub record KeepsBody (plan : PlanData) (stage : Stage) (kept : Kept) : Type 0 where
+  pub room : 65536 ≤ vec_capacity kept.body
+  pub whole : IfSome kept.level
+      (λ i. kept.body.items ++ plan_left plan stage ≡ clusters_left plan i 0)
+  pub some : kept.waits ≡ true → 0 < length kept.body.items
+
+-- the part leads from a stage to another, and to what is kept then
+pub record IsStep (plan : PlanData) (before after : Stage) (kept : Kept) (part : List ℕ) : Type 0
+  where
+    pub text : plan_left plan before ≡ part ++ text_left plan after kept
+    pub some : 0 < length part
+    pub sound : IsStageOf plan after
+    pub keeps : KeepsBody plan after kept
 
 -- the part leads from one stage to another
 pub record IsPart (plan : PlanData) (before after : Stage) (part : List ℕ) : Type 0 where
   pub text : plan_left plan before ≡ part ++ plan_left plan after
   pub some : 0 < length part
-  pub sound : IsStage plan after
+  pub sound : IsStageOf plan after
 
 -- the text of a plan: the part that was made last, and what is left
 pub record PartsState : Type 0 where

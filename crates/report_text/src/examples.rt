@@ -3,7 +3,7 @@ ghost use Rattle.std.specs.Prelude.{◌≡◌, ◌++◌, [], ◌∷◌, length, 
 ghost use Rattle.directory.specs.declared.answers.Done.TheVariants.{Moved, Switched, Found, Off, Again};
 ghost use Rattle.directory.specs.declared.answers.Why.TheVariants.{Empty, NoEntry, Chased};
 ghost use Rattle.net_reader.specs.declared.fault.InputCause.TheVariants.{TooLarge, Apart};
-ghost use Rattle.report_text.specs.ReportText.{call_line, end_line, order_lines, refused_line_of, report_of};
+ghost use Rattle.report_text.specs.ReportText.{call_line, last_line, order_lines, refused_line_of, report_of};
 ghost use Rattle.report_text.specs.Examples.{zeros};
 
 /// The line of a call of each kind.

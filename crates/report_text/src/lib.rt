@@ -2,6 +2,7 @@
 #![tactic(auto)]
 
 mod examples;
+mod kept;
 mod line;
 mod plan;
 mod refusal;

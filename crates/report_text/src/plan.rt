@@ -1,12 +1,14 @@
 //! The text of a plan, part by part.
-ghost use Rattle.std.specs.Prelude.{◌≡◌, ◌<◌, ◌≤◌, ◌+◌, ◌-◌, ◌*◌, ◌++◌, [], length, take, drop, true, false, IfOk};
+ghost use Rattle.std.specs.Prelude.{◌≡◌, ◌≢◌, ℕ, ◌<◌, ◌≤◌, ◌+◌, ◌-◌, ◌*◌, ◌++◌, [], length, take, drop, true, false, IfOk};
 ghost use Rattle.region_plan.specs.Plan.{level_at, cluster_at, members_of, nodes_of, levels_of, clusters_of};
 ghost use Rattle.region_plan.specs.Kept.{IsKept};
 ghost use Rattle.outside.specs.Texts.{fields};
 ghost use Rattle.report_text.specs.PlanText.{cluster_head, level_line, plan_line, plan_text_of};
-ghost use Rattle.report_text.specs.Written.{IsPart, IsStage, plan_left};
-ghost use Rattle.report_text.specs.declared.plan.Stage.TheVariants.{Measures, Level, Cluster, Members, Homes};
+ghost use Rattle.report_text.specs.Written.{IsPart, IsStageOf, IsStep, KeepsBody};
+ghost use Rattle.report_text.specs.Written.{clusters_left, levels_left};
+ghost use Rattle.report_text.specs.declared.plan.Stage.TheVariants.{Measures, Level, Cluster, Members, Homes, Done};
 
+use crate::kept::Kept;
 use crate::line::Line;
 use region_plan::Plan;
 use std::alloc::{AllocError, Global};
@@ -66,19 +68,44 @@ fn write_level(line: &mut Line, plan: &Plan, level: u32)
     line.word("\n");
 }
 
-// The line that begins a level, or the last one.
-fn write_level_or_end(line: &mut Line, plan: &Plan, level: u32) -> Stage
-    requires empty { line.old ≡ [] }
-    requires kept { IsKept plan.now }
-    ensures { IsPart plan.now (Level level) result line.new }
+// Whether the kept body is that of a level too.
+fn is_body_of(kept: &Kept, plan: &Plan, level: u32) -> bool
+    requires level { level < levels_of plan.now }
+    requires keeps { KeepsBody plan.now (Level level) kept.now }
+    ensures { result ≡ true → (kept.now.body.items ++ levels_left plan.now (level + 1)
+        ≡ clusters_left plan.now level 0) × (0 < length kept.now.body.items) }
 {
-    if level < plan.levels() {
-        write_level(line, plan, level);
-        Stage::Cluster { level, cluster: 0 }
-    } else {
-        line.word("end\n");
-        Stage::Done
+    let Some(below) = kept.level else {
+        return false;
+    };
+    match level.checked_sub(below) {
+        Some(1) => plan.repeats(level),
+        _ => false,
     }
+}
+
+// Begins a level, or ends the text.
+fn begin_level(line: &mut Line, plan: &Plan, level: u32, kept: &mut Kept) -> Stage
+    requires empty { line.old ≡ [] }
+    requires sound { IsKept plan.now }
+    requires keeps { KeepsBody plan.now (Level level) kept.old }
+    requires still { kept.old.waits ≡ false }
+    ensures { IsStep plan.now (Level level) result kept.new line.new }
+{
+    if level >= plan.levels() {
+        line.word("end\n");
+        kept.level = None;
+        return Stage::Done;
+    }
+    write_level(line, plan, level);
+    if is_body_of(kept, plan, level) {
+        kept.level = Some(level);
+        kept.waits = true;
+        return Stage::Level { level: level + 1 };
+    }
+    kept.body.clear();
+    kept.level = Some(level);
+    Stage::Cluster { level, cluster: 0 }
 }
 
 // What stands before a cluster's members.
@@ -175,27 +202,75 @@ fn write_homes(line: &mut Line, plan: &Plan, nodes: u32, level: u32, from: u32) 
     Stage::Level { level: level + 1 }
 }
 
-/// The parts of a plan's text, one after another. It takes its memory at once, and keeps one part.
+// One part of the measures or of the body of a level, and what the next part begins with.
+fn write_body_part(line: &mut Line, plan: &Plan, nodes: u32, stage: Stage) -> Stage
+    requires empty { line.old ≡ [] }
+    requires sound { IsKept plan.now }
+    requires nodes { nodes ≡ nodes_of plan.now }
+    requires stage { IsStageOf plan.now stage }
+    requires going { stage ≢ Done }
+    requires begun { (i : ℕ) → stage ≢ Level i }
+    ensures { IsPart plan.now stage result line.new }
+{
+    match stage {
+        Stage::Measures => write_measures(line, plan),
+        Stage::Cluster { level, cluster } => write_cluster_or_homes(line, plan, level, cluster),
+        Stage::Members {
+            level,
+            cluster,
+            from,
+        } => write_members(line, plan, level, cluster, from),
+        Stage::Homes { level, from } => write_homes(line, plan, nodes, level, from),
+        Stage::Level { .. } | Stage::Done => unreachable!(),
+    }
+}
+
+// One part more, and what the next one begins with.
+fn write_part(line: &mut Line, plan: &Plan, nodes: u32, stage: Stage, kept: &mut Kept) -> Stage
+    requires empty { line.old ≡ [] }
+    requires sound { IsKept plan.now }
+    requires nodes { nodes ≡ nodes_of plan.now }
+    requires stage { IsStageOf plan.now stage }
+    requires going { stage ≢ Done }
+    requires keeps { KeepsBody plan.now stage kept.old }
+    requires still { kept.old.waits ≡ false }
+    ensures { IsStep plan.now stage result kept.new line.new }
+{
+    if let Stage::Level { level } = stage {
+        return begin_level(line, plan, level, kept);
+    }
+    let next = write_body_part(line, plan, nodes, stage);
+    kept.keep(line.bytes());
+    next
+}
+
+/// The parts of a plan's text, one after another. It takes its memory at once, and keeps one part
+/// and the body of a level.
 #[derive(Drop)]
 pub struct PlanParts<'a> {
     plan: &'a Plan,
     nodes: u32,
     stage: Stage,
     part: Line,
+    kept: Kept,
+    is_body: bool,
 }
 
 impl<'a> Model for PlanParts<'a> {
-    ghost use Rattle.std.specs.Prelude.{◌≡◌};
+    ghost use Rattle.std.specs.Prelude.{◌≡◌, if◌then◌else◌};
     ghost use Rattle.region_plan.specs.Plan.{nodes_of};
     ghost use Rattle.region_plan.specs.Kept.{IsKept};
-    ghost use Rattle.report_text.specs.Written.{IsStage, PartsState, plan_left};
+    ghost use Rattle.report_text.specs.Written.{IsStageOf, KeepsBody, PartsState, text_left};
 
     ghost Value = { PartsState };
 
-    ghost view = { λ p. record { part = p.part; left = plan_left p.plan.now p.stage } };
+    ghost view = { λ p. record {
+      part = if p.is_body then p.kept.body.items else p.part;
+      left = text_left p.plan.now p.stage p.kept;
+    } };
 
     ghost invariant = { λ p. (p.nodes ≡ nodes_of p.plan.now) × IsKept p.plan.now
-        × IsStage p.plan.now p.stage };
+        × IsStageOf p.plan.now p.stage × KeepsBody p.plan.now p.stage p.kept };
 }
 
 impl<'a> PlanParts<'a> {
@@ -207,7 +282,9 @@ impl<'a> PlanParts<'a> {
             plan,
             nodes: plan.nodes(),
             stage: Stage::Measures,
-            part: Line::new(alloc)?,
+            part: Line::new(alloc, plan.nodes() as usize)?,
+            kept: Kept::new(alloc)?,
+            is_body: false,
         })
     }
 
@@ -219,21 +296,21 @@ impl<'a> PlanParts<'a> {
         ensures none { result ≡ false → (self.old.left ≡ []) × (self.new.left ≡ []) }
     {
         self.part.clear();
-        let plan = self.plan;
-        let nodes = self.nodes;
-        let part = &mut self.part;
-        self.stage = match self.stage {
-            Stage::Measures => write_measures(part, plan),
-            Stage::Level { level } => write_level_or_end(part, plan, level),
-            Stage::Cluster { level, cluster } => write_cluster_or_homes(part, plan, level, cluster),
-            Stage::Members {
-                level,
-                cluster,
-                from,
-            } => write_members(part, plan, level, cluster, from),
-            Stage::Homes { level, from } => write_homes(part, plan, nodes, level, from),
-            Stage::Done => return false,
-        };
+        self.is_body = self.kept.waits;
+        if self.kept.waits {
+            self.kept.waits = false;
+            return true;
+        }
+        if let Stage::Done = self.stage {
+            return false;
+        }
+        self.stage = write_part(
+            &mut self.part,
+            self.plan,
+            self.nodes,
+            self.stage,
+            &mut self.kept,
+        );
         true
     }
 
@@ -241,7 +318,11 @@ impl<'a> PlanParts<'a> {
     pub fn part(&self) -> &[u8]
         ensures { result.now ≡ self.now.part }
     {
-        self.part.bytes()
+        if self.is_body {
+            &self.kept.body
+        } else {
+            self.part.bytes()
+        }
     }
 }
 

@@ -15,6 +15,9 @@ use std::marker::Model;
 
 const MOST_ON_A_LINE: usize = 64;
 
+// One field is made beforehand for so many visits, so that making them costs less than it saves.
+const VISITS_A_FIELD: usize = 8;
+
 // Where a find answers.
 fn write_place(line: &mut Line, node: u32, number: u32, level: Option<u32>)
     requires { length line.old ≤ 200 }
@@ -192,7 +195,7 @@ impl<'a> Lines<'a> {
             order: &outcome.order,
             visits: outcome.order.len() as u64,
             ended: false,
-            line: Line::new(alloc)?,
+            line: Line::new(alloc, outcome.order.len() / VISITS_A_FIELD)?,
         })
     }
 

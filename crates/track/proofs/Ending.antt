@@ -9,9 +9,9 @@ use Rattle.net_reader.specs.Reading.{ReaderValue, StandsFor}
 use Rattle.word_line.specs.declared.command.Command.{Command}
 use Rattle.track.specs.declared.status.Status.{Status}
 use Rattle.track.specs.declared.status.Status.TheVariants as statuses
-use Rattle.track.specs.Answers.{IsAnswer, IsText}
-use Rattle.track.specs.Ends.{EndsAs, IsBegun, IsWritten, streams}
-use Rattle.track.specs.Transfer.{IsAllRead, IsWrittenPart, StopsReading}
+use Rattle.track.specs.Answers.{IsRightAnswer, IsText}
+use Rattle.track.specs.Ends.{EndsAs, IsBegun, IsTextWritten, streams}
+use Rattle.track.specs.Transfer.{IsAllRead, IsWrittenPart, StopsReading, StopsWriting}
 
 -- what holds of all bytes that were read holds of what was left
 of_left : (P : List ℕ → Type 0) (before now : Option (List ℕ)) (bytes : List ℕ) → before ≡ prepend_known bytes now
@@ -22,7 +22,7 @@ of_left P before (Some rest) bytes e end p =
     subst (λ (o : Option (List ℕ)). IfSome o P) (sym e) (subst P whole p)
 
 status_of_text : (command : Command) (input : Result Contents InputFault) (status : Status) (text : List ℕ)
-    → IsAnswer command input status text → (status ≡ statuses.Done) ⊎ (status ≡ statuses.Refused)
+    → IsRightAnswer command input status text → (status ≡ statuses.Done) ⊎ (status ≡ statuses.Refused)
 status_of_text command (Ok contents) status text h = inl h.0
 status_of_text command (Err fault) status text h = inr h.0
 
@@ -55,11 +55,11 @@ done-go : (command : Command) (status : Status) (text : List ℕ) (reader : Read
 done-go command status text reader left left' rf rf' written written' wf wf' all right w f (inl e) =
     let is : IsText command all.bytes statuses.Done text =
     subst (λ (s : Status). IsText command all.bytes s text) e right in
-    let whole : IsWritten command statuses.Done all.bytes written written' =
+    let whole : IsTextWritten command statuses.Done all.bytes written written' =
     record { short = all.short; text = text; right = is; written = w } in
     subst (λ (s : Status). EndsAs command s (streams left rf written wf) (streams left' rf' written' wf')) (sym e) (
-      of_left (λ bytes. IsWritten command statuses.Done bytes written written') left left' all.bytes all.parts all.end
-          whole,
+      of_left (λ bytes. IsTextWritten command statuses.Done bytes written written') left left' all.bytes all.parts
+          all.end whole,
       all.end,
       all.no_fault,
       f,
@@ -67,10 +67,10 @@ done-go command status text reader left left' rf rf' written written' wf wf' all
 done-go command status text reader left left' rf rf' written written' wf wf' all right w f (inr e) =
     let is : IsText command all.bytes statuses.Refused text =
     subst (λ (s : Status). IsText command all.bytes s text) e right in
-    let whole : IsWritten command statuses.Refused all.bytes written written' =
+    let whole : IsTextWritten command statuses.Refused all.bytes written written' =
     record { short = all.short; text = text; right = is; written = w } in
     subst (λ (s : Status). EndsAs command s (streams left rf written wf) (streams left' rf' written' wf')) (sym e) (
-      of_left (λ bytes. IsWritten command statuses.Refused bytes written written') left left' all.bytes all.parts
+      of_left (λ bytes. IsTextWritten command statuses.Refused bytes written written') left left' all.bytes all.parts
           all.end whole,
       all.end,
       all.no_fault,
@@ -105,3 +105,21 @@ begun command status failed text shown reader left left' rf rf' written written'
       all.end,
       all.no_fault,
     )
+
+-- the text wasn't written whole
+pub unwritten : (command : Command) (status failed : Status) (text : List ℕ) (reader : ReaderValue) (left left' :
+    Option (List ℕ)) (rf rf' : ℕ) (written written' : Option (List ℕ)) (wf wf' : ℕ)
+    → IsAllRead reader left left' rf rf' → ((bytes : List ℕ) → StandsFor reader bytes
+    → IsText command bytes status text) → StopsWriting failed text written written' wf wf'
+    → EndsAs command failed (streams left rf written wf) (streams left' rf' written' wf')
+unwritten command status statuses.Done text reader left left' rf rf' written written' wf wf' all right h = absurd h
+unwritten command status statuses.Refused text reader left left' rf rf' written written' wf wf' all right h = absurd h
+unwritten command status statuses.BadWords text reader left left' rf rf' written written' wf wf' all right h = absurd h
+unwritten command status statuses.OutOfMemory text reader left left' rf rf' written written' wf wf' all right h =
+    ((h.0, h.1), all.no_fault)
+unwritten command status statuses.ReadFailed text reader left left' rf rf' written written' wf wf' all right h =
+    absurd h
+unwritten command status statuses.WriteFailed text reader left left' rf rf' written written' wf wf' all right h =
+    begun command status statuses.WriteFailed text text reader left left' rf rf' written written' wf wf' all right refl
+    h.1 refl h.0
+unwritten command status statuses.TooLong text reader left left' rf rf' written written' wf wf' all right h = absurd h

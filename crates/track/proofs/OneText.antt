@@ -7,6 +7,7 @@ use Rattle.net_reader.specs.declared.fault.InputFault.{InputFault}
 use Rattle.net_reader.specs.Input.{Contents, IsInput}
 use Rattle.net_reader.specs.Laws.{TextSaysOne}
 use Rattle.net_reader.specs.Reading.{most_bytes}
+use Rattle.region_plan.specs.Existence.{PlanIsOne}
 use Rattle.region_plan.specs.Plan.{PlanData}
 use Rattle.region_plan.specs.Regions.{IsPlanOf}
 use Rattle.report_text.specs.PlanText.{plan_text_of}
@@ -15,13 +16,9 @@ use Rattle.word_line.specs.declared.command.Command.TheVariants as commands
 use Rattle.track.specs.declared.status.Status.{Status}
 use Rattle.track.specs.declared.status.Status.TheVariants as statuses
 use Rattle.report_text.specs.ReportText.{report_of}
-use Rattle.track.specs.Answers.{network_of, outcome_under, IsAnswer, IsResult, IsText}
-use Rattle.track.specs.Ends.{EndsAs, IsWritten, Streams}
-
--- a network and k have one plan
-abbrev pub PlanIsOne : Type 0
-PlanIsOne = (network : Network) (k : ℕ) (one two : PlanData) → IsPlanOf network k one → IsPlanOf network k two
-    → one ≡ two
+use Rattle.track.specs.Answers.{network_of, outcome_under, IsRightAnswer, IsResult}
+use Rattle.track.specs.Ends.{EndsAs, IsTextWritten, Streams}
+use Rattle.track.specs.Laws.{BytesHaveOneText}
 
 same_result : PlanIsOne → (command : Command) (contents : Contents) (one other : List ℕ)
     → IsResult command contents one → IsResult command contents other → one ≡ other
@@ -36,7 +33,7 @@ same_result unique (commands.Make load) contents one other p q = absurd p
 same_result unique (commands.Trial load) contents one other p q = absurd p
 
 same_answer : PlanIsOne → (command : Command) (input : Result Contents InputFault) (s t : Status) (one other : List ℕ)
-    → IsAnswer command input s one → IsAnswer command input t other → (s ≡ t) × (one ≡ other)
+    → IsRightAnswer command input s one → IsRightAnswer command input t other → (s ≡ t) × (one ≡ other)
 same_answer unique command (Ok contents) s t one other p q = (
   p.0
       ∙ sym q.0,
@@ -44,16 +41,16 @@ same_answer unique command (Ok contents) s t one other p q = (
 )
 same_answer unique command (Err fault) s t one other p q = (p.0 ∙ sym q.0, p.1 ∙ sym q.1)
 
-pub one_text : PlanIsOne → TextSaysOne → (command : Command) (bytes : List ℕ) (s t : Status) (one other : List ℕ)
-    → IsText command bytes s one → IsText command bytes t other → (s ≡ t) × (one ≡ other)
+pub one_text : PlanIsOne → TextSaysOne → BytesHaveOneText
 one_text unique says command bytes s t one other p q =
     let same = says bytes p.input q.input p.says q.says in
-    same_answer unique command q.input s t one other (subst (λ (input : Result Contents InputFault). IsAnswer command
+    same_answer unique command q.input s t one other
+    (subst (λ (input : Result Contents InputFault). IsRightAnswer command
     input s one) same p.answer) q.answer
 
 -- an input is not refused
 not_refused : (command : Command) (input : Result Contents InputFault) (contents : Contents) (text : List ℕ)
-    → input ≡ Ok contents → IsAnswer command input statuses.Refused text → ⊥
+    → input ≡ Ok contents → IsRightAnswer command input statuses.Refused text → ⊥
 not_refused command (Ok other) contents text e h = let no : statuses.Refused ≡ statuses.Done = h.0 in cc
 not_refused command (Err fault) contents text e h = cc
 
@@ -68,7 +65,7 @@ pub is_complete : TextSaysOne → (command : Command) (status : Status) (before 
     → (status ≡ statuses.Done) ⊎ (status ≡ statuses.OutOfMemory)
 is_complete says command statuses.Done before now bytes contents h left short input r w = inl refl
 is_complete says command statuses.Refused before now bytes contents h left short input r w =
-    let written = of_some (λ bytes. IsWritten command statuses.Refused bytes before.written now.written) before.left
+    let written = of_some (λ bytes. IsTextWritten command statuses.Refused bytes before.written now.written) before.left
     bytes left h.0 in
     absurd (not_refused command written.right.input contents written.text (says bytes written.right.input (Ok contents)
     written.right.says input) written.right.answer)

@@ -10,7 +10,7 @@ use Rattle.net_reader.specs.Seen.{seen_input}
 use Rattle.region_plan.specs.Plan.{PlanData}
 use Rattle.region_plan.specs.Settings.{setting_of}
 use Rattle.machine.specs.declared.machine.Machine.{Machine}
-use Rattle.machine.specs.Machines.{IsSame, StandsFor, scripts_at, setting_at}
+use Rattle.machine.specs.Machines.{IsSame, HasHistory, scripts_at, setting_at}
 use Rattle.machine.specs.Scripts.{scripts_of}
 use Rattle.track.specs.Answers.{history_under, outcome_under}
 
@@ -25,22 +25,22 @@ of_same P old new same p =
 -- one turn more of an order
 pub play-more : (old new : Machine) (order : List ℕ) (i actor : ℕ) → IsSame old new → i < length order
     → get_or order i 0 ≡ actor
-    → StandsFor new (after_turn (setting_at old) (scripts_at old)
+    → HasHistory new (after_turn (setting_at old) (scripts_at old)
     (after_turns (setting_at old) (scripts_at old) [] (take i order)) actor)
-    → StandsFor new (after_turns (setting_at new) (scripts_at new) [] (take (i + 1) order))
+    → HasHistory new (after_turns (setting_at new) (scripts_at new) [] (take (i + 1) order))
 play-more old new order i actor same within is goes =
-    of_same (λ setting scripts. StandsFor new (after_turns setting scripts [] (take (i + 1) order))) old new same
-    (subst (StandsFor new)
+    of_same (λ setting scripts. HasHistory new (after_turns setting scripts [] (take (i + 1) order))) old new same
+    (subst (HasHistory new)
     (sym (ap (after_turns (setting_at old) (scripts_at old) []) (take_more order i 0 within
     ∙ ap (λ a. take i order ++ a ∷ []) is)
     ∙ fold-append (after_turn (setting_at old) (scripts_at old)) [] (take i order) (actor ∷ []))) goes)
 
 -- the end of an order
 pub play-ended : (old new : Machine) (order : List ℕ) → IsSame old new
-    → StandsFor new (history_of (setting_at old) (scripts_at old) order)
-    → StandsFor new (history_of (setting_at new) (scripts_at new) order)
+    → HasHistory new (history_of (setting_at old) (scripts_at old) order)
+    → HasHistory new (history_of (setting_at new) (scripts_at new) order)
 play-ended old new order same goes =
-    of_same (λ setting scripts. StandsFor new (history_of setting scripts order)) old new same goes
+    of_same (λ setting scripts. HasHistory new (history_of setting scripts order)) old new same goes
 
 -- what becomes of the calls, told by the input and the plan
 pub play-outcome : (machine : Machine) (input : Input) (plan : PlanData) → machine.input.now ≡ input
@@ -66,17 +66,17 @@ play-history machine input plan same_input same_plan =
 
 -- the same of the machine before
 pub play-began : (old new last : Machine) (order : List ℕ) → IsSame old new
-    → StandsFor last (history_of (setting_at new) (scripts_at new) order)
-    → StandsFor last (history_of (setting_at old) (scripts_at old) order)
+    → HasHistory last (history_of (setting_at new) (scripts_at new) order)
+    → HasHistory last (history_of (setting_at old) (scripts_at old) order)
 play-began old new last order same goes =
-    of_same (λ setting scripts. StandsFor last (history_of setting scripts order)) new old
+    of_same (λ setting scripts. HasHistory last (history_of setting scripts order)) new old
     (sym same.0, sym same.1, sym same.2) goes
 
 -- a machine that has played an order of its input to the end stands for the history of the calls
 pub play-ends : (first last : Machine) (input : Input) (plan : PlanData) (order : List ℕ) → first.input.now ≡ input
     → first.plan.now ≡ plan → order ≡ input.order.items
-    → StandsFor last (history_of (setting_at first) (scripts_at first) order)
-    → StandsFor last (history_under (seen_input input) plan)
+    → HasHistory last (history_of (setting_at first) (scripts_at first) order)
+    → HasHistory last (history_under (seen_input input) plan)
 play-ends first last input plan order same_input same_plan whole stands =
-    subst (StandsFor last) (ap (history_of (setting_at first) (scripts_at first)) whole
+    subst (HasHistory last) (ap (history_of (setting_at first) (scripts_at first)) whole
     ∙ play-history first input plan same_input same_plan) stands

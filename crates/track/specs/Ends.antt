@@ -30,7 +30,7 @@ streams left read_faults written write_faults =
     }
 
 -- the text of the bytes that were left was written whole; they are no more than may be read
-pub record IsWritten (command : Command) (status : Status) (bytes : List ℕ)
+pub record IsTextWritten (command : Command) (status : Status) (bytes : List ℕ)
     (before now : Option (List ℕ)) : Type 0 where
   pub short : length bytes ≤ most_bytes
   pub text : List ℕ
@@ -51,16 +51,16 @@ abbrev pub IsSilent : Streams → Streams → Type 0
 IsSilent before now = (now.written ≡ before.written) × (now.write_faults ≡ before.write_faults)
 
 -- the whole text was written, nothing is left, and nothing failed
-abbrev pub IsDone : Command → Status → Streams → Streams → Type 0
-IsDone command status before now =
-    IfSome before.left (λ bytes. IsWritten command status bytes before.written now.written)
+abbrev pub EndsDone : Command → Status → Streams → Streams → Type 0
+EndsDone command status before now =
+    IfSome before.left (λ bytes. IsTextWritten command status bytes before.written now.written)
     × IsAtEnd now.left × (now.read_faults ≡ before.read_faults)
     × (now.write_faults ≡ before.write_faults)
 
 -- what a status says, to a command that is built
 abbrev pub EndsAs : Command → Status → Streams → Streams → Type 0
-EndsAs command Done before now = IsDone command Done before now
-EndsAs command Refused before now = IsDone command Refused before now
+EndsAs command Done before now = EndsDone command Done before now
+EndsAs command Refused before now = EndsDone command Refused before now
 EndsAs command BadWords before now = ⊥
 EndsAs command OutOfMemory before now =
     IsSilent before now × (now.read_faults ≡ before.read_faults)

@@ -1,4 +1,5 @@
--- The laws of the top call, as named statements.
+-- The laws of the top call, as named statements. Key laws: `bytes_have_one_text`
+-- (`BytesHaveOneText`) and `complete` (`IsComplete`).
 use Rattle.std.specs.Prelude.{◌≡◌, ◌⊎◌, ℕ, ◌≤◌, List, length, Some, Ok}
 use Rattle.outside.specs.Calls.{HasFaulted}
 use Rattle.net_reader.specs.Input.{Contents, IsInput}

@@ -1,5 +1,6 @@
 -- Where the code keeps subscribers at the ends of their scripts: a list of nodes, none for those
--- that are off there.
+-- that are off there. Key law: `censuses_are_right` of trail_laws, by its clause that whatever the
+-- order, the last census tells where the scripts lead.
 use Rattle.std.specs.Prelude.{◌≡◌, ℕ, ◌<◌, if◌then◌else◌, List, length, Option, Some, None, slice_index, slice_index_or}
 use Rattle.directory.specs.Orders.{steps_of}
 use Rattle.trail_laws.specs.Censuses.{Place, place_at_end}

@@ -1,4 +1,5 @@
 -- What stands after all bytes of a source were read, and after a text was written to a sink.
+-- Key law: `command`, by its clauses `rest` (what is left is an end of what was left) and `told`.
 use Rattle.std.specs.Prelude.{◌≡◌, ℕ, ◌<◌, ◌≤◌, List, ◌++◌, length, Option, IfSome}
 use Rattle.outside.specs.Bytes.{prepend_known, append_known, IsAtEnd}
 use Rattle.outside.specs.Calls.{HasFaulted}
@@ -7,7 +8,7 @@ use Rattle.track.specs.declared.status.Status.{Status}
 use Rattle.track.specs.declared.status.Status.TheVariants.{Done, Refused, BadWords, OutOfMemory, ReadFailed, WriteFailed, TooLong}
 
 -- what is left is an end of what was left
-pub record IsRest (before now : Option (List ℕ)) : Type 0 where
+pub record IsEndOf (before now : Option (List ℕ)) : Type 0 where
   pub front : List ℕ
   pub parts : before ≡ prepend_known front now
 

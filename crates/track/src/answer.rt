@@ -6,7 +6,7 @@ ghost use Rattle.net_reader.specs.Valid.{IsValid};
 ghost use Rattle.track.specs.declared.status.Status.TheVariants.{OutOfMemory};
 ghost use Rattle.net_graph.specs.Network.{IsGraphOf};
 ghost use Rattle.directory.specs.Orders.{history_of};
-ghost use Rattle.machine.specs.Machines.{IsSame, result_of, scripts_at, setting_at, StandsFor as StandsForHistory};
+ghost use Rattle.machine.specs.Machines.{IsSame, result_of, scripts_at, setting_at, HasHistory};
 ghost use Rattle.report_text.specs.PlanText.{plan_text_of};
 ghost use Rattle.report_text.specs.ReportText.{report_of};
 ghost use Rattle.track.specs.Bodies.{text_of};
@@ -72,8 +72,8 @@ fn replay(alloc: Global, input: &Input, graph: &Graph) -> Result<Outcome, AllocE
 
 // Plays an order to its end.
 fn play(machine: &mut Machine<'_>, order: &[u32])
-    requires stands { StandsForHistory machine.old [] }
-    ensures stands { StandsForHistory machine.new
+    requires stands { HasHistory machine.old [] }
+    ensures stands { HasHistory machine.new
         (history_of (setting_at machine.old) (scripts_at machine.old) order.now) }
     ensures same { IsSame machine.old machine.new }
 {

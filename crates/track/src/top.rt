@@ -3,7 +3,7 @@ ghost use Rattle.std.specs.Prelude.{◌≡◌, true};
 ghost use Rattle.word_line.specs.Forms.{bytes_of, command_of};
 ghost use Rattle.track.specs.Answers.{is_served};
 ghost use Rattle.track.specs.Ends.{EndsAs, Tells, streams};
-ghost use Rattle.track.specs.Transfer.{IsRest};
+ghost use Rattle.track.specs.Transfer.{IsEndOf};
 
 use crate::answer::make_answer;
 use crate::status::Status;
@@ -33,7 +33,7 @@ fn perform<S: Source, K: Sink>(
         (S.left source.old) (S.faults source.old) (K.written sink.old) (K.faults sink.old))
         (streams
         (S.left source.new) (S.faults source.new) (K.written sink.new) (K.faults sink.new)) }
-    ensures rest { IsRest (S.left source.old) (S.left source.new) }
+    ensures rest { IsEndOf (S.left source.old) (S.left source.new) }
 {
     let reader = match read_all(alloc, source) {
         Ok(reader) => reader,
@@ -71,7 +71,7 @@ pub fn command<S: Source, K: Sink>(
         (streams
         (S.left source.new) (S.faults source.new) (K.written sink.new) (K.faults sink.new)) }
     ensures untouched { result ≡ 2 → (source.new ≡ source.old) × (sink.new ≡ sink.old) }
-    ensures rest { IsRest (S.left source.old) (S.left source.new) }
+    ensures rest { IsEndOf (S.left source.old) (S.left source.new) }
 {
     let Ok(command) = read_words(words) else {
         return u8::from(Status::BadWords);

@@ -3,7 +3,7 @@ ghost use Rattle.std.specs.Prelude.{◌≡◌, IfOk, IfErr, OnOk};
 ghost use Rattle.outside.specs.Bytes.{append_known};
 ghost use Rattle.outside.specs.Calls.{HasFaulted};
 ghost use Rattle.track.specs.declared.status.Status.TheVariants.{WriteFailed};
-ghost use Rattle.track.specs.Transfer.{IsAllRead, IsRest, IsWrittenPart, StopsReading};
+ghost use Rattle.track.specs.Transfer.{IsAllRead, IsEndOf, IsWrittenPart, StopsReading};
 
 use crate::status::Status;
 use net_reader::{MAX_BYTES, Reader};
@@ -18,7 +18,7 @@ pub(crate) fn read_all<S: Source>(alloc: Global, source: &mut S) -> Result<Reade
         (S.left source.old) (S.left source.new) (S.faults source.old) (S.faults source.new)) }
     ensures stops { IfErr result (λ status. StopsReading status
         (S.left source.old) (S.faults source.old) (S.faults source.new)) }
-    ensures rest { IsRest (S.left source.old) (S.left source.new) }
+    ensures rest { IsEndOf (S.left source.old) (S.left source.new) }
 {
     let mut reader = Reader::new(alloc)?;
     let mut piece = [0; PIECE];

@@ -1,7 +1,7 @@
 use Rattle.std.proofs.Common.{◌≡◌, ap, subst, ◌∙◌}
 use Rattle.directory.specs.Orders.{history_of}
 use Rattle.directory.specs.Outcomes.{Outcome, outcome_of}
-use Rattle.machine.specs.Machines.{result_of, scripts_at, setting_at, StandsFor, TellInTurn}
+use Rattle.machine.specs.Machines.{result_of, scripts_at, setting_at, HasHistory, TellInTurn}
 use Rattle.net_reader.specs.Seen.{seen_input}
 use Rattle.report_text.specs.ReportText.{report_of}
 use Rattle.track.specs.Answers.{outcome_under}
@@ -28,7 +28,7 @@ returns c =
     let last = c.play.new.machine in
     let order = c.deref.result.now in
     let history = history_of (setting_at last) (scripts_at last) order in
-    let stands : StandsFor last history =
+    let stands : HasHistory last history =
     play-ended c.in_ok-machine.machine last order c.play.ensures.same c.play.ensures.stands in
     let done = c.all_scripts_done.ensures.done (setting_at last) (scripts_at last) order in
     let is : result_of c.outcome.result ≡ outcome_under contents plan =
