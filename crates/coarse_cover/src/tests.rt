@@ -3,8 +3,10 @@ ghost use Rattle.std.specs.Prelude.{◌≡◌, ◌<◌, ◌≤◌, [], ◌∷◌
 ghost use Rattle.node_set.specs.Ascending.{has, with_number};
 ghost use Rattle.node_set.specs.Balls.{sets, AreCentred};
 ghost use Rattle.node_set.specs.Nodes.{Nodes};
+ghost use Rattle.coarse_cover.specs.Workspaces.{IsWorkspace};
 
-use crate::{Cover, coarsen};
+use crate::turning::rows_of;
+use crate::{Cover, Workspace, coarsen, coarsen_by_rows};
 use node_set::NodeSet;
 use std::alloc::{AllocError, Global};
 use std::process::Abort;
@@ -120,26 +122,115 @@ fn cover_of_path(alloc: Global, n: u32, reach: u32, k: u32) -> Result<Cover, All
     coarsen(alloc, &balls, k)
 }
 
+// The home of ball `v` of a path of 130; and of cluster `c` the leader, the phase, the lowest node
+// and how many nodes it has.
+fn is_on_path(
+    rt: &impl Abort,
+    cover: &Cover,
+    v: u32,
+    home: u32,
+    c: u32,
+    led: (u32, u32, u32, u32),
+) {
+    assert!(rt; (v as usize) < cover.home.len() && (c as usize) < cover.clusters.len());
+    assert_eq!(rt; cover.home[v as usize], home, "home of {v}");
+    let cluster = &cover.clusters[c as usize];
+    let found = (
+        cluster.first,
+        cluster.phase,
+        cluster.members.next_from(0).unwrap_or(130),
+        cluster.members.count(),
+    );
+    assert!(rt; found == led, "cluster {c}");
+}
+
+// No ball grows, since five balls aren't too many for 130 of them: each is a cluster, and a phase
+// has every fifth one.
 #[test]
-fn all_trade_offs_past_a_word(rt: HostRuntime) -> Result<(), Fail> {
-    // the trade-off, and how many clusters and phases it makes of 130 balls
-    let rows = [
-        (1, 130, 5),
-        (2, 130, 5),
-        (3, 130, 5),
-        (4, 29, 2),
-        (5, 29, 2),
-        (6, 29, 2),
-        (7, 29, 2),
-        (8, 29, 2),
-    ];
-    for (k, clusters, phases) in rows {
-        assert!(rt; 0 < k && k < 9);
+fn small_trade_offs_past_a_word(rt: HostRuntime) -> Result<(), Fail> {
+    for k in [1, 2, 3] {
         let cover = cover_of_path(rt.alloc(), 130, 2, k)?;
-        assert_eq!(rt; cover.clusters.len(), clusters);
-        assert_eq!(rt; cover.phases, phases);
-        assert_eq!(rt; cover.home.len(), 130);
+        assert_eq!(rt; cover.clusters.len(), 130);
+        assert_eq!(rt; cover.phases, 5);
+        for v in 0..130u32 {
+            let c = v % 5 * 26 + v / 5;
+            let low = v.saturating_sub(2);
+            is_on_path(
+                &rt,
+                &cover,
+                v,
+                c,
+                c,
+                (v, v % 5, low, (v + 2).min(129) - low + 1),
+            );
+        }
     }
+    Ok(())
+}
+
+// Each cluster of the first phase grows once: it has nine balls about it, and five are its own. The
+// four between two such are one cluster of the second phase each.
+#[test]
+fn large_trade_offs_past_a_word(rt: HostRuntime) -> Result<(), Fail> {
+    for k in [4, 5, 6, 7, 8] {
+        let cover = cover_of_path(rt.alloc(), 130, 2, k)?;
+        assert_eq!(rt; cover.clusters.len(), 29);
+        assert_eq!(rt; cover.phases, 2);
+        for v in 0..130u32 {
+            let own = v / 9;
+            if v % 9 < 5 {
+                let low = (9 * own).saturating_sub(2);
+                let led = (9 * own, 0, low, (9 * own + 6).min(129) - low + 1);
+                is_on_path(&rt, &cover, v, own, own, led);
+            } else {
+                is_on_path(
+                    &rt,
+                    &cover,
+                    v,
+                    15 + own,
+                    15 + own,
+                    (9 * own + 5, 1, 9 * own + 3, 8),
+                );
+            }
+        }
+    }
+    Ok(())
+}
+
+// A workspace that was given a set back.
+fn workspace_with_a_set(alloc: Global) -> Result<Workspace, AllocError>
+    ensures { IfOk result (IsWorkspace 4) }
+{
+    let mut work = Workspace::new(alloc, 4)?;
+    work.give_back(ball(alloc, 3, 0, 2)?)?;
+    Ok(work)
+}
+
+// Each node reaches itself and node 1 alone. So the row of node 1 has all centres.
+fn cover_by_rows(alloc: Global, k: u32) -> Result<Cover, AllocError>
+    requires low { 0 < k }
+    requires high { k < 9 }
+{
+    let zero = ball(alloc, 0, 1, 1)?;
+    let one = ball(alloc, 1, 1, 1)?;
+    let two = ball(alloc, 2, 1, 1)?;
+    let three = ball(alloc, 3, 1, 1)?;
+    let balls = [zero, one, two, three];
+    let rows = rows_of(alloc, &balls)?;
+    let mut work = workspace_with_a_set(alloc)?;
+    coarsen_by_rows(alloc, &balls, &rows, k, &mut work)
+}
+
+#[test]
+fn balls_by_their_rows(rt: HostRuntime) -> Result<(), Fail> {
+    let cover = cover_by_rows(rt.alloc(), 1)?;
+    assert_eq!(rt; cover.home.as_slice(), [0, 1, 2, 3].as_slice());
+    assert_eq!(rt; cover.phases, 4);
+    holds(&rt, &cover, 3, 3, 3, [false, true, false, true]);
+    let cover = cover_by_rows(rt.alloc(), 2)?;
+    assert_eq!(rt; cover.home.as_slice(), [0, 0, 0, 0].as_slice());
+    assert_eq!(rt; cover.phases, 1);
+    holds(&rt, &cover, 0, 0, 0, [true, true, true, true]);
     Ok(())
 }
 

@@ -1,12 +1,13 @@
-//! Handsets over the line 0 - 1 - 2 - 3 of unit weights.
+//! Handsets over the line 0 - 1 - 2 - 3 of unit weights, and over paths.
 ghost use Rattle.std.specs.Prelude.{◌≡◌, ◌≤◌, IfOk};
+ghost use Rattle.distances.specs.Table.{AreDistancesOf};
 ghost use Rattle.region_plan.specs.Plan.{nodes_of};
 ghost use Rattle.handset.specs.Kept.{GoesWith};
 
 use crate::{Handset, MoveFault, SwitchFault};
 use distances::Distances;
 use entry_word::{Act, Address, Key, PresenceMark, Visit, pack_address, pack_mark};
-use net_graph::{Edge, Graph};
+use net_graph::{Edge, Graph, MAX_NODES};
 use region_plan::Plan;
 use std::alloc::Global;
 use std::test::Fail;
@@ -142,6 +143,88 @@ fn switches(rt: HostRuntime) -> Result<(), Fail> {
         mark(3, PresenceMark::Here { number: 0 })
     );
     assert_eq!(rt; handset.sub(), 0);
+    Ok(())
+}
+
+// A path of `n` nodes, and its distances.
+fn path_of(alloc: Global, n: u32) -> Result<(Graph, Distances), Fail>
+    requires some { 1 ≤ n }
+    requires few { n ≤ MAX_NODES }
+    ensures nodes { IfOk result (λ network. network.0.nodes ≡ n) }
+    ensures distances { IfOk result (λ network. AreDistancesOf network.0 network.1) }
+{
+    let mut edges = Vec::new(alloc);
+    for b in 1..n {
+        edges.push(edge(b - 1, b))?;
+    }
+    let graph = Graph::new(alloc, n, &edges)?;
+    let distances = Distances::new(alloc, &graph)?;
+    Ok((graph, distances))
+}
+
+// The plan of a path of 130 nodes whose nine levels have a cluster for each node.
+fn plan_past_two_words(alloc: Global) -> Result<(Plan, Distances), Fail>
+    ensures copy { IfOk result (λ pair. pair.0.distances ≡ pair.1) }
+    ensures nodes { IfOk result (λ pair. nodes_of pair.0 ≡ 130) }
+{
+    let (graph, distances) = path_of(alloc, 130)?;
+    let plan = Plan::build(alloc, &graph, &distances, 1)?;
+    Ok((plan, distances))
+}
+
+// The flat plan of a path of the most nodes.
+fn plan_of_most_nodes(alloc: Global) -> Result<(Plan, Distances), Fail>
+    ensures copy { IfOk result (λ pair. pair.0.distances ≡ pair.1) }
+    ensures nodes { IfOk result (λ pair. nodes_of pair.0 ≡ MAX_NODES) }
+{
+    let (graph, distances) = path_of(alloc, MAX_NODES)?;
+    let plan = Plan::flat(alloc, &graph, &distances)?;
+    Ok((plan, distances))
+}
+
+// Makes the writes that are left, up to 100, and tells how many they were, and the last of them.
+fn write_all(handset: &mut Handset, plan: &Plan) -> (u32, Option<Visit>)
+    requires { GoesWith plan.now handset.old }
+    ensures { GoesWith plan.now handset.new }
+{
+    let mut last = None;
+    'writes: for made in 0..100 {
+        let visit = write(handset, plan);
+        if visit.is_none() {
+            return (made, last);
+        }
+        last = visit;
+    }
+    (100, last)
+}
+
+// The first move renews eight levels and erases at each. The second one has the weight that the
+// top level still lacks, so that it renews and erases at all nine and purges two nodes.
+#[test]
+fn moves_past_two_words(rt: HostRuntime) -> Result<(), Fail> {
+    let (plan, distances) = plan_past_two_words(rt.alloc())?;
+    let mut handset = Handset::new(rt.alloc(), 0, 129, &plan)?;
+    assert!(rt; handset.begin(&plan, &distances, 65) == Ok(()));
+    assert_eq!(rt; write_all(&mut handset, &plan), (19, entry(7, 129, None)));
+    assert_eq!(rt; (handset.weight(), handset.place()), (64, 65));
+    assert!(rt; handset.begin(&plan, &distances, 1) == Ok(()));
+    let last = mark(129, PresenceMark::Empty);
+    assert_eq!(rt; write_all(&mut handset, &plan), (23, last));
+    assert_eq!(rt; (handset.weight(), handset.place()), (64, 1));
+    assert_eq!(rt; handset.number(), 2);
+    Ok(())
+}
+
+#[test]
+fn a_move_over_the_most_nodes(rt: HostRuntime) -> Result<(), Fail> {
+    let (plan, distances) = plan_of_most_nodes(rt.alloc())?;
+    let mut handset = Handset::new(rt.alloc(), 0, 1023, &plan)?;
+    assert!(rt; handset.begin(&plan, &distances, 1024) == Err(MoveFault::NoNode));
+    assert!(rt; handset.begin(&plan, &distances, 0) == Ok(()));
+    assert_eq!(rt; handset.weight(), 1023);
+    let last = mark(1023, PresenceMark::Empty);
+    assert_eq!(rt; write_all(&mut handset, &plan), (5, last));
+    assert_eq!(rt; (handset.place(), handset.number()), (0, 1));
     Ok(())
 }
 

@@ -4,13 +4,15 @@ ghost use Rattle.directory.specs.Orders.{IsDone};
 ghost use Rattle.directory.specs.Histories.{History};
 ghost use Rattle.net_reader.specs.Seen.{seen_input};
 ghost use Rattle.net_reader.specs.Valid.{IsValid};
+ghost use Rattle.region_plan.specs.Cells.{IsCell};
 ghost use Rattle.region_plan.specs.Matched.{BoundsFinds};
 ghost use Rattle.region_plan.specs.Plan.{nodes_of};
-ghost use Rattle.machine.specs.Machines.{StandsFor, scripts_at, setting_at};
+ghost use Rattle.machine.specs.Machines.{HasHistory, scripts_at, setting_at};
 
 use crate::{Machine, Outcome, Turn};
 use directory::{Done, Why, all_scripts_done};
 use distances::Distances;
+use entry_word::{Key, PresenceMark, pack_mark};
 use net_graph::Graph;
 use net_reader::{Input, MAX_BYTES, inputs_are_valid, read_input};
 use region_plan::Plan;
@@ -55,8 +57,8 @@ fn plan_of(alloc: Global, input: &Input) -> Result<(Plan, Distances), Fail>
 
 // The turns of an order, and the visits that are left.
 fn play(machine: &mut Machine<'_>, order: &[u32])
-    requires { StandsFor machine.old [] }
-    ensures { (history : History) × StandsFor machine.new history
+    requires { HasHistory machine.old [] }
+    ensures { (history : History) × HasHistory machine.new history
         × ((actor : ℕ) → IsDone (setting_at machine.new) (scripts_at machine.new) history actor) }
 {
     all_scripts_done();
@@ -192,7 +194,20 @@ fn a_crowd(rt: HostRuntime) -> Result<(), Fail> {
     Ok(())
 }
 
-// A subscriber without calls, a caller with one, and an actor that isn't there.
+// Two nodes, a subscriber without calls at node 1, and a caller with one.
+const PAIR: &str = "nodes 2\nk 2\nedge 0 1 1\nsub 1\ncallers 1\n";
+
+// What a cell of a machine holds.
+fn word_in(machine: &Machine<'_>, input: &Input, plan: &Plan, key: Key) -> u64
+    requires stands { (history : History) × HasHistory machine.now history }
+    requires input { machine.now.input.now ≡ input.now }
+    requires plan { machine.now.plan.now ≡ plan.now }
+    requires cell { IsCell plan.now (length input.now.homes.items) key }
+{
+    machine.cells().look(plan, key)
+}
+
+// An actor without calls, and one that isn't there.
 #[test]
 fn idle_turns(rt: HostRuntime) -> Result<(), Fail> {
     let alloc = rt.alloc();
@@ -203,6 +218,30 @@ fn idle_turns(rt: HostRuntime) -> Result<(), Fail> {
     assert!(rt; machine.turn(0) == Turn::Finished);
     assert!(rt; machine.turn(1) == Turn::Visited);
     assert!(rt; machine.turn(2) == Turn::Finished);
-    let _cells = machine.cells();
+    assert!(rt; plan.nodes() == 2 && input.homes.len() == 1);
+    let here = Key::Presence { node: 1, sub: 0 };
+    let word = word_in(&machine, &input, &plan, here);
+    assert_eq!(rt; word, pack_mark(PresenceMark::Here { number: 0 }));
+    Ok(())
+}
+
+// They leave no ticket and no line.
+#[test]
+fn an_order_of_idle_turns(rt: HostRuntime) -> Result<(), Fail> {
+    let calls = "find 1 0 0\norder 0 1 0 1 0 1 1 0\n";
+    let outcome = outcome_of(rt.alloc(), "track 1\n", PAIR, calls)?;
+    let wanted = [Done::Found {
+        actor: 1,
+        from: 0,
+        sub: 0,
+        node: 1,
+        number: 0,
+        level: Some(0),
+        weight: 1,
+        first: 0,
+        last: 2,
+    }];
+    assert_eq!(rt; outcome.calls.as_slice(), wanted.as_slice());
+    assert_eq!(rt; outcome.order.as_slice(), [1, 1, 1].as_slice());
     Ok(())
 }

@@ -3,6 +3,7 @@ ghost use Rattle.std.specs.Prelude.{◌≤◌, length};
 ghost use Rattle.net_reader.specs.Reading.{most_bytes};
 
 use crate::{Call, Input, InputCause, InputFault, MAX_BYTES, ReadRefusal, Reader, read_input};
+use net_graph::{Arc, Graph};
 use std::alloc::{AllocError, Global};
 use std::test::Fail;
 
@@ -77,6 +78,48 @@ fn two_scripts(rt: HostRuntime) -> Result<(), Fail> {
         let scripts = input.scripts.iter().map(|script| script.as_slice());
         assert!(rt; scripts.eq([moves.as_slice(), finds.as_slice()]));
     }
+    Ok(())
+}
+
+// The graph of a text's network.
+fn graph_of(alloc: Global, text: &[u8]) -> Result<Graph, Fail> {
+    if text.len() > MAX_BYTES {
+        return Err("the text is short".into());
+    }
+    let mut reader = Reader::new(alloc)?;
+    reader.feed(text)?;
+    match reader.end_with_graph(alloc) {
+        Ok((_, graph)) => Ok(graph),
+        Err(_) => Err("the text is an input".into()),
+    }
+}
+
+#[test]
+fn graph_of_the_network(rt: HostRuntime) -> Result<(), Fail> {
+    let text = b"track 1\nnodes 3\nk 1\nedge 2 1 7\nedge 0 1 5\nedge 0 1 4\nsub 0\ncallers 0\n";
+    let graph = graph_of(rt.alloc(), text)?;
+    assert!(rt; graph.nodes() == 3);
+    let weights = graph.weights_from(rt.alloc(), &[true, true, true], 2)?;
+    assert_eq!(rt; weights.as_slice(), [Some(11), Some(7), Some(0)].as_slice());
+    Ok(())
+}
+
+// Node 0 has an edge to each other node, of that one's number as its weight.
+#[test]
+fn graph_of_the_most_nodes(rt: HostRuntime) -> Result<(), Fail> {
+    let mut text = String::from_str(rt.alloc(), "track 2\nnodes 1024\nk 2\n")?;
+    for b in 1..1024 {
+        write!(text, "edge 0 {b} {b}\n")?;
+    }
+    text.push_str("sub 0\ncallers 0\n")?;
+    let graph = graph_of(rt.alloc(), text.as_bytes())?;
+    assert!(rt; graph.nodes() == 1024);
+    let back = Arc {
+        target: 0,
+        weight: 1023,
+    };
+    assert_eq!(rt; graph.arcs_of(1023), [back].as_slice());
+    assert_eq!(rt; graph.arcs_of(0).len(), 1023);
     Ok(())
 }
 

@@ -78,6 +78,12 @@ fn cluster_is(
     }
 }
 
+fn members_are(rt: &impl Abort, plan: &Plan, i: u32, c: u32, members: &[u32]) {
+    assert!(rt; i < plan.levels());
+    assert!(rt; c < plan.clusters(i));
+    assert_eq!(rt; plan.members(i, c), members);
+}
+
 fn reads(rt: &impl Abort, plan: &Plan, i: u32, v: u32, clusters: &[u32]) {
     assert!(rt; i < plan.levels());
     assert!(rt; v < plan.nodes());
@@ -113,6 +119,8 @@ fn the_clusters_of_a_line(rt: HostRuntime) -> Result<(), Fail> {
     let all = [Some(0), Some(1), Some(2), Some(3)];
     cluster_is(&rt, &plan, 0, 0, 0, 0, 3, &all);
     cluster_is(&rt, &plan, 0, 1, 1, 3, 1, &[None, None, Some(1), Some(0)]);
+    members_are(&rt, &plan, 0, 1, &[2, 3]);
+    members_are(&rt, &plan, 2, 0, &[0, 1, 2, 3]);
     cluster_is(&rt, &plan, 1, 0, 0, 0, 3, &all);
     cluster_is(&rt, &plan, 2, 0, 0, 0, 3, &all);
     Ok(())

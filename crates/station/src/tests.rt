@@ -1,17 +1,19 @@
-//! Passes over the line 0 - 1 - 2 - 3 of unit weights: a subscriber at node 3, and two callers.
-ghost use Rattle.std.specs.Prelude.{◌≡◌, ◌+◌, ◌<◌, ◌≤◌, ◌∷◌, [], length, suc, IfOk, OnOk};
+//! Passes over the line 0 - 1 - 2 - 3 of unit weights: a subscriber at node 3, and two callers; and
+//! over a path of the most nodes.
+ghost use Rattle.std.specs.Prelude.{◌≡◌, ◌+◌, ◌<◌, ◌≤◌, ◌^◌, ◌∷◌, [], length, suc, IfOk, OnOk};
+ghost use Rattle.distances.specs.Table.{AreDistancesOf};
 ghost use Rattle.station.specs.Handsets.{IsHandsetOf};
 ghost use Rattle.station.specs.Setup.{nodes_in, subs_in};
-ghost use Rattle.region_plan.specs.Matched.{BoundsFinds};
+ghost use Rattle.region_plan.specs.Matched.{BoundsFinds, IsMatched};
 ghost use Rattle.region_plan.specs.Plan.{nodes_of};
 ghost use Rattle.station.specs.Opening.{setup_of};
-ghost use Rattle.station.specs.Passes.{AreFresh, IsFree, fresh_view};
+ghost use Rattle.station.specs.Passes.{AreFresh, IsFree, IsPassOf, fresh_view};
 
-use crate::{Held, Note, Pass, Tracker};
+use crate::{CloseCause, CloseFault, Held, Note, Pass, Tracker};
 use distances::Distances;
 use entry_word::{Key, PresenceMark, pack_mark};
 use handset::Handset;
-use net_graph::{Edge, Graph};
+use net_graph::{Edge, Graph, MAX_NODES};
 use region_plan::Plan;
 use std::alloc::Global;
 use std::test::Fail;
@@ -162,14 +164,183 @@ fn a_note_is_heard(rt: HostRuntime) -> Result<(), Fail> {
     Ok(())
 }
 
+// The ticket of a census of a node, and what it found, if there is room and nobody is inside.
+fn census(tracker: &Tracker, pass: &mut Pass, node: u32) -> Option<(u64, u64, u32)>
+    requires free { IsFree tracker.now 0 pass.old }
+    requires node { node < nodes_in tracker.now.setup }
+    ensures free { IsFree tracker.now 0 pass.new }
+{
+    if pass.spare() == 0 {
+        return None;
+    }
+    match tracker.visit_census(pass, node) {
+        Ok(seen) => Some((seen.ticket, seen.who, seen.count)),
+        Err(_) => None,
+    }
+}
+
+// Closes a tracker of three actors, first without the last of these passes.
+fn close(
+    alloc: Global,
+    tracker: Tracker,
+    one: Pass,
+    two: Pass,
+    last: Pass,
+) -> Result<(CloseCause, Vec<u32>), Fail>
+    requires one { IsPassOf tracker one }
+    requires two { IsPassOf tracker two }
+    requires last { IsPassOf tracker last }
+{
+    let mut passes = Vec::new(alloc);
+    passes.push(one)?;
+    passes.push(two)?;
+    let Err(fault) = tracker.close(alloc, passes) else {
+        return Err("a pass is missing".into());
+    };
+    let CloseFault {
+        cause,
+        tracker,
+        mut passes,
+    } = fault;
+    passes.push(last)?;
+    match tracker.close(alloc, passes) {
+        Ok(order) => Ok((cause, order)),
+        Err(_) => Err("all passes are there".into()),
+    }
+}
+
 #[test]
 fn closed_with_all_passes(rt: HostRuntime) -> Result<(), Fail> {
     let (plan, _) = line_of_four(rt.alloc())?;
-    let (tracker, passes) = Tracker::new(rt.alloc(), &plan, &[3], 1)?;
-    let Ok(order) = tracker.close(rt.alloc(), passes) else {
-        panic!(rt; "all passes are there")
+    let (tracker, mut own, mut one, mut other) = open(rt.alloc(), &plan)?;
+    let first = census(&tracker, &mut other, 3);
+    let second = census(&tracker, &mut own, 2);
+    tracker.witness(&mut one);
+    let third = census(&tracker, &mut other, 3);
+    let (cause, order) = close(rt.alloc(), tracker, other, own, one)?;
+    assert!(rt; first == Some((0, 1, 1)) && second == Some((1, 0, 0)) && third == Some((2, 1, 1)));
+    assert!(rt; cause == CloseCause::Missing { actor: 1 });
+    assert_eq!(rt; order.as_slice(), [2, 0, 2].as_slice());
+    Ok(())
+}
+
+#[test]
+fn closed_before_any_visit(rt: HostRuntime) -> Result<(), Fail> {
+    let (plan, _) = line_of_four(rt.alloc())?;
+    let (tracker, mut own, one, other) = open(rt.alloc(), &plan)?;
+    tracker.witness(&mut own);
+    assert!(rt; own.seen() == 0 && own.spare() == 9);
+    let (cause, order) = close(rt.alloc(), tracker, other, one, own)?;
+    assert!(rt; cause == CloseCause::Missing { actor: 0 } && order.is_empty());
+    Ok(())
+}
+
+// Whether a pass that has seen nothing has room for so many visits from now on.
+fn has_reserved(pass: &mut Pass, visits: u64) -> bool
+    requires fresh { pass.old.view.seen ≡ [] }
+    requires few { visits ≤ 2 ^ 56 }
+    ensures fresh { pass.new.view.seen ≡ [] }
+{
+    match pass.reserve(visits) {
+        Ok(()) => true,
+        Err(_) => false,
+    }
+}
+
+// What is reserved stays, and room that no memory has is refused.
+#[test]
+fn room_for_many_visits(rt: HostRuntime) -> Result<(), Fail> {
+    let (plan, _) = line_of_four(rt.alloc())?;
+    let (_tracker, mut pass, _, _) = open(rt.alloc(), &plan)?;
+    assert_eq!(rt; pass.spare(), 9);
+    assert!(rt; has_reserved(&mut pass, 1 << 20));
+    assert_eq!(rt; pass.spare(), 1_048_576);
+    assert!(rt; !has_reserved(&mut pass, 1 << 50));
+    assert!(rt; has_reserved(&mut pass, 9));
+    assert_eq!(rt; pass.spare(), 1_048_576);
+    Ok(())
+}
+
+// A path of `n` nodes, and its distances.
+fn path_of(alloc: Global, n: u32) -> Result<(Graph, Distances), Fail>
+    requires some { 1 ≤ n }
+    requires few { n ≤ MAX_NODES }
+    ensures nodes { IfOk result (λ network. network.0.nodes ≡ n) }
+    ensures distances { IfOk result (λ network. AreDistancesOf network.0 network.1) }
+{
+    let mut edges = Vec::new(alloc);
+    for b in 1..n {
+        edges.push(edge(b - 1, b))?;
+    }
+    let graph = Graph::new(alloc, n, &edges)?;
+    let distances = Distances::new(alloc, &graph)?;
+    Ok((graph, distances))
+}
+
+// The flat plan of a path of the most nodes.
+fn plan_of_most_nodes(alloc: Global) -> Result<Plan, Fail>
+    ensures matched { IfOk result IsMatched }
+    ensures nodes { IfOk result (λ plan. nodes_of plan ≡ MAX_NODES) }
+{
+    let (graph, distances) = path_of(alloc, MAX_NODES)?;
+    Ok(Plan::flat(alloc, &graph, &distances)?)
+}
+
+// A tracker of the most subscribers, all at the last node, and of the most callers; the passes of
+// all but the last two actors, and of these.
+fn open_all(alloc: Global, plan: &Plan) -> Result<(Tracker, Vec<Pass>, Pass, Pass), Fail>
+    requires matched { IsMatched plan.now }
+    requires nodes { nodes_of plan.now ≡ MAX_NODES }
+    ensures plan { IfOk result (λ all. all.0.setup.plan ≡ plan.now) }
+    ensures subs { IfOk result (λ all. subs_in all.0.setup ≡ 64) }
+    ensures fresh { IfOk result (λ all. AreFresh all.0 all.1.items) }
+    ensures one { IfOk result (λ all. IsFree all.0 9 all.2) }
+    ensures last { IfOk result (λ all. IsFree all.0 9 all.3) }
+{
+    let (tracker, mut passes) = Tracker::new(alloc, plan, &[1023; 64], 64)?;
+    if passes.len() != 128 {
+        return Err("there are 128 actors".into());
+    }
+    let last = next_pass(&tracker, &mut passes, 127)?;
+    let one = next_pass(&tracker, &mut passes, 126)?;
+    Ok((tracker, passes, one, last))
+}
+
+// Closes a tracker with some fresh passes and two more.
+fn close_all(
+    alloc: Global,
+    tracker: Tracker,
+    mut passes: Vec<Pass>,
+    one: Pass,
+    last: Pass,
+) -> Result<Vec<u32>, Fail>
+    requires fresh { AreFresh tracker passes.items }
+    requires one { IsPassOf tracker one }
+    requires last { IsPassOf tracker last }
+{
+    passes.push(one)?;
+    passes.push(last)?;
+    match tracker.close(alloc, passes) {
+        Ok(order) => Ok(order),
+        Err(_) => Err("all passes are there".into()),
+    }
+}
+
+#[test]
+fn as_many_actors_as_there_may_be(rt: HostRuntime) -> Result<(), Fail> {
+    let plan = plan_of_most_nodes(rt.alloc())?;
+    let (tracker, passes, mut one, mut last) = open_all(rt.alloc(), &plan)?;
+    let everybody = census(&tracker, &mut last, 1023);
+    let here = Key::Presence {
+        node: 1023,
+        sub: 63,
     };
-    assert!(rt; order.is_empty());
+    let looked = tracker.visit_look(&mut one, &plan, here).ok();
+    let order = close_all(rt.alloc(), tracker, passes, one, last)?;
+    assert!(rt; everybody == Some((0, u64::MAX, 64)));
+    let word = pack_mark(PresenceMark::Here { number: 0 });
+    assert!(rt; looked.map(|l| (l.ticket, l.word)) == Some((1, word)));
+    assert_eq!(rt; order.as_slice(), [127, 126].as_slice());
     Ok(())
 }
 

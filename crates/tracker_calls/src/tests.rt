@@ -1,6 +1,8 @@
-//! Whole calls over the line 0 - 1 - 2 - 3 of unit weights: a subscriber at node 3, and a caller.
+//! Whole calls over the line 0 - 1 - 2 - 3 of unit weights, with a subscriber at node 3 and a
+//! caller, and over a path of the most nodes.
 ghost use Rattle.std.specs.Prelude.{◌≡◌, ◌+◌, ◌<◌, ◌≤◌, ◌^◌, ◌∷◌, [], length, IfOk, OnOk};
-ghost use Rattle.region_plan.specs.Matched.{BoundsFinds};
+ghost use Rattle.distances.specs.Table.{AreDistancesOf};
+ghost use Rattle.region_plan.specs.Matched.{BoundsFinds, IsMatched, IsWithinReach};
 ghost use Rattle.region_plan.specs.Plan.{nodes_of};
 ghost use Rattle.station.specs.Handsets.{IsHandsetOf};
 ghost use Rattle.station.specs.Opening.{setup_of};
@@ -13,7 +15,7 @@ use crate::{
 use directory::Found;
 use distances::Distances;
 use handset::Handset;
-use net_graph::{Edge, Graph};
+use net_graph::{Edge, Graph, MAX_NODES};
 use region_plan::Plan;
 use station::{CloseCause, CloseFault, Pass, Tracker};
 use std::alloc::Global;
@@ -38,19 +40,19 @@ fn line_of_four(alloc: Global) -> Result<(Plan, Distances), Fail>
     Ok((plan, distances))
 }
 
-// A tracker with its passes, each with room for so many visits: of the subscriber, and of the
-// caller.
-fn open(alloc: Global, plan: &Plan, visits: u64) -> Result<(Tracker, Pass, Pass), Fail>
-    requires bounding { BoundsFinds plan.now }
-    requires nodes { nodes_of plan.now ≡ 4 }
+// A tracker with its passes, each with room for so many visits: of the subscriber, which starts at
+// this home, and of the caller.
+fn open(alloc: Global, plan: &Plan, home: u32, visits: u64) -> Result<(Tracker, Pass, Pass), Fail>
+    requires matched { IsMatched plan.now }
+    requires inside { home < nodes_of plan.now }
     requires few { visits ≤ 2 ^ 56 }
-    ensures setup { IfOk result (λ all. all.0.setup ≡ setup_of plan.now (3 ∷ []) 2) }
+    ensures setup { IfOk result (λ all. all.0.setup ≡ setup_of plan.now (home ∷ []) 2) }
     ensures own { IfOk result (λ all. IsFree all.0 visits all.1) }
     ensures view { IfOk result (λ all. all.1.view ≡ fresh_view all.0.setup 0) }
     ensures other { IfOk result (λ all. IsFree all.0 visits all.2) }
     ensures spare { IfOk result (λ all. all.2.spare ≡ visits) }
 {
-    let (tracker, mut passes) = Tracker::new(alloc, plan, &[3], 1)?;
+    let (tracker, mut passes) = Tracker::new(alloc, plan, &[home], 1)?;
     let other = next_pass(&tracker, &mut passes, 1, visits)?;
     let own = next_pass(&tracker, &mut passes, 0, visits)?;
     Ok((tracker, own, other))
@@ -80,12 +82,12 @@ fn next_pass(
 }
 
 // The handset of the subscriber, at rest.
-fn resting_handset(alloc: Global, plan: &Plan) -> Result<Handset, Fail>
-    requires nodes { nodes_of plan.now ≡ 4 }
-    ensures own { IfOk result (IsHandsetOf (setup_of plan.now (3 ∷ []) 2)
-        (fresh_view (setup_of plan.now (3 ∷ []) 2) 0)) }
+fn resting_handset(alloc: Global, plan: &Plan, home: u32) -> Result<Handset, Fail>
+    requires inside { home < nodes_of plan.now }
+    ensures own { IfOk result (IsHandsetOf (setup_of plan.now (home ∷ []) 2)
+        (fresh_view (setup_of plan.now (home ∷ []) 2) 0)) }
 {
-    let handset = Handset::new(alloc, 0, 3, plan)?;
+    let handset = Handset::new(alloc, 0, home, plan)?;
     Ok(handset)
 }
 
@@ -96,7 +98,7 @@ fn moving_handset(alloc: Global, plan: &Plan, distances: &Distances) -> Result<H
     ensures own { IfOk result (IsHandsetOf (setup_of plan.now (3 ∷ []) 2)
         (fresh_view (setup_of plan.now (3 ∷ []) 2) 0)) }
 {
-    let mut handset = resting_handset(alloc, plan)?;
+    let mut handset = resting_handset(alloc, plan, 3)?;
     match handset.begin(plan, distances, 2) {
         Ok(()) => Ok(handset),
         Err(_) => Err("the move begins".into()),
@@ -106,7 +108,7 @@ fn moving_handset(alloc: Global, plan: &Plan, distances: &Distances) -> Result<H
 #[test]
 fn refusals(rt: HostRuntime) -> Result<(), Fail> {
     let (plan, distances) = line_of_four(rt.alloc())?;
-    let (tracker, mut own, mut other) = open(rt.alloc(), &plan, 0)?;
+    let (tracker, mut own, mut other) = open(rt.alloc(), &plan, 3, 0)?;
     let mut handset = moving_handset(rt.alloc(), &plan, &distances)?;
     let fault = move_step(&tracker, &mut own, &plan, &mut handset).err();
     assert!(rt; fault == Some(StepFault::Unreserved { need: 1 }));
@@ -167,8 +169,8 @@ fn faults_of_moves<R: Wait>(
 #[test]
 fn moves_without_room(rt: HostRuntime) -> Result<(), Fail> {
     let (plan, distances) = line_of_four(rt.alloc())?;
-    let (tracker, mut own, _) = open(rt.alloc(), &plan, 12)?;
-    let mut handset = resting_handset(rt.alloc(), &plan)?;
+    let (tracker, mut own, _) = open(rt.alloc(), &plan, 3, 12)?;
+    let mut handset = resting_handset(rt.alloc(), &plan, 3)?;
     let faults = faults_of_moves(&rt, &tracker, &mut own, &plan, &distances, &mut handset);
     let wanted = [
         Some(MoveToFault::Unreserved { need: 13 }),
@@ -182,8 +184,8 @@ fn moves_without_room(rt: HostRuntime) -> Result<(), Fail> {
 #[test]
 fn a_move_before_any_reserve(rt: HostRuntime) -> Result<(), Fail> {
     let (plan, distances) = line_of_four(rt.alloc())?;
-    let (tracker, mut own, _) = open(rt.alloc(), &plan, 0)?;
-    let mut handset = resting_handset(rt.alloc(), &plan)?;
+    let (tracker, mut own, _) = open(rt.alloc(), &plan, 3, 0)?;
+    let mut handset = resting_handset(rt.alloc(), &plan, 3)?;
     let fault = move_to(&rt, &tracker, &mut own, &plan, &distances, &mut handset, 2).err();
     assert!(rt; fault == Some(MoveToFault::Unreserved { need: 13 }));
     Ok(())
@@ -192,7 +194,7 @@ fn a_move_before_any_reserve(rt: HostRuntime) -> Result<(), Fail> {
 #[test]
 fn a_move_amid_another(rt: HostRuntime) -> Result<(), Fail> {
     let (plan, distances) = line_of_four(rt.alloc())?;
-    let (tracker, mut own, _) = open(rt.alloc(), &plan, 20)?;
+    let (tracker, mut own, _) = open(rt.alloc(), &plan, 3, 20)?;
     let mut handset = moving_handset(rt.alloc(), &plan, &distances)?;
     let fault = move_to(&rt, &tracker, &mut own, &plan, &distances, &mut handset, 0).err();
     assert!(rt; fault == Some(MoveToFault::UnderWay));
@@ -202,8 +204,8 @@ fn a_move_amid_another(rt: HostRuntime) -> Result<(), Fail> {
 #[test]
 fn a_whole_move(rt: HostRuntime) -> Result<(), Fail> {
     let (plan, distances) = line_of_four(rt.alloc())?;
-    let (tracker, mut own, mut other) = open(rt.alloc(), &plan, 20)?;
-    let mut handset = resting_handset(rt.alloc(), &plan)?;
+    let (tracker, mut own, mut other) = open(rt.alloc(), &plan, 3, 20)?;
+    let mut handset = resting_handset(rt.alloc(), &plan, 3)?;
     let moved = whole_move(&rt, &tracker, &mut own, &plan, &distances, &mut handset, 2).ok();
     let found = find(&rt, &tracker, &mut other, &plan, &distances, 1, 3, 0).ok();
     let same = whole_move(&rt, &tracker, &mut own, &plan, &distances, &mut handset, 2).err();
@@ -363,7 +365,7 @@ fn to_the_end(
 #[test]
 fn before_and_after_a_commit(rt: HostRuntime) -> Result<(), Fail> {
     let (plan, distances) = line_of_four(rt.alloc())?;
-    let (tracker, mut own, mut other) = open(rt.alloc(), &plan, 20)?;
+    let (tracker, mut own, mut other) = open(rt.alloc(), &plan, 3, 20)?;
     let mut handset = moving_handset(rt.alloc(), &plan, &distances)?;
     let early = before_the_commit(
         &tracker,
@@ -400,15 +402,151 @@ fn at(node: u32, number: u32, level: Option<u32>, weight: u64) -> Found {
     }
 }
 
+// Why the caller's find from node 2 has no answer while the subscriber's pass is inside node 3, how
+// many visits are then seen, and what the same find answers once the pass has left.
+fn find_while_inside(
+    tracker: &Tracker,
+    own: &mut Pass,
+    other: &mut Pass,
+    plan: &Plan,
+    distances: &Distances,
+) -> (Option<FindFault>, u64, (Option<Found>, u64))
+    requires own { IsFree tracker.now 0 own.old }
+    requires other { IsFree tracker.now 0 other.old }
+    requires plan { plan.now ≡ tracker.now.setup.plan }
+    requires bounding { BoundsFinds plan.now }
+    requires belongs { plan.now.distances ≡ distances.now }
+    requires subs { subs_in tracker.now.setup ≡ 1 }
+    requires nodes { 4 ≤ nodes_in tracker.now.setup }
+    ensures other { IsFree tracker.now 0 other.new }
+{
+    let Ok(stay) = tracker.enter(own, 3) else {
+        return (None, 0, (None, 0));
+    };
+    let fault = find_now(tracker, other, plan, distances, 1, 2, 0).err();
+    let seen = other.seen();
+    tracker.leave(own, stay);
+    (fault, seen, find_from_two(tracker, other, plan, distances))
+}
+
+// The find looks at node 2 and at node 0, and is held at the leader of its second entry.
 #[test]
 fn held_on_its_way(rt: HostRuntime) -> Result<(), Fail> {
     let (plan, distances) = line_of_four(rt.alloc())?;
-    let (tracker, mut own, mut other) = open(rt.alloc(), &plan, 20)?;
-    let Ok(stay) = tracker.enter(&mut own, 3) else {
-        panic!(rt; "nobody is inside")
+    let (tracker, mut own, mut other) = open(rt.alloc(), &plan, 3, 20)?;
+    let (fault, seen, found) = find_while_inside(&tracker, &mut own, &mut other, &plan, &distances);
+    assert!(rt; fault == Some(FindFault::Held { node: 3, by: 0 }) && seen == 2);
+    assert!(rt; found == (Some(at(3, 0, Some(0), 5)), 6) && other.spare() == 14);
+    Ok(())
+}
+
+// The handset of the subscriber, which has begun to switch off.
+fn switching_handset(alloc: Global, plan: &Plan) -> Result<Handset, Fail>
+    requires nodes { nodes_of plan.now ≡ 4 }
+    ensures own { IfOk result (IsHandsetOf (setup_of plan.now (3 ∷ []) 2)
+        (fresh_view (setup_of plan.now (3 ∷ []) 2) 0)) }
+{
+    let mut handset = Handset::new(alloc, 0, 3, plan)?;
+    match handset.switch(true) {
+        Ok(()) => Ok(handset),
+        Err(_) => Err("the switch begins".into()),
+    }
+}
+
+// The subscriber switches off by one put, and can't move then.
+#[test]
+fn a_switch_and_a_find(rt: HostRuntime) -> Result<(), Fail> {
+    let (plan, distances) = line_of_four(rt.alloc())?;
+    let (tracker, mut own, mut other) = open(rt.alloc(), &plan, 3, 20)?;
+    let mut handset = switching_handset(rt.alloc(), &plan)?;
+    let ticket = step(&tracker, &mut own, &plan, &mut handset).ok();
+    let rest = step(&tracker, &mut own, &plan, &mut handset).err();
+    let near = whole_move(&rt, &tracker, &mut own, &plan, &distances, &mut handset, 2).err();
+    let found = find_from_two(&tracker, &mut other, &plan, &distances);
+    let gone = census(&tracker, &mut other, 3);
+    let off = Found::Off {
+        node: 3,
+        number: 0,
+        level: Some(0),
+        weight: 5,
     };
-    let fault = find_now(&tracker, &mut other, &plan, &distances, 1, 3, 0).err();
-    assert!(rt; fault == Some(FindFault::Held { node: 3, by: 0 }));
-    tracker.leave(&mut own, stay);
+    assert!(rt; ticket == Some(0) && rest == Some(StepFault::AtRest) && handset.is_off());
+    assert!(rt; near == Some(MoveToFault::IsOff) && own.seen() == 1 && own.spare() == 19);
+    assert!(rt; found == (Some(off), 5) && gone == Some((5, 0, 0)));
+    Ok(())
+}
+
+// A path of `n` nodes, and its distances.
+fn path_of(alloc: Global, n: u32) -> Result<(Graph, Distances), Fail>
+    requires some { 1 ≤ n }
+    requires few { n ≤ MAX_NODES }
+    ensures nodes { IfOk result (λ network. network.0.nodes ≡ n) }
+    ensures distances { IfOk result (λ network. AreDistancesOf network.0 network.1) }
+{
+    let mut edges = Vec::new(alloc);
+    for b in 1..n {
+        edges.push(edge(b - 1, b))?;
+    }
+    let graph = Graph::new(alloc, n, &edges)?;
+    let distances = Distances::new(alloc, &graph)?;
+    Ok((graph, distances))
+}
+
+// The flat plan of a path of the most nodes, and its distances.
+fn path_of_most_nodes(alloc: Global) -> Result<(Plan, Distances), Fail>
+    ensures copy { IfOk result (λ pair. pair.0.distances ≡ pair.1) }
+    ensures matched { IfOk result (λ pair. IsMatched pair.0) }
+    ensures reached { IfOk result (λ pair. IsWithinReach pair.0) }
+    ensures nodes { IfOk result (λ pair. nodes_of pair.0 ≡ MAX_NODES) }
+{
+    let (graph, distances) = path_of(alloc, MAX_NODES)?;
+    let plan = Plan::flat(alloc, &graph, &distances)?;
+    Ok((plan, distances))
+}
+
+// The subscriber moves from one end to the other by five puts, the last of which purges the first.
+#[test]
+fn a_move_over_the_most_nodes(rt: HostRuntime) -> Result<(), Fail> {
+    let (plan, distances) = path_of_most_nodes(rt.alloc())?;
+    let (tracker, mut own, mut other) = open(rt.alloc(), &plan, 1023, 2000)?;
+    let mut handset = resting_handset(rt.alloc(), &plan, 1023)?;
+    let moved = whole_move(&rt, &tracker, &mut own, &plan, &distances, &mut handset, 0).ok();
+    let found = find(&rt, &tracker, &mut other, &plan, &distances, 1, 1023, 0).ok();
+    let times = Moved {
+        number: 1,
+        first: 0,
+        commit: 2,
+        last: 4,
+    };
+    assert!(rt; moved == Some(times));
+    assert!(rt; found == Some(at(0, 1, Some(0), 1023)) && other.seen() == 8);
+    Ok(())
+}
+
+// The pass of the last of 64 callers, with room for so many visits, beside those of 64 subscribers
+// at the last node.
+fn open_last(alloc: Global, plan: &Plan, visits: u64) -> Result<(Tracker, Pass), Fail>
+    requires matched { IsMatched plan.now }
+    requires nodes { nodes_of plan.now ≡ MAX_NODES }
+    requires few { visits ≤ 2 ^ 56 }
+    ensures plan { IfOk result (λ pair. pair.0.setup.plan ≡ plan.now) }
+    ensures subs { IfOk result (λ pair. subs_in pair.0.setup ≡ 64) }
+    ensures free { IfOk result (λ pair. IsFree pair.0 visits pair.1) }
+{
+    let (tracker, mut passes) = Tracker::new(alloc, plan, &[1023; 64], 64)?;
+    if passes.len() != 128 {
+        return Err("there are 128 actors".into());
+    }
+    let pass = next_pass(&tracker, &mut passes, 127, visits)?;
+    Ok((tracker, pass))
+}
+
+#[test]
+fn a_find_among_all(rt: HostRuntime) -> Result<(), Fail> {
+    let (plan, distances) = path_of_most_nodes(rt.alloc())?;
+    let (tracker, mut pass) = open_last(rt.alloc(), &plan, 1029)?;
+    let found = find_now(&tracker, &mut pass, &plan, &distances, 64, 0, 63).ok();
+    assert!(rt; found == Some(at(1023, 0, Some(0), 1023)));
+    assert!(rt; pass.actor() == 127 && pass.seen() == 3 && pass.spare() == 1026);
     Ok(())
 }

@@ -10,17 +10,18 @@ use Rattle.entry_word.specs.declared.visit.Visit.{Visit}
 use Rattle.directory.specs.Settings.{Setting}
 use Rattle.directory.specs.Courses.{Step, move_to, switch_off, switch_on}
 use Rattle.directory.specs.Finds.{FindCall}
-use Rattle.directory.specs.Orders.{AreValid, IsFindCall}
+use Rattle.directory.specs.Orders.{AreValid, IsFindCall, Scripts}
 use Rattle.region_plan.specs.Examples.{line_scripts, line_setting}
 
 -- a find of the subscriber from a node
 abbrev pub find_from : ℕ → FindCall
 find_from node = record { from = node; sub = 0 }
 
--- a number of a table, by row and column, and a list of one
+-- a number of a table, by row and column
 abbrev pub number_in : List (List ℕ) → ℕ → ℕ → ℕ
 number_in rows i j = slice_index (slice_index_or rows i []) j
 
+-- a list of a table, by row and column
 abbrev pub list_in : List (List (List ℕ)) → ℕ → ℕ → List ℕ
 list_in rows i j = slice_index_or (slice_index_or rows i []) j []
 
@@ -29,15 +30,19 @@ list_in rows i j = slice_index_or (slice_index_or rows i []) j []
 abbrev pub pairs_of_three : List (List ℕ)
 pairs_of_three = (0 ∷ []) ∷ (1 ∷ 2 ∷ []) ∷ (1 ∷ 2 ∷ []) ∷ []
 
+-- all three nodes in each cluster
 abbrev pub all_of_three : List (List ℕ)
 all_of_three = (0 ∷ 1 ∷ 2 ∷ []) ∷ (0 ∷ 1 ∷ 2 ∷ []) ∷ (0 ∷ 1 ∷ 2 ∷ []) ∷ []
 
+-- the distances of the three nodes
 abbrev pub three_distances : List (List ℕ)
 three_distances = (0 ∷ 3 ∷ 4 ∷ []) ∷ (3 ∷ 0 ∷ 1 ∷ []) ∷ (4 ∷ 1 ∷ 0 ∷ []) ∷ []
 
+-- the weights inside the clusters of the lower levels
 abbrev pub near_weights : List (List ℕ)
 near_weights = (0 ∷ 0 ∷ 0 ∷ []) ∷ (0 ∷ 0 ∷ 1 ∷ []) ∷ (0 ∷ 1 ∷ 0 ∷ []) ∷ []
 
+-- the setting of the three nodes
 abbrev pub three : Setting
 three =
     record {
@@ -58,12 +63,14 @@ three =
 abbrev pub act_at : List Visit → ℕ → Act
 act_at history ticket = option_map_or (λ visit. visit.act) (slice_get history ticket) (Census 0)
 
--- the steps of the worked orders
+-- the steps of the worked orders and puts on the line
 abbrev pub worked_steps : List (List Step)
 worked_steps =
     [] ∷ (move_to 2 ∷ []) ∷ (move_to 2 ∷ move_to 0 ∷ []) ∷ (move_to 2 ∷ move_to 3 ∷ [])
     ∷ (switch_off ∷ []) ∷ (switch_off ∷ switch_on ∷ [])
-    ∷ (move_to 2 ∷ switch_off ∷ switch_on ∷ []) ∷ []
+    ∷ (move_to 2 ∷ switch_off ∷ switch_on ∷ []) ∷ (move_to 2 ∷ move_to 3 ∷ move_to 2 ∷ [])
+    ∷ (switch_off ∷ switch_on ∷ move_to 2 ∷ [])
+    ∷ (switch_off ∷ switch_on ∷ move_to 2 ∷ switch_off ∷ []) ∷ []
 
 -- the scripts of these steps are valid, with whatever finds of the subscriber from nodes of the
 -- line
@@ -71,3 +78,11 @@ abbrev pub MakeValidScripts : List Step → Type 0
 MakeValidScripts steps =
     (finds : List FindCall) → All (IsFindCall line_setting) finds
     → AreValid line_setting (line_scripts steps finds)
+
+-- the steps of the worked puts on the three nodes, and their script
+abbrev pub three_steps : List Step
+three_steps = move_to 1 ∷ move_to 2 ∷ move_to 0 ∷ move_to 1 ∷ []
+
+-- the script of the worked puts on the three nodes
+abbrev pub three_scripts : Scripts
+three_scripts = record { steps = three_steps ∷ []; finds = [] }

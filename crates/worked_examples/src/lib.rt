@@ -11,6 +11,3 @@ pub use finds::worked_finds;
 pub use orders::worked_orders;
 pub use puts::worked_puts;
 pub use scripts::worked_scripts;
-
-#[cfg(test)]
-mod tests;

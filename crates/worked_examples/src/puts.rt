@@ -6,7 +6,7 @@ ghost use Rattle.directory.specs.Writes.{writes, step_writes, visits, numbers_fr
 ghost use Rattle.directory.specs.Puts.{steps_in, puts_left};
 ghost use Rattle.directory.specs.Standing.{standing, number, passage, off};
 ghost use Rattle.directory.specs.Census.{census};
-ghost use Rattle.directory.specs.Looks.{moves_at};
+ghost use Rattle.directory.specs.Looks.{IsQuiet, moves_at};
 ghost use Rattle.directory.specs.Keys.{key_node, opening};
 ghost use Rattle.region_plan.specs.Examples.{line_setting};
 ghost use Rattle.worked_examples.specs.Examples.{three, act_at};
@@ -55,6 +55,19 @@ pub fn worked_puts()
     ensures moves_told { map
         (moves_at 0 (visits line_setting 0 (move_to 2 ∷ switch_off ∷ switch_on ∷ [])))
         (numbers_from 0 9) ≡ true ∷ true ∷ true ∷ true ∷ true ∷ true ∷ false ∷ false ∷ false ∷ [] }
+    ensures moves_told_later { map
+        (moves_at 0 (visits line_setting 0 (switch_off ∷ switch_on ∷ move_to 2 ∷ [])))
+        (numbers_from 0 9) ≡ false ∷ false ∷ true ∷ true ∷ true ∷ true ∷ true ∷ true ∷ false ∷ [] }
+    ensures quiet_at_switches { IsQuiet
+        (visits line_setting 0 (move_to 2 ∷ switch_off ∷ switch_on ∷ [])) 0 6 7 }
+    ensures first_put_is_of_a_move { IsQuiet
+        (visits line_setting 0 (move_to 2 ∷ switch_off ∷ switch_on ∷ [])) 0 5 6 → ⊥ }
+    ensures last_put_is_of_a_move { IsQuiet
+        (visits line_setting 0 (switch_off ∷ switch_on ∷ move_to 2 ∷ [])) 0 1 2 → ⊥ }
+    ensures quiet_before_a_move { IsQuiet
+        (visits line_setting 0 (switch_off ∷ switch_on ∷ move_to 2 ∷ [])) 0 0 1 }
+    ensures moves_between_switches { IsQuiet
+        (visits line_setting 0 (switch_off ∷ switch_on ∷ move_to 2 ∷ switch_off ∷ [])) 0 1 8 → ⊥ }
     ensures through_has_it { map
         (λ t. length (through t (visits line_setting 0 (move_to 2 ∷ switch_off ∷ switch_on ∷ []))))
         (0 ∷ 3 ∷ []) ≡ 1 ∷ 4 ∷ [] }

@@ -3,7 +3,7 @@ use Rattle.std.proofs.lemmas.List.Sums.{fold-append}
 use Rattle.directory.specs.Histories.{History}
 use Rattle.directory.specs.Orders.{IsDone, after_turn, after_turns, history_of}
 use Rattle.machine.specs.declared.machine.Machine.{Machine}
-use Rattle.machine.specs.Machines.{IsSame, StandsFor, scripts_at, setting_at}
+use Rattle.machine.specs.Machines.{IsSame, HasHistory, scripts_at, setting_at}
 use Rattle.machine.proofs.Finishing.{same-scripts, same-setting}
 use Rattle.machine.proofs.tests.play.Goals as goal
 
@@ -23,8 +23,8 @@ order-preserved c =
     let turns : List ℕ = c.order.invariant.0 in
     let one = get_or c.args.order.now c.order.actor-index 0 in (
       turns ++ one ∷ [],
-      of_own StandsFor c.order.machine c.turn.new.self (turns ++ one ∷ []) c.turn.ensures.same
-          (subst (StandsFor c.turn.new.self)
+      of_own HasHistory c.order.machine c.turn.new.self (turns ++ one ∷ []) c.turn.ensures.same
+          (subst (HasHistory c.turn.new.self)
           (sym (fold-append (after_turn (setting_at c.order.machine) (scripts_at c.order.machine)) [] turns (one ∷ [])))
           (c.turn.ensures.stands (after_turns (setting_at c.order.machine) (scripts_at c.order.machine) [] turns)
           c.order.invariant.1)),

@@ -5,7 +5,7 @@ use Rattle.tracker_calls.proofs.tests.resting_handset.Goals as goal
 
 pub returns : goal.returns
 returns c = record {
-  own = new-handset (setup_of c.args.plan.now (3 ∷ []) 2) c.in_ok-handset.handset 0 c.in_ok-handset.ensures.goes
-      (ap (λ h. h.sub) c.in_ok-handset.ensures.exact) (omega arith) (omega (arith, c.requires.nodes))
-      (c.in_ok-handset.ensures.stands (3 ∷ []) refl);
+  own = new-handset (setup_of c.args.plan.now (c.args.home ∷ []) 2) c.in_ok-handset.handset 0
+      c.in_ok-handset.ensures.goes (ap (λ h. h.sub) c.in_ok-handset.ensures.exact) (omega arith) c.requires.inside
+      (c.in_ok-handset.ensures.stands (c.args.home ∷ []) refl);
 }
