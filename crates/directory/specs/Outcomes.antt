@@ -10,6 +10,7 @@ use Rattle.directory.specs.Writes.{numbers_from, step_writes, visit_of}
 use Rattle.directory.specs.Finds.{FindCall}
 use Rattle.directory.specs.Looks.{first_of, last_of, IsFind}
 use Rattle.directory.specs.Orders.{Scripts, steps_of, finds_of, Answer, caller_in, history_of}
+use Rattle.directory.specs.declared.answers.Outcome.{Outcome as Answered}
 use Rattle.directory.specs.declared.answers.Found.{Found}
 use Rattle.directory.specs.declared.answers.Found.TheVariants.{At, Off as OffAt, Again}
 use Rattle.directory.specs.declared.answers.Done.{Done}
@@ -70,6 +71,10 @@ caller_lines setting scripts history caller =
 pub record Outcome : Type 0 where
   pub calls : List Done
   pub order : List ℕ
+
+-- what an outcome that was made says
+abbrev pub result_of : Answered → Outcome
+result_of made = record { calls = made.calls.items; order = made.order.items }
 
 -- what became of the calls by a history in which all scripts are done
 abbrev pub outcome_in : Setting → Scripts → History → Outcome

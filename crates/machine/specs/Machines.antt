@@ -8,7 +8,6 @@ use Rattle.entry_word.specs.declared.visit.Visit.{Visit}
 use Rattle.directory.specs.Settings.{Setting}
 use Rattle.directory.specs.Histories.{History}
 use Rattle.directory.specs.Orders.{Scripts, next}
-use Rattle.directory.specs.Outcomes.{Outcome as Result}
 use Rattle.directory.specs.declared.answers.Done.{Done}
 use Rattle.directory.specs.declared.answers.Done.TheVariants.{Moved, Switched, Found as FoundBy, Off as OffBy, Again as AgainBy}
 use Rattle.trail_laws.specs.Lines.{TellsNumber}
@@ -17,7 +16,6 @@ use Rattle.net_reader.specs.Seen.{seen_input}
 use Rattle.net_reader.specs.Valid.{count_calls}
 use Rattle.machine.specs.declared.caller.Caller.{Caller}
 use Rattle.machine.specs.declared.machine.Machine.{Machine}
-use Rattle.machine.specs.declared.machine.Outcome.{Outcome}
 use Rattle.machine.specs.declared.subscriber.Subscriber.{Subscriber}
 use Rattle.machine.specs.declared.turn.Turn.{Turn}
 use Rattle.machine.specs.declared.turn.Turn.TheVariants.{Visited, Finished}
@@ -72,10 +70,6 @@ abbrev pub IsSame : Machine → Machine → Type 0
 IsSame old new =
     (new.input.now ≡ old.input.now) × (new.plan.now ≡ old.plan.now)
     × (new.distances.now ≡ old.distances.now)
-
--- what an outcome says
-abbrev pub result_of : Outcome → Result
-result_of outcome = record { calls = outcome.calls.items; order = outcome.order.items }
 
 -- of two lines that tell a number of a subscriber, whoever looked for it, the one with the later
 -- last visit tells no lower number

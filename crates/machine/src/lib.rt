@@ -9,8 +9,9 @@ mod room;
 mod subscriber;
 mod turn;
 
+pub use directory::Outcome;
 pub use laws::scripts_are_valid;
-pub use machine::{Machine, Outcome};
+pub use machine::Machine;
 pub use net_graph::OutOfMemory;
 pub use turn::Turn;
 

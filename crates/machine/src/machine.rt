@@ -2,12 +2,12 @@
 ghost use Rattle.std.specs.Prelude.{All, ◌≡◌, ◌∷◌, ◌++◌, ◌+◌, ◌-◌, ◌<◌, ◌≤◌, ◌↔◌, ℕ, List, [], IfOk, None, drop, length, map, replicate, slice_index_or, vec_len, flat_map, vec_capacity};
 ghost use Rattle.directory.specs.Histories.{History};
 ghost use Rattle.directory.specs.Orders.{after_turn, after_turns, history_of, last_turns, most_turns, next, IsDone};
-ghost use Rattle.directory.specs.Outcomes.{outcome_in};
+ghost use Rattle.directory.specs.Outcomes.{outcome_in, result_of};
 ghost use Rattle.net_reader.specs.Seen.{seen_input};
 ghost use Rattle.net_reader.specs.Valid.{count_calls};
 ghost use Rattle.trail_laws.specs.Lines.{IsRightLine};
 ghost use Rattle.machine.specs.Callers.{IsCaller};
-ghost use Rattle.machine.specs.Machines.{HasTurned, IsSame, HasHistory, TellInTurn, TellRisingNumbers, result_of, scripts_at, setting_at};
+ghost use Rattle.machine.specs.Machines.{HasTurned, IsSame, HasHistory, TellInTurn, TellRisingNumbers, scripts_at, setting_at};
 ghost use Rattle.machine.specs.Stands.{BelongTogether};
 ghost use Rattle.machine.specs.Subscribers.{IsSubscriber};
 ghost use Rattle.machine.specs.declared.caller.Caller.{Caller};
@@ -20,7 +20,7 @@ use crate::room::most_visits;
 use crate::subscriber::Subscriber;
 use crate::turn::Turn;
 use directory::{
-    Done, each_visit_is_next, lines_are_made, lines_grow, moves_are_short, next_is_own,
+    Done, Outcome, each_visit_is_next, lines_are_made, lines_grow, moves_are_short, next_is_own,
     order_of_history, own_after, tickets_tell, turns_are_few,
 };
 use distances::Distances;
@@ -43,14 +43,6 @@ pub struct Machine<'a> {
     callers: Vec<Caller>,
     calls: Vec<Done>,
     order: Vec<u32>,
-}
-
-/// What became of each call, by actor and in the order of its script, and whose visit each ticket
-/// was.
-#[derive(Debug, Drop)]
-pub struct Outcome {
-    pub calls: Vec<Done>,
-    pub order: Vec<u32>,
 }
 
 impl<'a> Machine<'a> {

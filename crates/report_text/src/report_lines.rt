@@ -5,11 +5,10 @@ ghost use mir.Syntax.{named};
 ghost use Rattle.std.specs.Io.BufRead.{Rests};
 ghost use Rattle.report_text.specs.contracts.report_lines.Lines.{the_row};
 ghost use Rattle.report_text.specs.ReportText.{call_line, order_line, place_fields, report_lines, report_of, visit_fields, why_field};
-ghost use Rattle.machine.specs.Machines.{result_of};
+ghost use Rattle.directory.specs.Outcomes.{result_of};
 
 use crate::line::Line;
-use directory::{Done, Why};
-use machine::Outcome;
+use directory::{Done, Outcome, Why};
 use std::alloc::{AllocError, Global};
 use std::marker::Model;
 

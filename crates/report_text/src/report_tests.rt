@@ -1,7 +1,6 @@
 //! The report of a few calls, whole and line by line, and the lines that refuse inputs.
 use crate::{Lines, refused_line, report};
-use directory::{Done, Why};
-use machine::Outcome;
+use directory::{Done, Outcome, Why};
 use net_reader::{InputCause, InputFault};
 use std::alloc::Global;
 use std::test::Fail;

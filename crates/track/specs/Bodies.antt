@@ -1,7 +1,7 @@
 -- The text of what answers an input. Key law: `command`, by its clause `told` (it writes this text,
 -- where the status is 0 or 1).
 use Rattle.std.specs.Prelude.{ℕ, List}
-use Rattle.machine.specs.Machines.{result_of}
+use Rattle.directory.specs.Outcomes.{result_of}
 use Rattle.report_text.specs.PlanText.{plan_text_of}
 use Rattle.report_text.specs.ReportText.{refused_line_of, report_of}
 use Rattle.track.specs.declared.answer.Body.{Body}

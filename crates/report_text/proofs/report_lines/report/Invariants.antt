@@ -1,7 +1,7 @@
 use Rattle.std.proofs.Common.{◌≡◌, ◌++◌, length}
 use Rattle.std.specs.List.{concat}
 use Rattle.report_text.specs.ReportText.{report_of}
-use Rattle.machine.specs.Machines.{result_of}
+use Rattle.directory.specs.Outcomes.{result_of}
 use Rattle.report_text.proofs.report_lines.report.Given as goal
 
 abbrev pub invariant-lines : goal.invariant-lines
