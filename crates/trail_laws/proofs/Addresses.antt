@@ -21,7 +21,7 @@ use Rattle.trail_laws.proofs.ClosedViews.{clearing, coming, IsPhase, old_levels,
 use Rattle.trail_laws.proofs.Chases.{above, Arrival, arrived, gone_above, longer, passing-fewer, some-out, stop_at, weight_from, old-inside}
 use Rattle.trail_laws.proofs.Tells.{next-stands, rest-stands, stands}
 use Rattle.trail_laws.proofs.Fine.{fine-clearing, fine-coming, fine-coming_new, fine-new, fine-passing, fine-rest, IsFine}
-use Rattle.trail_laws.proofs.Prices.{IsPriced, lazy-front, price-clearing, price-coming, price-coming_new, price-new, price-passing, price-passing_new, price-rest}
+use Rattle.trail_laws.proofs.Prices.{lazy-front}
 use Rattle.trail_laws.proofs.Leads.{base-top, clearing-leads, coming-at_to, coming-back, coming-leads, passage-leads, passage-new, passing-at_to, rest-leads}
 
 -- what an address of a view tells
@@ -32,7 +32,6 @@ pub record IsPlaced (setting : Setting) (from : ℕ) (marks : ℕ → PresenceMa
   pub few : address.number ≤ length moves
   pub is_stop : address.node ≡ slice_index (from ∷ map (λ (m : Move). m.to) moves) address.number
   pub most_way : ℕ
-  pub price : IsPriced setting marks (stands from commits) (length commits) moves level address.node most_way
   pub fine : IsFine setting marks (stands from commits) (length commits) moves level address most_way
   pub leads : (known : Option ℕ) → KnowsAtMost (length commits) known
       → Arrival setting marks known address.node (stands from commits) setting.nodes most_way
@@ -87,7 +86,6 @@ rest-placed setting from marks course level cluster address sound begins below m
       few = base-low setting course level sound;
       is_stop = ap (λ f. slice_index (f ∷ map (λ (m : Move). m.to) course.moves) (base level course.moves)) begins;
       most_way = weight_from course.moves (base level course.moves);
-      price = price-rest setting marks course level _ _ below;
       fine = fine-rest setting marks course level _ _ below;
       leads = λ known knows. subst (λ n. Arrival setting marks known (address_node course level) n setting.nodes
           (weight_from course.moves (base level course.moves))) (sym (rest-stands course from begins))
@@ -119,7 +117,6 @@ coming-placed setting from marks course move level cluster address sound next be
           ∙ ap (λ f. slice_index (f ∷ map (λ (m : Move). m.to) (course.moves ++ move ∷ [])) (base level course.moves))
           begins;
       most_way = weight_from course.moves (base level course.moves) + 0;
-      price = price-coming setting marks course move level _ _ below;
       fine = fine-coming setting marks course move level _ _ sound below;
       leads = λ known knows. subst (λ n. Arrival setting marks known (address_node course level) n setting.nodes
           (weight_from course.moves (base level course.moves) + 0)) (sym (rest-stands course from begins))
@@ -147,7 +144,6 @@ coming-placed setting from marks course move level cluster address sound next be
       is_stop = sym (new-stop setting course move next)
           ∙ ap (λ f. slice_index (f ∷ map (λ (m : Move). m.to) (course.moves ++ move ∷ [])) move.number) begins;
       most_way = setting.distance move.to (last_stop course) + 0;
-      price = price-coming_new setting from marks course move level _ begins below;
       fine = fine-coming_new setting from marks course move level sound next begins marks_are;
       leads = λ known knows. subst (λ n. Arrival setting marks known move.to n setting.nodes
           (setting.distance move.to (last_stop course) + 0)) (sym (rest-stands course from begins))
@@ -176,7 +172,6 @@ passing-placed setting from marks course move level cluster address sound next b
           ∙ ap (λ f. slice_index (f ∷ map (λ (m : Move). m.to) (course.moves ++ move ∷ [])) (base level course.moves))
           begins;
       most_way = weight_from course.moves (base level course.moves) + 2 * setting.distance move.from move.to;
-      price = price-passing setting from marks course move level sound next begins below marks_are;
       fine = fine-passing setting from marks course move level _ _ sound next begins marks_are
           (λ metric lazy. omega (arith, lazy-front setting course.moves (move ∷ []) level below lazy));
       leads = λ known knows. subst (λ n. Arrival setting marks known (address_node course level) n setting.nodes
@@ -205,7 +200,6 @@ passing-placed setting from marks course move level cluster address sound next b
       is_stop = sym (new-stop setting course move next)
           ∙ ap (λ f. slice_index (f ∷ map (λ (m : Move). m.to) (course.moves ++ move ∷ [])) move.number) begins;
       most_way = setting.distance move.to move.from + (setting.distance move.from move.to + 0);
-      price = price-passing_new setting from marks course move level sound next begins below marks_are;
       fine = fine-passing setting from marks course move level _ _ sound next begins marks_are
           (λ metric lazy. omega (
             arith,
@@ -248,7 +242,6 @@ new-placed setting from marks course move level cluster address sound next begin
       is_stop = sym (new-stop setting course move next)
           ∙ ap (λ f. slice_index (f ∷ map (λ (m : Move). m.to) (course.moves ++ move ∷ [])) move.number) begins;
       most_way = 0;
-      price = price-new setting marks course move level _ _ below;
       fine = fine-new setting marks course move level _ _ _ below;
       leads = λ known knows. subst (λ n. Arrival setting marks known move.to n setting.nodes 0)
           (sym (next-stands setting course move from next begins))
@@ -273,7 +266,6 @@ clearing-placed setting from marks course move level cluster address sound next 
           ∙ ap (λ f. slice_index (f ∷ map (λ (m : Move). m.to) (course.moves ++ move ∷ [])) (base level course.moves))
           begins;
       most_way = weight_from (course.moves ++ move ∷ []) (base level course.moves);
-      price = price-clearing setting from marks course move level _ sound next begins below;
       fine = fine-clearing setting from marks course move level sound next begins below marks_are;
       leads = λ known knows. subst (λ n. Arrival setting marks known (address_node course level) n setting.nodes
           (weight_from (course.moves ++ move ∷ []) (base level course.moves)))

@@ -153,9 +153,7 @@ fine-clearing setting from marks course move level sound next begins below marks
   passing = λ metric lazy u comes. absurd (clash u comes);
   settled = λ metric lazy all other. omega (
     arith,
-    price-clearing setting from marks course move level
-        (length (map commit_by (course.moves ++ move ∷ []))) sound next begins below 0 metric lazy
-        (λ p u comes same. absurd (other u (comes ∙ ap (λ n. Coming n u) same))),
+    price-clearing setting from course move level sound next begins below metric lazy,
   );
   current = λ metric lazy all other same.
       subst (λ n. weight_from (course.moves ++ move ∷ []) n < setting.threshold level) (sym same)

@@ -22,17 +22,6 @@ AreLazy setting moves =
     (k level : ℕ) → k ≤ length moves → level ≤ setting.top
     → weight_from (take k moves) (base level (take k moves)) < setting.threshold level
 
--- a passage that is open weighs at most so much
-abbrev pub IsOpenAtMost : Setting → (ℕ → PresenceMark) → ℕ → ℕ → ℕ → Type 0
-IsOpenAtMost setting marks last number pass =
-    (p u : ℕ) → marks last ≡ Coming p u → p ≡ number → setting.distance u last ≤ pass
-
--- the way from the node of an address of a level is short
-abbrev pub IsPriced : Setting → (ℕ → PresenceMark) → ℕ → ℕ → List Move → ℕ → ℕ → ℕ → Type 0
-IsPriced setting marks last number moves level node most_way =
-    (pass : ℕ) → HasMetric setting → AreLazy setting moves → IsOpenAtMost setting marks last number pass
-    → most_way + 2 ≤ 2 * setting.threshold level + setting.distance node last + 2 * pass
-
 take-left : (xs ys : List Move) → take (length xs) (xs ++ ys) ≡ xs
 take-left [] ys = refl
 take-left (x ∷ xs) ys = ap (λ zs. x ∷ zs) (take-left xs ys)
@@ -68,96 +57,14 @@ address-near setting course level sound metric =
     (way-short setting course.start 0 course.moves (base level course.moves) sound.linked sound.begins metric
     (base-low setting course level sound))
 
-pub price-rest : (setting : Setting) (marks : ℕ → PresenceMark) (course : Course) (level last number : ℕ)
-    → level ≤ setting.top
-    → IsPriced setting marks last number course.moves level (address_node course level)
-    (weight_from course.moves (base level course.moves))
-price-rest setting marks course level last number below pass metric lazy opens = omega (
-  arith,
-  lazy-whole setting course.moves level below lazy,
-)
-
-pub price-coming : (setting : Setting) (marks : ℕ → PresenceMark) (course : Course) (move : Move)
-    (level last number : ℕ) → level ≤ setting.top
-    → IsPriced setting marks last number (course.moves ++ move ∷ []) level (address_node course level)
-    (weight_from course.moves (base level course.moves) + 0)
-price-coming setting marks course move level last number below pass metric lazy opens = omega (
-  arith,
-  lazy-front setting course.moves (move ∷ []) level below lazy,
-)
-
-pub price-coming_new : (setting : Setting) (from : ℕ) (marks : ℕ → PresenceMark) (course : Course) (move : Move)
-    (level number : ℕ) → course.start ≡ from → level ≤ setting.top
-    → IsPriced setting marks (stands from (map commit_by course.moves)) number (course.moves ++ move ∷ []) level move.to
-    (setting.distance move.to (last_stop course) + 0)
-price-coming_new setting from marks course move level number begins below pass metric lazy opens = omega (
-  arith,
-  lazy-front setting course.moves (move ∷ []) level below lazy,
-  ap (setting.distance move.to) (rest-stands course from begins),
-)
-
--- the passage that a move opens
-passing-pass : (setting : Setting) (from : ℕ) (marks : ℕ → PresenceMark) (course : Course) (move : Move) (pass : ℕ)
-    → IsSound setting course → IsNext setting course move → course.start ≡ from
-    → ((v : ℕ) → v < setting.nodes → marks v ≡ mark_passing setting course move v)
-    → IsOpenAtMost setting marks (stands from (map commit_by (course.moves ++ move ∷ [])))
-    (length (map commit_by (course.moves ++ move ∷ []))) pass
-    → setting.distance move.from move.to ≤ pass
-passing-pass setting from marks course move pass sound next begins marks_are opens =
-    subst (λ n. setting.distance move.from n ≤ pass) stood
-    (opens move.number move.from (ap marks stood ∙ passing-at_to setting course move marks sound next marks_are)
-    (omega (
-      arith,
-      next.number,
-      length-append course.moves (move ∷ []),
-      length-map (course.moves ++ move ∷ []) commit_by,
-    )))
-  where
-    stood : stands from (map commit_by (course.moves ++ move ∷ [])) ≡ move.to
-    stood = next-stands setting course move from next begins
-
-pub price-passing : (setting : Setting) (from : ℕ) (marks : ℕ → PresenceMark) (course : Course) (move : Move)
-    (level : ℕ) → IsSound setting course → IsNext setting course move → course.start ≡ from → level ≤ setting.top
-    → ((v : ℕ) → v < setting.nodes → marks v ≡ mark_passing setting course move v)
-    → IsPriced setting marks (stands from (map commit_by (course.moves ++ move ∷ [])))
-    (length (map commit_by (course.moves ++ move ∷ []))) (course.moves ++ move ∷ []) level (address_node course level)
-    (weight_from course.moves (base level course.moves) + 2 * setting.distance move.from move.to)
-price-passing setting from marks course move level sound next begins below marks_are pass metric lazy opens = omega (
-  arith,
-  lazy-front setting course.moves (move ∷ []) level below lazy,
-  passing-pass setting from marks course move pass sound next begins marks_are opens,
-)
-
-pub price-passing_new : (setting : Setting) (from : ℕ) (marks : ℕ → PresenceMark) (course : Course) (move : Move)
-    (level : ℕ) → IsSound setting course → IsNext setting course move → course.start ≡ from → level ≤ setting.top
-    → ((v : ℕ) → v < setting.nodes → marks v ≡ mark_passing setting course move v)
-    → IsPriced setting marks (stands from (map commit_by (course.moves ++ move ∷ [])))
-    (length (map commit_by (course.moves ++ move ∷ []))) (course.moves ++ move ∷ []) level move.to
-    (setting.distance move.to move.from + (setting.distance move.from move.to + 0))
-price-passing_new setting from marks course move level sound next begins below marks_are pass metric lazy opens =
-    omega (
-      arith,
-      lazy-front setting course.moves (move ∷ []) level below lazy,
-      passing-pass setting from marks course move pass sound next begins marks_are opens,
-      metric.both_ways move.to move.from next.inside
-          (subst (λ n. n < setting.nodes) (sym next.from) (stop-inside setting course sound)),
-    )
-
-pub price-new : (setting : Setting) (marks : ℕ → PresenceMark) (course : Course) (move : Move)
-    (level last number : ℕ) → level ≤ setting.top
-    → IsPriced setting marks last number (course.moves ++ move ∷ []) level move.to 0
-price-new setting marks course move level last number below pass metric lazy opens = omega (
-  arith,
-  lazy-front setting course.moves (move ∷ []) level below lazy,
-)
-
-pub price-clearing : (setting : Setting) (from : ℕ) (marks : ℕ → PresenceMark) (course : Course) (move : Move)
-    (level number : ℕ) → IsSound setting course → IsNext setting course move → course.start ≡ from
-    → level ≤ setting.top
-    → IsPriced setting marks (stands from (map commit_by (course.moves ++ move ∷ []))) number
-    (course.moves ++ move ∷ []) level (address_node course level)
-    (weight_from (course.moves ++ move ∷ []) (base level course.moves))
-price-clearing setting from marks course move level number sound next begins below pass metric lazy opens = omega (
+-- after the confirm the trail from an old address is short
+pub price-clearing : (setting : Setting) (from : ℕ) (course : Course) (move : Move) (level : ℕ) → IsSound setting course
+    → IsNext setting course move → course.start ≡ from → level ≤ setting.top → HasMetric setting
+    → AreLazy setting (course.moves ++ move ∷ [])
+    → weight_from (course.moves ++ move ∷ []) (base level course.moves) + 2
+    ≤ 2 * setting.threshold level
+    + setting.distance (address_node course level) (stands from (map commit_by (course.moves ++ move ∷ [])))
+price-clearing setting from course move level sound next begins below metric lazy = omega (
   arith,
   lazy-front setting course.moves (move ∷ []) level below lazy,
   weight-push course.moves move (base level course.moves) (base-low setting course level sound),

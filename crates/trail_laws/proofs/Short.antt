@@ -1,5 +1,6 @@
 -- The laws of near levels and of short ways after every legal history.
-use Rattle.std.proofs.Common.{◌≡◌, ◌⊎◌, inl, inr, ℕ, suc, ◌+◌, ◌*◌, ◌<◌, ◌≤◌, Bool, List, [], ◌∷◌, ◌++◌, Option, None, map, sym, ap, ◌∙◌, subst, arith}
+use Rattle.std.proofs.Common.{◌≡◌, ◌⊎◌, inl, inr, ℕ, suc, ◌+◌, ◌*◌, ◌<◌, ◌≤◌, Bool, List, [], ◌∷◌, ◌++◌, Option, Some, None, map, refl, sym, ap, ◌∙◌, subst, arith}
+use Rattle.std.proofs.lemmas.Bool.Decides.{nat_tests}
 use Rattle.entry_word.specs.declared.address.Address.{Address}
 use Rattle.entry_word.specs.declared.mark.PresenceMark.{PresenceMark}
 use Rattle.entry_word.specs.declared.mark.PresenceMark.TheVariants.{Gone, Coming}
@@ -8,7 +9,8 @@ use Rattle.directory.specs.Histories.{puts_to}
 use Rattle.directory.specs.Courses.{Move}
 use Rattle.directory.specs.Puts.{course_in}
 use Rattle.directory.specs.Standing.{Commit, commit_by, commits, number, off, standing}
-use Rattle.trail_laws.specs.Trail.{entry_seen, mark_seen, MarksTell, MarkTells}
+use Rattle.trail_laws.specs.Trail.{EntriesTell, EntryTells, entry_seen, mark_seen, MarksTell, MarkTells}
+use Rattle.trail_laws.specs.Phases.{AddressesLeadByPhase, PhasesCover}
 use Rattle.trail_laws.specs.Ways.{AddressesLeadShortly, ComingsLeadShortly, LevelsStayNear, PassagesAreOpen, StandsInside}
 use Rattle.trail_laws.proofs.Links.{stop-inside}
 use Rattle.trail_laws.proofs.Tells.{next-stands, rest-stands, stands}
@@ -57,20 +59,36 @@ pub passages-open : PassageLaws → PassagesAreOpen
 passages-open laws setting sub history low legal node p from inside comes reached =
     coming-opens laws setting sub history node p from low inside legal comes reached
 
-pub addresses-short : Laws → AddressesLeadShortly
-addresses-short laws setting sub history low metric some legal level cluster address known pass below is_some knows
-    opens =
-    let its = placed laws setting sub history low legal level cluster address below is_some in
-    let there = its.leads known knows in (
-      there.hops,
-      there.way,
-      there.few,
-      there.led,
-      omega (
-        arith,
-        there.short metric,
-        its.price pass metric (legal-lazy setting sub history some legal) opens,
-      ),
+old-or_new : (a b : ℕ) → a ≤ suc b → (a ≤ b) ⊎ (a ≡ suc b)
+old-or_new a b h = grind (arith, nat_tests)
+
+-- the way from an address is short in whichever phase it is
+pub addresses-short : AddressesLeadByPhase → PhasesCover → EntriesTell → AddressesLeadShortly
+addresses-short by_phase cover tell setting sub history low metric some legal level cluster address known pass below
+    is_some knows opens =
+    let there = by_phase setting sub history low metric some legal level cluster address known below is_some knows in
+    let its : EntryTells setting sub history level cluster (Some address) =
+    subst (EntryTells setting sub history level cluster) is_some (tell setting sub history low legal level cluster below)
+    in (
+      there.0,
+      there.1,
+      there.2,
+      there.3,
+      elim (cover setting sub history low legal) [
+        | inl before ↦ elim (old-or_new address.number (number sub history) (omega (arith, its.2, before))) [
+          | inl old ↦ omega (arith, there.4.before_old before old, some level below)
+          | inr new ↦ omega (arith, there.4.before_new before new, some level below)
+        ]
+        | inr after ↦ elim after [
+          | inl passing ↦ omega (
+            arith,
+            there.4.passing passing.0 passing.1,
+            opens (number sub history) passing.0 passing.1 refl,
+            some level below,
+          )
+          | inr settled ↦ omega (arith, there.4.settled settled)
+        ]
+      ],
     )
 
 pub comings-short : Laws → MarksTell → ComingsLeadShortly

@@ -40,6 +40,9 @@ pub fn marks_lead_shortly()
     read_of_legal();
     told_by_writes();
     marks_tell();
+    entries_tell();
+    marks_lead_by_phase();
+    phases_cover();
 }
 
 /// From the node of each address the marks lead to where the subscriber stands on a way that is
