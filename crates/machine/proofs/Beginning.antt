@@ -15,11 +15,13 @@ use Rattle.net_reader.specs.Seen.{seen_input}
 use Rattle.region_plan.specs.Plan.{PlanData}
 use Rattle.handset.specs.Progress.{due}
 use Rattle.machine.specs.declared.subscriber.Subscriber.{Subscriber}
-use Rattle.machine.specs.Scripts.{scripts_of, step_of}
+use Rattle.scripts.specs.Scripts.{scripts_of, step_of}
+use Rattle.scripts.specs.Laws.{ScriptsAreValid}
 use Rattle.machine.specs.Stands.{BelongTogether, setting_over}
 use Rattle.machine.specs.Subscribers.{IsSubscriber, begun_steps}
 use Rattle.machine.proofs.Looking.{script-is}
-use Rattle.machine.proofs.ScriptLaws.{calls-few, same-at, steps-are}
+use Rattle.scripts.specs.ScriptLaws.{calls-few, steps-are}
+use Rattle.std.proofs.lemmas.List.{get_or_default}
 use Rattle.machine.proofs.Rests.{Begins, begins, first-visit}
 
 -- what is known where a step is left
@@ -39,7 +41,7 @@ script-of input plan distances sub held script together low reads same =
     (omega (arith, low, together.valid.scripts, length-map input.scripts.items (λ (s : Vec Call Global). s.items)))
     reads same
 
-pub ready : (input : Input) (plan : PlanData) (distances : DistanceTable) (history : History) (sub : ℕ)
+pub ready : ScriptsAreValid → (input : Input) (plan : PlanData) (distances : DistanceTable) (history : History) (sub : ℕ)
     (old : Subscriber)
     (held : Vec Call Global) (script : List Call) (place : ℕ) (default : Call)
     → BelongTogether (seen_input input) plan distances → sub < length input.homes.items
@@ -47,7 +49,7 @@ pub ready : (input : Input) (plan : PlanData) (distances : DistanceTable) (histo
     → due (setting_over (seen_input input) plan) old.handset ≡ None
     → held ≡ get_or input.scripts.items sub held → script ≡ held.items → place ≡ length old.lines.items
     → (place ≡ length script → ⊥) → Ready input plan history sub old script place default
-ready input plan distances history sub old held script place default together low its rests reads same here other =
+ready scripts input plan distances history sub old held script place default together low its rests reads same here other =
     let script_is : script ≡ get_or (seen_input input).scripts sub [] =
     script-of input plan distances sub held script together low reads same in
     let steps : length (steps_of (scripts_of (seen_input input)) sub) ≡ length script =
@@ -56,9 +58,9 @@ ready input plan distances history sub old held script place default together lo
     let short : place < length script = strictly place (length script) (omega (arith, here, its.few, steps)) other in
     let call : Call = get_or script place default in
     record {
-      begin = begins (seen_input input) plan distances history sub old call together low its rests
+      begin = begins scripts (seen_input input) plan distances history sub old call together low its rests
           (omega (arith, here, short, ap length script_is))
-          (same-at script place default call short
+          (get_or_default script place default call short
           ∙ (ap (λ s. get_or s place call) script_is
           ∙ ap (λ i. get_or (get_or (seen_input input).scripts sub []) i call) here));
       short = short;

@@ -19,11 +19,11 @@ use Rattle.region_plan.specs.Plan.{PlanData}
 use Rattle.machine.specs.declared.caller.Caller.{Caller}
 use Rattle.machine.specs.declared.subscriber.Subscriber.{Subscriber}
 use Rattle.machine.specs.declared.machine.Machine.{Machine}
-use Rattle.machine.specs.Scripts.{scripts_of, step_of, find_of}
+use Rattle.scripts.specs.Scripts.{scripts_of, step_of, find_of}
 use Rattle.machine.specs.Stands.{setting_over}
 use Rattle.machine.specs.Subscribers.{IsSubscriber, begun_steps}
 use Rattle.machine.specs.Machines.{HasHistory, input_at, scripts_at, setting_at}
-use Rattle.machine.proofs.ScriptLaws.{finds-are, steps-are}
+use Rattle.scripts.specs.ScriptLaws.{finds-are, steps-are}
 use Rattle.machine.proofs.Steps.{some-write}
 use Rattle.directory.specs.HistoryLaws.{next-sub}
 
@@ -197,7 +197,7 @@ room-for_both machine history is =
             arith,
             ap length (is.callers c d (omega (arith, h, is.callers_count))).lines,
             caller-few input machine.plan.now history (length input.homes + c),
-            ap length (finds-are input machine.plan.now (length input.homes + c) (omega arith)
+            ap length (finds-are input (setting_at machine) (length input.homes + c) refl (omega arith)
                 (omega (arith, h, is.callers_count, is.together.valid.scripts))),
             length-map (get_or input.scripts (length input.homes + c) []) find_of,
             ap length (get_or-drop (length machine.subscribers.items) input.scripts c []),

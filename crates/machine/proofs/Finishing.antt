@@ -17,7 +17,7 @@ use Rattle.net_reader.specs.Valid.{IsValid}
 use Rattle.machine.specs.declared.machine.Machine.{Machine}
 use Rattle.machine.specs.declared.turn.Turn.{Turn}
 use Rattle.machine.specs.declared.turn.Turn.TheVariants.{Visited, Finished}
-use Rattle.machine.specs.Scripts.{find_of, scripts_of}
+use Rattle.scripts.specs.Scripts.{find_of, scripts_of}
 use Rattle.machine.specs.Stands.{setting_over}
 use Rattle.machine.specs.Machines.{IsSame, HasHistory, input_at, scripts_at, setting_at}
 use Rattle.directory.specs.HistoryLaws.{turn-none}

@@ -1,17 +1,13 @@
-mod ScriptLaws
 mod Looking
-mod Strangers
 mod Looked
 mod Steps
 mod Seen
 mod Written
 mod Rests
 mod Beginning
-mod Counting
 mod Sums
 mod Turning
 mod Opening
 mod Finishing
 mod Ending
 mod RightOutcome
-mod InTurn

@@ -21,7 +21,7 @@ use Rattle.region_plan.specs.Settings.{setting_of}
 use Rattle.walk.specs.Walks.{IsWalkOver, WalkData, call_of, stage_of}
 use Rattle.visit_log.specs.Cells.{CellData}
 use Rattle.machine.specs.declared.caller.Caller.{Caller}
-use Rattle.machine.specs.Scripts.{scripts_of}
+use Rattle.scripts.specs.Scripts.{scripts_of}
 use Rattle.machine.specs.Stands.{IsWalking, Sees, setting_over}
 use Rattle.machine.specs.Callers.{IsCaller, first_ticket}
 use Rattle.machine.proofs.Looking.{Walks, drop-more, key-wanted, read-on, walking}

@@ -28,12 +28,13 @@ use Rattle.net_reader.specs.Input.{Contents}
 use Rattle.net_reader.specs.Valid.{IsSearch}
 use Rattle.visit_log.specs.Cells.{CellData}
 use Rattle.machine.specs.declared.caller.Caller.{Caller}
-use Rattle.machine.specs.Scripts.{find_of, scripts_of}
-use Rattle.machine.specs.Stands.{BelongTogether, IsWalking, Sees, setting_over}
+use Rattle.scripts.specs.Scripts.{find_of, scripts_of}
+use Rattle.machine.specs.Stands.{BelongTogether, IsWalking, Sees, over, setting_over}
 use Rattle.machine.specs.Callers.{IsCaller}
 use Rattle.std.proofs.Common.{Vec, Global}
 use Rattle.net_reader.specs.Valid.{IsValid}
-use Rattle.machine.proofs.ScriptLaws.{finds-are, scripts-valid, searches-of}
+use Rattle.scripts.specs.Laws.{ScriptsAreValid}
+use Rattle.scripts.specs.ScriptLaws.{finds-are}
 
 -- the walk of the find that a caller is at
 pub record Walks (plan : PlanData) (calls : List FindCall) (stage : Stage) (walk : WalkData) : Type 0 where
@@ -149,18 +150,18 @@ pub record Wanted (input : Contents) (plan : PlanData) (cells : CellData) (histo
   pub is_cell : IsCell plan cells.subs key
   pub is_below : IsWordBelow (nodes_of plan) walk.progress (cell (setting_over input plan) history key)
 
-pub wanted : MarksTell → EntriesTell → PlayedIsLegal → (input : Contents) (plan : PlanData)
+pub wanted : MarksTell → EntriesTell → PlayedIsLegal → ScriptsAreValid → (input : Contents) (plan : PlanData)
     (distances : DistanceTable) (cells : CellData) (history : History) (actor : ℕ) (caller : Caller) (walk : WalkData)
     (key : Key) → BelongTogether input plan distances → length input.homes ≤ actor → actor < length input.scripts
     → Sees input plan cells history → IsCaller input plan history actor caller → caller.walk ≡ Some walk
     → key_of (call_of walk) (stage_of plan walk) ≡ Some key → Wanted input plan cells history walk key
-wanted marks entries legal input plan distances cells history actor caller walk key together high low sees its held
+wanted marks entries legal scripts input plan distances cells history actor caller walk key together high low sees its held
     wants =
     let seeker : Seeker = caller_in (setting_over input plan) (scripts_of input) history actor in
     let at : Walks plan seeker.calls seeker.stage walk =
     walking plan seeker.calls seeker.stage caller.walk walk held its.walk in
     let valid : AreValid (setting_over input plan) (scripts_of input) =
-    scripts-valid input plan together.valid together.nodes in
+    scripts input (setting_over input plan) together.valid (over input plan distances together) in
     let known : IsFindCall (setting_over input plan) at.call =
     call-known input plan actor (length caller.lines.items) at.call at.later valid high low
     (sym at.calls_are ∙ its.left) in
@@ -194,7 +195,7 @@ script-searches input plan actor script count valid nodes high low same few =
     subst (λ n. All (IsSearch n count) script) (sym nodes)
     (subst (λ n. All (IsSearch input.nodes n) script) (sym few)
     (subst (λ s. All (IsSearch input.nodes (length input.homes)) s) (sym same)
-    (searches-of input actor valid high low)))
+    (valid.searches actor high low)))
 
 -- a caller that has a walk has lines for fewer finds than its script has
 pub place-low : (input : Contents) (plan : PlanData) (history : History) (actor : ℕ) (caller : Caller)
@@ -210,7 +211,7 @@ place-low input plan history actor caller walk high low its held =
     omega (
       arith,
       more.0,
-      ap length (finds-are input plan actor high low),
+      ap length (finds-are input (setting_over input plan) actor refl high low),
       length-map (get_or input.scripts actor []) find_of,
     )
 
@@ -224,7 +225,7 @@ call-at input plan actor n script call later default high low same short left =
     let more = drop-more n (finds_of (setting_over input plan) (scripts_of input) actor) call later left in
     sym (get_or-map find_of script n default call short)
     ∙ (ap (λ s. get_or (map find_of s) n call) same
-    ∙ (ap (λ fs. get_or fs n call) (sym (finds-are input plan actor high low)) ∙ more.2 call))
+    ∙ (ap (λ fs. get_or fs n call) (sym (finds-are input (setting_over input plan) actor refl high low)) ∙ more.2 call))
 
 -- a push that didn't fail
 pub ok-of : {T E : Type 0} (r : Result T E) → is_err r ≡ false → is_ok r ≡ true

@@ -20,12 +20,12 @@ use Rattle.handset.specs.Kept.{GoesWith}
 use Rattle.handset.specs.Stands.{StandsForSteps}
 use Rattle.machine.specs.declared.caller.Caller.{Caller}
 use Rattle.machine.specs.declared.subscriber.Subscriber.{Subscriber}
-use Rattle.machine.specs.Scripts.{find_of, scripts_of, step_of}
+use Rattle.scripts.specs.Scripts.{find_of, scripts_of, step_of}
 use Rattle.machine.specs.Stands.{BeginInside, BeginsInside, IsWalking, setting_over}
 use Rattle.machine.specs.Callers.{IsCaller}
 use Rattle.machine.specs.Subscribers.{IsSubscriber, begun_steps}
 use Rattle.machine.proofs.Looked.{by-parts}
-use Rattle.machine.proofs.ScriptLaws.{finds-are, searches-of, steps-are}
+use Rattle.scripts.specs.ScriptLaws.{finds-are, steps-are}
 
 pub sub-opens : (input : Contents) (plan : PlanData) (sub : ℕ) (subscriber : Subscriber) → IsValid input
     → sub < length input.homes → StandsForSteps (setting_over input plan) subscriber.handset [] 0
@@ -56,7 +56,7 @@ pub caller-opens : (input : Contents) (plan : PlanData) (actor : ℕ) (caller : 
 unfolding words_after tickets_from
 caller-opens input plan actor caller script high low same walks first none room =
     let finds : finds_of (setting_over input plan) (scripts_of input) actor ≡ map find_of script =
-    finds-are input plan actor high low ∙ ap (map find_of) (sym same) in
+    finds-are input (setting_over input plan) actor refl high low ∙ ap (map find_of) (sym same) in
     by-parts input plan [] actor
     (caller_at (finds_of (setting_over input plan) (scripts_of input) actor)) [] caller refl refl
     (subst (λ fs. IsWalking plan fs at_origin caller.walk) (sym finds) walks) first none
@@ -107,7 +107,7 @@ script-inside input actor valid low =
       | inl sub ↦ course-inside input.format input.nodes (get_or input.homes actor 0) false
           (get_or input.scripts actor []) (valid.courses actor sub)
       | inr high ↦ search-inside input.nodes (length input.homes) (get_or input.scripts actor [])
-          (searches-of input actor valid high low)
+          (valid.searches actor high low)
     ]
   where
     cases : (a b : ℕ) → (a < b) ⊎ (b ≤ a)

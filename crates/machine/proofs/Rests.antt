@@ -27,10 +27,11 @@ use Rattle.handset.specs.declared.stage.Stage.{Stage}
 use Rattle.handset.specs.declared.stage.Stage.TheVariants.{Resting, Coming, Renewing, Committing, Confirming, Erasing, Purging, Switching}
 use Rattle.visit_log.specs.Cells.{CellData, GoWith, Hold}
 use Rattle.machine.specs.declared.subscriber.Subscriber.{Subscriber}
-use Rattle.machine.specs.Scripts.{scripts_of, step_of}
+use Rattle.scripts.specs.Scripts.{scripts_of, step_of}
+use Rattle.scripts.specs.Laws.{ScriptsAreValid}
 use Rattle.machine.specs.Stands.{BelongTogether, setting_over}
 use Rattle.machine.specs.Subscribers.{IsSubscriber, MayBegin, begun_line, begun_steps}
-use Rattle.machine.proofs.ScriptLaws.{steps-are}
+use Rattle.scripts.specs.ScriptLaws.{steps-are}
 use Rattle.machine.proofs.Steps.{lines-partial, some-write}
 use Rattle.machine.proofs.Seen.{Seen, seen-after, step-allowed}
 use Rattle.directory.specs.HistoryLaws.{next-sub, tickets-count}
@@ -166,13 +167,13 @@ first-line plan starts handset steps made sub call ticket at same its =
         (course_at (start (setting_of plan starts) handset.sub)) steps).moves) ticket) at.place
         ∙ swap switch_on)
 
-pub begins : (input : Contents) (plan : PlanData) (distances : DistanceTable) (history : History) (sub : ℕ)
-    (old : Subscriber) (call : Call)
+pub begins : ScriptsAreValid → (input : Contents) (plan : PlanData) (distances : DistanceTable) (history : History)
+    (sub : ℕ) (old : Subscriber) (call : Call)
     → BelongTogether input plan distances → sub < length input.homes → IsSubscriber input plan history sub old
     → due (setting_over input plan) old.handset ≡ None → length old.lines.items < length (get_or input.scripts sub [])
     → call ≡ get_or (get_or input.scripts sub []) (length old.lines.items) call
     → Begins input plan history sub old call
-begins input plan distances history sub old call together low its none short same =
+begins scripts input plan distances history sub old call together low its none short same =
     let setting : Setting = setting_over input plan in
     let at : IsRestAfter setting old.handset.sub old.handset (begun_steps input sub old) (length (own sub history)) =
     rests setting old.handset (begun_steps input sub old) (length (own sub history)) its.handset none in
@@ -185,7 +186,7 @@ begins input plan distances history sub old call together low its none short sam
     take-more (steps_of (scripts_of input) sub) (length old.lines.items) (step_of call)
     (step-at input sub (length old.lines.items) call together.valid low short same) in
     let allowed =
-    step-allowed input plan distances sub (suc (length old.lines.items)) (begun_steps input sub old)
+    step-allowed scripts input plan distances sub (suc (length old.lines.items)) (begun_steps input sub old)
     (step_of call) together low more in
     record {
       may = may-begin plan input.homes old.handset (begun_steps input sub old)

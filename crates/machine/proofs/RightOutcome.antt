@@ -5,11 +5,13 @@ use Rattle.entry_word.specs.declared.visit.Visit.{Visit}
 use Rattle.directory.specs.Histories.{History}
 use Rattle.directory.specs.Orders.{IsDone}
 use Rattle.directory.specs.Outcomes.{outcome_in}
-use Rattle.trail_laws.specs.Lines.{IsRightLine, NumbersRise, OutcomesAreRight}
+use Rattle.trail_laws.specs.Lines.{IsRightLine, NumbersRise, OutcomesAreRight, TellRisingNumbers}
 use Rattle.machine.specs.declared.machine.Machine.{Machine}
-use Rattle.machine.specs.Machines.{HasHistory, TellRisingNumbers, input_at, scripts_at, setting_at}
+use Rattle.machine.specs.Machines.{HasHistory, input_at, scripts_at, setting_at}
 use Rattle.directory.specs.Statements.{OrdersAreOwn}
-use Rattle.machine.specs.InputLaws.{ScriptsAreValid, few-nodes}
+use Rattle.scripts.specs.Laws.{ScriptsAreValid}
+use Rattle.scripts.specs.ScriptLaws.{few-nodes}
+use Rattle.machine.specs.Stands.{over}
 use Rattle.walk.specs.ReaderLaws.{reads-top}
 
 pub right-outcome : OutcomesAreRight → OrdersAreOwn → ScriptsAreValid → (machine : Machine) (history : History)
@@ -23,7 +25,8 @@ right-outcome right own valid machine history is done =
     (right (setting_at machine) (scripts_at machine) (map (λ (visit : Visit). visit.actor) history)
     (omega (arith, is.together.nodes, few-nodes (input_at machine) is.together.valid))
     (reads-top machine.plan.now (input_at machine).homes is.together.matched)
-    (valid (input_at machine) machine.plan.now is.together.valid is.together.nodes))
+    (valid (input_at machine) (setting_at machine) is.together.valid
+    (over (input_at machine) machine.plan.now machine.distances.now is.together)))
 
 -- and later lines tell no lower numbers
 pub rising-outcome : NumbersRise → OrdersAreOwn → ScriptsAreValid → (machine : Machine) (history : History)
@@ -34,4 +37,5 @@ rising-outcome rise own valid machine history is done =
     (own (setting_at machine) (scripts_at machine) history is.sees.played done)
     (rise (setting_at machine) (scripts_at machine) (map (λ (visit : Visit). visit.actor) history)
     (omega (arith, is.together.nodes, few-nodes (input_at machine) is.together.valid))
-    (valid (input_at machine) machine.plan.now is.together.valid is.together.nodes))
+    (valid (input_at machine) (setting_at machine) is.together.valid
+    (over (input_at machine) machine.plan.now machine.distances.now is.together)))

@@ -14,9 +14,9 @@ use Rattle.directory.specs.Writes.{Write, step_writes, visit_of, visits, writes}
 use Rattle.net_reader.specs.Input.{Contents}
 use Rattle.region_plan.specs.Plan.{PlanData, nodes_of}
 use Rattle.distances.specs.Table.{DistanceTable}
-use Rattle.machine.specs.Scripts.{scripts_of}
-use Rattle.machine.specs.Stands.{BelongTogether, setting_over}
-use Rattle.machine.proofs.ScriptLaws.{scripts-valid}
+use Rattle.scripts.specs.Scripts.{scripts_of}
+use Rattle.machine.specs.Stands.{BelongTogether, over, setting_over}
+use Rattle.scripts.specs.Laws.{ScriptsAreValid}
 use Rattle.machine.proofs.Steps.{may-at}
 use Rattle.directory.specs.HistoryLaws.{next-sub}
 use Rattle.directory.specs.Statements.{TicketsGrow, OwnGrow}
@@ -110,7 +110,7 @@ seen-after own_law ticket_law input plan history sub k visit low at =
     }
 
 -- a step of a valid script, where it comes
-pub step-allowed : (input : Contents) (plan : PlanData) (distances : DistanceTable) (sub k : ℕ) (before : List Step)
+pub step-allowed : ScriptsAreValid → (input : Contents) (plan : PlanData) (distances : DistanceTable) (sub k : ℕ) (before : List Step)
     (step : Step)
     → BelongTogether input plan distances → sub < length input.homes
     → take k (steps_of (scripts_of input) sub) ≡ before ++ step ∷ []
@@ -118,9 +118,9 @@ pub step-allowed : (input : Contents) (plan : PlanData) (distances : DistanceTab
     (after_steps (setting_over input plan) (course_at (start (setting_over input plan) sub)) before) step
     × (last_stop (after_steps (setting_over input plan) (course_at (start (setting_over input plan) sub)) before)
     < nodes_of plan)
-step-allowed input plan distances sub k before step together low same =
+step-allowed scripts input plan distances sub k before step together low same =
     let valid : AreValid (setting_over input plan) (scripts_of input) =
-    scripts-valid input plan together.valid together.nodes in
+    scripts input (setting_over input plan) together.valid (over input plan distances together) in
     let script : IsScript (setting_over input plan) sub (steps_of (scripts_of input) sub) = valid.steps sub low in
     let whole : steps_of (scripts_of input) sub ≡ before ++ step ∷ drop k (steps_of (scripts_of input) sub) =
     sym (take-append-drop k (steps_of (scripts_of input) sub))

@@ -15,7 +15,7 @@ use Rattle.directory.specs.Outcomes.{step_line, step_lines}
 use Rattle.std.specs.Prelude.{◌==◌}
 use Rattle.directory.specs.declared.answers.Done.TheVariants.{Moved}
 use Rattle.machine.specs.Subscribers.{is_commit, line_after, says_gone}
-use Rattle.machine.proofs.ScriptLaws.{last-push}
+use Rattle.std.proofs.lemmas.List.Sums.{fold-append}
 use Rattle.entry_word.specs.MarkLaws.{read-mark}
 use Rattle.node_set.specs.SetLaws.{length-passing_all}
 
@@ -210,7 +210,7 @@ unfolding MaySteps
 may-at setting course [] step later may inside = (may.0, inside)
 may-at setting course (move_to node ∷ before) step later may inside =
     may-at setting (after_step setting course (move_to node)) before step later may.1
-    (subst (λ n. n < setting.nodes) (sym (last-push course.moves (next_move setting course node) course.start))
+    (subst (λ n. n < setting.nodes) (sym (fold-append (λ n (m : Move). m.to) course.start course.moves (next_move setting course node ∷ [])))
     may.0.inside)
 may-at setting course (switch_off ∷ before) step later may inside =
     may-at setting (after_step setting course switch_off) before step later may.1 inside

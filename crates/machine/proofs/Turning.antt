@@ -2,7 +2,7 @@
 use Rattle.std.proofs.Common.{◌≡◌, ◌≢◌, inl, inr, ℕ, zero, suc, ◌+◌, ◌<◌, ◌≤◌, ◌==◌, false, cond, List, [], ◌∷◌, ◌++◌, length, map, get_or, refl, sym, ap, ◌∙◌, subst, arith, Vec, Global}
 use Rattle.std.specs.Prelude.{Some, slice_set, vec_capacity}
 use Rattle.std.proofs.lemmas.Bool.{cases_eq, ne_eqb}
-use Rattle.std.proofs.lemmas.List.{append-nil, length-map, map_push}
+use Rattle.std.proofs.lemmas.List.{append-nil, length-map, length_push, map_push}
 use Rattle.std.proofs.lemmas.List.Sums.{fold-append}
 use Rattle.std.proofs.lemmas.List.Elements.{All-push}
 use Rattle.entry_word.specs.declared.visit.Key.{Key}
@@ -24,8 +24,9 @@ use Rattle.visit_log.specs.Cells.{CellData, GoWith, Hold}
 use Rattle.machine.specs.declared.caller.Caller.{Caller}
 use Rattle.machine.specs.declared.machine.Machine.{Machine}
 use Rattle.machine.specs.declared.subscriber.Subscriber.{Subscriber}
-use Rattle.machine.specs.Scripts.{scripts_of}
-use Rattle.machine.specs.Stands.{Sees, setting_over}
+use Rattle.scripts.specs.Scripts.{scripts_of}
+use Rattle.scripts.specs.Laws.{VisitsAreFew}
+use Rattle.machine.specs.Stands.{Sees, over, setting_over}
 use Rattle.machine.specs.Callers.{IsCaller}
 use Rattle.machine.specs.Subscribers.{IsSubscriber, begun_steps}
 use Rattle.machine.specs.Machines.{HasHistory, input_at, scripts_at, setting_at}
@@ -121,8 +122,6 @@ sub-turned own_law ticket_law kept more mine old history actor visit subscriber 
           ∙ (ap (λ xs. xs ++ actor ∷ []) stands.order
           ∙ (ap (λ a. map (λ (v : Visit). v.actor) history ++ a ∷ []) (sym is_own)
           ∙ sym (map_push (λ (v : Visit). v.actor) history visit)));
-      known = All-push (λ (v : Visit). v.actor < length (input_at old).scripts) history visit stands.known
-          (omega (arith, is_own, low, stands.together.valid.scripts));
       room = omega (arith, stands.room, room);
       subscribers_count = ap length items
           ∙ (set-length old.subscribers.items actor subscriber ∙ stands.subscribers_count);
@@ -185,7 +184,6 @@ caller-turned own_law ticket_law kept more old history actor place key caller ca
       };
       order = pushed
           ∙ (ap (λ xs. xs ++ actor ∷ []) stands.order ∙ sym (map_push (λ (v : Visit). v.actor) history visit));
-      known = All-push (λ (v : Visit). v.actor < length (input_at old).scripts) history visit stands.known low;
       room = omega (arith, stands.room, room);
       subscribers_count = stands.subscribers_count;
       callers_count = ap length items ∙ (set-length old.callers.items place caller ∙ stands.callers_count);
@@ -261,7 +259,6 @@ sub-kept-machine old history actor x y cells subscribers stands low at same kept
       together = stands.together;
       sees = subst (λ k. Sees (input_at old) old.plan.now k history) (sym kept) stands.sees;
       order = stands.order;
-      known = stands.known;
       room = stands.room;
       subscribers_count = ap length its ∙ stands.subscribers_count;
       callers_count = stands.callers_count;
@@ -285,7 +282,6 @@ caller-kept-machine old history place x y callers stands low at same items =
       together = stands.together;
       sees = stands.sees;
       order = stands.order;
-      known = stands.known;
       room = stands.room;
       subscribers_count = stands.subscribers_count;
       callers_count = ap length its ∙ stands.callers_count;
@@ -296,3 +292,17 @@ caller-kept-machine old history place x y callers stands low at same items =
       calls = stands.calls;
       total = stands.total;
     }
+
+-- the order has room for one visit more
+pub room-left : VisitsAreFew → MoreIsPlayed → (machine : Machine) (history : History) (actor : ℕ) (visit : Visit)
+    → HasHistory machine history → next (setting_at machine) (scripts_at machine) history actor ≡ Some visit
+    → length history < vec_capacity machine.order
+room-left few more machine history actor visit is wants =
+    omega (
+      arith,
+      few (input_at machine) (setting_at machine) (history ++ visit ∷ []) is.together.valid
+          (over (input_at machine) machine.plan.now machine.distances.now is.together)
+          (more (setting_at machine) (scripts_at machine) history actor visit wants is.sees.played),
+      length_push history visit,
+      is.room,
+    )

@@ -20,7 +20,8 @@ use Rattle.handset.specs.Kept.{GoesWith}
 use Rattle.handset.specs.Stands.{StandsForSteps}
 use Rattle.visit_log.specs.Cells.{CellData, GoWith, Hold}
 use Rattle.machine.specs.declared.subscriber.Subscriber.{Subscriber}
-use Rattle.machine.specs.Scripts.{scripts_of}
+use Rattle.scripts.specs.Scripts.{scripts_of}
+use Rattle.scripts.specs.Laws.{ScriptsAreValid}
 use Rattle.machine.specs.Stands.{BelongTogether, setting_over}
 use Rattle.machine.specs.Subscribers.{IsSubscriber, begun_steps, is_commit, line_after}
 use Rattle.machine.proofs.Steps.{line-grows, lines-partial}
@@ -38,14 +39,14 @@ pub record Under (input : Contents) (plan : PlanData) (history : History) (sub :
       (begun_steps input sub old)
       (tickets sub history ++ length history ∷ []) ≡ rows ++ line_after row (is_commit visit.act) (length history) ∷ []
 
-pub under-way : MarksUnpack → TicketsAreOwn
+pub under-way : MarksUnpack → TicketsAreOwn → ScriptsAreValid
     → (input : Contents) (plan : PlanData) (distances : DistanceTable) (history : History) (sub : ℕ)
     (old : Subscriber) (visit : Visit) → BelongTogether input plan distances → sub < length input.homes
     → IsSubscriber input plan history sub old
     → slice_get (visits (setting_over input plan) sub (begun_steps input sub old)) (length (own sub history))
     ≡ Some visit
     → Under input plan history sub old visit
-under-way unpack own_law input plan distances history sub old visit together low its at =
+under-way unpack own_law scripts input plan distances history sub old visit together low its at =
     let setting : Setting = setting_over input plan in
     let course : Course = course_at (start setting sub) in
     let split : HasLast (begun_steps input sub old) =
@@ -69,7 +70,7 @@ under-way unpack own_law input plan distances history sub old visit together low
       slice_get_within (map (visit_of sub) (step_writes setting after split.last)) (length p) visit here,
       length-map (step_writes setting after split.last) (visit_of sub),
     ) in
-    let may = step-allowed input plan distances sub
+    let may = step-allowed scripts input plan distances sub
     (length old.lines.items) split.before split.last together low split.are in
     let parts : tickets sub history ≡ take n (tickets sub history) ++ p =
     sym (take-append-drop n (tickets sub history)) in
@@ -102,8 +103,8 @@ under-way unpack own_law input plan distances history sub old visit together low
     assoc (y ∷ xs) ys x = ap (λ zs. y ∷ zs) (assoc xs ys x)
 
 -- so a step goes on
-pub written-on : MarksUnpack → OwnGrow → TicketsGrow → TicketsAreOwn → (input : Contents) (plan : PlanData)
-    (distances : DistanceTable) (after : CellData) (history : History) (sub ticket last : ℕ) (old new : Subscriber)
+pub written-on : MarksUnpack → OwnGrow → TicketsGrow → TicketsAreOwn → ScriptsAreValid → (input : Contents)
+    (plan : PlanData) (distances : DistanceTable) (after : CellData) (history : History) (sub ticket last : ℕ) (old new : Subscriber)
     (visit : Visit) (line default : Done)
     → BelongTogether input plan distances → sub < length input.homes → length history ≡ ticket
     → IsSubscriber input plan history sub old
@@ -119,7 +120,7 @@ pub written-on : MarksUnpack → OwnGrow → TicketsGrow → TicketsAreOwn → (
     → (v : Visit) × (next (setting_over input plan) (scripts_of input) history sub ≡ Some v)
     × IsSubscriber input plan (history ++ v ∷ []) sub new × GoWith plan after
     × Hold plan input.homes after (history ++ v ∷ [])
-written-on unpack own_law ticket_law tell input plan distances after history sub ticket last old new visit line default
+written-on unpack own_law ticket_law tell scripts input plan distances after history sub ticket last old new visit line default
     together low place its at
     stands goes same lines room last_is line_is go hold =
     let setting : Setting = setting_over input plan in
@@ -129,7 +130,7 @@ written-on unpack own_law ticket_law tell input plan distances after history sub
     let seen : Seen input plan history sub visit =
     seen-after own_law ticket_law input plan history sub (length old.lines.items) visit low here in
     let way : Under input plan history sub old visit =
-    under-way unpack tell input plan distances history sub old visit together low its here in
+    under-way unpack tell scripts input plan distances history sub old visit together low its here in
     let end : last ≡ length way.rows = omega (arith, last_is, ap length way.are, length_push way.rows way.row) in
     let row : get_or old.lines.items last default ≡ way.row =
     ap (λ ls. get_or ls last default) way.are ∙ get_or_push way.rows way.row default last (sym end) in

@@ -12,7 +12,7 @@ use Rattle.region_plan.specs.Plan.{PlanData}
 use Rattle.machine.specs.declared.caller.Caller.{Caller}
 use Rattle.machine.specs.declared.turn.Turn.{Turn}
 use Rattle.machine.specs.declared.turn.Turn.TheVariants.{Visited, Finished}
-use Rattle.machine.specs.Scripts.{scripts_of}
+use Rattle.scripts.specs.Scripts.{scripts_of}
 use Rattle.machine.specs.Stands.{IsWalking, setting_over}
 
 -- the ticket of the first look of the find under way, if it has looked

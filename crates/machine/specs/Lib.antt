@@ -1,6 +1,4 @@
-pub mod Scripts
 pub mod Stands
 pub mod Callers
 pub mod Subscribers
 pub mod Machines
-pub mod InputLaws

@@ -8,9 +8,6 @@ use Rattle.entry_word.specs.declared.visit.Visit.{Visit}
 use Rattle.directory.specs.Settings.{Setting}
 use Rattle.directory.specs.Histories.{History}
 use Rattle.directory.specs.Orders.{Scripts, next}
-use Rattle.directory.specs.declared.answers.Done.{Done}
-use Rattle.directory.specs.declared.answers.Done.TheVariants.{Moved, Switched, Found as FoundBy, Off as OffBy, Again as AgainBy}
-use Rattle.trail_laws.specs.Lines.{TellsNumber}
 use Rattle.net_reader.specs.Input.{Contents}
 use Rattle.net_reader.specs.Seen.{seen_input}
 use Rattle.net_reader.specs.Valid.{count_calls}
@@ -19,7 +16,7 @@ use Rattle.machine.specs.declared.machine.Machine.{Machine}
 use Rattle.machine.specs.declared.subscriber.Subscriber.{Subscriber}
 use Rattle.machine.specs.declared.turn.Turn.{Turn}
 use Rattle.machine.specs.declared.turn.Turn.TheVariants.{Visited, Finished}
-use Rattle.machine.specs.Scripts.{most_visits, scripts_of}
+use Rattle.scripts.specs.Scripts.{most_visits, scripts_of}
 use Rattle.machine.specs.Stands.{BelongTogether, Sees, setting_over}
 use Rattle.machine.specs.Callers.{IsCaller}
 use Rattle.machine.specs.Subscribers.{IsSubscriber}
@@ -41,7 +38,6 @@ pub record HasHistory (machine : Machine) (history : History) : Type 0 where
   pub together : BelongTogether (input_at machine) machine.plan.now machine.distances.now
   pub sees : Sees (input_at machine) machine.plan.now machine.cells history
   pub order : machine.order.items ≡ map (λ visit. visit.actor) history
-  pub known : All (λ visit. visit.actor < length (input_at machine).scripts) history
   pub room : most_visits (setting_at machine) (input_at machine).scripts
       ≤ vec_capacity machine.order
   pub subscribers_count : length machine.subscribers.items ≡ length (input_at machine).homes
@@ -70,28 +66,3 @@ abbrev pub IsSame : Machine → Machine → Type 0
 IsSame old new =
     (new.input.now ≡ old.input.now) × (new.plan.now ≡ old.plan.now)
     × (new.distances.now ≡ old.distances.now)
-
--- of two lines that tell a number of a subscriber, whoever looked for it, the one with the later
--- last visit tells no lower number
-abbrev pub TellRisingNumbers : List Done → Type 0
-TellRisingNumbers calls =
-    (i j : ℕ) (one other : Done) → slice_get calls i ≡ Some one → slice_get calls j ≡ Some other
-    → (sub p q earlier later : ℕ) → TellsNumber one sub p earlier
-    → TellsNumber other sub q later → earlier ≤ later → p ≤ q
-
--- the actor of a line
-abbrev pub line_actor : Done → ℕ
-line_actor (Moved actor number from to weight first commit last) = actor
-line_actor (Switched actor off node number ticket) = actor
-line_actor (FoundBy actor from sub node number level weight first last) = actor
-line_actor (OffBy actor from sub node number level weight first last) = actor
-line_actor (AgainBy actor from sub why weight first last) = actor
-
--- of two lines of an actor that tell numbers, the one that comes later has no earlier last visit,
--- so that along one actor's finds of a subscriber the numbers never fall
-abbrev pub TellInTurn : List Done → Type 0
-TellInTurn calls =
-    (i j : ℕ) (one other : Done) → i ≤ j → slice_get calls i ≡ Some one
-    → slice_get calls j ≡ Some other → line_actor one ≡ line_actor other
-    → (sub s p q earlier later : ℕ) → TellsNumber one sub p earlier → TellsNumber other s q later
-    → earlier ≤ later

@@ -1,7 +1,7 @@
 -- What the parts of a machine lean on: an input with its plan and its distances, cells that hold
 -- what a history leaves, and a walk for the find that a caller is at.
 -- Key laws: `Machine::new`, `turn`, `finish` and `outcome`, by their clauses.
-use Rattle.std.specs.Prelude.{◌≡◌, ℕ, ◌<◌, List, [], ◌∷◌, All, Option, Some, None}
+use Rattle.std.specs.Prelude.{◌≡◌, refl, ℕ, ◌<◌, List, [], ◌∷◌, All, Option, Some, None}
 use Rattle.distances.specs.Table.{DistanceTable}
 use Rattle.directory.specs.Settings.{Setting}
 use Rattle.directory.specs.Histories.{History}
@@ -16,7 +16,7 @@ use Rattle.region_plan.specs.Settings.{setting_of}
 use Rattle.region_plan.specs.Matched.{IsMatched, IsWithinReach}
 use Rattle.visit_log.specs.Cells.{CellData, GoWith, Hold}
 use Rattle.walk.specs.Walks.{IsWalkOver, WalkData, call_of, stage_of}
-use Rattle.machine.specs.Scripts.{scripts_of}
+use Rattle.scripts.specs.Scripts.{IsSettingOf, scripts_of}
 
 -- a find begins at one of so many nodes
 abbrev pub BeginsInside : ℕ → Call → Type 0
@@ -41,6 +41,11 @@ pub record BelongTogether (input : Contents) (plan : PlanData)
 -- the setting of an input and a plan
 abbrev pub setting_over : Contents → PlanData → Setting
 setting_over input plan = setting_of plan input.homes
+
+-- it is a setting of the input
+abbrev pub over : (input : Contents) (plan : PlanData) (distances : DistanceTable)
+    → BelongTogether input plan distances → IsSettingOf input (setting_over input plan)
+over input plan distances together = record { nodes = together.nodes; starts = refl }
 
 -- each visit of a history was its actor's next one, and cells hold what the history leaves
 pub record Sees (input : Contents) (plan : PlanData) (cells : CellData)

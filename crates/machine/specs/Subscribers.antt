@@ -28,7 +28,7 @@ use Rattle.visit_log.specs.Cells.{CellData, GoWith, Hold}
 use Rattle.machine.specs.declared.subscriber.Subscriber.{Subscriber}
 use Rattle.machine.specs.declared.turn.Turn.{Turn}
 use Rattle.machine.specs.declared.turn.Turn.TheVariants.{Visited, Finished}
-use Rattle.machine.specs.Scripts.{scripts_of}
+use Rattle.scripts.specs.Scripts.{scripts_of}
 use Rattle.machine.specs.Stands.{setting_over, Sees}
 
 -- whether a mark says that its subscriber is gone

@@ -6,7 +6,7 @@ ghost use Rattle.directory.specs.Outcomes.{found_line};
 ghost use Rattle.net_reader.specs.Seen.{seen_input};
 ghost use Rattle.net_reader.specs.Valid.{IsSearch};
 ghost use Rattle.region_plan.specs.Plan.{nodes_of};
-ghost use Rattle.machine.specs.Scripts.{find_of};
+ghost use Rattle.scripts.specs.Scripts.{find_of};
 ghost use Rattle.machine.specs.Stands.{BelongTogether, IsWalking, Sees};
 ghost use Rattle.machine.specs.Callers.{IsCaller, HasLooked};
 
@@ -16,6 +16,7 @@ use distances::Distances;
 use net_graph::OutOfMemory;
 use net_reader::{Call, Input};
 use region_plan::Plan;
+use scripts::scripts_are_valid;
 use std::alloc::Global;
 use trail_laws::{entries_tell, marks_tell};
 use visit_log::PlainCells;
@@ -77,6 +78,7 @@ impl Caller {
         marks_tell();
         entries_tell();
         every_order_is_legal();
+        scripts_are_valid();
         lines_grow();
         own_after();
         let Some(walk) = &mut self.walk else {

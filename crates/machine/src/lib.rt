@@ -3,14 +3,12 @@
 #![tactic(auto)]
 
 mod caller;
-mod laws;
 mod machine;
 mod room;
 mod subscriber;
 mod turn;
 
 pub use directory::Outcome;
-pub use laws::scripts_are_valid;
 pub use machine::Machine;
 pub use net_graph::OutOfMemory;
 pub use turn::Turn;

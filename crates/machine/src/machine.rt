@@ -5,9 +5,9 @@ ghost use Rattle.directory.specs.Orders.{after_turn, after_turns, history_of, la
 ghost use Rattle.directory.specs.Outcomes.{outcome_in, result_of};
 ghost use Rattle.net_reader.specs.Seen.{seen_input};
 ghost use Rattle.net_reader.specs.Valid.{count_calls};
-ghost use Rattle.trail_laws.specs.Lines.{IsRightLine};
+ghost use Rattle.trail_laws.specs.Lines.{IsRightLine, TellInTurn, TellRisingNumbers};
 ghost use Rattle.machine.specs.Callers.{IsCaller};
-ghost use Rattle.machine.specs.Machines.{HasTurned, IsSame, HasHistory, TellInTurn, TellRisingNumbers, scripts_at, setting_at};
+ghost use Rattle.machine.specs.Machines.{HasTurned, IsSame, HasHistory, scripts_at, setting_at};
 ghost use Rattle.machine.specs.Stands.{BelongTogether};
 ghost use Rattle.machine.specs.Subscribers.{IsSubscriber};
 ghost use Rattle.machine.specs.declared.caller.Caller.{Caller};
@@ -15,20 +15,20 @@ ghost use Rattle.machine.specs.declared.subscriber.Subscriber.{Subscriber};
 ghost use Rattle.machine.specs.declared.turn.Turn.TheVariants.{Finished};
 
 use crate::caller::Caller;
-use crate::laws::scripts_are_valid;
 use crate::room::most_visits;
 use crate::subscriber::Subscriber;
 use crate::turn::Turn;
 use directory::{
-    Done, Outcome, each_visit_is_next, lines_are_made, lines_grow, moves_are_short, next_is_own,
-    order_of_history, own_after, tickets_tell, turns_are_few,
+    Done, Outcome, each_visit_is_next, lines_grow, next_is_own, order_of_history, own_after,
+    turns_are_few,
 };
 use distances::Distances;
 use net_graph::OutOfMemory;
 use net_reader::{Call, Input};
 use region_plan::Plan;
+use scripts::{scripts_are_valid, visits_are_few};
 use std::alloc::{AllocError, Global};
-use trail_laws::outcomes_are_right;
+use trail_laws::{lines_are_in_turn, outcomes_are_right};
 use visit_log::PlainCells;
 
 /// The actors of an input at work: the subscribers, then the callers, and the cells that they
@@ -127,9 +127,7 @@ impl<'a> Machine<'a> {
             → ((actor : ℕ) → IsDone (setting_at self.entry) (scripts_at self.entry) history actor)
             → TellInTurn (result_of result).calls }
     {
-        lines_are_made();
-        lines_grow();
-        tickets_tell();
+        lines_are_in_turn();
         outcomes_are_right();
         order_of_history();
         scripts_are_valid();
@@ -190,8 +188,7 @@ impl<'a> Machine<'a> {
         next_is_own();
         own_after();
         lines_grow();
-        turns_are_few();
-        moves_are_short();
+        visits_are_few();
         let ticket = self.order.len() as u64;
         let turn = self.subscribers[actor as usize].write(
             actor,
@@ -223,8 +220,7 @@ impl<'a> Machine<'a> {
         next_is_own();
         own_after();
         lines_grow();
-        turns_are_few();
-        moves_are_short();
+        visits_are_few();
         let ticket = self.order.len() as u64;
         let place = actor as usize - self.subscribers.len();
         let turn = self.callers[place].look(

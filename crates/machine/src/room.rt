@@ -1,6 +1,6 @@
 //! How many visits scripts have at most.
 ghost use Rattle.std.specs.Prelude.{◌≡◌, ◌<◌, All, IfOk, List, ℕ, map};
-ghost use Rattle.machine.specs.Scripts.{most_in, most_of, most_visits};
+ghost use Rattle.scripts.specs.Scripts.{most_in, most_of, most_visits};
 ghost use Rattle.machine.specs.Stands.{BeginInside, BeginsInside};
 ghost use Rattle.region_plan.specs.Settings.{setting_of};
 ghost use Rattle.region_plan.specs.Plan.{nodes_of};

@@ -12,7 +12,7 @@ ghost use Rattle.handset.specs.Kept.{GoesWith};
 ghost use Rattle.handset.specs.Progress.{due};
 ghost use Rattle.handset.specs.Stands.{StandsForSteps, switch_to};
 ghost use Rattle.visit_log.specs.Cells.{HasHomes, GoWith, Hold};
-ghost use Rattle.machine.specs.Scripts.{step_of};
+ghost use Rattle.scripts.specs.Scripts.{step_of};
 ghost use Rattle.machine.specs.Stands.{BelongTogether};
 ghost use Rattle.machine.specs.Subscribers.{MayBegin, begun_line, is_commit, line_after, MayTakeTurn, TakesTurn};
 
@@ -24,6 +24,7 @@ use handset::Handset;
 use net_graph::OutOfMemory;
 use net_reader::{Call, Input};
 use region_plan::Plan;
+use scripts::scripts_are_valid;
 use std::alloc::Global;
 use visit_log::PlainCells;
 
@@ -78,6 +79,7 @@ impl Subscriber {
         own_after();
         tickets_tell();
         mark_words();
+        scripts_are_valid();
         let Some(visit) = make(&mut self.handset, plan, cells) else {
             return self.begin(sub, input, plan, distances, cells, ticket);
         };
@@ -106,6 +108,7 @@ impl Subscriber {
     {
         own_after();
         tickets_tell();
+        scripts_are_valid();
         let script = input.scripts[sub as usize].as_slice();
         let place = self.lines.len();
         if place == script.len() {

@@ -11,7 +11,7 @@ use Rattle.region_plan.specs.Plan.{PlanData}
 use Rattle.region_plan.specs.Settings.{setting_of}
 use Rattle.machine.specs.declared.machine.Machine.{Machine}
 use Rattle.machine.specs.Machines.{IsSame, HasHistory, scripts_at, setting_at}
-use Rattle.machine.specs.Scripts.{scripts_of}
+use Rattle.scripts.specs.Scripts.{scripts_of}
 use Rattle.track.specs.Answers.{history_under, outcome_under}
 
 -- a machine that keeps its input and its plan keeps its setting and its scripts

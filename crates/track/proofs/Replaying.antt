@@ -20,13 +20,14 @@ use Rattle.directory.specs.Orders.{steps_of}
 use Rattle.trail_laws.specs.Censuses.{CensusesEndByScripts, CensusesEndRight, Place, is_on_at, place_at_end, who_ends_at}
 use Rattle.trail_laws.specs.Lines.{NumbersRise, OutcomesAreRight}
 use Rattle.stretch_laws.specs.Lines.{PlanOutcomesAreNear}
-use Rattle.machine.specs.Machines.{TellInTurn}
-use Rattle.machine.specs.Scripts.{scripts_of}
+use Rattle.trail_laws.specs.Lines.{TellInTurn}
+use Rattle.scripts.specs.Scripts.{scripts_of}
 use Rattle.census_text.specs.CensusText.{census_text_of, is_place, who_at}
 use Rattle.census_text.specs.TextLaws.{texts-same}
 use Rattle.report_text.specs.ReportText.{report_of}
 use Rattle.track.specs.Answers.{IsCensusText, IsReport, network_of, outcome_under}
-use Rattle.machine.specs.InputLaws.{few-nodes, ScriptsAreValid}
+use Rattle.scripts.specs.Laws.{ScriptsAreValid}
+use Rattle.scripts.specs.ScriptLaws.{few-nodes}
 use Rattle.stretch_laws.specs.Plans.{PlansTrack}
 
 pub report-says : (contents : Contents) (plan : PlanData) → TellInTurn (outcome_under contents plan).calls
@@ -40,12 +41,12 @@ report-says contents plan turn right rise track near scripts text valid is nodes
   text_is = text_is;
   right = right (setting_of plan contents.homes) (scripts_of contents) contents.order
       (omega (arith, nodes, few-nodes contents valid)) (track plan contents.homes bounds).whole
-      (scripts contents plan valid nodes);
+      (scripts contents (setting_of plan contents.homes) valid (record { nodes = nodes; starts = refl }));
   in_turn = turn;
   rising = rise (setting_of plan contents.homes) (scripts_of contents) contents.order
-      (omega (arith, nodes, few-nodes contents valid)) (scripts contents plan valid nodes);
+      (omega (arith, nodes, few-nodes contents valid)) (scripts contents (setting_of plan contents.homes) valid (record { nodes = nodes; starts = refl }));
   near = near plan contents.homes (scripts_of contents) contents.order
-      (omega (arith, nodes, few-nodes contents valid)) bounds (scripts contents plan valid nodes);
+      (omega (arith, nodes, few-nodes contents valid)) bounds (scripts contents (setting_of plan contents.homes) valid (record { nodes = nodes; starts = refl }));
 }
 
 -- the plan of an input's network has its nodes
@@ -84,7 +85,8 @@ census-says listed right scripts has_plans contents text valid text_is =
       census_is = lists;
       right = λ plan is sub node known below. right (setting_of plan contents.homes) (scripts_of contents)
           contents.order sub node (omega (arith, plan-nodes contents plan is, few-nodes contents valid))
-          (scripts contents plan valid (plan-nodes contents plan is)) known
+          (scripts contents (setting_of plan contents.homes) valid
+          (record { nodes = plan-nodes contents plan is; starts = refl })) known
           (omega (arith, below, plan-nodes contents plan is));
       plan = there.0;
       is = there.1;
@@ -100,7 +102,8 @@ census-says listed right scripts has_plans contents text valid text_is =
         ≡ who_ends_at contents.homes (scripts_of contents) node
     lists plan is node below = listed (setting_of plan contents.homes) (scripts_of contents) contents.order node
         (omega (arith, plan-nodes contents plan is, few-nodes contents valid))
-        (scripts contents plan valid (plan-nodes contents plan is))
+        (scripts contents (setting_of plan contents.homes) valid
+        (record { nodes = plan-nodes contents plan is; starts = refl }))
         (omega (arith, below, plan-nodes contents plan is))
 
 -- where each subscriber is after its script tells who is at each node

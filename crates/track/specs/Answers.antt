@@ -16,8 +16,8 @@ use Rattle.region_plan.specs.Plan.{PlanData, nodes_of}
 use Rattle.region_plan.specs.Settings.{setting_of}
 use Rattle.stretch_laws.specs.Plans.{bound_of}
 use Rattle.stretch_laws.specs.Lines.{IsLineWithin}
-use Rattle.machine.specs.Machines.{TellInTurn, TellRisingNumbers}
-use Rattle.machine.specs.Scripts.{scripts_of}
+use Rattle.trail_laws.specs.Lines.{TellInTurn, TellRisingNumbers}
+use Rattle.scripts.specs.Scripts.{scripts_of}
 use Rattle.region_plan.specs.Regions.{IsPlanOf}
 use Rattle.census_text.specs.CensusText.{census_text_of}
 use Rattle.report_text.specs.PlanText.{plan_text_of}

@@ -4,7 +4,7 @@
 use Rattle.std.specs.Prelude.{◌≡◌, ℕ, ◌<◌, if◌then◌else◌, List, length, Option, Some, None, slice_index, slice_index_or}
 use Rattle.directory.specs.Orders.{steps_of}
 use Rattle.trail_laws.specs.Censuses.{Place, place_at_end}
-use Rattle.machine.specs.Scripts.{scripts_of}
+use Rattle.scripts.specs.Scripts.{scripts_of}
 use Rattle.net_reader.specs.Input.{Contents}
 
 -- the node of a place, if the subscriber is on

@@ -15,12 +15,13 @@ ghost use Rattle.track.specs.Answers.{IsPlanText, IsReport, IsResult, IsText, is
 
 use crate::census::census;
 use crate::status::Status;
-use directory::all_scripts_done;
+use directory::{Outcome, all_scripts_done};
 use distances::Distances;
-use machine::{Machine, Outcome, scripts_are_valid};
+use machine::Machine;
 use net_graph::Graph;
 use net_reader::{Input, InputFault, ReadRefusal, Reader, inputs_are_valid};
 use region_plan::Plan;
+use scripts::scripts_are_valid;
 use std::alloc::{AllocError, Global};
 use stretch_laws::{plan_outcomes_are_near, plans_track};
 use trail_laws::outcomes_are_right;

@@ -2,15 +2,15 @@
 ghost use Rattle.std.specs.Prelude.{◌≡◌, IfOk, map};
 ghost use Rattle.net_reader.specs.Seen.{seen_input};
 ghost use Rattle.net_reader.specs.Valid.{IsValid};
-ghost use Rattle.machine.specs.Scripts.{step_of};
+ghost use Rattle.scripts.specs.Scripts.{step_of};
 ghost use Rattle.trail_laws.specs.Censuses.{place_at_end};
 ghost use Rattle.track.specs.Answers.{IsCensusText};
 ghost use Rattle.track.specs.Places.{AreLastPlaces, node_if_on};
 
 use census_text::census_of_places;
-use machine::scripts_are_valid;
 use net_reader::{Call, Input};
 use region_plan::networks_have_plans;
+use scripts::scripts_are_valid;
 use std::alloc::{AllocError, Global};
 use trail_laws::censuses_are_right;
 

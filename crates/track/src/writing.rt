@@ -9,7 +9,7 @@ use crate::answer::Body;
 use crate::outlet::Outlet;
 use crate::status::Status;
 use crate::transfer::write_all;
-use machine::Outcome;
+use directory::Outcome;
 use net_reader::InputFault;
 use outside::Sink;
 use region_plan::Plan;

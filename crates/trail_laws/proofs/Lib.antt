@@ -30,3 +30,4 @@ mod RightLines
 mod Listed
 mod Ending
 mod Rising
+mod InTurn

@@ -1,14 +1,15 @@
 -- What the lines of an outcome say of the history that they come from. A find that answers names
 -- the node where its subscriber stood at the find's last visit; a find that is to be made again had
--- a visit of a move of its subscriber within it. Key law: `outcomes_are_right` (so it is for every
--- order of valid scripts).
+-- a visit of a move of its subscriber within it. Key laws: `outcomes_are_right` (so it is for every
+-- order of valid scripts), `lines_are_in_turn` (a caller's lines come in the order of their last
+-- visits).
 use Rattle.std.specs.Prelude.{◌≡◌, ℕ, ◌≤◌, ◌^◌, true, false, All, List, Some, slice_get}
 use Rattle.directory.specs.Settings.{Setting}
 use Rattle.directory.specs.Histories.{History, through}
 use Rattle.directory.specs.Looks.{moves_at}
 use Rattle.directory.specs.Standing.{number, off, standing}
-use Rattle.directory.specs.Orders.{AreValid, Scripts, history_of}
-use Rattle.directory.specs.Outcomes.{outcome_of}
+use Rattle.directory.specs.Orders.{AreValid, IsPlayed, Scripts, history_of}
+use Rattle.directory.specs.Outcomes.{outcome_in, outcome_of}
 use Rattle.directory.specs.declared.answers.Done.{Done}
 use Rattle.directory.specs.declared.answers.Done.TheVariants.{Moved, Switched, Found as FoundBy, Off as OffBy, Again as AgainBy}
 use Rattle.trail_laws.specs.Answers.{ReadsTop}
@@ -44,13 +45,39 @@ TellsNumber (OffBy actor from sub node n level weight first last) s q ticket =
     (sub ≡ s) × (n ≡ q) × (last ≡ ticket)
 TellsNumber (AgainBy actor from sub why weight first last) s q ticket = ⊥
 
--- of two lines that tell a number of a subscriber, the later one tells no lower number
--- (`outcomes_are_right`)
+-- of two lines that tell a number of a subscriber, whoever looked for it, the one with the later
+-- last visit tells no lower number
+abbrev pub TellRisingNumbers : List Done → Type 0
+TellRisingNumbers calls =
+    (i j : ℕ) (one other : Done) → slice_get calls i ≡ Some one → slice_get calls j ≡ Some other
+    → (sub p q earlier later : ℕ) → TellsNumber one sub p earlier
+    → TellsNumber other sub q later → earlier ≤ later → p ≤ q
+
+-- so they do under every order of valid scripts (`outcomes_are_right`)
 abbrev pub NumbersRise : Type 0
 NumbersRise =
     (setting : Setting) (scripts : Scripts) (order : List ℕ) → setting.nodes ≤ 2 ^ 16
-    → AreValid setting scripts → (i j : ℕ) (one other : Done)
-    → slice_get (outcome_of setting scripts order).calls i ≡ Some one
-    → slice_get (outcome_of setting scripts order).calls j ≡ Some other
-    → (sub p q earlier later : ℕ) → TellsNumber one sub p earlier
-    → TellsNumber other sub q later → earlier ≤ later → p ≤ q
+    → AreValid setting scripts → TellRisingNumbers (outcome_of setting scripts order).calls
+
+-- the actor of a line
+abbrev pub line_actor : Done → ℕ
+line_actor (Moved actor n from to weight first commit last) = actor
+line_actor (Switched actor is_off node n ticket) = actor
+line_actor (FoundBy actor from sub node n level weight first last) = actor
+line_actor (OffBy actor from sub node n level weight first last) = actor
+line_actor (AgainBy actor from sub why weight first last) = actor
+
+-- of two lines of an actor that tell numbers, the one that comes later has no earlier last visit,
+-- so that along one actor's finds of a subscriber the numbers never fall
+abbrev pub TellInTurn : List Done → Type 0
+TellInTurn calls =
+    (i j : ℕ) (one other : Done) → i ≤ j → slice_get calls i ≡ Some one
+    → slice_get calls j ≡ Some other → line_actor one ≡ line_actor other
+    → (sub s p q earlier later : ℕ) → TellsNumber one sub p earlier → TellsNumber other s q later
+    → earlier ≤ later
+
+-- so they do in the outcome of every history of scripts (`lines_are_in_turn`)
+abbrev pub LinesAreInTurn : Type 0
+LinesAreInTurn =
+    (setting : Setting) (scripts : Scripts) (history : History) → IsPlayed setting scripts history
+    → TellInTurn (outcome_in setting scripts history).calls

@@ -1,8 +1,11 @@
-//! The law of outcomes.
-ghost use Rattle.trail_laws.specs.Lines.{NumbersRise, OutcomesAreRight};
+//! The laws of outcomes.
+ghost use Rattle.trail_laws.specs.Lines.{LinesAreInTurn, NumbersRise, OutcomesAreRight};
 
 use crate::answers::{again_has_its_cause, answers_are_right, numbers_never_fall};
-use directory::{all_scripts_done, each_visit_is_next, every_order_is_legal, lines_are_made};
+use directory::{
+    all_scripts_done, each_visit_is_next, every_order_is_legal, lines_are_made, lines_grow,
+    tickets_tell,
+};
 
 /// Under every order, each line of a find is right: an answer names the node where its subscriber
 /// stood at the find's last visit, and a find that is to be made again had a visit of a move of its
@@ -18,4 +21,14 @@ pub fn outcomes_are_right()
     all_scripts_done();
     every_order_is_legal();
     lines_are_made();
+}
+
+/// In every history of scripts the lines of an actor's finds come in the order of their last
+/// visits, so that along its finds of a subscriber the numbers never fall.
+pub fn lines_are_in_turn()
+    ensures { LinesAreInTurn }
+{
+    lines_are_made();
+    lines_grow();
+    tickets_tell();
 }

@@ -4,7 +4,7 @@ use Rattle.machine.specs.declared.subscriber.Subscriber.{Subscriber}
 use Rattle.machine.specs.Subscribers.{IsSubscriber}
 use Rattle.machine.proofs.Beginning.{script-of}
 use Rattle.machine.proofs.Opening.{each-more, sub-opens}
-use Rattle.machine.proofs.ScriptLaws.{same-at}
+use Rattle.std.proofs.lemmas.List.{get_or_default}
 use Rattle.machine.proofs.machine.subscribers_of.Goals as goal
 
 pub loop-sub-preserved : goal.loop-sub-preserved
@@ -22,7 +22,7 @@ loop-sub-preserved c =
           (sub-opens (seen_input c.args.input.now) c.args.plan.now c.loop-sub.sub c.in_ok-new.field-0
           c.requires.together.valid low
           (c.in_ok-new.ensures.handset c.args.input.now.homes.items
-          (same-at c.args.input.now.homes.items c.loop-sub.sub 0 c.index-in-loop-sub.result.now low
+          (get_or_default c.args.input.now.homes.items c.loop-sub.sub 0 c.index-in-loop-sub.result.now low
           ∙ sym c.index-in-loop-sub.ensures))
           c.in_ok-new.ensures.goes c.in_ok-new.ensures.its c.in_ok-new.ensures.lines
           (omega (

@@ -1,6 +1,6 @@
 use Rattle.std.proofs.Common.{sym, ap, ◌∙◌}
 use Rattle.region_plan.specs.Settings.{setting_of}
-use Rattle.machine.specs.Scripts.{most_of}
+use Rattle.scripts.specs.Scripts.{most_of}
 use Rattle.machine.proofs.room.most_of.Goals as goal
 
 pub returns-in-Move : goal.returns-in-Move

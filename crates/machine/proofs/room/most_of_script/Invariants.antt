@@ -1,6 +1,6 @@
 use Rattle.std.proofs.Common.{◌≡◌, ℕ, List, take}
 use Rattle.region_plan.specs.Settings.{setting_of}
-use Rattle.machine.specs.Scripts.{most_in}
+use Rattle.scripts.specs.Scripts.{most_in}
 use Rattle.machine.proofs.room.most_of_script.Given as goal
 
 abbrev pub invariant-loop-call : goal.invariant-loop-call

@@ -2,7 +2,7 @@ use Rattle.std.proofs.Common.{ap, ◌∙◌, arith, map, Vec, Global, suc, take,
 use Rattle.std.proofs.lemmas.List.{take_all}
 use Rattle.net_reader.specs.declared.said.Call.{Call}
 use Rattle.region_plan.specs.Settings.{setting_of}
-use Rattle.machine.specs.Scripts.{most_in, most_visits}
+use Rattle.scripts.specs.Scripts.{most_in, most_visits}
 use Rattle.machine.proofs.Sums.{added, visits-more}
 use Rattle.machine.proofs.room.most_visits.Goals as goal
 

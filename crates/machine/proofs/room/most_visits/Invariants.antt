@@ -1,6 +1,6 @@
 use Rattle.std.proofs.Common.{◌≡◌, ℕ, List, take, map}
 use Rattle.region_plan.specs.Settings.{setting_of}
-use Rattle.machine.specs.Scripts.{most_visits}
+use Rattle.scripts.specs.Scripts.{most_visits}
 use Rattle.machine.proofs.room.most_visits.Given as goal
 
 abbrev pub invariant-loop-script : goal.invariant-loop-script

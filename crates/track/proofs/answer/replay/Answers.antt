@@ -2,7 +2,7 @@ use Rattle.std.proofs.Common.{◌≡◌, ap, subst, ◌∙◌}
 use Rattle.directory.specs.Orders.{history_of}
 use Rattle.directory.specs.Outcomes.{Outcome, outcome_of}
 use Rattle.directory.specs.Outcomes.{result_of}
-use Rattle.machine.specs.Machines.{scripts_at, setting_at, HasHistory, TellInTurn}
+use Rattle.machine.specs.Machines.{scripts_at, setting_at, HasHistory}
 use Rattle.net_reader.specs.Seen.{seen_input}
 use Rattle.report_text.specs.ReportText.{report_of}
 use Rattle.track.specs.Answers.{outcome_under}

@@ -1,5 +1,5 @@
 use Rattle.std.proofs.Common.{◌≡◌, map, take}
-use Rattle.machine.specs.Scripts.{step_of}
+use Rattle.scripts.specs.Scripts.{step_of}
 use Rattle.trail_laws.specs.Censuses.{place_at_end}
 use Rattle.track.proofs.census.last_place.Given as goal
 

@@ -2,7 +2,7 @@ use Rattle.std.proofs.Common.{◌≡◌, ◌<◌, ◌∙◌, [], ◌∷◌, ◌+
 use Rattle.std.specs.Prelude.{Some, if◌then◌else◌}
 use Rattle.std.proofs.lemmas.List.{length_push}
 use Rattle.directory.specs.Orders.{finds_of}
-use Rattle.machine.specs.Scripts.{scripts_of}
+use Rattle.scripts.specs.Scripts.{scripts_of}
 use Rattle.machine.specs.Stands.{setting_over}
 use Rattle.machine.proofs.Looking.{ok-of}
 use Rattle.directory.specs.Outcomes.{found_line}
@@ -11,17 +11,17 @@ use Rattle.region_plan.specs.Plan.{nodes_of}
 use Rattle.walk.specs.Walks.{IsWordBelow}
 use Rattle.machine.specs.Stands.{IsWalking}
 use Rattle.directory.specs.Finds.{at_origin}
-use Rattle.machine.specs.Scripts.{find_of}
+use Rattle.scripts.specs.Scripts.{find_of}
 use Rattle.machine.proofs.Looking.{wanted, script-is, scripts-low, script-searches, place-low, call-at}
 use Rattle.machine.proofs.Looked.{looks, looked-on, looked-up}
-use Rattle.machine.proofs.ScriptLaws.{calls-few, finds-are}
+use Rattle.scripts.specs.ScriptLaws.{calls-few, finds-are}
 use Rattle.machine.proofs.caller.Caller.look.Goals as goal
 use Rattle.machine.proofs.caller.Caller.look.Goals.{After-len}
 
 pub look-requires-clause-cell : goal.look-requires-clause-cell
 look-requires-clause-cell c =
     (wanted c.marks_tell.ensures.marks c.entries_tell.ensures.entries c.every_order_is_legal.ensures
-    (seen_input c.args.input.now) c.args.plan.now c.args.distances.now c.args.cells.now c.requires.stands.0 c.args.actor
+    c.scripts_are_valid.ensures (seen_input c.args.input.now) c.args.plan.now c.args.distances.now c.args.cells.now c.requires.stands.0 c.args.actor
     c.args.self.now c.in-Some.walk c.in-Some-next.key c.requires.together c.requires.high
     (scripts-low c.args.input.now.scripts.items c.args.actor c.requires.low) c.requires.stands.1
     c.requires.stands.3 c.in-Some.is (sym c.next.ensures ∙ c.in-Some-next.is)).is_cell
@@ -31,7 +31,7 @@ saw-requires-clause-word c =
     subst (IsWordBelow (nodes_of c.args.plan.now) c.in-Some.walk.progress)
     (sym (c.look.ensures.history c.args.input.now.homes.items c.requires.stands.0 c.requires.stands.1.hold))
     (wanted c.marks_tell.ensures.marks c.entries_tell.ensures.entries c.every_order_is_legal.ensures
-    (seen_input c.args.input.now) c.args.plan.now c.args.distances.now c.args.cells.now c.requires.stands.0 c.args.actor
+    c.scripts_are_valid.ensures (seen_input c.args.input.now) c.args.plan.now c.args.distances.now c.args.cells.now c.requires.stands.0 c.args.actor
     c.args.self.now c.in-Some.walk c.in-Some-next.key c.requires.together c.requires.high
     (scripts-low c.args.input.now.scripts.items c.args.actor c.requires.low) c.requires.stands.1
     c.requires.stands.3 c.in-Some.is (sym c.next.ensures ∙ c.in-Some-next.is)).is_below
@@ -115,5 +115,6 @@ returns c = λ history sees place its.
     (omega (arith, c.push.ensures.capacity)) refl
     (subst (λ fs. IsWalking c.args.plan.now (drop c.len-2.result fs) at_origin c.walk_at-self.result)
     (ap (map find_of) script
-    ∙ sym (finds-are (seen_input c.args.input.now) c.args.plan.now c.args.actor c.requires.high low))
+    ∙ sym (finds-are (seen_input c.args.input.now) (setting_over (seen_input c.args.input.now) c.args.plan.now)
+    c.args.actor refl c.requires.high low))
     c.walk_at-self.ensures)

@@ -2,9 +2,8 @@ use Rattle.std.proofs.Common.{◌≡◌, ◌+◌, ◌-◌, [], arith, refl, leng
 use Rattle.directory.specs.Looks.{look_by}
 use Rattle.net_reader.specs.Seen.{seen_input}
 use Rattle.machine.specs.Machines.{scripts_at, setting_at}
-use Rattle.machine.proofs.Counting.{room-left}
 use Rattle.machine.proofs.Looking.{scripts-low}
-use Rattle.machine.proofs.Turning.{at-caller, caller-kept-machine, caller-turned, ticket-is}
+use Rattle.machine.proofs.Turning.{at-caller, room-left, caller-kept-machine, caller-turned, ticket-is}
 use Rattle.machine.proofs.machine.Machine.look.Goals as goal
 
 pub look-turn-requires-clause-stands : goal.look-turn-requires-clause-stands
@@ -32,13 +31,15 @@ log-requires c =
     let its = at-caller c.args.self.now history c.args.actor
     (c.args.actor - c.len.result) c.index_mut.result.now stands at low c.index_mut.ensures.value in
     let done = c.in-Visited.ensures history stands.sees tick its in
-    let left = room-left c.own_after.ensures.visits c.turns_are_few.ensures.few c.moves_are_short.ensures
-    c.each_visit_is_next.ensures.more
-    (seen_input c.args.self.now.input.now) c.args.self.now.plan.now history c.args.actor
-    (look_by c.args.actor done.0) stands.together.valid
-    low (c.each_visit_is_next.ensures.part (setting_at c.args.self.now) (scripts_at c.args.self.now) [])
-    stands.sees.played stands.known done.1 in
-    record { room = omega (arith, left, stands.room, tick, c.len-ticket.ensures) }
+    record {
+      room = omega (
+        arith,
+        room-left c.visits_are_few.ensures c.each_visit_is_next.ensures.more c.args.self.now history c.args.actor
+            (look_by c.args.actor done.0) stands done.1,
+        tick,
+        c.len-ticket.ensures,
+      );
+    }
 
 pub returns-in-Finished-clause-turned : goal.returns-in-Finished-clause-turned
 returns-in-Finished-clause-turned c = λ history stands.

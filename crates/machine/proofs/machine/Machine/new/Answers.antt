@@ -1,12 +1,10 @@
 use Rattle.std.proofs.Common.{◌<◌, ℕ, List, [], get_or, sym, ap, subst, arith, refl, length, map, Vec, Global}
-use Rattle.std.proofs.lemmas.List.Elements.{All-nil}
-use Rattle.entry_word.specs.declared.visit.Visit.{Visit}
 use Rattle.net_reader.specs.declared.said.Call.{Call}
 use Rattle.net_reader.specs.Seen.{seen_input}
 use Rattle.net_reader.specs.Valid.{count_calls}
 use Rattle.visit_log.specs.Cells.{Hold}
 use Rattle.region_plan.specs.Plan.{nodes_of}
-use Rattle.machine.specs.Scripts.{most_visits, scripts_of}
+use Rattle.scripts.specs.Scripts.{most_visits, scripts_of}
 use Rattle.machine.specs.Stands.{BeginInside, setting_over}
 use Rattle.machine.proofs.Opening.{scripts-inside}
 use Rattle.machine.proofs.machine.Machine.new.Goals as goal
@@ -33,7 +31,6 @@ returns-clause-stands c = record {
         (λ hs. Hold c.args.plan.now hs c.in_ok-cells.cells []) c.deref.ensures.value c.in_ok-cells.ensures.opening;
   };
   order = c.in_ok-order.ensures.items;
-  known = All-nil (λ (v : Visit). v.actor < length (seen_input c.args.input.now).scripts);
   room = omega (
     arith,
     c.in_ok-most_visits.ensures c.args.input.now.homes.items,

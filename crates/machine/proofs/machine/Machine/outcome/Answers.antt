@@ -2,11 +2,10 @@ use Rattle.std.proofs.Common.{subst, sym, ◌≡◌, ◌++◌, [], ℕ, List, le
 use Rattle.std.specs.Prelude.{All, flat_map}
 use Rattle.directory.specs.declared.answers.Done.{Done}
 use Rattle.directory.specs.Outcomes.{Outcome, outcome_in}
-use Rattle.machine.specs.Machines.{TellInTurn, TellRisingNumbers, scripts_at, setting_at}
+use Rattle.machine.specs.Machines.{scripts_at, setting_at}
 use Rattle.machine.specs.declared.caller.Caller.{Caller}
 use Rattle.machine.specs.declared.subscriber.Subscriber.{Subscriber}
-use Rattle.trail_laws.specs.Lines.{IsRightLine}
-use Rattle.machine.proofs.InTurn.{outcome-in-turn}
+use Rattle.trail_laws.specs.Lines.{IsRightLine, TellInTurn, TellRisingNumbers}
 use Rattle.machine.proofs.RightOutcome.{right-outcome, rising-outcome}
 use Rattle.machine.proofs.Ending.{lines-all, room-for_both}
 use Rattle.machine.proofs.machine.Machine.outcome.Goals as goal
@@ -81,5 +80,4 @@ returns-clause-numbers c history is done =
 pub returns-clause-in_turn : goal.returns-clause-in_turn
 returns-clause-in_turn c history is done =
     subst TellInTurn (sym (ap (λ (o : Outcome). o.calls) (returns-clause-result c history is done)))
-    (outcome-in-turn c.lines_are_made.ensures.follow c.lines_grow.ensures.count c.tickets_tell.ensures.ascend
-    (setting_at c.args.self) (scripts_at c.args.self) history is.sees.played)
+    (c.lines_are_in_turn.ensures (setting_at c.args.self) (scripts_at c.args.self) history is.sees.played)

@@ -5,7 +5,7 @@ use Rattle.directory.specs.Writes.{visits}
 use Rattle.net_reader.specs.Seen.{seen_input}
 use Rattle.machine.specs.Stands.{setting_over}
 use Rattle.machine.specs.Subscribers.{begun_steps}
-use Rattle.machine.specs.Scripts.{step_of}
+use Rattle.scripts.specs.Scripts.{step_of}
 use Rattle.machine.proofs.Looking.{ok-of}
 use Rattle.machine.proofs.Rests.{all-written, written-first}
 use Rattle.machine.proofs.Beginning.{its-visit, never-none, on-err, on-some, ready, script-of}
@@ -29,7 +29,7 @@ returns-then-place-script c = λ history sees place its. (
 
 pub offset_bounds-script-place : goal.offset_bounds-script-place
 offset_bounds-script-place c =
-    let at = ready c.args.input.now c.args.plan.now c.args.distances.now c.requires.stands.0 c.args.sub c.args.self.now
+    let at = ready c.scripts_are_valid.ensures c.args.input.now c.args.plan.now c.args.distances.now c.requires.stands.0 c.args.sub c.args.self.now
     c.index.result.now
     c.as_slice-script.result.now c.len-place.result
     (Rattle.net_reader.specs.declared.said.Call.TheVariants.Move 0) c.requires.together c.requires.low
@@ -40,7 +40,7 @@ offset_bounds-script-place c =
 
 pub bounds-script-place : goal.bounds-script-place
 bounds-script-place c =
-    let at = ready c.args.input.now c.args.plan.now c.args.distances.now c.requires.stands.0 c.args.sub c.args.self.now
+    let at = ready c.scripts_are_valid.ensures c.args.input.now c.args.plan.now c.args.distances.now c.requires.stands.0 c.args.sub c.args.self.now
     c.index.result.now
     c.as_slice-script.result.now c.len-place.result
     (Rattle.net_reader.specs.declared.said.Call.TheVariants.Move 0) c.requires.together c.requires.low
@@ -51,7 +51,7 @@ bounds-script-place c =
 
 pub begin_step-line-requires-clause-may : goal.begin_step-line-requires-clause-may
 begin_step-line-requires-clause-may c =
-    let at = ready c.args.input.now c.args.plan.now c.args.distances.now c.requires.stands.0 c.args.sub c.args.self.now
+    let at = ready c.scripts_are_valid.ensures c.args.input.now c.args.plan.now c.args.distances.now c.requires.stands.0 c.args.sub c.args.self.now
     c.index.result.now
     c.as_slice-script.result.now c.len-place.result
     (Rattle.net_reader.specs.declared.said.Call.TheVariants.Move 0) c.requires.together c.requires.low
@@ -62,7 +62,7 @@ begin_step-line-requires-clause-may c =
 
 pub unreachable-requires : goal.unreachable-requires
 unreachable-requires c =
-    let at = ready c.args.input.now c.args.plan.now c.args.distances.now c.requires.stands.0 c.args.sub c.args.self.now
+    let at = ready c.scripts_are_valid.ensures c.args.input.now c.args.plan.now c.args.distances.now c.requires.stands.0 c.args.sub c.args.self.now
     c.index.result.now
     c.as_slice-script.result.now c.len-place.result
     (Rattle.net_reader.specs.declared.said.Call.TheVariants.Move 0) c.requires.together c.requires.low
@@ -74,7 +74,7 @@ unreachable-requires c =
 
 pub unreachable-requires-then-is_none : goal.unreachable-requires-then-is_none
 unreachable-requires-then-is_none c =
-    let at = ready c.args.input.now c.args.plan.now c.args.distances.now c.requires.stands.0 c.args.sub c.args.self.now
+    let at = ready c.scripts_are_valid.ensures c.args.input.now c.args.plan.now c.args.distances.now c.requires.stands.0 c.args.sub c.args.self.now
     c.index.result.now
     c.as_slice-script.result.now c.len-place.result
     (Rattle.net_reader.specs.declared.said.Call.TheVariants.Move 0) c.requires.together c.requires.low
@@ -92,7 +92,7 @@ unreachable-requires-then-is_none c =
 
 pub returns : goal.returns
 returns c = λ history sees place its.
-    let at = ready c.args.input.now c.args.plan.now c.args.distances.now history c.args.sub c.args.self.now
+    let at = ready c.scripts_are_valid.ensures c.args.input.now c.args.plan.now c.args.distances.now history c.args.sub c.args.self.now
     c.index.result.now
     c.as_slice-script.result.now c.len-place.result
     (Rattle.net_reader.specs.declared.said.Call.TheVariants.Move 0) c.requires.together c.requires.low its

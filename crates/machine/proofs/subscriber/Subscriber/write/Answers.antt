@@ -17,12 +17,12 @@ returns c = λ history sees place its.
     let here = ap (λ s. slice_get (visits (setting_over (seen_input c.args.input.now) c.args.plan.now) s
     (begun_steps (seen_input c.args.input.now) c.args.sub c.args.self.now)) (length (own c.args.sub history)))
     (sym its.its) ∙ at in
-    let way = under-way c.mark_words.ensures.unpacked c.tickets_tell.ensures.visits
+    let way = under-way c.mark_words.ensures.unpacked c.tickets_tell.ensures.visits c.scripts_are_valid.ensures
     (seen_input c.args.input.now) c.args.plan.now
     c.args.distances.now history c.args.sub c.args.self.now c.in-Some.visit c.requires.together c.requires.low its
     here in
     written-on c.mark_words.ensures.unpacked c.own_after.ensures.visits c.own_after.ensures.tickets
-    c.tickets_tell.ensures.visits
+    c.tickets_tell.ensures.visits c.scripts_are_valid.ensures
     (seen_input c.args.input.now) c.args.plan.now c.args.distances.now c.make.new.cells history c.args.sub c.args.ticket
     (c.len-last.result - 1)
     c.args.self.now _ c.in-Some.visit c.line_after.result c.index.result.now c.requires.together c.requires.low place

@@ -13,8 +13,7 @@ use Rattle.directory.specs.Writes.{numbers_from, step_writes}
 use Rattle.directory.specs.declared.answers.Done.{Done}
 use Rattle.directory.specs.declared.answers.Found.{Found}
 use Rattle.directory.specs.declared.answers.Found.TheVariants.{At, Off as OffAt, Again}
-use Rattle.trail_laws.specs.Lines.{TellsNumber}
-use Rattle.machine.specs.Machines.{TellInTurn, line_actor}
+use Rattle.trail_laws.specs.Lines.{LinesAreInTurn, TellsNumber, line_actor}
 use Rattle.node_set.specs.SetLaws.{below_each}
 
 -- where an element of joined lists lies
@@ -232,8 +231,7 @@ subs-untold setting scripts history (sub ∷ some) i line s q ticket at told = e
     ]
 
 -- so all lines are in turn
-pub outcome-in-turn : FindsFollow → CallersCount → TicketsAscend → (setting : Setting) (scripts : Scripts)
-    (history : History) → IsPlayed setting scripts history → TellInTurn (outcome_in setting scripts history).calls
+pub outcome-in-turn : FindsFollow → CallersCount → TicketsAscend → LinesAreInTurn
 outcome-in-turn follow count ascend setting scripts history played i j one other le at_one at_other same
     sub s p q earlier later told_one told_other =
     at_parts (append-at steps finds i one at_one) (append-at steps finds j other at_other)

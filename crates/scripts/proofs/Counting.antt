@@ -1,6 +1,6 @@
 -- No history has more visits than the scripts have at most.
 use Rattle.std.proofs.Common.{◌≡◌, ◌⊎◌, inl, inr, ℕ, zero, suc, ◌+◌, ◌<◌, ◌≤◌, ◌==◌, Bool, true, false, cond, List, [], ◌∷◌, ◌++◌, length, map, take, get_or, refl, sym, ap, ◌∙◌, subst, arith, length-append}
-use Rattle.std.specs.Prelude.{All, Some, slice_get, sum_by}
+use Rattle.std.specs.Prelude.{All, None, Some, slice_get, sum_by}
 use Rattle.std.proofs.lemmas.Bool.{eqb-true, eq-eqb, ne_eqb, lt-ltb, le-ltb}
 use Rattle.std.proofs.lemmas.Bool.Decides.{nat_tests}
 use Rattle.std.proofs.lemmas.List.{append-nil, length_push, length-map}
@@ -13,16 +13,16 @@ use Rattle.directory.specs.Finds.{FindCall, most_looks}
 use Rattle.directory.specs.Histories.{History, own}
 use Rattle.directory.specs.Orders.{IsPlayed, Scripts, most_turns, next}
 use Rattle.directory.specs.Statements.{TurnsAreFew, OwnGrow, MovesAreShort, MoreIsPlayed}
+use Rattle.directory.specs.HistoryLaws.{none-played}
 use Rattle.directory.specs.StepLaws.{by_fronts}
 use Rattle.directory.specs.Writes.{step_writes, visit_of, writes}
 use Rattle.net_reader.specs.declared.said.Call.{Call}
 use Rattle.net_reader.specs.declared.said.Call.TheVariants as calls
 use Rattle.net_reader.specs.Input.{Contents}
 use Rattle.net_reader.specs.Valid.{IsSearch, IsValid}
-use Rattle.region_plan.specs.Plan.{PlanData}
-use Rattle.machine.specs.Scripts.{find_of, most_in, most_of, most_visits, scripts_of, step_of}
-use Rattle.machine.specs.Stands.{setting_over}
-use Rattle.machine.proofs.ScriptLaws.{finds-are, searches-of, steps-are}
+use Rattle.scripts.specs.Scripts.{IsSettingOf, find_of, most_in, most_of, most_visits, scripts_of, step_of}
+use Rattle.scripts.specs.Laws.{VisitsAreFew}
+use Rattle.scripts.specs.ScriptLaws.{finds-are, steps-are, stranger-done}
 
 -- sums over so many numbers from one on
 total : (ℕ → ℕ) → ℕ → ℕ → ℕ
@@ -77,23 +77,6 @@ unfolding total
 total-most f g k zero top h low = omega arith
 total-most f g k (suc n) top h low =
     omega (arith, h k (omega (arith, low)), total-most f g (suc k) n top h (omega (arith, low)))
-
-total-less : (f g : ℕ → ℕ) (x k n : ℕ) → ((a : ℕ) → f a ≤ g a) → f x < g x → k ≤ x → x < k + n
-    → total f k n < total g k n
-unfolding total
-total-less f g x k zero h one low high = absurd (omega arith)
-total-less f g x k (suc n) h one low high =
-    at_test (x == k) refl (λ later. total-less f g x (suc k) n h one later (omega (arith, high)))
-  where
-    at_test : (b : Bool) → (x == k) ≡ b → (suc k ≤ x → total f (suc k) n < total g (suc k) n)
-        → f k + total f (suc k) n < g k + total g (suc k) n
-    at_test true e rest =
-        let same : x ≡ k = eqb-true x k e in
-        let here : f k < g k = subst (λ y. f y < g y) same one in
-        omega (arith, here, total-most f g (suc k) n (suc k + n) (λ a l. h a) (omega arith))
-    at_test false e rest =
-        let later : suc k ≤ x = grind (arith, nat_tests, e, low) in
-        omega (arith, h k, rest later)
 
 total-list : {A : Type 0} (f : A → ℕ) (d : A) (xs : List A) (g : ℕ → ℕ) (k : ℕ)
     → ((i : ℕ) → i < length xs → g (k + i) ≡ f (get_or xs i d)) → total g k (length xs) ≡ sum_by f xs
@@ -194,60 +177,71 @@ finds-most setting n subs (call ∷ script) all =
     at_call calls.Off its = absurd its
     at_call calls.On its = absurd its
 
-turns-most :
-    MovesAreShort
-    → (input : Contents) (plan : PlanData) (actor : ℕ) → IsValid input → actor < length input.scripts
-    → most_turns (setting_over input plan) (scripts_of input) actor
-    ≤ most_in (setting_over input plan) (get_or input.scripts actor [])
-turns-most short input plan actor valid low =
-    elim (cases actor (length input.homes)) as (λ _. most_turns (setting_over input plan) (scripts_of input) actor
-    ≤ most_in (setting_over input plan) (get_or input.scripts actor [])) [
-      | inl sub ↦ rw (lt-ltb actor (length input.homes) sub)
+turns-most : MovesAreShort → (input : Contents) (setting : Setting) (actor : ℕ) → IsValid input
+    → IsSettingOf input setting → actor < length input.scripts
+    → most_turns setting (scripts_of input) actor ≤ most_in setting (get_or input.scripts actor [])
+turns-most short input setting actor valid over low =
+    elim (cases actor (subs setting)) as (λ _. most_turns setting (scripts_of input) actor
+    ≤ most_in setting (get_or input.scripts actor [])) [
+      | inl sub ↦ rw (lt-ltb actor (subs setting) sub)
           (omega (
             arith,
-            steps-most short (setting_over input plan) (course_at (start (setting_over input plan) actor))
-                (get_or input.scripts actor []),
-            length-map (writes (setting_over input plan) (course_at (start (setting_over input plan) actor))
+            steps-most short setting (course_at (start setting actor)) (get_or input.scripts actor []),
+            length-map (writes setting (course_at (start setting actor))
                 (map step_of (get_or input.scripts actor []))) (visit_of actor),
-            ap (λ ss. length
-                (map (visit_of actor)
-                (writes (setting_over input plan) (course_at (start (setting_over input plan) actor)) ss)))
-                (steps-are input actor valid sub),
+            ap (λ ss. length (map (visit_of actor) (writes setting (course_at (start setting actor)) ss)))
+                (steps-are input actor valid (omega (arith, sub, count))),
           ))
-      | inr high ↦ rw (le-ltb actor (length input.homes) high)
+      | inr high ↦ rw (le-ltb actor (subs setting) high)
           (omega (
             arith,
-            finds-most (setting_over input plan) input.nodes (length input.homes) (get_or input.scripts actor [])
-                (searches-of input actor valid high low),
-            ap (λ fs. sum_by (λ (call : FindCall). most_looks (setting_over input plan) call.from) fs)
-                (finds-are input plan actor high low),
+            finds-most setting input.nodes (length input.homes) (get_or input.scripts actor [])
+                (valid.searches actor (omega (arith, high, count)) low),
+            ap (λ fs. sum_by (λ (call : FindCall). most_looks setting call.from) fs)
+                (finds-are input setting actor over.starts (omega (arith, high, count)) low),
           ))
+    ]
+  where
+    count : subs setting ≡ length input.homes
+    count = ap length over.starts
+
+    cases : (a b : ℕ) → (a < b) ⊎ (b ≤ a)
+    cases a b = grind (arith, nat_tests)
+
+-- whoever made a visit is an actor of the input
+known : (input : Contents) (setting : Setting) (history : History) → IsValid input → IsSettingOf input setting
+    → IsPlayed setting (scripts_of input) history → All (λ (v : Visit). v.actor < length input.scripts) history
+known input setting history valid over played t d low =
+    let visit : Visit = get_or history t d in
+    elim (cases visit.actor (length input.scripts)) [
+      | inl h ↦ h
+      | inr high ↦
+          let wants : next setting (scripts_of input) (take t history) visit.actor ≡ Some visit =
+          played t visit (get-some history t d low) in
+          let none : next setting (scripts_of input) (take t history) visit.actor ≡ None =
+          stranger-done input setting (take t history) visit.actor valid over.starts high in cc
     ]
   where
     cases : (a b : ℕ) → (a < b) ⊎ (b ≤ a)
     cases a b = grind (arith, nat_tests)
 
-pub room-left : OwnGrow → TurnsAreFew
-    → MovesAreShort
-    → MoreIsPlayed
-    → (input : Contents) (plan : PlanData) (history : History) (actor : ℕ) (visit : Visit) → IsValid input
-    → actor < length input.scripts → IsPlayed (setting_over input plan) (scripts_of input) []
-    → IsPlayed (setting_over input plan) (scripts_of input) history
-    → All (λ (v : Visit). v.actor < length input.scripts) history
-    → next (setting_over input plan) (scripts_of input) history actor ≡ Some visit
-    → length history < most_visits (setting_over input plan) input.scripts
-room-left grow few short more input plan history actor visit valid low none played known wants =
-    let setting : Setting = setting_over input plan in
+    get-some : (xs : List Visit) (i : ℕ) (e : Visit) → i < length xs → slice_get xs i ≡ Some (get_or xs i e)
+    get-some [] i e h = absurd (omega (arith, h))
+    get-some (x ∷ xs) zero e h = refl
+    get-some (x ∷ xs) (suc i) e h = get-some xs i e (omega (arith, h))
+
+pub visits-few : OwnGrow → TurnsAreFew → MovesAreShort → MoreIsPlayed → VisitsAreFew
+visits-few grow few short more input setting history valid over played =
     let scripts : Scripts = scripts_of input in
     omega (
       arith,
-      own-counts history (length input.scripts) known,
-      total-less (λ a. length (own a history)) (most_turns setting scripts) actor 0 (length input.scripts)
-          (λ a. own-most grow few more setting scripts history a none played)
-          (few setting scripts history actor visit played wants) (omega arith) (omega (arith, low)),
+      own-counts history (length input.scripts) (known input setting history valid over played),
+      total-most (λ a. length (own a history)) (most_turns setting scripts) 0 (length input.scripts)
+          (length input.scripts)
+          (λ a l. own-most grow few more setting scripts history a (none-played setting scripts) played) (omega arith),
       total-most (most_turns setting scripts) (λ a. most_in setting (get_or input.scripts a [])) 0
           (length input.scripts) (length input.scripts)
-          (λ a l. turns-most short input plan a valid l) (omega arith),
+          (λ a l. turns-most short input setting a valid over l) (omega arith),
       total-list (most_in setting) [] input.scripts (λ a. most_in setting (get_or input.scripts a [])) 0
           (λ i l. ap (λ a. most_in setting (get_or input.scripts a [])) (omega arith)),
     )

@@ -1,7 +1,9 @@
 -- The scripts of an input, as the directory reads them: the calls of a subscriber are steps, and
--- those of a caller are finds. A valid input has no other calls.
--- Key law: `scripts_are_valid` (the scripts of a valid input are valid).
-use Rattle.std.specs.Prelude.{ℕ, List, map, take, drop, length, sum_by}
+-- those of a caller are finds. A valid input has no other calls. And how many visits they have at
+-- most.
+-- Key laws: `scripts_are_valid` (the scripts of a valid input are valid), `visits_are_few` (no
+-- history of them has a visit more than `most_visits` says).
+use Rattle.std.specs.Prelude.{◌≡◌, ℕ, List, map, take, drop, length, sum_by}
 use Rattle.directory.specs.Settings.{Setting}
 use Rattle.directory.specs.Courses.{Step, move_to, switch_off, switch_on}
 use Rattle.directory.specs.Writes.{most_writes}
@@ -32,6 +34,11 @@ scripts_of input =
       steps = map (map step_of) (take (length input.homes) input.scripts);
       finds = map (map find_of) (drop (length input.homes) input.scripts);
     }
+
+-- a setting has the nodes of an input, and its subscribers
+pub record IsSettingOf (input : Contents) (setting : Setting) : Type 0 where
+  pub nodes : setting.nodes ≡ input.nodes
+  pub starts : setting.starts ≡ input.homes
 
 -- no call has a visit more than these
 abbrev pub most_of : Setting → Call → ℕ

@@ -1,0 +1,2 @@
+mod Validity
+mod Counting
