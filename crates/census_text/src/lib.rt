@@ -4,6 +4,3 @@
 mod lines;
 
 pub use lines::{census, census_of_places};
-
-#[cfg(test)]
-mod tests;

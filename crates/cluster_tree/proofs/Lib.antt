@@ -2,4 +2,3 @@ mod Places
 mod Gathering
 mod Growing
 mod Joining
-mod Unwrapping

@@ -14,6 +14,3 @@ pub use coarsening::{coarsen, coarsen_by_rows};
 pub use cover::{Cluster, Cover};
 pub use laws::{cluster_shape, home_means};
 pub use workspace::Workspace;
-
-#[cfg(test)]
-mod tests;

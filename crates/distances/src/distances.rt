@@ -1,6 +1,6 @@
 //! The table of all distances.
 
-ghost use Rattle.std.specs.Prelude.{◌≡◌, ◌+◌, ◌*◌, ◌<◌, ◌≤◌, ◌^◌, ◌++◌, ℕ, All, Contains, IfOk, OnOk, length, map};
+ghost use Rattle.std.specs.Prelude.{◌≡◌, ◌+◌, ◌*◌, ◌<◌, ◌^◌, ◌++◌, ℕ, All, Contains, IfOk, OnOk, length, map};
 ghost use Rattle.distances.specs.Table.{AreDistancesOf, IsDiameter, IsMetric, IsRowOf, ball_of, dist};
 
 use crate::elimination::{degrees_of, first_table, leave_out_all, take_back_all};
@@ -113,93 +113,5 @@ impl Distances {
             }
         }
         Ok(ball)
-    }
-}
-
-#[cfg(test)]
-mod tests {
-    use super::*;
-    use net_graph::{Edge, MAX_NODES, MAX_WEIGHT};
-    use std::test::Fail;
-
-    // The distances on a line of `n` nodes, joined by edges of this weight.
-    fn line_of(alloc: Global, n: u32, weight: u64) -> Result<Distances, Fail>
-        requires some { 1 ≤ n }
-        requires few { n ≤ MAX_NODES }
-        requires positive { 1 ≤ weight }
-        requires light { weight ≤ MAX_WEIGHT }
-        ensures { IfOk result (λ distances. distances.nodes ≡ n) }
-    {
-        let mut edges = Vec::new(alloc);
-        for b in 1..n {
-            edges.push(Edge {
-                a: b - 1,
-                b,
-                weight,
-            })?;
-        }
-        let graph = Graph::new(alloc, n, &edges)?;
-        Ok(Distances::new(alloc, &graph)?)
-    }
-
-    #[test]
-    fn distances_on_a_line(rt: HostRuntime) -> Result<(), Fail> {
-        let distances = line_of(rt.alloc(), 4, 1)?;
-        assert_eq!(rt; distances.nodes(), 4);
-        assert_eq!(rt; distances.between(0, 3), 3);
-        assert_eq!(rt; distances.between(2, 1), 1);
-        assert_eq!(rt; distances.row(2), [2, 1, 0, 1].as_slice());
-        assert_eq!(rt; distances.diameter(), 3);
-        let ball = distances.ball(rt.alloc(), 1, 1)?;
-        assert_eq!(rt; ball.room(), 4);
-        assert_eq!(rt; ball.count(), 3);
-        assert!(rt; ball.room() == 4 && ball.has(0) && ball.has(1) && ball.has(2) && !ball.has(3));
-        let copy = distances.copy()?;
-        assert_eq!(rt; copy.nodes(), 4);
-        assert_eq!(rt; copy.between(0, 3), 3);
-        assert_eq!(rt; copy.diameter(), 3);
-        Ok(())
-    }
-
-    // Every node is a neighbour of every other one, so whole rows are lowered, sixteen weights at
-    // once and one by one.
-    #[test]
-    fn distances_where_all_are_neighbours(rt: HostRuntime) -> Result<(), Fail> {
-        let mut edges = Vec::new(rt.alloc());
-        for b in 1..37 {
-            for a in 0..b {
-                edges.push(Edge {
-                    a,
-                    b,
-                    weight: if a + 1 == b { 1 } else { 10 },
-                })?;
-            }
-        }
-        let graph = Graph::new(rt.alloc(), 37, &edges)?;
-        let distances = Distances::new(rt.alloc(), &graph)?;
-        assert_eq!(rt; distances.nodes(), 37);
-        assert!(rt; distances.nodes() == 37 && distances.between(3, 9) == 6);
-        assert!(rt; distances.nodes() == 37 && distances.between(36, 0) == 10);
-        assert_eq!(rt; distances.diameter(), 10);
-        Ok(())
-    }
-
-    #[test]
-    fn the_greatest_distance_that_there_is(rt: HostRuntime) -> Result<(), Fail> {
-        let distances = line_of(rt.alloc(), MAX_NODES, MAX_WEIGHT)?;
-        assert_eq!(rt; distances.nodes(), 1024);
-        assert_eq!(rt; distances.between(1023, 1), 1_071_644_672);
-        assert_eq!(rt; distances.diameter(), 1_072_693_248);
-        Ok(())
-    }
-
-    #[test]
-    fn a_ball_on_a_line(rt: HostRuntime) -> Result<(), Fail> {
-        let distances = line_of(rt.alloc(), 130, 5)?;
-        let ball = distances.ball(rt.alloc(), 128, 10)?;
-        assert_eq!(rt; ball.room(), 130);
-        assert_eq!(rt; ball.count(), 4);
-        assert!(rt; ball.room() == 130 && ball.has(126) && ball.has(129) && !ball.has(125));
-        Ok(())
     }
 }

@@ -3,8 +3,6 @@
 #![tactic(auto)]
 
 mod chains;
-#[cfg(test)]
-mod comparison;
 mod edge;
 mod fault;
 mod graph;

@@ -10,16 +10,3 @@ pub fn greatest_weight(weights: &[u32]) -> u32
 {
     weights.iter().copied().max().unwrap_or(0)
 }
-
-#[cfg(test)]
-mod tests {
-    use super::*;
-    use std::test::Fail;
-
-    #[test]
-    fn the_greatest_of_three(rt: HostRuntime) -> Result<(), Fail> {
-        assert_eq!(rt; greatest_weight(&[2, 5, 3]), 5);
-        assert_eq!(rt; greatest_weight(&[]), 0);
-        Ok(())
-    }
-}

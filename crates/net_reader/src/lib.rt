@@ -20,6 +20,3 @@ pub use input::Input;
 pub use laws::{inputs_are_valid, text_says_one};
 pub use reader::{MAX_BYTES, Reader, read_input};
 pub use said::Call;
-
-#[cfg(test)]
-mod tests;

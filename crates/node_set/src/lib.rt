@@ -10,6 +10,3 @@ mod set;
 
 pub use lanes::{lanes_absorb, lanes_meet};
 pub use set::{NodeSet, OutOfMemory};
-
-#[cfg(test)]
-mod tests;

@@ -11,8 +11,6 @@ mod memory_source;
 mod sink;
 mod source;
 mod standard;
-#[cfg(test)]
-mod tests;
 
 pub use memory_sink::MemorySink;
 pub use memory_source::MemorySource;

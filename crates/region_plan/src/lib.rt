@@ -18,6 +18,3 @@ pub use laws::{
 };
 pub use net_graph::OutOfMemory;
 pub use plan::Plan;
-
-#[cfg(test)]
-mod tests;

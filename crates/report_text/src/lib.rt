@@ -12,8 +12,3 @@ pub use examples::{example_calls, example_lines};
 pub use plan::{PlanParts, plan_text};
 pub use refusal::refused_line;
 pub use report_lines::{Lines, report};
-
-#[cfg(test)]
-mod report_tests;
-#[cfg(test)]
-mod tests;

@@ -12,12 +12,3 @@ mod writing;
 
 pub use laws::{bytes_have_one_text, complete};
 pub use top::command;
-
-#[cfg(test)]
-mod device_tests;
-#[cfg(test)]
-mod grammar_tests;
-#[cfg(test)]
-mod runs;
-#[cfg(test)]
-mod tests;

@@ -11,6 +11,3 @@ pub use command::{Command, WordsFault};
 pub use examples::example_words;
 pub use load::Load;
 pub use words::read_words;
-
-#[cfg(test)]
-mod tests;

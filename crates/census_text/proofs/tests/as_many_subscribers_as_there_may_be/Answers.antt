@@ -1,9 +1,0 @@
-use Rattle.std.proofs.Common.{◌<◌, arith}
-use Rattle.std.proofs.lemmas.List.Elements.{All-replicate}
-use Rattle.region_plan.specs.Plan.{nodes_of}
-use Rattle.census_text.proofs.tests.as_many_subscribers_as_there_may_be.Goals as goal
-
--- src/tests.rt:67:17
-pub new-requires-clause-inside : goal.new-requires-clause-inside
-new-requires-clause-inside g c =
-    All-replicate (λ home. home < nodes_of c.in_ok-plan.plan) 64 1 (omega (arith, c.in_ok-plan.ensures.nodes))

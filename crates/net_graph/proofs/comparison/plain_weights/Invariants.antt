@@ -1,8 +1,0 @@
-use Rattle.std.specs.Prelude.{◌≡◌, length}
-use Rattle.net_graph.proofs.comparison.plain_weights.Given as goal
-
-abbrev pub invariant-loop : goal.invariant-loop
-invariant-loop l = length l.weights.items ≡ l.n
-
-abbrev pub invariant-loop-edge : goal.invariant-loop-edge
-invariant-loop-edge l = length l.weights.items ≡ l.n

@@ -1,0 +1,375 @@
+//! Plans of paths: of the line 0 - 1 - 2 - 3 of unit weights, of one and two nodes, and past a word
+//! and up to the most nodes.
+ghost use Rattle.std.specs.Prelude.{◌≤◌};
+
+use distances::Distances;
+use net_graph::{MAX_NODES, MAX_WEIGHT};
+use region_plan::Plan;
+use std::alloc::{AllocError, Global};
+use std::process::Abort;
+use std::test::Fail;
+use test_networks::{path, same_numbers};
+
+// What is asked of a plan, and the numbers that answer it; no numbers, where it isn't there.
+#[derive(Clone, Copy)]
+enum Asked {
+    /// Nodes, k, levels, degree, stretch and the most writes.
+    Whole,
+    /// The exponent, the threshold, the phases and the clusters of a level.
+    Level(u32),
+    /// The homes of all nodes at a level.
+    Homes(u32),
+    /// The home of a node at a level.
+    Home(u32, u32),
+    /// The phase, the leader and the depth of a cluster.
+    Cluster(u32, u32),
+    /// The members of a cluster.
+    Members(u32, u32),
+    /// The weight of each member of a cluster.
+    Weights(u32, u32),
+    /// The readers of a node at a level.
+    Readers(u32, u32),
+    /// The weights inside these.
+    ReaderWeights(u32, u32),
+    /// The most looks from a node.
+    Looks(u32),
+}
+
+fn level_parts(plan: &Plan, i: u32) -> [u64; 4] {
+    if i >= plan.levels() {
+        return [0; 4];
+    }
+    [
+        u64::from(plan.exponent(i)),
+        plan.threshold(i),
+        u64::from(plan.phases(i)),
+        u64::from(plan.clusters(i)),
+    ]
+}
+
+fn cluster_parts(plan: &Plan, i: u32, c: u32) -> [u64; 3] {
+    if i >= plan.levels() || c >= plan.clusters(i) {
+        return [0; 3];
+    }
+    [
+        u64::from(plan.phase_of(i, c)),
+        u64::from(plan.leader(i, c)),
+        plan.depth(i, c),
+    ]
+}
+
+fn home_of(plan: &Plan, i: u32, v: u32) -> Option<u64> {
+    if i >= plan.levels() || v >= plan.nodes() {
+        return None;
+    }
+    Some(u64::from(plan.home(i, v)))
+}
+
+fn looks_from(plan: &Plan, v: u32) -> Option<u64> {
+    if v >= plan.nodes() {
+        return None;
+    }
+    Some(plan.most_looks(v))
+}
+
+fn wide(alloc: Global, numbers: &[u32]) -> Result<Vec<u64>, AllocError> {
+    let mut wide = Vec::with_capacity(alloc, numbers.len())?;
+    for number in numbers {
+        wide.push(u64::from(*number))?;
+    }
+    Ok(wide)
+}
+
+fn homes_of(alloc: Global, plan: &Plan, i: u32) -> Result<Vec<u64>, AllocError> {
+    let mut homes = Vec::new(alloc);
+    for v in 0..plan.nodes() {
+        homes.extend_from_slice(home_of(plan, i, v).as_slice())?;
+    }
+    Ok(homes)
+}
+
+fn members_of(alloc: Global, plan: &Plan, i: u32, c: u32) -> Result<Vec<u64>, AllocError> {
+    if i >= plan.levels() || c >= plan.clusters(i) {
+        return Ok(Vec::new(alloc));
+    }
+    wide(alloc, plan.members(i, c))
+}
+
+fn readers_of(alloc: Global, plan: &Plan, i: u32, v: u32) -> Result<Vec<u64>, AllocError> {
+    if i >= plan.levels() || v >= plan.nodes() {
+        return Ok(Vec::new(alloc));
+    }
+    wide(alloc, plan.readers(i, v))
+}
+
+fn weight_inside(plan: &Plan, i: u32, c: u32, v: u32) -> Option<u64> {
+    if i < plan.levels() && c < plan.clusters(i) && v < plan.nodes() && plan.member(i, c, v) {
+        return Some(plan.tree_weight(i, c, v));
+    }
+    None
+}
+
+fn weights_of(alloc: Global, plan: &Plan, i: u32, c: u32) -> Result<Vec<u64>, AllocError> {
+    let mut weights = Vec::new(alloc);
+    for v in 0..plan.nodes() {
+        weights.extend_from_slice(weight_inside(plan, i, c, v).as_slice())?;
+    }
+    Ok(weights)
+}
+
+fn reader_weight(plan: &Plan, i: u32, v: u32, place: u32) -> Option<u64> {
+    if i >= plan.levels() || v >= plan.nodes() {
+        return None;
+    }
+    if place as usize >= plan.readers(i, v).len() {
+        return None;
+    }
+    Some(plan.reader_weight(i, v, place))
+}
+
+fn reader_weights(alloc: Global, plan: &Plan, i: u32, v: u32) -> Result<Vec<u64>, AllocError> {
+    let mut weights = Vec::new(alloc);
+    for place in 0..plan.nodes() {
+        weights.extend_from_slice(reader_weight(plan, i, v, place).as_slice())?;
+    }
+    Ok(weights)
+}
+
+fn whole_parts(plan: &Plan) -> [u64; 6] {
+    [
+        u64::from(plan.nodes()),
+        u64::from(plan.k()),
+        u64::from(plan.levels()),
+        u64::from(plan.degree()),
+        plan.stretch(),
+        plan.most_writes(),
+    ]
+}
+
+fn answer(alloc: Global, plan: &Plan, asked: Asked) -> Result<Vec<u64>, AllocError> {
+    match asked {
+        Asked::Whole => Vec::from_slice(alloc, &whole_parts(plan)),
+        Asked::Level(i) => Vec::from_slice(alloc, &level_parts(plan, i)),
+        Asked::Homes(i) => homes_of(alloc, plan, i),
+        Asked::Home(i, v) => Vec::from_slice(alloc, home_of(plan, i, v).as_slice()),
+        Asked::Cluster(i, c) => Vec::from_slice(alloc, &cluster_parts(plan, i, c)),
+        Asked::Members(i, c) => members_of(alloc, plan, i, c),
+        Asked::Weights(i, c) => weights_of(alloc, plan, i, c),
+        Asked::Readers(i, v) => readers_of(alloc, plan, i, v),
+        Asked::ReaderWeights(i, v) => reader_weights(alloc, plan, i, v),
+        Asked::Looks(v) => Vec::from_slice(alloc, looks_from(plan, v).as_slice()),
+    }
+}
+
+// Each row is what is asked of the plan, and the answer that is wanted.
+fn ask(rt: &impl Abort, alloc: Global, plan: &Plan, rows: &[(Asked, &[u64])]) -> Result<(), Fail> {
+    for place in 0..rows.len() {
+        let (asked, wanted) = rows[place];
+        same_numbers(rt, place, &answer(alloc, plan, asked)?, wanted);
+    }
+    Ok(())
+}
+
+// How a plan is made: built with a trade-off, or flat.
+#[derive(Clone, Copy)]
+enum Made {
+    With(u32),
+    Flat,
+}
+
+fn plan_of(alloc: Global, n: u32, weight: u64, made: Made) -> Result<Plan, Fail>
+    requires some { 1 ≤ n }
+    requires few { n ≤ MAX_NODES }
+    requires positive { 1 ≤ weight }
+    requires light { weight ≤ MAX_WEIGHT }
+{
+    let (graph, distances) = path(alloc, n, weight)?;
+    match made {
+        Made::With(k) => {
+            if k < 1 || k > 8 {
+                return Err("the trade-off is from 1 to 8".into());
+            }
+            Ok(Plan::build(alloc, &graph, &distances, k)?)
+        }
+        Made::Flat => Ok(Plan::flat(alloc, &graph, &distances)?),
+    }
+}
+
+// Asks the plan of a path of `n` nodes, whose edges have this weight.
+fn ask_path(
+    rt: &impl Abort,
+    alloc: Global,
+    n: u32,
+    weight: u64,
+    made: Made,
+    rows: &[(Asked, &[u64])],
+) -> Result<(), Fail>
+    requires some { 1 ≤ n }
+    requires few { n ≤ MAX_NODES }
+    requires positive { 1 ≤ weight }
+    requires light { weight ≤ MAX_WEIGHT }
+{
+    ask(rt, alloc, &plan_of(alloc, n, weight, made)?, rows)
+}
+
+#[test]
+fn levels_of_a_line(rt: HostRuntime) -> Result<(), Fail> {
+    let rows: [(Asked, &[u64]); 7] = [
+        (Asked::Whole, &[4, 2, 3, 2, 144, 13]),
+        (Asked::Level(0), &[0, 1, 2, 2]),
+        (Asked::Homes(0), &[0, 0, 0, 1]),
+        (Asked::Level(1), &[1, 1, 1, 1]),
+        (Asked::Homes(1), &[0, 0, 0, 0]),
+        (Asked::Level(2), &[2, 2, 1, 1]),
+        (Asked::Homes(2), &[0, 0, 0, 0]),
+    ];
+    ask_path(&rt, rt.alloc(), 4, 1, Made::With(2), &rows)
+}
+
+#[test]
+fn clusters_of_a_line(rt: HostRuntime) -> Result<(), Fail> {
+    let rows: [(Asked, &[u64]); 11] = [
+        (Asked::Cluster(0, 0), &[0, 0, 3]),
+        (Asked::Members(0, 0), &[0, 1, 2, 3]),
+        (Asked::Weights(0, 0), &[0, 1, 2, 3]),
+        (Asked::Cluster(0, 1), &[1, 3, 1]),
+        (Asked::Members(0, 1), &[2, 3]),
+        (Asked::Weights(0, 1), &[1, 0]),
+        (Asked::Cluster(1, 0), &[0, 0, 3]),
+        (Asked::Weights(1, 0), &[0, 1, 2, 3]),
+        (Asked::Cluster(2, 0), &[0, 0, 3]),
+        (Asked::Members(2, 0), &[0, 1, 2, 3]),
+        (Asked::Weights(2, 0), &[0, 1, 2, 3]),
+    ];
+    ask_path(&rt, rt.alloc(), 4, 1, Made::With(2), &rows)
+}
+
+#[test]
+fn readers_on_a_line(rt: HostRuntime) -> Result<(), Fail> {
+    let rows: [(Asked, &[u64]); 7] = [
+        (Asked::Readers(0, 1), &[0]),
+        (Asked::Readers(0, 2), &[0, 1]),
+        (Asked::ReaderWeights(0, 2), &[2, 1]),
+        (Asked::Readers(0, 3), &[0, 1]),
+        (Asked::Readers(2, 2), &[0]),
+        (Asked::Looks(2), &[12]),
+        (Asked::Looks(0), &[11]),
+    ];
+    ask_path(&rt, rt.alloc(), 4, 1, Made::With(2), &rows)
+}
+
+#[test]
+fn plan_of_two_nodes(rt: HostRuntime) -> Result<(), Fail> {
+    let rows: [(Asked, &[u64]); 8] = [
+        (Asked::Whole, &[2, 1, 1, 2, 56, 7]),
+        (Asked::Level(0), &[0, 1, 2, 2]),
+        (Asked::Homes(0), &[0, 1]),
+        (Asked::Cluster(0, 0), &[0, 0, 1]),
+        (Asked::Weights(0, 0), &[0, 1]),
+        (Asked::Cluster(0, 1), &[1, 1, 1]),
+        (Asked::Weights(0, 1), &[1, 0]),
+        (Asked::Readers(0, 0), &[0, 1]),
+    ];
+    ask_path(&rt, rt.alloc(), 2, 1, Made::With(1), &rows)
+}
+
+#[test]
+fn plan_of_the_heaviest_edge(rt: HostRuntime) -> Result<(), Fail> {
+    let rows: [(Asked, &[u64]); 10] = [
+        (Asked::Whole, &[2, 8, 21, 1, 432, 47]),
+        (Asked::Level(0), &[0, 1, 1, 2]),
+        (Asked::Homes(0), &[0, 1]),
+        (Asked::Level(19), &[19, 262_144, 1, 2]),
+        (Asked::Homes(19), &[0, 1]),
+        (Asked::Cluster(19, 1), &[0, 1, 0]),
+        (Asked::Weights(19, 1), &[0]),
+        (Asked::Level(20), &[20, 524_288, 1, 1]),
+        (Asked::Homes(20), &[0, 0]),
+        (Asked::Weights(20, 0), &[0, 1_048_576]),
+    ];
+    ask_path(&rt, rt.alloc(), 2, MAX_WEIGHT, Made::With(8), &rows)
+}
+
+#[test]
+fn plan_of_one_node(rt: HostRuntime) -> Result<(), Fail> {
+    let rows: [(Asked, &[u64]); 5] = [
+        (Asked::Whole, &[1, 1, 1, 1, 40, 6]),
+        (Asked::Level(0), &[0, 1, 1, 1]),
+        (Asked::Homes(0), &[0]),
+        (Asked::Cluster(0, 0), &[0, 0, 0]),
+        (Asked::Weights(0, 0), &[0]),
+    ];
+    ask_path(&rt, rt.alloc(), 1, 1, Made::With(1), &rows)
+}
+
+#[test]
+fn flat_plan_of_a_line(rt: HostRuntime) -> Result<(), Fail> {
+    let rows: [(Asked, &[u64]); 7] = [
+        (Asked::Whole, &[4, 1, 1, 1, 40, 9]),
+        (Asked::Level(0), &[2, 1, 1, 1]),
+        (Asked::Homes(0), &[0, 0, 0, 0]),
+        (Asked::Cluster(0, 0), &[0, 0, 3]),
+        (Asked::Weights(0, 0), &[0, 1, 2, 3]),
+        (Asked::Readers(0, 3), &[0]),
+        (Asked::Looks(1), &[9]),
+    ];
+    ask_path(&rt, rt.alloc(), 4, 1, Made::Flat, &rows)
+}
+
+#[test]
+fn all_trade_offs_on_a_path(rt: HostRuntime) -> Result<(), Fail> {
+    // the trade-off, the degree, the stretch; the phases and the clusters of level 2
+    let rows = [
+        (1, 130, 2104, 9, 130),
+        (2, 9, 480, 9, 130),
+        (3, 5, 472, 3, 17),
+        (4, 3, 432, 3, 17),
+        (5, 3, 552, 3, 17),
+        (6, 2, 496, 2, 16),
+        (7, 2, 584, 2, 16),
+        (8, 2, 672, 2, 11),
+    ];
+    for (k, degree, stretch, phases, clusters) in rows {
+        let rows: [(Asked, &[u64]); 2] = [
+            (Asked::Whole, &[130, u64::from(k), 9, degree, stretch, 151]),
+            (Asked::Level(2), &[2, 2, phases, clusters]),
+        ];
+        ask_path(&rt, rt.alloc(), 130, 1, Made::With(k), &rows)?;
+    }
+    Ok(())
+}
+
+#[test]
+fn path_of_the_heaviest_edges(rt: HostRuntime) -> Result<(), Fail> {
+    let rows: [(Asked, &[u64]); 8] = [
+        (Asked::Whole, &[256, 2, 29, 9, 480, 317]),
+        (Asked::Level(19), &[19, 262_144, 1, 256]),
+        (Asked::Level(23), &[23, 4_194_304, 3, 17]),
+        (Asked::Home(19, 255), &[255]),
+        (Asked::Home(22, 255), &[115]),
+        (Asked::Level(28), &[28, 134_217_728, 1, 1]),
+        (Asked::Cluster(28, 0), &[0, 0, 267_386_880]),
+        (Asked::Level(29), &[0, 0, 0, 0]),
+    ];
+    ask_path(&rt, rt.alloc(), 256, MAX_WEIGHT, Made::With(2), &rows)
+}
+
+#[test]
+fn as_many_nodes_as_there_may_be(rt: HostRuntime) -> Result<(), Fail> {
+    let built: [(Asked, &[u64]); 1] = [(Asked::Whole, &[1024, 8, 11, 3, 912, 1049])];
+    ask_path(&rt, rt.alloc(), MAX_NODES, 1, Made::With(8), &built)?;
+    let flat: [(Asked, &[u64]); 2] = [
+        (Asked::Level(0), &[10, 1, 1, 1]),
+        (Asked::Cluster(0, 0), &[0, 0, 1023]),
+    ];
+    ask_path(&rt, rt.alloc(), MAX_NODES, 1, Made::Flat, &flat)
+}
+
+fn shares<T: Sync>() {}
+
+#[test]
+fn threads_may_share_them(_rt: HostRuntime) -> Result<(), Fail> {
+    shares::<Plan>();
+    shares::<Distances>();
+    Ok(())
+}

@@ -1,0 +1,11 @@
+//! Networks and plans for the crates of tests: the line 0 - 1 - 2 - 3 of unit weights, paths, and
+//! networks where all nodes are neighbours.
+#![tactic(auto)]
+
+mod networks;
+mod plans;
+mod same;
+
+pub use networks::{complete, edge, path, path_edges};
+pub use plans::{line_of_four, plan_of_most_nodes, plan_past_two_words};
+pub use same::{same_numbers, same_text};

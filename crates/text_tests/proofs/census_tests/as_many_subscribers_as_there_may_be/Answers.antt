@@ -1,0 +1,9 @@
+use Rattle.std.proofs.Common.{◌<◌, arith}
+use Rattle.std.proofs.lemmas.List.Elements.{All-replicate}
+use Rattle.region_plan.specs.Plan.{nodes_of}
+use Rattle.text_tests.proofs.census_tests.as_many_subscribers_as_there_may_be.Goals as goal
+
+pub new-requires-clause-inside : goal.new-requires-clause-inside
+new-requires-clause-inside g c =
+    All-replicate (λ home. home < nodes_of c.in_ok-line_of_four.field-0.0) 64 1
+    (omega (arith, c.in_ok-line_of_four.ensures.nodes))

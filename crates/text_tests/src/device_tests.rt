@@ -1,0 +1,178 @@
+//! Sources and sinks that fail at one call and would go on at the next: the first fault ends the
+//! work.
+use crate::runs::{FOUR, Lines, ROOM, Run, ends, text_of};
+use std::alloc::Global;
+use std::process::Abort;
+use std::test::Fail;
+
+const CALLS: Lines<'static> = Lines(FOUR, "", b"move 0 2\nfind 1 3 0\n", 1);
+
+const REPORT: &str = "move 0 1 3 2 weight 1 first 0 commit 3 last 5\n\
+        find 1 3 0 at 2 number 1 level 0 weight 5 first 6 last 8\norder 0 0 0 0 0 0 1 1 1\nend 9\n";
+
+const PLAN: &str = "plan nodes 4 k 2 levels 3 degree 2 stretch 144\n\
+        level 0 radius 1 clusters 2 phases 2\n\
+        cluster 0 phase 0 leader 0 depth 3 members 0 1 2 3\n\
+        cluster 1 phase 1 leader 3 depth 1 members 2 3\nhomes 0 0 0 1\n\
+        level 1 radius 2 clusters 1 phases 1\n\
+        cluster 0 phase 0 leader 0 depth 3 members 0 1 2 3\nhomes 0 0 0 0\n\
+        level 2 radius 4 clusters 1 phases 1\n\
+        cluster 0 phase 0 leader 0 depth 3 members 0 1 2 3\nhomes 0 0 0 0\nend\n";
+
+const CENSUS: &str = "node 2 count 1 subs 0\nend 1\n";
+
+// What each word writes for the line of four nodes with these calls.
+const TEXTS: [(&str, &str); 3] = [("replay", REPORT), ("cover", PLAN), ("census", CENSUS)];
+
+// A run over an input at so many bytes a call, some of whose calls fail.
+#[derive(Clone, Copy)]
+struct Broken<'a> {
+    word: &'a str,
+    most: usize,
+    reads: &'a [u64],
+    writes: &'a [u64],
+}
+
+fn breaks(
+    rt: &impl Abort,
+    alloc: Global,
+    place: usize,
+    broken: Broken<'_>,
+    input: &[u8],
+    status: u8,
+    text: &[u8],
+) -> Result<(), Fail> {
+    let run = Run {
+        words: &[broken.word],
+        input,
+        most: broken.most,
+        room: ROOM,
+        failing_reads: broken.reads,
+        failing_writes: broken.writes,
+    };
+    ends(rt, alloc, place, &run, status, text)
+}
+
+// Twelve reads of 8 bytes take the input, and one more tells its end.
+fn read_fails(
+    rt: &impl Abort,
+    alloc: Global,
+    word: &str,
+    text: &str,
+    input: &[u8],
+) -> Result<(), Fail> {
+    for call in 0..14u64 {
+        let (status, wanted) = if call < 13 { (4, "") } else { (0, text) };
+        let broken = Broken {
+            word,
+            most: 8,
+            reads: &[call],
+            writes: &[],
+        };
+        breaks(
+            rt,
+            alloc,
+            call as usize,
+            broken,
+            input,
+            status,
+            wanted.as_bytes(),
+        )?;
+    }
+    Ok(())
+}
+
+#[test]
+fn each_read_fails(rt: HostRuntime) -> Result<(), Fail> {
+    let input = text_of(rt.alloc(), CALLS)?;
+    for (word, text) in TEXTS {
+        read_fails(&rt, rt.alloc(), word, text, &input)?;
+    }
+    Ok(())
+}
+
+// Writes of 10 bytes: what was written before the one that fails stays.
+fn write_fails(
+    rt: &impl Abort,
+    alloc: Global,
+    word: &str,
+    text: &[u8],
+    input: &[u8],
+) -> Result<(), Fail> {
+    for call in 0..40u64 {
+        let written = text.len().min(10 * call as usize);
+        let status = if written < text.len() { 5 } else { 0 };
+        let broken = Broken {
+            word,
+            most: 10,
+            reads: &[],
+            writes: &[call],
+        };
+        breaks(
+            rt,
+            alloc,
+            call as usize,
+            broken,
+            input,
+            status,
+            &text[..written],
+        )?;
+    }
+    Ok(())
+}
+
+#[test]
+fn each_write_fails(rt: HostRuntime) -> Result<(), Fail> {
+    let input = text_of(rt.alloc(), CALLS)?;
+    for (word, text) in TEXTS {
+        write_fails(&rt, rt.alloc(), word, text.as_bytes(), &input)?;
+    }
+    Ok(())
+}
+
+// A row is which reads and which writes fail, at how many bytes a call, the status and the text.
+type Row<'a> = (&'a [u64], &'a [u64], usize, u8, &'a str);
+
+fn play(rt: &impl Abort, alloc: Global, lines: Lines<'_>, rows: &[Row<'_>]) -> Result<(), Fail> {
+    let input = text_of(alloc, lines)?;
+    for place in 0..rows.len() {
+        let (reads, writes, most, status, text) = rows[place];
+        let broken = Broken {
+            word: "replay",
+            most,
+            reads,
+            writes,
+        };
+        breaks(rt, alloc, place, broken, &input, status, text.as_bytes())?;
+    }
+    Ok(())
+}
+
+// The second read of 64 bytes, which has the end of the input, and the third write of 10.
+#[test]
+fn one_call_fails(rt: HostRuntime) -> Result<(), Fail> {
+    let rows: [Row<'_>; 2] = [
+        (&[1], &[], 64, 4, ""),
+        (&[], &[2], 10, 5, "move 0 1 3 2 weight "),
+    ];
+    play(&rt, rt.alloc(), CALLS, &rows)
+}
+
+// A fault of reading comes before the length, that before the faults of the input.
+#[test]
+fn a_long_input_and_a_fault(rt: HostRuntime) -> Result<(), Fail> {
+    let rows: [Row<'_>; 2] = [(&[0], &[0], 100_000, 4, ""), (&[], &[0], 100_000, 6, "")];
+    play(&rt, rt.alloc(), Lines("", "", b"#", 4_194_305), &rows)
+}
+
+// The faults of writing come last.
+#[test]
+fn a_refused_input_and_a_fault(rt: HostRuntime) -> Result<(), Fail> {
+    let rows: [Row<'_>; 4] = [
+        (&[0], &[0], 10, 4, ""),
+        (&[1], &[], 10, 4, ""),
+        (&[], &[0], 10, 5, ""),
+        (&[], &[1], 10, 5, "refused 1 "),
+    ];
+    play(&rt, rt.alloc(), Lines("track 3\n", "", b"", 0), &rows)
+}

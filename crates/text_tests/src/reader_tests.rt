@@ -1,0 +1,306 @@
+//! Texts that are read: every cause, both sides of each limit, and every way of cutting.
+ghost use Rattle.std.specs.Prelude.{◌≤◌, length};
+ghost use Rattle.net_reader.specs.Reading.{most_bytes};
+
+use crate::runs::{FOUR, Lines, text_of};
+use net_graph::{Arc, Graph};
+use net_reader::{Call, Input, InputCause, InputFault, MAX_BYTES, ReadRefusal, Reader, read_input};
+use std::alloc::{AllocError, Global};
+use std::process::Abort;
+use std::test::Fail;
+
+const SWITCHING: &str =
+    "track 2\nnodes 4\nk 2\nedge 0 1 1\nedge 1 2 1\nedge 2 3 1\nsub 3\ncallers 1\n";
+
+// How a text is refused, where it is.
+fn fault_of(alloc: Global, text: &[u8]) -> Result<Option<InputFault>, Fail> {
+    if text.len() > MAX_BYTES {
+        return Ok(None);
+    }
+    match read_input(alloc, text) {
+        Ok(_) => Ok(None),
+        Err(ReadRefusal::Fault(fault)) => Ok(Some(fault)),
+        Err(ReadRefusal::OutOfMemory) => Err(AllocError.into()),
+    }
+}
+
+// A text, another behind it, and the fault of both, where there is one: its line and its cause.
+type Row<'a> = (Lines<'a>, &'a str, Option<(u32, InputCause)>);
+
+// The fault of each text is to be this.
+fn play(rt: &impl Abort, alloc: Global, rows: &[Row<'_>]) -> Result<(), Fail> {
+    for place in 0..rows.len() {
+        let (lines, after, wanted) = rows[place];
+        let mut text = text_of(alloc, lines)?;
+        text.extend_from_slice(after.as_bytes())?;
+        is_refused(rt, place, fault_of(alloc, &text)?, wanted);
+    }
+    Ok(())
+}
+
+fn is_refused(
+    rt: &impl Abort,
+    place: usize,
+    fault: Option<InputFault>,
+    wanted: Option<(u32, InputCause)>,
+) {
+    let wanted = match wanted {
+        Some((line, cause)) => Some(InputFault { line, cause }),
+        None => None,
+    };
+    assert_eq!(rt; fault, wanted, "at {place}");
+}
+
+// The input of a text that is read in pieces of one length.
+fn read_in_pieces(alloc: Global, text: &[u8], most: usize) -> Result<Input, Fail>
+    requires { length text.now ≤ most_bytes }
+{
+    let mut reader = Reader::new(alloc)?;
+    let mut rest = text;
+    'pieces: while !rest.is_empty() && most > 0 {
+        let (piece, after) = rest.split_at(rest.len().min(most));
+        reader.feed(piece)?;
+        rest = after;
+    }
+    match reader.end(alloc) {
+        Ok(input) => Ok(input),
+        Err(_) => Err(AllocError.into()),
+    }
+}
+
+const SCRIPTS: &[u8] =
+    b"track 1\r\n# a comment\n\nnodes 2\nk 2\n  edge 0\t1 005 \nsub 1\ncallers 1\nmove 0 0\n\
+        find 1 0 0\nmove 0 1\norder 0 1\norder 1";
+
+// The input has these scripts of two actors, and the order 0 1 1.
+fn is_read(rt: &impl Abort, input: &Input) {
+    let measures = [input.format, input.nodes, input.k, input.callers];
+    assert!(rt; measures == [1, 2, 2, 1]);
+    assert!(rt; input.order.as_slice() == [0, 1, 1].as_slice());
+    let moves = [Call::Move { to: 0 }, Call::Move { to: 1 }];
+    let finds = [Call::Find { from: 0, sub: 0 }];
+    let scripts = input.scripts.iter().map(|script| script.as_slice());
+    assert!(rt; scripts.eq([moves.as_slice(), finds.as_slice()]));
+}
+
+#[test]
+fn two_scripts(rt: HostRuntime) -> Result<(), Fail> {
+    if SCRIPTS.len() > MAX_BYTES {
+        return Err("the text is short".into());
+    }
+    for most in [1, 7, 64, 1_000] {
+        is_read(&rt, &read_in_pieces(rt.alloc(), SCRIPTS, most)?);
+    }
+    Ok(())
+}
+
+// The graph of a text's network.
+fn graph_of(alloc: Global, text: &[u8]) -> Result<Graph, Fail> {
+    if text.len() > MAX_BYTES {
+        return Err("the text is short".into());
+    }
+    let mut reader = Reader::new(alloc)?;
+    reader.feed(text)?;
+    match reader.end_with_graph(alloc) {
+        Ok((_, graph)) => Ok(graph),
+        Err(_) => Err("the text is an input".into()),
+    }
+}
+
+#[test]
+fn graph_of_the_network(rt: HostRuntime) -> Result<(), Fail> {
+    let text = b"track 1\nnodes 3\nk 1\nedge 2 1 7\nedge 0 1 5\nedge 0 1 4\nsub 0\ncallers 0\n";
+    let graph = graph_of(rt.alloc(), text)?;
+    assert!(rt; graph.nodes() == 3);
+    let weights = graph.weights_from(rt.alloc(), &[true, true, true], 2)?;
+    assert!(rt; weights.as_slice() == [Some(11), Some(7), Some(0)].as_slice());
+    Ok(())
+}
+
+// Node 0 has an edge to each other node, of that one's number as its weight.
+fn star(alloc: Global) -> Result<String, Fail> {
+    let mut text = String::from_str(alloc, "track 2\nnodes 1024\nk 2\n")?;
+    for b in 1..1024 {
+        write!(text, "edge 0 {b} {b}\n")?;
+    }
+    text.push_str("sub 0\ncallers 0\n")?;
+    Ok(text)
+}
+
+#[test]
+fn graph_of_the_most_nodes(rt: HostRuntime) -> Result<(), Fail> {
+    let graph = graph_of(rt.alloc(), star(rt.alloc())?.as_bytes())?;
+    assert!(rt; graph.nodes() == 1024 && graph.arcs_of(0).len() == 1023);
+    let back = Arc {
+        target: 0,
+        weight: 1023,
+    };
+    assert!(rt; graph.nodes() == 1024 && graph.arcs_of(1023) == [back].as_slice());
+    Ok(())
+}
+
+// Each text is refused at this line.
+fn play_texts(
+    rt: &impl Abort,
+    alloc: Global,
+    texts: &[(&str, u32, InputCause)],
+) -> Result<(), Fail> {
+    for place in 0..texts.len() {
+        let (text, line, cause) = texts[place];
+        let fault = fault_of(alloc, text.as_bytes())?;
+        is_refused(rt, place, fault, Some((line, cause)));
+    }
+    Ok(())
+}
+
+#[test]
+fn refused_texts(rt: HostRuntime) -> Result<(), Fail> {
+    let texts = [
+        ("", 0, InputCause::Unfinished),
+        ("track 1\n\r", 2, InputCause::Unfinished),
+        ("track 3", 1, InputCause::Form),
+        ("track\x001\n", 1, InputCause::Form),
+        ("track 1\nnodes 2\nnodes 2\n", 3, InputCause::Form),
+        ("track 1\nnodes 0\n", 2, InputCause::Form),
+        ("track 1\nnodes 2\nk 2\ncallers 0\n", 4, InputCause::Form),
+        ("track 1\nnodes 256\nk 8\n", 3, InputCause::Unfinished),
+        ("track 1\nnodes 257\n", 2, InputCause::TooLarge),
+        ("track 2\nnodes 1024\nk 2\n", 3, InputCause::Unfinished),
+        ("track 2\nnodes 1025\n", 2, InputCause::TooLarge),
+        ("track 2\nnodes 256\nk 1\n", 3, InputCause::Unfinished),
+        ("track 2\nnodes 257\nk 1\n", 3, InputCause::TooLarge),
+        ("track 1\nnodes 2\nk 9\n", 3, InputCause::TooLarge),
+    ];
+    play_texts(&rt, rt.alloc(), &texts)
+}
+
+#[test]
+fn refused_edges_and_callers(rt: HostRuntime) -> Result<(), Fail> {
+    let two = "track 1\nnodes 2\nk 2\n";
+    let one = "track 1\nnodes 1\nk 1\nsub 0\n";
+    let apart = "track 1\nnodes 3\nk 2\nedge 0 1 1\nsub 0\ncallers 64\n# the end";
+    let rows: [Row<'_>; 5] = [
+        (
+            Lines(two, "edge 0 1 000000000001048576\n", b"", 0),
+            "",
+            Some((4, InputCause::Unfinished)),
+        ),
+        (
+            Lines(two, "edge 0 1 1048577\n", b"", 0),
+            "",
+            Some((4, InputCause::TooLarge)),
+        ),
+        (
+            Lines(two, "edge 0 1 0000000000000000001\n", b"", 0),
+            "",
+            Some((4, InputCause::Form)),
+        ),
+        (
+            Lines(one, "callers 65\n", b"", 0),
+            "",
+            Some((5, InputCause::TooLarge)),
+        ),
+        (
+            Lines(apart, "", b"", 0),
+            "",
+            Some((7, InputCause::Apart { node: 2 })),
+        ),
+    ];
+    play(&rt, rt.alloc(), &rows)
+}
+
+// Each line behind a text is refused at this line.
+fn play_calls(
+    rt: &impl Abort,
+    alloc: Global,
+    before: &str,
+    rows: &[(&str, u32, InputCause)],
+) -> Result<(), Fail> {
+    for place in 0..rows.len() {
+        let (lines, line, cause) = rows[place];
+        let row = (Lines(before, lines, b"", 0), "", Some((line, cause)));
+        play(rt, alloc, &[row])?;
+    }
+    Ok(())
+}
+
+#[test]
+fn refused_calls(rt: HostRuntime) -> Result<(), Fail> {
+    let rows = [
+        ("off 0\n", 9, InputCause::Form),
+        ("edge 9 9 1048577\n", 9, InputCause::Form),
+        ("move 1 2\n", 9, InputCause::Unknown),
+        ("find 0 2 0\n", 9, InputCause::Unknown),
+        ("find 1 4 0\n", 9, InputCause::Unknown),
+        ("order 2\n", 9, InputCause::Unknown),
+        ("move 0 3\n", 9, InputCause::Nowhere),
+        ("move 0 2\nmove 0 2\n", 10, InputCause::Nowhere),
+    ];
+    play_calls(&rt, rt.alloc(), FOUR, &rows)
+}
+
+#[test]
+fn refused_switches(rt: HostRuntime) -> Result<(), Fail> {
+    let rows = [
+        ("off 0\nmove 0 2\n", 10, InputCause::Switched),
+        ("on 0\n", 9, InputCause::Switched),
+        ("off 1\n", 9, InputCause::Unknown),
+        ("off 0\nmove 0 4\n", 10, InputCause::Unknown),
+    ];
+    play_calls(&rt, rt.alloc(), SWITCHING, &rows)
+}
+
+// What stands on one side of a limit is an input, and one line more is refused.
+#[test]
+fn limits_of_lines(rt: HostRuntime) -> Result<(), Fail> {
+    let one = "track 1\nnodes 1\nk 1\n";
+    let first = "track 1\nnodes 1\nk 1\nsub 0\ncallers 1\n";
+    let second = "track 2\nnodes 1\nk 1\nsub 0\ncallers 1\n";
+    let network: &[u8] = b"edge 0 0 1\n";
+    let find: &[u8] = b"find 1 0 0\n";
+    let many = InputCause::TooMany;
+    let rows: [Row<'_>; 8] = [
+        (Lines(one, "", b"sub 0\n", 64), "callers 64\n", None),
+        (
+            Lines(one, "", b"sub 0\n", 65),
+            "callers 64\n",
+            Some((68, many)),
+        ),
+        (Lines(one, "", network, 32_768), "sub 0\ncallers 0\n", None),
+        (
+            Lines(one, "", network, 32_769),
+            "sub 0\ncallers 0\n",
+            Some((32_772, many)),
+        ),
+        (Lines(first, "", find, 8_192), "", None),
+        (Lines(first, "", find, 8_193), "", Some((8_198, many))),
+        (Lines(second, "", find, 16_384), "", None),
+        (Lines(second, "", find, 16_385), "", Some((16_390, many))),
+    ];
+    play(&rt, rt.alloc(), &rows)
+}
+
+#[test]
+fn lines_of_any_length(rt: HostRuntime) -> Result<(), Fail> {
+    let order = "track 1\nnodes 1\nk 1\nsub 0\ncallers 0\norder";
+    let rows: [Row<'_>; 5] = [
+        (
+            Lines("#", "", b" word", 200_000),
+            "",
+            Some((1, InputCause::Unfinished)),
+        ),
+        (
+            Lines("t", "", b"rack", 200_000),
+            "",
+            Some((1, InputCause::Form)),
+        ),
+        (Lines(FOUR, "", b"# word\n", 100_000), "", None),
+        (Lines(order, "", b" 0", 64), "", None),
+        (
+            Lines(order, "", b" 0", 65),
+            "",
+            Some((6, InputCause::TooMany)),
+        ),
+    ];
+    play(&rt, rt.alloc(), &rows)
+}

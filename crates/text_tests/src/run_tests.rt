@@ -1,0 +1,144 @@
+//! Whole runs over sources and sinks in memory: worked inputs with their texts, and inputs and
+//! reports at the limits.
+use crate::runs::{FOUR, Lines, ROOM, Ran, Row, Run, ends, perform, play, text_of};
+use std::alloc::Global;
+use std::process::Abort;
+use std::test::Fail;
+use test_networks::{same_numbers, same_text};
+
+const TWO_AT_A_NODE: &str =
+    "track 1\nnodes 4\nk 2\nedge 0 1 1\nedge 1 2 1\nedge 2 3 1\nsub 3\nsub 3\ncallers 1\n";
+
+const TWO_NODES: &str = "track 1\nnodes 2\nk 1\nedge 0 1 1\nsub 0\ncallers 1\nfind 1 0 0\n";
+
+// Its plan has two clusters of both nodes.
+const TWO_PHASES: &str =
+    "plan nodes 2 k 1 levels 1 degree 2 stretch 56\nlevel 0 radius 1 clusters 2 phases 2\n\
+        cluster 0 phase 0 leader 0 depth 1 members 0 1\n\
+        cluster 1 phase 1 leader 1 depth 1 members 0 1\nhomes 0 1\nend\n";
+
+const ONE_NODE: &str = "track 2\r\nnodes 1\r\nk 1\r\n# one node\r\nsub 0\r\ncallers 0\r\noff 0";
+
+const ONE_CLUSTER: &str = "plan nodes 1 k 1 levels 1 degree 1 stretch 40\n\
+        level 0 radius 1 clusters 1 phases 1\n\
+        cluster 0 phase 0 leader 0 depth 0 members 0\nhomes 0\nend\n";
+
+const APART: &str = "track 1\nnodes 3\nk 2\nedge 0 1 1\nsub 0\ncallers 0\n";
+
+#[test]
+fn worked_plans(rt: HostRuntime) -> Result<(), Fail> {
+    let rows: [Row<'_>; 5] = [
+        (Lines(TWO_NODES, "", b"", 0), 0, TWO_PHASES),
+        (Lines(ONE_NODE, "", b"", 0), 0, ONE_CLUSTER),
+        (Lines("", "", b"", 0), 1, "refused 0 unfinished\n"),
+        (
+            Lines("track 1\n", "", b"nodes 2\n", 2),
+            1,
+            "refused 3 form\n",
+        ),
+        (Lines(APART, "", b"", 0), 1, "refused 6 apart 2\n"),
+    ];
+    play(&rt, rt.alloc(), &["cover"], &[1, 7, 64], &rows)
+}
+
+// An input may have 4,194,304 bytes and no more.
+#[test]
+fn longest_input(rt: HostRuntime) -> Result<(), Fail> {
+    let rows: [Row<'_>; 2] = [
+        (Lines("", "", b"#", 4_194_304), 1, "refused 1 unfinished\n"),
+        (Lines("", "", b"#", 4_194_305), 6, ""),
+    ];
+    play(&rt, rt.alloc(), &["cover"], &[100_000], &rows)
+}
+
+#[test]
+fn words_that_are_refused(rt: HostRuntime) -> Result<(), Fail> {
+    let forms: [&[&str]; 5] = [&[], &["cover", "x"], &["--help"], &["Cover"], &["run"]];
+    for place in 0..forms.len() {
+        let run = Run {
+            words: forms[place],
+            input: TWO_NODES.as_bytes(),
+            most: ROOM,
+            room: ROOM,
+            failing_reads: &[0],
+            failing_writes: &[0],
+        };
+        ends(&rt, rt.alloc(), place, &run, 2, b"")?;
+    }
+    Ok(())
+}
+
+// A move, and a find behind it.
+#[test]
+fn worked_report(rt: HostRuntime) -> Result<(), Fail> {
+    let rows: [Row<'_>; 1] = [(
+        Lines(FOUR, "", b"move 0 2\nfind 1 3 0\n", 1),
+        0,
+        "move 0 1 3 2 weight 1 first 0 commit 3 last 5\n\
+            find 1 3 0 at 2 number 1 level 0 weight 5 first 6 last 8\n\
+            order 0 0 0 0 0 0 1 1 1\nend 9\n",
+    )];
+    play(&rt, rt.alloc(), &["replay"], &[1, 7, 64], &rows)
+}
+
+// Who is where at the end: where a move led, and two subscribers at one node.
+#[test]
+fn worked_censuses(rt: HostRuntime) -> Result<(), Fail> {
+    let rows: [Row<'_>; 2] = [
+        (
+            Lines(FOUR, "", b"move 0 2\n", 1),
+            0,
+            "node 2 count 1 subs 0\nend 1\n",
+        ),
+        (
+            Lines(TWO_AT_A_NODE, "", b"", 0),
+            0,
+            "node 3 count 2 subs 0 1\nend 2\n",
+        ),
+    ];
+    play(&rt, rt.alloc(), &["census"], &[7], &rows)
+}
+
+// The report of so many finds at one node, into a sink of so much room.
+fn report_of_finds(alloc: Global, finds: u32, room: usize) -> Result<Ran, Fail> {
+    let before = "track 1\nnodes 1\nk 1\nsub 0\ncallers 1\n";
+    let input = text_of(alloc, Lines(before, "", b"find 1 0 0\n", finds))?;
+    let run = Run {
+        words: &["replay"],
+        input: &input,
+        most: 100_000,
+        room,
+        failing_reads: &[],
+        failing_writes: &[],
+    };
+    perform(alloc, &run)
+}
+
+// A run has this status, and its text these measures: its length, and how it ends.
+fn is_long(rt: &impl Abort, ran: &Ran, status: u8, length: u64, end: &[u8]) {
+    let found = [u64::from(ran.status), ran.written.len() as u64];
+    same_numbers(rt, 0, &found, &[u64::from(status), length]);
+    assert!(rt; ran.written.ends_with(end));
+}
+
+// As many calls as an input may have, whose report is longer than what waits for the sink, and one
+// call more. The report has 8,192 lines of finds, 128 of orders, and the end.
+#[test]
+fn longest_report(rt: HostRuntime) -> Result<(), Fail> {
+    let whole = report_of_finds(rt.alloc(), 8_192, 1_000_000)?;
+    is_long(&rt, &whole, 0, 531_037, b"end 8192\n");
+    let refused = report_of_finds(rt.alloc(), 8_193, ROOM)?;
+    same_text(&rt, 1, &refused.written, b"refused 8198 too-many\n");
+    same_numbers(&rt, 1, &[u64::from(refused.status)], &[1]);
+    Ok(())
+}
+
+// A sink that is full holds the beginning.
+#[test]
+fn report_that_is_cut(rt: HostRuntime) -> Result<(), Fail> {
+    let whole = report_of_finds(rt.alloc(), 8_192, 1_000_000)?;
+    let cut = report_of_finds(rt.alloc(), 8_192, 100_000)?;
+    is_long(&rt, &cut, 5, 100_000, b"");
+    assert!(rt; whole.written.starts_with(&cut.written));
+    Ok(())
+}

@@ -1,0 +1,145 @@
+//! How tests run the program: words and an input, over a source and a sink in memory.
+ghost use Rattle.std.specs.Prelude.{◌≤◌};
+
+use outside::{MemorySink, MemorySource};
+use std::alloc::Global;
+use std::process::Abort;
+use std::test::Fail;
+use test_networks::{same_numbers, same_text};
+use track::command;
+
+/// The line of four nodes.
+pub(crate) const FOUR: &str =
+    "track 1\nnodes 4\nk 2\nedge 0 1 1\nedge 1 2 1\nedge 2 3 1\nsub 3\ncallers 1\n";
+
+/// The room of a sink that is large enough.
+pub(crate) const ROOM: usize = 4096;
+
+/// What a run ended with, and what it wrote.
+#[derive(Drop)]
+pub(crate) struct Ran {
+    pub(crate) status: u8,
+    pub(crate) written: Vec<u8>,
+}
+
+/// How a run is made: its words, its input, how many bytes move in a call, the room of its sink,
+/// and which calls fail.
+#[derive(Clone, Copy)]
+pub(crate) struct Run<'a> {
+    pub(crate) words: &'a [&'a str],
+    pub(crate) input: &'a [u8],
+    pub(crate) most: usize,
+    pub(crate) room: usize,
+    pub(crate) failing_reads: &'a [u64],
+    pub(crate) failing_writes: &'a [u64],
+}
+
+fn words_of(alloc: Global, words: &[&str]) -> Result<Vec<String>, Fail> {
+    let mut list = Vec::new(alloc);
+    for word in words {
+        list.push(String::from_str(alloc, word)?)?;
+    }
+    Ok(list)
+}
+
+fn source_of(alloc: Global, run: &Run<'_>) -> Result<MemorySource, Fail> {
+    let input = Vec::from_slice(alloc, run.input)?;
+    let failing = Vec::from_slice(alloc, run.failing_reads)?;
+    Ok(MemorySource::new(input, run.most.max(1), failing))
+}
+
+fn sink_of(alloc: Global, run: &Run<'_>) -> Result<MemorySink, Fail> {
+    let failing = Vec::from_slice(alloc, run.failing_writes)?;
+    let written = Vec::with_capacity(alloc, run.room)?;
+    Ok(MemorySink::new(written, run.room, run.most.max(1), failing))
+}
+
+pub(crate) fn perform(alloc: Global, run: &Run<'_>) -> Result<Ran, Fail> {
+    let words = words_of(alloc, run.words)?;
+    let mut source = source_of(alloc, run)?;
+    let mut sink = sink_of(alloc, run)?;
+    let status = command(alloc, &words, &mut source, &mut sink);
+    Ok(Ran {
+        status,
+        written: sink.into_bytes(),
+    })
+}
+
+/// A run is to end with this status, and to write this text.
+pub(crate) fn ends(
+    rt: &impl Abort,
+    alloc: Global,
+    place: usize,
+    run: &Run<'_>,
+    status: u8,
+    text: &[u8],
+) -> Result<(), Fail> {
+    let ran = perform(alloc, run)?;
+    same_numbers(rt, place, &[u64::from(ran.status)], &[u64::from(status)]);
+    same_text(rt, place, &ran.written, text);
+    Ok(())
+}
+
+/// A text, a head, and a line so many times behind them.
+#[derive(Clone, Copy)]
+pub(crate) struct Lines<'a>(
+    pub(crate) &'a str,
+    pub(crate) &'a str,
+    pub(crate) &'a [u8],
+    pub(crate) u32,
+);
+
+pub(crate) fn text_of(alloc: Global, lines: Lines<'_>) -> Result<Vec<u8>, Fail> {
+    let Lines(before, head, line, times) = lines;
+    let mut text = Vec::from_slice(alloc, before.as_bytes())?;
+    text.extend_from_slice(head.as_bytes())?;
+    for _ in 0..times {
+        text.extend_from_slice(line)?;
+    }
+    Ok(text)
+}
+
+/// An input, and the status and the text that are wanted.
+pub(crate) type Row<'a> = (Lines<'a>, u8, &'a str);
+
+/// Each input is to be answered so by each of these words, however many bytes come in a call.
+pub(crate) fn play(
+    rt: &impl Abort,
+    alloc: Global,
+    words: &[&str],
+    mosts: &[usize],
+    rows: &[Row<'_>],
+) -> Result<(), Fail> {
+    for place in 0..rows.len() {
+        let (lines, status, text) = rows[place];
+        let input = text_of(alloc, lines)?;
+        for word in words {
+            play_word(rt, alloc, place, word, mosts, &input, status, text)?;
+        }
+    }
+    Ok(())
+}
+
+fn play_word(
+    rt: &impl Abort,
+    alloc: Global,
+    place: usize,
+    word: &str,
+    mosts: &[usize],
+    input: &[u8],
+    status: u8,
+    text: &str,
+) -> Result<(), Fail> {
+    for most in mosts {
+        let run = Run {
+            words: &[word],
+            input,
+            most: *most,
+            room: ROOM,
+            failing_reads: &[],
+            failing_writes: &[],
+        };
+        ends(rt, alloc, place, &run, status, text.as_bytes())?;
+    }
+    Ok(())
+}
