@@ -13,6 +13,3 @@ pub use laws::scripts_are_valid;
 pub use machine::{Machine, Outcome};
 pub use net_graph::OutOfMemory;
 pub use turn::Turn;
-
-#[cfg(test)]
-mod tests;
