@@ -1,7 +1,7 @@
 use Rattle.std.proofs.Common.{◌<◌, arith}
 use Rattle.std.proofs.lemmas.List.Elements.{All-replicate}
 use Rattle.region_plan.specs.Plan.{nodes_of}
-use Rattle.station.proofs.tests.open_all.Goals as goal
+use Rattle.tracker_tests.proofs.call_tests.open_last.Goals as goal
 
 pub new-requires-clause-inside : goal.new-requires-clause-inside
 new-requires-clause-inside c =

@@ -1,6 +1,6 @@
 use Rattle.std.proofs.Common.{◌+◌, ◌^◌, ◌≤◌, length, subst, sym, arith}
 use Rattle.directory.specs.Histories.{own}
-use Rattle.station.proofs.tests.has_reserved.Goals as goal
+use Rattle.tracker_tests.proofs.room_tests.has_reserved.Goals as goal
 
 pub reserve-requires : goal.reserve-requires
 reserve-requires c =
