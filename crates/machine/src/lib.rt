@@ -12,6 +12,3 @@ pub use directory::Outcome;
 pub use machine::Machine;
 pub use net_graph::OutOfMemory;
 pub use turn::Turn;
-
-#[cfg(test)]
-mod tests;

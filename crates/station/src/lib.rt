@@ -19,6 +19,3 @@ pub use pass::Pass;
 pub use tracker::Tracker;
 pub use turns::{Held, Stay};
 pub use visits::{CensusSeen, Looked};
-
-#[cfg(test)]
-mod tests;

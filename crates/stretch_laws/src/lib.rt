@@ -20,6 +20,3 @@ pub use examples::{line_costs, line_tracks};
 pub use laws::{quiet_finds_are_near, resting_finds_are_nearer};
 pub use outcomes::{outcomes_are_near, plan_outcomes_are_near};
 pub use plans::{plan_finds_are_near, plans_track};
-
-#[cfg(test)]
-mod tests;

@@ -9,6 +9,3 @@ mod whole_moves;
 pub use finds::{FindFault, FindRefusal, find, find_now};
 pub use moves::{StepFault, move_step};
 pub use whole_moves::{MoveToFault, Moved, move_to};
-
-#[cfg(test)]
-mod tests;

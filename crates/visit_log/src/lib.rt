@@ -7,6 +7,3 @@ mod numbers;
 pub use cells::PlainCells;
 pub use net_graph::OutOfMemory;
 pub use numbers::{cell_count, cell_number, cell_numbers, key_node};
-
-#[cfg(test)]
-mod tests;

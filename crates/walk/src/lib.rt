@@ -8,6 +8,3 @@ mod walk;
 
 pub use laws::empty_words;
 pub use walk::{Walk, WalkFault};
-
-#[cfg(test)]
-mod tests;

@@ -1,0 +1,5 @@
+use Rattle.handset.specs.Kept.{GoesWith}
+use Rattle.actor_tests.proofs.handset_tests.write_all.Given as goal
+
+abbrev pub invariant-writes : goal.invariant-writes
+invariant-writes l = GoesWith l.plan l.handset

@@ -1,0 +1,11 @@
+//! Tests of what the actors are made of: handsets, cells, walks and machines.
+#![tactic(auto)]
+
+#[cfg(test)]
+mod cell_tests;
+#[cfg(test)]
+mod handset_tests;
+#[cfg(test)]
+mod machine_tests;
+#[cfg(test)]
+mod walk_tests;

@@ -1,0 +1,313 @@
+//! Whole runs of a few actors: what becomes of their calls, and whose turns are idle.
+
+ghost use Rattle.std.specs.Prelude.{◌≡◌, ◌<◌, ℕ, [], IfOk, length};
+ghost use Rattle.directory.specs.Orders.{IsDone};
+ghost use Rattle.directory.specs.Histories.{History};
+ghost use Rattle.net_reader.specs.Seen.{seen_input};
+ghost use Rattle.net_reader.specs.Valid.{IsValid};
+ghost use Rattle.region_plan.specs.Cells.{IsCell};
+ghost use Rattle.region_plan.specs.Matched.{BoundsFinds};
+ghost use Rattle.region_plan.specs.Plan.{nodes_of};
+ghost use Rattle.machine.specs.Machines.{HasHistory, scripts_at, setting_at};
+
+use directory::{Done, Why, all_scripts_done};
+use distances::Distances;
+use entry_word::{Key, PresenceMark, pack_mark};
+use machine::{Machine, Outcome, Turn};
+use net_graph::Graph;
+use net_reader::{Input, MAX_BYTES, inputs_are_valid, read_input};
+use region_plan::Plan;
+use std::alloc::{AllocError, Global};
+use std::process::Abort;
+use std::test::Fail;
+
+// The line 0 - 1 - 2 - 3 of unit weights, with one subscriber at 3 and one caller, actor 1.
+const LINE: &str = "nodes 4\nk 2\nedge 0 1 1\nedge 1 2 1\nedge 2 3 1\nsub 3\ncallers 1\n";
+
+// Two nodes, three subscribers at 0, 1 and 1, and 64 callers, of which actor 66 is the last.
+const CROWD: &str = "nodes 2\nk 2\nedge 0 1 1\nsub 0\nsub 1\nsub 1\ncallers 64\n";
+
+// Two nodes, a subscriber without calls at node 1, and a caller with one.
+const PAIR: &str = "nodes 2\nk 2\nedge 0 1 1\nsub 1\ncallers 1\n";
+
+// The input of a text.
+fn input_of(alloc: Global, text: &[u8]) -> Result<Input, Fail>
+    ensures { IfOk result (λ input. IsValid (seen_input input)) }
+{
+    inputs_are_valid();
+    if text.len() > MAX_BYTES {
+        return Err(AllocError.into());
+    }
+    match read_input(alloc, text) {
+        Ok(input) => Ok(input),
+        Err(_) => Err(AllocError.into()),
+    }
+}
+
+// The plan of an input, and its distances.
+fn plan_of(alloc: Global, input: &Input) -> Result<(Plan, Distances), Fail>
+    requires { IsValid (seen_input input.now) }
+    ensures copy { IfOk result (λ pair. pair.0.distances ≡ pair.1) }
+    ensures bounding { IfOk result (λ pair. BoundsFinds pair.0) }
+    ensures nodes { IfOk result (λ pair. nodes_of pair.0 ≡ input.now.nodes) }
+{
+    let graph = match Graph::new(alloc, input.nodes, &input.edges) {
+        Ok(graph) => graph,
+        Err(_) => return Err(AllocError.into()),
+    };
+    let distances = Distances::new(alloc, &graph)?;
+    let plan = Plan::build(alloc, &graph, &distances, input.k)?;
+    Ok((plan, distances))
+}
+
+// The turns of an order, and the visits that are left.
+fn play(machine: &mut Machine<'_>, order: &[u32])
+    requires { HasHistory machine.old [] }
+    ensures { (history : History) × HasHistory machine.new history
+        × ((actor : ℕ) → IsDone (setting_at machine.new) (scripts_at machine.new) history actor) }
+{
+    all_scripts_done();
+    'order: for actor in order {
+        machine.turn(*actor);
+    }
+    machine.finish();
+}
+
+// What becomes of these calls, of this format, over a network with its actors.
+fn outcome_of(alloc: Global, format: &str, network: &str, calls: &str) -> Result<Outcome, Fail> {
+    let mut text = String::from_str(alloc, format)?;
+    text.push_str(network)?;
+    text.push_str(calls)?;
+    let input = input_of(alloc, text.as_bytes())?;
+    let (plan, distances) = plan_of(alloc, &input)?;
+    let mut machine = Machine::new(alloc, &input, &plan, &distances)?;
+    play(&mut machine, &input.order);
+    Ok(machine.outcome())
+}
+
+fn same(rt: &impl Abort, calls: &[Done], order: &[u32], wanted: &[Done], actors: &[u32]) {
+    assert_eq!(rt; calls, wanted, "what becomes of the calls");
+    assert_eq!(rt; order, actors, "the actors of the tickets");
+}
+
+// Plays calls over a network with its actors. What becomes of them, past the first `skipped`, and
+// the actors of all tickets are to be these.
+fn play_calls(
+    rt: &impl Abort,
+    alloc: Global,
+    format: &str,
+    network: &str,
+    calls: &str,
+    skipped: usize,
+    wanted: &[Done],
+    actors: &[u32],
+) -> Result<(), Fail> {
+    let outcome = outcome_of(alloc, format, network, calls)?;
+    if outcome.calls.len() < skipped {
+        return Err("there are that many calls".into());
+    }
+    same(
+        rt,
+        &outcome.calls[skipped..],
+        &outcome.order,
+        wanted,
+        actors,
+    );
+    Ok(())
+}
+
+#[test]
+fn a_move_and_a_find(rt: HostRuntime) -> Result<(), Fail> {
+    let wanted = [
+        Done::Moved {
+            actor: 0,
+            number: 1,
+            from: 3,
+            to: 2,
+            weight: 1,
+            first: 0,
+            commit: 3,
+            last: 5,
+        },
+        Done::Found {
+            actor: 1,
+            from: 3,
+            sub: 0,
+            node: 2,
+            number: 1,
+            level: Some(0),
+            weight: 5,
+            first: 6,
+            last: 8,
+        },
+    ];
+    let calls = "move 0 2\nfind 1 3 0\n";
+    let order = [0, 0, 0, 0, 0, 0, 1, 1, 1];
+    play_calls(
+        &rt,
+        rt.alloc(),
+        "track 1\n",
+        LINE,
+        calls,
+        0,
+        &wanted,
+        &order,
+    )
+}
+
+#[test]
+fn a_find_of_a_subscriber_that_is_off(rt: HostRuntime) -> Result<(), Fail> {
+    let wanted = [
+        Done::Switched {
+            actor: 0,
+            off: true,
+            node: 3,
+            number: 0,
+            ticket: 0,
+        },
+        Done::Off {
+            actor: 1,
+            from: 2,
+            sub: 0,
+            node: 3,
+            number: 0,
+            level: Some(0),
+            weight: 5,
+            first: 1,
+            last: 4,
+        },
+    ];
+    let calls = "off 0\nfind 1 2 0\n";
+    let order = [0, 1, 1, 1, 1];
+    play_calls(
+        &rt,
+        rt.alloc(),
+        "track 2\n",
+        LINE,
+        calls,
+        0,
+        &wanted,
+        &order,
+    )
+}
+
+// The find's third look meets a node that the second move has purged.
+#[test]
+fn a_find_that_meets_a_purge(rt: HostRuntime) -> Result<(), Fail> {
+    let wanted = [Done::Again {
+        actor: 1,
+        from: 3,
+        sub: 0,
+        why: Why::Empty { node: 2 },
+        weight: 5,
+        first: 6,
+        last: 16,
+    }];
+    let calls = "move 0 2\nmove 0 0\nfind 1 3 0\norder 0 0 0 0 0 0 1 1 0 0 0 0 0 0 0 0 1\n";
+    let order = [0, 0, 0, 0, 0, 0, 1, 1, 0, 0, 0, 0, 0, 0, 0, 0, 1];
+    play_calls(
+        &rt,
+        rt.alloc(),
+        "track 1\n",
+        LINE,
+        calls,
+        2,
+        &wanted,
+        &order,
+    )
+}
+
+#[test]
+fn a_crowd(rt: HostRuntime) -> Result<(), Fail> {
+    let wanted = [
+        Done::Moved {
+            actor: 1,
+            number: 1,
+            from: 1,
+            to: 0,
+            weight: 1,
+            first: 0,
+            commit: 2,
+            last: 4,
+        },
+        Done::Found {
+            actor: 66,
+            from: 0,
+            sub: 2,
+            node: 1,
+            number: 0,
+            level: Some(0),
+            weight: 1,
+            first: 5,
+            last: 7,
+        },
+    ];
+    let calls = "move 1 0\nfind 66 0 2\n";
+    let order = [1, 1, 1, 1, 1, 66, 66, 66];
+    play_calls(
+        &rt,
+        rt.alloc(),
+        "track 1\n",
+        CROWD,
+        calls,
+        0,
+        &wanted,
+        &order,
+    )
+}
+
+// What a cell of a machine holds.
+fn word_in(machine: &Machine<'_>, input: &Input, plan: &Plan, key: Key) -> u64
+    requires stands { (history : History) × HasHistory machine.now history }
+    requires input { machine.now.input.now ≡ input.now }
+    requires plan { machine.now.plan.now ≡ plan.now }
+    requires cell { IsCell plan.now (length input.now.homes.items) key }
+{
+    machine.cells().look(plan, key)
+}
+
+// An actor without calls, and one that isn't there.
+#[test]
+fn idle_turns(rt: HostRuntime) -> Result<(), Fail> {
+    let alloc = rt.alloc();
+    let text = "track 1\nnodes 2\nk 2\nedge 0 1 1\nsub 1\ncallers 1\nfind 1 0 0\n";
+    let input = input_of(alloc, text.as_bytes())?;
+    let (plan, distances) = plan_of(alloc, &input)?;
+    let mut machine = Machine::new(alloc, &input, &plan, &distances)?;
+    let turns = [machine.turn(0), machine.turn(1), machine.turn(2)];
+    if plan.nodes() != 2 || input.homes.len() != 1 {
+        return Err("two nodes and a subscriber are there".into());
+    }
+    let here = Key::Presence { node: 1, sub: 0 };
+    let word = word_in(&machine, &input, &plan, here);
+    let wanted = [Turn::Finished, Turn::Visited, Turn::Finished];
+    assert!(rt; turns == wanted && word == pack_mark(PresenceMark::Here { number: 0 }));
+    Ok(())
+}
+
+// They leave no ticket and no line.
+#[test]
+fn an_order_of_idle_turns(rt: HostRuntime) -> Result<(), Fail> {
+    let wanted = [Done::Found {
+        actor: 1,
+        from: 0,
+        sub: 0,
+        node: 1,
+        number: 0,
+        level: Some(0),
+        weight: 1,
+        first: 0,
+        last: 2,
+    }];
+    let calls = "find 1 0 0\norder 0 1 0 1 0 1 1 0\n";
+    play_calls(
+        &rt,
+        rt.alloc(),
+        "track 1\n",
+        PAIR,
+        calls,
+        0,
+        &wanted,
+        &[1, 1, 1],
+    )
+}

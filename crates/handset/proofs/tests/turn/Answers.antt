@@ -1,4 +1,0 @@
-use Rattle.handset.proofs.tests.turn.Goals as goal
-
-pub returns : goal.returns
-returns c = c.switch.ensures.goes c.args.plan.now c.requires

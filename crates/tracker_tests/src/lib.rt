@@ -1,0 +1,19 @@
+//! Tests of the shared tracker, of whole calls, and of the bound on their weights.
+#![tactic(auto)]
+
+#[cfg(test)]
+mod bound_tests;
+#[cfg(test)]
+mod call_tests;
+#[cfg(test)]
+mod parties;
+#[cfg(test)]
+mod room_tests;
+#[cfg(test)]
+mod scripts;
+#[cfg(test)]
+mod station_tests;
+#[cfg(test)]
+mod steps;
+#[cfg(test)]
+mod thread_tests;

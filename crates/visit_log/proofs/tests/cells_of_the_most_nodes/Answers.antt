@@ -1,8 +1,0 @@
-use Rattle.std.proofs.Common.{◌<◌, arith}
-use Rattle.std.proofs.lemmas.List.Elements.{All-replicate}
-use Rattle.region_plan.specs.Plan.{nodes_of}
-use Rattle.visit_log.proofs.tests.cells_of_the_most_nodes.Goals as goal
-
-pub new-requires-clause-inside : goal.new-requires-clause-inside
-new-requires-clause-inside g c =
-    All-replicate (λ home. home < nodes_of c.in_ok-plan.plan) 64 1023 (omega (arith, c.in_ok-plan.ensures.nodes))

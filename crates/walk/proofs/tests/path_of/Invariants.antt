@@ -1,6 +1,0 @@
-use Rattle.std.specs.Prelude.{All}
-use Rattle.net_graph.specs.Network.{IsEdge}
-use Rattle.walk.proofs.tests.path_of.Given as goal
-
-abbrev pub invariant-loop-b : goal.invariant-loop-b
-invariant-loop-b l = All (IsEdge l.n) l.edges.items
