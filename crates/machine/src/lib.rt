@@ -1,5 +1,21 @@
 //! The directory at work: the actors of an input, each with its script, and the visits that they
 //! make in any order.
+//!
+//! [`Machine::new`] takes an input, the plan of its network and the plan's distances, and all
+//! memory that the machine needs. [`Machine::turn`] gives one actor its turn, as often and in any
+//! order as the caller likes. [`Machine::finish`] makes all visits that are left, and then
+//! [`Machine::outcome`] tells what became of each call. The predicate `HasHistory` says for which
+//! history a machine stands: of no visits at first, and each call says what it is afterwards. A
+//! loop of turns says in its invariant that the machine stands for some history.
+//!
+//! ```text
+//! let mut machine = Machine::new(alloc, &input, &plan, &distances)?;
+//! for turn in 0..order.len() {
+//!     let _ = machine.turn(order[turn]);
+//! }
+//! machine.finish();
+//! let outcome = machine.outcome();
+//! ```
 #![tactic(auto)]
 
 mod caller;

@@ -1,4 +1,15 @@
 //! Plans: for each power of two a cover of a network, with a home and readers for each node.
+//!
+//! [`Plan::build`] makes the plan of a network and a trade-off `k`, from the graph and its
+//! distances; [`Plan::flat`] makes one of a single level. Nodes, levels and clusters are numbered
+//! from 0. Weights, distances, radii and thresholds have the unit of the network's edges; level `i`
+//! has the radius 2^exponent, and the exponent of a level of `build` is `i`. Accessors ask for
+//! numbers that there are.
+//!
+//! Callers above carry three predicates of `specs/Matched.antt`: `IsMatched` (both constructors
+//! give it), `IsWithinReach` (the same), and `BoundsFinds`, which has both and all that a bound on
+//! finds asks for (`build` gives it, by its clause `bounding`). That the plan's distances are those
+//! handed in is the clause `copy`.
 #![tactic(auto)]
 
 mod balls;

@@ -34,6 +34,12 @@ use std::marker::Model;
 /// A number that names a node is below `nodes`, one that names a level below `levels`, and one that
 /// names a cluster below the clusters of its level. All calls but `flat` and `build` take no
 /// memory.
+///
+/// ```text
+/// let graph = Graph::new(alloc, 4, &edges)?;
+/// let distances = Distances::new(alloc, &graph)?;
+/// let plan = Plan::build(alloc, &graph, &distances, 2)?;
+/// ```
 #[derive(Drop)]
 pub struct Plan {
     k: u32,

@@ -17,7 +17,13 @@ use entry_word::Act;
 use std::marker::Model;
 use trail_laws::front_of_history_is_legal;
 
-/// What a pass had seen when the note was taken.
+/// What a pass had seen when the note was taken, for another pass to hear, in another thread as
+/// well. A find of a pass that heard it tells no lower number than there was in what was noted.
+///
+/// ```text
+/// let note = tracker.note(&mut mover);     // in one thread
+/// tracker.hear(&mut caller, note);         // in another
+/// ```
 #[derive(Drop)]
 pub struct Note {
     seat: Seat<Act, View>,

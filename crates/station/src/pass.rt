@@ -12,7 +12,13 @@ use net_graph::OutOfMemory;
 use std::alloc::Global;
 use std::marker::Model;
 
-/// One actor's token. It can't be copied.
+/// One actor's token. It can't be copied, so that an actor makes one visit at a time, whichever
+/// thread has its pass. A thread gives the passes of its actors back when it is done, since `close`
+/// wants them all.
+///
+/// ```text
+/// pass.reserve(100 * plan.most_looks(from))?;     // room for a hundred finds from there
+/// ```
 #[derive(Drop)]
 pub struct Pass {
     pub(crate) seat: Seat<Act, View>,
@@ -88,7 +94,8 @@ impl Pass {
     }
 
     /// Sees to room for so many visits from here on; room that is there counts. Without memory the
-    /// pass is as before.
+    /// pass is as before. A find wants `Plan::most_looks` of its node, a move `Plan::most_writes`,
+    /// a switch and a census 1 each. A visit takes 8 bytes until the tracker is closed.
     pub fn reserve(&mut self, visits: u64) -> Result<(), OutOfMemory>
         requires few { length (own (actor_of self.old) self.old.view.seen) + visits ≤ 2 ^ 56 }
         ensures room { OnOk result (self.new

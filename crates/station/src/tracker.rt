@@ -19,7 +19,12 @@ use std::alloc::Global;
 use std::marker::Model;
 use visit_log::cell_numbers;
 
-/// The directory that threads share.
+/// The directory that threads share. It is lent to all of them; what an actor may do, its pass may.
+///
+/// ```text
+/// let (tracker, mut passes) = Tracker::new(alloc, &plan, &[3], 1)?;
+/// let mut caller = passes.pop();     // actor 1, behind subscriber 0
+/// ```
 #[derive(Drop)]
 pub struct Tracker {
     pub(crate) table: Table<Act, View, About, Watch, Global>,
@@ -41,7 +46,8 @@ impl Model for Tracker {
 
 impl Tracker {
     /// A tracker at the opening, and a pass for each actor: the subscribers, which start at these
-    /// homes, and then the callers.
+    /// homes, and then the callers. Homes are nodes of the plan, which `Plan::build` and
+    /// `Plan::flat` give as a matched one. There are 1 to 64 subscribers and at most 64 callers.
     pub fn new(
         alloc: Global,
         plan: &Plan,

@@ -14,7 +14,8 @@ use atomic_table::Seat;
 use entry_word::Act;
 use visit_log::cell_numbers;
 
-/// Another pass was inside the node: that of the actor `by`.
+/// Another pass was inside the node: that of the actor `by`. Nothing else has happened, so that the
+/// same call may be made again at once.
 #[derive(Clone, Copy, PartialEq, Eq, Debug)]
 pub struct Held {
     pub node: u32,

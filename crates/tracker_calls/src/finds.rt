@@ -15,7 +15,8 @@ use station::{Held, Pass, Tracker};
 use std::sync::Wait;
 use walk::{Walk, WalkFault};
 
-/// Why a find has no answer now: the first of these that holds.
+/// Why a find has no answer now: the first of these that holds. After `Held` the find may be made
+/// again; its looks so far are visits like others. Otherwise nothing has changed.
 #[derive(Clone, Copy, PartialEq, Eq, Debug)]
 pub enum FindFault {
     /// There is no such node.

@@ -26,7 +26,9 @@ pub struct Moved {
     pub last: u64,
 }
 
-/// Why a whole move isn't made: the first of these that holds.
+/// Why a whole move isn't made: the first of these that holds. Nothing has changed then. After
+/// `Unreserved` the move may be made once the pass has reserved so much; after `UnderWay` once
+/// `move_step` has made the puts that are left.
 #[derive(Clone, Copy, PartialEq, Eq, Debug)]
 pub enum MoveToFault {
     /// There is no such node.

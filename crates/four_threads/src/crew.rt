@@ -1,0 +1,78 @@
+//! Who takes part: the subscriber with its handset, and three callers.
+ghost use Rattle.std.specs.Prelude.{◌≡◌, ◌+◌, ◌≤◌, ◌^◌, ◌∷◌, [], length, IfOk};
+ghost use Rattle.region_plan.specs.Matched.{BoundsFinds};
+ghost use Rattle.region_plan.specs.Plan.{nodes_of};
+ghost use Rattle.station.specs.Handsets.{IsHandsetOf};
+ghost use Rattle.station.specs.Opening.{setup_of};
+ghost use Rattle.station.specs.Passes.{AreFresh, IsFree, fresh_view};
+ghost use Rattle.four_threads.specs.Ready.{IsCrewOf};
+
+use crate::stop::Stop;
+use handset::Handset;
+use region_plan::Plan;
+use station::{Pass, Tracker};
+use std::alloc::Global;
+
+// Room for each pass: a move of the line has at most 13 puts, a find at most 12 looks, and each put
+// of a move makes at most one find of a caller begin again.
+const VISITS: u64 = 200_000;
+
+/// The passes of the subscriber and of three callers, at node 0 (`near`), at 1 (`middle`) and at 3
+/// (`far`), and the subscriber's handset.
+#[derive(Drop)]
+pub struct Crew {
+    pub own: Pass,
+    pub handset: Handset,
+    pub near: Pass,
+    pub middle: Pass,
+    pub far: Pass,
+}
+
+// The last of some fresh passes, with room.
+fn next_pass(tracker: &Tracker, passes: &mut Vec<Pass>, actor: u32) -> Result<Pass, Stop>
+    requires fresh { AreFresh tracker.now passes.old.items }
+    requires count { length passes.old.items ≡ actor + 1 }
+    ensures fresh { AreFresh tracker.now passes.new.items }
+    ensures count { length passes.new.items ≡ actor }
+    ensures free { IfOk result (IsFree tracker.now 0) }
+    ensures own { IfOk result (λ pass. pass.view ≡ fresh_view tracker.now.setup actor) }
+{
+    let Some(mut pass) = passes.pop() else {
+        unreachable!()
+    };
+    pass.reserve(VISITS)?;
+    Ok(pass)
+}
+
+// The handset of the subscriber, at rest at node 3.
+fn resting(alloc: Global, plan: &Plan) -> Result<Handset, Stop>
+    requires nodes { nodes_of plan.now ≡ 4 }
+    ensures own { IfOk result (IsHandsetOf (setup_of plan.now (3 ∷ []) 4)
+        (fresh_view (setup_of plan.now (3 ∷ []) 4) 0)) }
+{
+    let handset = Handset::new(alloc, 0, 3, plan)?;
+    Ok(handset)
+}
+
+/// A tracker with one subscriber at node 3 and three callers, and all who take part.
+pub fn open(alloc: Global, plan: &Plan) -> Result<(Tracker, Crew), Stop>
+    requires bounding { BoundsFinds plan.now }
+    requires nodes { nodes_of plan.now ≡ 4 }
+    ensures setup { IfOk result (λ made. made.0.setup ≡ setup_of plan.now (3 ∷ []) 4) }
+    ensures crew { IfOk result (λ made. IsCrewOf made.0 made.1) }
+{
+    let (tracker, mut passes) = Tracker::new(alloc, plan, &[3], 3)?;
+    let far = next_pass(&tracker, &mut passes, 3)?;
+    let middle = next_pass(&tracker, &mut passes, 2)?;
+    let near = next_pass(&tracker, &mut passes, 1)?;
+    let own = next_pass(&tracker, &mut passes, 0)?;
+    let handset = resting(alloc, plan)?;
+    let crew = Crew {
+        own,
+        handset,
+        near,
+        middle,
+        far,
+    };
+    Ok((tracker, crew))
+}

@@ -1,0 +1,76 @@
+//! The whole: two rounds, the end of the tracker, and what is printed.
+ghost use Rattle.std.specs.Prelude.{◌≡◌};
+ghost use Rattle.station.specs.Passes.{IsPassOf};
+ghost use Rattle.four_threads.specs.Ready.{IsCrewOf};
+
+use crate::crew::{Crew, open};
+use crate::network::line_of_four;
+use crate::round::{Tallies, round};
+use crate::stop::Stop;
+use crate::tally::Tally;
+use station::Tracker;
+use std::alloc::Global;
+use std::io::Print;
+use std::sync::Wait;
+use std::thread::Threads;
+
+// Tells what a finder counted.
+fn tell<R: Print>(rt: &R, node: u32, tally: Tally) -> Result<(), Stop> {
+    let Tally { answers, right, .. } = tally;
+    match println!(rt; "  from node {node}: {answers} answers, {right} of them right") {
+        Ok(()) => Ok(()),
+        Err(_) => Err(Stop::NotWritten),
+    }
+}
+
+// Tells what a round made.
+fn tell_round<R: Print>(rt: &R, moves: u32, tallies: Tallies) -> Result<(), Stop> {
+    let Ok(()) = println!(rt; "{moves} moves") else {
+        return Err(Stop::NotWritten);
+    };
+    tell(rt, 0, tallies.near)?;
+    tell(rt, 1, tallies.middle)?;
+    tell(rt, 3, tallies.far)
+}
+
+// The actor of each ticket, once all have handed in their passes.
+fn order_of(alloc: Global, tracker: Tracker, crew: Crew) -> Result<Vec<u32>, Stop>
+    requires crew { IsCrewOf tracker crew }
+{
+    let mut passes = Vec::with_capacity(alloc, 4)?;
+    passes.push_reserved(crew.own);
+    passes.push_reserved(crew.near);
+    passes.push_reserved(crew.middle);
+    passes.push_reserved(crew.far);
+    match tracker.close(alloc, passes) {
+        Ok(order) => Ok(order),
+        Err(fault) => Err(Stop::from(fault.cause)),
+    }
+}
+
+// How many tickets are the subscriber's.
+fn puts_in(order: &[u32]) -> usize {
+    let mut puts = 0;
+    for k in 0..order.len() {
+        if order[k] == 0 {
+            puts += 1;
+        }
+    }
+    puts
+}
+
+/// Two rounds of four threads over one tracker, and then its end.
+pub fn perform<R: Threads + Wait + Sync + Print>(rt: &R, alloc: Global) -> Result<(), Stop> {
+    let (plan, distances) = line_of_four(alloc)?;
+    let (tracker, crew) = open(alloc, &plan)?;
+    let (crew, tallies) = round(rt, &tracker, &plan, &distances, crew)?;
+    tell_round(rt, crew.handset.number(), tallies)?;
+    let (crew, tallies) = round(rt, &tracker, &plan, &distances, crew)?;
+    tell_round(rt, crew.handset.number(), tallies)?;
+    let order = order_of(alloc, tracker, crew)?;
+    let puts = puts_in(&order);
+    match println!(rt; "{puts} visits of the subscriber in the order") {
+        Ok(()) => Ok(()),
+        Err(_) => Err(Stop::NotWritten),
+    }
+}
