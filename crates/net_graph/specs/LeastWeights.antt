@@ -3,7 +3,7 @@
 -- more steps than weight.
 -- Key laws: `least_weight_is_found` (where a walk leads, the number is the least weight),
 -- `least_weight_is_bounded` (no least weight is more than a walk through all nodes can weigh).
-use Rattle.std.specs.Prelude.{ℕ, zero, suc, ◌+◌, ◌-◌, ◌*◌, ◌≤◌, Bool, false, ◌==◌, ◌&&◌, ◌||◌, nat_le, cond, List, All}
+use Rattle.std.specs.Prelude.{ℕ, zero, suc, ◌+◌, ◌-◌, ◌*◌, ◌≤◌, Bool, true, false, ◌==◌, ◌&&◌, ◌||◌, nat_le, List, All}
 use Rattle.std.specs.List.{list_any}
 use Rattle.net_graph.specs.declared.edge.Edge.{Edge}
 use Rattle.net_graph.specs.declared.edge.TheConstants.{MAX_WEIGHT}
@@ -26,10 +26,15 @@ reaches edges inside v (suc k) m u =
 abbrev pub walk_weighs : List Edge → (ℕ → Bool) → ℕ → ℕ → ℕ → Bool
 walk_weighs edges inside u v m = reaches edges inside v (m + 1) m u
 
+-- a number, if it passes, and else what is found from the next one on
+abbrev pub unless_here : Bool → ℕ → (ℕ → ℕ) → ℕ
+unless_here true at further = at
+unless_here false at further = further (suc at)
+
 -- the first of so many numbers from `at` on that passes the test
 unfoldable pub first_passing : (ℕ → Bool) → ℕ → ℕ → ℕ
 first_passing test zero at = at
-first_passing test (suc tries) at = cond (test at) at (first_passing test tries (suc at))
+first_passing test (suc tries) at = unless_here (test at) at (first_passing test tries)
 
 -- the least weight of a walk from u to v inside
 abbrev pub least_weight : Network → (ℕ → Bool) → ℕ → ℕ → ℕ
