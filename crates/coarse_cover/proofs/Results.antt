@@ -10,7 +10,7 @@ use Rattle.std.proofs.lemmas.List.Sums.{sum_by-cons}
 use Rattle.node_set.specs.Ascending.{has, share}
 use Rattle.whole_powers.specs.Bounds.{PowersAdd, OnePhase}
 use Rattle.coarse_cover.specs.Coarsening.{IsShaped, without_home, all_clusters, coarsening, HomesAreFound}
-use Rattle.coarse_cover.specs.Coarsening.{ClustersAreShaped}
+use Rattle.coarse_cover.specs.Coarsening.{ClustersAreShaped, CoversAreSparse}
 use Rattle.coarse_cover.specs.Covers.{cluster_list, as_cluster, IsCover, AreApart, member_lists}
 use Rattle.coarse_cover.specs.Progress.{phases_of, Agrees, IsBetween}
 use Rattle.coarse_cover.specs.declared.cover.Cluster.{Cluster}
@@ -21,7 +21,7 @@ use Rattle.coarse_cover.proofs.Whole.{clusters_within}
 use Rattle.node_set.specs.Balls.{ball, union_of, GrownCluster, is_homed, home_of, centres, AreCentred, AreHomes}
 use Rattle.node_set.specs.BallLaws.{union_has, length-centres, get_or-map_centres, has_centre}
 use Rattle.coarse_cover.proofs.Steps.{phases_of_none, coarsening_phases}
-use Rattle.coarse_cover.specs.CoverLaws.{cluster_list_nodes, length-cluster_list}
+use Rattle.coarse_cover.specs.CoverLaws.{cluster_list_nodes, count_lists, length-cluster_list}
 
 -- ---- the end
 
@@ -56,39 +56,24 @@ is_cover balls k left cover between none sized =
 
 -- ---- clusters as they are cluster_list
 
-count_map : {X : Type 0} (f : X → List ℕ) (x : ℕ) (xs : List X) → count_by (λ c. has x (f c)) xs
-    ≡ sum_by (λ m. cond (has x m) 1 0) (map f xs)
-count_map f x [] = refl
-count_map f x (y ∷ ys) =
-    sum_by-cons (λ c. cond (has x (f c)) 1 0) y ys
-    ∙ (ap (λ (n : ℕ). cond (has x (f y)) 1 0 + n) (count_map f x ys)
-    ∙ sym (sum_by-cons (λ (m : List ℕ). cond (has x m) 1 0) (f y) (map f ys)))
-
-pub overlap : (balls : List (List ℕ)) (k n : ℕ) (cover : Cover) (x : ℕ) → 0 < k → AreCentred balls
+-- so a cover is
+pub overlap : CoversAreSparse → (balls : List (List ℕ)) (k n : ℕ) (cover : Cover) (x : ℕ) → 0 < k → AreCentred balls
     → IsCover n (coarsening balls k) cover → count_by (λ c. has x c.members.members) cover.clusters.items ≤ cover.phases
-overlap balls k n cover x some centred is =
+overlap sparse balls k n cover x some centred is =
     let same : count_by (λ c. has x c.members.members) cover.clusters.items
     ≡ count_by (λ c. has x c.members) (all_clusters (coarsening balls k)) =
     ap (λ (l : List Cluster). count_by (λ (c : Cluster). has x c.members.members) l) is.clusters ∙
-    (count_map (λ (c : Cluster). c.members.members) x (cluster_list n 0 (coarsening balls k)) ∙
+    (count_lists (λ (c : Cluster). c.members.members) x (cluster_list n 0 (coarsening balls k)) ∙
     (ap (λ (l : List (List ℕ)). sum_by (λ m. cond (has x m) 1 0) l) (cluster_list_nodes n 0 (coarsening balls k))
-    ∙ sym (count_map (λ (c : GrownCluster). c.members) x (all_clusters (coarsening balls k)))))
+    ∙ sym (count_lists (λ (c : GrownCluster). c.members) x (all_clusters (coarsening balls k)))))
     in
-    omega (
-      arith,
-      same,
-      is.phases,
-      few_have balls k (centres (length balls)) (coarsening balls k) x (coarsening_phases
-          balls k some centred),
-    )
+    omega (arith, same, is.phases, (sparse balls k some centred).1 x)
 
-pub phases_bounded : PowersAdd → OnePhase → (balls : List (List ℕ)) (k n : ℕ) (cover : Cover) → 0 < k → AreCentred balls
-    → IsCover n (coarsening balls k) cover → cover.phases ^ k ≤ k ^ k * length balls
-phases_bounded adds one_phase balls k n cover some centred is =
-    subst (λ (m : ℕ). m ^ k ≤ k ^ k * length balls) (sym is.phases)
-    (subst (λ (m : ℕ). length (coarsening balls k) ^ k ≤ k ^ k * m) (length-centres (length balls))
-    (phases_few balls k adds one_phase (centres (length balls)) (coarsening balls k) some
-    (coarsening_phases balls k some centred)))
+pub phases_bounded : CoversAreSparse → (balls : List (List ℕ)) (k n : ℕ) (cover : Cover) → 0 < k → AreCentred balls
+    → n ≡ length balls → IsCover n (coarsening balls k) cover → cover.phases ^ k ≤ k ^ k * n
+phases_bounded sparse balls k n cover some centred sized is =
+    subst (λ (m : ℕ). m ^ k ≤ k ^ k * n) (sym is.phases)
+    (subst (λ (m : ℕ). length (coarsening balls k) ^ k ≤ k ^ k * m) (sym sized) (sparse balls k some centred).0)
 
 pub clusters_few : (balls : List (List ℕ)) (k n : ℕ) (cover : Cover) → 0 < k → AreCentred balls
     → IsCover n (coarsening balls k) cover → length cover.clusters.items ≤ length balls
@@ -222,4 +207,12 @@ homes_found balls k v d some centred below =
     in (
       home_within balls k (all_clusters (coarsening balls k)) v homed,
       home_has balls k (all_clusters (coarsening balls k)) v d homed,
+    )
+
+pub covers_sparse : PowersAdd → OnePhase → CoversAreSparse
+covers_sparse adds one_phase balls k some centred =
+    let are = coarsening_phases balls k some centred in (
+      subst (λ (m : ℕ). length (coarsening balls k) ^ k ≤ k ^ k * m) (length-centres (length balls))
+          (phases_few balls k adds one_phase (centres (length balls)) (coarsening balls k) some are),
+      λ x. few_have balls k (centres (length balls)) (coarsening balls k) x are,
     )

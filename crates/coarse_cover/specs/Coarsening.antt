@@ -1,11 +1,10 @@
 -- Coarsening: balls are merged into clusters, phase by phase, so that few clusters overlap and no
 -- cluster grows far.
 -- Key laws: `cluster_shape` (each cluster grows at most k - 1 times from its leader's ball),
--- `home_means` (each ball finds a home), and the clauses of `coarsen`: `apart` (clusters of one
--- phase are disjoint), `phases` (their number p has p ^ k ≤ k ^ k * n), `homes` (each ball lies in
--- its home).
+-- `home_means` (each ball finds a home), `covers_are_sparse` (few clusters overlap), and the clauses
+-- of `coarsen`: `apart` (clusters of one phase are disjoint), `homes` (each ball lies in its home).
 use Rattle.std.specs.Prelude.{◌≡◌, ℕ, zero, suc, ◌*◌, ◌^◌, ◌<◌, Bool, true, not, List, [], ◌∷◌, slice_index_or}
-use Rattle.std.specs.Prelude.{◌++◌, length, filter, nat_le, All}
+use Rattle.std.specs.Prelude.{◌++◌, ◌≤◌, count_by, length, filter, nat_le, All}
 use Rattle.node_set.specs.Ascending.{has}
 use Rattle.node_set.specs.Balls.{centres, AreCentred, union_of, touches, growth, least}
 use Rattle.node_set.specs.Balls.{GrownCluster, is_homed, home_of}
@@ -79,3 +78,14 @@ HomesAreFound = (balls : List (List ℕ)) (k v : ℕ) (d : GrownCluster) → 0 <
     → (home_of (all_clusters (coarsening balls k)) v < length (all_clusters (coarsening balls k)))
     × (has v (slice_index_or (all_clusters (coarsening balls k))
     (home_of (all_clusters (coarsening balls k)) v) d).homed ≡ true)
+
+-- few clusters overlap: the number p of phases has p ^ k ≤ k ^ k * n for n balls, and no node is in
+-- more than p clusters
+abbrev pub IsSparse : List (List ℕ) → ℕ → List (List GrownCluster) → Type 0
+IsSparse balls k regions = (length regions ^ k ≤ k ^ k * length balls)
+    × ((v : ℕ) → count_by (λ c. has v c.members) (all_clusters regions) ≤ length regions)
+
+-- each coarsening is so
+abbrev pub CoversAreSparse : Type 0
+CoversAreSparse = (balls : List (List ℕ)) (k : ℕ) → 0 < k → AreCentred balls
+    → IsSparse balls k (coarsening balls k)

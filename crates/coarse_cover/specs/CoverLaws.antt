@@ -1,8 +1,11 @@
 -- Short laws of the clusters of a cover, one after another.
 -- Key laws: `length-cluster_list` (as many as the phases have), `cluster_list_nodes` (their nodes
--- are those of the clusters of the phases).
+-- are those of the clusters of the phases), `count_lists` (how many have a node).
 use Rattle.std.proofs.Common.{◌≡◌, ℕ, suc, List, [], ◌∷◌, ◌++◌, length, length-append, map, refl}
-use Rattle.std.proofs.Common.{sym, ◌∙◌, ap, arith}
+use Rattle.std.proofs.Common.{sym, ◌∙◌, ap, arith, ◌+◌, cond}
+use Rattle.std.specs.List.{count_by, sum_by}
+use Rattle.std.proofs.lemmas.List.Sums.{sum_by-cons}
+use Rattle.node_set.specs.Ascending.{has}
 use Rattle.node_set.specs.Balls.{GrownCluster}
 use Rattle.coarse_cover.specs.Coarsening.{all_clusters}
 use Rattle.coarse_cover.specs.Covers.{cluster_list, as_cluster}
@@ -48,3 +51,12 @@ cluster_list_nodes n p (cs ∷ later) =
     (cluster_list n (suc p) later) ∙
     (rw (map_nodes n p cs, cluster_list_nodes n (suc p) later) refl
     ∙ sym (map-append (λ (c : GrownCluster). c.members) cs (all_clusters later)))
+
+-- those of a list that hold x, by the lists of their nodes
+pub count_lists : {X : Type 0} (f : X → List ℕ) (x : ℕ) (xs : List X)
+    → count_by (λ c. has x (f c)) xs ≡ sum_by (λ m. cond (has x m) 1 0) (map f xs)
+count_lists f x [] = refl
+count_lists f x (y ∷ ys) =
+    sum_by-cons (λ c. cond (has x (f c)) 1 0) y ys
+    ∙ (ap (λ (n : ℕ). cond (has x (f y)) 1 0 + n) (count_lists f x ys)
+    ∙ sym (sum_by-cons (λ (m : List ℕ). cond (has x m) 1 0) (f y) (map f ys)))

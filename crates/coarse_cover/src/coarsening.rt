@@ -11,13 +11,13 @@ ghost use Rattle.node_set.specs.Balls.{sets, AreCentred, AreHomes};
 ghost use Rattle.coarse_cover.specs.Covers.{IsCover, member_lists, AreApart};
 
 use crate::cover::Cover;
+use crate::laws::covers_are_sparse;
 use crate::marks::fill_all;
 use crate::phasing::make_phase;
 use crate::turning::rows_of;
 use crate::workspace::Workspace;
 use node_set::{NodeSet, OutOfMemory};
 use std::alloc::Global;
-use whole_powers::{one_phase, powers_add};
 
 /// Coarsens balls into clusters, with a trade-off `k` of 1 to 8: a larger `k` makes larger clusters
 /// that overlap less.
@@ -48,8 +48,6 @@ pub fn coarsen(alloc: Global, balls: &[NodeSet], k: u32) -> Result<Cover, OutOfM
     let rows = rows_of(alloc, balls)?;
     let mut work = Workspace::new(alloc, balls.len() as u32)?;
     let cover = coarsen_by_rows(alloc, balls, &rows, k, &mut work)?;
-    powers_add();
-    one_phase();
     Ok(cover)
 }
 
@@ -75,8 +73,12 @@ pub fn coarsen_by_rows(
     ensures work { OnOk result (IsWorkspace (length balls.now) work.new) }
     ensures exact { IfOk result (λ cover.
         IsCover (length balls.now) (coarsening (sets balls.now) k) cover) }
+    ensures phases { IfOk result (λ cover. cover.phases ^ k ≤ k ^ k * length balls.now) }
+    ensures overlap { IfOk result (λ cover. (x : ℕ)
+        → count_by (λ c. has x c.members.members) cover.clusters.items ≤ cover.phases) }
     ensures few { IfOk result (λ cover. length cover.clusters.items ≤ length balls.now) }
 {
+    covers_are_sparse();
     fill_all(&mut work.left);
     let mut cover = Cover {
         clusters: Vec::new(alloc),

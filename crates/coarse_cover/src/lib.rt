@@ -12,5 +12,5 @@ mod workspace;
 
 pub use coarsening::{coarsen, coarsen_by_rows};
 pub use cover::{Cluster, Cover};
-pub use laws::{cluster_shape, home_means};
+pub use laws::{cluster_shape, covers_are_sparse, home_means};
 pub use workspace::Workspace;

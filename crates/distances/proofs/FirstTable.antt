@@ -7,7 +7,8 @@ use Rattle.net_graph.specs.declared.edge.Edge.{Edge}
 use Rattle.net_graph.specs.declared.edge.TheConstants.{MAX_WEIGHT}
 use Rattle.net_graph.specs.declared.neighbours.Arc.{Arc}
 use Rattle.net_graph.specs.Walks.{Joins, IsLeastWeight, everywhere}
-use Rattle.net_graph.specs.Network.{Network, IsNetwork, ReachedHasLeastWeight}
+use Rattle.net_graph.specs.LeastWeights.{LeastWeightsAreBounded, LeastWeightsAreFound, least_weight}
+use Rattle.net_graph.specs.Network.{Network, IsNetwork}
 use Rattle.net_graph.specs.Layout.{AreArcsOf, IsArc, make_arc}
 use Rattle.net_graph.specs.WalkLaws.{join_turned}
 use Rattle.distances.specs.declared.elimination.Stage.{Stage}
@@ -83,16 +84,16 @@ module _ (network : Network) (sound : IsNetwork network) (width : ℕ) (wide : n
         (join_turned network.edges u v (cell_at width table u v) joined)
   ]
 
-  module _ (d : ℕ → ℕ → ℕ) (least : AreLeast network d) where
+  module _ (bounds : LeastWeightsAreBounded) (d : ℕ → ℕ → ℕ) (least : AreLeast network d) where
     pub begun : KeepsLengths (λ x. x < network.nodes) (cell_at width table) d
     begun = record {
       sound = λ a b a_below b_below. elim (first.sound a b a_below b_below) [
-        | inl far ↦ omega (arith, (lengths network sound d least).light a b a_below b_below)
-        | inr joined ↦ step_length network sound d least a b (cell_at width table a b) a_below b_below joined
+        | inl far ↦ omega (arith, (lengths bounds network sound d least).light a b a_below b_below)
+        | inr joined ↦ step_length bounds network sound d least a b (cell_at width table a b) a_below b_below joined
       ];
       turned = λ a b a_below b_below. omega (arith, turned_below a b a_below b_below, turned_below b a b_below a_below);
       goes_on = λ a b a_below b_below apart.
-          let g = begins network sound d least a b a_below b_below apart in
+          let g = begins bounds network sound d least a b a_below b_below apart in
           record {
             next = g.next;
             is_left = g.below;
@@ -101,17 +102,16 @@ module _ (network : Network) (sound : IsNetwork network) (width : ℕ) (wide : n
           };
     }
 
-pub rows_of : ReachedHasLeastWeight → (network : Network) → IsNetwork network
+pub rows_of : LeastWeightsAreFound → LeastWeightsAreBounded → (network : Network) → IsNetwork network
     → (width : ℕ) → network.nodes ≤ width → (first : List ℕ) (stages : List Stage) (rows table : List ℕ)
     → IsFirstTable network width first → AreAllStages network.nodes width first stages
     → IsFilled network.nodes width stages rows → AreClosed network.nodes width rows table
     → AreRowsOf network network.nodes table
-rows_of least_of network sound width wide first stages rows table is_first left_out_all filled closed =
-    let found = least_there least_of network sound in
-    let d : ℕ → ℕ → ℕ = found.0 in
-    let least : AreLeast network d = found.1 in
-    let lens = lengths network sound d least in
-    let held = left_out_all.holds d lens (begun network sound width wide first is_first d least) in
+rows_of least_of bounds network sound width wide first stages rows table is_first left_out_all filled closed =
+    let d : ℕ → ℕ → ℕ = least_weight network everywhere in
+    let least : AreLeast network d = least_there least_of network sound in
+    let lens = lengths bounds network sound d least in
+    let held = left_out_all.holds d lens (begun network sound width wide first is_first bounds d least) in
     let is : (a b : ℕ) → a < network.nodes → b < network.nodes → cell_at network.nodes table a b ≡ d a b =
     λ a b a_below b_below. closed.each a b a_below b_below
     ∙ filled.each d lens held left_out_all.all a b a_below b_below in
@@ -122,16 +122,17 @@ rows_of least_of network sound width wide first stages rows table is_first left_
           (least a v a_below v_below);
       bounded = λ a v a_below v_below.
           subst (λ w. w ≤ (network.nodes - 1) * MAX_WEIGHT) (sym (is a v a_below v_below))
-          (bounded network sound d least a v a_below v_below);
+          (bounded bounds network sound d least a v a_below v_below);
     }
 
 -- the table as the code has it
-pub rows_made : ReachedHasLeastWeight → (network : Network) → IsNetwork network → (n : ℕ) → n ≡ network.nodes
+pub rows_made : LeastWeightsAreFound → LeastWeightsAreBounded → (network : Network) → IsNetwork network
+    → (n : ℕ) → n ≡ network.nodes
     → (width : ℕ) → n ≤ width → (first seen : List ℕ) (stages : List Stage) (filled more wide closed : List ℕ) (k : ℕ)
     → IsFirstTable network width first → seen ≡ first → length seen ≡ k → AreAllStages n width seen stages
     → IsFilled n width stages filled → wide ≡ take k (filled ++ more) → AreClosed n width wide closed
     → AreRowsOf network network.nodes closed
-rows_made least_of network sound n is_n width n_wide first seen stages filled more wide closed k is_first seen_is count
+rows_made least_of bounds network sound n is_n width n_wide first seen stages filled more wide closed k is_first seen_is count
     left_out_all is_filled wide_is is_closed =
     let stages_here : AreAllStages network.nodes width first stages =
     subst (λ i. AreAllStages i width first stages) is_n (subst (λ xs. AreAllStages n width xs stages) seen_is
@@ -140,7 +141,7 @@ rows_made least_of network sound n is_n width n_wide first seen stages filled mo
     subst (λ i. IsFilled i width stages filled) is_n is_filled in
     let same : length filled ≡ k = filled_here.count ∙ sym is_first.count ∙ sym (ap length seen_is) ∙ count in
     let rows_are : wide ≡ filled = wide_is ∙ take_at filled more k same in
-    rows_of least_of network sound width (subst (λ i. i ≤ width) is_n n_wide) first stages filled closed is_first
+    rows_of least_of bounds network sound width (subst (λ i. i ≤ width) is_n n_wide) first stages filled closed is_first
     stages_here filled_here
     (subst (λ i. AreClosed i width filled closed) is_n
     (subst (λ xs. AreClosed n width xs closed) rows_are is_closed))

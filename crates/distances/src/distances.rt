@@ -5,7 +5,9 @@ ghost use Rattle.distances.specs.Table.{AreDistancesOf, IsDiameter, IsMetric, Is
 
 use crate::elimination::{degrees_of, first_table, leave_out_all, take_back_all};
 use crate::rows::{close_rows, width_for};
-use net_graph::{Graph, OutOfMemory, greatest_weight, reached_has_a_least_weight};
+use net_graph::{
+    Graph, OutOfMemory, greatest_weight, least_weight_is_bounded, least_weight_is_found,
+};
 use node_set::NodeSet;
 use std::alloc::Global;
 use std::marker::Model;
@@ -39,7 +41,8 @@ impl Distances {
     pub fn new(alloc: Global, graph: &Graph) -> Result<Self, OutOfMemory>
         ensures { IfOk result (AreDistancesOf graph.now) }
     {
-        reached_has_a_least_weight();
+        least_weight_is_bounded();
+        least_weight_is_found();
         let nodes = graph.nodes();
         let n = nodes as usize;
         let width = width_for(n);

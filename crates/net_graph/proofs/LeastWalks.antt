@@ -1,15 +1,19 @@
--- Where a walk is, a least weight is: whether a walk of a weight is there can be tested, since each edge weighs
--- something.
-use Rattle.std.proofs.Common.{◌≡◌, ℕ, zero, suc, ◌+◌, ◌-◌, ◌<◌, ◌≤◌, Bool, true, false, List, [], ◌∷◌, length, refl, sym, subst, inl, inr, arith, below_more}
+-- The least weight of a walk is found: whether a walk of a weight is there can be tested, since each edge weighs
+-- something, and none of least weight visits a node twice.
+use Rattle.std.proofs.Common.{◌≡◌, ℕ, zero, suc, ◌+◌, ◌-◌, ◌<◌, ◌≤◌, Bool, true, false, List, [], ◌∷◌, length, refl, sym, subst, inl, inr, arith, below_more, ◌∙◌, add-one}
 use Rattle.std.specs.Prelude.{All, ◌==◌, ◌&&◌, ◌||◌, ◌⊎◌, nat_le}
+use Rattle.std.specs.Prelude.{◌*◌, cond, ltb}
 use Rattle.std.specs.List.{list_any}
-use Rattle.std.proofs.lemmas.Bool.{eqb-true, eq-eqb, cases_lt}
+use Rattle.std.proofs.lemmas.Bool.{cases_Bool, cases_eq, cases_lt, eqb-true, eq-eqb, false≢true}
 use Rattle.std.proofs.lemmas.Bool.Decides.{nat_tests}
 use Rattle.std.proofs.lemmas.List.Folds.{Any-from_list_any, list_any_at}
 use Rattle.net_graph.specs.declared.edge.Edge.{Edge}
+use Rattle.net_graph.specs.declared.edge.TheConstants.{MAX_WEIGHT}
+use Rattle.net_graph.specs.LeastWeights.{first_passing, leads_on, reaches, walk_weighs}
+use Rattle.net_graph.specs.LeastWeights.{LeastWeightsAreBounded, LeastWeightsAreFound}
 use Rattle.net_graph.specs.Network.{IsEdge}
-use Rattle.net_graph.specs.Walks.{Joins, make_edge, Step, IsWalk, weight_of, IsWalkWeight, IsLeastWeight, IsReached}
-use Rattle.net_graph.specs.WalkLaws.{join_edge}
+use Rattle.net_graph.specs.Walks.{Joins, make_edge, Step, IsWalk, weight_of, IsWalkWeight, IsLeastWeight}
+use Rattle.net_graph.specs.WalkLaws.{join_edge, least_weight_one}
 
 -- ---- tests
 
@@ -24,18 +28,6 @@ either false b e = inr e
 or_right : (a b : Bool) → b ≡ true → (a || b) ≡ true
 or_right true b e = refl
 or_right false b e = e
-
--- whether an edge leads from u to x, and a walk of the rest of the weight goes on from there
-leads_on : (ℕ → ℕ → Bool) → ℕ → ℕ → ℕ → ℕ → ℕ → Bool
-leads_on goes_on m u from to w = from == u && (nat_le w m && goes_on (m - w) to)
-
--- whether a walk of fewer than so many steps and of this weight leads from u to v inside
-reaches : List Edge → (ℕ → Bool) → ℕ → ℕ → ℕ → ℕ → Bool
-reaches edges inside v zero m u = false
-reaches edges inside v (suc k) m u =
-    inside u && ((m == 0 && u == v) || list_any
-    (λ e. leads_on (reaches edges inside v k) m u e.a e.b e.weight || leads_on
-    (reaches edges inside v k) m u e.b e.a e.weight) edges)
 
 -- ---- what is tested is there
 
@@ -52,7 +44,6 @@ leads : (edges : List Edge) (inside : ℕ → Bool) (v k m u from to w : ℕ)
     → ((n x : ℕ) → reaches edges inside v k n x ≡ true → IsWalkWeight edges inside x v n)
     → inside u ≡ true → Joins edges from to w → leads_on (reaches edges inside v k) m u from to w ≡ true
     → IsWalkWeight edges inside u v m
-unfolding leads_on
 leads edges inside v k m u from to w there is_inside joined e =
     let first = both (from == u) (nat_le w m && reaches edges inside v k (m - w) to) e in
     let second = both (nat_le w m) (reaches edges inside v k (m - w) to) first.1 in
@@ -101,7 +92,6 @@ true_either false b p = absurd cc
 
 leads_on-true : (goes : ℕ → ℕ → Bool) (m u to w rest : ℕ) → m ≡ w + rest → goes rest to ≡ true
     → leads_on goes m u u to w ≡ true
-unfolding leads_on
 leads_on-true goes m u to w rest sum e =
     let le : nat_le w m ≡ true = grind (arith, nat_tests) in
     let left : m - w ≡ rest = omega arith in
@@ -146,46 +136,191 @@ few_steps n edges inside u (step ∷ steps) v all walk =
     let edge = (join_edge n edges u step.node step.weight all walk.1).2 in
     omega (arith, edge.positive, few_steps n edges inside step.node steps v all walk.2)
 
--- ---- the least number that passes a test
+-- ---- the first number that passes a test
 
-record IsLeastTrue (p : ℕ → Bool) : Type 0 where
-  number : ℕ
+record IsFirst (p : ℕ → Bool) (number : ℕ) : Type 0 where
   passes : p number ≡ true
   first : (x : ℕ) → x < number → p x ≡ false
 
-least_here : (p : ℕ → Bool) (at : ℕ) → ((x : ℕ) → x < at → p x ≡ false)
-    → (((x : ℕ) → x < at + 1 → p x ≡ false) → IsLeastTrue p) → (b : Bool) → p at ≡ b → IsLeastTrue p
-least_here p at below later true e = record { number = at; passes = e; first = below }
-least_here p at below later false e = later (below_more (λ x. p x ≡ false) at below e)
+-- where a number passes within the tries, the first that does is found
+first_found : (p : ℕ → Bool) (tries at w : ℕ) → p w ≡ true → at ≤ w → w < at + tries
+    → ((x : ℕ) → x < at → p x ≡ false) → IsFirst p (first_passing p tries at)
+unfolding first_passing
+first_found p zero at w passes le lt before = absurd (omega arith)
+first_found p (suc tries) at w passes le lt before = elim (cases_Bool (p at)) [
+  | inl here ↦ rw here (record { passes = here; first = before })
+  | inr not ↦ rw not (elim (cases_lt at w) [
+    | inl less ↦ first_found p tries (suc at) w passes (omega arith) (omega arith)
+        (λ x h. subst (λ i. (y : ℕ) → y < i → p y ≡ false) (add-one at) (below_more (λ y. p y ≡ false) at before not) x h)
+    | inr more ↦ let same : w ≡ at = omega arith in
+        absurd (false≢true (sym not ∙ subst (λ i. p i ≡ true) same passes))
+  ])
+]
 
-least_from : (p : ℕ → Bool) (more at : ℕ) → ((x : ℕ) → x < at → p x ≡ false) → p (at + more) ≡ true → IsLeastTrue p
-least_from p zero at below e = record { number = at + 0; passes = e; first = λ x lt. below x (omega arith) }
-least_from p (suc more) at below e =
-    least_here p at below (λ further. least_from p more (at + 1) further
-    (let same : at + 1 + more ≡ at + suc more = omega arith in rw same e)) (p at) refl
+-- ---- the least weight of a walk is the first number that a walk weighs
 
--- ---- the law
+passes_test : (n : ℕ) (edges : List Edge) (inside : ℕ → Bool) (u v : ℕ) → All (IsEdge n) edges → (steps : List Step)
+    → IsWalk edges inside u steps v → walk_weighs edges inside u v (weight_of steps) ≡ true
+passes_test n edges inside u v all steps walk =
+    reaches-whole edges inside u steps v (weight_of steps + 1) walk
+    (omega (arith, few_steps n edges inside u steps v all walk))
 
-true_not_false : (b : Bool) → b ≡ true → b ≡ false → ⊥
-true_not_false true p q = cc
-true_not_false false p q = cc
+least_of_first : (n : ℕ) (edges : List Edge) (inside : ℕ → Bool) (u v w : ℕ) → All (IsEdge n) edges
+    → IsFirst (walk_weighs edges inside u v) w → IsLeastWeight edges inside u v w
+least_of_first n edges inside u v w all is = record {
+  attained = reaches-sound edges inside v (w + 1) w u is.passes;
+  least = λ steps walk. elim (cases_lt (weight_of steps) w) [
+    | inr le ↦ le
+    | inl lt ↦ absurd (false≢true (sym (is.first (weight_of steps) lt) ∙ passes_test n edges inside u v all steps walk))
+  ];
+}
 
-pub least_of : (n : ℕ) (edges : List Edge) (inside : ℕ → Bool) (u v : ℕ) → All (IsEdge n) edges
-    → IsReached edges inside u v → (w : ℕ) × IsLeastWeight edges inside u v w
-least_of n edges inside u v all reached =
-    let p : ℕ → Bool = λ m. reaches edges inside v (m + 1) m u in
-    let there : (steps : List Step) → IsWalk edges inside u steps v → p (weight_of steps) ≡ true =
-    λ steps walk. reaches-whole edges inside u steps v (weight_of steps + 1) walk
-    (omega (arith, few_steps n edges inside u steps v all walk)) in
-    let found = least_from p (weight_of reached.steps) 0 (λ x lt. absurd (omega arith))
-    (let same : 0 + weight_of reached.steps ≡ weight_of reached.steps = omega arith
-    in rw same (there reached.steps reached.walk)) in (
-      found.number,
+-- of so many tries, the first number that a walk weighs, where one weighs less
+least_within : (n : ℕ) (edges : List Edge) (inside : ℕ → Bool) (u v tries : ℕ) → All (IsEdge n) edges
+    → (steps : List Step) → IsWalk edges inside u steps v → weight_of steps < tries
+    → IsLeastWeight edges inside u v (first_passing (walk_weighs edges inside u v) tries 0)
+least_within n edges inside u v tries all steps walk lt =
+    least_of_first n edges inside u v (first_passing (walk_weighs edges inside u v) tries 0) all
+    (first_found (walk_weighs edges inside u v) tries 0 (weight_of steps)
+    (passes_test n edges inside u v all steps walk) (omega arith) (omega arith) (λ x h. absurd (omega arith)))
+
+-- ---- the numbers below n at which a function is below t
+
+count : (ℕ → ℕ) → ℕ → ℕ → ℕ
+count g t zero = 0
+count g t (suc n) = count g t n + cond (ltb (g n) t) 1 0
+
+one_below : (x t : ℕ) → x < t → ◌≡◌ {A = ℕ} (cond (ltb x t) 1 0) 1
+one_below x t below = grind (arith, nat_tests)
+
+one_past : (x t : ℕ) → t ≤ x → ◌≡◌ {A = ℕ} (cond (ltb x t) 1 0) 0
+one_past x t past = grind (arith, nat_tests)
+
+one_more : (x s t : ℕ) → s ≤ t → cond (ltb x s) 1 0 ≤ cond (ltb x t) 1 0
+one_more x s t le = elim (cases_lt x s) [
+  | inl below ↦ omega (arith, one_below x s below, one_below x t (omega arith))
+  | inr past ↦ omega (arith, one_past x s past)
+]
+
+one_most : (x t : ℕ) → cond (ltb x t) 1 0 ≤ 1
+one_most x t = elim (cases_lt x t) [
+  | inl below ↦ omega (arith, one_below x t below)
+  | inr past ↦ omega (arith, one_past x t past)
+]
+
+count_most : (g : ℕ → ℕ) (t n : ℕ) → count g t n ≤ n
+unfolding count
+count_most g t zero = omega arith
+count_most g t (suc n) = omega (arith, count_most g t n, one_most (g n) t)
+
+count_wider : (g : ℕ → ℕ) (s t n : ℕ) → s ≤ t → count g s n ≤ count g t n
+unfolding count
+count_wider g s t zero le = omega arith
+count_wider g s t (suc n) le = omega (arith, count_wider g s t n le, one_more (g n) s t le)
+
+count_more : (g : ℕ → ℕ) (s t n x : ℕ) → x < n → s ≤ g x → g x < t → count g s n + 1 ≤ count g t n
+unfolding count
+count_more g s t zero x below from to = absurd (omega arith)
+count_more g s t (suc n) x below from to = elim (cases_eq x n) [
+  | inl same ↦
+      let from_n : s ≤ g n = subst (λ i. s ≤ g i) same from in
+      let to_n : g n < t = subst (λ i. g i < t) same to in
+      omega (arith, count_wider g s t n (omega arith), one_past (g n) s from_n, one_below (g n) t to_n)
+  | inr other ↦ omega (arith, count_more g s t n x (omega arith) from to, one_more (g n) s t (omega arith))
+]
+
+-- ---- no least weight is more than a walk through all nodes can weigh
+
+-- the first step of a walk of least weight, and what is left of it
+record Begins (n : ℕ) (edges : List Edge) (inside : ℕ → Bool) (v a w : ℕ) : Type 0 where
+  next : ℕ
+  rest : ℕ
+  here : a < n
+  below : next < n
+  least : IsLeastWeight edges inside next v rest
+  less : rest < w
+  near : w ≤ rest + MAX_WEIGHT
+
+module _ (n : ℕ) (edges : List Edge) (all : All (IsEdge n) edges) (inside : ℕ → Bool) (v : ℕ) where
+  begins_with : (a w : ℕ) → 0 < w → IsLeastWeight edges inside a v w → (steps : List Step)
+      → IsWalk edges inside a steps v → weight_of steps ≡ w → Begins n edges inside v a w
+  begins_with a w some least [] walk sum = absurd (omega arith)
+  begins_with a w some least (step ∷ steps) walk sum =
+      let edge = join_edge n edges a step.node step.weight all walk.1 in
+      let further = least_within n edges inside step.node v (weight_of steps + 1) all steps walk.2 (omega arith) in
+      let on = least.least (step ∷ further.attained.steps) (walk.0, walk.1, further.attained.walk) in
       record {
-        attained = reaches-sound edges inside v (found.number + 1) found.number u found.passes;
-        least = λ steps walk. elim (cases_lt (weight_of steps) found.number) [
-          | inr le ↦ le
-          | inl lt ↦ absurd (true_not_false (p (weight_of steps)) (there steps walk) (found.first (weight_of steps) lt))
-        ];
-      },
-    )
+        next = step.node;
+        rest = first_passing (walk_weighs edges inside step.node v) (weight_of steps + 1) 0;
+        here = edge.0;
+        below = edge.1;
+        least = further;
+        less = omega (arith, further.least steps walk.2, edge.2.positive);
+        near = omega (arith, on, further.attained.sum, edge.2.light);
+      }
+
+  begins : (a w : ℕ) → 0 < w → IsLeastWeight edges inside a v w → Begins n edges inside v a w
+  begins a w some least = begins_with a w some least least.attained.steps least.attained.walk least.attained.sum
+
+  -- the least weight from a node, where it is less than the most
+  abbrev found : ℕ → ℕ → ℕ
+  found most x = first_passing (walk_weighs edges inside x v) most 0
+
+  found_is : (most x w : ℕ) → w < most → IsLeastWeight edges inside x v w → found most x ≡ w
+  found_is most x w lt least =
+      least_weight_one edges inside x v (found most x) w
+      (least_within n edges inside x v most all least.attained.steps least.attained.walk
+      (omega (arith, least.attained.sum)))
+      least
+
+  -- from a node that is farther than k edges can be, more than k nodes are nearer
+  nearer : (most k a w : ℕ) → w < most → k * MAX_WEIGHT < w → IsLeastWeight edges inside a v w
+      → k + 1 ≤ count (found most) w n
+  nearer most zero a w lt far least =
+      let g = begins a w (omega arith) least in
+      let at_next = found_is most g.next g.rest (omega (arith, g.less)) g.least in
+      omega (
+        arith,
+        count_more (found most) g.rest w n g.next g.below (omega (arith, at_next)) (omega (arith, at_next, g.less)),
+      )
+  nearer most (suc k) a w lt far least =
+      let g = begins a w (omega arith) least in
+      let at_next = found_is most g.next g.rest (omega (arith, g.less)) g.least in
+      omega (
+        arith,
+        nearer most k g.next g.rest (omega (arith, g.less)) (omega (arith, g.near)) g.least,
+        count_more (found most) g.rest w n g.next g.below (omega (arith, at_next)) (omega (arith, at_next, g.less)),
+      )
+
+  pub bounded : (a w : ℕ) → IsLeastWeight edges inside a v w → w ≤ (n - 1) * MAX_WEIGHT
+  bounded a w least = elim (cases_lt ((n - 1) * MAX_WEIGHT) w) [
+    | inr le ↦ le
+    | inl far ↦
+        let g = begins a w (omega arith) least in
+        let at_a = found_is (w + 1) a w (omega arith) least in
+        absurd (omega (
+          arith,
+          g.here,
+          nearer (w + 1) (n - 1) a w (omega arith) far least,
+          count_more (found (w + 1)) w (w + 1) n a g.here (omega (arith, at_a)) (omega (arith, at_a)),
+          count_most (found (w + 1)) (w + 1) n,
+        ))
+  ]
+
+-- ---- the laws
+
+pub is_bounded : LeastWeightsAreBounded
+is_bounded n edges inside u v w all least = bounded n edges all inside v u w least
+
+pub is_found : LeastWeightsAreFound
+is_found network inside u v limits reached =
+    let least = least_within network.nodes network.edges inside u v (weight_of reached.steps + 1) limits.edges
+    reached.steps reached.walk (omega arith) in
+    least_within network.nodes network.edges inside u v (network.nodes * MAX_WEIGHT) limits.edges
+    least.attained.steps least.attained.walk
+    (omega (
+      arith,
+      least.attained.sum,
+      bounded network.nodes network.edges limits.edges inside v u _ least,
+      limits.positive,
+    ))

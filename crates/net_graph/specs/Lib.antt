@@ -1,5 +1,6 @@
 pub mod Walks
 pub mod Network
+pub mod LeastWeights
 pub mod Trees
 pub mod Layout
 pub mod Least

@@ -1,6 +1,6 @@
 -- What contracts see of a graph: the number of its nodes and a list of its edges.
 -- `IsNetwork` holds of every graph; `SameWalks` ties a graph's edges to those that it was made of.
--- Key law: `ReachedHasLeastWeight`, which the public function `reached_has_a_least_weight` proves.
+-- Key laws: `all_allowed_is_everywhere`, `reached_both_ways`.
 use Rattle.std.specs.Prelude.{◌≡◌, ℕ, ◌<◌, ◌≤◌, ◌↔◌, Bool, List, All}
 use Rattle.net_graph.specs.declared.edge.Edge.{Edge}
 use Rattle.net_graph.specs.declared.edge.TheConstants.{MAX_NODES, MAX_WEIGHT}
@@ -49,9 +49,3 @@ pub record IsFirstApart (n : ℕ) (edges : List Edge) (node : ℕ) : Type 0 wher
   pub below : node < n
   pub apart : IsUnreached edges everywhere 0 node
   pub first : (v : ℕ) → v < node → IsReached edges everywhere 0 v
-
--- where a walk leads to a node, one of least weight does
-abbrev pub ReachedHasLeastWeight : Type 0
-ReachedHasLeastWeight = (n : ℕ) (edges : List Edge) (inside : ℕ → Bool) (u v : ℕ)
-    → All (IsEdge n) edges
-    → IsReached edges inside u v → (w : ℕ) × IsLeastWeight edges inside u v w

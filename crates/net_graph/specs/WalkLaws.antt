@@ -1,6 +1,6 @@
 -- Laws of walks, of their weights and of least weights, for proofs over networks. Key laws,
 -- in words public functions of `laws`: `least_weight_is_one`, `least_weight_turned`,
--- `least_weights_add_up`, `reached_has_a_least_weight`.
+-- `least_weights_add_up`.
 use Rattle.std.proofs.Common.{◌≡◌, ◌≢◌, ℕ, ◌+◌, ◌<◌, ◌≤◌, Bool, true, false, List, [], ◌∷◌, ◌++◌, length, refl, sym, ◌∙◌, subst, inl, inr, arith}
 use Rattle.std.specs.Prelude.{All, ◌↔◌}
 use Rattle.std.proofs.lemmas.List.Elements.{All-contains}

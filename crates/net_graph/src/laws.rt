@@ -3,7 +3,8 @@
 
 ghost use Rattle.std.specs.Prelude.{◌≡◌, ◌≢◌, ◌+◌, ◌<◌, ◌≤◌, ◌↔◌, ℕ, Bool, true, List, All, length};
 ghost use Rattle.net_graph.specs.declared.edge.Edge.{Edge};
-ghost use Rattle.net_graph.specs.Network.{IsEdge, ReachedHasLeastWeight};
+ghost use Rattle.net_graph.specs.LeastWeights.{LeastWeightsAreBounded, LeastWeightsAreFound};
+ghost use Rattle.net_graph.specs.Network.{IsEdge};
 ghost use Rattle.net_graph.specs.Walks.{Joins, IsLeastWeight, IsUnreached, IsReached, among, everywhere};
 
 /// Two least weights of walks between the same nodes are equal.
@@ -67,9 +68,14 @@ pub fn all_allowed_is_everywhere()
         → IsUnreached edges (among allowed) u v ↔ IsUnreached edges everywhere u v }
 {}
 
-/// Where a walk leads to a node, one of least weight does.
-pub fn reached_has_a_least_weight()
-    ensures { ReachedHasLeastWeight }
+/// Where a walk leads to a node, the number `least_weight` is the least weight of one.
+pub fn least_weight_is_found()
+    ensures { LeastWeightsAreFound }
+{}
+
+/// No least weight is more than a walk through all nodes can weigh.
+pub fn least_weight_is_bounded()
+    ensures { LeastWeightsAreBounded }
 {}
 
 /// Walks lead back, and on from where they end.

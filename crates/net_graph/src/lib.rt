@@ -18,9 +18,10 @@ pub use edge::{Edge, MAX_NODES, MAX_WEIGHT};
 pub use fault::{GraphFault, OutOfMemory};
 pub use graph::Graph;
 pub use laws::{
-    all_allowed_is_everywhere, least_weight_is_one, least_weight_is_positive,
-    least_weight_is_reached, least_weight_of_a_step, least_weight_to_itself, least_weight_turned,
-    least_weights_add_up, reached_both_ways, reached_has_a_least_weight, unreached_turned,
+    all_allowed_is_everywhere, least_weight_is_bounded, least_weight_is_found, least_weight_is_one,
+    least_weight_is_positive, least_weight_is_reached, least_weight_of_a_step,
+    least_weight_to_itself, least_weight_turned, least_weights_add_up, reached_both_ways,
+    unreached_turned,
 };
 pub use neighbours::Arc;
 pub use tree::Tree;

@@ -18,8 +18,9 @@ use Rattle.cluster_tree.specs.PlaceLaws.{has_place, beside_place}
 use Rattle.region_plan.specs.Plan.{PlanCluster, Level, PlanData, level_at, levels_of, top_of, no_level}
 use Rattle.node_set.specs.Balls.{GrownCluster}
 use Rattle.node_set.specs.BallLaws.{ascending-union_of}
-use Rattle.region_plan.specs.Regions.{IsTop, IsClusterOf, AreClustersOf, IsLevelOf, IsPlanOf, regions_of, readers_of}
-use Rattle.region_plan.specs.Regions.{as_tree}
+use Rattle.region_plan.specs.Regions.{regions_of, readers_of}
+use Rattle.region_plan.specs.Meanings.{IsTop, IsClusterOf, AreClustersOf, IsLevelOf, IsPlanOf}
+use Rattle.region_plan.specs.Meanings.{as_tree}
 
 -- ---- the clusters of a coarsening have ascending members
 

@@ -12,7 +12,8 @@ use Rattle.distances.specs.Table.{DistanceTable, dist, ball_of}
 use Rattle.coarse_cover.specs.Coarsening.{coarsening, all_clusters}
 use Rattle.coarse_cover.specs.Covers.{cluster_list}
 use Rattle.region_plan.specs.Plan.{Level, level_in, no_level}
-use Rattle.region_plan.specs.Regions.{balls_of, regions_of, threshold_of, AreClustersOf, IsLevelOf}
+use Rattle.region_plan.specs.Regions.{balls_of, regions_of, threshold_of}
+use Rattle.region_plan.specs.Meanings.{AreClustersOf, IsLevelOf}
 use Rattle.region_plan.specs.Kept.{AreLevelsOf, IsSized, level_with}
 use Rattle.region_plan.specs.Spread.{AreMarked, HasExponent}
 use Rattle.region_plan.proofs.Levels.{levels_more}

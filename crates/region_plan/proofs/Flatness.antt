@@ -7,7 +7,8 @@ use Rattle.net_graph.specs.Network.{Network}
 use Rattle.cluster_tree.specs.Tree.{weight_beside}
 use Rattle.region_plan.specs.Plan.{PlanData, nodes_of, levels_of, top_of, distance, level_at, cluster_in, cluster_at}
 use Rattle.region_plan.specs.Plan.{clusters_of, members_of, home, readers, leader, inside}
-use Rattle.region_plan.specs.Regions.{clusters_with, IsFlat}
+use Rattle.region_plan.specs.Regions.{clusters_with}
+use Rattle.region_plan.specs.Flat.{IsFlat}
 use Rattle.region_plan.specs.Matched.{IsMatched, IsWithinReach}
 use Rattle.node_set.specs.Balls.{centres}
 use Rattle.node_set.specs.BallLaws.{has_centre, below_centre, get_or-map_centres}

@@ -15,8 +15,9 @@ use Rattle.coarse_cover.specs.declared.cover.Cover.{Cover}
 use Rattle.coarse_cover.specs.declared.workspace.Workspace.{Workspace}
 use Rattle.coarse_cover.specs.Workspaces.{IsWorkspace}
 use Rattle.region_plan.specs.Plan.{PlanCluster, Level, PlanData, level_in, no_level}
-use Rattle.region_plan.specs.Regions.{balls_of, regions_of, readers_of, threshold_of, IsTop, AreClustersOf, IsLevelOf}
-use Rattle.region_plan.specs.Regions.{IsPlanOf}
+use Rattle.region_plan.specs.Regions.{balls_of, regions_of, readers_of, threshold_of}
+use Rattle.region_plan.specs.Meanings.{IsTop, AreClustersOf, IsLevelOf}
+use Rattle.region_plan.specs.Meanings.{IsPlanOf}
 use Rattle.region_plan.specs.Kept.{AreLevelsOf, IsSpanned, IsSized, Shape, level_of, shape_with}
 use Rattle.region_plan.proofs.Spanning.{centred, listed_spanned}
 use Rattle.node_set.specs.Ascending.{has}

@@ -12,11 +12,10 @@ mod Levels
 mod Shapes
 mod Matching
 mod Alone
-mod Existing
+mod Sparse
+mod Meaning
 mod Uniqueness
-mod LineWalks
-mod LineLaws
-mod LinePlans
+mod LineNetwork
 mod Counting
 mod Exponents
 mod Spreading

@@ -18,8 +18,10 @@ use Rattle.std.proofs.lemmas.Grind.{same_number_lists}
 use Rattle.cluster_tree.specs.Inside.{AreWeightsWritten, make_cluster}
 use Rattle.cluster_tree.specs.Tree.{weight_beside, IsTreeOf}
 use Rattle.region_plan.specs.Plan.{PlanCluster, Level, cluster_in, weight_in}
-use Rattle.region_plan.specs.Regions.{clusters_with, readers_of, IsTop, IsWhole, IsWholeAlone, IsFlatLevel, IsClusterOf}
-use Rattle.region_plan.specs.Regions.{AreClustersOf}
+use Rattle.region_plan.specs.Regions.{clusters_with, readers_of}
+use Rattle.region_plan.specs.Meanings.{IsTop, IsClusterOf}
+use Rattle.region_plan.specs.Flat.{IsWhole, IsWholeAlone, IsFlatLevel}
+use Rattle.region_plan.specs.Meanings.{AreClustersOf}
 use Rattle.region_plan.specs.Kept.{AreBeside, AreRows, IsSized, level_of, shape_with}
 use Rattle.region_plan.proofs.Rows.{length-containing}
 use Rattle.node_set.specs.Balls.{centres, sets}

@@ -15,7 +15,8 @@ use Rattle.coarse_cover.specs.CoverLaws.{cluster_list_nodes, length-cluster_list
 use Rattle.cluster_tree.specs.Tree.{within}
 use Rattle.region_plan.specs.Plan.{PlanData, nodes_of, levels_of, top_of, distance, level_at, no_cluster, cluster_in}
 use Rattle.region_plan.specs.Plan.{cluster_at, clusters_of, members_of, home, readers, leader, inside}
-use Rattle.region_plan.specs.Regions.{balls_of, regions_of, clusters_with, IsClusterOf, IsLevelOf, IsPlanOf}
+use Rattle.region_plan.specs.Regions.{balls_of, regions_of, clusters_with}
+use Rattle.region_plan.specs.Meanings.{IsClusterOf, IsLevelOf, IsPlanOf}
 use Rattle.region_plan.specs.Matched.{IsMatched, IsWithinReach, BoundsFinds}
 use Rattle.region_plan.proofs.Reaching.{to_ball}
 use Rattle.region_plan.proofs.Spanning.{IsClose, centred, listed_close}

@@ -1,6 +1,7 @@
 -- The greatest of some numbers, one after another.
 use Rattle.std.proofs.Common.{◌≡◌, ℕ, zero, suc, ◌+◌, ◌<◌, ◌≤◌, List, [], ◌∷◌, ◌++◌, length, map, take, get_or, refl}
-use Rattle.std.proofs.Common.{sym, ◌∙◌, ap, arith, rules}
+use Rattle.std.proofs.Common.{sym, ◌∙◌, ap, arith, rules, inl, inr}
+use Rattle.std.proofs.lemmas.Bool.{cases_lt}
 use Rattle.std.specs.Prelude.{max}
 use Rattle.std.specs.Ordering.{ord_max, nat_cmp}
 use Rattle.std.proofs.lemmas.Bool.Decides.{nat_tests}
@@ -53,7 +54,7 @@ pub greater_is : (a b new : ℕ) → new ≡ ord_max nat_cmp a b → new ≡ max
 greater_is a b new is = first_of (omega arith, grind (arith, nat_tests), grind arith, search rules)
 
 -- no number is above the greatest
-most_bounds : (xs : List ℕ) (i : ℕ) → get_or xs i 0 ≤ most xs
+pub most_bounds : (xs : List ℕ) (i : ℕ) → get_or xs i 0 ≤ most xs
 most_bounds [] i = omega arith
 most_bounds (x ∷ xs) zero = le-max_left x (most xs)
 most_bounds (x ∷ xs) (suc i) = omega (arith, most_bounds xs i, le-max_right x (most xs))
@@ -72,3 +73,23 @@ degree_bounds plan i v =
       at_map degree_in plan.levels i no_level refl,
       most_bounds (map degree_in plan.levels) i,
     )
+
+-- the place of the greatest
+pub record HasGreatest (xs : List ℕ) : Type 0 where
+  pub at : ℕ
+  pub below : at < length xs
+  pub is : get_or xs at 0 ≡ most xs
+
+greatest_there : (x : ℕ) (xs : List ℕ) → HasGreatest (x ∷ xs)
+greatest_there x [] = record { at = 0; below = omega arith; is = omega arith }
+greatest_there x (y ∷ ys) =
+    let rest : HasGreatest (y ∷ ys) = greatest_there y ys in
+    let rest_is : get_or (y ∷ ys) rest.at 0 ≡ max y (most ys) = rest.is in
+    elim (cases_lt (max y (most ys)) x) [
+      | inl over ↦ record { at = 0; below = omega arith; is = omega arith }
+      | inr under ↦ record { at = suc rest.at; below = omega (arith, rest.below); is = omega (arith, rest_is) }
+    ]
+
+pub greatest_in : (xs : List ℕ) → 0 < length xs → HasGreatest xs
+greatest_in [] some = absurd (omega arith)
+greatest_in (x ∷ xs) some = greatest_there x xs

@@ -7,7 +7,8 @@ use Rattle.distances.specs.Table.{DistanceTable}
 use Rattle.distances.specs.TableLaws.{one_table}
 use Rattle.cluster_tree.specs.Tree.{WeighedCluster, IsDepth}
 use Rattle.region_plan.specs.Plan.{PlanCluster, Level, PlanData, level_at, no_level, cluster_in, no_cluster}
-use Rattle.region_plan.specs.Regions.{as_tree, IsTop, IsWhole, IsFlatLevel, IsFlat}
+use Rattle.region_plan.specs.Meanings.{as_tree, IsTop}
+use Rattle.region_plan.specs.Flat.{IsWhole, IsFlatLevel, IsFlat}
 
 -- ---- records whose fields are equal
 

@@ -12,7 +12,8 @@ use Rattle.cluster_tree.specs.Tree.{within}
 use Rattle.distances.specs.Table.{DistanceTable, IsMetric}
 use Rattle.region_plan.specs.Plan.{PlanCluster, PlanData, Level, nodes_of, levels_of, no_level}
 use Rattle.region_plan.specs.Plan.{level_in, weight_in}
-use Rattle.region_plan.specs.Regions.{IsLevelOf, clusters_with, readers_of}
+use Rattle.region_plan.specs.Regions.{clusters_with, readers_of}
+use Rattle.region_plan.specs.Meanings.{IsLevelOf}
 use Rattle.region_plan.specs.Measures.{degree_of}
 use Rattle.region_plan.specs.declared.sharing.LevelHead.{LevelHead}
 

@@ -6,7 +6,7 @@ use Rattle.net_graph.specs.Network.{Network}
 use Rattle.node_set.specs.Ascending.{IsAscending}
 use Rattle.coarse_cover.specs.declared.cover.Cluster.{Cluster}
 use Rattle.region_plan.specs.Plan.{PlanCluster}
-use Rattle.region_plan.specs.Regions.{IsClusterOf}
+use Rattle.region_plan.specs.Meanings.{IsClusterOf}
 use Rattle.region_plan.specs.declared.clusters.ClusterHead.{ClusterHead}
 use Rattle.region_plan.specs.declared.clusters.ClusterLists.{ClusterLists}
 

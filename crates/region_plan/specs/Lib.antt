@@ -1,5 +1,7 @@
 pub mod Plan
 pub mod Regions
+pub mod Meanings
+pub mod Flat
 pub mod Matched
 pub mod Measures
 pub mod Kept
@@ -9,4 +11,3 @@ pub mod Examples
 pub mod Settings
 pub mod Readers
 pub mod Cells
-pub mod Existence

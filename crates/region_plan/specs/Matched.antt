@@ -1,7 +1,8 @@
 -- A matched plan: at each level the home of a node is read by every node within the level's radius.
 -- And what the bound on the weight of finds asks of a plan beside that.
 -- Key laws: `Plan::build` gives plans that bound their finds, by its clause `bounding`, and
--- `plan_is_bounding` says the same of every plan of a network; `Plan::flat` gives matched plans
+-- `plan_is_bounding` says the same of the plan of every network; `plan_is_sparse` and the clause
+-- `sparse` bound the degree by the number of nodes and k; `Plan::flat` gives matched plans
 -- whose clusters are within their reach, by its clauses `matched` and `reached`.
 use Rattle.std.specs.Prelude.{◌≡◌, ℕ, ◌*◌, ◌^◌, ◌<◌, ◌≤◌, true, length}
 use Rattle.node_set.specs.Ascending.{has}
@@ -9,7 +10,7 @@ use Rattle.distances.specs.Table.{IsMetric}
 use Rattle.region_plan.specs.Plan.{PlanData, nodes_of, levels_of, top_of, distance, level_at}
 use Rattle.region_plan.specs.Plan.{clusters_of, members_of, home, readers, leader, inside}
 use Rattle.region_plan.specs.Plan.{threshold}
-use Rattle.region_plan.specs.Regions.{clusters_with, threshold_of, IsPlanOf}
+use Rattle.region_plan.specs.Regions.{clusters_with, plan_of, threshold_of}
 use Rattle.region_plan.specs.Measures.{degree_of}
 use Rattle.net_graph.specs.Network.{Network, IsNetwork}
 
@@ -58,8 +59,21 @@ pub record BoundsFinds (plan : PlanData) : Type 0 where
   pub reached : IsWithinReach plan
   pub read : (i v : ℕ) → length (readers plan i v) ≤ degree_of plan
 
+-- few clusters overlap: the number p of a level's phases has p ^ k ≤ k ^ k * n, no node reads more
+-- than p clusters of the level, and so the degree is as small
+pub record HasFewReaders (plan : PlanData) : Type 0 where
+  pub phases : (i : ℕ) → i < levels_of plan
+      → (level_at plan i).phases ^ plan.k ≤ plan.k ^ plan.k * nodes_of plan
+  pub read : (i v : ℕ) → i < levels_of plan
+      → length (readers plan i v) ≤ (level_at plan i).phases
+  pub degree : degree_of plan ^ plan.k ≤ plan.k ^ plan.k * nodes_of plan
+
 -- the plans of networks are such plans
+abbrev pub PlansHaveFewReaders : Type 0
+PlansHaveFewReaders = (network : Network) (k : ℕ) → IsNetwork network → 1 ≤ k
+    → HasFewReaders (plan_of network k)
+
+-- and they bound their finds
 abbrev pub PlansBoundFinds : Type 0
-PlansBoundFinds = (network : Network) (k : ℕ) (plan : PlanData) → IsNetwork network → 1 ≤ k
-    → IsMetric plan.distances
-    → IsPlanOf network k plan → BoundsFinds plan
+PlansBoundFinds = (network : Network) (k : ℕ) → IsNetwork network → 1 ≤ k
+    → BoundsFinds (plan_of network k)

@@ -1,27 +1,19 @@
--- The plan of a network, level by level: level i coarsens the balls of radius 2^i; and the flat
--- plan, one cluster of all nodes.
--- Key laws: `Plan::build` gives the plan of its network and k, `Plan::flat` gives the flat plan,
--- `networks_have_plans` says that a network and k have a plan, and `plan_is_one` that it is the
--- only one.
-use Rattle.std.specs.Prelude.{◌≡◌, ℕ, zero, suc, ◌-◌, ◌*◌, ◌^◌, ◌<◌, ◌≤◌, List, [], ◌∷◌, length}
-use Rattle.std.specs.Prelude.{map}
+-- The plan of a network, level by level: level i coarsens the balls of radius 2^i, and each cluster
+-- has the least weights inside it from its leader.
+-- Key laws: `Plan::build` gives the plan of its network and k; in words of walks, `plan_means` says
+-- what this plan is, and `plan_is_bounding` what bounds the finds over it.
+use Rattle.std.specs.Prelude.{ℕ, zero, suc, ◌+◌, ◌-◌, ◌*◌, ◌^◌, List, length, map, nat_le}
+use Rattle.net_graph.specs.LeastWeights.{least_weight}
 use Rattle.net_graph.specs.Network.{Network}
 use Rattle.node_set.specs.Ascending.{has, sift}
-use Rattle.distances.specs.Table.{DistanceTable, AreDistancesOf, IsDiameter, ball_of, dist}
+use Rattle.node_set.specs.Balls.{GrownCluster, centres, home_of, least}
+use Rattle.distances.specs.Table.{DistanceTable, ball_of, table_of}
 use Rattle.coarse_cover.specs.Coarsening.{coarsening, all_clusters}
 use Rattle.coarse_cover.specs.Covers.{cluster_list}
 use Rattle.coarse_cover.specs.declared.cover.Cluster.{Cluster}
-use Rattle.cluster_tree.specs.Tree.{WeighedCluster, IsTreeOf, IsDepth}
-use Rattle.node_set.specs.Balls.{GrownCluster, centres, home_of}
-use Rattle.region_plan.specs.Plan.{PlanCluster, Level, PlanData, cluster_in, level_at, levels_of}
-use Rattle.region_plan.specs.Plan.{top_of}
-
--- the top level: the least whose power of two reaches the diameter
-pub record IsTop (table : DistanceTable) (top : ℕ) : Type 0 where
-  pub diameter : ℕ
-  pub greatest : IsDiameter table diameter
-  pub enough : diameter ≤ 2 ^ top
-  pub least : (i : ℕ) → i < top → 2 ^ i < diameter
+use Rattle.cluster_tree.specs.Tree.{within}
+use Rattle.region_plan.specs.Measures.{most}
+use Rattle.region_plan.specs.Plan.{PlanCluster, Level, PlanData, cluster_in}
 
 -- the threshold of a level
 abbrev pub threshold_of : ℕ → ℕ
@@ -44,80 +36,54 @@ clusters_with clusters v = sift (λ c. has v (cluster_in clusters c).members) 0 
 abbrev pub readers_of : ℕ → List PlanCluster → List (List ℕ)
 readers_of n clusters = map (clusters_with clusters) (centres n)
 
--- a cluster of a plan as its tree sees it
-abbrev pub as_tree : PlanCluster → WeighedCluster
-as_tree cluster = record {
-  leader = cluster.leader;
-  members = cluster.members;
-  weights =
-      cluster.weights;
-}
+-- the least weights inside a cluster of a cover, from the node that leads it to each of its nodes
+abbrev pub weights_in : Network → Cluster → List ℕ
+weights_in network made =
+    map (least_weight network (within made.members.members) made.first) made.members.members
 
--- a cluster of a plan is this cluster of a cover, with the least weights inside it
-pub record IsClusterOf (network : Network) (made : Cluster) (cluster : PlanCluster) : Type 0 where
-  pub leader : cluster.leader ≡ made.first
-  pub phase : cluster.phase ≡ made.phase
-  pub members : cluster.members ≡ made.members.members
-  pub tree : IsTreeOf network made.members.members made.first (as_tree cluster)
-  pub count : length cluster.weights ≡ length cluster.members
-  pub depth : IsDepth (as_tree cluster) cluster.depth
+-- a cluster of a cover as a cluster of the plan
+abbrev pub weighed : Network → Cluster → PlanCluster
+weighed network made =
+    record {
+      leader = made.first;
+      phase = made.phase;
+      members = made.members.members;
+      weights = weights_in network made;
+      depth = most (weights_in network made);
+    }
 
--- the clusters of a plan are those of a cover, one for one
-abbrev pub AreClustersOf : Network → List Cluster → List PlanCluster → Type 0
-AreClustersOf network [] [] = Unit {0}
-AreClustersOf network [] (d ∷ ds) = ⊥
-AreClustersOf network (c ∷ cs) [] = ⊥
-AreClustersOf network (c ∷ cs) (d ∷ ds) = IsClusterOf network c d × AreClustersOf network cs ds
+-- a level with these clusters, from these phases of the coarsening
+abbrev pub level_with_clusters : ℕ → ℕ → List (List GrownCluster) → List PlanCluster → Level
+level_with_clusters n i regions clusters =
+    record {
+      exponent = i;
+      threshold = threshold_of i;
+      phases = length regions;
+      clusters = clusters;
+      homes = map (home_of (all_clusters regions)) (centres n);
+      readers = readers_of n clusters;
+    }
 
--- level i of the plan of a network
-pub record IsLevelOf (network : Network) (table : DistanceTable) (k i : ℕ) (level : Level) : Type 0
-  where
-    pub exponent : level.exponent ≡ i
-    pub threshold : level.threshold ≡ threshold_of i
-    pub phases : level.phases ≡ length (regions_of table k i)
-    pub clusters : AreClustersOf network (cluster_list table.nodes 0 (regions_of table k i))
-        level.clusters
-    pub homes : level.homes ≡ map (home_of (all_clusters (regions_of table k i)))
-        (centres table.nodes)
-    pub readers : level.readers ≡ readers_of table.nodes level.clusters
+-- level i
+abbrev pub level_for : Network → DistanceTable → ℕ → ℕ → Level
+level_for network table k i =
+    level_with_clusters table.nodes i (regions_of table k i)
+    (map (weighed network) (cluster_list table.nodes 0 (regions_of table k i)))
+
+-- the top level: the least whose power of two reaches a diameter
+abbrev pub top_for : ℕ → ℕ
+top_for diameter = least (λ i. nat_le diameter (2 ^ i)) diameter
+
+-- the plan with the trade-off k, over the network's distances
+abbrev pub plan_over : Network → DistanceTable → ℕ → PlanData
+plan_over network table k =
+    record {
+      k = k;
+      reach = 2 * k - 1;
+      distances = table;
+      levels = map (level_for network table k) (centres (top_for (most table.cells) + 1));
+    }
 
 -- the plan of a network with the trade-off k
-pub record IsPlanOf (network : Network) (k : ℕ) (plan : PlanData) : Type 0 where
-  pub distances : AreDistancesOf network plan.distances
-  pub trade_off : plan.k ≡ k
-  pub reach : plan.reach ≡ 2 * k - 1
-  pub some : 1 ≤ levels_of plan
-  pub top : IsTop plan.distances (top_of plan)
-  pub each : (i : ℕ) → i < levels_of plan → IsLevelOf network plan.distances k i (level_at plan i)
-
--- the cluster of all nodes, whose weights are the distances from node 0
-pub record IsWhole (table : DistanceTable) (cluster : PlanCluster) : Type 0 where
-  pub leader : cluster.leader ≡ 0
-  pub phase : cluster.phase ≡ 0
-  pub members : cluster.members ≡ centres table.nodes
-  pub weights : cluster.weights ≡ map (λ v. dist table 0 v) (centres table.nodes)
-  pub depth : IsDepth (as_tree cluster) cluster.depth
-
--- the cluster of all nodes, and no other
-pub record IsWholeAlone (table : DistanceTable) (clusters : List PlanCluster) : Type 0 where
-  pub cluster : PlanCluster
-  pub alone : clusters ≡ cluster ∷ []
-  pub whole : IsWhole table cluster
-
--- the level of one cluster of all nodes
-pub record IsFlatLevel (table : DistanceTable) (level : Level) : Type 0 where
-  pub exponent : IsTop table level.exponent
-  pub threshold : level.threshold ≡ 1
-  pub phases : level.phases ≡ 1
-  pub one : length level.clusters ≡ 1
-  pub whole : IsWhole table (cluster_in level.clusters 0)
-  pub homes : level.homes ≡ map (λ v. 0) (centres table.nodes)
-  pub readers : level.readers ≡ map (λ v. 0 ∷ []) (centres table.nodes)
-
--- the flat plan of a network
-pub record IsFlat (network : Network) (plan : PlanData) : Type 0 where
-  pub distances : AreDistancesOf network plan.distances
-  pub trade_off : plan.k ≡ 1
-  pub reach : plan.reach ≡ 1
-  pub one : levels_of plan ≡ 1
-  pub level : IsFlatLevel plan.distances (level_at plan 0)
+unfoldable pub plan_of : Network → ℕ → PlanData
+plan_of network k = plan_over network (table_of network) k

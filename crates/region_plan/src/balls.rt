@@ -4,7 +4,8 @@ ghost use Rattle.std.specs.Prelude.{◌≡◌, ℕ, ◌<◌, ◌≤◌, ◌^◌,
 ghost use Rattle.node_set.specs.Nodes.{Nodes};
 ghost use Rattle.distances.specs.Table.{IsMetric};
 ghost use Rattle.node_set.specs.Balls.{sets};
-ghost use Rattle.region_plan.specs.Regions.{IsTop, balls_of};
+ghost use Rattle.region_plan.specs.Regions.{balls_of};
+ghost use Rattle.region_plan.specs.Meanings.{IsTop};
 ghost use Rattle.region_plan.specs.Spread.{AreExponents};
 
 use distances::Distances;

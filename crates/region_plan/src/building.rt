@@ -4,7 +4,8 @@ ghost use Rattle.std.specs.Prelude.{◌≡◌, ◌+◌, ◌≤◌, ◌^◌, All,
 ghost use Rattle.net_graph.specs.Network.{IsNetwork};
 ghost use Rattle.distances.specs.Table.{AreDistancesOf, IsMetric};
 ghost use Rattle.coarse_cover.specs.Workspaces.{IsWorkspace};
-ghost use Rattle.region_plan.specs.Regions.{IsLevelOf, threshold_of};
+ghost use Rattle.region_plan.specs.Regions.{threshold_of};
+ghost use Rattle.region_plan.specs.Meanings.{IsLevelOf};
 ghost use Rattle.region_plan.specs.Kept.{AreLevelsOf, IsSized, level_of};
 ghost use Rattle.region_plan.specs.Spread.{IsSpreadOf};
 ghost use Rattle.node_set.specs.Nodes.{Nodes};

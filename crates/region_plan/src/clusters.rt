@@ -10,7 +10,8 @@ ghost use Rattle.region_plan.specs.Kept.{IsSpanned};
 ghost use Rattle.region_plan.specs.Laid.{AreLaid, IsPushed};
 ghost use Rattle.region_plan.specs.Plan.{cluster_in, weight_in};
 ghost use Rattle.region_plan.specs.Readers.{place_in};
-ghost use Rattle.region_plan.specs.Regions.{AreClustersOf, IsWholeAlone};
+ghost use Rattle.region_plan.specs.Meanings.{AreClustersOf};
+ghost use Rattle.region_plan.specs.Flat.{IsWholeAlone};
 
 use crate::readers::push_members;
 use cluster_tree::{TreeFault, inside_weights};

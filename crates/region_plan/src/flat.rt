@@ -2,7 +2,7 @@
 ghost use Rattle.std.specs.Prelude.{◌≡◌, All, IfOk, length};
 ghost use Rattle.distances.specs.Table.{IsMetric};
 ghost use Rattle.region_plan.specs.Plan.{level_in};
-ghost use Rattle.region_plan.specs.Regions.{IsFlatLevel};
+ghost use Rattle.region_plan.specs.Flat.{IsFlatLevel};
 ghost use Rattle.region_plan.specs.Kept.{IsSized};
 
 use crate::balls::top_for;

@@ -1,47 +1,62 @@
 //! Laws of plans, for the proofs of callers: each function does nothing, and its clauses are laws.
 
 ghost use Rattle.std.specs.Prelude.{◌≡◌, ◌+◌, ◌*◌, ◌<◌, ◌≤◌, ℕ, List, [], ◌∷◌, length, sum_by};
-ghost use Rattle.net_graph.specs.Network.{Network, IsNetwork};
+ghost use Rattle.net_graph.specs.Network.{Network};
 ghost use Rattle.distances.specs.Table.{IsMetric};
 ghost use Rattle.region_plan.specs.Plan.{PlanData, nodes_of, levels_of, readers_in, distance, home};
 ghost use Rattle.region_plan.specs.Plan.{readers, leader, inside};
-ghost use Rattle.region_plan.specs.Regions.{IsFlat, IsPlanOf};
-ghost use Rattle.region_plan.specs.Existence.{NetworksHavePlans, PlanIsOne};
+ghost use Rattle.region_plan.specs.Meanings.{PlansMean, PlansOfSameWalks};
+ghost use Rattle.region_plan.specs.Flat.{IsFlat};
+ghost use Rattle.region_plan.specs.Regions.{plan_of};
 ghost use Rattle.region_plan.specs.Matched.{IsMatched, IsWithinReach, PlansBoundFinds, BoundsFinds};
+ghost use Rattle.region_plan.specs.Matched.{PlansHaveFewReaders};
 ghost use Rattle.region_plan.specs.Measures.{degree_of};
 ghost use Rattle.region_plan.specs.Settings.{setting_of};
 ghost use Rattle.directory.specs.Finds.{most_looks};
 ghost use Rattle.directory.specs.Writes.{most_writes};
 ghost use Rattle.region_plan.specs.Examples.{line_network, line_of_four};
 
-use coarse_cover::{cluster_shape, home_means};
+use coarse_cover::{cluster_shape, covers_are_sparse, home_means};
 use distances::{distances_are_one, networks_have_distances};
-use net_graph::{least_weight_is_one, least_weight_turned, reached_has_a_least_weight};
+use net_graph::{least_weight_is_found, least_weight_is_one};
 
-/// A network and a trade-off have one plan.
-pub fn plan_is_one()
-    ensures { PlanIsOne }
+/// What the plan of a network is in words of walks: its distances and the weights inside its
+/// clusters are those of least walks, and its clusters are those of the coarsening.
+pub fn plan_means()
+    ensures { PlansMean }
 {
-    distances_are_one();
-    least_weight_is_one();
+    least_weight_is_found();
+    networks_have_distances();
+    cluster_shape();
 }
 
 /// The plan of a network is matched, and has what bounds the weight of finds.
 pub fn plan_is_bounding()
     ensures { PlansBoundFinds }
 {
+    networks_have_distances();
     cluster_shape();
     home_means();
+    plan_means();
 }
 
-/// A network has a plan for each trade-off, and that bounds the weight of its finds.
-pub fn networks_have_plans()
-    ensures { NetworksHavePlans }
+/// The plan of a network has few clusters at a node: the degree to the power `k` is at most `k` to
+/// the power `k` times the number of nodes.
+pub fn plan_is_sparse()
+    ensures { PlansHaveFewReaders }
 {
     networks_have_distances();
-    reached_has_a_least_weight();
-    cluster_shape();
-    plan_is_bounding();
+    covers_are_sparse();
+    plan_means();
+}
+
+/// Networks over which the least walks weigh the same have one plan.
+pub fn plan_of_same_walks()
+    ensures { PlansOfSameWalks }
+{
+    distances_are_one();
+    least_weight_is_one();
+    plan_means();
 }
 
 /// A network has one flat plan.
@@ -84,9 +99,8 @@ pub fn degree_bounds()
 /// The plan of the line of four is the plan of its network with the trade-off 2, and bounds its
 /// finds.
 pub fn line_has_its_plan()
-    ensures plan { IsPlanOf line_network 2 line_of_four }
+    ensures plan { plan_of line_network 2 ≡ line_of_four }
     ensures bounding { BoundsFinds line_of_four }
 {
-    least_weight_turned();
     plan_is_bounding();
 }

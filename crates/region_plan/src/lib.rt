@@ -24,8 +24,8 @@ mod sharing;
 mod spread;
 
 pub use laws::{
-    degree_bounds, flat_is_one, flat_means, line_has_its_plan, networks_have_plans, plan_counts,
-    plan_is_bounding, plan_is_one,
+    degree_bounds, flat_is_one, flat_means, line_has_its_plan, plan_counts, plan_is_bounding,
+    plan_is_sparse, plan_means, plan_of_same_walks,
 };
 pub use net_graph::OutOfMemory;
 pub use plan::Plan;

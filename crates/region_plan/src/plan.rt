@@ -8,8 +8,9 @@ ghost use Rattle.region_plan.specs.Plan.{level_at, levels_of, nodes_of, clusters
 ghost use Rattle.region_plan.specs.Plan.{Repeats, members_of, inside};
 ghost use Rattle.region_plan.specs.Plan.{home as home_in, readers as readers_at};
 ghost use Rattle.region_plan.specs.Plan.{leader as leader_in, threshold as threshold_at};
-ghost use Rattle.region_plan.specs.Regions.{IsFlat, IsPlanOf};
-ghost use Rattle.region_plan.specs.Matched.{IsMatched, IsWithinReach, BoundsFinds};
+ghost use Rattle.region_plan.specs.Regions.{plan_of};
+ghost use Rattle.region_plan.specs.Flat.{IsFlat};
+ghost use Rattle.region_plan.specs.Matched.{IsMatched, IsWithinReach, BoundsFinds, HasFewReaders};
 ghost use Rattle.region_plan.specs.Measures.{degree_of, stretch_of};
 ghost use Rattle.region_plan.specs.Settings.{setting_of};
 ghost use Rattle.directory.specs.Finds.{most_looks};
@@ -19,12 +20,13 @@ ghost use Rattle.region_plan.specs.Kept.{IsKept};
 use crate::balls::top_for;
 use crate::building::push_level;
 use crate::flat::flat_levels;
+use crate::laws::{plan_is_sparse, plan_means};
 use crate::readers::empty_sets;
 use crate::sharing::Levels;
 use crate::spread::Spread;
 use coarse_cover::{Workspace, cluster_shape, home_means};
-use distances::Distances;
-use net_graph::{Graph, OutOfMemory};
+use distances::{Distances, distances_are_one};
+use net_graph::{Graph, OutOfMemory, least_weight_is_one};
 use std::alloc::Global;
 use std::marker::Model;
 
@@ -121,15 +123,20 @@ impl Plan {
         requires belongs { AreDistancesOf graph.now distances.now }
         requires low { 1 ≤ k }
         requires high { k ≤ 8 }
-        ensures plan { IfOk result (IsPlanOf graph.now k) }
+        ensures plan { IfOk result (λ plan. plan ≡ plan_of graph.now k) }
         ensures copy { IfOk result (λ plan. plan.distances ≡ distances.now) }
         ensures bounding { IfOk result BoundsFinds }
+        ensures sparse { IfOk result HasFewReaders }
     {
         // The calls tell the proof that the network is connected and within the limits, and what
         // covers keep.
         let nodes = graph.nodes();
         cluster_shape();
         home_means();
+        distances_are_one();
+        least_weight_is_one();
+        plan_means();
+        plan_is_sparse();
         let top = top_for(distances);
         let mut levels = Levels::with_capacity(alloc, top as usize + 1)?;
         let spread = Spread::new(alloc, distances)?;

@@ -1,74 +1,50 @@
 -- A graph's plan is the plan of the edges that it was made of.
-use Rattle.std.proofs.Common.{Result, Ok, Err, IfOk, ◌≡◌, ℕ, ◌<◌, List, [], ◌∷◌, subst, ◌∙◌}
+use Rattle.std.proofs.Common.{Result, Ok, Err, IfOk, ◌≡◌, ℕ, ◌<◌, ◌≤◌, Bool, true, false, List, subst, arith}
+use Rattle.std.specs.Prelude.{◌==◌, if◌then◌else◌}
 use Rattle.net_graph.specs.declared.edge.Edge.{Edge}
-use Rattle.net_graph.specs.Network.{Network, IsFirstApart, IsGraphOf, SameWalks}
+use Rattle.net_graph.specs.declared.edge.TheConstants.{MAX_NODES}
+use Rattle.net_graph.specs.Network.{Network, IsFirstApart, IsGraphOf, IsNetwork}
 use Rattle.net_graph.specs.Walks.{IsReached, everywhere}
-use Rattle.distances.specs.Table.{DistanceTable, AreDistancesOf, dist}
-use Rattle.cluster_tree.specs.Tree.{WeighedCluster, IsTreeOf, inside_weight, within}
-use Rattle.coarse_cover.specs.Covers.{cluster_list}
-use Rattle.coarse_cover.specs.declared.cover.Cluster.{Cluster}
-use Rattle.region_plan.specs.Plan.{PlanCluster, PlanData, level_at}
-use Rattle.region_plan.specs.Regions.{as_tree, IsPlanOf, AreClustersOf, regions_of}
-use Rattle.track.specs.Answers.{network_of}
 use Rattle.net_reader.specs.Input.{Contents}
+use Rattle.net_reader.specs.Table.{most_nodes}
+use Rattle.net_reader.specs.Valid.{IsValid}
+use Rattle.region_plan.specs.Meanings.{PlansMean, PlansOfSameWalks}
+use Rattle.region_plan.specs.Plan.{nodes_of}
+use Rattle.region_plan.specs.Regions.{plan_of}
+use Rattle.track.specs.Answers.{network_of, plan_for}
 
 -- ---- the plan of the input's network
 
--- the tree of a cluster is the same where the walks are
-tree_of : (one other : Network) (members : List ℕ) (leader : ℕ) (cluster : WeighedCluster)
-    → SameWalks other.edges one.edges → IsTreeOf one members leader cluster → IsTreeOf other members leader cluster
-tree_of one other members leader cluster same tree = record {
-  leader_is = tree.leader_is;
-  members_are = tree.members_are;
-  each = λ v member. (same.least (within members) leader v (inside_weight cluster v)).1 (tree.each v member);
+-- no format has more nodes than a network may have
+most-within : (format : ℕ) → most_nodes format ≤ MAX_NODES
+most-within format = at (format == 2)
+  where
+    at : (second : Bool) → (if second then 1024 else 256) ≤ MAX_NODES
+    at true = omega arith
+    at false = omega arith
+
+-- the network of a valid input is one within the limits
+network-valid : (contents : Contents) → IsValid contents → IsNetwork (network_of contents)
+network-valid contents valid = record {
+  limits = record {
+    positive = valid.some;
+    few = omega (arith, valid.few, most-within contents.format);
+    edges = valid.edges;
+  };
+  connected = valid.connected;
 }
 
-clusters_of : (one other : Network) (made : List Cluster) (clusters : List PlanCluster)
-    → SameWalks other.edges one.edges → AreClustersOf one made clusters → AreClustersOf other made clusters
-clusters_of one other [] [] same h = tt
-clusters_of one other [] (d ∷ ds) same h = h
-clusters_of one other (c ∷ cs) [] same h = h
-clusters_of one other (c ∷ cs) (d ∷ ds) same h = (
-  record {
-    leader = h.0.leader;
-    phase = h.0.phase;
-    members = h.0.members;
-    tree = tree_of one other c.members.members c.first (as_tree d) same h.0.tree;
-    count = h.0.count;
-    depth = h.0.depth;
-  },
-  clusters_of one other cs ds same h.1,
-)
-
-distances_of : (one other : Network) (table : DistanceTable) → one.nodes ≡ other.nodes
-    → SameWalks other.edges one.edges → AreDistancesOf one table → AreDistancesOf other table
-distances_of one other table nodes same are = record {
-  nodes = are.nodes ∙ nodes;
-  count = are.count;
-  each = λ u v below_u below_v. (same.least everywhere u v (dist table u v)).1 (are.each u v below_u below_v);
-}
+-- it has as many nodes as the input
+pub plan-nodes : PlansMean → (contents : Contents) → IsValid contents → nodes_of (plan_for contents) ≡ contents.nodes
+plan-nodes means contents valid =
+    (means (network_of contents) contents.k (network-valid contents valid) valid.k_some).distances.nodes
 
 -- the plan of a graph is the plan of the edges that it was made of
-pub plan_of_graph : (contents : Contents) (network : Network) (k : ℕ) (plan : PlanData)
-    → IsGraphOf contents.nodes contents.edges network → IsPlanOf network k plan → IsPlanOf (network_of contents) k plan
-plan_of_graph contents network k plan graph is = record {
-  distances = distances_of network (network_of contents) plan.distances graph.nodes graph.same is.distances;
-  trade_off = is.trade_off;
-  reach = is.reach;
-  some = is.some;
-  top = is.top;
-  each = λ i below.
-      let level = is.each i below in
-      record {
-        exponent = level.exponent;
-        threshold = level.threshold;
-        phases = level.phases;
-        clusters = clusters_of network (network_of contents) (cluster_list plan.distances.nodes 0 (regions_of
-            plan.distances k i)) (level_at plan i).clusters graph.same level.clusters;
-        homes = level.homes;
-        readers = level.readers;
-      };
-}
+pub plan_of_graph : PlansOfSameWalks → (contents : Contents) (network : Network) → IsValid contents
+    → IsGraphOf contents.nodes contents.edges network → plan_of network contents.k ≡ plan_for contents
+plan_of_graph same contents network valid graph =
+    same network (network_of contents) contents.k graph.sound (network-valid contents valid) graph.nodes graph.same
+    valid.k_some
 
 -- what follows from a result
 pub if_ok : {X E : Type 0} (r : Result X E) (P Q : X → Type 0) → ((x : X) → P x → Q x) → IfOk r P → IfOk r Q

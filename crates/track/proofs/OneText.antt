@@ -1,50 +1,41 @@
 -- Bytes have one text, and what ends without a fault is whole.
-use Rattle.std.proofs.Common.{◌≡◌, ◌⊎◌, inl, inr, ℕ, ◌<◌, ◌≤◌, List, length, Option, Some, Result, Ok, Err, refl, sym, ap, subst, ◌∙◌, arith}
+use Rattle.std.proofs.Common.{◌≡◌, ◌⊎◌, inl, inr, ℕ, ◌<◌, ◌≤◌, List, length, Option, Some, Result, Ok, Err, refl, sym, subst, ◌∙◌, arith}
 use Rattle.std.specs.Prelude.{IfSome}
 use Rattle.outside.specs.Calls.{HasFaulted}
-use Rattle.net_graph.specs.Network.{Network}
 use Rattle.net_reader.specs.declared.fault.InputFault.{InputFault}
 use Rattle.net_reader.specs.Input.{Contents, IsInput}
 use Rattle.net_reader.specs.Laws.{TextSaysOne}
 use Rattle.net_reader.specs.Reading.{most_bytes}
-use Rattle.region_plan.specs.Existence.{PlanIsOne}
-use Rattle.region_plan.specs.Plan.{PlanData}
-use Rattle.region_plan.specs.Regions.{IsPlanOf}
-use Rattle.report_text.specs.PlanText.{plan_text_of}
 use Rattle.word_line.specs.declared.command.Command.{Command}
 use Rattle.word_line.specs.declared.command.Command.TheVariants as commands
 use Rattle.track.specs.declared.status.Status.{Status}
 use Rattle.track.specs.declared.status.Status.TheVariants as statuses
-use Rattle.report_text.specs.ReportText.{report_of}
-use Rattle.track.specs.Answers.{network_of, outcome_under, IsRightAnswer, IsResult}
+use Rattle.track.specs.Answers.{IsRightAnswer, IsResult}
 use Rattle.track.specs.Ends.{EndsAs, IsTextWritten, Streams}
 use Rattle.track.specs.Laws.{BytesHaveOneText}
 
-same_result : PlanIsOne → (command : Command) (contents : Contents) (one other : List ℕ)
+same_result : (command : Command) (contents : Contents) (one other : List ℕ)
     → IsResult command contents one → IsResult command contents other → one ≡ other
-same_result unique commands.Cover contents one other p q =
-    p.text_is ∙ ap plan_text_of (unique (network_of contents) contents.k p.plan q.plan p.is q.is) ∙ sym q.text_is
-same_result unique commands.Replay contents one other p q =
-    p.text_is ∙ ap (λ plan. report_of (outcome_under contents plan))
-    (unique (network_of contents) contents.k p.plan q.plan p.is q.is) ∙ sym q.text_is
-same_result unique commands.Census contents one other p q = p.text_is ∙ sym q.text_is
-same_result unique commands.Run contents one other p q = absurd p
-same_result unique (commands.Make load) contents one other p q = absurd p
-same_result unique (commands.Trial load) contents one other p q = absurd p
+same_result commands.Cover contents one other p q = p ∙ sym q
+same_result commands.Replay contents one other p q = p.text_is ∙ sym q.text_is
+same_result commands.Census contents one other p q = p.text_is ∙ sym q.text_is
+same_result commands.Run contents one other p q = absurd p
+same_result (commands.Make load) contents one other p q = absurd p
+same_result (commands.Trial load) contents one other p q = absurd p
 
-same_answer : PlanIsOne → (command : Command) (input : Result Contents InputFault) (s t : Status) (one other : List ℕ)
+same_answer : (command : Command) (input : Result Contents InputFault) (s t : Status) (one other : List ℕ)
     → IsRightAnswer command input s one → IsRightAnswer command input t other → (s ≡ t) × (one ≡ other)
-same_answer unique command (Ok contents) s t one other p q = (
+same_answer command (Ok contents) s t one other p q = (
   p.0
       ∙ sym q.0,
-  same_result unique command contents one other p.1 q.1,
+  same_result command contents one other p.1 q.1,
 )
-same_answer unique command (Err fault) s t one other p q = (p.0 ∙ sym q.0, p.1 ∙ sym q.1)
+same_answer command (Err fault) s t one other p q = (p.0 ∙ sym q.0, p.1 ∙ sym q.1)
 
-pub one_text : PlanIsOne → TextSaysOne → BytesHaveOneText
-one_text unique says command bytes s t one other p q =
+pub one_text : TextSaysOne → BytesHaveOneText
+one_text says command bytes s t one other p q =
     let same = says bytes p.input q.input p.says q.says in
-    same_answer unique command q.input s t one other
+    same_answer command q.input s t one other
     (subst (λ (input : Result Contents InputFault). IsRightAnswer command
     input s one) same p.answer) q.answer
 

@@ -4,15 +4,15 @@ use Rattle.std.proofs.lemmas.List.{take_more}
 use Rattle.std.proofs.lemmas.List.Sums.{fold-append}
 use Rattle.directory.specs.Settings.{Setting}
 use Rattle.directory.specs.Orders.{Scripts, after_turn, after_turns, history_of}
-use Rattle.directory.specs.Outcomes.{outcome_of}
+use Rattle.directory.specs.Outcomes.{Outcome, outcome_of}
 use Rattle.net_reader.specs.declared.input.Input.{Input}
+use Rattle.net_reader.specs.Input.{Contents}
 use Rattle.net_reader.specs.Seen.{seen_input}
 use Rattle.region_plan.specs.Plan.{PlanData}
 use Rattle.region_plan.specs.Settings.{setting_of}
 use Rattle.machine.specs.declared.machine.Machine.{Machine}
 use Rattle.machine.specs.Machines.{IsSame, HasHistory, scripts_at, setting_at}
 use Rattle.scripts.specs.Scripts.{scripts_of}
-use Rattle.track.specs.Answers.{history_under, outcome_under}
 
 -- a machine that keeps its input and its plan keeps its setting and its scripts
 of_same : (P : Setting → Scripts → Type 0) (old new : Machine) → IsSame old new
@@ -42,26 +42,20 @@ pub play-ended : (old new : Machine) (order : List ℕ) → IsSame old new
 play-ended old new order same goes =
     of_same (λ setting scripts. HasHistory new (history_of setting scripts order)) old new same goes
 
+-- what becomes of an input's calls under its order, over any plan
+abbrev pub outcome_over : Contents → PlanData → Outcome
+outcome_over contents plan =
+    outcome_of (setting_of plan contents.homes) (scripts_of contents) contents.order
+
 -- what becomes of the calls, told by the input and the plan
 pub play-outcome : (machine : Machine) (input : Input) (plan : PlanData) → machine.input.now ≡ input
     → machine.plan.now ≡ plan
-    → outcome_of (setting_at machine) (scripts_at machine) input.order.items ≡ outcome_under (seen_input input) plan
+    → outcome_of (setting_at machine) (scripts_at machine) input.order.items ≡ outcome_over (seen_input input) plan
 play-outcome machine input plan same_input same_plan =
     ap (λ i. outcome_of (setting_of machine.plan.now (seen_input i).homes) (scripts_of (seen_input i))
     input.order.items)
     same_input
     ∙ ap (λ p. outcome_of (setting_of p (seen_input input).homes) (scripts_of (seen_input input)) input.order.items)
-    same_plan
-
--- the history of the calls, told by the input and the plan
-pub play-history : (machine : Machine) (input : Input) (plan : PlanData) → machine.input.now ≡ input
-    → machine.plan.now ≡ plan
-    → history_of (setting_at machine) (scripts_at machine) input.order.items ≡ history_under (seen_input input) plan
-play-history machine input plan same_input same_plan =
-    ap (λ i. history_of (setting_of machine.plan.now (seen_input i).homes)
-    (scripts_of (seen_input i)) input.order.items)
-    same_input
-    ∙ ap (λ p. history_of (setting_of p (seen_input input).homes) (scripts_of (seen_input input)) input.order.items)
     same_plan
 
 -- the same of the machine before
@@ -71,12 +65,3 @@ pub play-began : (old new last : Machine) (order : List ℕ) → IsSame old new
 play-began old new last order same goes =
     of_same (λ setting scripts. HasHistory last (history_of setting scripts order)) new old
     (sym same.0, sym same.1, sym same.2) goes
-
--- a machine that has played an order of its input to the end stands for the history of the calls
-pub play-ends : (first last : Machine) (input : Input) (plan : PlanData) (order : List ℕ) → first.input.now ≡ input
-    → first.plan.now ≡ plan → order ≡ input.order.items
-    → HasHistory last (history_of (setting_at first) (scripts_at first) order)
-    → HasHistory last (history_under (seen_input input) plan)
-play-ends first last input plan order same_input same_plan whole stands =
-    subst (HasHistory last) (ap (history_of (setting_at first) (scripts_at first)) whole
-    ∙ play-history first input plan same_input same_plan) stands

@@ -1,22 +1,16 @@
 -- The report of a valid input over its plan says what is right, and within the bound.
-use Rattle.std.proofs.Common.{◌≡◌, inl, inr, ℕ, ◌≤◌, ◌^◌, Bool, true, false, ◌<◌, List, length, Option, Some, None, refl, sym, subst, ap, ◌∙◌, arith}
+use Rattle.std.proofs.Common.{◌≡◌, ℕ, ◌≤◌, ◌^◌, Bool, true, false, ◌<◌, List, length, Option, Some, None, refl, sym, ap, ◌∙◌, arith}
 use Rattle.std.specs.Prelude.{◌==◌, ◌&&◌, not, if◌then◌else◌, slice_index, slice_index_or}
 use Rattle.node_set.specs.Ascending.{sift}
 use Rattle.node_set.specs.SetLaws.{passing_same}
 use Rattle.track.specs.Places.{AreLastPlaces, node_if_on}
-use Rattle.track.specs.Answers.{history_under}
 use Rattle.directory.specs.Census.{census}
-use Rattle.net_graph.specs.declared.edge.TheConstants.{MAX_NODES}
-use Rattle.net_graph.specs.Network.{IsNetwork}
-use Rattle.region_plan.specs.Existence.{NetworksHavePlans}
+use Rattle.region_plan.specs.Meanings.{PlansMean}
 use Rattle.net_reader.specs.Input.{Contents}
-use Rattle.net_reader.specs.Table.{most_nodes}
 use Rattle.net_reader.specs.Valid.{IsValid}
 use Rattle.region_plan.specs.Matched.{BoundsFinds}
-use Rattle.region_plan.specs.Plan.{PlanData, nodes_of}
-use Rattle.region_plan.specs.Regions.{IsPlanOf}
-use Rattle.region_plan.specs.Settings.{setting_of}
-use Rattle.directory.specs.Orders.{steps_of}
+use Rattle.region_plan.specs.Plan.{nodes_of}
+use Rattle.directory.specs.Orders.{AreValid, steps_of}
 use Rattle.trail_laws.specs.Censuses.{CensusesEndByScripts, CensusesEndRight, Place, is_on_at, place_at_end, who_ends_at}
 use Rattle.trail_laws.specs.Lines.{NumbersRise, OutcomesAreRight}
 use Rattle.stretch_laws.specs.Lines.{PlanOutcomesAreNear}
@@ -25,86 +19,56 @@ use Rattle.scripts.specs.Scripts.{scripts_of}
 use Rattle.census_text.specs.CensusText.{census_text_of, is_place, who_at}
 use Rattle.census_text.specs.TextLaws.{texts-same}
 use Rattle.report_text.specs.ReportText.{report_of}
-use Rattle.track.specs.Answers.{IsCensusText, IsReport, network_of, outcome_under}
+use Rattle.track.specs.Answers.{IsCensusText, IsReport, history_for, outcome_for, plan_for, setting_for}
+use Rattle.track.proofs.Answering.{plan-nodes}
 use Rattle.scripts.specs.Laws.{ScriptsAreValid}
 use Rattle.scripts.specs.ScriptLaws.{few-nodes}
 use Rattle.stretch_laws.specs.Plans.{PlansTrack}
 
-pub report-says : (contents : Contents) (plan : PlanData) → TellInTurn (outcome_under contents plan).calls
+pub report-says : (contents : Contents) → TellInTurn (outcome_for contents).calls
     → OutcomesAreRight → NumbersRise → PlansTrack → PlanOutcomesAreNear → ScriptsAreValid
-    → (text : List ℕ) → IsValid contents → IsPlanOf (network_of contents) contents.k plan
-    → nodes_of plan ≡ contents.nodes → BoundsFinds plan → text ≡ report_of (outcome_under contents plan)
-    → IsReport contents text
-report-says contents plan turn right rise track near scripts text valid is nodes bounds text_is = record {
-  plan = plan;
-  is = is;
-  text_is = text_is;
-  right = right (setting_of plan contents.homes) (scripts_of contents) contents.order
-      (omega (arith, nodes, few-nodes contents valid)) (track plan contents.homes bounds).whole
-      (scripts contents (setting_of plan contents.homes) valid (record { nodes = nodes; starts = refl }));
-  in_turn = turn;
-  rising = rise (setting_of plan contents.homes) (scripts_of contents) contents.order
-      (omega (arith, nodes, few-nodes contents valid)) (scripts contents (setting_of plan contents.homes) valid (record { nodes = nodes; starts = refl }));
-  near = near plan contents.homes (scripts_of contents) contents.order
-      (omega (arith, nodes, few-nodes contents valid)) bounds (scripts contents (setting_of plan contents.homes) valid (record { nodes = nodes; starts = refl }));
-}
+    → (text : List ℕ) → IsValid contents → nodes_of (plan_for contents) ≡ contents.nodes
+    → BoundsFinds (plan_for contents) → text ≡ report_of (outcome_for contents) → IsReport contents text
+report-says contents turn right rise track near scripts text valid nodes bounds text_is =
+    let plan = plan_for contents in
+    let few : nodes_of plan ≤ 2 ^ 16 = omega (arith, nodes, few-nodes contents valid) in
+    let valid_scripts = scripts contents (setting_for contents) valid (record { nodes = nodes; starts = refl }) in
+    record {
+      text_is = text_is;
+      right = right (setting_for contents) (scripts_of contents) contents.order few
+          (track plan contents.homes bounds).whole valid_scripts;
+      in_turn = turn;
+      rising = rise (setting_for contents) (scripts_of contents) contents.order few valid_scripts;
+      near = near plan contents.homes (scripts_of contents) contents.order few bounds valid_scripts;
+    }
 
--- the plan of an input's network has its nodes
-plan-nodes : (contents : Contents) (plan : PlanData) → IsPlanOf (network_of contents) contents.k plan
-    → nodes_of plan ≡ contents.nodes
-plan-nodes contents plan is = is.distances.nodes
-
--- no format has more nodes than a network may have
-most-within : (format : ℕ) → most_nodes format ≤ MAX_NODES
-most-within format = at (format == 2)
-  where
-    at : (second : Bool) → (if second then 1024 else 256) ≤ MAX_NODES
-    at true = omega arith
-    at false = omega arith
-
--- the network of a valid input is one within the limits
-network-valid : (contents : Contents) → IsValid contents → IsNetwork (network_of contents)
-network-valid contents valid = record {
-  limits = record {
-    positive = valid.some;
-    few = omega (arith, valid.few, most-within contents.format);
-    edges = valid.edges;
-  };
-  connected = valid.connected;
-}
-
--- the census by the scripts of a valid input is that of its calls' history, over each plan and over one that there is
-pub census-says : CensusesEndByScripts → CensusesEndRight → ScriptsAreValid → NetworksHavePlans → (contents : Contents)
+-- the census by the scripts of a valid input is that of its calls' history
+pub census-says : CensusesEndByScripts → CensusesEndRight → ScriptsAreValid → PlansMean → (contents : Contents)
     → (text : List ℕ) → IsValid contents
     → text ≡ census_text_of (who_ends_at contents.homes (scripts_of contents)) contents.nodes
     → IsCensusText contents text
-census-says listed right scripts has_plans contents text valid text_is =
-    let there = has_plans (network_of contents) contents.k (network-valid contents valid) valid.k_some in
+census-says listed right scripts means contents text valid text_is =
     record {
-      text_is = text_is;
-      census_is = lists;
-      right = λ plan is sub node known below. right (setting_of plan contents.homes) (scripts_of contents)
-          contents.order sub node (omega (arith, plan-nodes contents plan is, few-nodes contents valid))
-          (scripts contents (setting_of plan contents.homes) valid
-          (record { nodes = plan-nodes contents plan is; starts = refl })) known
-          (omega (arith, below, plan-nodes contents plan is));
-      plan = there.0;
-      is = there.1;
-      census_text_is = text_is
-          ∙ (sym (texts-same (census (setting_of there.0 contents.homes) (history_under contents there.0))
-          (who_ends_at contents.homes (scripts_of contents)) contents.nodes (lists there.0 there.1))
-          ∙ ap (census_text_of (census (setting_of there.0 contents.homes) (history_under contents there.0)))
-          (sym (plan-nodes contents there.0 there.1)));
+      text_is = text_is ∙ sym (texts-same (census (setting_for contents) (history_for contents))
+          (who_ends_at contents.homes (scripts_of contents)) contents.nodes lists);
+      by_scripts = lists;
+      right = λ sub node known below. right (setting_for contents) (scripts_of contents) contents.order sub node few
+          valid_scripts known (omega (arith, below, nodes));
     }
   where
-    lists : (plan : PlanData) → IsPlanOf (network_of contents) contents.k plan → (node : ℕ) → node < contents.nodes
-        → census (setting_of plan contents.homes) (history_under contents plan) node
+    nodes : nodes_of (plan_for contents) ≡ contents.nodes
+    nodes = plan-nodes means contents valid
+
+    few : nodes_of (plan_for contents) ≤ 2 ^ 16
+    few = omega (arith, nodes, few-nodes contents valid)
+
+    valid_scripts : AreValid (setting_for contents) (scripts_of contents)
+    valid_scripts = scripts contents (setting_for contents) valid (record { nodes = nodes; starts = refl })
+
+    lists : (node : ℕ) → node < contents.nodes → census (setting_for contents) (history_for contents) node
         ≡ who_ends_at contents.homes (scripts_of contents) node
-    lists plan is node below = listed (setting_of plan contents.homes) (scripts_of contents) contents.order node
-        (omega (arith, plan-nodes contents plan is, few-nodes contents valid))
-        (scripts contents (setting_of plan contents.homes) valid
-        (record { nodes = plan-nodes contents plan is; starts = refl }))
-        (omega (arith, below, plan-nodes contents plan is))
+    lists node below = listed (setting_for contents) (scripts_of contents) contents.order node few valid_scripts
+        (omega (arith, below, nodes))
 
 -- where each subscriber is after its script tells who is at each node
 place-on : (node : ℕ) (place : Place) → is_place node (node_if_on place) ≡ is_on_at node place

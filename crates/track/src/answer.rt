@@ -8,10 +8,9 @@ ghost use Rattle.net_graph.specs.Network.{IsGraphOf};
 ghost use Rattle.directory.specs.Orders.{history_of};
 ghost use Rattle.directory.specs.Outcomes.{result_of};
 ghost use Rattle.machine.specs.Machines.{IsSame, scripts_at, setting_at, HasHistory};
-ghost use Rattle.report_text.specs.PlanText.{plan_text_of};
 ghost use Rattle.report_text.specs.ReportText.{report_of};
 ghost use Rattle.track.specs.Bodies.{text_of};
-ghost use Rattle.track.specs.Answers.{IsPlanText, IsReport, IsResult, IsText, is_served};
+ghost use Rattle.track.specs.Answers.{IsReport, IsResult, IsText, is_served, plan_for};
 
 use crate::census::census;
 use crate::status::Status;
@@ -20,7 +19,7 @@ use distances::Distances;
 use machine::Machine;
 use net_graph::Graph;
 use net_reader::{Input, InputFault, ReadRefusal, Reader, inputs_are_valid};
-use region_plan::Plan;
+use region_plan::{Plan, plan_means, plan_of_same_walks};
 use scripts::scripts_are_valid;
 use std::alloc::{AllocError, Global};
 use stretch_laws::{plan_outcomes_are_near, plans_track};
@@ -47,8 +46,9 @@ pub(crate) struct Answer {
 fn cover(alloc: Global, input: &Input, graph: &Graph) -> Result<Plan, AllocError>
     requires valid { IsValid (seen_input input.now) }
     requires graph { IsGraphOf input.now.nodes input.now.edges.items graph.now }
-    ensures { IfOk result (λ plan. IsPlanText (seen_input input.now) (plan_text_of plan)) }
+    ensures { IfOk result (λ plan. plan ≡ plan_for (seen_input input.now)) }
 {
+    plan_of_same_walks();
     let distances = Distances::new(alloc, graph)?;
     Plan::build(alloc, graph, &distances, input.k)
 }
@@ -65,6 +65,8 @@ fn replay(alloc: Global, input: &Input, graph: &Graph) -> Result<Outcome, AllocE
     plan_outcomes_are_near();
     scripts_are_valid();
     all_scripts_done();
+    plan_means();
+    plan_of_same_walks();
     let distances = Distances::new(alloc, graph)?;
     let plan = Plan::build(alloc, graph, &distances, input.k)?;
     let mut machine = Machine::new(alloc, input, &plan, &distances)?;

@@ -9,7 +9,7 @@ ghost use Rattle.track.specs.Places.{AreLastPlaces, node_if_on};
 
 use census_text::census_of_places;
 use net_reader::{Call, Input};
-use region_plan::networks_have_plans;
+use region_plan::plan_means;
 use scripts::scripts_are_valid;
 use std::alloc::{AllocError, Global};
 use trail_laws::censuses_are_right;
@@ -50,7 +50,7 @@ pub(crate) fn census(alloc: Global, input: &Input) -> Result<Vec<u8>, AllocError
 {
     censuses_are_right();
     scripts_are_valid();
-    networks_have_plans();
+    plan_means();
     let places = last_places(alloc, input)?;
     census_of_places(alloc, input.nodes, &places)
 }

@@ -2,13 +2,11 @@
 ghost use Rattle.track.specs.Laws.{BytesHaveOneText, IsComplete};
 
 use net_reader::text_says_one;
-use region_plan::plan_is_one;
 
 /// To a command, bytes have one text and one status only.
 pub fn bytes_have_one_text()
     ensures { BytesHaveOneText }
 {
-    plan_is_one();
     text_says_one();
 }
 

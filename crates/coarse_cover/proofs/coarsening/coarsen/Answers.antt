@@ -1,5 +1,5 @@
 use Rattle.std.proofs.Common.{◌≤◌, ◌*◌, ◌^◌, ℕ, length, sym, subst}
-use Rattle.coarse_cover.proofs.Results.{growths_bounded, homes_hold, clusters_apart, phases_bounded, overlap}
+use Rattle.coarse_cover.proofs.Results.{growths_bounded, homes_hold, clusters_apart}
 use Rattle.coarse_cover.proofs.coarsening.coarsen.Goals as goal
 use Rattle.node_set.specs.Balls.{sets}
 use Rattle.node_set.specs.BallLaws.{length-sets}
@@ -16,17 +16,5 @@ returns-clause-homes c =
 pub returns-clause-apart : goal.returns-clause-apart
 returns-clause-apart c =
     clusters_apart (sets c.args.balls.now) c.args.k (length c.args.balls.now) c.in_ok-cover.cover c.requires.low
-    c.requires.centred
-    c.in_ok-cover.ensures.exact
-
-pub returns-clause-phases : goal.returns-clause-phases
-returns-clause-phases c =
-    subst (λ (n : ℕ). c.in_ok-cover.cover.phases ^ c.args.k ≤ c.args.k ^ c.args.k * n) (length-sets c.args.balls.now)
-    (phases_bounded c.powers_add.ensures c.one_phase.ensures (sets c.args.balls.now) c.args.k (length c.args.balls.now)
-    c.in_ok-cover.cover c.requires.low c.requires.centred c.in_ok-cover.ensures.exact)
-
-pub returns-clause-overlap : goal.returns-clause-overlap
-returns-clause-overlap c = λ x.
-    overlap (sets c.args.balls.now) c.args.k (length c.args.balls.now) c.in_ok-cover.cover x c.requires.low
     c.requires.centred
     c.in_ok-cover.ensures.exact

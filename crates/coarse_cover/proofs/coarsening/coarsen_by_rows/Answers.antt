@@ -3,7 +3,7 @@ use Rattle.coarse_cover.specs.Coarsening.{coarsening}
 use Rattle.coarse_cover.specs.Covers.{IsCover}
 use Rattle.coarse_cover.specs.Progress.{IsBetween}
 use Rattle.coarse_cover.specs.declared.cover.Cluster.{Cluster}
-use Rattle.coarse_cover.proofs.Results.{is_cover, clusters_few, nothing_in}
+use Rattle.coarse_cover.proofs.Results.{is_cover, clusters_few, nothing_in, overlap, phases_bounded}
 use Rattle.coarse_cover.proofs.Steps.{between_start}
 use Rattle.coarse_cover.proofs.coarsening.coarsen_by_rows.Goals as goal
 use Rattle.coarse_cover.specs.declared.cover.Cover.{Cover}
@@ -56,3 +56,17 @@ returns-clause-few c =
     (cover_is c.args.balls.now c.args.k c.phase.work.left.members c.phase.cover
     (subst (λ (n : ℕ). n ≤ 0) c.count.ensures c.phase-test.false) c.phase.invariant.between
     c.phase.invariant.home_count))
+
+pub returns-clause-phases : goal.returns-clause-phases
+returns-clause-phases c =
+    phases_bounded c.covers_are_sparse.ensures (sets c.args.balls.now) c.args.k (length c.args.balls.now) c.phase.cover
+    c.requires.low c.requires.centred (sym (length-sets c.args.balls.now))
+    (cover_is c.args.balls.now c.args.k c.phase.work.left.members c.phase.cover
+    (subst (λ (n : ℕ). n ≤ 0) c.count.ensures c.phase-test.false) c.phase.invariant.between c.phase.invariant.home_count)
+
+pub returns-clause-overlap : goal.returns-clause-overlap
+returns-clause-overlap c = λ x.
+    overlap c.covers_are_sparse.ensures (sets c.args.balls.now) c.args.k (length c.args.balls.now) c.phase.cover x
+    c.requires.low c.requires.centred
+    (cover_is c.args.balls.now c.args.k c.phase.work.left.members c.phase.cover
+    (subst (λ (n : ℕ). n ≤ 0) c.count.ensures c.phase-test.false) c.phase.invariant.between c.phase.invariant.home_count)

@@ -4,7 +4,7 @@ use Rattle.node_set.specs.Nodes.{Nodes}
 use Rattle.std.proofs.lemmas.List.Elements.{All-push}
 use Rattle.region_plan.specs.Plan.{Level, PlanCluster, level_in}
 use Rattle.region_plan.specs.Kept.{IsSized, level_of}
-use Rattle.region_plan.specs.Regions.{IsFlatLevel}
+use Rattle.region_plan.specs.Flat.{IsFlatLevel}
 use Rattle.std.proofs.lemmas.List.{length-replicate}
 use Rattle.region_plan.proofs.Making.{flat_level_is, level_sized}
 use Rattle.region_plan.proofs.flat.flat_levels.Goals as goal

@@ -1,6 +1,5 @@
-use Rattle.region_plan.proofs.Matching.{plan_bounds}
+use Rattle.region_plan.proofs.Meaning.{bounds}
 use Rattle.region_plan.proofs.laws.plan_is_bounding.Goals as goal
 
 pub returns : goal.returns
-returns c = λ network k plan sound low metric is.
-    plan_bounds c.cluster_shape.ensures c.home_means.ensures network sound k low plan metric is
+returns c = bounds c.plan_means.ensures c.networks_have_distances.ensures c.cluster_shape.ensures c.home_means.ensures

@@ -5,9 +5,12 @@ use Rattle.directory.specs.Outcomes.{result_of}
 use Rattle.machine.specs.Machines.{scripts_at, setting_at, HasHistory}
 use Rattle.net_reader.specs.Seen.{seen_input}
 use Rattle.report_text.specs.ReportText.{report_of}
-use Rattle.track.specs.Answers.{outcome_under}
-use Rattle.track.proofs.Answering.{plan_of_graph}
-use Rattle.track.proofs.Playing.{play-ended, play-outcome}
+use Rattle.region_plan.specs.Matched.{BoundsFinds}
+use Rattle.region_plan.specs.Plan.{PlanData}
+use Rattle.track.specs.Answers.{outcome_for, plan_for}
+use Rattle.track.proofs.Answering.{plan-nodes, plan_of_graph}
+use Rattle.trail_laws.specs.Lines.{TellInTurn}
+use Rattle.track.proofs.Playing.{outcome_over, play-ended, play-outcome}
 use Rattle.track.proofs.Replaying.{report-says}
 use Rattle.track.proofs.answer.replay.Goals as goal
 
@@ -32,15 +35,17 @@ returns c =
     let stands : HasHistory last history =
     play-ended c.in_ok-machine.machine last order c.play.ensures.same c.play.ensures.stands in
     let done = c.all_scripts_done.ensures.done (setting_at last) (scripts_at last) order in
-    let is : result_of c.outcome.result ≡ outcome_under contents plan =
+    let same : plan ≡ plan_for contents = c.in_ok-plan.ensures.plan
+    ∙ plan_of_graph c.plan_of_same_walks.ensures contents c.args.graph.now c.requires.valid c.requires.graph in
+    let is : result_of c.outcome.result ≡ outcome_for contents =
     c.outcome.ensures.result history stands done
     ∙ (ap (λ xs. outcome_of (setting_at last) (scripts_at last) xs) c.deref.ensures.value
     ∙ play-outcome last input plan (c.play.ensures.same.0 ∙ c.in_ok-machine.ensures.made.0)
-    (c.play.ensures.same.1 ∙ c.in_ok-machine.ensures.made.1)) in
-    report-says contents plan
+    (c.play.ensures.same.1 ∙ c.in_ok-machine.ensures.made.1))
+    ∙ ap (outcome_over contents) same in
+    report-says contents
     (subst (λ (o : Outcome). TellInTurn o.calls) is (c.outcome.ensures.in_turn history stands done))
     c.outcomes_are_right.ensures.lines c.outcomes_are_right.ensures.numbers c.plans_track.ensures
     c.plan_outcomes_are_near.ensures c.scripts_are_valid.ensures (report_of (result_of c.outcome.result))
-    c.requires.valid (plan_of_graph contents c.args.graph.now input.k plan c.requires.graph c.in_ok-plan.ensures.plan)
-    (ap (λ d. d.nodes) c.in_ok-plan.ensures.copy ∙ (c.in_ok-distances.ensures.nodes ∙ c.requires.graph.nodes))
-    c.in_ok-plan.ensures.bounding (ap report_of is)
+    c.requires.valid (plan-nodes c.plan_means.ensures contents c.requires.valid)
+    (subst (λ (p : PlanData). BoundsFinds p) same c.in_ok-plan.ensures.bounding) (ap report_of is)

@@ -2,4 +2,4 @@ use Rattle.track.proofs.OneText.{one_text}
 use Rattle.track.proofs.laws.bytes_have_one_text.Goals as goal
 
 pub returns : goal.returns
-returns c = one_text c.plan_is_one.ensures c.text_says_one.ensures
+returns c = one_text c.text_says_one.ensures

@@ -6,7 +6,7 @@ use Rattle.coarse_cover.specs.declared.cover.Cluster.{Cluster}
 use Rattle.region_plan.specs.Kept.{IsSpanned}
 use Rattle.region_plan.specs.Laid.{clusters_of_lists}
 use Rattle.region_plan.specs.Plan.{PlanCluster}
-use Rattle.region_plan.specs.Regions.{AreClustersOf}
+use Rattle.region_plan.specs.Meanings.{AreClustersOf}
 use Rattle.region_plan.proofs.Lists.{next_holds}
 use Rattle.region_plan.proofs.Making.{more_clusters}
 use Rattle.region_plan.proofs.clusters.Clusters.of_cover.Goals as goal

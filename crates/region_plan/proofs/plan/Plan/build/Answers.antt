@@ -2,12 +2,14 @@ use Rattle.std.proofs.Common.{refl, ◌-◌, ◌*◌, subst, sym, ap, ◌∙◌,
 use Rattle.std.specs.Prelude.{All}
 use Rattle.distances.specs.Table.{DistanceTable, IsMetric}
 use Rattle.region_plan.specs.Plan.{PlanData}
-use Rattle.region_plan.specs.Regions.{IsPlanOf}
+use Rattle.region_plan.specs.Meanings.{IsPlanOf}
 use Rattle.region_plan.specs.Kept.{IsSized}
+use Rattle.region_plan.specs.Matched.{HasFewReaders}
 use Rattle.node_set.specs.Nodes.{Nodes}
 use Rattle.region_plan.proofs.Lists.{written}
 use Rattle.region_plan.proofs.Levels.{plan_built}
 use Rattle.region_plan.proofs.Matching.{plan_bounds}
+use Rattle.region_plan.proofs.Meaning.{plan_is_this}
 use Rattle.region_plan.proofs.plan.Plan.build.Goals as goal
 use Rattle.region_plan.proofs.plan.Plan.build.Goals.{After-drop-spread-3}
 
@@ -23,11 +25,18 @@ metric_is c = subst (λ (t : DistanceTable). IsMetric t)
     (sym (ap (λ (p : PlanData). p.distances) c.of_levels.ensures ∙ c.in_ok-copy.ensures)) c.top_for-top.ensures.metric
 
 pub returns-clause-plan : goal.returns-clause-plan
-returns-clause-plan c = plan_is c
+returns-clause-plan c = plan_is_this c.plan_means.ensures c.distances_are_one.ensures c.least_weight_is_one.ensures
+    c.args.graph.now c.nodes-nodes.ensures.sound c.args.k c.requires.low c.of_levels.result (plan_is c)
 
 pub returns-clause-bounding : goal.returns-clause-bounding
 returns-clause-bounding c = plan_bounds c.cluster_shape.ensures c.home_means.ensures c.args.graph.now
     c.nodes-nodes.ensures.sound c.args.k c.requires.low c.of_levels.result (metric_is c) (plan_is c)
+
+pub returns-clause-sparse : goal.returns-clause-sparse
+returns-clause-sparse c = subst (λ (p : PlanData). HasFewReaders p) (sym (plan_is_this c.plan_means.ensures
+    c.distances_are_one.ensures c.least_weight_is_one.ensures c.args.graph.now c.nodes-nodes.ensures.sound c.args.k
+    c.requires.low c.of_levels.result (plan_is c)))
+    (c.plan_is_sparse.ensures c.args.graph.now c.args.k c.nodes-nodes.ensures.sound c.requires.low)
 
 pub of_levels-requires : goal.of_levels-requires
 of_levels-requires c = record {

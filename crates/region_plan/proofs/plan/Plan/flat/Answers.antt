@@ -1,7 +1,7 @@
 use Rattle.std.proofs.Common.{rules, sym, ap, ◌∙◌, subst}
 use Rattle.distances.specs.Table.{DistanceTable, IsMetric}
 use Rattle.region_plan.specs.Plan.{PlanData}
-use Rattle.region_plan.specs.Regions.{IsFlat}
+use Rattle.region_plan.specs.Flat.{IsFlat}
 use Rattle.region_plan.proofs.Flatness.{flat_matched, flat_reached}
 use Rattle.region_plan.proofs.plan.Plan.flat.Goals as goal
 

@@ -1,0 +1,241 @@
+-- The plan of a network is what its parts say in words of walks, and the only plan that is.
+use Rattle.std.proofs.Common.{◌≡◌, ℕ, zero, suc, ◌+◌, ◌-◌, ◌*◌, ◌/◌, ◌%◌, ◌^◌, ◌<◌, ◌≤◌, Bool, true, List, [], ◌∷◌, get_or}
+use Rattle.std.proofs.Common.{length, map, refl, sym, ◌∙◌, ap, subst, inl, inr, arith, nat_le}
+use Rattle.std.specs.Prelude.{All}
+use Rattle.std.proofs.lemmas.Bool.{cases_lt, leb-false, leb-true}
+use Rattle.std.proofs.lemmas.List.{length-map, get_or-map}
+use Rattle.std.proofs.lemmas.List.Elements.{All-head, All-tail}
+use Rattle.std.proofs.lemmas.Nat.{div-add-mod', div_below}
+use Rattle.net_graph.specs.LeastWeights.{LeastWeightsAreFound, least_weight}
+use Rattle.net_graph.specs.Network.{Network, IsNetwork, SameWalks}
+use Rattle.net_graph.specs.Walks.{IsLeastWeight, everywhere}
+use Rattle.node_set.specs.Ascending.{has}
+use Rattle.node_set.specs.Balls.{least}
+use Rattle.node_set.specs.BallLaws.{get_or-map_centres, length-map_centres, least_first, least_passes, least_within}
+use Rattle.distances.specs.Table.{DistanceTable, AreDistancesOf, DistancesAreOne, IsDiameter, IsMetric}
+use Rattle.distances.specs.Table.{NetworksHaveDistances, dist, table_of}
+use Rattle.coarse_cover.specs.Coarsening.{ClustersAreShaped, CoversAreSparse, HomesAreFound}
+use Rattle.coarse_cover.specs.Covers.{cluster_list}
+use Rattle.coarse_cover.specs.declared.cover.Cluster.{Cluster}
+use Rattle.cluster_tree.specs.PlaceLaws.{beside_map, has_place, member_place}
+use Rattle.cluster_tree.specs.Tree.{WeighedCluster, IsTreeOf, inside_weight, weight_beside, within}
+use Rattle.region_plan.specs.Kept.{IsSpanned}
+use Rattle.region_plan.specs.Matched.{PlansBoundFinds, PlansHaveFewReaders}
+use Rattle.region_plan.specs.Measures.{most}
+use Rattle.region_plan.specs.Meanings.{IsTop, IsClusterOf, AreClustersOf, IsLevelOf, IsPlanOf, PlansMean, PlansOfSameWalks}
+use Rattle.region_plan.specs.Meanings.{as_tree}
+use Rattle.region_plan.specs.Plan.{PlanCluster, Level, PlanData, level_at, no_level}
+use Rattle.region_plan.specs.Regions.{level_for, plan_of, plan_over, regions_of, top_for, weighed}
+use Rattle.region_plan.proofs.Alone.{LeastIsOne, one_plan}
+use Rattle.region_plan.proofs.Matching.{plan_bounds}
+use Rattle.region_plan.proofs.Measuring.{greatest_in, most_bounds}
+use Rattle.region_plan.proofs.Spanning.{listed_spanned}
+use Rattle.region_plan.proofs.Sparse.{few_readers}
+
+-- ---- the top level
+
+widest : (table : DistanceTable) → 1 ≤ table.nodes → length table.cells ≡ table.nodes * table.nodes
+    → IsDiameter table (most table.cells)
+widest table some count =
+    let n : ℕ = table.nodes in
+    let peak = greatest_in table.cells (omega (arith, count, square n some)) in
+    let at_below : peak.at < n * n = omega (arith, peak.below, count) in
+    record {
+      greatest = λ u v hu hv. most_bounds table.cells (u * n + v);
+      attained = record {
+        from = peak.at / n;
+        to = peak.at % n;
+        from_below = div_below peak.at n n some at_below;
+        to_below = omega arith;
+        far = ap (λ i. get_or table.cells i 0) (div-add-mod' peak.at n) ∙ peak.is;
+      };
+    }
+  where
+    square : (n : ℕ) → 1 ≤ n → 1 ≤ n * n
+    square zero h = absurd (omega arith)
+    square (suc n) h = omega arith
+
+-- each number is below its power of two
+power_above : (d : ℕ) → d < 2 ^ d
+power_above zero = omega arith
+power_above (suc d) = let double : 2 ^ suc d ≡ 2 * 2 ^ d = omega arith in omega (arith, power_above d)
+
+top_is : (table : DistanceTable) (diameter : ℕ) → IsDiameter table diameter → IsTop table (top_for diameter)
+top_is table d greatest =
+    let test : ℕ → Bool = λ i. nat_le d (2 ^ i) in
+    record {
+      diameter = d;
+      greatest = greatest;
+      enough = elim (cases_lt (least test d) d) [
+        | inl less ↦ leb-true d (2 ^ least test d) (least_passes test d less)
+        | inr whole ↦
+            let same : least test d ≡ d = omega (arith, least_within test d) in
+            subst (λ i. d ≤ 2 ^ i) (sym same) (omega (arith, power_above d))
+      ];
+      least = λ i h. leb-false d (2 ^ i) (least_first test d i h);
+    }
+
+-- ---- a cluster
+
+module _ (found : LeastWeightsAreFound) (network : Network) (sound : IsNetwork network) where
+  cluster_is : (made : Cluster) → IsSpanned network made → IsClusterOf network made (weighed network made)
+  cluster_is made spanned =
+      let xs : List ℕ = made.members.members in
+      let f : ℕ → ℕ = least_weight network (within xs) made.first in
+      let beside : (v : ℕ) → has v xs ≡ true → weight_beside v xs (map f xs) ≡ f v = λ v h. beside_map f v xs h in
+      let count : length (map f xs) ≡ length xs = length-map xs f in
+      let leads = member_place made.first xs spanned.leads in
+      let peak = greatest_in (map f xs) (omega (arith, count, leads.1)) in
+      let at_below : peak.at < length xs = omega (arith, peak.below, count) in
+      let far : f (get_or xs peak.at 0) ≡ most (map f xs) =
+      sym (get_or-map f xs peak.at 0 0 at_below) ∙ peak.is in
+      record {
+        leader = refl;
+        phase = refl;
+        members = refl;
+        tree = record {
+          leader_is = refl;
+          members_are = refl;
+          each = λ v h. subst (λ w. IsLeastWeight network.edges (within xs) made.first v w) (sym (beside v h))
+              (found network (within xs) made.first v sound.limits (spanned.reached v h));
+        };
+        count = count;
+        depth = record {
+          greatest = λ v h.
+              let place = member_place v xs h in
+              omega (
+                arith,
+                beside v h,
+                most_bounds (map f xs) place.0,
+                get_or-map f xs place.0 0 0 place.1,
+                ap f place.2,
+              );
+          attained = record {
+            node = get_or xs peak.at 0;
+            member = has_place xs peak.at at_below;
+            far = beside (get_or xs peak.at 0) (has_place xs peak.at at_below) ∙ far;
+          };
+        };
+      }
+
+  clusters_are : (made : List Cluster) → All (IsSpanned network) made
+      → AreClustersOf network made (map (weighed network) made)
+  clusters_are [] all = tt
+  clusters_are (c ∷ cs) all = (
+    cluster_is c (All-head (IsSpanned network) c cs all),
+    clusters_are cs (All-tail (IsSpanned network) c cs all),
+  )
+
+-- ---- a level, and the plan
+
+module _ (found : LeastWeightsAreFound) (shape : ClustersAreShaped) (network : Network) (sound : IsNetwork network)
+    (table : DistanceTable) (metric : IsMetric table) (are : AreDistancesOf network table) (k : ℕ) (low : 1 ≤ k) where
+  level_is : (i : ℕ) → IsLevelOf network table k i (level_for network table k i)
+  level_is i = record {
+    exponent = refl;
+    threshold = refl;
+    phases = refl;
+    clusters = clusters_are found network sound (cluster_list table.nodes 0 (regions_of table k i))
+        (listed_spanned network table metric are sound k i low shape);
+    homes = refl;
+    readers = refl;
+  }
+
+  plan_is : IsPlanOf network k (plan_over network table k)
+  plan_is =
+      let top : ℕ = top_for (most table.cells) in
+      let count = length-map_centres (level_for network table k) (top + 1) in
+      let last : top ≡ length (plan_over network table k).levels - 1 = omega (arith, count) in
+      record {
+        distances = are;
+        trade_off = refl;
+        reach = refl;
+        some = omega (arith, count);
+        top = subst (IsTop table) last (top_is table (most table.cells) (widest table metric.some metric.count));
+        each = λ i h. subst (λ (l : Level). IsLevelOf network table k i l)
+            (sym (get_or-map_centres (level_for network table k) (top + 1) i no_level (omega (arith, h, count))))
+            (level_is i);
+      }
+
+pub means : LeastWeightsAreFound → NetworksHaveDistances → ClustersAreShaped → PlansMean
+unfolding plan_of
+means found distances shape network k sound low =
+    let table = distances network sound in
+    plan_is found shape network sound (table_of network) table.1 table.0 k low
+
+-- ---- over the same walks
+
+-- the tree of a cluster is the same
+tree_over : (one other : Network) (members : List ℕ) (leader : ℕ) (cluster : WeighedCluster)
+    → SameWalks other.edges one.edges → IsTreeOf one members leader cluster → IsTreeOf other members leader cluster
+tree_over one other members leader cluster same tree = record {
+  leader_is = tree.leader_is;
+  members_are = tree.members_are;
+  each = λ v member. (same.least (within members) leader v (inside_weight cluster v)).1 (tree.each v member);
+}
+
+clusters_over : (one other : Network) (made : List Cluster) (clusters : List PlanCluster)
+    → SameWalks other.edges one.edges → AreClustersOf one made clusters → AreClustersOf other made clusters
+clusters_over one other [] [] same h = tt
+clusters_over one other [] (d ∷ ds) same h = h
+clusters_over one other (c ∷ cs) [] same h = h
+clusters_over one other (c ∷ cs) (d ∷ ds) same h = (
+  record {
+    leader = h.0.leader;
+    phase = h.0.phase;
+    members = h.0.members;
+    tree = tree_over one other c.members.members c.first (as_tree d) same h.0.tree;
+    count = h.0.count;
+    depth = h.0.depth;
+  },
+  clusters_over one other cs ds same h.1,
+)
+
+plan_over_same : (one other : Network) (k : ℕ) (plan : PlanData) → one.nodes ≡ other.nodes
+    → SameWalks other.edges one.edges → IsPlanOf one k plan → IsPlanOf other k plan
+plan_over_same one other k plan nodes same is = record {
+  distances = record {
+    nodes = is.distances.nodes ∙ nodes;
+    count = is.distances.count;
+    each = λ u v hu hv. (same.least everywhere u v (dist plan.distances u v)).1 (is.distances.each u v hu hv);
+  };
+  trade_off = is.trade_off;
+  reach = is.reach;
+  some = is.some;
+  top = is.top;
+  each = λ i below.
+      let level = is.each i below in
+      record {
+        exponent = level.exponent;
+        threshold = level.threshold;
+        phases = level.phases;
+        clusters = clusters_over one other (cluster_list plan.distances.nodes 0 (regions_of plan.distances k i))
+            (level_at plan i).clusters same level.clusters;
+        homes = level.homes;
+        readers = level.readers;
+      };
+}
+
+pub same_plans : PlansMean → DistancesAreOne → LeastIsOne → PlansOfSameWalks
+same_plans plans_mean one_table one_weight one other k sound given nodes same low =
+    one_plan one_table one_weight other k (plan_of one k) (plan_of other k)
+    (plan_over_same one other k (plan_of one k) nodes same (plans_mean one k sound low))
+    (plans_mean other k given low)
+
+-- what is a plan of a network is the plan
+pub plan_is_this : PlansMean → DistancesAreOne → LeastIsOne → (network : Network) → IsNetwork network → (k : ℕ)
+    → 1 ≤ k → (plan : PlanData) → IsPlanOf network k plan → plan ≡ plan_of network k
+plan_is_this plans_mean one_table one_weight network sound k low plan is =
+    one_plan one_table one_weight network k plan (plan_of network k) is (plans_mean network k sound low)
+
+pub bounds : PlansMean → NetworksHaveDistances → ClustersAreShaped → HomesAreFound → PlansBoundFinds
+unfolding plan_of
+bounds plans_mean distances shape homes network k sound low =
+    plan_bounds shape homes network sound k low (plan_of network k) (distances network sound).1
+    (plans_mean network k sound low)
+
+pub sparse : PlansMean → NetworksHaveDistances → CoversAreSparse → PlansHaveFewReaders
+unfolding plan_of
+sparse plans_mean distances covers network k sound low =
+    few_readers covers network sound k low (plan_of network k) (distances network sound).1
+    (plans_mean network k sound low)
