@@ -9,9 +9,11 @@ mod status;
 mod top;
 mod transfer;
 mod writing;
+mod wrong;
 
 pub use laws::{bytes_have_one_text, complete};
 pub use top::command;
+pub use wrong::wrong_ends;
 
 #[cfg(test)]
 mod device_tests;
