@@ -14,7 +14,9 @@ mod scan;
 mod stop;
 mod word;
 
-pub use examples::{example_inputs, refused_examples};
+pub use examples::{
+    example_inputs, limits_of_inputs, lines_and_fields, order_of_causes, refused_examples,
+};
 pub use fault::{InputCause, InputFault, ReadRefusal};
 pub use input::Input;
 pub use laws::{inputs_are_valid, text_says_one};

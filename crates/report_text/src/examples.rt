@@ -2,8 +2,11 @@
 ghost use Rattle.std.specs.Prelude.{◌≡◌, ◌++◌, [], ◌∷◌, length, map, Some, None, true, false, codes};
 ghost use Rattle.directory.specs.declared.answers.Done.TheVariants.{Moved, Switched, Found, Off, Again};
 ghost use Rattle.directory.specs.declared.answers.Why.TheVariants.{Empty, NoEntry, Chased};
-ghost use Rattle.net_reader.specs.declared.fault.InputCause.TheVariants.{TooLarge, Apart};
-ghost use Rattle.report_text.specs.ReportText.{call_line, last_line, order_lines, refused_line_of, report_of};
+ghost use Rattle.net_reader.specs.declared.fault.InputCause.TheVariants.{TooLarge, Apart, Unknown, Nowhere};
+ghost use Rattle.outside.specs.Texts.{◌then◌};
+ghost use Rattle.region_plan.specs.Examples.{line_of_four};
+ghost use Rattle.report_text.specs.PlanText.{plan_text_of};
+ghost use Rattle.report_text.specs.ReportText.{call_line, cause_field, last_line, order_lines, refused_line_of, report_of};
 ghost use Rattle.report_text.specs.Examples.{zeros};
 
 /// The line of a call of each kind.
@@ -38,4 +41,39 @@ pub fn example_lines()
         ≡ codes "refused 4 too-large" ++ 10 ∷ [] }
     ensures apart { refused_line_of (record { line = 6; cause = Apart 2 })
         ≡ codes "refused 6 apart 2" ++ 10 ∷ [] }
+{}
+
+/// Lines whose fields are all different, and the report of an order with one call.
+pub fn example_fields()
+    ensures moved { call_line (Moved 9 8 7 6 5 4 3 2)
+        ≡ codes "move 9 8 7 6 weight 5 first 4 commit 3 last 2" ++ 10 ∷ [] }
+    ensures off { call_line (Off 9 8 7 6 5 (Some 4) 3 2 1)
+        ≡ codes "off 9 8 7 at 6 number 5 level 4 weight 3 first 2 last 1" ++ 10 ∷ [] }
+    ensures found { call_line (Found 9 8 7 6 5 (Some 4) 3 2 1)
+        ≡ codes "find 9 8 7 at 6 number 5 level 4 weight 3 first 2 last 1" ++ 10 ∷ [] }
+    ensures switched { call_line (Switched 9 true 8 7 6)
+        ≡ codes "switch 9 off 8 number 7 ticket 6" ++ 10 ∷ [] }
+    ensures report { report_of
+        (record { calls = Switched 0 true 3 0 0 ∷ []; order = 0 ∷ 1 ∷ [] })
+        ≡ (codes "switch 0 off 3 number 0 ticket 0" ++ 10 ∷ [])
+        then (codes "order 0 1" ++ 10 ∷ []) then (codes "end 2" ++ 10 ∷ []) }
+    ensures unknown { cause_field Unknown ≡ codes " unknown" }
+    ensures nowhere { cause_field Nowhere ≡ codes " nowhere" }
+{}
+
+/// The text of the plan of the line of four.
+pub fn example_plan()
+    ensures { plan_text_of line_of_four
+        ≡ (codes "plan nodes 4 k 2 levels 3 degree 2 stretch 144" ++ 10 ∷ [])
+        then (codes "level 0 radius 1 clusters 2 phases 2" ++ 10 ∷ [])
+        then (codes "cluster 0 phase 0 leader 0 depth 3 members 0 1 2 3" ++ 10 ∷ [])
+        then (codes "cluster 1 phase 1 leader 3 depth 1 members 2 3" ++ 10 ∷ [])
+        then (codes "homes 0 0 0 1" ++ 10 ∷ [])
+        then (codes "level 1 radius 2 clusters 1 phases 1" ++ 10 ∷ [])
+        then (codes "cluster 0 phase 0 leader 0 depth 3 members 0 1 2 3" ++ 10 ∷ [])
+        then (codes "homes 0 0 0 0" ++ 10 ∷ [])
+        then (codes "level 2 radius 4 clusters 1 phases 1" ++ 10 ∷ [])
+        then (codes "cluster 0 phase 0 leader 0 depth 3 members 0 1 2 3" ++ 10 ∷ [])
+        then (codes "homes 0 0 0 0" ++ 10 ∷ [])
+        then (codes "end" ++ 10 ∷ []) }
 {}

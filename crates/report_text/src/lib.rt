@@ -8,7 +8,7 @@ mod plan;
 mod refusal;
 mod report_lines;
 
-pub use examples::{example_calls, example_lines};
+pub use examples::{example_calls, example_fields, example_lines, example_plan};
 pub use plan::{PlanParts, plan_text};
 pub use refusal::refused_line;
 pub use report_lines::{Lines, report};

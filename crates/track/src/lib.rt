@@ -9,6 +9,8 @@ mod status;
 mod top;
 mod transfer;
 mod writing;
+mod wrong;
 
 pub use laws::{bytes_have_one_text, complete};
 pub use top::command;
+pub use wrong::wrong_ends;

@@ -4,10 +4,14 @@
 
 mod finds;
 mod orders;
+mod others;
 mod puts;
 mod scripts;
+mod wrong;
 
 pub use finds::worked_finds;
 pub use orders::worked_orders;
+pub use others::worked_others;
 pub use puts::worked_puts;
 pub use scripts::worked_scripts;
+pub use wrong::wrong_lines;

@@ -1,0 +1,8 @@
+use Rattle.std.proofs.Common.{refl}
+use Rattle.std.specs.Fmt.{digits}
+use Rattle.report_text.specs.PlanText.{clusters_text, levels_text}
+use Rattle.report_text.proofs.examples.example_plan.Goals as goal
+
+pub returns : goal.returns
+unfolding digits clusters_text levels_text
+returns c = refl

@@ -1,0 +1,33 @@
+//! Ends that no status may tell: each is wrong in one part.
+ghost use Rattle.std.specs.Prelude.{[], ◌∷◌, Some, None};
+ghost use Rattle.word_line.specs.declared.command.Command.TheVariants.{Cover};
+ghost use Rattle.track.specs.declared.status.Status.TheVariants.{Done, Refused, BadWords, OutOfMemory, ReadFailed, WriteFailed, TooLong};
+ghost use Rattle.track.specs.Ends.{Ends, EndsAs, streams};
+
+/// A status with bytes left, a fault, or something written that it may not come with.
+pub fn wrong_ends()
+    ensures unread { EndsAs Cover Done (streams None 0 None 0)
+        (streams (Some (1 ∷ [])) 0 None 0) → ⊥ }
+    ensures read_fault { EndsAs Cover Done (streams None 0 None 0)
+        (streams None 1 None 0) → ⊥ }
+    ensures write_fault { EndsAs Cover Done (streams None 0 None 0)
+        (streams None 0 None 1) → ⊥ }
+    ensures refused_unread { EndsAs Cover Refused (streams None 0 None 0)
+        (streams (Some (1 ∷ [])) 0 None 0) → ⊥ }
+    ensures spoke { EndsAs Cover OutOfMemory (streams None 0 (Some []) 0)
+        (streams None 0 (Some (1 ∷ [])) 0) → ⊥ }
+    ensures memory_fault { EndsAs Cover OutOfMemory (streams None 0 None 0)
+        (streams None 1 None 0) → ⊥ }
+    ensures spoke_then_failed { EndsAs Cover ReadFailed (streams None 0 (Some []) 0)
+        (streams None 1 (Some (1 ∷ [])) 0) → ⊥ }
+    ensures no_fault { EndsAs Cover ReadFailed (streams None 0 None 0)
+        (streams None 0 None 0) → ⊥ }
+    ensures no_write_fault { EndsAs Cover WriteFailed (streams None 0 None 0)
+        (streams None 0 None 0) → ⊥ }
+    ensures unread_at_fault { EndsAs Cover WriteFailed (streams None 0 None 0)
+        (streams (Some (1 ∷ [])) 0 None 1) → ⊥ }
+    ensures short { EndsAs Cover TooLong (streams (Some []) 0 None 0)
+        (streams None 0 None 0) → ⊥ }
+    ensures touched { Ends None BadWords (streams None 0 (Some []) 0)
+        (streams None 0 (Some (1 ∷ [])) 0) → ⊥ }
+{}

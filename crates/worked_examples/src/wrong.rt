@@ -1,0 +1,29 @@
+//! Lines that are wrong in one part: none is right, in turn, or within the bound.
+ghost use Rattle.std.specs.Prelude.{◌≡◌, ◌+◌, ◌*◌, [], ◌∷◌, Some, None, true, false};
+ghost use Rattle.directory.specs.Courses.{move_to, switch_off};
+ghost use Rattle.directory.specs.Writes.{visits};
+ghost use Rattle.directory.specs.declared.answers.Done.TheVariants.{Found as FoundBy, Off as OffBy, Again as AgainBy};
+ghost use Rattle.directory.specs.declared.answers.Why.TheVariants.{NoEntry};
+ghost use Rattle.region_plan.specs.Examples.{line_setting};
+ghost use Rattle.stretch_laws.specs.Lines.{IsLineWithin};
+ghost use Rattle.trail_laws.specs.Lines.{IsRightLine, TellInTurn, TellRisingNumbers};
+
+/// A line of a find on the line of four with a wrong node, number or state, with a cause that comes
+/// after the find, or heavier than the bound; numbers that fall, and finds out of turn.
+pub fn wrong_lines()
+    ensures node { IsRightLine line_setting ([]) (FoundBy 1 2 0 2 0 (Some 0) 5 0 3) → ⊥ }
+    ensures number { IsRightLine line_setting ([]) (FoundBy 1 2 0 3 1 (Some 0) 5 0 3) → ⊥ }
+    ensures on { IsRightLine line_setting ([]) (OffBy 1 2 0 3 0 (Some 0) 5 0 3) → ⊥ }
+    ensures off { IsRightLine line_setting (visits line_setting 0 (switch_off ∷ []))
+        (FoundBy 1 3 0 3 0 None 0 0 0) → ⊥ }
+    ensures early_cause { IsRightLine line_setting (visits line_setting 0 (move_to 2 ∷ []))
+        (AgainBy 1 3 0 NoEntry 5 6 8) → ⊥ }
+    ensures heavy { IsLineWithin (λ d p. 137 * d + 2 * p) line_setting ([])
+        (FoundBy 1 0 0 3 0 (Some 1) 412 0 3) → ⊥ }
+    ensures quiet_again { IsLineWithin (λ d p. 137 * d + 2 * p) line_setting ([])
+        (AgainBy 1 0 0 NoEntry 4 0 3) → ⊥ }
+    ensures falling { TellRisingNumbers
+        (FoundBy 1 0 0 3 2 None 0 0 3 ∷ FoundBy 2 0 0 3 1 None 0 4 5 ∷ []) → ⊥ }
+    ensures out_of_turn { TellInTurn
+        (FoundBy 1 0 0 3 2 None 0 4 5 ∷ FoundBy 1 0 1 3 2 None 0 0 3 ∷ []) → ⊥ }
+{}
