@@ -54,7 +54,12 @@ fn words_of_no_mark(rt: HostRuntime) -> Result<(), Fail> {
 
 #[test]
 fn words_of_no_address(rt: HostRuntime) -> Result<(), Fail> {
-    for word in [1, 0x0000_0000_0001_0000, 0x0002_0000_0001_0002, 0x0003_0000_0001_0003] {
+    for word in [
+        1,
+        0x0000_0000_0001_0000,
+        0x0002_0000_0001_0002,
+        0x0003_0000_0001_0003,
+    ] {
         assert_eq!(rt; unpack_address(word), None, "{word}");
     }
     Ok(())

@@ -1,6 +1,5 @@
 //! The report of a few calls, whole and line by line, and the lines that refuse inputs.
 use directory::{Done, Why};
-
 use net_reader::{InputCause, InputFault};
 use report_text::{Lines, refused_line, report};
 use std::alloc::Global;
