@@ -6,13 +6,13 @@ use std::process::Abort;
 use std::test::Fail;
 use test_networks::same_text;
 
-// Each read of a source is to give this, and to leave these bytes in a buffer that was dashes.
-fn reads<const N: usize>(rt: &impl Abort, source: &mut impl Source, rows: &[(Took, [u8; N])]) {
-    let mut buffer = [b'-'; N];
+// Each read of a source is to give this, and to leave these bytes in the buffer.
+fn reads(rt: &impl Abort, source: &mut impl Source, buffer: &mut [u8], rows: &[(Took, &[u8])]) {
     for place in 0..rows.len() {
         let (took, bytes) = rows[place];
-        assert_eq!(rt; source.read(&mut buffer), took, "read {place}");
-        same_text(rt, place, &buffer, &bytes);
+        assert!(rt; buffer.len() > 0);
+        assert_eq!(rt; source.read(buffer), took, "read {place}");
+        same_text(rt, place, buffer, bytes);
     }
 }
 
@@ -20,6 +20,7 @@ fn reads<const N: usize>(rt: &impl Abort, source: &mut impl Source, rows: &[(Too
 fn writes(rt: &impl Abort, sink: &mut impl Sink, rows: &[(&[u8], Gave)]) {
     for place in 0..rows.len() {
         let (bytes, gave) = rows[place];
+        assert!(rt; bytes.len() > 0);
         assert_eq!(rt; sink.write(bytes), gave, "write {place}");
     }
 }
@@ -28,13 +29,13 @@ fn writes(rt: &impl Abort, sink: &mut impl Sink, rows: &[(&[u8], Gave)]) {
 fn source_in_memory(rt: HostRuntime) -> Result<(), Fail> {
     let bytes = Vec::from_slice(rt.alloc(), b"abcdef")?;
     let mut source = MemorySource::new(bytes, 4, vec![in rt.alloc(); 1]?);
-    let rows = [
-        (Took::Got(4), *b"abcd-"),
-        (Took::Failed, *b"abcd-"),
-        (Took::Got(2), *b"efcd-"),
-        (Took::End, *b"efcd-"),
+    let rows: [(Took, &[u8]); 4] = [
+        (Took::Got(4), b"abcd-"),
+        (Took::Failed, b"abcd-"),
+        (Took::Got(2), b"efcd-"),
+        (Took::End, b"efcd-"),
     ];
-    reads(&rt, &mut source, &rows);
+    reads(&rt, &mut source, &mut [b'-'; 5], &rows);
     Ok(())
 }
 
@@ -79,12 +80,12 @@ impl Write for Broken {
 fn source_over_a_reader(rt: HostRuntime) {
     let text: &[u8] = b"abc";
     let mut source = StdSource::new(text);
-    let rows = [
-        (Took::Got(2), *b"ab"),
-        (Took::Got(1), *b"cb"),
-        (Took::End, *b"cb"),
+    let rows: [(Took, &[u8]); 3] = [
+        (Took::Got(2), b"ab"),
+        (Took::Got(1), b"cb"),
+        (Took::End, b"cb"),
     ];
-    reads(&rt, &mut source, &rows);
+    reads(&rt, &mut source, &mut [b'-'; 2], &rows);
 }
 
 // A call that fails is a fault, also one that a stream interrupts or would let wait.
@@ -95,11 +96,8 @@ fn devices_that_fail(rt: HostRuntime) {
         ErrorKind::Interrupted,
         ErrorKind::WouldBlock,
     ] {
-        reads(
-            &rt,
-            &mut StdSource::new(Broken { kind }),
-            &[(Took::Failed, *b"--")],
-        );
+        let mut source = StdSource::new(Broken { kind });
+        reads(&rt, &mut source, &mut [b'-'; 2], &[(Took::Failed, b"--")]);
         writes(
             &rt,
             &mut StdSink::new(Broken { kind }),

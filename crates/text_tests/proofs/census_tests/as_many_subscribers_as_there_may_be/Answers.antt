@@ -5,5 +5,4 @@ use Rattle.text_tests.proofs.census_tests.as_many_subscribers_as_there_may_be.Go
 
 pub new-requires-clause-inside : goal.new-requires-clause-inside
 new-requires-clause-inside g c =
-    All-replicate (λ home. home < nodes_of c.in_ok-line_of_four.field-0.0) 64 1
-    (omega (arith, c.in_ok-line_of_four.ensures.nodes))
+    All-replicate (λ home. home < nodes_of c.in_ok-plan.plan) 64 1 (omega (arith, c.in_ok-plan.ensures.nodes))
