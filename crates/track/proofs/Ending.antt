@@ -2,7 +2,6 @@
 use Rattle.std.proofs.Common.{◌≡◌, ◌⊎◌, inl, inr, ℕ, List, ◌++◌, Option, Some, None, Result, Ok, Err, refl, sym, ap, subst, ◌∙◌, append-nil}
 use Rattle.std.specs.Prelude.{IfSome}
 use Rattle.outside.specs.Bytes.{append_known, prepend_known, IsAtEnd}
-use Rattle.outside.specs.Calls.{HasFaulted}
 use Rattle.net_reader.specs.declared.fault.InputFault.{InputFault}
 use Rattle.net_reader.specs.Input.{Contents}
 use Rattle.net_reader.specs.Reading.{ReaderValue, StandsFor}
@@ -11,7 +10,11 @@ use Rattle.track.specs.declared.status.Status.{Status}
 use Rattle.track.specs.declared.status.Status.TheVariants as statuses
 use Rattle.track.specs.Answers.{IsRightAnswer, IsText}
 use Rattle.track.specs.Ends.{EndsAs, IsBegun, IsTextWritten, streams}
-use Rattle.track.specs.Transfer.{IsAllRead, IsWrittenPart, StopsReading, StopsWriting}
+use Rattle.track.specs.Transfer.{IsAllRead, StopsReading, StopsWriting, read_status, write_status}
+use Rattle.track.specs.declared.stop.ReadStop.{ReadStop}
+use Rattle.track.specs.declared.stop.ReadStop.TheVariants as reading
+use Rattle.track.specs.declared.stop.WriteStop.{WriteStop}
+use Rattle.track.specs.declared.stop.WriteStop.TheVariants as writing
 
 -- what holds of all bytes that were read holds of what was left
 of_left : (P : List ℕ → Type 0) (before now : Option (List ℕ)) (bytes : List ℕ) → before ≡ prepend_known bytes now
@@ -27,24 +30,12 @@ status_of_text command (Ok contents) status text h = inl h.0
 status_of_text command (Err fault) status text h = inr h.0
 
 -- reading stopped
-pub stopped : (command : Command) (status : Status) (left left' : Option (List ℕ)) (rf rf' : ℕ) (written : Option (List
-    ℕ)) (wf : ℕ) → StopsReading status left rf rf'
-    → EndsAs command status (streams left rf written wf) (streams left' rf' written wf)
-stopped command statuses.Done left left' rf rf' written wf h = absurd h
-stopped command statuses.Refused left left' rf rf' written wf h = absurd h
-stopped command statuses.BadWords left left' rf rf' written wf h = absurd h
-stopped command statuses.OutOfMemory left left' rf rf' written wf h = ((refl, refl), h)
-stopped command statuses.ReadFailed left left' rf rf' written wf h = ((refl, refl), h)
-stopped command statuses.WriteFailed left left' rf rf' written wf h = absurd h
-stopped command statuses.TooLong left left' rf rf' written wf h = ((refl, refl), h.1, h.0)
-
--- the text could not be made
-pub unmade : (command : Command) (status : Status) (left left' : Option (List ℕ)) (rf rf' : ℕ) (written : Option (List
-    ℕ)) (wf : ℕ) → status ≡ statuses.OutOfMemory → rf' ≡ rf
-    → EndsAs command status (streams left rf written wf) (streams left' rf' written wf)
-unmade command status left left' rf rf' written wf e h =
-    subst (λ (s : Status). EndsAs command s (streams left rf written wf) (streams left' rf' written wf)) (sym e)
-    ((refl, refl), h)
+pub stopped : (command : Command) (stop : ReadStop) (left left' : Option (List ℕ)) (rf rf' : ℕ)
+    (written : Option (List ℕ)) (wf : ℕ) → StopsReading stop left rf rf'
+    → EndsAs command (read_status stop) (streams left rf written wf) (streams left' rf' written wf)
+stopped command reading.OutOfMemory left left' rf rf' written wf h = ((refl, refl), h)
+stopped command reading.Failed left left' rf rf' written wf h = ((refl, refl), h)
+stopped command reading.TooLong left left' rf rf' written wf h = ((refl, refl), h.1, h.0)
 
 -- the text was written
 done-go : (command : Command) (status : Status) (text : List ℕ) (reader : ReaderValue) (left left' : Option (List ℕ))
@@ -87,39 +78,19 @@ done command status text shown reader left left' rf rf' written written' wf wf' 
     done-go command status text reader left left' rf rf' written written' wf wf' all is (w
     ∙ ap (append_known written) same) f (status_of_text command is.input status text is.answer)
 
--- the text was begun
-pub begun : (command : Command) (status failed : Status) (text shown : List ℕ) (reader : ReaderValue) (left left' :
-    Option (List ℕ)) (rf rf' : ℕ) (written written' : Option (List ℕ)) (wf wf' : ℕ)
+-- the text wasn't written whole
+pub unwritten : (command : Command) (status : Status) (stop : WriteStop) (text : List ℕ) (reader : ReaderValue)
+    (left left' : Option (List ℕ)) (rf rf' : ℕ) (written written' : Option (List ℕ)) (wf wf' : ℕ)
     → IsAllRead reader left left' rf rf' → ((bytes : List ℕ) → StandsFor reader bytes
-    → IsText command bytes status text) → shown ≡ text → IsWrittenPart shown written written'
-    → failed ≡ statuses.WriteFailed → HasFaulted wf wf'
-    → EndsAs command failed (streams left rf written wf) (streams left' rf' written' wf')
-begun command status failed text shown reader left left' rf rf' written written' wf wf' all right same part e f =
-    let front : IsWrittenPart text written written' =
-    subst (λ (t : List ℕ). IsWrittenPart t written written') same part in
+    → IsText command bytes status text) → StopsWriting stop text written written' wf wf'
+    → EndsAs command (write_status stop) (streams left rf written wf) (streams left' rf' written' wf')
+unwritten command status writing.OutOfMemory text reader left left' rf rf' written written' wf wf' all right h =
+    ((h.0, h.1), all.no_fault)
+unwritten command status writing.Failed text reader left left' rf rf' written written' wf wf' all right h =
     let is : IsBegun command all.bytes written written' =
-    record { short = all.short; status = status; text = text; right = right all.bytes all.stands; part = front } in
-    subst (λ (s : Status). EndsAs command s (streams left rf written wf) (streams left' rf' written' wf')) (sym e) (
-      f,
+    record { short = all.short; status = status; text = text; right = right all.bytes all.stands; part = h.1 } in (
+      h.0,
       of_left (λ bytes. IsBegun command bytes written written') left left' all.bytes all.parts all.end is,
       all.end,
       all.no_fault,
     )
-
--- the text wasn't written whole
-pub unwritten : (command : Command) (status failed : Status) (text : List ℕ) (reader : ReaderValue) (left left' :
-    Option (List ℕ)) (rf rf' : ℕ) (written written' : Option (List ℕ)) (wf wf' : ℕ)
-    → IsAllRead reader left left' rf rf' → ((bytes : List ℕ) → StandsFor reader bytes
-    → IsText command bytes status text) → StopsWriting failed text written written' wf wf'
-    → EndsAs command failed (streams left rf written wf) (streams left' rf' written' wf')
-unwritten command status statuses.Done text reader left left' rf rf' written written' wf wf' all right h = absurd h
-unwritten command status statuses.Refused text reader left left' rf rf' written written' wf wf' all right h = absurd h
-unwritten command status statuses.BadWords text reader left left' rf rf' written written' wf wf' all right h = absurd h
-unwritten command status statuses.OutOfMemory text reader left left' rf rf' written written' wf wf' all right h =
-    ((h.0, h.1), all.no_fault)
-unwritten command status statuses.ReadFailed text reader left left' rf rf' written written' wf wf' all right h =
-    absurd h
-unwritten command status statuses.WriteFailed text reader left left' rf rf' written written' wf wf' all right h =
-    begun command status statuses.WriteFailed text text reader left left' rf rf' written written' wf wf' all right refl
-    h.1 refl h.0
-unwritten command status statuses.TooLong text reader left left' rf rf' written written' wf wf' all right h = absurd h

@@ -5,8 +5,8 @@ use Rattle.std.specs.Prelude.{IfErr}
 use Rattle.std.specs.Result.{IsErrAnd, OnOk}
 use Rattle.outside.specs.Bytes.{append_known, append_known-append}
 use Rattle.outside.specs.Calls.{HasFaulted}
-use Rattle.track.specs.declared.status.Status.{Status}
-use Rattle.track.specs.declared.status.Status.TheVariants as statuses
+use Rattle.track.specs.declared.stop.WriteStop.{WriteStop}
+use Rattle.track.specs.declared.stop.WriteStop.TheVariants.{Failed}
 use Rattle.track.specs.Transfer.{IsOnItsWay, IsWrittenPart, StopsWriting}
 
 -- all that waited was written, and a piece behind it
@@ -56,20 +56,20 @@ begins before mid now total text waiting piece rest one part whole = record {
       ∙ sym (append_known-append before one.front part.front);
 }
 
-pub stopped-writing : (status : Status) (before mid now : Option (List ℕ)) (total text waiting piece rest : List ℕ)
-    (f g h : ℕ) → (status ≡ statuses.WriteFailed) × HasFaulted g h → g ≡ f → IsOnItsWay before mid text waiting
+pub stopped-writing : (stop : WriteStop) (before mid now : Option (List ℕ)) (total text waiting piece rest : List ℕ)
+    (f g h : ℕ) → (stop ≡ Failed) × HasFaulted g h → g ≡ f → IsOnItsWay before mid text waiting
     → IsWrittenPart (waiting ++ piece) mid now → total ≡ text ++ (piece ++ rest)
-    → StopsWriting status total before now f h
-stopped-writing status before mid now total text waiting piece rest f g h failed same one part whole =
-    subst (λ (s : Status). StopsWriting s total before now f h) (sym failed.0) (
+    → StopsWriting stop total before now f h
+stopped-writing stop before mid now total text waiting piece rest f g h failed same one part whole =
+    subst (λ (s : WriteStop). StopsWriting s total before now f h) (sym failed.0) (
       subst (λ (x : ℕ). HasFaulted x h) same failed.1,
       begins before mid now total text waiting piece rest one part whole,
     )
 
-pub err-then : (result : Result (Unit {0}) Status) (P Q : Status → Type 0) → IsErrAnd result P
-    → ((status : Status) → P status → Q status) → IfErr result Q
+pub err-then : (result : Result (Unit {0}) WriteStop) (P Q : WriteStop → Type 0) → IsErrAnd result P
+    → ((stop : WriteStop) → P stop → Q stop) → IfErr result Q
 err-then (Ok done) P Q h on = tt
-err-then (Err status) P Q h on = on status h
+err-then (Err stop) P Q h on = on stop h
 
 -- at the end what waits is written
 pub ends-all : {E : Type 0} (result : Result (Unit {0}) E) (before mid now : Option (List ℕ))
@@ -85,14 +85,14 @@ pub ends-no_fault : {E : Type 0} (result : Result (Unit {0}) E) (f g h : ℕ) �
 ends-no_fault (Ok done) f g h same is = is ∙ same
 ends-no_fault (Err fault) f g h same is = tt
 
-pub ends-stopped : (result : Result (Unit {0}) Status) (before mid now : Option (List ℕ))
+pub ends-stopped : (result : Result (Unit {0}) WriteStop) (before mid now : Option (List ℕ))
     (total text waiting : List ℕ) (f g h : ℕ)
-    → IfErr result (λ status. (status ≡ statuses.WriteFailed) × HasFaulted g h) → g ≡ f
+    → IfErr result (λ stop. (stop ≡ Failed) × HasFaulted g h) → g ≡ f
     → IsOnItsWay before mid text waiting → IsWrittenPart waiting mid now → total ≡ text
-    → IfErr result (λ status. StopsWriting status total before now f h)
+    → IfErr result (λ stop. StopsWriting stop total before now f h)
 ends-stopped (Ok done) before mid now total text waiting f g h failed same one part whole = tt
-ends-stopped (Err status) before mid now total text waiting f g h failed same one part whole =
-    stopped-writing status before mid now total text waiting [] [] f g h failed same one
+ends-stopped (Err stop) before mid now total text waiting f g h failed same one part whole =
+    stopped-writing stop before mid now total text waiting [] [] f g h failed same one
     (subst (λ t. IsWrittenPart t mid now) (sym (append-nil waiting)) part)
     (whole ∙ sym (append-nil text))
 

@@ -5,7 +5,11 @@ use Rattle.outside.specs.Bytes.{prepend_known, append_known, IsAtEnd}
 use Rattle.outside.specs.Calls.{HasFaulted}
 use Rattle.net_reader.specs.Reading.{ReaderValue, StandsFor, most_bytes}
 use Rattle.track.specs.declared.status.Status.{Status}
-use Rattle.track.specs.declared.status.Status.TheVariants.{Done, Refused, BadWords, OutOfMemory, ReadFailed, WriteFailed, TooLong}
+use Rattle.track.specs.declared.status.Status.TheVariants.{OutOfMemory, ReadFailed, WriteFailed, TooLong}
+use Rattle.track.specs.declared.stop.ReadStop.{ReadStop}
+use Rattle.track.specs.declared.stop.ReadStop.TheVariants as reading
+use Rattle.track.specs.declared.stop.WriteStop.{WriteStop}
+use Rattle.track.specs.declared.stop.WriteStop.TheVariants as writing
 
 -- what is left is an end of what was left
 pub record IsEndOf (before now : Option (List ℕ)) : Type 0 where
@@ -23,15 +27,17 @@ pub record IsAllRead (reader : ReaderValue) (before now : Option (List ℕ))
   pub no_fault : faults_now ≡ faults_before
 
 -- why not all was read
-abbrev pub StopsReading : Status → Option (List ℕ) → ℕ → ℕ → Type 0
-StopsReading Done before faults_before faults_now = ⊥
-StopsReading Refused before faults_before faults_now = ⊥
-StopsReading BadWords before faults_before faults_now = ⊥
-StopsReading OutOfMemory before faults_before faults_now = faults_now ≡ faults_before
-StopsReading ReadFailed before faults_before faults_now = HasFaulted faults_before faults_now
-StopsReading WriteFailed before faults_before faults_now = ⊥
-StopsReading TooLong before faults_before faults_now =
+abbrev pub StopsReading : ReadStop → Option (List ℕ) → ℕ → ℕ → Type 0
+StopsReading reading.OutOfMemory before faults_before faults_now = faults_now ≡ faults_before
+StopsReading reading.Failed before faults_before faults_now = HasFaulted faults_before faults_now
+StopsReading reading.TooLong before faults_before faults_now =
     IfSome before (λ bytes. most_bytes < length bytes) × (faults_now ≡ faults_before)
+
+-- the status that it ends with
+abbrev pub read_status : ReadStop → Status
+read_status reading.OutOfMemory = OutOfMemory
+read_status reading.Failed = ReadFailed
+read_status reading.TooLong = TooLong
 
 -- the text was written up to here
 pub record IsWrittenPart (text : List ℕ) (before now : Option (List ℕ)) : Type 0 where
@@ -47,13 +53,13 @@ pub record IsOnItsWay (before now : Option (List ℕ)) (text waiting : List ℕ)
   pub written : now ≡ append_known before front
 
 -- why a text wasn't written whole
-abbrev pub StopsWriting : Status → List ℕ → Option (List ℕ) → Option (List ℕ) → ℕ → ℕ → Type 0
-StopsWriting Done text before now faults_before faults_now = ⊥
-StopsWriting Refused text before now faults_before faults_now = ⊥
-StopsWriting BadWords text before now faults_before faults_now = ⊥
-StopsWriting OutOfMemory text before now faults_before faults_now =
+abbrev pub StopsWriting : WriteStop → List ℕ → Option (List ℕ) → Option (List ℕ) → ℕ → ℕ → Type 0
+StopsWriting writing.OutOfMemory text before now faults_before faults_now =
     (now ≡ before) × (faults_now ≡ faults_before)
-StopsWriting ReadFailed text before now faults_before faults_now = ⊥
-StopsWriting WriteFailed text before now faults_before faults_now =
+StopsWriting writing.Failed text before now faults_before faults_now =
     HasFaulted faults_before faults_now × IsWrittenPart text before now
-StopsWriting TooLong text before now faults_before faults_now = ⊥
+
+-- the status that it ends with
+abbrev pub write_status : WriteStop → Status
+write_status writing.OutOfMemory = OutOfMemory
+write_status writing.Failed = WriteFailed

@@ -1,9 +1,8 @@
 //! What answers an input.
-ghost use Rattle.std.specs.Prelude.{◌≡◌, ℕ, List, [], IfOk, IfErr, true};
+ghost use Rattle.std.specs.Prelude.{◌≡◌, ℕ, List, [], IfOk, true};
 ghost use Rattle.net_reader.specs.Reading.{StandsFor};
 ghost use Rattle.net_reader.specs.Seen.{seen_input};
 ghost use Rattle.net_reader.specs.Valid.{IsValid};
-ghost use Rattle.track.specs.declared.status.Status.TheVariants.{OutOfMemory};
 ghost use Rattle.net_graph.specs.Network.{IsGraphOf};
 ghost use Rattle.directory.specs.Orders.{history_of};
 ghost use Rattle.directory.specs.Outcomes.{result_of};
@@ -108,11 +107,14 @@ fn body_of(
 }
 
 // What answers the bytes that the reader stands for.
-pub(crate) fn make_answer(alloc: Global, command: Command, reader: Reader) -> Result<Answer, Status>
+pub(crate) fn make_answer(
+    alloc: Global,
+    command: Command,
+    reader: Reader,
+) -> Result<Answer, AllocError>
     requires served { is_served command ≡ true }
     ensures text { IfOk result (λ answer. (bytes : List ℕ) → StandsFor reader bytes
         → IsText command bytes answer.status (text_of answer.body)) }
-    ensures stops { IfErr result (λ status. status ≡ OutOfMemory) }
 {
     inputs_are_valid();
     match reader.end_with_graph(alloc) {
@@ -127,6 +129,6 @@ pub(crate) fn make_answer(alloc: Global, command: Command, reader: Reader) -> Re
             status: Status::Refused,
             body: Body::Refusal(fault),
         }),
-        Err(ReadRefusal::OutOfMemory) => Err(Status::OutOfMemory),
+        Err(ReadRefusal::OutOfMemory) => Err(AllocError),
     }
 }

@@ -6,6 +6,7 @@ mod census;
 mod laws;
 mod outlet;
 mod status;
+mod stop;
 mod top;
 mod transfer;
 mod writing;

@@ -2,10 +2,10 @@
 ghost use Rattle.std.specs.Prelude.{◌≡◌, ◌≤◌, ◌+◌, ◌++◌, [], length, IfErr, IfOk, OnOk};
 ghost use Rattle.outside.specs.Bytes.{append_known};
 ghost use Rattle.outside.specs.Calls.{HasFaulted};
-ghost use Rattle.track.specs.declared.status.Status.TheVariants.{WriteFailed};
+ghost use Rattle.track.specs.declared.stop.WriteStop.TheVariants.{Failed};
 ghost use Rattle.track.specs.Transfer.{IsOnItsWay, IsWrittenPart};
 
-use crate::status::Status;
+use crate::stop::WriteStop;
 use crate::transfer::write_all;
 use outside::Sink;
 use std::alloc::{AllocError, Global};
@@ -52,13 +52,13 @@ impl Outlet {
     }
 
     // Writes all bytes that wait.
-    pub(crate) fn flush<K: Sink>(&mut self, sink: &mut K) -> Result<(), Status>
+    pub(crate) fn flush<K: Sink>(&mut self, sink: &mut K) -> Result<(), WriteStop>
         ensures all { OnOk result (K.written sink.new
             ≡ append_known (K.written sink.old) self.old) }
         ensures none { OnOk result (self.new ≡ []) }
         ensures no_fault { OnOk result (K.faults sink.new ≡ K.faults sink.old) }
-        ensures stops { IfErr result (λ status.
-            (status ≡ WriteFailed) × HasFaulted (K.faults sink.old) (K.faults sink.new)) }
+        ensures stops { IfErr result (λ stop.
+            (stop ≡ Failed) × HasFaulted (K.faults sink.old) (K.faults sink.new)) }
         ensures part { IsWrittenPart self.old (K.written sink.old) (K.written sink.new) }
     {
         write_all(sink, &self.waiting)?;
@@ -67,12 +67,12 @@ impl Outlet {
     }
 
     // Passes a piece on: it waits, or is written behind those bytes that do.
-    pub(crate) fn pass_on<K: Sink>(&mut self, sink: &mut K, piece: &[u8]) -> Result<(), Status>
+    pub(crate) fn pass_on<K: Sink>(&mut self, sink: &mut K, piece: &[u8]) -> Result<(), WriteStop>
         ensures moved { OnOk result (IsOnItsWay
             (K.written sink.old) (K.written sink.new) (self.old ++ piece.now) self.new) }
         ensures no_fault { OnOk result (K.faults sink.new ≡ K.faults sink.old) }
-        ensures stops { IfErr result (λ status.
-            (status ≡ WriteFailed) × HasFaulted (K.faults sink.old) (K.faults sink.new)) }
+        ensures stops { IfErr result (λ stop.
+            (stop ≡ Failed) × HasFaulted (K.faults sink.old) (K.faults sink.new)) }
         ensures part { IsWrittenPart (self.old ++ piece.now) (K.written sink.old) (K.written
             sink.new) }
     {

@@ -1,9 +1,6 @@
 //! How the program ends.
 ghost use Rattle.std.specs.Prelude.{◌≡◌};
-ghost use Rattle.track.specs.declared.status.Status.TheVariants.{OutOfMemory};
 ghost use Rattle.track.specs.Ends.{status_number};
-
-use std::alloc::{AllocError, AllocFailed};
 
 /// The status that the program ends with.
 #[derive(Clone, Copy, Debug, PartialEq, Eq)]
@@ -22,22 +19,6 @@ pub enum Status {
     WriteFailed = 5,
     /// The input is too long; nothing was written.
     TooLong = 6,
-}
-
-impl From<AllocError> for Status {
-    ghost from_gives = { λ _ e. e ≡ OutOfMemory };
-
-    fn from(_: AllocError) -> Self {
-        Status::OutOfMemory
-    }
-}
-
-impl<T: Drop> From<AllocFailed<T>> for Status {
-    ghost from_gives = { λ _ e. e ≡ OutOfMemory };
-
-    fn from(_: AllocFailed<T>) -> Self {
-        Status::OutOfMemory
-    }
 }
 
 impl From<Status> for u8 {

@@ -10,7 +10,7 @@ use crate::status::Status;
 use crate::transfer::read_all;
 use crate::writing::write_body;
 use outside::{Sink, Source};
-use std::alloc::Global;
+use std::alloc::{AllocError, Global};
 use word_line::{Command, read_words};
 
 // Whether the command is built.
@@ -37,15 +37,15 @@ fn perform<S: Source, K: Sink>(
 {
     let reader = match read_all(alloc, source) {
         Ok(reader) => reader,
-        Err(unread) => return unread,
+        Err(stop) => return Status::from(stop),
     };
     let answer = match make_answer(alloc, command, reader) {
         Ok(answer) => answer,
-        Err(unmade) => return unmade,
+        Err(AllocError) => return Status::OutOfMemory,
     };
     match write_body(alloc, &answer.body, sink) {
         Ok(()) => answer.status,
-        Err(unwritten) => unwritten,
+        Err(stop) => Status::from(stop),
     }
 }
 

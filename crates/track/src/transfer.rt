@@ -2,10 +2,10 @@
 ghost use Rattle.std.specs.Prelude.{◌≡◌, IfOk, IfErr, OnOk};
 ghost use Rattle.outside.specs.Bytes.{append_known};
 ghost use Rattle.outside.specs.Calls.{HasFaulted};
-ghost use Rattle.track.specs.declared.status.Status.TheVariants.{WriteFailed};
+ghost use Rattle.track.specs.declared.stop.WriteStop.TheVariants.{Failed};
 ghost use Rattle.track.specs.Transfer.{IsAllRead, IsEndOf, IsWrittenPart, StopsReading};
 
-use crate::status::Status;
+use crate::stop::{ReadStop, WriteStop};
 use net_reader::{MAX_BYTES, Reader};
 use outside::{Gave, Sink, Source, Took};
 use std::alloc::Global;
@@ -13,10 +13,10 @@ use std::alloc::Global;
 const PIECE: usize = 16_384;
 
 // A reader of all that is left in the source, where it isn't too much. It stops at the first fault.
-pub(crate) fn read_all<S: Source>(alloc: Global, source: &mut S) -> Result<Reader, Status>
+pub(crate) fn read_all<S: Source>(alloc: Global, source: &mut S) -> Result<Reader, ReadStop>
     ensures all { IfOk result (λ reader. IsAllRead reader
         (S.left source.old) (S.left source.new) (S.faults source.old) (S.faults source.new)) }
-    ensures stops { IfErr result (λ status. StopsReading status
+    ensures stops { IfErr result (λ stop. StopsReading stop
         (S.left source.old) (S.faults source.old) (S.faults source.new)) }
     ensures rest { IsEndOf (S.left source.old) (S.left source.new) }
 {
@@ -30,25 +30,25 @@ pub(crate) fn read_all<S: Source>(alloc: Global, source: &mut S) -> Result<Reade
                 count += more;
             }
             Took::End => return Ok(reader),
-            Took::Failed => return Err(Status::ReadFailed),
+            Took::Failed => return Err(ReadStop::Failed),
         }
     }
-    Err(Status::TooLong)
+    Err(ReadStop::TooLong)
 }
 
 // The whole text into the sink. It stops at the first fault.
-pub(crate) fn write_all<K: Sink>(sink: &mut K, text: &[u8]) -> Result<(), Status>
+pub(crate) fn write_all<K: Sink>(sink: &mut K, text: &[u8]) -> Result<(), WriteStop>
     ensures all { OnOk result (K.written sink.new ≡ append_known (K.written sink.old) text.now) }
     ensures no_fault { OnOk result (K.faults sink.new ≡ K.faults sink.old) }
-    ensures stops { IfErr result (λ status.
-        (status ≡ WriteFailed) × HasFaulted (K.faults sink.old) (K.faults sink.new)) }
+    ensures stops { IfErr result (λ stop.
+        (stop ≡ Failed) × HasFaulted (K.faults sink.old) (K.faults sink.new)) }
     ensures part { IsWrittenPart text.now (K.written sink.old) (K.written sink.new) }
 {
     let mut rest = text;
     'pieces: while !rest.is_empty() {
         match sink.write(rest) {
             Gave::Wrote(count) => rest = rest.split_at(count).1,
-            Gave::Failed => return Err(Status::WriteFailed),
+            Gave::Failed => return Err(WriteStop::Failed),
         }
     }
     Ok(())

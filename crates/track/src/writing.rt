@@ -7,7 +7,7 @@ ghost use Rattle.track.specs.Transfer.{StopsWriting};
 
 use crate::answer::Body;
 use crate::outlet::Outlet;
-use crate::status::Status;
+use crate::stop::WriteStop;
 use crate::transfer::write_all;
 use directory::Outcome;
 use net_reader::InputFault;
@@ -21,12 +21,12 @@ fn write_lines<K: Sink>(
     lines: &mut Lines<'_>,
     outlet: &mut Outlet,
     sink: &mut K,
-) -> Result<(), Status>
+) -> Result<(), WriteStop>
     requires { outlet.old ≡ [] }
     ensures all { OnOk result (K.written sink.new
         ≡ append_known (K.written sink.old) (concat lines.old.left)) }
     ensures no_fault { OnOk result (K.faults sink.new ≡ K.faults sink.old) }
-    ensures stops { IfErr result (λ status. StopsWriting status (concat lines.old.left)
+    ensures stops { IfErr result (λ stop. StopsWriting stop (concat lines.old.left)
         (K.written sink.old) (K.written sink.new) (K.faults sink.old) (K.faults sink.new)) }
 {
     'lines: while let Some(line) = lines.next_line() {
@@ -40,12 +40,12 @@ fn write_parts<K: Sink>(
     parts: &mut PlanParts<'_>,
     outlet: &mut Outlet,
     sink: &mut K,
-) -> Result<(), Status>
+) -> Result<(), WriteStop>
     requires { outlet.old ≡ [] }
     ensures all { OnOk result (K.written sink.new
         ≡ append_known (K.written sink.old) parts.old.left) }
     ensures no_fault { OnOk result (K.faults sink.new ≡ K.faults sink.old) }
-    ensures stops { IfErr result (λ status. StopsWriting status parts.old.left
+    ensures stops { IfErr result (λ stop. StopsWriting stop parts.old.left
         (K.written sink.old) (K.written sink.new) (K.faults sink.old) (K.faults sink.new)) }
 {
     'parts: while parts.advance() {
@@ -55,11 +55,11 @@ fn write_parts<K: Sink>(
 }
 
 // The text of an answer into the sink. All memory is taken before the first byte is written.
-pub(crate) fn write_body<K: Sink>(alloc: Global, body: &Body, sink: &mut K) -> Result<(), Status>
+pub(crate) fn write_body<K: Sink>(alloc: Global, body: &Body, sink: &mut K) -> Result<(), WriteStop>
     ensures all { OnOk result (K.written sink.new
         ≡ append_known (K.written sink.old) (text_of body.now)) }
     ensures no_fault { OnOk result (K.faults sink.new ≡ K.faults sink.old) }
-    ensures stops { IfErr result (λ status. StopsWriting status (text_of body.now)
+    ensures stops { IfErr result (λ stop. StopsWriting stop (text_of body.now)
         (K.written sink.old) (K.written sink.new) (K.faults sink.old) (K.faults sink.new)) }
 {
     let mut outlet = Outlet::new(alloc)?;

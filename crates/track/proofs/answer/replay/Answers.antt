@@ -3,6 +3,7 @@ use Rattle.directory.specs.Orders.{history_of}
 use Rattle.directory.specs.Outcomes.{Outcome, outcome_of}
 use Rattle.directory.specs.Outcomes.{result_of}
 use Rattle.machine.specs.Machines.{scripts_at, setting_at, HasHistory}
+use Rattle.trail_laws.specs.Lines.{TellInTurn}
 use Rattle.net_reader.specs.Seen.{seen_input}
 use Rattle.report_text.specs.ReportText.{report_of}
 use Rattle.region_plan.specs.Matched.{BoundsFinds}

@@ -28,8 +28,8 @@ returns-in_err-pass_on-clause-stops g c =
     let f = g.K.Sink.faults c.args.sink.now in
     let h = g.K.Sink.faults c.pass_on.new.sink in
     let failed = c.in_err-pass_on.ensures.stops in
-    err-then c.from_residual.result _ (λ status. StopsWriting status total before now f h) c.from_residual.ensures.1
-    (λ status is. stopped-writing status before (g.K.Sink.written c.lines.sink) now total w.text c.lines.outlet line
+    err-then c.from_residual.result _ (λ stop. StopsWriting stop total before now f h) c.from_residual.ensures.1
+    (λ stop is. stopped-writing stop before (g.K.Sink.written c.lines.sink) now total w.text c.lines.outlet line
     (concat (drop 1 c.lines.lines.left)) f (g.K.Sink.faults c.lines.sink) h (is ∙ failed.0, failed.1) w.no_fault w.on
     c.pass_on.ensures.part (line-first total w.text line c.lines.lines.left w.parts c.in-Some.ensures.line))
 
