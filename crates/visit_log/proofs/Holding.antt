@@ -10,7 +10,7 @@ use Rattle.region_plan.specs.Plan.{PlanData}
 use Rattle.region_plan.specs.Settings.{setting_of}
 use Rattle.region_plan.specs.Cells.{IsCell}
 use Rattle.visit_log.specs.Cells.{CellData, GoWith, Hold, slot_of, word_at}
-use Rattle.visit_log.proofs.Places.{slot-apart, slot-within}
+use Rattle.visit_log.proofs.Apart.{slot-apart, slot-within}
 use Rattle.directory.specs.Statements.{SameKey, CellAfter}
 
 pub word-after : SameKey → (plan : PlanData) (cells : CellData) (key other : Key) (word : ℕ) → GoWith plan cells

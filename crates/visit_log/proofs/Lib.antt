@@ -1,3 +1,3 @@
-mod Places
+mod Apart
 mod Holding
 mod Opening

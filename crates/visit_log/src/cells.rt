@@ -3,25 +3,24 @@ ghost use Rattle.std.specs.Prelude.{◌≡◌, ◌+◌, ◌*◌, ◌<◌, ◌≤
 ghost use Rattle.entry_word.specs.declared.visit.Act.TheVariants.{Put};
 ghost use Rattle.entry_word.specs.declared.visit.Key.{Key};
 ghost use Rattle.directory.specs.Histories.{History, cell};
+ghost use Rattle.directory.specs.Keys.{key_sub};
 ghost use Rattle.region_plan.specs.Plan.{levels_of, nodes_of};
 ghost use Rattle.region_plan.specs.Settings.{setting_of};
 ghost use Rattle.region_plan.specs.Cells.{IsCell};
 ghost use Rattle.visit_log.specs.Cells.{HasHomes, GoWith, Hold, open_word, slot_of, width_of, word_at};
 
-use crate::numbers::clusters_below;
+use crate::places::Places;
 use directory::{cell_after, same_key_means};
 use entry_word::{Address, Key, PresenceMark, pack_address, pack_mark};
-use net_graph::OutOfMemory;
 use region_plan::Plan;
-use std::alloc::Global;
+use std::alloc::{AllocError, Global};
 use std::marker::Model;
 
 /// The words of all cells of some subscribers. They go with the plan that they were made for.
 #[derive(Drop)]
 pub struct PlainCells {
     subs: u32,
-    width: u32,
-    firsts: Vec<u32>,
+    places: Places,
     words: Vec<u64>,
 }
 
@@ -32,15 +31,15 @@ impl Model for PlainCells {
 
     ghost view = { λ c. record {
       subs = c.subs;
-      width = c.width;
-      firsts = c.firsts.items;
+      width = c.places.width;
+      firsts = c.places.firsts;
       words = c.words.items;
     } };
 }
 
 impl PlainCells {
     /// The cells at the opening, of subscribers that start at these homes.
-    pub fn new(alloc: Global, plan: &Plan, homes: &[u32]) -> Result<PlainCells, OutOfMemory>
+    pub fn new(alloc: Global, plan: &Plan, homes: &[u32]) -> Result<PlainCells, AllocError>
         requires some { 1 ≤ length homes.now }
         requires few { length homes.now ≤ 64 }
         requires inside { All (λ home. home < nodes_of plan.now) homes.now }
@@ -102,23 +101,18 @@ impl PlainCells {
     }
 
     // Cells that hold nothing.
-    fn empty(alloc: Global, plan: &Plan, subs: u32) -> Result<PlainCells, OutOfMemory>
+    fn empty(alloc: Global, plan: &Plan, subs: u32) -> Result<PlainCells, AllocError>
         requires { subs ≤ 64 }
         ensures goes { IfOk result (GoWith plan.now) }
         ensures subs { IfOk result (λ cells. cells.subs ≡ subs) }
         ensures words { IfOk result (λ cells. cells.words
             ≡ replicate (subs * width_of plan.now) 0) }
     {
-        let mut firsts = Vec::with_capacity(alloc, plan.levels() as usize)?;
-        for level in 0..plan.levels() {
-            firsts.push(plan.nodes() + clusters_below(plan, level))?;
-        }
-        let width = plan.nodes() + clusters_below(plan, plan.levels());
-        let words = vec![in alloc; 0u64; subs as usize * width as usize]?;
+        let places = Places::new(alloc, plan)?;
+        let words = vec![in alloc; 0u64; subs as usize * places.width() as usize]?;
         Ok(PlainCells {
             subs,
-            width,
-            firsts,
+            places,
             words,
         })
     }
@@ -162,14 +156,15 @@ impl PlainCells {
         ensures place { result ≡ slot_of plan.now key }
         ensures within { result < length self.now.words }
     {
-        let width = self.width as usize;
-        match key {
-            Key::Presence { node, sub } => sub as usize * width + node as usize,
-            Key::Entry {
-                level,
-                cluster,
-                sub,
-            } => sub as usize * width + self.firsts[level as usize] as usize + cluster as usize,
-        }
+        key_sub(key) as usize * self.places.width() as usize + self.places.place(key) as usize
+    }
+}
+
+// The subscriber of a cell.
+fn key_sub(key: Key) -> u32
+    ensures { result ≡ key_sub key }
+{
+    match key {
+        Key::Presence { sub, .. } | Key::Entry { sub, .. } => sub,
     }
 }

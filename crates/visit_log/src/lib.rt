@@ -3,7 +3,8 @@
 
 mod cells;
 mod numbers;
+mod places;
 
 pub use cells::PlainCells;
-pub use net_graph::OutOfMemory;
 pub use numbers::{cell_count, cell_number, cell_numbers, key_node};
+pub use places::Places;

@@ -1,4 +1,4 @@
-use Rattle.visit_log.proofs.Places.{cell-below, cell-apart}
+use Rattle.visit_log.proofs.Apart.{cell-below, cell-apart}
 use Rattle.visit_log.proofs.numbers.cell_numbers.Goals as goal
 
 pub returns-clause-below : goal.returns-clause-below
