@@ -11,7 +11,7 @@ ghost use Rattle.census_text.specs.CensusText.{census_text_of, count_below, is_p
 use entry_word::{Key, PresenceMark, unpack_mark};
 use region_plan::Plan;
 use std::alloc::{AllocError, Global};
-use visit_log::{OutOfMemory, PlainCells};
+use visit_log::PlainCells;
 
 // Whether the presence cell of a subscriber at a node says that it is there.
 fn is_there(plan: &Plan, cells: &PlainCells, node: u32, sub: u32) -> bool
@@ -146,7 +146,7 @@ pub fn census(
     plan: &Plan,
     cells: &PlainCells,
     subs: u32,
-) -> Result<Vec<u8>, OutOfMemory>
+) -> Result<Vec<u8>, AllocError>
     requires goes { GoWith plan.now cells.now }
     requires subs { subs ≡ cells.now.subs }
     ensures text { IfOk result (λ text. text.items
@@ -167,7 +167,7 @@ pub fn census_of_places(
     alloc: Global,
     nodes: u32,
     places: &[Option<u32>],
-) -> Result<Vec<u8>, OutOfMemory>
+) -> Result<Vec<u8>, AllocError>
     requires few { length places.now < 2 ^ 32 }
     ensures { IfOk result (λ text. text.items ≡ census_text_of (who_at places.now) nodes) }
 {

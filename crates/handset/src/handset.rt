@@ -19,9 +19,8 @@ use crate::stage::{Journey, Stage};
 use directory::levels_after_move;
 use distances::Distances;
 use entry_word::{Act, Address, Key, PresenceMark, Visit, mark_words, pack_address, pack_mark};
-use net_graph::OutOfMemory;
 use region_plan::Plan;
-use std::alloc::Global;
+use std::alloc::{AllocError, Global};
 use std::marker::Model;
 
 /// One subscriber's own state. It goes with the plan that it was made for.
@@ -58,7 +57,7 @@ impl Model for Handset {
 
 impl Handset {
     /// A handset at rest at its home, with number 0.
-    pub fn new(alloc: Global, sub: u32, home: u32, plan: &Plan) -> Result<Handset, OutOfMemory>
+    pub fn new(alloc: Global, sub: u32, home: u32, plan: &Plan) -> Result<Handset, AllocError>
         requires node { home < nodes_of plan.now }
         ensures exact { IfOk result (λ handset. handset ≡ handset_at plan.now sub home) }
         ensures goes { IfOk result (GoesWith plan.now) }
@@ -198,7 +197,7 @@ impl Handset {
     }
 
     // A handset at rest at a node.
-    fn at_home(alloc: Global, sub: u32, home: u32, plan: &Plan) -> Result<Handset, OutOfMemory>
+    fn at_home(alloc: Global, sub: u32, home: u32, plan: &Plan) -> Result<Handset, AllocError>
         requires node { home < nodes_of plan.now }
         ensures exact { IfOk result (λ handset. handset ≡ handset_at plan.now sub home) }
         ensures goes { IfOk result (GoesWith plan.now) }

@@ -7,4 +7,3 @@ mod stage;
 
 pub use fault::{MoveFault, SwitchFault};
 pub use handset::Handset;
-pub use net_graph::OutOfMemory;

@@ -13,11 +13,10 @@ ghost use Rattle.machine.specs.Callers.{IsCaller, HasLooked};
 use crate::turn::Turn;
 use directory::{Done, Found, every_order_is_legal, lines_grow, own_after};
 use distances::Distances;
-use net_graph::OutOfMemory;
 use net_reader::{Call, Input};
 use region_plan::Plan;
 use scripts::scripts_are_valid;
-use std::alloc::Global;
+use std::alloc::{AllocError, Global};
 use trail_laws::{entries_tell, marks_tell};
 use visit_log::PlainCells;
 use walk::Walk;
@@ -38,7 +37,7 @@ impl Caller {
         script: &[Call],
         subs: u32,
         plan: &Plan,
-    ) -> Result<Caller, OutOfMemory>
+    ) -> Result<Caller, AllocError>
         requires searches { All (IsSearch (nodes_of plan.now) subs) script.now }
         ensures walk { IfOk result
             (λ caller. IsWalking plan.now (map find_of script.now) at_origin caller.walk) }

@@ -26,5 +26,4 @@ mod turn;
 
 pub use directory::Outcome;
 pub use machine::Machine;
-pub use net_graph::OutOfMemory;
 pub use turn::Turn;

@@ -23,7 +23,6 @@ use directory::{
     turns_are_few,
 };
 use distances::Distances;
-use net_graph::OutOfMemory;
 use net_reader::{Call, Input};
 use region_plan::Plan;
 use scripts::{scripts_are_valid, visits_are_few};
@@ -52,7 +51,7 @@ impl<'a> Machine<'a> {
         input: &'a Input,
         plan: &'a Plan,
         distances: &'a Distances,
-    ) -> Result<Machine<'a>, OutOfMemory>
+    ) -> Result<Machine<'a>, AllocError>
         requires together { BelongTogether (seen_input input.now) plan.now distances.now }
         ensures made { IfOk result
             (λ machine. (machine.input.now ≡ input.now) × (machine.plan.now ≡ plan.now)
@@ -258,7 +257,7 @@ fn subscribers_of(
     input: &Input,
     plan: &Plan,
     distances: &Distances,
-) -> Result<Vec<Subscriber>, OutOfMemory>
+) -> Result<Vec<Subscriber>, AllocError>
     requires together { BelongTogether (seen_input input.now) plan.now distances.now }
     ensures count { IfOk result
         (λ subscribers. vec_len subscribers ≡ length input.now.homes.items) }
@@ -281,7 +280,7 @@ fn callers_of(
     input: &Input,
     plan: &Plan,
     distances: &Distances,
-) -> Result<Vec<Caller>, OutOfMemory>
+) -> Result<Vec<Caller>, AllocError>
     requires together { BelongTogether (seen_input input.now) plan.now distances.now }
     ensures count { IfOk result (λ callers. vec_len callers ≡ input.now.callers) }
     ensures each { IfOk result (λ callers. (c : ℕ) (d : Caller) → c < input.now.callers
@@ -298,7 +297,7 @@ fn callers_of(
 }
 
 // How many calls scripts have.
-fn count_calls(scripts: &[Vec<Call>]) -> Result<usize, OutOfMemory>
+fn count_calls(scripts: &[Vec<Call>]) -> Result<usize, AllocError>
     ensures { IfOk result
         (λ count. count ≡ count_calls (map (λ script. script.items) scripts.now)) }
 {

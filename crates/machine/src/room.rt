@@ -5,7 +5,6 @@ ghost use Rattle.machine.specs.Stands.{BeginInside, BeginsInside};
 ghost use Rattle.region_plan.specs.Settings.{setting_of};
 ghost use Rattle.region_plan.specs.Plan.{nodes_of};
 
-use net_graph::OutOfMemory;
 use net_reader::Call;
 use region_plan::Plan;
 use std::alloc::AllocError;
@@ -23,7 +22,7 @@ fn most_of(plan: &Plan, call: Call) -> u64
 }
 
 // The most visits of a script.
-pub fn most_of_script(plan: &Plan, script: &[Call]) -> Result<u64, OutOfMemory>
+pub fn most_of_script(plan: &Plan, script: &[Call]) -> Result<u64, AllocError>
     requires inside { BeginInside (nodes_of plan.now) script.now }
     ensures { IfOk result
         (λ most. (starts : List ℕ) → most ≡ most_in (setting_of plan.now starts) script.now) }
@@ -36,7 +35,7 @@ pub fn most_of_script(plan: &Plan, script: &[Call]) -> Result<u64, OutOfMemory>
 }
 
 // The most visits of all scripts.
-pub fn most_visits(plan: &Plan, scripts: &[Vec<Call>]) -> Result<u64, OutOfMemory>
+pub fn most_visits(plan: &Plan, scripts: &[Vec<Call>]) -> Result<u64, AllocError>
     requires inside { All (λ script. BeginInside (nodes_of plan.now) script.items) scripts.now }
     ensures { IfOk result (λ most. (starts : List ℕ) → most
         ≡ most_visits (setting_of plan.now starts) (map (λ script. script.items) scripts.now)) }

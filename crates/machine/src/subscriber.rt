@@ -21,11 +21,10 @@ use directory::{Done, own_after, scripts_in_order, tickets_tell};
 use distances::Distances;
 use entry_word::{Act, Key, PresenceMark, Visit, mark_words, unpack_mark};
 use handset::Handset;
-use net_graph::OutOfMemory;
 use net_reader::{Call, Input};
 use region_plan::Plan;
 use scripts::scripts_are_valid;
-use std::alloc::Global;
+use std::alloc::{AllocError, Global};
 use visit_log::PlainCells;
 
 /// A subscriber: its handset, and the lines of the steps that it has begun.
@@ -43,7 +42,7 @@ impl Subscriber {
         home: u32,
         steps: usize,
         plan: &Plan,
-    ) -> Result<Subscriber, OutOfMemory>
+    ) -> Result<Subscriber, AllocError>
         requires node { home < nodes_of plan.now }
         ensures handset { IfOk result
             (λ subscriber. (starts : List ℕ) → slice_index starts sub ≡ home
