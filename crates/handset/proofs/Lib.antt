@@ -7,3 +7,4 @@ mod Keeping
 mod Settling
 mod Made
 mod Begun
+mod Committing

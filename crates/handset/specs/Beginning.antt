@@ -24,6 +24,17 @@ is_rest (Erasing level) = false
 is_rest (Purging node) = false
 is_rest (Switching off) = false
 
+-- whether the write that comes next at a stage commits the move
+abbrev pub is_committing : Stage → Bool
+is_committing Resting = false
+is_committing Coming = false
+is_committing (Renewing level) = false
+is_committing Committing = true
+is_committing Confirming = false
+is_committing (Erasing level) = false
+is_committing (Purging node) = false
+is_committing (Switching off) = false
+
 -- why a move to a node doesn't begin, if it doesn't
 abbrev pub move_fault : PlanData → HandsetData → ℕ → Option MoveFault
 move_fault plan handset to =

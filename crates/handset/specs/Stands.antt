@@ -2,9 +2,12 @@
 -- visits it has made. It keeps the node and the weight of each level, and the trail, as the
 -- course of the steps has them; and the visits that are left are the writes of its stage and
 -- those after it.
--- Key laws: `Handset::new`, `begin`, `switch` and `made`, by their clauses `stands`.
+-- Key laws: `Handset::new`, `begin`, `switch` and `made`, by their clauses `stands`; `commits` tells
+-- the write that commits a move.
 use Rattle.std.specs.Prelude.{◌≡◌, ℕ, ◌<◌, ◌≤◌, Bool, true, false, List, [], ◌∷◌, ◌++◌, drop, filter_map, fold, length, map, slice_index, slice_index_or, take}
+use Rattle.std.specs.Option.{is_some}
 use Rattle.node_set.specs.Ascending.{has}
+use Rattle.entry_word.specs.declared.visit.Act.{Act}
 use Rattle.entry_word.specs.declared.visit.Visit.{Visit}
 use Rattle.directory.specs.Amid.{course_of}
 use Rattle.directory.specs.Settings.{Setting, levels, start}
@@ -71,6 +74,10 @@ number_at course move Confirming = move.number
 number_at course move (Erasing level) = move.number
 number_at course move (Purging node) = move.number
 number_at course move (Switching off) = length course.moves
+
+-- whether an act commits a move
+abbrev pub is_commit : Act → Bool
+is_commit act = is_some (commit_of (node_put act) (mark_put act))
 
 -- the commits among some puts
 abbrev pub commits_in : List Visit → List Commit

@@ -1,5 +1,6 @@
 //! A subscriber's handset.
 ghost use Rattle.std.specs.Prelude.{◌≡◌, ◌<◌, ◌≤◌, ◌+◌, ◌-◌, ◌^◌, ◌++◌, ◌∷◌, [], ℕ, List, slice_get, suc, true, false, not, ◌==◌, ◌&&◌, if◌then◌else◌, length, drop, replicate, IfOk, IsSome, OnOk, OnErr, None, Some, MatchResult, slice_index, slice_index_or, take};
+ghost use Rattle.entry_word.specs.declared.visit.Visit.{Visit};
 ghost use Rattle.entry_word.specs.declared.mark.PresenceMark.TheVariants.{Off, Here};
 ghost use Rattle.directory.specs.Settings.{Setting};
 ghost use Rattle.directory.specs.Courses.{Step, move_to};
@@ -11,14 +12,18 @@ ghost use Rattle.region_plan.specs.Kept.{IsKept};
 ghost use Rattle.region_plan.specs.Settings.{setting_of};
 ghost use Rattle.handset.specs.Kept.{GoesWith};
 ghost use Rattle.handset.specs.Progress.{after_write, due, erasing_from, first_with, go_on, is_behind, purging_at, settle};
-ghost use Rattle.handset.specs.Stands.{StandsForSteps, switch_to};
+ghost use Rattle.handset.specs.Stands.{StandsForSteps, is_commit, switch_to};
 ghost use Rattle.handset.specs.Beginning.{begin_move, gathered_after, handset_at, move_fault, renewal_in, switch_fault};
 
 use crate::fault::{MoveFault, SwitchFault};
+use crate::levels::{clear, first_behind, first_old, gather, readdress, renewal};
 use crate::stage::{Journey, Stage};
+use crate::visits::{
+    coming_visit, entry_visit, gone_visit, here_visit, mark_visit, renewal_visit, switch_mark,
+};
 use directory::levels_after_move;
 use distances::Distances;
-use entry_word::{Act, Address, Key, PresenceMark, Visit, mark_words, pack_address, pack_mark};
+use entry_word::{PresenceMark, Visit, mark_words};
 use region_plan::Plan;
 use std::alloc::{AllocError, Global};
 use std::marker::Model;
@@ -134,6 +139,16 @@ impl Handset {
         self.due(plan)
     }
 
+    /// Whether the write that comes next commits a move.
+    pub fn commits(&self) -> bool
+        ensures { (plan : PlanData) (visit : Visit) → nodes_of plan ≤ 2 ^ 16
+            → GoesWith plan self.now → due (setting_of plan []) self.now ≡ Some visit
+            → result ≡ is_commit visit.act }
+    {
+        mark_words();
+        self.stage.is_committing()
+    }
+
     /// The write that came next counts as made.
     pub fn made(&mut self, plan: &Plan)
         requires goes { GoesWith plan.now self.old }
@@ -231,52 +246,26 @@ impl Handset {
         requires goes { GoesWith plan.now self.now }
         ensures { result ≡ due (setting_of plan.now []) self.now }
     {
-        let sub = self.sub;
-        let Journey {
-            number,
-            from,
-            to,
-            ..
-        } = self.last;
+        let (sub, last) = (self.sub, self.last);
         // The call tells the proof that nodes are few.
         let _nodes = plan.nodes();
-        let (node_from, node_to) = (from as u16, to as u16);
         match self.stage {
             Stage::Resting => None,
-            Stage::Coming => Some(mark_visit(
-                sub,
-                to,
-                PresenceMark::Coming {
-                    number,
-                    from: node_from,
-                },
-            )),
+            Stage::Coming => Some(coming_visit(sub, last)),
             Stage::Renewing { level } => {
-                let address = Address {
-                    number,
-                    node: node_to,
-                };
-                Some(entry_visit(sub, level, plan.home(level, to), Some(address)))
+                Some(renewal_visit(sub, level, plan.home(level, last.to), last))
             }
-            Stage::Committing => Some(mark_visit(
-                sub,
-                from,
-                PresenceMark::Gone {
-                    number,
-                    to: node_to,
-                },
-            )),
-            Stage::Confirming => Some(mark_visit(sub, to, PresenceMark::Here { number })),
+            Stage::Committing => Some(gone_visit(sub, last)),
+            Stage::Confirming => Some(here_visit(sub, last)),
             Stage::Erasing { level } => {
                 let old = plan.home(level, self.addresses[level as usize]);
                 Some(entry_visit(sub, level, old, None))
             }
             Stage::Purging { node } => Some(mark_visit(sub, node, PresenceMark::Empty)),
-            Stage::Switching { off } => Some(mark_visit(
-                sub,
-                self.place,
-                switch_mark(off, self.number),
-            )),
+            Stage::Switching { off } => {
+                let mark = switch_mark(off, self.number);
+                Some(mark_visit(sub, self.place, mark))
+            }
         }
     }
 
@@ -393,132 +382,5 @@ impl Handset {
             clear(&mut self.trail);
         }
         self.trail[to as usize] = true;
-    }
-}
-
-// The highest level that a move of this weight renews, by what the levels have gathered.
-fn renewal(plan: &Plan, gathered: &[u64], weight: u64) -> u32
-    requires levels { length gathered.now ≡ levels_of plan.now }
-    requires light { (level : ℕ) → level < levels_of plan.now
-        → slice_index gathered.now level + weight < 2 ^ 64 }
-    ensures highest { result ≡ renewal_in (setting_of plan.now []) gathered.now weight }
-    ensures within { result < levels_of plan.now }
-{
-    // The call tells the proof that there is a level.
-    let _nodes = plan.nodes();
-    let mut limit = plan.levels();
-    while limit > 0 {
-        limit -= 1;
-        if plan.threshold(limit) <= gathered[limit as usize] + weight {
-            return limit;
-        }
-    }
-    0
-}
-
-// The levels up to the one that a move renews have gathered nothing, the others its weight more.
-fn gather(gathered: &mut [u64], renewed: u32, weight: u64)
-    requires light { (level : ℕ) → level < length gathered.old
-        → slice_index gathered.old level + weight < 2 ^ 64 }
-    ensures { gathered.new ≡ gathered_after gathered.old renewed weight }
-{
-    for level in 0..gathered.len() {
-        gathered[level] = if level <= renewed as usize {
-            0
-        } else {
-            gathered[level] + weight
-        };
-    }
-}
-
-// The levels up to the one that a move renews have the new node's address.
-fn readdress(addresses: &mut [u32], renewed: u32, to: u32)
-    requires { renewed < length addresses.old }
-    ensures { addresses.new ≡ replicate (suc renewed) to ++ drop (suc renewed) addresses.old }
-{
-    for level in 0..renewed as usize + 1 {
-        addresses[level] = to;
-    }
-}
-
-// Nobody is on the trail.
-fn clear(trail: &mut [bool])
-    ensures { trail.new ≡ replicate (length trail.old) false }
-{
-    for node in 0..trail.len() {
-        trail[node] = false;
-    }
-}
-
-// The first level from one on whose old address has another home than the new one.
-fn first_old(plan: &Plan, addresses: &[u32], last: Journey, from: u32) -> Option<u32>
-    requires levels { last.renewed < levels_of plan.now }
-    requires count { length addresses.now ≡ levels_of plan.now }
-    requires inside { (level : ℕ) → level < levels_of plan.now
-        → slice_index addresses.now level < nodes_of plan.now }
-    requires to { last.to < nodes_of plan.now }
-    ensures { result ≡ first_with (λ level. not (home plan.now level
-        (slice_index addresses.now level) == home plan.now level last.to)) from
-        (suc last.renewed - from) }
-{
-    // The call tells the proof that levels are few.
-    let _nodes = plan.nodes();
-    for level in from..last.renewed + 1 {
-        if plan.home(level, addresses[level as usize]) != plan.home(level, last.to) {
-            return Some(level);
-        }
-    }
-    None
-}
-
-// The first node from one on that is on the trail, but isn't the new one.
-fn first_behind(trail: &[bool], to: u32, from: u32) -> Option<u32>
-    requires { length trail.now ≤ 1024 }
-    ensures { result ≡ first_with (λ node. slice_index_or trail.now node false && not
-        (node == to)) from (length trail.now - from) }
-{
-    for node in from..trail.len() as u32 {
-        if trail[node as usize] && node != to {
-            return Some(node);
-        }
-    }
-    None
-}
-
-// A write of a mark.
-fn mark_visit(sub: u32, node: u32, mark: PresenceMark) -> Visit
-    ensures { result ≡ visit_of sub (mark_at node mark) }
-{
-    Visit {
-        actor: sub,
-        act: Act::Put(Key::Presence { node, sub }, pack_mark(mark)),
-    }
-}
-
-// A write of an entry.
-fn entry_visit(sub: u32, level: u32, cluster: u32, address: Option<Address>) -> Visit
-    ensures { result ≡ visit_of sub (entry_at level cluster address) }
-{
-    Visit {
-        actor: sub,
-        act: Act::Put(
-            Key::Entry {
-                level,
-                cluster,
-                sub,
-            },
-            pack_address(address),
-        ),
-    }
-}
-
-// The mark of a subscriber that switches off or on.
-fn switch_mark(off: bool, number: u32) -> PresenceMark
-    ensures { result ≡ (if off then Off number else Here number) }
-{
-    if off {
-        PresenceMark::Off { number }
-    } else {
-        PresenceMark::Here { number }
     }
 }

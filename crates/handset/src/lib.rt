@@ -3,7 +3,9 @@
 
 mod fault;
 mod handset;
+mod levels;
 mod stage;
+mod visits;
 
 pub use fault::{MoveFault, SwitchFault};
 pub use handset::Handset;

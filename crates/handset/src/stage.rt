@@ -1,6 +1,6 @@
 //! How far a handset is with the step that it has begun.
 ghost use Rattle.std.specs.Prelude.{◌≡◌};
-ghost use Rattle.handset.specs.Beginning.{is_rest};
+ghost use Rattle.handset.specs.Beginning.{is_committing, is_rest};
 
 /// The write that comes next: none at rest; those of a move in their order; the one of a switch.
 #[derive(Clone, Copy, PartialEq, Eq, Debug)]
@@ -24,6 +24,13 @@ impl Stage {
         ensures { result ≡ is_rest self }
     {
         matches!(self, Stage::Resting)
+    }
+
+    // Whether the write that comes next commits the move.
+    pub fn is_committing(self) -> bool
+        ensures { result ≡ is_committing self }
+    {
+        matches!(self, Stage::Committing)
     }
 }
 

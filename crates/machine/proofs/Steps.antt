@@ -1,5 +1,7 @@
 -- The lines of steps, a ticket more, and which visit of a move commits it.
 use Rattle.std.proofs.Common.{◌≡◌, ◌⊎◌, inl, inr, ℕ, zero, suc, ◌+◌, ◌-◌, ◌<◌, ◌≤◌, ◌^◌, Bool, true, false, List, [], ◌∷◌, ◌++◌, length, map, take, drop, get_or, refl, sym, ap, ◌∙◌, subst, arith, length-append}
+use Rattle.std.specs.Option.{is_some}
+use Rattle.std.proofs.lemmas.Bool.{cases_lt}
 use Rattle.std.specs.Prelude.{Some, slice_get, if◌then◌else◌}
 use Rattle.std.proofs.lemmas.Bool.Decides.{nat_tests}
 use Rattle.std.proofs.lemmas.List.{take-append-le, drop-append-le, length-drop, get_or_push, get_or_past, length_push, length-map}
@@ -14,7 +16,9 @@ use Rattle.directory.specs.Writes.{Write, erasure_writes, mark_at, move_writes, 
 use Rattle.directory.specs.Outcomes.{step_line, step_lines}
 use Rattle.std.specs.Prelude.{◌==◌}
 use Rattle.directory.specs.declared.answers.Done.TheVariants.{Moved}
-use Rattle.machine.specs.Subscribers.{is_commit, line_after, says_gone}
+use Rattle.machine.specs.Subscribers.{line_after}
+use Rattle.handset.specs.Stands.{is_commit}
+use Rattle.directory.specs.Standing.{commit_of}
 use Rattle.std.proofs.lemmas.List.Sums.{fold-append}
 use Rattle.entry_word.specs.MarkLaws.{read-mark}
 use Rattle.node_set.specs.SetLaws.{length-passing_all}
@@ -121,8 +125,9 @@ pub move-commits : MarksUnpack → (setting : Setting) (sub : ℕ) (course : Cou
     → Tells (is_commit visit.act) i (suc (suc move.renewed))
 unfolding AllQuiet
 move-commits unpack setting sub course move number from to i visit h =
-    let says : (mark : PresenceMark) (b : Bool) → IsSmallMark mark → says_gone mark ≡ b
-    → says_gone (mark_in (mark_word mark)) ≡ b = λ mark b small e. ap says_gone (read-mark unpack mark small) ∙ e in
+    let says : (node : ℕ) (mark : PresenceMark) (b : Bool) → IsSmallMark mark → is_some (commit_of node mark) ≡ b
+    → is_some (commit_of node (mark_in (mark_word mark))) ≡ b =
+    λ node mark b small e. ap (λ m. is_some (commit_of node m)) (read-mark unpack mark small) ∙ e in
     let front : List Write = mark_at move.to (Coming move.number move.from)
     ∷ map (new_address setting move) (numbers_from 0 (suc move.renewed)) in
     let count : length front ≡ suc (suc move.renewed) =
@@ -131,20 +136,21 @@ move-commits unpack setting sub course move number from to i visit h =
     subst (Tells (is_commit visit.act) i) count
     (gone-at sub front (mark_at move.from (Gone move.number move.to))
     (mark_at move.to (Here move.number) ∷ (erasure_writes setting course move ++ purge_writes setting course move)) (
-      says (Coming move.number move.from) false (number, from) refl,
+      says move.to (Coming move.number move.from) false (number, from) refl,
       quiet-map sub (new_address setting move) (λ level. refl)
           (numbers_from 0 (suc move.renewed)),
     )
-    (says (Gone move.number move.to) true (number, to) refl) (
-      says (Here move.number) false number refl,
+    (says move.from (Gone move.number move.to) true (number, to) refl) (
+      says move.to (Here move.number) false number refl,
       quiet-append sub (erasure_writes setting course move) (purge_writes setting course move)
-          (quiet-map sub _ (λ level. refl) _) (quiet-purge (move.renewed == setting.top) _ (says Empty false tt refl)),
+          (quiet-map sub _ (λ level. refl) _) (quiet-purge (move.renewed == setting.top) _ (λ node. says node Empty false tt refl)),
     )
     i visit h)
   where
-    quiet-purge : (b : Bool) (nodes : List ℕ) → says_gone (mark_in (mark_word Empty)) ≡ false
+    quiet-purge : (b : Bool) (nodes : List ℕ)
+        → ((node : ℕ) → is_some (commit_of node (mark_in (mark_word Empty))) ≡ false)
         → AllQuiet sub (if b then map (λ node. mark_at node Empty) nodes else [])
-    quiet-purge true nodes e = quiet-map sub (λ node. mark_at node Empty) (λ node. e) nodes
+    quiet-purge true nodes e = quiet-map sub (λ node. mark_at node Empty) e nodes
     quiet-purge false nodes e = tt
 
 -- the commit of a line, a ticket more

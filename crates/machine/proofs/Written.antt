@@ -23,7 +23,8 @@ use Rattle.machine.specs.declared.subscriber.Subscriber.{Subscriber}
 use Rattle.scripts.specs.Scripts.{scripts_of}
 use Rattle.scripts.specs.Laws.{ScriptsAreValid}
 use Rattle.machine.specs.Stands.{BelongTogether, setting_over}
-use Rattle.machine.specs.Subscribers.{IsSubscriber, begun_steps, is_commit, line_after}
+use Rattle.machine.specs.Subscribers.{IsSubscriber, begun_steps, line_after}
+use Rattle.handset.specs.Stands.{is_commit}
 use Rattle.machine.proofs.Steps.{line-grows, lines-partial}
 use Rattle.machine.proofs.Seen.{HasLast, Seen, last-visit, seen-after, step-allowed, steps-last}
 use Rattle.directory.specs.HistoryLaws.{tickets-count}

@@ -31,18 +31,6 @@ use Rattle.machine.specs.declared.turn.Turn.TheVariants.{Visited, Finished}
 use Rattle.scripts.specs.Scripts.{scripts_of}
 use Rattle.machine.specs.Stands.{setting_over, Sees}
 
--- whether a mark says that its subscriber is gone
-abbrev pub says_gone : PresenceMark → Bool
-says_gone Empty = false
-says_gone (Here number) = false
-says_gone (Gone number to) = true
-says_gone (Coming number from) = false
-says_gone (Off number) = false
-
--- whether an act commits a move: it puts such a mark
-abbrev pub is_commit : Act → Bool
-is_commit act = says_gone (mark_put act)
-
 -- the line of a step after one more of its visits, which commits or doesn't
 abbrev pub line_after : Done → Bool → ℕ → Done
 line_after (Moved actor number from to weight first commit last) commits ticket =

@@ -32,12 +32,7 @@ pub struct Caller {
 
 impl Caller {
     // A caller with these finds, before its first look.
-    pub fn new(
-        alloc: Global,
-        script: &[Call],
-        subs: u32,
-        plan: &Plan,
-    ) -> Result<Caller, AllocError>
+    pub fn new(alloc: Global, script: &[Call], subs: u32, plan: &Plan) -> Result<Caller, AllocError>
         requires searches { All (IsSearch (nodes_of plan.now) subs) script.now }
         ensures walk { IfOk result
             (λ caller. IsWalking plan.now (map find_of script.now) at_origin caller.walk) }

@@ -14,12 +14,12 @@ ghost use Rattle.handset.specs.Stands.{StandsForSteps, switch_to};
 ghost use Rattle.visit_log.specs.Cells.{HasHomes, GoWith, Hold};
 ghost use Rattle.scripts.specs.Scripts.{step_of};
 ghost use Rattle.machine.specs.Stands.{BelongTogether};
-ghost use Rattle.machine.specs.Subscribers.{MayBegin, begun_line, is_commit, line_after, MayTakeTurn, TakesTurn};
+ghost use Rattle.machine.specs.Subscribers.{MayBegin, begun_line, line_after, MayTakeTurn, TakesTurn};
 
 use crate::turn::Turn;
 use directory::{Done, own_after, scripts_in_order, tickets_tell};
 use distances::Distances;
-use entry_word::{Act, Key, PresenceMark, Visit, mark_words, unpack_mark};
+use entry_word::{Act, Visit, mark_words};
 use handset::Handset;
 use net_reader::{Call, Input};
 use region_plan::Plan;
@@ -79,11 +79,12 @@ impl Subscriber {
         tickets_tell();
         mark_words();
         scripts_are_valid();
-        let Some(visit) = make(&mut self.handset, plan, cells) else {
+        let commits = self.handset.commits();
+        let Some(_visit) = make(&mut self.handset, plan, cells) else {
             return self.begin(sub, input, plan, distances, cells, ticket);
         };
         let last = self.lines.len() - 1;
-        self.lines[last] = line_after(self.lines[last], is_commit(visit.act), ticket);
+        self.lines[last] = line_after(self.lines[last], commits, ticket);
         Turn::Visited
     }
 
@@ -218,19 +219,6 @@ fn switch(handset: &mut Handset, off: bool, ticket: u64) -> Done
         node: handset.place(),
         number: handset.number(),
         ticket,
-    }
-}
-
-// Whether an act commits a move.
-fn is_commit(act: Act) -> bool
-    ensures { result ≡ is_commit act }
-{
-    match act {
-        Act::Put(Key::Presence { .. }, word) => matches!(
-            unpack_mark(word),
-            Some(PresenceMark::Gone { .. })
-        ),
-        Act::Put(Key::Entry { .. }, _) | Act::Look(_) | Act::Census(_) => false,
     }
 }
 

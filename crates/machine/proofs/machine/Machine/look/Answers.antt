@@ -1,7 +1,6 @@
-use Rattle.std.proofs.Common.{◌≡◌, ◌+◌, ◌-◌, [], arith, refl, length}
+use Rattle.std.proofs.Common.{◌≡◌, ◌+◌, ◌-◌, arith, refl, length}
 use Rattle.directory.specs.Looks.{look_by}
 use Rattle.net_reader.specs.Seen.{seen_input}
-use Rattle.machine.specs.Machines.{scripts_at, setting_at}
 use Rattle.machine.proofs.Looking.{scripts-low}
 use Rattle.machine.proofs.Turning.{at-caller, room-left, caller-kept-machine, caller-turned, ticket-is}
 use Rattle.machine.proofs.machine.Machine.look.Goals as goal

@@ -19,22 +19,23 @@ returns c = λ history sees place its.
     (sym its.its) ∙ at in
     let way = under-way c.mark_words.ensures.unpacked c.tickets_tell.ensures.visits c.scripts_are_valid.ensures
     (seen_input c.args.input.now) c.args.plan.now
-    c.args.distances.now history c.args.sub c.args.self.now c.in-Some.visit c.requires.together c.requires.low its
+    c.args.distances.now history c.args.sub c.args.self.now c.in-Some._visit c.requires.together c.requires.low its
     here in
     written-on c.mark_words.ensures.unpacked c.own_after.ensures.visits c.own_after.ensures.tickets
     c.tickets_tell.ensures.visits c.scripts_are_valid.ensures
     (seen_input c.args.input.now) c.args.plan.now c.args.distances.now c.make.new.cells history c.args.sub c.args.ticket
     (c.len-last.result - 1)
-    c.args.self.now _ c.in-Some.visit c.line_after.result c.index.result.now c.requires.together c.requires.low place
+    c.args.self.now _ c.in-Some._visit c.line_after.result c.index.result.now c.requires.together c.requires.low place
     its at
-    (on-some _ c.make.result c.in-Some.visit c.in-Some.is c.make.ensures.stands c.args.input.now.homes.items _ _
+    (on-some _ c.make.result c.in-Some._visit c.in-Some.is c.make.ensures.stands c.args.input.now.homes.items _ _
     its.handset)
     c.make.ensures.goes c.make.ensures.its refl (omega arith)
     (omega (arith, ap length way.are, length_push way.rows way.row, c.len-last.ensures))
-    (c.line_after.ensures ∙ (ap (λ l. line_after l c.is_commit.result c.args.ticket) c.index.ensures
+    (c.line_after.ensures ∙ (ap (λ l. line_after l c.commits-commits.result c.args.ticket) c.index.ensures
     ∙ ap (λ b. line_after
     (get_or c.args.self.now.lines.items (c.len-last.result - 1) c.index.result.now) b c.args.ticket)
-    c.is_commit.ensures))
+    (c.commits-commits.ensures c.args.plan.now c.in-Some._visit
+    (omega (arith, c.requires.together.matched.metric.few)) its.goes (sym c.make.ensures.exact ∙ c.in-Some.is))))
     c.make.ensures.cells
-    (on-some _ c.make.result c.in-Some.visit c.in-Some.is c.make.ensures.hold c.args.input.now.homes.items history
-    sees.hold c.in-Some.visit c.in-Some.is)
+    (on-some _ c.make.result c.in-Some._visit c.in-Some.is c.make.ensures.hold c.args.input.now.homes.items history
+    sees.hold c.in-Some._visit c.in-Some.is)

@@ -1,6 +1,6 @@
 use Rattle.std.proofs.Common.{◌≡◌, ◌<◌, ◌≤◌, ℕ, get_or}
 use Rattle.handset.specs.Beginning.{gathered_then}
-use Rattle.handset.proofs.handset.gather.Given as goal
+use Rattle.handset.proofs.levels.gather.Given as goal
 
 abbrev pub invariant-loop-level : goal.invariant-loop-level
 invariant-loop-level l = record {

@@ -1,6 +1,6 @@
 use Rattle.std.proofs.Common.{◌≡◌, ◌-◌, false, not, ◌==◌, ◌&&◌, length, get_or}
 use Rattle.handset.specs.Progress.{first_with}
-use Rattle.handset.proofs.handset.first_behind.Given as goal
+use Rattle.handset.proofs.levels.first_behind.Given as goal
 
 abbrev pub invariant-loop-node : goal.invariant-loop-node
 invariant-loop-node l =

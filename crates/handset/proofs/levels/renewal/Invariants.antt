@@ -3,7 +3,7 @@ use Rattle.directory.specs.Courses.{highest}
 use Rattle.region_plan.specs.Plan.{levels_of, threshold}
 use Rattle.handset.specs.Beginning.{renewal_in}
 use Rattle.region_plan.specs.Settings.{setting_of}
-use Rattle.handset.proofs.handset.renewal.Given as goal
+use Rattle.handset.proofs.levels.renewal.Given as goal
 
 abbrev pub invariant-loop-limit : goal.invariant-loop-limit
 invariant-loop-limit l = record {

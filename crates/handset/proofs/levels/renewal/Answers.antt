@@ -3,7 +3,7 @@ use Rattle.std.specs.Prelude.{nat_le}
 use Rattle.directory.specs.Courses.{highest}
 use Rattle.region_plan.specs.Plan.{PlanData, levels_of, threshold}
 use Rattle.handset.proofs.Lists.{highest-here, highest-later, highest-none, le-passes}
-use Rattle.handset.proofs.handset.renewal.Goals as goal
+use Rattle.handset.proofs.levels.renewal.Goals as goal
 use Rattle.std.proofs.lemmas.Bool.{lt-leb}
 
 -- whether a level is reached

@@ -1,7 +1,7 @@
 use Rattle.std.proofs.Common.{◌≡◌, ℕ, List, Bool, true, false, ◌⊎◌, inl, inr, length, ◌∙◌, ap, get_or}
 use Rattle.std.specs.Prelude.{not, ◌==◌, ◌&&◌}
 use Rattle.handset.proofs.Lists.{first-next, agree}
-use Rattle.handset.proofs.handset.first_behind.Goals as goal
+use Rattle.handset.proofs.levels.first_behind.Goals as goal
 
 abbrev passed : List Bool → ℕ → ℕ → Bool
 passed trail to node = get_or trail node false && not (node == to)

@@ -2,7 +2,7 @@ use Rattle.std.proofs.Common.{ℕ, ◌<◌, suc, Bool, List, arith, ◌∙◌, s
 use Rattle.std.specs.Prelude.{not, ◌==◌}
 use Rattle.region_plan.specs.Plan.{PlanData, home}
 use Rattle.handset.proofs.Lists.{first-next, first-here, differ, agree}
-use Rattle.handset.proofs.handset.first_old.Goals as goal
+use Rattle.handset.proofs.levels.first_old.Goals as goal
 
 abbrev moved : PlanData → List ℕ → ℕ → ℕ → Bool
 moved plan addresses to level = not (home plan level (get_or addresses level 0) == home plan level to)

@@ -3,7 +3,7 @@ use Rattle.std.proofs.lemmas.List.{ext_get_or, length-map}
 use Rattle.directory.specs.Writes.{numbers_from}
 use Rattle.handset.specs.Beginning.{gathered_then}
 use Rattle.handset.proofs.Lists.{numbers-from-zero}
-use Rattle.handset.proofs.handset.gather.Goals as goal
+use Rattle.handset.proofs.levels.gather.Goals as goal
 use Rattle.node_set.specs.SetLaws.{length-passing_all}
 
 pub returns : goal.returns

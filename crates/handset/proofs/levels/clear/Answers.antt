@@ -1,6 +1,6 @@
 use Rattle.std.proofs.Common.{◌<◌, length, false, arith, ◌∙◌, sym}
 use Rattle.std.proofs.lemmas.List.{ext_get_or, length-replicate, get_or-replicate}
-use Rattle.handset.proofs.handset.clear.Goals as goal
+use Rattle.handset.proofs.levels.clear.Goals as goal
 
 pub returns : goal.returns
 returns c =

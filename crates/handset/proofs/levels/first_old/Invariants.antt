@@ -1,7 +1,7 @@
 use Rattle.std.proofs.Common.{◌≡◌, ◌-◌, suc, not, ◌==◌, get_or}
 use Rattle.region_plan.specs.Plan.{home}
 use Rattle.handset.specs.Progress.{first_with}
-use Rattle.handset.proofs.handset.first_old.Given as goal
+use Rattle.handset.proofs.levels.first_old.Given as goal
 
 abbrev pub invariant-loop-level : goal.invariant-loop-level
 invariant-loop-level l =
