@@ -11,7 +11,7 @@ use Rattle.directory.specs.Looks.{first_of, last_of}
 use Rattle.directory.specs.Standing.{passage, standing}
 use Rattle.directory.specs.Parts.{known_after}
 use Rattle.trail_laws.specs.Trail.{answers, EntriesTell, EntryTells, IsLed, mark_seen}
-use Rattle.trail_laws.specs.Answers.{IsAnswered}
+use Rattle.trail_laws.specs.Rightness.{IsAnswered}
 use Rattle.trail_laws.specs.Ways.{AddressesLeadShortly, ComingsLeadShortly, IsOpenAtMost, LevelsStayNear, PassagesAreOpen, StandsInside}
 use Rattle.trail_laws.specs.Within.{Affords, Begins, HistoryFrontsAreLegal, WeighsAtMost, QuietFindsStandStill, QuietFindsStayWithin}
 use Rattle.stretch_laws.specs.Tracking.{IsTracking, QuietFindsAreNear, radius, stretch}

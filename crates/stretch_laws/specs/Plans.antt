@@ -13,7 +13,7 @@ use Rattle.region_plan.specs.Matched.{BoundsFinds}
 use Rattle.region_plan.specs.Measures.{degree_of, stretch_of}
 use Rattle.region_plan.specs.Plan.{nodes_of, PlanData}
 use Rattle.region_plan.specs.Settings.{setting_of}
-use Rattle.trail_laws.specs.Answers.{IsAnswered}
+use Rattle.trail_laws.specs.Rightness.{IsAnswered}
 use Rattle.stretch_laws.specs.Tracking.{IsTracking}
 
 -- a plan that bounds its finds is a setting whose clusters are as many radii wide as its reach, and

@@ -10,7 +10,7 @@ use Rattle.directory.specs.Finds.{FindCall, found_weight}
 use Rattle.directory.specs.Looks.{first_of, IsFind, IsQuiet, last_of}
 use Rattle.directory.specs.Standing.{passage, standing}
 use Rattle.directory.specs.declared.answers.Found.{Found}
-use Rattle.trail_laws.specs.Answers.{IsAnswered}
+use Rattle.trail_laws.specs.Rightness.{IsAnswered}
 use Rattle.trail_laws.specs.Phases.{IsAtRest}
 use Rattle.trail_laws.specs.Trail.{HasMetric}
 

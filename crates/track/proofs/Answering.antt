@@ -11,7 +11,7 @@ use Rattle.net_reader.specs.Valid.{IsValid}
 use Rattle.region_plan.specs.Meanings.{PlansMean, PlansOfSameWalks}
 use Rattle.region_plan.specs.Plan.{nodes_of}
 use Rattle.region_plan.specs.Regions.{plan_of}
-use Rattle.track.specs.Answers.{network_of, plan_for}
+use Rattle.track.specs.Results.{network_of, plan_for}
 
 -- ---- the plan of the input's network
 

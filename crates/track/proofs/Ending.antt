@@ -8,7 +8,7 @@ use Rattle.net_reader.specs.Reading.{ReaderValue, StandsFor}
 use Rattle.word_line.specs.declared.command.Command.{Command}
 use Rattle.track.specs.declared.status.Status.{Status}
 use Rattle.track.specs.declared.status.Status.TheVariants as statuses
-use Rattle.track.specs.Answers.{IsRightAnswer, IsText}
+use Rattle.track.specs.Results.{IsRightAnswer, IsText}
 use Rattle.track.specs.Ends.{EndsAs, IsBegun, IsTextWritten, streams}
 use Rattle.track.specs.Transfer.{IsAllRead, StopsReading, StopsWriting, read_status, write_status}
 use Rattle.track.specs.declared.stop.ReadStop.{ReadStop}

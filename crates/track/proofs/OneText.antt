@@ -10,7 +10,7 @@ use Rattle.word_line.specs.declared.command.Command.{Command}
 use Rattle.word_line.specs.declared.command.Command.TheVariants as commands
 use Rattle.track.specs.declared.status.Status.{Status}
 use Rattle.track.specs.declared.status.Status.TheVariants as statuses
-use Rattle.track.specs.Answers.{IsRightAnswer, IsResult}
+use Rattle.track.specs.Results.{IsRightAnswer, IsResult}
 use Rattle.track.specs.Ends.{EndsAs, IsTextWritten, Streams}
 use Rattle.track.specs.Laws.{BytesHaveOneText}
 

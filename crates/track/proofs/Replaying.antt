@@ -19,7 +19,7 @@ use Rattle.scripts.specs.Scripts.{scripts_of}
 use Rattle.census_text.specs.CensusText.{census_text_of, is_place, who_at}
 use Rattle.census_text.specs.TextLaws.{texts-same}
 use Rattle.report_text.specs.ReportText.{report_of}
-use Rattle.track.specs.Answers.{IsCensusText, IsReport, history_for, outcome_for, plan_for, setting_for}
+use Rattle.track.specs.Results.{IsCensusText, IsReport, history_for, outcome_for, plan_for, setting_for}
 use Rattle.track.proofs.Answering.{plan-nodes}
 use Rattle.scripts.specs.Laws.{ScriptsAreValid}
 use Rattle.scripts.specs.ScriptLaws.{few-nodes}

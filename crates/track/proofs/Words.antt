@@ -5,7 +5,7 @@ use Rattle.word_line.specs.declared.command.Command.{Command}
 use Rattle.word_line.specs.declared.command.WordsFault.{WordsFault}
 use Rattle.track.specs.declared.status.Status.{Status}
 use Rattle.track.specs.declared.status.Status.TheVariants as statuses
-use Rattle.track.specs.Answers.{is_served}
+use Rattle.track.specs.Results.{is_served}
 use Rattle.track.specs.Ends.{Ends, EndsAs, EndsIf, Streams, Tells, status_number}
 
 none_of : (words : Option Command) (read : Result Command WordsFault) (other fault : WordsFault)

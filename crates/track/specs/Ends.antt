@@ -8,7 +8,7 @@ use Rattle.net_reader.specs.Reading.{most_bytes}
 use Rattle.word_line.specs.declared.command.Command.{Command}
 use Rattle.track.specs.declared.status.Status.{Status}
 use Rattle.track.specs.declared.status.Status.TheVariants.{Done, Refused, BadWords, OutOfMemory, ReadFailed, WriteFailed, TooLong}
-use Rattle.track.specs.Answers.{IsText, is_served}
+use Rattle.track.specs.Results.{IsText, is_served}
 use Rattle.track.specs.Transfer.{IsWrittenPart}
 
 -- what stands before and after a call: the bytes left, the source's count of faults, the bytes

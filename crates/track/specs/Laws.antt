@@ -7,7 +7,7 @@ use Rattle.net_reader.specs.Reading.{most_bytes}
 use Rattle.word_line.specs.declared.command.Command.{Command}
 use Rattle.track.specs.declared.status.Status.{Status}
 use Rattle.track.specs.declared.status.Status.TheVariants.{Done, OutOfMemory}
-use Rattle.track.specs.Answers.{IsText}
+use Rattle.track.specs.Results.{IsText}
 use Rattle.track.specs.Ends.{EndsAs, Streams}
 
 -- to a command, bytes have one text, with one status

@@ -1,5 +1,5 @@
 pub mod Transfer
-pub mod Answers
+pub mod Results
 pub mod Bodies
 pub mod Ends
 pub mod Laws

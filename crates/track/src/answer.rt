@@ -9,7 +9,7 @@ ghost use Rattle.directory.specs.Outcomes.{result_of};
 ghost use Rattle.machine.specs.Machines.{IsSame, scripts_at, setting_at, HasHistory};
 ghost use Rattle.report_text.specs.ReportText.{report_of};
 ghost use Rattle.track.specs.Bodies.{text_of};
-ghost use Rattle.track.specs.Answers.{IsReport, IsResult, IsText, is_served, plan_for};
+ghost use Rattle.track.specs.Results.{IsReport, IsResult, IsText, is_served, plan_for};
 
 use crate::census::census;
 use crate::status::Status;

@@ -4,7 +4,7 @@ ghost use Rattle.net_reader.specs.Seen.{seen_input};
 ghost use Rattle.net_reader.specs.Valid.{IsValid};
 ghost use Rattle.scripts.specs.Scripts.{step_of};
 ghost use Rattle.trail_laws.specs.Censuses.{place_at_end};
-ghost use Rattle.track.specs.Answers.{IsCensusText};
+ghost use Rattle.track.specs.Results.{IsCensusText};
 ghost use Rattle.track.specs.Places.{AreLastPlaces, node_if_on};
 
 use census_text::census_of_places;

@@ -1,7 +1,7 @@
 //! The top call.
 ghost use Rattle.std.specs.Prelude.{◌≡◌, true};
 ghost use Rattle.word_line.specs.Forms.{bytes_of, command_of};
-ghost use Rattle.track.specs.Answers.{is_served};
+ghost use Rattle.track.specs.Results.{is_served};
 ghost use Rattle.track.specs.Ends.{EndsAs, Tells, streams};
 ghost use Rattle.track.specs.Transfer.{IsEndOf};
 

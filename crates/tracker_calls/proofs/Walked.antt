@@ -13,7 +13,7 @@ use Rattle.region_plan.specs.Matched.{IsMatched}
 use Rattle.station.specs.Passes.{PassData, actor_of}
 use Rattle.station.specs.Setup.{Setup, nodes_in, setting_in, subs_in}
 use Rattle.stretch_laws.specs.Plans.{PlanFindsAreNear}
-use Rattle.trail_laws.specs.Answers.{AnswersAreRight, QuietFindsAnswer}
+use Rattle.trail_laws.specs.Rightness.{AnswersAreRight, QuietFindsAnswer}
 use Rattle.walk.specs.Walks.{IsWalkOver, WalkData, call_of, stage_of}
 use Rattle.tracker_calls.specs.Added.{HasAdded, HasTried}
 use Rattle.tracker_calls.specs.Finds.{HasFound, HasLookedOn}

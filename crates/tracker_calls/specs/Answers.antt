@@ -11,7 +11,7 @@ use Rattle.region_plan.specs.Matched.{BoundsFinds}
 use Rattle.station.specs.Passes.{PassData}
 use Rattle.station.specs.Setup.{Setup, setting_in}
 use Rattle.stretch_laws.specs.Plans.{IsWithinBound}
-use Rattle.trail_laws.specs.Answers.{HasNumber, IsAnswered, IsRight}
+use Rattle.trail_laws.specs.Rightness.{HasNumber, IsAnswered, IsRight}
 
 -- an answer is right where the find had its last look; a quiet find has one, and over a plan that
 -- bounds its finds it travelled at most the bound; and the number that it tells is no lower than

@@ -20,7 +20,7 @@ use Rattle.directory.specs.Looks.{AreLooks, first_of, IsFind, IsQuiet, last_of, 
 use Rattle.directory.specs.declared.answers.Found.{Found}
 use Rattle.directory.specs.declared.answers.Found.TheVariants.{At, Again}
 use Rattle.trail_laws.specs.Trail.{entry_seen}
-use Rattle.trail_laws.specs.Answers.{AgainHasItsCause, IsAnswered, QuietFindsAnswer, ReadsTop}
+use Rattle.trail_laws.specs.Rightness.{AgainHasItsCause, IsAnswered, QuietFindsAnswer, ReadsTop}
 use Rattle.trail_laws.specs.Within.{Affords, AffordsAddress, Begins, EntryAsks, WeighsAtMost, QuietFindsStayWithin}
 use Rattle.trail_laws.proofs.Passing.{front-legal}
 use Rattle.trail_laws.proofs.Right.{last-more, Low, read-one, readers-low}

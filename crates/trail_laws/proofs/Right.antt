@@ -25,7 +25,7 @@ use Rattle.directory.specs.Statements.{FrontsAreLegal}
 use Rattle.directory.specs.declared.answers.Found.{Found}
 use Rattle.directory.specs.declared.answers.Found.TheVariants.{At, Off as OffAt, Again}
 use Rattle.trail_laws.specs.Trail.{entry_seen, EntryTells, EntriesTell, KnowsAtMost, mark_seen, MarksTell, MarkTells}
-use Rattle.trail_laws.specs.Answers.{AnswersAreRight, HasNumber, IsRight, NumbersNeverFall}
+use Rattle.trail_laws.specs.Rightness.{AnswersAreRight, HasNumber, IsRight, NumbersNeverFall}
 use Rattle.trail_laws.proofs.Passing.{front-legal, number-grows, through-puts}
 use Rattle.trail_laws.proofs.Chases.{knows-with}
 

@@ -20,7 +20,7 @@ use Rattle.directory.specs.StepLaws.{slice_get-within, take-more}
 use Rattle.directory.specs.Statements.{CellsOfPuts, FrontsAreLegal, MarksAreLeft, StepsBeginAtRest}
 use Rattle.directory.specs.declared.answers.Found.TheVariants.{At}
 use Rattle.trail_laws.specs.Trail.{AddressesLead, answers, ComingsLead, entry_seen, IsLed, KnowsAtMost, mark_seen, MarksTell, MarkTells, TopHasEntry}
-use Rattle.trail_laws.specs.Answers.{IsAnswered}
+use Rattle.trail_laws.specs.Rightness.{IsAnswered}
 use Rattle.trail_laws.specs.Within.{Affords, AffordsAddress, Begins, EntryAsks}
 use Rattle.trail_laws.proofs.Passing.{front-legal}
 use Rattle.trail_laws.proofs.Right.{gone-known}

@@ -1,5 +1,5 @@
 pub mod Trail
-pub mod Answers
+pub mod Rightness
 pub mod Ways
 pub mod Within
 pub mod Phases

@@ -12,7 +12,7 @@ use Rattle.directory.specs.Orders.{AreValid, IsPlayed, Scripts, history_of}
 use Rattle.directory.specs.Outcomes.{outcome_in, outcome_of}
 use Rattle.directory.specs.declared.answers.Done.{Done}
 use Rattle.directory.specs.declared.answers.Done.TheVariants.{Moved, Switched, Found as FoundBy, Off as OffBy, Again as AgainBy}
-use Rattle.trail_laws.specs.Answers.{ReadsTop}
+use Rattle.trail_laws.specs.Rightness.{ReadsTop}
 
 -- what a line says of its find holds in the history
 abbrev pub IsRightLine : Setting → History → Done → Type 0

@@ -13,7 +13,7 @@ use Rattle.directory.specs.Looks.{first_of, IsFind, IsQuiet, last_of}
 use Rattle.directory.specs.Standing.{number, passage, standing}
 use Rattle.directory.specs.declared.answers.Found.{Found}
 use Rattle.trail_laws.specs.Trail.{entry_seen, IsLed, KnowsAtMost, mark_seen}
-use Rattle.trail_laws.specs.Answers.{IsAnswered}
+use Rattle.trail_laws.specs.Rightness.{IsAnswered}
 use Rattle.trail_laws.specs.Ways.{IsOpenAtMost}
 
 -- what a chase costs from the node of an address, which the reader of an entry found, is within

@@ -1,5 +1,5 @@
 //! Laws of answers.
-ghost use Rattle.trail_laws.specs.Answers.{AgainHasItsCause, AnswersAreRight, NumbersNeverFall, QuietFindsAnswer};
+ghost use Rattle.trail_laws.specs.Rightness.{AgainHasItsCause, AnswersAreRight, NumbersNeverFall, QuietFindsAnswer};
 
 use crate::marks::{entries_tell, marks_lead, marks_tell};
 use directory::{cell_of_puts, front_is_legal, read_of_legal, steps_begin_at_rest};

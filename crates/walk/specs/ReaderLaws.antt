@@ -12,7 +12,7 @@ use Rattle.region_plan.specs.Regions.{clusters_with}
 use Rattle.region_plan.specs.Matched.{IsMatched}
 use Rattle.walk.specs.Walks.{readers_at}
 use Rattle.node_set.specs.SetLaws.{has-passing}
-use Rattle.trail_laws.specs.Answers.{ReadsTop}
+use Rattle.trail_laws.specs.Rightness.{ReadsTop}
 use Rattle.region_plan.specs.Settings.{setting_of}
 
 -- a number that passes a test

@@ -2,7 +2,7 @@ use Rattle.std.proofs.Common.{◌≡◌, ◌∙◌}
 use Rattle.net_reader.specs.Seen.{seen_input}
 use Rattle.region_plan.specs.Plan.{PlanData}
 use Rattle.region_plan.specs.Regions.{plan_of}
-use Rattle.track.specs.Answers.{plan_for}
+use Rattle.track.specs.Results.{plan_for}
 use Rattle.track.proofs.Answering.{if_ok, plan_of_graph}
 use Rattle.track.proofs.answer.cover.Goals as goal
 

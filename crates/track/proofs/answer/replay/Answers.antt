@@ -8,7 +8,7 @@ use Rattle.net_reader.specs.Seen.{seen_input}
 use Rattle.report_text.specs.ReportText.{report_of}
 use Rattle.region_plan.specs.Matched.{BoundsFinds}
 use Rattle.region_plan.specs.Plan.{PlanData}
-use Rattle.track.specs.Answers.{outcome_for, plan_for}
+use Rattle.track.specs.Results.{outcome_for, plan_for}
 use Rattle.track.proofs.Answering.{plan-nodes, plan_of_graph}
 use Rattle.trail_laws.specs.Lines.{TellInTurn}
 use Rattle.track.proofs.Playing.{outcome_over, play-ended, play-outcome}

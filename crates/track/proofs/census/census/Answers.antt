@@ -1,7 +1,7 @@
 use Rattle.std.proofs.Common.{◌≡◌, sym, subst, ◌∙◌}
 use Rattle.net_reader.specs.Seen.{seen_input}
 use Rattle.census_text.specs.CensusText.{census_text_of, who_at}
-use Rattle.track.specs.Answers.{IsCensusText}
+use Rattle.track.specs.Results.{IsCensusText}
 use Rattle.track.specs.Places.{AreLastPlaces}
 use Rattle.track.proofs.Answering.{if_ok}
 use Rattle.track.proofs.Replaying.{census-says, text-of_places}
