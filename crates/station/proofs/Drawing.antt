@@ -26,7 +26,8 @@ use Rattle.station.proofs.Turning.{written_here, tallied_here, no_key, some_not_
 use Rattle.station.proofs.Reading.{alone}
 use Rattle.station.proofs.Writing.{still_held}
 use Rattle.station.proofs.Growing.{cell-push, word-unput, census-push, at-push, few_visits, no_wrap}
-use Rattle.station.proofs.Lawful.{legal_more, puts-seen}
+use Rattle.station.proofs.Lawful.{legal_more}
+use Rattle.station.specs.PutLaws.{puts-seen}
 use Rattle.directory.specs.HistoryLaws.{front-itself}
 use Rattle.directory.specs.Statements.{SameKey}
 

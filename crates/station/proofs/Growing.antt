@@ -14,7 +14,7 @@ use Rattle.entry_word.specs.declared.visit.Act.TheVariants.{Look, Put, Census}
 use Rattle.entry_word.specs.declared.visit.Visit.{Visit}
 use Rattle.directory.specs.Settings.{Setting, subs}
 use Rattle.directory.specs.Keys.{act_node, same_key, opening}
-use Rattle.directory.specs.Histories.{History, cell, changes_here, is_put_for, own, puts_to, word_after}
+use Rattle.directory.specs.Histories.{History, cell, changes_here, own, word_after}
 use Rattle.directory.specs.Census.{census}
 use Rattle.station.specs.Views.{visits_at}
 use Rattle.station.specs.Plays.{key_put}
@@ -102,10 +102,6 @@ at-push setting node (suc count) [] visit away none-there = nothing count
     nothing (suc k) = refl
 at-push setting node (suc count) (first ∷ later) visit away none-there = at-push setting node count later visit
     away none-there
-
--- the puts to a subscriber: those of a legal history are its own
-pub puts-append : (sub : ℕ) (xs ys : History) → puts_to sub (xs ++ ys) ≡ puts_to sub xs ++ puts_to sub ys
-puts-append sub xs ys = filter-append (λ (v : Visit). is_put_for sub v.act) xs ys
 
 -- how many visits there are, at most
 abbrev pub total_own : ℕ → History → ℕ

@@ -31,7 +31,8 @@ use Rattle.station.specs.Handsets.{HandsetGoesOn, IsHandsetOf, Moves, moves_here
 use Rattle.station.specs.Plays.{view_inside}
 use Rattle.station.specs.Visits.{MayDraw}
 use Rattle.station.specs.declared.view.View.{View}
-use Rattle.station.proofs.Growing.{cell-push, puts-append}
+use Rattle.station.proofs.Growing.{cell-push}
+use Rattle.station.specs.PutLaws.{puts-append}
 use Rattle.node_set.specs.SetLaws.{length-passing-le}
 use Rattle.directory.specs.StepLaws.{take-more}
 use Rattle.station.proofs.Turning.{same_some}

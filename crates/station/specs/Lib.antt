@@ -9,3 +9,5 @@ pub mod Handsets
 pub mod Closing
 pub mod TicketLaws
 pub mod HandsetLaws
+pub mod PutLaws
+pub mod StayLaws

@@ -15,7 +15,11 @@ use Rattle.station.specs.Setup.{Setup, nodes_in, setting_in, subs_in}
 use Rattle.stretch_laws.specs.Plans.{PlanFindsAreNear}
 use Rattle.trail_laws.specs.Rightness.{AnswersAreRight, QuietFindsAnswer}
 use Rattle.walk.specs.Walks.{IsWalkOver, WalkData, call_of, stage_of}
-use Rattle.tracker_calls.specs.Added.{HasAdded, HasTried}
+use Rattle.handset.specs.Kept.{HandsetData}
+use Rattle.station.specs.Handsets.{IsHandsetOf}
+use Rattle.station.specs.StayLaws.{handset-stays, handset-visited}
+use Rattle.station.specs.Visits.{HasVisited}
+use Rattle.tracker_calls.specs.Added.{HasAdded, HasTried, KeepsHandsets}
 use Rattle.tracker_calls.specs.Finds.{HasFound, HasLookedOn}
 use Rattle.tracker_calls.proofs.Adding.{added-more, added-none, added-tried, last-push, visited-front}
 use Rattle.tracker_calls.proofs.Longer.{get-last}
@@ -28,6 +32,7 @@ pub record IsWalked (setup : Setup) (begun : PassData) (call : FindCall) (pass :
     (walk : WalkData) : Type 0 where
   pub made : List ℕ
   pub added : HasAdded setup begun made pass
+  pub keeps : KeepsHandsets setup begun pass
   pub looks : AreLooks (setting_in setup) pass.view.seen (actor_of begun) call 0 at_origin made
   pub stage : stage_of setup.plan walk
       ≡ find (setting_in setup) call (flat_map (words_at (setting_in setup) pass.view.seen) made)
@@ -35,6 +40,21 @@ pub record IsWalked (setup : Setup) (begun : PassData) (call : FindCall) (pass :
   pub goes : IsWalkOver setup.plan walk
   pub its : call_of walk ≡ call
   pub room : looks_left (setting_in setup) call (stage_of setup.plan walk) ≤ pass.spare
+
+-- a handset goes on over a look, and over lost turns
+seen-on : (setup : Setup) (pass new : PassData) (key : Key) (ticket : ℕ) → pass.view.setup ≡ setup
+    → HasVisited pass (Look key) ticket new → (handset : HandsetData) → IsHandsetOf setup pass.view handset
+    → IsHandsetOf setup new.view handset
+seen-on setup pass new key ticket told visited handset its =
+    subst (λ (s : Setup). IsHandsetOf s new.view handset) told
+    (handset-visited pass (Look key) ticket new handset refl visited
+    (subst (λ (s : Setup). IsHandsetOf s pass.view handset) (sym told) its))
+
+tried-on : (setup : Setup) (pass tried : PassData) → HasTried pass tried → (handset : HandsetData)
+    → IsHandsetOf setup pass.view handset → IsHandsetOf setup tried.view handset
+tried-on setup pass tried lost handset its =
+    subst (λ (q : PassData). IsHandsetOf setup q.view handset) (sym lost.1)
+    (handset-stays setup pass.view (record pass.view { lost = tried.view.lost }) handset refl refl its)
 
 no-looks : (setting : Setting) (history : History) (actor : ℕ) (call : FindCall)
     → AreLooks setting history actor call 0 at_origin []
@@ -48,6 +68,7 @@ walked-first itself setup pass walk goes origin outside room =
     record {
       made = [];
       added = added-none itself setup pass outside;
+      keeps = λ handset its. its;
       looks = no-looks (setting_in setup) pass.view.seen (actor_of pass) (call_of walk);
       stage = origin;
       late = λ h. absurd (omega (arith, h));
@@ -87,6 +108,7 @@ walked-on longer through fall setup begun call pass new walk moved key told at w
     record {
       made = at.made ++ looked.ticket ∷ [];
       added = added-more longer through setup begun pass new at.made (Look key) looked.ticket told at.added visited;
+      keeps = λ handset its. seen-on setup pass new key looked.ticket told visited handset (at.keeps handset its);
       looks = more.0;
       stage = stage ∙ (ap (λ s. after_word setting call s word) at.stage ∙ sym more.1);
       late = λ some. omega (
@@ -114,6 +136,7 @@ walked-tried setup begun call pass tried walk lost at =
     record {
       made = at.made;
       added = added-tried setup begun pass tried at.made lost at.added;
+      keeps = λ handset its. tried-on setup pass tried lost handset (at.keeps handset its);
       looks = subst (λ (h : History). AreLooks (setting_in setup) h (actor_of begun) call 0 at_origin at.made)
           (sym seen) at.looks;
       stage = at.stage
@@ -137,6 +160,7 @@ walked-out answers answer near setup begun call pass walk found matched from kno
     record {
       made = at.made;
       added = at.added;
+      keeps = at.keeps;
       find = its;
       tells = tells-rightly answers answer near setup begun pass.view.seen (actor_of begun) call found at.made matched
           from (at.added.legal some call.sub known) its at.added.begins (at.late some);

@@ -3,6 +3,8 @@
 use Rattle.std.specs.Prelude.{◌≡◌, ℕ, ◌+◌, ◌<◌, ◌≤◌, List, ◌++◌, length, None}
 use Rattle.directory.specs.Histories.{IsFront, tickets}
 use Rattle.directory.specs.Legal.{IsLegal}
+use Rattle.handset.specs.Kept.{HandsetData}
+use Rattle.station.specs.Handsets.{IsHandsetOf}
 use Rattle.station.specs.Passes.{PassData, actor_of}
 use Rattle.station.specs.Setup.{Setup, setting_in, subs_in}
 use Rattle.station.specs.Visits.{IsSamePass}
@@ -25,6 +27,11 @@ pub record HasAdded (setup : Setup) (old : PassData) (made : List ℕ) (new : Pa
   pub outside : new.view.inside ≡ None
   pub lost : KeepsLost old new
   pub same : IsSamePass old new
+
+-- a handset that went with the pass still goes with it
+abbrev pub KeepsHandsets : Setup → PassData → PassData → Type 0
+KeepsHandsets setup old new = (handset : HandsetData) → IsHandsetOf setup old.view handset
+    → IsHandsetOf setup new.view handset
 
 -- the pass has lost more turns, and nothing else has changed
 abbrev pub HasTried : PassData → PassData → Type 0

@@ -14,7 +14,7 @@ use Rattle.station.specs.Setup.{Setup, nodes_in, setting_in, subs_in}
 use Rattle.station.specs.Visits.{HasLost, HasVisited}
 use Rattle.station.specs.declared.turns.Held.{Held}
 use Rattle.walk.specs.Walks.{IsWalkOver, WalkData, call_of, stage_of}
-use Rattle.tracker_calls.specs.Added.{HasAdded}
+use Rattle.tracker_calls.specs.Added.{HasAdded, KeepsHandsets}
 use Rattle.tracker_calls.specs.Answers.{TellsRightly}
 use Rattle.tracker_calls.specs.declared.finds.FindFault.{FindFault}
 use Rattle.tracker_calls.specs.declared.finds.FindFault.TheVariants.{NoNode, NoSubscriber, Unreserved, Held as HeldBy}
@@ -52,6 +52,7 @@ pub record HasFound (setup : Setup) (old : PassData) (call : FindCall) (found : 
   pub made : List ℕ
   pub added : HasAdded setup old made new
   pub find : IsFind (setting_in setup) new.view.seen (actor_of old) call found made
+  pub keeps : KeepsHandsets setup old new
   pub tells : TellsRightly setup old call found made new.view.seen
 
 -- the pass has made the first looks of a find, and then lost the turn at the node of the next one
@@ -61,6 +62,7 @@ pub record HasStopped (setup : Setup) (old : PassData) (call : FindCall) (held :
   pub made : List ℕ
   pub added : HasAdded setup old made between
   pub lost : between.view.lost ≡ old.view.lost
+  pub keeps : KeepsHandsets setup old between
   pub looks : AreLooks (setting_in setup) between.view.seen (actor_of old) call 0 at_origin made
   pub key : Key
   pub next : key_of call (find (setting_in setup) call

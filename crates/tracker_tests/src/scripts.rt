@@ -5,6 +5,7 @@ ghost use Rattle.region_plan.specs.Matched.{IsMatched, IsWithinReach};
 ghost use Rattle.region_plan.specs.Plan.{nodes_of};
 ghost use Rattle.tracker_tests.specs.Ready.{AreReady, IsOver};
 
+use crate::between::{census_between, find_between, hear_between};
 use crate::parties::{Parties, Task, close, open};
 use crate::steps::{
     Seen, Step, ask, ask_while_held, begin, hear, make_step, make_step_while_held, put, whole_move,
@@ -58,6 +59,12 @@ fn take<R: Wait>(
         Step::MoveStep => make_step(tracker, own, plan, handset),
         Step::HeldStep(node) => make_step_while_held(tracker, other, own, plan, handset, node),
         Step::MoveTo(to) => whole_move(rt, tracker, own, plan, distances, handset, to),
+        Step::HearBetween => {
+            hear_between(tracker, caller, own, handset);
+            Seen::Done
+        }
+        Step::CensusBetween(node) => census_between(tracker, own, plan, handset, node),
+        Step::FindBetween(from) => find_between(tracker, own, plan, distances, handset, from),
         Step::HearSubscriber => {
             hear(tracker, own, caller);
             Seen::Done

@@ -4,6 +4,7 @@
 use crate::parties::{Parties, Task, close, open};
 use crate::scripts::play_on_line;
 use crate::steps::{Call, Seen, Step};
+use directory::Found;
 use entry_word::{PresenceMark, pack_mark};
 use station::{CloseCause, Note, Pass, Tracker};
 use std::test::Fail;
@@ -83,6 +84,39 @@ fn a_note_is_heard(rt: HostRuntime) -> Result<(), Fail> {
         (Step::State, seen([0, 1, 1], [9, 8, 9])),
     ];
     play_on_line(&rt, rt.alloc(), Task::Rest, 9, &script, &[1])
+}
+
+// Between two puts the subscriber's pass hears a note, makes a census and a find, and its handset
+// goes on.
+#[test]
+fn a_handset_goes_on(rt: HostRuntime) -> Result<(), Fail> {
+    let at_3 = Found::At {
+        node: 3,
+        number: 0,
+        level: None,
+        weight: 0,
+    };
+    let script = [
+        (Step::Begin(2), Seen::Done),
+        (Step::Put, Seen::Ticket(0)),
+        (Step::HearSubscriber, Seen::Done),
+        (census(3), counted(1, 1, 1)),
+        (Step::HearBetween, Seen::Done),
+        (Step::State, seen([2, 2, 0], [19, 19, 20])),
+        (Step::Put, Seen::Ticket(2)),
+        (Step::CensusBetween(3), counted(3, 1, 1)),
+        (Step::FindBetween(3), Seen::Found(at_3)),
+        (Step::Put, Seen::Ticket(5)),
+        (Step::State, seen([6, 2, 0], [15, 19, 20])),
+    ];
+    play_on_line(
+        &rt,
+        rt.alloc(),
+        Task::Rest,
+        20,
+        &script,
+        &[0, 1, 0, 0, 0, 0],
+    )
 }
 
 #[test]

@@ -29,6 +29,12 @@ pub enum Step {
     /// The same while the other caller is inside a node.
     HeldStep(u32),
     MoveTo(u32),
+    /// The subscriber hears what the caller has seen.
+    HearBetween,
+    /// The subscriber's pass makes a census of a node.
+    CensusBetween(u32),
+    /// The subscriber's pass finds the subscriber from a node.
+    FindBetween(u32),
     /// The caller hears what the subscriber has seen.
     HearSubscriber,
     /// The other caller hears what the caller has seen.

@@ -1,0 +1,14 @@
+use Rattle.std.proofs.Common.{refl, subst, sym}
+use Rattle.entry_word.specs.declared.visit.Act.TheVariants.{Census}
+use Rattle.station.specs.Handsets.{IsHandsetOf}
+use Rattle.station.specs.Setup.{Setup}
+use Rattle.station.specs.StayLaws.{handset-visited}
+use Rattle.tracker_tests.proofs.between.census_between.Goals as goal
+
+pub returns-in-Ok-clause-own : goal.returns-in-Ok-clause-own
+returns-in-Ok-clause-own c =
+    subst (λ (s : Setup). IsHandsetOf s c.visit_census.new.pass.view c.args.handset.now) c.requires.free.of.setup
+    (handset-visited c.args.pass.now (Census c.args.node) c.in-Ok.seen.ticket c.visit_census.new.pass
+    c.args.handset.now refl c.in-Ok.ensures.seen.0
+    (subst (λ (s : Setup). IsHandsetOf s c.args.pass.now.view c.args.handset.now) (sym c.requires.free.of.setup)
+    c.requires.own))
