@@ -5,12 +5,12 @@ ghost use Rattle.node_set.specs.Ascending.{has, with_number};
 ghost use Rattle.node_set.specs.Balls.{sets, AreCentred};
 ghost use Rattle.node_set.specs.Nodes.{Nodes};
 
+use crate::same::same_numbers;
 use coarse_cover::{Cover, coarsen};
 use node_set::NodeSet;
 use std::alloc::{AllocError, Global};
 use std::process::Abort;
 use std::test::Fail;
-use test_networks::same_numbers;
 
 fn ball(alloc: Global, a: u32, b: u32, c: u32) -> Result<NodeSet, AllocError>
     requires a { a < 4 }

@@ -1,11 +1,12 @@
 //! Distances on paths, and where all nodes are neighbours.
+use crate::same::same_numbers;
 use distances::Distances;
 use net_graph::{MAX_NODES, MAX_WEIGHT};
 use node_set::NodeSet;
 use std::alloc::Global;
 use std::process::Abort;
 use std::test::Fail;
-use test_networks::{complete, path, same_numbers};
+use test_networks::{complete, path};
 
 // The distance between two nodes, and none where one isn't there.
 fn between(distances: &Distances, u: u32, v: u32) -> Option<u64> {

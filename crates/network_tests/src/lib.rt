@@ -13,6 +13,8 @@ mod plan_tests;
 #[cfg(test)]
 mod power_tests;
 #[cfg(test)]
+mod same;
+#[cfg(test)]
 mod set_tests;
 #[cfg(test)]
 mod tree_tests;

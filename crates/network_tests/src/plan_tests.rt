@@ -2,13 +2,14 @@
 //! and up to the most nodes.
 ghost use Rattle.std.specs.Prelude.{◌≤◌};
 
+use crate::same::same_numbers;
 use distances::Distances;
 use net_graph::{MAX_NODES, MAX_WEIGHT};
 use region_plan::Plan;
 use std::alloc::{AllocError, Global};
 use std::process::Abort;
 use std::test::Fail;
-use test_networks::{path, same_numbers};
+use test_networks::path;
 
 // What is asked of a plan, and the numbers that answer it; no numbers, where it isn't there.
 #[derive(Clone, Copy)]

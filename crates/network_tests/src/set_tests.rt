@@ -1,11 +1,11 @@
 //! Sets on both sides of a word of 64 numbers, and at the most room.
 ghost use Rattle.std.specs.Prelude.{◌≡◌, ◌≤◌, IfOk, length};
 
+use crate::same::same_numbers;
 use node_set::{NodeSet, lanes_absorb, lanes_meet};
 use std::alloc::Global;
 use std::process::Abort;
 use std::test::Fail;
-use test_networks::same_numbers;
 
 // The set of these numbers.
 fn set_of(alloc: Global, room: u32, numbers: &[u32]) -> Result<NodeSet, Fail>

@@ -5,6 +5,7 @@ ghost use Rattle.cluster_tree.specs.Faults.{IsTreeFault};
 ghost use Rattle.distances.specs.Table.{AreDistancesOf};
 ghost use Rattle.node_set.specs.Ascending.{has, with_number};
 
+use crate::same::same_numbers;
 use cluster_tree::{ClusterTree, TreeFault, inside_weights};
 use distances::Distances;
 use net_graph::{Graph, MAX_NODES};
@@ -12,7 +13,7 @@ use node_set::NodeSet;
 use std::alloc::Global;
 use std::process::Abort;
 use std::test::Fail;
-use test_networks::{edge, path, same_numbers};
+use test_networks::{edge, path};
 
 // A set of three numbers, or of fewer where some are the same.
 fn three(alloc: Global, room: u32, a: u32, b: u32, c: u32) -> Result<NodeSet, Fail>

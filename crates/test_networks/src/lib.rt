@@ -4,8 +4,6 @@
 
 mod networks;
 mod plans;
-mod same;
 
 pub use networks::{complete, edge, path, path_edges};
 pub use plans::{line_of_four, plan_of_most_nodes, plan_past_two_words};
-pub use same::{same_numbers, same_text};

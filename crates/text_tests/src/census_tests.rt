@@ -4,13 +4,14 @@ ghost use Rattle.region_plan.specs.Matched.{IsMatched};
 ghost use Rattle.region_plan.specs.Plan.{nodes_of};
 ghost use Rattle.visit_log.specs.Cells.{GoWith};
 
+use crate::same::same_text;
 use census_text::{census, census_of_places};
 use entry_word::{Key, PresenceMark, pack_mark};
 use region_plan::Plan;
 use std::alloc::Global;
 use std::process::Abort;
 use std::test::Fail;
-use test_networks::{line_of_four, same_text};
+use test_networks::line_of_four;
 use visit_log::{PlainCells, cell_numbers};
 
 // At each step a mark is put into the presence cell of a subscriber at a node, and the text of the

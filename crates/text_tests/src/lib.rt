@@ -23,4 +23,6 @@ mod run_tests;
 #[cfg(test)]
 mod runs;
 #[cfg(test)]
+mod same;
+#[cfg(test)]
 mod word_tests;

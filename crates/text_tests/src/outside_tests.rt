@@ -1,10 +1,10 @@
 //! What no clause says of sources and sinks: that the calls succeed, and what std's readers and
 //! writers do below them.
+use crate::same::same_text;
 use outside::{Gave, MemorySink, MemorySource, Sink, Source, StdSink, StdSource, Took};
 use std::io::{Error, ErrorKind, Read, Write};
 use std::process::Abort;
 use std::test::Fail;
-use test_networks::same_text;
 
 // Each read of a source is to give this, and to leave these bytes in the buffer.
 fn reads(rt: &impl Abort, source: &mut impl Source, buffer: &mut [u8], rows: &[(Took, &[u8])]) {

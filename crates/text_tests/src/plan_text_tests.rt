@@ -1,13 +1,14 @@
 //! The texts of plans: of two nodes, whose one level has two clusters of both, and of paths.
 ghost use Rattle.std.specs.Prelude.{◌≤◌};
 
+use crate::same::same_text;
 use net_graph::{MAX_NODES, MAX_WEIGHT};
 use region_plan::Plan;
 use report_text::{PlanParts, plan_text};
 use std::alloc::Global;
 use std::process::Abort;
 use std::test::Fail;
-use test_networks::{path, same_text};
+use test_networks::path;
 
 // The plan of a path of `n` nodes, whose edges have this weight, with this trade-off.
 fn plan_of(alloc: Global, n: u32, weight: u64, k: u32) -> Result<Plan, Fail>

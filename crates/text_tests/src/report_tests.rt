@@ -1,11 +1,11 @@
 //! The report of a few calls, whole and line by line, and the lines that refuse inputs.
-use directory::{Done, Why};
+use crate::same::{same_numbers, same_text};
+use directory::{Done, Outcome, Why};
 use net_reader::{InputCause, InputFault};
 use report_text::{Lines, refused_line, report};
 use std::alloc::Global;
 use std::process::Abort;
 use std::test::Fail;
-use test_networks::{same_numbers, same_text};
 
 const MOVED: Done = Done::Moved {
     actor: 0,

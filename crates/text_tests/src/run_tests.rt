@@ -1,10 +1,10 @@
 //! Whole runs over sources and sinks in memory: worked inputs with their texts, and inputs and
 //! reports at the limits.
 use crate::runs::{FOUR, Lines, ROOM, Ran, Row, Run, ends, perform, play, text_of};
+use crate::same::{same_numbers, same_text};
 use std::alloc::Global;
 use std::process::Abort;
 use std::test::Fail;
-use test_networks::{same_numbers, same_text};
 
 const TWO_AT_A_NODE: &str =
     "track 1\nnodes 4\nk 2\nedge 0 1 1\nedge 1 2 1\nedge 2 3 1\nsub 3\nsub 3\ncallers 1\n";

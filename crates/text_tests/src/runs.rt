@@ -1,11 +1,11 @@
 //! How tests run the program: words and an input, over a source and a sink in memory.
 ghost use Rattle.std.specs.Prelude.{◌≤◌};
 
+use crate::same::{same_numbers, same_text};
 use outside::{MemorySink, MemorySource};
 use std::alloc::Global;
 use std::process::Abort;
 use std::test::Fail;
-use test_networks::{same_numbers, same_text};
 use track::command;
 
 /// The line of four nodes.

@@ -1,8 +1,9 @@
 //! The bound over the plan of the line 0 - 1 - 2 - 3 of unit weights, and at its limits.
 
+use crate::same::same_numbers;
 use std::test::Fail;
 use stretch_laws::bound;
-use test_networks::{line_of_four, same_numbers};
+use test_networks::line_of_four;
 
 #[test]
 fn the_stretch_times_the_distance_and_twice_the_passage(rt: HostRuntime) -> Result<(), Fail> {

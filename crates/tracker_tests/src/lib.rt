@@ -12,6 +12,8 @@ mod parties;
 #[cfg(test)]
 mod room_tests;
 #[cfg(test)]
+mod same;
+#[cfg(test)]
 mod scripts;
 #[cfg(test)]
 mod station_tests;

@@ -7,13 +7,14 @@ ghost use Rattle.station.specs.Passes.{AreFresh, IsFree, IsPassOf};
 ghost use Rattle.station.specs.Setup.{nodes_in, subs_in};
 
 use crate::parties::next_pass;
+use crate::same::same_numbers;
 use entry_word::{Key, PresenceMark, pack_mark};
 use net_graph::MAX_NODES;
 use region_plan::Plan;
 use station::{CensusSeen, Pass, Tracker};
 use std::alloc::Global;
 use std::test::Fail;
-use test_networks::{line_of_four, plan_of_most_nodes, same_numbers};
+use test_networks::{line_of_four, plan_of_most_nodes};
 
 // Whether a pass that has seen nothing has room for so many visits from now on.
 fn has_reserved(pass: &mut Pass, visits: u64) -> bool
