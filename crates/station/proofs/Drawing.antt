@@ -20,6 +20,7 @@ use Rattle.station.specs.Rule.{KeepsRule, IsViewOf}
 use Rattle.station.specs.Plays.{Seat, visit_by, key_put, word_before, view_with_ticket, DrawsTicket}
 use Rattle.station.specs.Visits.{MayDraw}
 use Rattle.station.specs.declared.view.View.{View}
+use Rattle.station.proofs.Won.{one_lost}
 use Rattle.station.proofs.Fronts.{front-longer, own-other, own-mine}
 use Rattle.station.proofs.Steps.{St, with, owned, seat_below}
 use Rattle.station.proofs.Turning.{written_here, tallied_here, no_key, some_not_none, same_some}
@@ -98,6 +99,7 @@ grows law s id x new v act o me may is =
                   known = here.known;
                   alone = here.alone;
                   lock = words x ∙ here.lock;
+                  won = here.won;
                   last = λ _. ap (λ l. visits_at setting x l) (drop_all history visit);
                   tally = λ _. words _ ∙ o.tallies x here.known (tallied_here setup s o id x v me others
                       (λ due _. true≢false (sym due ∙ may.clear)));
@@ -130,6 +132,7 @@ grows law s id x new v act o me may is =
               known = h.known;
               alone = h.alone;
               lock = words node ∙ h.lock;
+              won = h.won;
               last = λ d. at-push setting node u.visit_count history visit
                   (λ e. others k u t.0 t.1 (at ∙ ap (λ (n : ℕ). Some n) (sym e ∙ may.at))) (h.last d);
               tally = λ due. words _ ∙ h.tally due;
@@ -149,6 +152,7 @@ grows law s id x new v act o me may is =
           few_more (own actor history) visit (own actor longer) (own-mine actor history visit e) (subst (λ
           (l : History). length l < 2 ^ 56) (sym same) little))
           (λ ne. subst (λ (l : History). length l ≤ 2 ^ 56) (sym (own-other actor history visit ne)) (o.few actor));
+      lost = one_lost setup s.views id v w me near (λ turn had. had) o.lost (λ turn had. o.lost id v me turn had);
       locks = λ node actor known names. still_held s o.owner id node actor v w me refl refl
           (o.locks node actor known (sym (words node) ∙ names));
       cells = λ key known quiet. words _ ∙ (o.cells key known (λ k u there put. dite (ℕ_discrete k id)

@@ -15,7 +15,10 @@ use Rattle.station.specs.Views.{IsSoundView, StandsForActor}
 use Rattle.station.specs.Rule.{KeepsRule, IsViewOf}
 use Rattle.station.specs.Opening.{AreOpening}
 use Rattle.station.specs.Plays.{first_view, view_of_first, view_of_rest}
+use Rattle.station.specs.declared.view.NodeTurn.{NodeTurn}
 use Rattle.station.specs.declared.view.View.{View}
+use Rattle.std.specs.List.{Contains}
+use Rattle.station.proofs.Won.{GoOn, HasWonToo, one_goes_on, still_won}
 use Rattle.station.proofs.Steps.{St, seat_below, no_some}
 use Rattle.station.proofs.Turning.{no_key}
 use Rattle.station.proofs.Writing.{cell_below}
@@ -29,6 +32,10 @@ nothing_legal setting sub known begins = record {
   script = record { known = known; begins = begins; allowed = tt };
   front = refl;
 }
+
+-- nothing is in no list
+pub none_lost : (turn : NodeTurn) → Contains [] turn → ⊥
+none_lost turn had = omega (arith, had.1)
 
 one_view : (v u : View) (k : ℕ) → IsViewOf (v ∷ []) k u → (k ≡ 0) × (v ≡ u)
 one_view v u zero e = (refl, some-injective v u e)
@@ -59,6 +66,8 @@ opens below setup words lies few inside all =
       actors = λ actor below. (v, refl, (omega arith, below));
       known = λ _ _. refl;
       few = λ _. omega arith;
+      lost = λ k u at turn had. absurd (none_lost turn (subst (λ (y : View). Contains y.lost turn)
+          (sym (one_view v u k at).1) had));
       locks = λ node actor known is. absurd (omega (arith, o.locks node known (omega (arith, all.size, known)), is));
       cells = λ key known _. o.cells key known (subst (λ (k : ℕ). cell_word setup key < k) (sym all.size)
           (cell_below below setup key known));
@@ -89,6 +98,9 @@ pub record Forks (setup : Setup) (s : St) (o : KeepsRule setup s) (j : ℕ) (v l
   pub inside : l.inside ≡ v.inside
   pub unwritten : l.unwritten ≡ v.unwritten
   pub owes : l.owes ≡ v.owes
+  pub won : HasWonToo v l
+  pub lost_left : l.lost ≡ v.lost
+  pub lost_right : (turn : NodeTurn) → Contains r.lost turn → Contains v.lost turn
   pub sound : IsSoundView setup s.words o.history owner j l
   pub new : IsSoundView setup s.words o.history owner (length s.views) r
 
@@ -154,6 +166,19 @@ forked setup s o j v l r owner f =
           ));
       known = o.known;
       few = o.few;
+      lost = λ k u at turn had.
+          let on : GoOn s.views (vs ++ r ∷ []) = λ seat view is.
+          let next = one_goes_on s.views j v l f.me near f.won seat view is in
+          (next.0, next.1, at_longer vs (r ∷ []) next.0 next.1 next.2, next.3) in
+          still_won setup s.views (vs ++ r ∷ []) turn on (⊎_elim
+          (λ (old : get_elem? vs k ≡ some u). ⊎_elim
+          (λ (t : (k ≡ j) × (l ≡ u)). o.lost j v f.me turn (subst (λ (x : List NodeTurn). Contains x turn) f.lost_left
+          (subst (λ (y : View). Contains y.lost turn) (sym t.1) had)))
+          (λ (t : (k ≢ j) × (get_elem? s.views k ≡ some u)). o.lost k u t.1 turn had)
+          (at_set s.views j k l u old))
+          (λ (t : (k ≡ length vs) × (r ≡ u)). o.lost j v f.me turn
+          (f.lost_right turn (subst (λ (y : View). Contains y.lost turn) (sym t.1) had)))
+          (at_end vs r u k at));
       locks = λ node actor known is. let t = o.locks node actor known is in dite (ℕ_discrete (o.owner actor) j)
           (λ e. let same = mine (o.owner actor) t.0 e t.1 in
           let in_node : v.inside ≡ Some node = ap (λ (y : View). y.inside) (sym same) ∙ t.2 in
@@ -207,6 +232,9 @@ deals setup id v more out clear s o me =
       inside = refl;
       unwritten = refl;
       owes = refl;
+      won = λ turn had. had;
+      lost_left = refl;
+      lost_right = λ turn had. had;
       sound = record {
         setup_is = was.setup_is;
         has = record {

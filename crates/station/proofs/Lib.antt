@@ -17,3 +17,4 @@ mod Putting
 mod Listing
 mod Joining
 mod Ending
+mod Won

@@ -1,5 +1,5 @@
 -- The turn at a node: it is won or lost, and given back.
-use Rattle.std.proofs.Common.{◌≡◌, ◌≢◌, ℕ, suc, ◌-◌, ◌<◌, ◌≤◌, ◌==◌, true, false, true≢false, List, length, set, refl, sym, ap, ◌∙◌, subst, inl, inr, ⊎_elim, arith, Some, None, get_or-set_other, get_or-set_same, length-set}
+use Rattle.std.proofs.Common.{◌≡◌, ◌≢◌, ℕ, suc, ◌-◌, ◌<◌, ◌≤◌, ◌==◌, true, false, true≢false, List, [], ◌∷◌, length, set, refl, sym, ap, ◌∙◌, subst, inl, inr, ⊎_elim, arith, Some, None, get_or-set_other, get_or-set_same, length-set}
 use Rattle.std.specs.Prelude.{slice_index}
 use Rattle.std.proofs.lemmas.List.{set-get_or}
 use mathlib.Core.Option.{some, none, some-injective}
@@ -13,10 +13,14 @@ use Rattle.entry_word.specs.declared.visit.Key.{Key}
 use Rattle.entry_word.specs.declared.visit.Act.{Act}
 use Rattle.directory.specs.Keys.{key_node}
 use Rattle.station.specs.Setup.{Setup, setting_in, nodes_in, lock_word, tally_word, cell_word}
-use Rattle.station.specs.Views.{IsSoundView, IsInsideNode}
-use Rattle.station.specs.Rule.{KeepsRule, IsViewOf, IsHeld, IsCellWritten, IsTallied}
+use Rattle.station.specs.Views.{IsSoundView, IsInsideNode, turn_at}
+use Rattle.station.specs.Rule.{KeepsRule, IsViewOf, IsHeld, IsCellWritten, IsTallied, WasWon}
 use Rattle.station.specs.Plays.{Seat, view_inside, view_held, Turns, view_outside, Leaves}
+use Rattle.station.specs.declared.view.NodeTurn.{NodeTurn}
 use Rattle.station.specs.declared.view.View.{View}
+use Rattle.std.specs.List.{Contains}
+use Rattle.std.proofs.lemmas.List.Elements.{Contains-append_left, Contains-push, Contains-push_cases}
+use Rattle.station.proofs.Won.{HasWonToo, one_lost}
 use Rattle.station.proofs.Apart.{is_lock, else_where, one_inside, behind}
 use Rattle.station.proofs.Steps.{St, with, owned, seat_below, changed, has-kept, no_some}
 use Rattle.visit_log.specs.Numbers.{NumbersApart}
@@ -51,8 +55,9 @@ tallied_here setup s o j x v me alone mine k u there owes is = dite (ℕ_discret
 -- the view of a seat changes in what the rule doesn't speak of
 pub restated : (setup : Setup) (s : St) (o : KeepsRule setup s) (j : ℕ) (v w : View) → IsViewOf s.views j v
     → w.low ≡ v.low → w.high ≡ v.high → w.inside ≡ v.inside → w.unwritten ≡ v.unwritten → w.owes ≡ v.owes
+    → HasWonToo v w → ((turn : NodeTurn) → Contains w.lost turn → WasWon setup s.views turn)
     → IsSoundView setup s.words o.history o.owner j w → KeepsRule setup (with s.words s j w)
-restated setup s o j v w me low high inside unwritten owes mine =
+restated setup s o j v w me low high inside unwritten owes won lost mine =
     let near = seat_below s.views j v me in
     record {
       history = o.history;
@@ -69,6 +74,7 @@ restated setup s o j v w me low high inside unwritten owes mine =
       actors = λ actor below. owned s o.owner j actor v w me low high near (o.actors actor below);
       known = o.known;
       few = o.few;
+      lost = one_lost setup s.views j v w me near won o.lost lost;
       locks = λ node actor known is. let t = o.locks node actor known is in dite (ℕ_discrete (o.owner actor) j)
           (λ e. let same : t.0 ≡ v = some-injective t.0 v (sym t.1 ∙ (ap (get_elem? s.views) e ∙ me)) in (
             w,
@@ -116,6 +122,8 @@ entering law setup s o j x v act me known alone idle free =
       before = inl idle.out;
       low = refl;
       high = refl;
+      won = λ turn had. Contains-append_left v.won (turn_at x (suc v.low) ∷ []) turn had;
+      lost = refl;
       size = length-set s.words (lock_word x) (suc v.low);
       first = get_or-set_other s.words (lock_word x) 0 (suc v.low) 0 (λ e. omega arith);
       elsewhere = λ y k iny ne word. else_where law setup s.words x y (lock_word x) k (suc v.low) known iny ne
@@ -129,6 +137,7 @@ entering law setup s o j x v act me known alone idle free =
               known = known;
               alone = alone;
               lock = get_or-set_same s.words (lock_word x) (suc v.low) 0 wide;
+              won = Contains-push v.won (turn_at x (suc v.low));
               last = λ drawn. absurd (true≢false (sym drawn ∙ (was.outside idle.out).0));
               tally = λ owes. absurd (true≢false (sym owes ∙ (was.outside idle.out).1));
             };
@@ -185,7 +194,18 @@ turns law setup n id x m act known alone idle s o wide me small =
       keeps,
       tt,
       subst (λ (ws : List ℕ). KeepsRule setup (with ws s id w)) (sym (set-get_or s.words (lock_word x) 0))
-          (restated setup s o id m.0 w me refl refl refl refl refl record {
+          (restated setup s o id m.0 w me refl refl refl refl refl (λ turn had. had) (λ turn had. ⊎_elim
+          (λ (old : Contains m.0.lost turn). o.lost id m.0 me turn old)
+          (λ (e : turn_at x word ≡ turn). subst (λ (t : NodeTurn). WasWon setup s.views t) e record {
+            actor = b;
+            names = omega arith;
+            below = below;
+            seat = o.owner b;
+            view = held.0;
+            there = held.1;
+            won = subst (λ (k : ℕ). Contains held.0.won (turn_at x k)) (omega arith) there.won;
+          })
+          (Contains-push_cases m.0.lost (turn_at x word) turn had)) record {
             setup_is = was.setup_is;
             has = has-kept o.history m.0 w refl refl refl refl refl was.has;
             owner_is = was.owner_is;
@@ -221,6 +241,8 @@ leaves law setup n id x m there unwritten owes s o wide me small =
         before = inr there;
         low = refl;
         high = refl;
+        won = λ turn had. had;
+        lost = refl;
         size = length-set s.words (lock_word x) 0;
         first = get_or-set_other s.words (lock_word x) 0 0 0 (λ e. omega arith);
         elsewhere = λ y k iny ne word. else_where law setup s.words x y (lock_word x) k 0 known iny ne

@@ -64,6 +64,7 @@ sound-stored setup words ws history owner j x v unwritten owes was there lock ta
             known = here.known;
             alone = here.alone;
             lock = lock ∙ here.lock;
+            won = here.won;
             last = here.last;
             tally = tally;
           };
@@ -99,6 +100,8 @@ writes law below same n id i new m key put known at turn is s o wide me small =
         before = inr turn.inside;
         low = refl;
         high = refl;
+        won = λ turn had. had;
+        lost = refl;
         size = length-set s.words i new;
         first = get_or-set_other s.words i 0 new 0 (λ e. first_apart (e ∙ at));
         elsewhere = λ y k iny ne word. else_where law setup s.words x y i k new here.known iny ne
@@ -151,6 +154,8 @@ tallies law same n id x i new m turn at is s o wide me small =
         before = inr turn.inside;
         low = refl;
         high = refl;
+        won = λ turn had. had;
+        lost = refl;
         size = length-set s.words i new;
         first = get_or-set_other s.words i 0 new 0 (λ e. omega (arith, at, e));
         elsewhere = λ y k iny ne word. else_where law setup s.words x y i k new here.known iny ne (is_tally at) word;

@@ -12,7 +12,7 @@ use Rattle.directory.specs.Histories.{History, IsFront, cell, changes_here, own,
 use Rattle.directory.specs.Legal.{IsLegal}
 use Rattle.directory.specs.Census.{census}
 use Rattle.station.specs.Setup.{Setup, setting_in, subs_in, IsCellOf, lock_word, tally_word, cell_word}
-use Rattle.station.specs.Views.{StandsForActor}
+use Rattle.station.specs.Views.{StandsForActor, turn_at}
 use Rattle.station.specs.Rule.{KeepsRule, IsViewOf}
 use Rattle.station.specs.declared.view.View.{View}
 
@@ -24,14 +24,19 @@ Seat = Me Act View
 abbrev pub Play : Type 1
 Play = Step Act → Seat → ℕ → Seat → Type 0
 
--- the view inside a node where it means to do an act
+-- the view inside a node where it means to do an act: it has won the turn
 abbrev pub view_inside : View → ℕ → Act → View
-view_inside view node act = record view { inside = Some node; intended = Some act }
+view_inside view node act =
+    record view {
+      inside = Some node;
+      intended = Some act;
+      won = view.won ++ turn_at node (suc view.low) ∷ [];
+    }
 
 -- the view that lost the turn
 abbrev pub view_held : View → ℕ → ℕ → View
 view_held view node word =
-    record view { lost = view.lost ++ record { node = node; word = word } ∷ [] }
+    record view { lost = view.lost ++ turn_at node word ∷ [] }
 
 -- the turn is won where the lock word was 0; where it wasn't, it names another actor
 abbrev pub Turns : Play
@@ -60,6 +65,7 @@ first_view setup =
       before = 0;
       owes = false;
       tally = 0;
+      won = [];
       lost = [];
     }
 
@@ -82,6 +88,7 @@ note_of view =
       has_drawn = false;
       unwritten = None;
       owes = false;
+      won = [];
       lost = [];
     }
 
@@ -92,7 +99,12 @@ longer one other = if nat_lt (length one) (length other) then other else one
 -- a view that takes a note in
 abbrev pub view_with_note : View → View → View
 view_with_note view note =
-    record view { seen = longer view.seen note.seen; told = note.seen; had = view.seen }
+    record view {
+      seen = longer view.seen note.seen;
+      told = note.seen;
+      had = view.seen;
+      won = view.won ++ note.won;
+    }
 
 -- the setup that a spent note is left with
 abbrev pub no_setup : Setup

@@ -3,13 +3,14 @@
 -- What an actor has visited is what its view has seen of it.
 -- Key law: `Tracker::witness`, by its clause `rule`: the rule says so of the view of each pass.
 use Rattle.std.specs.Prelude.{◌≡◌, ℕ, suc, ◌<◌, ◌≤◌, true, false, List, [], drop, Some, None, slice_index, ◌==◌}
-use Rattle.std.specs.List.{filter}
+use Rattle.std.specs.List.{Contains, filter}
 use Rattle.entry_word.specs.declared.visit.Key.{Key}
 use Rattle.entry_word.specs.declared.visit.Visit.{Visit}
 use Rattle.directory.specs.Settings.{Setting}
 use Rattle.directory.specs.Keys.{act_node, key_node}
 use Rattle.directory.specs.Histories.{History, IsFront, own}
 use Rattle.station.specs.Setup.{Setup, setting_in, nodes_in, IsCellOf, lock_word, tally_word, cell_word}
+use Rattle.station.specs.declared.view.NodeTurn.{NodeTurn}
 use Rattle.station.specs.declared.view.View.{View}
 
 -- the visits at a node
@@ -30,13 +31,18 @@ pub record HasSeen (history : History) (view : View) : Type 0 where
   pub visits : (actor : ℕ) → StandsForActor view actor → own actor history ≡ own actor view.seen
   pub kept : (actor : ℕ) → StandsForActor view actor → own actor history ≡ own actor view.had
 
--- a view is inside a node: it stands for one actor, the lock word names that actor, and once it has
--- drawn its ticket there, no later visit is at the node
+-- a turn at a node with the word of its lock
+abbrev pub turn_at : ℕ → ℕ → NodeTurn
+turn_at node word = record { node = node; word = word }
+
+-- a view is inside a node: it stands for one actor, the lock word names that actor, it has won that
+-- turn, and once it has drawn its ticket there, no later visit is at the node
 pub record IsInsideNode (setup : Setup) (words : List ℕ) (history : History) (view : View)
     (node : ℕ) : Type 0 where
   pub known : node < nodes_in setup
   pub alone : view.high ≡ suc view.low
   pub lock : slice_index words (lock_word node) ≡ suc view.low
+  pub won : Contains view.won (turn_at node (suc view.low))
   pub last : view.has_drawn ≡ true
       → visits_at (setting_in setup) node (drop view.visit_count history) ≡ []
   pub tally : view.owes ≡ true → slice_index words (tally_word setup node) ≡ view.tally

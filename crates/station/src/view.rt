@@ -40,8 +40,8 @@ impl About {
     }
 }
 
-// A turn that was lost: the node, and the word that its lock held.
-pub struct Lost {
+// A turn at a node: the node, and the word that its lock holds while it lasts.
+pub struct NodeTurn {
     pub node: u32,
     pub word: u64,
 }
@@ -70,5 +70,7 @@ pub struct View {
     // Whether the tally isn't written yet, and the tally before.
     pub owes: bool,
     pub tally: u64,
-    pub lost: LinkedList<Lost>,
+    // The turns that it has won, and those that it has lost.
+    pub won: LinkedList<NodeTurn>,
+    pub lost: LinkedList<NodeTurn>,
 }

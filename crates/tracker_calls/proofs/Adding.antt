@@ -9,7 +9,7 @@ use Rattle.station.specs.Plays.{view_held, visit_by}
 use Rattle.station.specs.Setup.{Setup}
 use Rattle.station.specs.Visits.{HasLost, HasVisited}
 use Rattle.station.specs.declared.turns.Held.{Held}
-use Rattle.station.specs.declared.view.Lost.{Lost}
+use Rattle.station.specs.declared.view.NodeTurn.{NodeTurn}
 use Rattle.station.specs.TicketLaws.{tickets-more}
 use Rattle.tracker_calls.specs.Added.{HasAdded, HasTried, KeepsLost}
 use Rattle.tracker_calls.proofs.Wanted.{legal-seen}
@@ -22,7 +22,7 @@ keeps-none pass = ([], sym (append-nil pass.view.lost))
 keeps-through : (one two three : PassData) → KeepsLost one two → KeepsLost two three → KeepsLost one three
 keeps-through one two three first second = (
   first.0 ++ second.0,
-  second.1 ∙ (ap (λ (l : List Lost). l ++ second.0) first.1 ∙ append_assoc one.view.lost first.0 second.0),
+  second.1 ∙ (ap (λ (l : List NodeTurn). l ++ second.0) first.1 ∙ append_assoc one.view.lost first.0 second.0),
 )
 
 -- nothing is added
@@ -79,12 +79,12 @@ added-more longer through setup begun pass new made act ticket told added visite
 pub tried-again : (begun pass new : PassData) (place : ℕ) (held : Held) → HasTried begun pass
     → HasLost pass place held new → HasTried begun new
 tried-again begun pass new place held tried lost =
-    let one : Lost = record { node = place; word = suc held.by } in
+    let one : NodeTurn = record { node = place; word = suc held.by } in
     let is : new.view.lost ≡ pass.view.lost ++ one ∷ [] = ap (λ (q : PassData). q.view.lost) lost.turn in (
       keeps-through begun pass new tried.0 (one ∷ [], is),
       lost.turn
           ∙ (ap (λ (q : PassData). record q { view = view_held q.view place (suc held.by) }) tried.1
-          ∙ ap (λ (l : List Lost). record begun { view = record begun.view { lost = l } }) (sym is)),
+          ∙ ap (λ (l : List NodeTurn). record begun { view = record begun.view { lost = l } }) (sym is)),
     )
 
 -- turns that are lost add nothing

@@ -8,11 +8,11 @@ use Rattle.station.specs.Handsets.{IsHandsetOf}
 use Rattle.station.specs.Passes.{PassData, actor_of}
 use Rattle.station.specs.Setup.{Setup, setting_in, subs_in}
 use Rattle.station.specs.Visits.{IsSamePass}
-use Rattle.station.specs.declared.view.Lost.{Lost}
+use Rattle.station.specs.declared.view.NodeTurn.{NodeTurn}
 
 -- the turns that a pass has lost go on from those that it had lost
 abbrev pub KeepsLost : PassData → PassData → Type 0
-KeepsLost old new = (more : List Lost) × (new.view.lost ≡ old.view.lost ++ more)
+KeepsLost old new = (more : List NodeTurn) × (new.view.lost ≡ old.view.lost ++ more)
 
 -- the pass has made visits with these tickets, its next own ones: what it has seen goes on from
 -- what it had seen, and is legal where it made one; each has used one of its spare; it is in no

@@ -4,7 +4,7 @@ use Rattle.directory.specs.Histories.{History}
 use Rattle.directory.specs.Orders.{IsDone, after_turn, after_turns, history_of}
 use Rattle.machine.specs.declared.machine.Machine.{Machine}
 use Rattle.machine.specs.Machines.{IsSame, HasHistory, input_at, scripts_at, setting_at}
-use Rattle.machine.specs.Scripts.{scripts_of}
+use Rattle.scripts.specs.Scripts.{scripts_of}
 use Rattle.machine.specs.Stands.{setting_over}
 use Rattle.net_reader.specs.Seen.{seen_input}
 use Rattle.actor_tests.proofs.machine_tests.play.Goals as goal
