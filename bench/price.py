@@ -4,7 +4,9 @@ alone, and telling everybody. On the networks of examples/networks/, over made l
 and fast movers.
 
 Usage, at the top of the repository:
-    bench/price.py                  writes the table of docs/PRICE.md and the plots of docs/pictures/ anew
+    bench/price.py INPUT            prints the table of the network and k of an input of yours, over the same made loads: its own
+                                    subscribers and calls aren't used
+    bench/price.py --write          writes the tables of docs/PRICE.md and the plots of docs/pictures/ anew
     bench/price.py --check          ends with status 1 where they are others
 
 The weights of the directory's finds are those of `replay`: each load is an input, and TRACK names the program that runs it, ./track
@@ -21,7 +23,7 @@ sys.path.insert(0, os.path.join(TOP, "scripts"))
 from loads import Draw, Story, story_on  # noqa: E402
 from known_networks import NETWORKS  # noqa: E402
 from pictures import INK, PALE, Picture, colour  # noqa: E402
-from texts import BadText, Found, ends_clearly, read_report  # noqa: E402
+from texts import BadText, Found, ends_clearly, load_input, read_report  # noqa: E402
 
 NAMES = {"nsfnet": "NSFNET, 14 nodes", "geant": "GEANT, 21 nodes", "grid": "streets, 256 nodes", "ring": "ring, 32 nodes"}
 FINDS, MOVERS = ("near", "far", "mixed"), ("slow", "fast")
@@ -108,9 +110,9 @@ class Load:
         by_home, by_pointers, distance = self.rivals.find(start, sub)
         self.found.append((caller, distance, by_home, by_pointers))
 
-    def ratios(self, program):
+    def ratios(self, program, k):
         """For each rival the weight of each find over its distance; the directory's are the program's."""
-        text = self.story.text([], 2, K)
+        text = self.story.text([], 2, k)
         report = replay(program, text)
         if report != self.story.machine.report():
             raise BadText(f"{program} writes another report than scripts/directory.py")
@@ -158,22 +160,21 @@ def short(value):
     return f"{value:.1f}" if value < 100 else f"{value:.0f}"
 
 
-def rows_of(name, program):
+def rows_of(nodes, edges, k, program):
     """The loads of a network, each with its numbers; and the bound of its plan."""
-    nodes, edges = NETWORKS[name]()
-    setting = story_on(nodes, edges, K, [0], 0).setting
+    setting = story_on(nodes, edges, k, [0], 0).setting
     rows = []
     for movers in MOVERS:
         for finds in FINDS:
             load = Load(setting, edges, finds, movers)
-            ratios, costs = load.ratios(program), load.costs()
+            ratios, costs = load.ratios(program, k), load.costs()
             rows.append((finds, movers, ratios, costs, load.totals(ratios, costs)))
     return rows, setting.plan.stretch
 
 
-def table_of(name, rows, bound):
+def table_of(title, rows, bound):
     """A table in Markdown."""
-    lines = [f"### {NAMES[name]}", "", f"A find is proved to weigh at most {bound} times its distance (quiet, without an open passage).", "",
+    lines = [f"### {title}", "", f"A find is proved to weigh at most {bound} times its distance (quiet, without an open passage).", "",
              "| finds | movers | directory | home register | pointers | moves: directory | home register | pointers | everybody "
              "| in all: home register | pointers | everybody |", "|---" * 12 + "|"]
     for finds, movers, ratios, costs, totals in rows:
@@ -245,20 +246,33 @@ def page_with(page, tables):
     return page[:page.index(BEGIN) + len(BEGIN)] + "\n" + "\n\n".join(tables) + "\n\n" + page[page.index(END):]
 
 
+def price_input(path, program):
+    """Prints the table of an input's network."""
+    given, _ = load_input(path)
+    if given.nodes < 2:
+        raise BadText("a network of one node has no moves and no finds to price")
+    rows, bound = rows_of(given.nodes, given.edges, given.k, program)
+    print(table_of(f"{os.path.basename(path)}, {given.nodes} nodes", rows, bound))
+
+
 def main():
-    if sys.argv[1:] not in ([], ["--check"]):
-        raise BadText("there is one word, --check, or none")
+    words = sys.argv[1:]
+    if len(words) != 1:
+        raise BadText("there is one word: an input, --write or --check (the head of this script tells more)")
+    program = os.environ.get("TRACK", os.path.join(TOP, "track"))
+    if words[0] not in ("--write", "--check"):
+        price_input(words[0], program)
+        return
     os.chdir(TOP)
-    program, texts = os.environ.get("TRACK", "./track"), {}
-    tables = []
+    texts, tables = {}, []
     for name in NETWORKS:
-        rows, bound = rows_of(name, program)
-        tables.append(table_of(name, rows, bound))
+        rows, bound = rows_of(*NETWORKS[name](), K, program)
+        tables.append(table_of(NAMES[name], rows, bound))
         texts[f"docs/pictures/price-{name}.svg"] = plot_of(name, rows, bound)
     with open("docs/PRICE.md", encoding="utf-8") as page:
         texts["docs/PRICE.md"] = page_with(page.read(), tables)
     for path, text in texts.items():
-        if sys.argv[1:] == ["--check"]:
+        if words[0] == "--check":
             with open(path, encoding="utf-8") as file:
                 if file.read() != text:
                     raise BadText(f"{path} isn't what the script makes")
