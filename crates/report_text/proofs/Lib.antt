@@ -1,5 +1,3 @@
 mod Bodies
-mod Digits
-mod Fields
 mod Parts
 mod Pieces

@@ -1,5 +1,3 @@
 pub mod PlanText
 pub mod ReportText
 pub mod Written
-pub mod Examples
-pub mod Shorts

@@ -1,13 +1,12 @@
 //! Worked examples, computed: each kind of line.
-ghost use Rattle.std.specs.Prelude.{◌≡◌, ◌++◌, [], ◌∷◌, length, map, Some, None, true, false, codes};
+ghost use Rattle.std.specs.Prelude.{◌≡◌, ◌++◌, [], ◌∷◌, Some, None, true, false, codes};
 ghost use Rattle.directory.specs.declared.answers.Done.TheVariants.{Moved, Switched, Found, Off, Again};
 ghost use Rattle.directory.specs.declared.answers.Why.TheVariants.{Empty, NoEntry, Chased};
 ghost use Rattle.net_reader.specs.declared.fault.InputCause.TheVariants.{TooLarge, Apart, Unknown, Nowhere};
 ghost use Rattle.outside.specs.Texts.{◌then◌};
 ghost use Rattle.region_plan.specs.Examples.{line_of_four};
 ghost use Rattle.report_text.specs.PlanText.{plan_text_of};
-ghost use Rattle.report_text.specs.ReportText.{call_line, cause_field, last_line, order_lines, refused_line_of, report_of};
-ghost use Rattle.report_text.specs.Examples.{zeros};
+ghost use Rattle.report_text.specs.ReportText.{call_line, cause_field, last_line, refused_line_of, report_of};
 
 /// The line of a call of each kind.
 pub fn example_calls()
@@ -34,9 +33,6 @@ pub fn example_calls()
 /// Reports and refusals.
 pub fn example_lines()
     ensures nothing { report_of (record { calls = []; order = [] }) ≡ codes "end 0" ++ 10 ∷ [] }
-    ensures order { order_lines (0 ∷ 1 ∷ 10 ∷ []) ≡ (codes "order 0 1 10" ++ 10 ∷ []) ∷ [] }
-    ensures full { map (λ line. length line) (order_lines (zeros 64)) ≡ 134 ∷ [] }
-    ensures more { map (λ line. length line) (order_lines (zeros 129)) ≡ 134 ∷ 134 ∷ 8 ∷ [] }
     ensures refused { refused_line_of (record { line = 4; cause = TooLarge })
         ≡ codes "refused 4 too-large" ++ 10 ∷ [] }
     ensures apart { refused_line_of (record { line = 6; cause = Apart 2 })

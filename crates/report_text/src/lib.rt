@@ -3,7 +3,6 @@
 
 mod examples;
 mod kept;
-mod line;
 mod plan;
 mod refusal;
 mod report_lines;

@@ -1,6 +1,6 @@
 use Rattle.std.proofs.Common.{◌≡◌, ◌≤◌, ◌+◌, ◌*◌, ◌++◌, length, take}
 use Rattle.outside.specs.Texts.{fields}
-use Rattle.report_text.proofs.line.Line.numbers.Given as goal
+use Rattle.text_line.proofs.line.Line.numbers.Given as goal
 
 abbrev pub invariant-loop-number : goal.invariant-loop-number
 invariant-loop-number l = record {

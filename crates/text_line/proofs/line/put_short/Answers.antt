@@ -1,8 +1,8 @@
 use Rattle.std.proofs.Common.{◌+◌, ◌-◌, ◌∙◌, ap, drop, get_or, length, length-drop, take, arith}
 use Rattle.std.proofs.lemmas.List.{length-take}
 use borrow.Rule.Slice.PartMut.{put_mid}
-use Rattle.report_text.proofs.Fields.{front_written}
-use Rattle.report_text.proofs.line.put_short.Goals as goal
+use Rattle.text_line.proofs.Fields.{front_written}
+use Rattle.text_line.proofs.line.put_short.Goals as goal
 
 pub returns-clause-text : goal.returns-clause-text
 returns-clause-text c =

@@ -4,7 +4,7 @@ use Rattle.std.proofs.lemmas.List.{get_or-append_right, get_or_append_left, leng
 use Rattle.std.proofs.Math.Seq.{take-append-add}
 use Rattle.std.proofs.lemmas.Bool.{cases_lt}
 use borrow.Rule.Slice.PartMut.{put_mid}
-use Rattle.report_text.specs.Shorts.{AreShort, IsShort}
+use Rattle.text_line.specs.Shorts.{AreShort, IsShort}
 
 -- behind the first `at` bytes stand the first `count` of those that were written there
 pub front_written : (bytes text : List ℕ) (at k count : ℕ) → at ≤ length bytes → count ≤ length text

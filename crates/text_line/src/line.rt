@@ -3,7 +3,7 @@ ghost use Rattle.std.specs.Prelude.{◌≡◌, ◌+◌, ◌*◌, ◌<◌, ◌≤
 ghost use Rattle.std.specs.Prelude.{◌%◌, IfOk, slice_index};
 ghost use Rattle.std.specs.Fmt.{decimal};
 ghost use Rattle.outside.specs.Texts.{field, fields};
-ghost use Rattle.report_text.specs.Shorts.{AreShort, IsShort};
+ghost use Rattle.text_line.specs.Shorts.{AreShort, IsShort};
 
 use itoa::Buffer;
 use std::alloc::{AllocError, Global};
@@ -165,7 +165,7 @@ fn short_fields(alloc: Global, count: usize) -> Result<Vec<[u8; 8]>, AllocError>
 // A line that isn't at its end, in room for 4,096 bytes, of which those before `end` are written;
 // and the fields of the numbers that are written most.
 #[derive(Debug, Drop)]
-pub(crate) struct Line {
+pub struct Line {
     bytes: Vec<u8>,
     end: usize,
     shorts: Vec<[u8; 8]>,
@@ -173,7 +173,7 @@ pub(crate) struct Line {
 
 impl Model for Line {
     ghost use Rattle.std.specs.Prelude.{◌≡◌, ◌≤◌, List, ℕ, length, take};
-    ghost use Rattle.report_text.specs.Shorts.{AreShort};
+    ghost use Rattle.text_line.specs.Shorts.{AreShort};
 
     ghost Value = { List ℕ };
 
@@ -185,7 +185,7 @@ impl Model for Line {
 
 impl Line {
     // An empty line, which writes the numbers below `count` and 1,024 fast.
-    pub(crate) fn new(alloc: Global, count: usize) -> Result<Line, AllocError>
+    pub fn new(alloc: Global, count: usize) -> Result<Line, AllocError>
         ensures { IfOk result (λ line. line ≡ []) }
     {
         Ok(Line {
@@ -196,20 +196,20 @@ impl Line {
     }
 
     // The bytes of the line.
-    pub(crate) fn bytes(&self) -> &[u8]
+    pub fn bytes(&self) -> &[u8]
         ensures { result.now ≡ self.now }
     {
         &self.bytes[..self.end]
     }
 
-    pub(crate) fn clear(&mut self)
+    pub fn clear(&mut self)
         ensures { self.new ≡ [] }
     {
         self.end = 0;
     }
 
     // A word behind what stands there.
-    pub(crate) fn word(&mut self, word: &str)
+    pub fn word(&mut self, word: &str)
         requires { length self.old + length word.now ≤ 4096 }
         ensures text { self.new ≡ self.old ++ word.now }
         ensures long { length self.new ≡ length self.old + length word.now }
@@ -220,7 +220,7 @@ impl Line {
     }
 
     // A blank and a number.
-    pub(crate) fn number(&mut self, number: u64)
+    pub fn number(&mut self, number: u64)
         requires { length self.old + 41 ≤ 4096 }
         ensures text { self.new ≡ self.old ++ field number }
         ensures long { length self.new ≤ length self.old + 41 }
@@ -232,7 +232,7 @@ impl Line {
     }
 
     // Numbers, each behind a blank.
-    pub(crate) fn numbers(&mut self, numbers: &[u32])
+    pub fn numbers(&mut self, numbers: &[u32])
         requires { length self.old + 41 * length numbers.now ≤ 4096 }
         ensures text { self.new ≡ self.old ++ fields numbers.now }
         ensures long { length self.new ≤ length self.old + 41 * length numbers.now }
@@ -243,7 +243,7 @@ impl Line {
     }
 
     // A label, a blank and a number.
-    pub(crate) fn label_number(&mut self, label: &str, number: u64)
+    pub fn label_number(&mut self, label: &str, number: u64)
         requires { length self.old + length label.now + 41 ≤ 4096 }
         ensures text { self.new ≡ self.old ++ (label.now ++ field number) }
         ensures long { length self.new ≤ length self.old + length label.now + 41 }
