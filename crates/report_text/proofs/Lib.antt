@@ -1,3 +1,4 @@
 mod Bodies
 mod Parts
 mod Pieces
+mod Summing

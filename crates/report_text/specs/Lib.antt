@@ -1,3 +1,4 @@
 pub mod PlanText
 pub mod ReportText
 pub mod Written
+pub mod SummaryText
