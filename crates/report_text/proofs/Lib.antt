@@ -1,5 +1,4 @@
 mod Bodies
-mod Digits
-mod Fields
 mod Parts
 mod Pieces
+mod Summing

@@ -1,5 +1,4 @@
 pub mod PlanText
 pub mod ReportText
 pub mod Written
-pub mod Examples
-pub mod Shorts
+pub mod SummaryText

@@ -2,7 +2,7 @@
 -- number of visits; and the line that refuses an input.
 -- Key laws: `report` and `refused_line` (they give these texts, byte for byte), `example_calls` and
 -- `example_lines` (lines of each kind, computed).
-use Rattle.std.specs.Prelude.{ℕ, zero, suc, Bool, List, [], ◌∷◌, ◌++◌, map, length, take, drop, Option, Some, None, if◌then◌else◌, codes}
+use Rattle.std.specs.Prelude.{ℕ, Bool, List, [], ◌∷◌, ◌++◌, map, length, Option, Some, None, if◌then◌else◌, codes}
 use Rattle.std.specs.List.{concat}
 use Rattle.directory.specs.declared.answers.Done.{Done}
 use Rattle.directory.specs.declared.answers.Done.TheVariants.{Moved, Switched, Found, Off, Again}
@@ -13,6 +13,7 @@ use Rattle.net_reader.specs.declared.fault.InputCause.{InputCause}
 use Rattle.net_reader.specs.declared.fault.InputCause.TheVariants as causes
 use Rattle.net_reader.specs.declared.fault.InputFault.{InputFault}
 use Rattle.outside.specs.Texts.{◌then◌, field, fields}
+use Rattle.text_line.specs.OrderLines.{order_lines}
 
 -- the level of a find that climbed, or a dash
 abbrev pub level_field : Option ℕ → List ℕ
@@ -60,28 +61,9 @@ call_line (Again actor from sub why weight first last) =
     codes "again" then fields (actor ∷ from ∷ sub ∷ []) then why_field why
     then visit_fields weight first last
 
--- the line of these actors
-abbrev pub order_line : List ℕ → List ℕ
-order_line actors = codes "order" then fields actors then 10 ∷ []
-
--- numbers cut into at most so many pieces of 64, fewer in the last
-abbrev pub pieces_within : ℕ → List ℕ → List (List ℕ)
-pieces_within zero numbers = []
-pieces_within (suc most) [] = []
-pieces_within (suc most) (n ∷ numbers) =
-    take 64 (n ∷ numbers) ∷ pieces_within most (drop 64 (n ∷ numbers))
-
--- numbers cut into pieces of 64, fewer in the last
-abbrev pub pieces : List ℕ → List (List ℕ)
-pieces numbers = pieces_within (length numbers) numbers
-
 -- the line that ends a report of so many visits
 abbrev pub last_line : ℕ → List ℕ
 last_line visits = codes "end" then field visits then 10 ∷ []
-
--- the lines of the actors of all tickets
-abbrev pub order_lines : List ℕ → List (List ℕ)
-order_lines order = map order_line (pieces order)
 
 -- the lines of a report
 abbrev pub report_lines : Outcome → List (List ℕ)

@@ -5,7 +5,8 @@ use Rattle.std.specs.Prelude.{◌≡◌, ℕ, ◌+◌, ◌<◌, ◌≤◌, Bool,
 use Rattle.directory.specs.declared.answers.Done.{Done}
 use Rattle.region_plan.specs.Plan.{PlanData, clusters_of, level_at, levels_of, members_of, nodes_of}
 use Rattle.report_text.specs.PlanText.{clusters_text, homes_line, levels_text, plan_text_of}
-use Rattle.report_text.specs.ReportText.{call_line, order_lines, last_line}
+use Rattle.report_text.specs.ReportText.{call_line, last_line}
+use Rattle.text_line.specs.OrderLines.{order_lines}
 use Rattle.outside.specs.Texts.{◌then◌, fields}
 use Rattle.report_text.specs.declared.kept.Kept.{Kept}
 use Rattle.report_text.specs.declared.plan.Stage.{Stage}

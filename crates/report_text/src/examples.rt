@@ -1,13 +1,13 @@
 //! Worked examples, computed: each kind of line.
-ghost use Rattle.std.specs.Prelude.{◌≡◌, ◌++◌, [], ◌∷◌, length, map, Some, None, true, false, codes};
+ghost use Rattle.std.specs.Prelude.{◌≡◌, ◌++◌, [], ◌∷◌, Some, None, true, false, codes};
 ghost use Rattle.directory.specs.declared.answers.Done.TheVariants.{Moved, Switched, Found, Off, Again};
 ghost use Rattle.directory.specs.declared.answers.Why.TheVariants.{Empty, NoEntry, Chased};
 ghost use Rattle.net_reader.specs.declared.fault.InputCause.TheVariants.{TooLarge, Apart, Unknown, Nowhere};
 ghost use Rattle.outside.specs.Texts.{◌then◌};
 ghost use Rattle.region_plan.specs.Examples.{line_of_four};
 ghost use Rattle.report_text.specs.PlanText.{plan_text_of};
-ghost use Rattle.report_text.specs.ReportText.{call_line, cause_field, last_line, order_lines, refused_line_of, report_of};
-ghost use Rattle.report_text.specs.Examples.{zeros};
+ghost use Rattle.report_text.specs.SummaryText.{summary_of};
+ghost use Rattle.report_text.specs.ReportText.{call_line, cause_field, last_line, refused_line_of, report_of};
 
 /// The line of a call of each kind.
 pub fn example_calls()
@@ -34,9 +34,6 @@ pub fn example_calls()
 /// Reports and refusals.
 pub fn example_lines()
     ensures nothing { report_of (record { calls = []; order = [] }) ≡ codes "end 0" ++ 10 ∷ [] }
-    ensures order { order_lines (0 ∷ 1 ∷ 10 ∷ []) ≡ (codes "order 0 1 10" ++ 10 ∷ []) ∷ [] }
-    ensures full { map (λ line. length line) (order_lines (zeros 64)) ≡ 134 ∷ [] }
-    ensures more { map (λ line. length line) (order_lines (zeros 129)) ≡ 134 ∷ 134 ∷ 8 ∷ [] }
     ensures refused { refused_line_of (record { line = 4; cause = TooLarge })
         ≡ codes "refused 4 too-large" ++ 10 ∷ [] }
     ensures apart { refused_line_of (record { line = 6; cause = Apart 2 })
@@ -76,4 +73,22 @@ pub fn example_plan()
         then (codes "cluster 0 phase 0 leader 0 depth 3 members 0 1 2 3" ++ 10 ∷ [])
         then (codes "homes 0 0 0 0" ++ 10 ∷ [])
         then (codes "end" ++ 10 ∷ []) }
+{}
+
+/// The summary of no call, and of a call of each kind: of an outcome's visits the order tells how
+/// many there are.
+pub fn example_summaries()
+    ensures nothing { summary_of (record { calls = []; order = [] })
+        ≡ codes "summary moves 0 moved 0 finds 0 again 0 travelled 0 visits 0" ++ 10 ∷ [] }
+    ensures one { summary_of (record {
+      calls = Moved 0 1 1 0 4 0 3 8 ∷ [];
+      order = 0 ∷ 0 ∷ 0 ∷ 0 ∷ 0 ∷ 0 ∷ 0 ∷ 0 ∷ 0 ∷ [];
+    }) ≡ codes "summary moves 1 moved 4 finds 0 again 0 travelled 0 visits 9" ++ 10 ∷ [] }
+    ensures each { summary_of (record {
+      calls = Moved 0 1 3 2 18446744073709551615 0 3 5 ∷ Moved 0 2 2 3 1 6 7 8
+          ∷ Switched 0 true 3 2 9 ∷ Switched 0 false 3 2 11 ∷ Found 1 2 0 3 0 (Some 0) 5 0 3
+          ∷ Off 1 2 0 3 0 None 20 10 10 ∷ Again 1 3 0 Chased 300 6 16 ∷ [];
+      order = 0 ∷ 1 ∷ [];
+    }) ≡ codes "summary moves 2 moved 18446744073709551616 finds 2 again 1 travelled 325 visits 2"
+        ++ 10 ∷ [] }
 {}

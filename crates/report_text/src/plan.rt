@@ -9,10 +9,10 @@ ghost use Rattle.report_text.specs.Written.{clusters_left, levels_left};
 ghost use Rattle.report_text.specs.declared.plan.Stage.TheVariants.{Measures, Level, Cluster, Members, Homes, Done};
 
 use crate::kept::Kept;
-use crate::line::Line;
 use region_plan::Plan;
 use std::alloc::{AllocError, Global};
 use std::marker::Model;
+use text_line::Line;
 
 // A part has no more numbers of a list than this.
 const MOST_IN_A_PART: usize = 64;

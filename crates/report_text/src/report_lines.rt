@@ -1,18 +1,16 @@
 //! The text of a report, line by line.
-ghost use Rattle.std.specs.Prelude.{◌≡◌, ◌⊎◌, ◌≤◌, ◌+◌, ◌++◌, ◌∷◌, [], length, drop, true, false, IfOk, IfSome, IfNone};
+ghost use Rattle.std.specs.Prelude.{◌≡◌, ◌≤◌, ◌+◌, ◌++◌, ◌∷◌, [], length, drop, true, false, IfOk, IfSome, IfNone};
 ghost use types.Logic.{sem};
 ghost use mir.Syntax.{named};
 ghost use Rattle.std.specs.Io.BufRead.{Rests};
 ghost use Rattle.report_text.specs.contracts.report_lines.Lines.{the_row};
-ghost use Rattle.report_text.specs.ReportText.{call_line, order_line, place_fields, report_lines, report_of, visit_fields, why_field};
+ghost use Rattle.report_text.specs.ReportText.{call_line, place_fields, report_lines, report_of, visit_fields, why_field};
 ghost use Rattle.directory.specs.Outcomes.{result_of};
 
-use crate::line::Line;
 use directory::{Done, Outcome, Why};
 use std::alloc::{AllocError, Global};
 use std::marker::Model;
-
-const MOST_ON_A_LINE: usize = 64;
+use text_line::{Line, write_next_order};
 
 // One field is made beforehand for so many visits, so that making them costs less than it saves.
 const VISITS_A_FIELD: usize = 8;
@@ -143,26 +141,6 @@ fn write_call(line: &mut Line, call: &Done)
     }
 }
 
-// The line of these actors, which are at most 64.
-fn write_order(line: &mut Line, actors: &[u32])
-    requires empty { line.old ≡ [] }
-    requires few { length actors.now ≤ 64 }
-    ensures { line.new ≡ order_line actors.now }
-{
-    line.word("order");
-    line.numbers(actors);
-    line.word("\n");
-}
-
-// How many actors the next line has, where so many are left.
-fn count_on_line(left: usize) -> usize
-    ensures few { result ≤ 64 }
-    ensures within { result ≤ left }
-    ensures most { (result ≡ 64) ⊎ (result ≡ left) }
-{
-    left.min(MOST_ON_A_LINE)
-}
-
 /// The lines of a report, one after another. It takes its memory at once, and keeps one line.
 #[derive(Debug, Drop)]
 pub struct Lines<'a> {
@@ -208,8 +186,7 @@ impl<'a> Lines<'a> {
             write_call(&mut self.line, call);
             self.calls = calls;
         } else if !self.order.is_empty() {
-            let (actors, order) = self.order.split_at(count_on_line(self.order.len()));
-            write_order(&mut self.line, actors);
+            let order = write_next_order(&mut self.line, self.order);
             self.order = order;
         } else if !self.ended {
             self.line.label_number("end", self.visits);

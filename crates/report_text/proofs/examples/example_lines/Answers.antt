@@ -6,18 +6,6 @@ pub returns-clause-nothing : goal.returns-clause-nothing
 unfolding digits
 returns-clause-nothing c = refl
 
-pub returns-clause-order : goal.returns-clause-order
-unfolding digits
-returns-clause-order c = refl
-
-pub returns-clause-full : goal.returns-clause-full
-unfolding digits
-returns-clause-full c = refl
-
-pub returns-clause-more : goal.returns-clause-more
-unfolding digits
-returns-clause-more c = refl
-
 pub returns-clause-refused : goal.returns-clause-refused
 unfolding digits
 returns-clause-refused c = refl

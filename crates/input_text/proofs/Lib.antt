@@ -1,0 +1,6 @@
+mod LineRead
+mod Leading
+mod Calls
+mod Whole
+mod ByActor
+mod OneMore

@@ -1,0 +1,4 @@
+pub mod Listing
+pub mod Laws
+pub mod ListingLaws
+pub mod Written

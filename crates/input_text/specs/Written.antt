@@ -1,0 +1,33 @@
+-- What a writer of a listing's lines keeps, and which lines it has still to write.
+-- Key law: `InputLines::next_line` (its line is the first of those that are left).
+use Rattle.std.specs.Prelude.{List, ℕ}
+use Rattle.input_text.specs.declared.listing.Listing.{Listing}
+use Rattle.input_text.specs.declared.lines.Stage.{Stage}
+use Rattle.input_text.specs.declared.lines.Stage.TheVariants as stages
+use Rattle.input_text.specs.Listing.{ListingValue, call_lines, input_lines, lines_from_k, lines_from_nodes, network_lines}
+
+-- the listing that borrowed parts are
+abbrev pub seen_listing : Listing → ListingValue
+seen_listing listing = record {
+  format = listing.format;
+  nodes = listing.nodes;
+  k = listing.k;
+  edges = listing.edges.now;
+  homes = listing.homes.now;
+  callers = listing.callers;
+  calls = listing.calls.now;
+  order = listing.order.now;
+}
+
+-- the lines from a stage on, of what is left of the listing
+abbrev pub lines_left : Stage → ListingValue → List (List ℕ)
+lines_left stages.Format listing = input_lines listing
+lines_left stages.Nodes listing = lines_from_nodes listing
+lines_left stages.K listing = lines_from_k listing
+lines_left stages.Network listing = network_lines listing
+lines_left stages.Calls listing = call_lines listing
+
+-- the lines of a listing: the one that was made last, and those that are left
+pub record LinesState : Type 0 where
+  pub line : List ℕ
+  pub left : List (List ℕ)

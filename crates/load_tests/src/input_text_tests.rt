@@ -1,0 +1,101 @@
+//! Texts of inputs that were read, and of inputs that loads make.
+ghost use Rattle.std.specs.Prelude.{◌≤◌, length};
+ghost use Rattle.net_reader.specs.Reading.{most_bytes};
+
+use crate::loads::load_of;
+use crate::same::same_text;
+use input_text::{InputLines, Listing, input_text};
+use make_load::{Workload, load_text, make_input};
+use net_reader::{Input, MAX_BYTES, ReadRefusal, read_input};
+use std::alloc::{AllocError, Global};
+use std::process::Abort;
+use std::test::Fail;
+
+const MOST_SCRIPTS: usize = 128;
+
+fn input_of(alloc: Global, text: &[u8]) -> Result<Input, Fail> {
+    if text.len() > MAX_BYTES {
+        return Err(AllocError.into());
+    }
+    match read_input(alloc, text) {
+        Ok(input) => Ok(input),
+        Err(ReadRefusal::Fault(fault)) => Err(fault.into()),
+        Err(ReadRefusal::OutOfMemory) => Err(AllocError.into()),
+    }
+}
+
+// The text of an input, which has few scripts.
+fn text_of(alloc: Global, input: &Input) -> Result<Vec<u8>, Fail> {
+    if input.scripts.len() > MOST_SCRIPTS {
+        return Err(AllocError.into());
+    }
+    Ok(input_text(alloc, input)?)
+}
+
+// What is read of each text is to be written as this.
+#[test]
+fn texts_of_inputs(rt: HostRuntime) -> Result<(), Fail> {
+    let rows = [
+        (
+            "track 01\r\n# a comment\n\nnodes 2\nk 2\n  edge 0\t1 005 \nsub 1\ncallers 1\n\
+                move 0 0\nfind 1 0 0\nmove 0 1\norder 0 1\norder 1",
+            "track 1\nnodes 2\nk 2\nedge 0 1 5\nsub 1\ncallers 1\nmove 0 0\nmove 0 1\nfind 1 0 0\n\
+                order 0 1 1\n",
+        ),
+        (
+            "track 2\nnodes 1\nk 8\nedge 0 0 1048576\nsub 0\nsub 0\ncallers 0\noff 1\noff 0\non 1",
+            "track 2\nnodes 1\nk 8\nedge 0 0 1048576\nsub 0\nsub 0\ncallers 0\noff 0\noff 1\n\
+                on 1\n",
+        ),
+    ];
+    for place in 0..rows.len() {
+        let (read, wanted) = rows[place];
+        let input = input_of(rt.alloc(), read.as_bytes())?;
+        same_text(&rt, place, &text_of(rt.alloc(), &input)?, wanted.as_bytes());
+    }
+    Ok(())
+}
+
+// The text of a load is to be read as the input that it makes.
+fn is_read_again(rt: &impl Abort, alloc: Global, place: usize, words: &str) -> Result<(), Fail> {
+    let load = load_of(alloc, words)?;
+    let read = input_of(alloc, &load_text(alloc, load)?)?;
+    let made = make_input(alloc, load)?;
+    same_text(rt, place, &text_of(alloc, &read)?, &text_of(alloc, &made)?);
+    Ok(())
+}
+
+#[test]
+fn loads_are_read(rt: HostRuntime) -> Result<(), Fail> {
+    let rows = [
+        "make 42 2 2 1 0 1",
+        "make 0 1 1 1 0 0",
+        "make 3 4 3 2 2 9",
+        "make 7 1024 3 64 64 16384",
+        "make 5 257 2 1 0 1",
+        "make 6 256 1 1 64 8192",
+    ];
+    for place in 0..rows.len() {
+        is_read_again(&rt, rt.alloc(), place, rows[place])?;
+    }
+    Ok(())
+}
+
+// The lines of a listing, one behind another.
+fn joined(alloc: Global, listing: Listing<'_>) -> Result<Vec<u8>, Fail> {
+    let mut lines = InputLines::new(alloc, listing)?;
+    let mut text = Vec::new(alloc);
+    'lines: while let Some(line) = lines.next_line() {
+        text.extend_from_slice(line)?;
+    }
+    Ok(text)
+}
+
+#[test]
+fn lines_of_a_load(rt: HostRuntime) -> Result<(), Fail> {
+    let load = load_of(rt.alloc(), "make 3 4 3 2 2 9")?;
+    let workload = Workload::new(rt.alloc(), load)?;
+    let text = joined(rt.alloc(), workload.listing())?;
+    same_text(&rt, 0, &text, &load_text(rt.alloc(), load)?);
+    Ok(())
+}

@@ -1,0 +1,102 @@
+//! Summaries of no call, and of calls of each kind.
+use crate::same::same_text;
+use directory::{Done, Outcome, Why};
+use report_text::summary;
+use std::alloc::Global;
+use std::process::Abort;
+use std::test::Fail;
+
+const HEAVY: u64 = 18_446_744_073_709_551_615;
+
+fn moved(weight: u64) -> Done {
+    Done::Moved {
+        actor: 0,
+        number: 1,
+        from: 3,
+        to: 2,
+        weight,
+        first: 0,
+        commit: 3,
+        last: 5,
+    }
+}
+
+const SWITCHED: Done = Done::Switched {
+    actor: 0,
+    off: true,
+    node: 2,
+    number: 1,
+    ticket: 7,
+};
+
+const FOUND: Done = Done::Found {
+    actor: 1,
+    from: 2,
+    sub: 0,
+    node: 3,
+    number: 0,
+    level: Some(0),
+    weight: 5,
+    first: 0,
+    last: 3,
+};
+
+const OFF: Done = Done::Off {
+    actor: 1,
+    from: 2,
+    sub: 0,
+    node: 3,
+    number: 0,
+    level: None,
+    weight: HEAVY,
+    first: 10,
+    last: 10,
+};
+
+const AGAIN: Done = Done::Again {
+    actor: 1,
+    from: 3,
+    sub: 0,
+    why: Why::Chased,
+    weight: 300,
+    first: 6,
+    last: 16,
+};
+
+// The summary of these calls and so many visits is to be this line.
+fn sums_up(
+    rt: &impl Abort,
+    alloc: Global,
+    calls: &[Done],
+    visits: usize,
+    wanted: &str,
+) -> Result<(), Fail> {
+    let outcome = Outcome {
+        calls: Vec::from_slice(alloc, calls)?,
+        order: vec![in alloc; 1; visits]?,
+    };
+    same_text(rt, visits, &summary(alloc, &outcome)?, wanted.as_bytes());
+    Ok(())
+}
+
+#[test]
+fn no_calls(rt: HostRuntime) -> Result<(), Fail> {
+    let wanted = "summary moves 0 moved 0 finds 0 again 0 travelled 0 visits 0\n";
+    sums_up(&rt, rt.alloc(), &[], 0, wanted)
+}
+
+#[test]
+fn calls_of_each_kind(rt: HostRuntime) -> Result<(), Fail> {
+    let calls = [
+        moved(HEAVY),
+        FOUND,
+        moved(1),
+        SWITCHED,
+        OFF,
+        AGAIN,
+        SWITCHED,
+    ];
+    let wanted = "summary moves 2 moved 18446744073709551616 finds 2 again 1 \
+            travelled 18446744073709551920 visits 130\n";
+    sums_up(&rt, rt.alloc(), &calls, 130, wanted)
+}

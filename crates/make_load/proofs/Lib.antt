@@ -1,0 +1,4 @@
+mod Lists
+mod Sound
+mod Valid
+mod Words

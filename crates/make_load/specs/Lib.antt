@@ -1,0 +1,4 @@
+pub mod Draws
+pub mod Load
+pub mod Laws
+pub mod Made

@@ -1,6 +1,0 @@
-use Rattle.std.proofs.Common.{◌≡◌, length}
-use Rattle.report_text.specs.Shorts.{AreShort}
-use Rattle.report_text.proofs.line.short_fields.Given as goal
-
-abbrev pub invariant-loop-number : goal.invariant-loop-number
-invariant-loop-number l = record { are : AreShort l.shorts.items; count : length l.shorts.items ≡ l.number }

@@ -1,0 +1,32 @@
+-- Short fields that are kept, and a text that is written over the bytes behind a line.
+use Rattle.std.proofs.Common.{◌≡◌, ℕ, ◌+◌, ◌≤◌, List, [], ◌∷◌, ◌++◌, length, ◌-◌, get_or, take, drop, refl, sym, ◌∙◌, ap, subst, inl, inr, arith}
+use Rattle.std.proofs.lemmas.List.{get_or-append_right, get_or_append_left, length-append, length-take, take-append-le}
+use Rattle.std.proofs.Math.Seq.{take-append-add}
+use Rattle.std.proofs.lemmas.Bool.{cases_lt}
+use borrow.Rule.Slice.PartMut.{put_mid}
+use Rattle.text_line.specs.Shorts.{AreShort, IsShort}
+
+-- behind the first `at` bytes stand the first `count` of those that were written there
+pub front_written : (bytes text : List ℕ) (at k count : ℕ) → at ≤ length bytes → count ≤ length text
+    → take (at + count) (put_mid at k bytes text) ≡ take at bytes ++ take count text
+front_written bytes text at k count within few =
+    let front : length (take at bytes) ≡ at = omega (arith, length-take at bytes) in
+    ap (λ i. take (i + count) (take at bytes ++ (text ++ drop k (drop at bytes)))) (sym front)
+    ∙ take-append-add (take at bytes) (text ++ drop k (drop at bytes)) count
+    ∙ ap (λ xs. take at bytes ++ xs) (take-append-le count text (drop k (drop at bytes)) few)
+
+-- one more short field
+pub one_more_short : (shorts more : List (List ℕ)) (short : List ℕ) → AreShort shorts → IsShort (length shorts) short
+    → more ≡ shorts ++ short ∷ [] → AreShort more
+one_more_short shorts more short so_far is grown = subst AreShort (sym grown) (λ number below.
+    elim (cases_lt number (length shorts)) [
+      | inl earlier ↦ subst (IsShort number) (sym (get_or_append_left shorts (short ∷ []) [] number earlier))
+          (so_far number earlier)
+      | inr later ↦
+          let last : number ≡ length shorts = omega (arith, length-append shorts (short ∷ [])) in
+          let found : get_or (shorts ++ short ∷ []) (length shorts) [] ≡ short =
+          get_or-append_right shorts (short ∷ []) (length shorts) (length shorts) [] refl (omega arith)
+          ∙ ap (λ i. get_or (short ∷ []) i []) (let e : length shorts - length shorts ≡ 0 = omega arith in e) in
+          subst (λ i. IsShort i (get_or (shorts ++ short ∷ []) i [])) (sym last)
+          (subst (IsShort (length shorts)) (sym found) is)
+    ])

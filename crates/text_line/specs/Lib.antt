@@ -1,0 +1,3 @@
+pub mod OrderLines
+pub mod OrderLaws
+pub mod Shorts

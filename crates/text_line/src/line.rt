@@ -1,0 +1,254 @@
+//! A line that is written piece by piece into memory that was taken before.
+ghost use Rattle.std.specs.Prelude.{◌≡◌, ◌+◌, ◌*◌, ◌<◌, ◌≤◌, ◌++◌, ◌∷◌, List, ℕ, [], length, take};
+ghost use Rattle.std.specs.Prelude.{◌%◌, IfOk, slice_index};
+ghost use Rattle.std.specs.Fmt.{decimal};
+ghost use Rattle.outside.specs.Texts.{field, fields};
+ghost use Rattle.text_line.specs.Shorts.{AreShort, IsShort};
+
+use itoa::Buffer;
+use std::alloc::{AllocError, Global};
+use std::marker::Model;
+
+const ROOM: usize = 4_096;
+
+// The digit of a number below ten.
+fn digit(number: u64) -> u8
+    requires { number < 10 }
+    ensures { result ≡ 48 + number }
+{
+    b'0' + number as u8
+}
+
+// Writes a byte, and tells the place behind it.
+#[inline(always)]
+fn put(bytes: &mut [u8], at: usize, byte: u8) -> usize
+    requires { at < length bytes.old }
+    ensures text { take result bytes.new ≡ take at bytes.old ++ byte ∷ [] }
+    ensures next { result ≡ at + 1 }
+{
+    bytes[at] = byte;
+    at + 1
+}
+
+// Writes the last digit of a number, and tells the place behind it.
+#[inline(always)]
+fn put_last_digit(bytes: &mut [u8], at: usize, number: u64) -> usize
+    requires { at < length bytes.old }
+    ensures text { take result bytes.new ≡ take at bytes.old ++ (48 + number % 10) ∷ [] }
+    ensures next { result ≡ at + 1 }
+{
+    put(bytes, at, digit(number % 10))
+}
+
+// Writes a number of at most two digits, and tells the place behind it.
+#[inline(always)]
+fn put_two(bytes: &mut [u8], at: usize, number: u64) -> usize
+    requires room { at + 2 ≤ length bytes.old }
+    requires short { number < 100 }
+    ensures text { take result bytes.new ≡ take at bytes.old ++ decimal number }
+    ensures next { result ≤ at + 2 }
+{
+    let mut end = at;
+    if number >= 10 {
+        end = put(bytes, end, digit(number / 10));
+    }
+    put_last_digit(bytes, end, number)
+}
+
+// Writes a number of at most three digits, and tells the place behind it.
+#[inline(always)]
+fn put_three(bytes: &mut [u8], at: usize, number: u64) -> usize
+    requires room { at + 3 ≤ length bytes.old }
+    requires short { number < 1000 }
+    ensures text { take result bytes.new ≡ take at bytes.old ++ decimal number }
+    ensures next { result ≤ at + 3 }
+{
+    let mut end = at;
+    if number >= 10 {
+        end = put_two(bytes, end, number / 10);
+    }
+    put_last_digit(bytes, end, number)
+}
+
+// Writes a number of at most four digits, and tells the place behind it.
+#[inline(always)]
+fn put_four(bytes: &mut [u8], at: usize, number: u64) -> usize
+    requires room { at + 4 ≤ length bytes.old }
+    requires short { number < 10000 }
+    ensures text { take result bytes.new ≡ take at bytes.old ++ decimal number }
+    ensures next { result ≤ at + 4 }
+{
+    let mut end = at;
+    if number >= 10 {
+        end = put_three(bytes, end, number / 10);
+    }
+    put_last_digit(bytes, end, number)
+}
+
+// Writes a number of any length, and tells the place behind it.
+fn put_any(bytes: &mut [u8], at: usize, number: u64) -> usize
+    requires room { at + 40 ≤ length bytes.old }
+    ensures text { take result bytes.new ≡ take at bytes.old ++ decimal number }
+    ensures next { result ≤ at + 40 }
+{
+    let mut buffer = Buffer::new();
+    let digits = buffer.format(number).as_bytes();
+    let end = at + digits.len();
+    bytes[at..end].copy_from_slice(digits);
+    end
+}
+
+// Writes a blank and a number of at most four digits, and tells the place behind them.
+#[inline(always)]
+fn put_short_field(bytes: &mut [u8], at: usize, number: u64) -> usize
+    requires room { at + 5 ≤ length bytes.old }
+    requires short { number < 10000 }
+    ensures text { take result bytes.new ≡ take at bytes.old ++ field number }
+    ensures next { result ≤ at + 5 }
+{
+    let from = put(bytes, at, b' ');
+    put_four(bytes, from, number)
+}
+
+// Writes a blank and a number, and tells the place behind them.
+fn put_field(bytes: &mut [u8], at: usize, number: u64) -> usize
+    requires room { at + 41 ≤ length bytes.old }
+    ensures text { take result bytes.new ≡ take at bytes.old ++ field number }
+    ensures next { result ≤ at + 41 }
+{
+    if number < 10_000 {
+        put_short_field(bytes, at, number)
+    } else {
+        let from = put(bytes, at, b' ');
+        put_any(bytes, from, number)
+    }
+}
+
+// Writes a short field, and tells the place behind it. Eight bytes are written at once, of which
+// those of the field count.
+#[inline(always)]
+fn put_short(bytes: &mut [u8], at: usize, short: [u8; 8]) -> usize
+    requires room { at + 8 ≤ length bytes.old }
+    requires few { slice_index short 7 ≤ 7 }
+    ensures text { take result bytes.new
+        ≡ take at bytes.old ++ take (slice_index short 7) short }
+    ensures next { result ≡ at + slice_index short 7 }
+{
+    bytes[at..at + 8].copy_from_slice(&short);
+    at + short[7] as usize
+}
+
+// A blank and a number of at most four digits, in eight bytes: the last one tells how many of the
+// others are text.
+fn short_field(number: u64) -> [u8; 8]
+    requires { number < 10000 }
+    ensures { IsShort number result }
+{
+    let mut short = [0u8; 8];
+    let end = put_short_field(&mut short, 0, number);
+    short[7] = end as u8;
+    short
+}
+
+// The short fields of the numbers below this one.
+fn short_fields(alloc: Global, count: usize) -> Result<Vec<[u8; 8]>, AllocError>
+    requires { count ≤ 10000 }
+    ensures { IfOk result (λ shorts. AreShort shorts.items) }
+{
+    let mut shorts = Vec::with_capacity(alloc, count)?;
+    for number in 0..count {
+        shorts.push(short_field(number as u64))?;
+    }
+    Ok(shorts)
+}
+
+// A line that isn't at its end, in room for 4,096 bytes, of which those before `end` are written;
+// and the fields of the numbers that are written most.
+#[derive(Debug, Drop)]
+pub struct Line {
+    bytes: Vec<u8>,
+    end: usize,
+    shorts: Vec<[u8; 8]>,
+}
+
+impl Model for Line {
+    ghost use Rattle.std.specs.Prelude.{◌≡◌, ◌≤◌, List, ℕ, length, take};
+    ghost use Rattle.text_line.specs.Shorts.{AreShort};
+
+    ghost Value = { List ℕ };
+
+    ghost view = { λ l. take l.end l.bytes.items };
+
+    ghost invariant = { λ l. (length l.bytes.items ≡ 4104) × (l.end ≤ 4096)
+        × AreShort l.shorts.items };
+}
+
+impl Line {
+    // An empty line, which writes the numbers below `count` and 1,024 fast.
+    pub fn new(alloc: Global, count: usize) -> Result<Line, AllocError>
+        ensures { IfOk result (λ line. line ≡ []) }
+    {
+        Ok(Line {
+            bytes: vec![in alloc; 0u8; ROOM + 8]?,
+            end: 0,
+            shorts: short_fields(alloc, count.min(1_024))?,
+        })
+    }
+
+    // The bytes of the line.
+    pub fn bytes(&self) -> &[u8]
+        ensures { result.now ≡ self.now }
+    {
+        &self.bytes[..self.end]
+    }
+
+    pub fn clear(&mut self)
+        ensures { self.new ≡ [] }
+    {
+        self.end = 0;
+    }
+
+    // A word behind what stands there.
+    pub fn word(&mut self, word: &str)
+        requires { length self.old + length word.now ≤ 4096 }
+        ensures text { self.new ≡ self.old ++ word.now }
+        ensures long { length self.new ≡ length self.old + length word.now }
+    {
+        let end = self.end + word.len();
+        self.bytes[self.end..end].copy_from_slice(word.as_bytes());
+        self.end = end;
+    }
+
+    // A blank and a number.
+    pub fn number(&mut self, number: u64)
+        requires { length self.old + 41 ≤ 4096 }
+        ensures text { self.new ≡ self.old ++ field number }
+        ensures long { length self.new ≤ length self.old + 41 }
+    {
+        self.end = match self.shorts.get(number as usize) {
+            Some(short) => put_short(&mut self.bytes, self.end, *short),
+            None => put_field(&mut self.bytes, self.end, number),
+        };
+    }
+
+    // Numbers, each behind a blank.
+    pub fn numbers(&mut self, numbers: &[u32])
+        requires { length self.old + 41 * length numbers.now ≤ 4096 }
+        ensures text { self.new ≡ self.old ++ fields numbers.now }
+        ensures long { length self.new ≤ length self.old + 41 * length numbers.now }
+    {
+        for &number in numbers {
+            self.number(u64::from(number));
+        }
+    }
+
+    // A label, a blank and a number.
+    pub fn label_number(&mut self, label: &str, number: u64)
+        requires { length self.old + length label.now + 41 ≤ 4096 }
+        ensures text { self.new ≡ self.old ++ (label.now ++ field number) }
+        ensures long { length self.new ≤ length self.old + length label.now + 41 }
+    {
+        self.word(label);
+        self.number(number);
+    }
+}
