@@ -1,0 +1,126 @@
+-- The call that comes next in a subscriber's script: it is a step, which may begin.
+use Rattle.std.proofs.Common.{◌≡◌, ℕ, zero, suc, ◌<◌, Bool, true, false, List, [], ◌∷◌, ◌++◌, length, map, take, drop, get_or, refl, sym, ap, ◌∙◌, subst, arith}
+use Rattle.std.specs.Prelude.{None, Option, Some, option_map, slice_get, slice_index, unwrap_or}
+use Rattle.std.proofs.lemmas.List.{append_assoc, get_or-map, length-map, take-append-drop}
+use Rattle.std.proofs.lemmas.Option.{unwrap_or-slice_get}
+use Rattle.directory.specs.Amid.{course_of}
+use Rattle.directory.specs.Settings.{Setting, start}
+use Rattle.directory.specs.Courses.{Course, MayStep, MaySteps, Step, after_step, after_steps, course_at}
+use Rattle.directory.specs.Legal.{IsScript}
+use Rattle.directory.specs.Orders.{AreValid, steps_of}
+use Rattle.directory.specs.StepLaws.{slice_get-within, take-more}
+use Rattle.distances.specs.Table.{DistanceTable}
+use Rattle.net_reader.specs.Input.{Contents}
+use Rattle.net_reader.specs.Valid.{IsCourse}
+use Rattle.net_reader.specs.declared.said.Call.{Call}
+use Rattle.net_reader.specs.declared.said.Call.TheVariants as calls
+use Rattle.region_plan.specs.Plan.{PlanData}
+use Rattle.region_plan.specs.Settings.{setting_of}
+use Rattle.handset.specs.Kept.{HandsetData}
+use Rattle.handset.specs.Progress.{due_at}
+use Rattle.handset.specs.StageLaws.{IsRestAfter}
+use Rattle.handset.specs.declared.stage.Stage.{Stage}
+use Rattle.handset.specs.declared.stage.Stage.TheVariants.{Resting, Coming, Renewing, Committing, Confirming, Erasing, Purging, Switching}
+use Rattle.scripts.specs.Laws.{ScriptsAreValid}
+use Rattle.scripts.specs.Scripts.{scripts_of, step_of}
+use Rattle.scripts.specs.ScriptLaws.{steps-are}
+use Rattle.move_cost.specs.Counting.{MayBegin, first_steps}
+use Rattle.move_cost.specs.Plans.{GoTogether}
+
+pub none-of : {A B : Type 0} (f : A → B) (o : Option A) → option_map f o ≡ None → o ≡ None
+none-of f None h = refl
+none-of f (Some x) h = cc
+
+pub stage-rests : (setting : Setting) (handset : HandsetData) (stage : Stage) → due_at setting handset stage ≡ None
+    → stage ≡ Resting
+stage-rests setting handset Resting h = refl
+stage-rests setting handset Coming h = cc
+stage-rests setting handset (Renewing level) h = cc
+stage-rests setting handset Committing h = cc
+stage-rests setting handset Confirming h = cc
+stage-rests setting handset (Erasing level) h = cc
+stage-rests setting handset (Purging node) h = cc
+stage-rests setting handset (Switching off) h = cc
+
+-- a step of a script may come where it does
+may-at : (setting : Setting) (course : Course) (before : List Step) (step : Step) (later : List Step)
+    → MaySteps setting course (before ++ step ∷ later) → MayStep setting (after_steps setting course before) step
+unfolding MaySteps
+may-at setting course [] step later may = may.0
+may-at setting course (s ∷ before) step later may = may-at setting (after_step setting course s) before step later may.1
+
+-- a call that is a step
+abbrev pub IsStep : Call → Type 0
+IsStep (calls.Move to) = Unit {0}
+IsStep (calls.Find from sub) = ⊥
+IsStep calls.Off = Unit {0}
+IsStep calls.On = Unit {0}
+
+-- a subscriber's script has no finds
+course-steps : (format n here : ℕ) (off : Bool) (script : List Call) (k : ℕ) (d : Call)
+    → IsCourse format n here off script → k < length script → IsStep (get_or script k d)
+course-steps format n here off [] k d its low = absurd (omega (arith, low))
+course-steps format n here off (calls.Find from sub ∷ script) k d its low = absurd its
+course-steps format n here off (calls.Move to ∷ script) zero d its low = tt
+course-steps format n here off (calls.Off ∷ script) zero d its low = tt
+course-steps format n here off (calls.On ∷ script) zero d its low = tt
+course-steps format n here off (calls.Move to ∷ script) (suc k) d its low =
+    course-steps format n to off script k d its.3 (omega (arith, low))
+course-steps format n here off (calls.Off ∷ script) (suc k) d its low =
+    course-steps format n here true script k d its.2 (omega (arith, low))
+course-steps format n here off (calls.On ∷ script) (suc k) d its low =
+    course-steps format n here false script k d its.2 (omega (arith, low))
+
+pub may-begin : (plan : PlanData) (starts : List ℕ) (sub : ℕ) (handset : HandsetData) (steps : List Step) (made : ℕ)
+    (call : Call) → IsRestAfter (setting_of plan starts) sub handset steps made → IsStep call
+    → MayStep (setting_of plan starts) (course_of (setting_of plan starts) sub steps) (step_of call)
+    → MayBegin plan handset call
+may-begin plan starts sub handset steps made (calls.Move to) at its may =
+    (may.inside, λ same. may.moving (same ∙ at.place), at.is_off ∙ may.is_on, omega (arith, may.few, at.number))
+may-begin plan starts sub handset steps made (calls.Find from found) at its may = absurd its
+may-begin plan starts sub handset steps made calls.Off at its may = at.is_off ∙ may
+may-begin plan starts sub handset steps made calls.On at its may = at.is_off ∙ may
+
+-- what is known of the call at a place of a subscriber's script
+pub record IsNextCall (input : Contents) (plan : PlanData) (sub place : ℕ) (call : Call) : Type 0 where
+  pub step : IsStep call
+  pub more : first_steps input sub (suc place) ≡ first_steps input sub place ++ step_of call ∷ []
+  pub may : MayStep (setting_of plan input.homes)
+      (course_of (setting_of plan input.homes) sub (first_steps input sub place)) (step_of call)
+
+pub next-call : ScriptsAreValid → (input : Contents) (plan : PlanData) (distances : DistanceTable) (sub place : ℕ)
+    (call : Call) → GoTogether input plan distances → sub < length input.homes
+    → place < length (steps_of (scripts_of input) sub)
+    → call ≡ get_or (get_or input.scripts sub []) place call
+    → IsNextCall input plan sub place call
+next-call scripts input plan distances sub place call together low short same =
+    let setting : Setting = setting_of plan input.homes in
+    let script : List Call = get_or input.scripts sub [] in
+    let steps : List Step = steps_of (scripts_of input) sub in
+    let are : steps ≡ map step_of script = steps-are input sub together.valid low in
+    let inside : place < length script =
+    omega (arith, short, ap length are, length-map script step_of) in
+    let found = slice_get-within (map step_of script) place
+    (omega (arith, inside, length-map script step_of)) in
+    let is : found.0 ≡ step_of call =
+    ap (λ o. unwrap_or o (step_of call)) (sym found.1)
+    ∙ (unwrap_or-slice_get (map step_of script) place (step_of call)
+    ∙ (get_or-map step_of script place call (step_of call) inside ∙ ap step_of (sym same))) in
+    let here : slice_get steps place ≡ Some (step_of call) =
+    ap (λ ss. slice_get ss place) are ∙ (found.1 ∙ ap Some is) in
+    let more : take (suc place) steps ≡ take place steps ++ step_of call ∷ [] =
+    take-more steps place (step_of call) here in
+    let whole : steps ≡ take place steps ++ step_of call ∷ drop (suc place) steps =
+    sym (take-append-drop (suc place) steps)
+    ∙ (ap (λ ss. ss ++ drop (suc place) steps) more
+    ∙ append_assoc (take place steps) (step_of call ∷ []) (drop (suc place) steps)) in
+    let valid : AreValid setting (scripts_of input) =
+    scripts input setting together.valid (record { nodes = together.nodes; starts = refl }) in
+    let its : IsScript setting sub steps = valid.steps sub low in
+    record {
+      step = subst IsStep (sym same) (course-steps input.format input.nodes (slice_index input.homes sub) false script
+          place call (together.valid.courses sub low) inside);
+      more = more;
+      may = may-at setting (course_at (start setting sub)) (take place steps) (step_of call)
+          (drop (suc place) steps) (subst (MaySteps setting (course_at (start setting sub))) whole its.allowed);
+    }

@@ -1,0 +1,10 @@
+mod Sums
+mod MoveParts
+mod Paying
+mod Purging
+mod Fitting
+mod Following
+mod Readers
+mod Calls
+mod Stepping
+mod Opening

@@ -1,0 +1,29 @@
+use Rattle.std.proofs.Common.{◌∙◌, ap, arith, length, sym}
+use Rattle.std.specs.Prelude.{slice_index}
+use Rattle.region_plan.specs.Plan.{inside}
+use Rattle.move_cost.proofs.Readers.{few-read, search-ends, search-finds}
+use Rattle.move_cost.proofs.weights.weight_inside.Goals as goal
+
+pub overflow_cast-place : goal.overflow_cast-place
+overflow_cast-place c = omega (
+  arith,
+  c.in-Ok.ensures.bound,
+  ap length c.readers.ensures,
+  few-read c.args.plan.now c.args.level c.args.cluster c.args.node c.requires.matched c.requires.level c.requires.node
+      c.nodes-nodes.ensures.sound,
+)
+
+pub unreachable-requires : goal.unreachable-requires
+unreachable-requires c =
+    search-ends c.args.plan.now c.args.level c.args.cluster c.args.node c.requires.matched c.requires.level
+    c.requires.node c.readers.result.now c.in-Err.field-0 c.readers.ensures c.requires.cluster c.requires.member
+    c.in-Err.ensures.position
+
+pub returns : goal.returns
+returns c =
+    let found = search-finds c.args.plan.now c.args.level c.args.cluster c.args.node c.requires.matched
+    c.requires.level c.requires.node c.readers.result.now c.in-Ok.place c.readers.ensures c.requires.cluster
+    c.requires.member c.in-Ok.ensures.position in
+    c.reader_weight.ensures
+    ∙ ap (λ k. inside c.args.plan.now c.args.level k c.args.node)
+    (ap (λ xs. slice_index xs c.in-Ok.place) (sym c.readers.ensures) ∙ found)

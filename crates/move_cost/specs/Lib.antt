@@ -1,0 +1,5 @@
+pub mod Costs
+pub mod Pace
+pub mod Plans
+pub mod Counting
+pub mod CostText

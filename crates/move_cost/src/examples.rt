@@ -1,0 +1,48 @@
+//! Worked examples, computed: what moves on the line of four nodes cost, and how it is told.
+ghost use Rattle.std.specs.Prelude.{◌≡◌, ◌++◌, [], ◌∷◌, codes};
+ghost use Rattle.outside.specs.Texts.{◌then◌};
+ghost use Rattle.directory.specs.Courses.{move_to, switch_off, switch_on};
+ghost use Rattle.region_plan.specs.Examples.{line_scripts, line_setting};
+ghost use Rattle.move_cost.specs.CostText.{costs_text_of};
+ghost use Rattle.move_cost.specs.Costs.{cost_lines};
+ghost use Rattle.move_cost.specs.Pace.{IsPaced, writing_rate};
+
+use crate::laws::plans_are_paced;
+use region_plan::line_has_its_plan;
+
+/// What the moves of a subscriber at the end of the line cost: a move that erases its old address;
+/// a second one that purges the trail; a far one that does both at once; there and back; and
+/// switches, which cost nothing.
+pub fn example_costs()
+    ensures erases { cost_lines line_setting (line_scripts (move_to 2 ∷ []) [])
+        ≡ record { sub = 0; moves = 1; moved = 1; written = 12; purged = 0 } ∷ [] }
+    ensures purges { cost_lines line_setting (line_scripts (move_to 2 ∷ move_to 0 ∷ []) [])
+        ≡ record { sub = 0; moves = 2; moved = 3; written = 16; purged = 2 } ∷ [] }
+    ensures both { cost_lines line_setting (line_scripts (move_to 0 ∷ []) [])
+        ≡ record { sub = 0; moves = 1; moved = 3; written = 12; purged = 1 } ∷ [] }
+    ensures back { cost_lines line_setting (line_scripts (move_to 2 ∷ move_to 3 ∷ []) [])
+        ≡ record { sub = 0; moves = 2; moved = 2; written = 32; purged = 1 } ∷ [] }
+    ensures switches { cost_lines line_setting (line_scripts (switch_off ∷ switch_on ∷ []) [])
+        ≡ record { sub = 0; moves = 0; moved = 0; written = 0; purged = 0 } ∷ [] }
+{}
+
+/// The line of four is renewed at the pace that the bound asks for, with clusters 3 radii wide: a
+/// subscriber writes at most 156 times how far it goes.
+pub fn example_pace()
+    ensures paced { IsPaced line_setting 3 }
+    ensures rate { writing_rate 3 3 ≡ 156 }
+{
+    line_has_its_plan();
+    plans_are_paced();
+}
+
+/// Texts, of no subscriber and of two.
+pub fn example_texts()
+    ensures nobody { costs_text_of [] ≡ codes "end" ++ 10 ∷ [] }
+    ensures two { costs_text_of
+        (record { sub = 0; moves = 1; moved = 1; written = 12; purged = 0 }
+        ∷ record { sub = 1; moves = 98; moved = 765; written = 4321; purged = 10 } ∷ [])
+        ≡ codes "cost 0 moves 1 moved 1 written 12 purged 0"
+        then 10 ∷ codes "cost 1 moves 98 moved 765 written 4321 purged 10"
+        then 10 ∷ codes "end" then 10 ∷ [] }
+{}
