@@ -31,7 +31,7 @@ own-none actor (x ∷ xs) (suc i) visit none at =
     own-none actor xs i visit (own-nil actor x xs none).1 at
 
 -- a place of joined lists is one of either
-get-either : {A : Type 0} (xs ys : List A) (i : ℕ) (x : A) → slice_get (xs ++ ys) i ≡ Some x
+pub get-either : {A : Type 0} (xs ys : List A) (i : ℕ) (x : A) → slice_get (xs ++ ys) i ≡ Some x
     → ((slice_get xs i ≡ Some x) × (i < length xs))
     ⊎ ((j : ℕ) × (slice_get ys j ≡ Some x) × (i ≡ length xs + j))
 get-either [] ys i x h = inr (i, h, omega arith)

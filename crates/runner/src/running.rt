@@ -119,7 +119,7 @@ fn passes_of(alloc: Global, workers: Vec<Worker>) -> Result<Vec<Pass>, AllocErro
 {
     let mut passes = Vec::with_capacity(alloc, workers.len())?;
     'workers: for worker in workers {
-        passes.push_reserved(worker.into_pass());
+        passes.push(worker.into_pass())?;
     }
     Ok(passes)
 }
@@ -144,7 +144,7 @@ fn workers_of(
         let Ok(worker) = Worker::new(alloc, pass, input, plan) else {
             return Err(AllocError);
         };
-        workers.push_reserved(worker);
+        workers.push(worker)?;
     }
     Ok(workers)
 }
