@@ -1,5 +1,5 @@
 -- A caller's part of a worker: its next look is made.
-use Rattle.std.proofs.Common.{◌≡◌, ℕ, zero, suc, ◌+◌, ◌-◌, ◌<◌, ◌≤◌, ◌^◌, Bool, true, false, List, [], ◌∷◌, ◌++◌, Option, length, map, take, drop, drop-cons, get_or, refl, sym, ap, ◌∙◌, subst, arith}
+use Rattle.std.proofs.Common.{◌≡◌, ℕ, zero, suc, ◌+◌, ◌-◌, ◌<◌, ◌≤◌, ◌^◌, true, false, List, [], ◌∷◌, ◌++◌, Option, length, map, take, drop, drop-cons, get_or, refl, sym, ap, ◌∙◌, subst, arith}
 use Rattle.std.specs.Prelude.{All, option_map, Some, None, Result, Ok, Err, IfOk, nat_le, sum_by, if◌then◌else◌}
 use Rattle.std.specs.Option.{is_some}
 use Rattle.std.specs.Result.{result_ok}
@@ -26,23 +26,21 @@ use Rattle.net_reader.specs.Input.{Contents}
 use Rattle.net_reader.specs.Valid.{IsSearch, IsValid}
 use Rattle.region_plan.specs.Matched.{IsMatched}
 use Rattle.region_plan.specs.Plan.{PlanData, nodes_of}
-use Rattle.region_plan.specs.Settings.{setting_of}
 use Rattle.scripts.specs.Laws.{ScriptsAreValid}
 use Rattle.scripts.specs.ScriptLaws.{calls-few, finds-are}
 use Rattle.scripts.specs.Scripts.{IsSettingOf, find_of, scripts_of}
 use Rattle.station.specs.Passes.{PassData}
-use Rattle.station.specs.Plays.{visit_by}
 use Rattle.station.specs.Setup.{Setup, setting_in, subs_in}
 use Rattle.station.specs.Visits.{HasLost, HasVisited}
 use Rattle.station.specs.declared.turns.Held.{Held}
 use Rattle.trail_laws.specs.Trail.{EntriesTell, MarksTell}
 use Rattle.trail_laws.specs.Within.{HistoryFrontsAreLegal}
-use Rattle.walk.specs.LookLaws.{cell-wanted, word-wanted}
+use Rattle.walk.specs.LookLaws.{word-wanted}
 use Rattle.walk.specs.Walks.{IsWalkOver, IsWordBelow, WalkData, call_of, stage_of, walk_or_fault}
 use Rattle.walk.specs.declared.progress.Progress.TheVariants.{AtOrigin}
 use Rattle.walk.specs.declared.walk.WalkFault.{WalkFault}
 use Rattle.walk.specs.declared.walk.WalkFault.TheVariants.{NoNode, NoSubscriber}
-use Rattle.runner.specs.Playing.{HasMadeNext, looks_after, next_of}
+use Rattle.runner.specs.Playing.{HasMadeNext, looks_after}
 use Rattle.runner.specs.PlayLaws.{caller-in}
 use Rattle.runner.specs.Roles.{HasLookedOn, IsFinder, IsSetFor}
 use Rattle.runner.specs.declared.finder.Finder.{Finder}

@@ -1,6 +1,6 @@
 -- What a worker does before its first visit, and how many visits it makes at most.
-use Rattle.std.proofs.Common.{◌≡◌, ◌⊎◌, inl, inr, ℕ, ◌+◌, ◌-◌, ◌<◌, ◌≤◌, List, [], ◌∷◌, ◌++◌, length, length-append, map, take, drop, get_or, refl, sym, ap, ◌∙◌, subst, arith, Vec, Global}
-use Rattle.std.specs.Prelude.{All, Option, slice_index, sum_by}
+use Rattle.std.proofs.Common.{◌≡◌, inl, inr, ℕ, ◌<◌, ◌≤◌, List, [], ◌∷◌, length, length-append, map, take, drop, get_or, refl, sym, ap, ◌∙◌, subst, arith, Vec, Global}
+use Rattle.std.specs.Prelude.{All, sum_by}
 use Rattle.std.proofs.lemmas.Bool.{cases_lt}
 use Rattle.std.proofs.lemmas.List.{get_or-map, length-map}
 use Rattle.std.proofs.lemmas.List.Sums.{sum_by-cons}
@@ -13,16 +13,13 @@ use Rattle.directory.specs.Legal.{IsScript}
 use Rattle.directory.specs.Orders.{Caller as Seeker, Scripts, caller_at, caller_in, finds_of, steps_of}
 use Rattle.directory.specs.Statements.{CallersKept, MovesAreShort}
 use Rattle.directory.specs.Writes.{step_writes, visit_of, writes}
-use Rattle.distances.specs.Table.{DistanceTable}
 use Rattle.handset.specs.Kept.{GoesWith}
 use Rattle.handset.specs.Stands.{StandsForSteps}
 use Rattle.machine.specs.Stands.{BeginInside, BeginsInside, IsWalking}
-use Rattle.net_reader.specs.declared.input.Input.{Input}
 use Rattle.net_reader.specs.declared.said.Call.{Call}
 use Rattle.net_reader.specs.declared.said.Call.TheVariants as calls
 use Rattle.net_reader.specs.Input.{Contents}
-use Rattle.net_reader.specs.Seen.{seen_input}
-use Rattle.net_reader.specs.Valid.{IsSearch, IsValid}
+use Rattle.net_reader.specs.Valid.{IsSearch}
 use Rattle.region_plan.specs.Plan.{PlanData, nodes_of}
 use Rattle.region_plan.specs.Settings.{setting_of}
 use Rattle.scripts.specs.Laws.{ScriptsAreValid}
@@ -30,7 +27,6 @@ use Rattle.scripts.specs.ScriptLaws.{finds-are, steps-are}
 use Rattle.scripts.specs.Scripts.{find_of, most_in, most_of, scripts_of, step_of}
 use Rattle.station.specs.Setup.{Setup, setting_in}
 use Rattle.station.specs.declared.view.View.{View}
-use Rattle.runner.specs.Playing.{looks_after}
 use Rattle.runner.specs.PlayLaws.{caller-in}
 use Rattle.runner.specs.Roles.{IsFinder, IsMover, IsSetFor, MayStart}
 use Rattle.runner.specs.declared.finder.Finder.{Finder}

@@ -1,5 +1,5 @@
 -- A worker after one try, and a new one.
-use Rattle.std.proofs.Common.{◌≡◌, ◌≢◌, Bool, ℕ, suc, ◌+◌, ◌<◌, ◌≤◌, ◌^◌, false, true, [], ◌∷◌, ◌++◌, length, refl, sym, ap, ◌∙◌, subst, arith}
+use Rattle.std.proofs.Common.{◌≡◌, ◌≢◌, Bool, ℕ, suc, ◌+◌, ◌≤◌, ◌^◌, false, true, [], ◌∷◌, length, refl, sym, ap, ◌∙◌, subst, arith}
 use Rattle.std.specs.Prelude.{◌↔◌, None, Result, Ok, Err, OnOk, max}
 use Rattle.std.specs.Result.{is_err}
 use Rattle.std.specs.declared.alloc.AllocError.{AllocError}
@@ -14,7 +14,7 @@ use Rattle.net_reader.specs.Input.{Contents}
 use Rattle.region_plan.specs.Plan.{PlanData}
 use Rattle.scripts.specs.Scripts.{scripts_of}
 use Rattle.station.specs.Passes.{IsPassOf, PassData, TrackerData, actor_of}
-use Rattle.station.specs.Plays.{view_held, visit_by}
+use Rattle.station.specs.Plays.{visit_by}
 use Rattle.station.specs.Setup.{Setup, setting_in}
 use Rattle.station.specs.Visits.{HasLost, HasVisited, IsSamePass}
 use Rattle.station.specs.Views.{turn_at}

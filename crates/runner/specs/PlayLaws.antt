@@ -1,13 +1,13 @@
 -- Short laws of visits that are each their actor's next one.
 -- Key laws: `next-in` and `played-in` (a history with more visits of others alone), `played-next`
 -- (a pass that has made its next visit), `all-played` (all actors together).
-use Rattle.std.proofs.Common.{◌≡◌, ◌≢◌, ◌⊎◌, inl, inr, ℕ, zero, suc, ◌+◌, ◌<◌, ◌≤◌, ◌==◌, eq-eqb, ne_eqb, cond, List, [], ◌∷◌, ◌++◌, length, take, drop, refl, sym, ap, ◌∙◌, subst, arith, append_assoc}
+use Rattle.std.proofs.Common.{◌≡◌, ◌≢◌, ◌⊎◌, inl, inr, ℕ, zero, suc, ◌+◌, ◌<◌, eq-eqb, ne_eqb, cond, List, [], ◌∷◌, ◌++◌, length, take, drop, refl, sym, ap, ◌∙◌, subst, arith, append_assoc}
 use Rattle.std.specs.Prelude.{Some, slice_get, option_map, if◌then◌else◌}
 use Rattle.std.proofs.lemmas.List.{append-nil, take_all, take-append-le}
 use Rattle.entry_word.specs.declared.visit.Act.{Act}
 use Rattle.entry_word.specs.declared.visit.Visit.{Visit}
 use Rattle.directory.specs.Settings.{Setting, is_sub}
-use Rattle.directory.specs.Histories.{History, IsFront, before, own}
+use Rattle.directory.specs.Histories.{History, IsFront, own}
 use Rattle.directory.specs.Looks.{look_by}
 use Rattle.directory.specs.Orders.{IsPlayed, Scripts, caller_in, next, next_key, script_visits}
 use Rattle.directory.specs.Statements.{CallersKept}
@@ -18,7 +18,7 @@ use Rattle.station.specs.Plays.{visit_by}
 use Rattle.station.specs.Setup.{Setup, setting_in}
 use Rattle.station.specs.TicketLaws.{front-rest, own-append, own-beyond, own-nil}
 use Rattle.station.specs.Visits.{HasVisited}
-use Rattle.runner.specs.Playing.{HasMadeNext, IsPlayedBy, next_of}
+use Rattle.runner.specs.Playing.{HasMadeNext, IsPlayedBy}
 
 -- where an actor has no visit, none at any place is one
 pub own-none : (actor : ℕ) (xs : History) (i : ℕ) (visit : Visit) → own actor xs ≡ []

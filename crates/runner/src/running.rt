@@ -166,11 +166,16 @@ fn play_all<R: Threads + Sync, G: Gate>(
         → AreWorkersOf input tracker.now workers.old → AreWorkersOf input tracker.now workers.new }
 {
     let threads = workers.len();
-    thread::for_each_mut(rt, workers, threads, &|_, worker: &mut Worker|
-        requires { (input : Contents) × MayPlay input tracker.now plan.now distances.now worker.old }
-        ensures { (input : Contents) → MayPlay input tracker.entry.now plan.entry.now distances.entry.now worker.old
-            → IsWorkerOf input tracker.entry.now worker.new × (actor_of worker.new.pass ≡ actor_of worker.old.pass) }
-    {
-        let _ = worker.play(tracker, plan, distances, gate, tries);
-    });
+    thread::for_each_mut(
+        rt,
+        workers,
+        threads,
+        &|_, worker: &mut Worker|
+            requires { (input : Contents) × MayPlay input tracker.now plan.now distances.now worker.old }
+            ensures { (input : Contents) → MayPlay input tracker.entry.now plan.entry.now distances.entry.now worker.old
+                → IsWorkerOf input tracker.entry.now worker.new × (actor_of worker.new.pass ≡ actor_of worker.old.pass) }
+        {
+            let _ = worker.play(tracker, plan, distances, gate, tries);
+        },
+    );
 }

@@ -138,7 +138,11 @@ impl Worker {
         if !gate.may_go(self.pass.actor(), self.made) {
             return Attempt::Kept;
         }
-        if self.role.visit(tracker, &mut self.pass, plan, distances).is_err() {
+        if self
+            .role
+            .visit(tracker, &mut self.pass, plan, distances)
+            .is_err()
+        {
             return Attempt::Held;
         }
         self.made += 1;
@@ -148,12 +152,7 @@ impl Worker {
 }
 
 // What the worker of an actor does, and the most visits that it makes.
-fn role_of(
-    alloc: Global,
-    actor: u32,
-    input: &Input,
-    plan: &Plan,
-) -> Result<(Role, u64), AllocError>
+fn role_of(alloc: Global, actor: u32, input: &Input, plan: &Plan) -> Result<(Role, u64), AllocError>
     requires may { MayStart (seen_input input.now) plan.now actor }
     ensures role { IfOk result
         (λ made. IsRoleAt (seen_input input.now) plan.now actor made.1 made.0) }

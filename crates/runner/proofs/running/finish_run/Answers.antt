@@ -1,5 +1,5 @@
 use Rattle.std.proofs.Common.{◌≡◌, List, subst, ap, ◌∙◌}
-use Rattle.directory.specs.Outcomes.{Outcome, outcome_of, result_of}
+use Rattle.directory.specs.Outcomes.{outcome_of, result_of}
 use Rattle.machine.specs.Stands.{setting_over}
 use Rattle.net_reader.specs.Seen.{seen_input}
 use Rattle.scripts.specs.Scripts.{scripts_of}

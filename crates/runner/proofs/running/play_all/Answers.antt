@@ -1,8 +1,6 @@
 use Rattle.std.proofs.Common.{◌<◌, get_or, length, subst, sym, ap, ◌∙◌, arith}
 use Rattle.std.specs.Prelude.{Some}
-use Rattle.station.specs.Passes.{actor_of}
 use Rattle.runner.specs.Workers.{IsWorkerOf}
-use Rattle.runner.specs.declared.worker.Worker.{Worker}
 use Rattle.runner.proofs.Finishing.{at-some, changed, some-at}
 use Rattle.runner.proofs.running.play_all.Goals as goal
 

@@ -1,6 +1,5 @@
-use Rattle.std.proofs.Common.{◌≡◌, ◌+◌, length, subst, sym, ap, ◌∙◌, arith}
+use Rattle.std.proofs.Common.{length, subst, sym, ap, ◌∙◌, arith}
 use Rattle.net_reader.specs.Seen.{seen_input}
-use Rattle.runner.specs.Roles.{IsSetFor}
 use Rattle.runner.specs.Runs.{AreWorkersOf}
 use Rattle.runner.proofs.Finishing.{new-set, put-back}
 use Rattle.runner.proofs.running.run_workers.Goals as goal

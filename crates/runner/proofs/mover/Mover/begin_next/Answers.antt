@@ -1,13 +1,6 @@
-use Rattle.std.proofs.Common.{◌≡◌, [], ◌∷◌, ◌++◌, length, subst, sym, ap, ◌∙◌, arith, refl}
-use Rattle.std.specs.Prelude.{slice_get}
+use Rattle.std.proofs.Common.{length, subst, sym, ◌∙◌, arith, refl}
 use Rattle.directory.specs.Histories.{puts_to}
-use Rattle.directory.specs.Writes.{visits}
-use Rattle.handset.specs.Kept.{GoesWith}
-use Rattle.handset.specs.Stands.{StandsForSteps}
 use Rattle.machine.specs.Subscribers.{MayBegin}
-use Rattle.region_plan.specs.Settings.{setting_of}
-use Rattle.scripts.specs.Scripts.{step_of}
-use Rattle.net_reader.specs.declared.said.Call.TheVariants as calls
 use Rattle.runner.proofs.Moving.{all-begun, begun-now, none-is, ready, still-due}
 use Rattle.runner.proofs.mover.Mover.begin_next.Goals as goal
 

@@ -1,4 +1,4 @@
-use Rattle.std.proofs.Common.{refl, sym, ◌∙◌, ◌+◌, arith}
+use Rattle.std.proofs.Common.{refl, sym, ◌∙◌, arith}
 use Rattle.runner.proofs.Working.{gone-held, gone-made, tries-lost, tries-made}
 use Rattle.runner.proofs.worker.Worker.attempt.Goals as goal
 
