@@ -2,7 +2,7 @@
 -- actor's next one, in the history before its ticket, and the pass has room for all that are left.
 -- A play adds such visits at the end and nothing else, and each turn that it loses is counted.
 -- Key laws: `Worker::new` (a fresh pass of an actor), `Worker::play` (by its clauses `played` and
--- `open`).
+-- `closed`).
 use Rattle.std.specs.Prelude.{◌≡◌, ◌≢◌, ℕ, ◌+◌, ◌^◌, ◌<◌, ◌≤◌, [], None, length}
 use Rattle.distances.specs.Table.{DistanceTable}
 use Rattle.directory.specs.Histories.{IsFront, own, puts_to}
