@@ -1,0 +1,463 @@
+-- A caller's part of a worker: its next look is made.
+use Rattle.std.proofs.Common.{◌≡◌, ℕ, zero, suc, ◌+◌, ◌-◌, ◌<◌, ◌≤◌, ◌^◌, true, false, List, [], ◌∷◌, ◌++◌, Option, length, map, take, drop, drop-cons, get_or, refl, sym, ap, ◌∙◌, subst, arith}
+use Rattle.std.specs.Prelude.{All, option_map, Some, None, Result, Ok, Err, IfOk, nat_le, sum_by, if◌then◌else◌}
+use Rattle.std.specs.Option.{is_some}
+use Rattle.std.specs.Result.{result_ok}
+use Rattle.std.proofs.lemmas.Bool.Decides.{nat_tests}
+use Rattle.std.proofs.lemmas.List.{get_or-map, length-map, length-drop, take_all, take-append-le}
+use Rattle.std.proofs.lemmas.List.Sums.{sum_by-cons}
+use Rattle.entry_word.specs.declared.visit.Key.{Key}
+use Rattle.entry_word.specs.declared.visit.Act.{Act}
+use Rattle.entry_word.specs.declared.visit.Act.TheVariants.{Look}
+use Rattle.directory.specs.Settings.{Setting}
+use Rattle.directory.specs.Finds.{FindCall, Stage, after_word, answer_of, at_origin, chases, climbs, ended, key_of, looks_left, most_looks}
+use Rattle.directory.specs.Histories.{History, before, cell}
+use Rattle.directory.specs.Legal.{IsLegal}
+use Rattle.directory.specs.Looks.{look_by}
+use Rattle.directory.specs.HistoryLaws.{next-caller}
+use Rattle.directory.specs.Orders.{AreValid, Caller as Seeker, IsFindCall, after_read, caller_in, finds_of, key_in, next, next_key, read_by, with_stage}
+use Rattle.directory.specs.Statements.{CallersKept, CallersRead, LooksFall}
+use Rattle.directory.specs.declared.answers.Found.{Found}
+use Rattle.distances.specs.Table.{DistanceTable}
+use Rattle.machine.specs.Stands.{IsWalking}
+use Rattle.net_reader.specs.declared.said.Call.{Call}
+use Rattle.net_reader.specs.declared.said.Call.TheVariants as calls
+use Rattle.net_reader.specs.Input.{Contents}
+use Rattle.net_reader.specs.Valid.{IsSearch, IsValid}
+use Rattle.region_plan.specs.Matched.{IsMatched}
+use Rattle.region_plan.specs.Plan.{PlanData, nodes_of}
+use Rattle.scripts.specs.Laws.{ScriptsAreValid}
+use Rattle.scripts.specs.ScriptLaws.{calls-few, finds-are}
+use Rattle.scripts.specs.Scripts.{IsSettingOf, find_of, scripts_of}
+use Rattle.station.specs.Passes.{PassData}
+use Rattle.station.specs.Setup.{Setup, setting_in, subs_in}
+use Rattle.station.specs.Visits.{HasLost, HasVisited}
+use Rattle.station.specs.declared.turns.Held.{Held}
+use Rattle.trail_laws.specs.Trail.{EntriesTell, MarksTell}
+use Rattle.trail_laws.specs.Within.{HistoryFrontsAreLegal}
+use Rattle.walk.specs.LookLaws.{word-wanted}
+use Rattle.walk.specs.Walks.{IsWalkOver, IsWordBelow, WalkData, call_of, stage_of, walk_or_fault}
+use Rattle.walk.specs.declared.progress.Progress.TheVariants.{AtOrigin}
+use Rattle.walk.specs.declared.walk.WalkFault.{WalkFault}
+use Rattle.walk.specs.declared.walk.WalkFault.TheVariants.{NoNode, NoSubscriber}
+use Rattle.runner.specs.Playing.{HasMadeNext, looks_after}
+use Rattle.runner.specs.PlayLaws.{caller-in}
+use Rattle.runner.specs.Roles.{HasLookedOn, IsFinder, IsSetFor}
+use Rattle.runner.specs.declared.finder.Finder.{Finder}
+
+-- the walk of the find that a caller is at
+pub record Walks (plan : PlanData) (finds : List FindCall) (stage : Stage) (walk : WalkData) : Type 0 where
+  pub call : FindCall
+  pub later : List FindCall
+  pub calls_are : finds ≡ call ∷ later
+  pub its : call_of walk ≡ call
+  pub so_far : stage_of plan walk ≡ stage
+  pub goes : IsWalkOver plan walk
+  pub unanswered : answer_of stage ≡ None
+
+walking : (plan : PlanData) (finds : List FindCall) (stage : Stage) (held : Option WalkData) (walk : WalkData)
+    → held ≡ Some walk → IsWalking plan finds stage held → Walks plan finds stage walk
+walking plan [] stage None walk same h = cc
+walking plan (call ∷ later) stage None walk same h = cc
+walking plan [] stage (Some other) walk same h = absurd h
+walking plan (call ∷ later) stage (Some other) walk same h =
+    let e : other ≡ walk = cc in
+    record {
+      call = call;
+      later = later;
+      calls_are = refl;
+      its = subst (λ w. call_of w ≡ call) e h.0;
+      so_far = subst (λ w. stage_of plan w ≡ stage) e h.1;
+      goes = subst (IsWalkOver plan) e h.2;
+      unanswered = h.3;
+    }
+
+-- the walk of a caller's part
+pub walking-of : (input : Contents) (setup : Setup) (actor : ℕ) (seen : History) (spare : ℕ) (finder : Finder)
+    (walk : WalkData) → IsFinder input setup actor seen spare finder → finder.walk ≡ Some walk
+    → Walks setup.plan (caller_in (setting_in setup) (scripts_of input) seen actor).calls
+    (caller_in (setting_in setup) (scripts_of input) seen actor).stage walk
+walking-of input setup actor seen spare finder walk its some =
+    walking setup.plan (caller_in (setting_in setup) (scripts_of input) seen actor).calls
+    (caller_in (setting_in setup) (scripts_of input) seen actor).stage finder.walk walk some its.walk
+
+idle-done : (plan : PlanData) (finds : List FindCall) (stage : Stage) (held : Option WalkData) → held ≡ None
+    → IsWalking plan finds stage held → key_in finds stage ≡ None
+idle-done plan [] stage held same h = refl
+idle-done plan (call ∷ later) stage None same h = absurd h
+idle-done plan (call ∷ later) stage (Some walk) same h = cc
+
+-- what an option holds, by its test
+pub some-is : {A : Type 0} (o : Option A) → is_some o ≡ true → (x : A) × (o ≡ Some x)
+some-is None h = cc
+some-is (Some x) h = (x, refl)
+
+pub none-is : {A : Type 0} (o : Option A) → is_some o ≡ false → o ≡ None
+none-is None h = refl
+none-is (Some x) h = cc
+
+-- a find that has no answer looks at some cell next
+key-some : (call : FindCall) (stage : Stage) → answer_of stage ≡ None → (key : Key) × (key_of call stage ≡ Some key)
+key-some call at_origin none = (_, refl)
+key-some call (climbs known weight reader later) none = (_, refl)
+key-some call (chases chase node) none = (_, refl)
+key-some call (ended found) none = cc
+
+-- without a walk the caller is done
+pub walk-none : (input : Contents) (setup : Setup) (actor : ℕ) (seen : History) (spare : ℕ) (finder : Finder)
+    → setup.homes ≡ input.homes → IsFinder input setup actor seen spare finder → finder.walk ≡ None
+    → next (setting_in setup) (scripts_of input) seen actor ≡ None
+walk-none input setup actor seen spare finder homes its none =
+    let setting = setting_in setup in
+    let seeker = caller_in setting (scripts_of input) seen actor in
+    let idle : next_key seeker ≡ None = idle-done setup.plan seeker.calls seeker.stage finder.walk none its.walk in
+    next-caller setting (scripts_of input) seen actor (omega (arith, its.high, ap length homes))
+    ∙ ap (λ o. option_map (look_by actor) o) idle
+
+-- with one it looks at a cell next
+pub walk-some : (input : Contents) (setup : Setup) (actor : ℕ) (seen : History) (spare : ℕ) (finder : Finder)
+    (walk : WalkData) → setup.homes ≡ input.homes → IsFinder input setup actor seen spare finder
+    → finder.walk ≡ Some walk
+    → (key : Key) × (key_of (call_of walk) (stage_of setup.plan walk) ≡ Some key)
+    × (next (setting_in setup) (scripts_of input) seen actor ≡ Some (look_by actor key))
+walk-some input setup actor seen spare finder walk homes its some =
+    let setting = setting_in setup in
+    let seeker = caller_in setting (scripts_of input) seen actor in
+    let at = walking setup.plan seeker.calls seeker.stage finder.walk walk some its.walk in
+    let found = key-some at.call seeker.stage at.unanswered in
+    let wants : key_of (call_of walk) (stage_of setup.plan walk) ≡ Some found.0 =
+    ap (λ s. key_of (call_of walk) s) at.so_far ∙ (ap (λ c. key_of c seeker.stage) at.its ∙ found.1) in
+    let is_next : next_key seeker ≡ Some found.0 = ap (λ cs. key_in cs seeker.stage) at.calls_are ∙ found.1 in (
+      found.0,
+      wants,
+      next-caller setting (scripts_of input) seen actor (omega (arith, its.high, ap length homes))
+          ∙ ap (λ o. option_map (look_by actor) o) is_next,
+    )
+
+-- a caller that has read one word more
+read-on : (setting : Setting) (seeker : Seeker) (call : FindCall) (later : List FindCall) (word : ℕ)
+    (answer : Option Found) → seeker.calls ≡ call ∷ later
+    → answer_of (after_word setting call seeker.stage word) ≡ answer
+    → after_read setting seeker word
+    ≡ with_stage seeker call later (after_word setting call seeker.stage word) answer
+read-on setting seeker call later word answer same ends =
+    ap (λ cs. read_by setting seeker cs word) same
+    ∙ ap (with_stage seeker call later (after_word setting call seeker.stage word)) ends
+
+-- the calls that are left are the last of the script
+pub drop-more : {A : Type 0} (n : ℕ) (xs : List A) (x : A) (later : List A) → x ∷ later ≡ drop n xs
+    → (n < length xs) × (later ≡ drop (suc n) xs) × ((d : A) → get_or xs n d ≡ x)
+drop-more zero [] x later h = cc
+drop-more (suc n) [] x later h = cc
+drop-more zero (y ∷ ys) x later h =
+    let e : x ≡ y = cc in let f : later ≡ ys = cc in (omega arith, f, λ d. sym e)
+drop-more (suc n) (y ∷ ys) x later h =
+    let deep = drop-more n ys x later h in (omega (arith, deep.0), deep.1, deep.2)
+
+-- the walk of the find at a place of a script
+pub walk-at : (plan : PlanData) (script : List Call) (place count from sub : ℕ) (made : Result WalkData WalkFault)
+    (held : Option WalkData) → place < length script → ((d : Call) → calls.Find from sub ≡ get_or script place d)
+    → All (IsSearch (nodes_of plan) count) script → made ≡ walk_or_fault plan from sub count
+    → IfOk made (IsWalkOver plan) → held ≡ result_ok made
+    → IsWalking plan (drop place (map find_of script)) at_origin held
+walk-at plan script place count from sub made held low here searches answer goes same =
+    let its : IsSearch (nodes_of plan) count (calls.Find from sub) =
+    subst (IsSearch (nodes_of plan) count) (sym (here (calls.Find from sub)))
+    (searches place (calls.Find from sub) low) in
+    let inside : nat_le (nodes_of plan) from ≡ false = grind (arith, nat_tests, its.0) in
+    let known : nat_le count sub ≡ false = grind (arith, nat_tests, its.1) in
+    let fine : made ≡ Ok (record { from = from; sub = sub; progress = AtOrigin }) = answer
+    ∙ (ap (λ b. if b then Err NoNode else if nat_le count sub then Err NoSubscriber
+    else Ok (record { from = from; sub = sub; progress = AtOrigin })) inside
+    ∙ ap (λ b. if b then Err NoSubscriber else Ok (record { from = from; sub = sub; progress = AtOrigin })) known) in
+    let there : drop place (map find_of script)
+    ≡ (record { from = from; sub = sub }) ∷ drop (suc place) (map find_of script) =
+    drop-cons (map find_of script) place (record { from = from; sub = sub })
+    (omega (arith, low, length-map script find_of))
+    ∙ ap (λ x. x ∷ drop (suc place) (map find_of script))
+    (get_or-map find_of script place (calls.Find from sub) (record { from = from; sub = sub }) low
+    ∙ ap find_of (sym (here (calls.Find from sub)))) in
+    let goes_on : IsWalkOver plan (record { from = from; sub = sub; progress = AtOrigin }) =
+    subst (λ r. IfOk r (IsWalkOver plan)) fine goes in
+    let is_held : held ≡ Some (record { from = from; sub = sub; progress = AtOrigin }) = same ∙ ap result_ok fine in
+    subst (λ cs. IsWalking plan cs at_origin held) (sym there)
+    (subst (IsWalking plan (record { from = from; sub = sub } ∷ drop (suc place) (map find_of script)) at_origin)
+    (sym is_held)
+    (refl, refl, goes_on, refl))
+
+-- the setting of a tracker is one of the input that it is set for
+pub set-setting : (input : Contents) (setup : Setup) (plan : PlanData) (distances : DistanceTable)
+    → IsSetFor input setup plan distances → IsSettingOf input (setting_in setup)
+set-setting input setup plan distances set = record {
+  nodes = subst (λ (p : PlanData). nodes_of p ≡ input.nodes) set.plan_is set.together.nodes;
+  starts = set.homes;
+}
+
+-- the find that a caller is at is one of its script
+call-known : (input : Contents) (setup : Setup) (actor n : ℕ) (call : FindCall) (later : List FindCall)
+    → AreValid (setting_in setup) (scripts_of input) → setup.homes ≡ input.homes → length input.homes ≤ actor
+    → actor < length input.scripts → call ∷ later ≡ drop n (finds_of (setting_in setup) (scripts_of input) actor)
+    → IsFindCall (setting_in setup) call
+call-known input setup actor n call later valid homes high low left =
+    let at = drop-more n (finds_of (setting_in setup) (scripts_of input) actor) call later left in
+    let short : actor - subs_in setup < length (scripts_of input).finds =
+    omega (
+      arith,
+      high,
+      low,
+      ap length homes,
+      length-map (drop (length input.homes) input.scripts) (map find_of),
+      length-drop (length input.homes) input.scripts,
+    ) in
+    subst (IsFindCall (setting_in setup)) (at.2 call) (valid.finds (actor - subs_in setup) [] short n call at.0)
+
+-- so its subscriber is known
+pub walk-known : ScriptsAreValid → (input : Contents) (setup : Setup) (plan : PlanData) (distances : DistanceTable)
+    (actor : ℕ) (seen : History) (spare : ℕ) (finder : Finder) (walk : WalkData)
+    → IsSetFor input setup plan distances → IsFinder input setup actor seen spare finder → finder.walk ≡ Some walk
+    → walk.sub < subs_in setup
+walk-known scripts input setup plan distances actor seen spare finder walk set its some =
+    let setting = setting_in setup in
+    let seeker = caller_in setting (scripts_of input) seen actor in
+    let at = walking setup.plan seeker.calls seeker.stage finder.walk walk some its.walk in
+    let valid = scripts input setting set.together.valid (set-setting input setup plan distances set) in
+    let known = call-known input setup actor finder.done at.call at.later valid set.homes its.high its.low
+    (sym at.calls_are ∙ its.left) in
+    subst (λ (c : FindCall). c.sub < subs_in setup) (sym at.its) known.known
+
+-- the looks that are left of a find without an answer are some
+left-some : (setting : Setting) (call : FindCall) (stage : Stage) → answer_of stage ≡ None
+    → 1 ≤ looks_left setting call stage
+left-some setting call at_origin none = omega arith
+left-some setting call (climbs known weight reader later) none = omega arith
+left-some setting call (chases chase node) none = omega arith
+left-some setting call (ended found) none = cc
+
+-- so there is room for one
+pub look-room : (input : Contents) (setup : Setup) (actor : ℕ) (seen : History) (spare : ℕ) (finder : Finder)
+    (walk : WalkData) → IsFinder input setup actor seen spare finder → finder.walk ≡ Some walk → 1 ≤ spare
+look-room input setup actor seen spare finder walk its some =
+    let setting = setting_in setup in
+    let seeker = caller_in setting (scripts_of input) seen actor in
+    let at = walking setup.plan seeker.calls seeker.stage finder.walk walk some its.walk in
+    omega (
+      arith,
+      left-some setting at.call seeker.stage at.unanswered,
+      its.room,
+      ap (λ cs. looks_after setting cs seeker.stage) at.calls_are,
+    )
+
+-- the finds of a caller's script begin within the plan
+pub script-searches : (input : Contents) (plan : PlanData) (actor : ℕ) (script : List Call) (count : ℕ)
+    → IsValid input → nodes_of plan ≡ input.nodes → length input.homes ≤ actor → actor < length input.scripts
+    → script ≡ get_or input.scripts actor [] → count ≡ length input.homes
+    → All (IsSearch (nodes_of plan) count) script
+script-searches input plan actor script count valid nodes high low same few =
+    subst (λ n. All (IsSearch n count) script) (sym nodes)
+    (subst (λ n. All (IsSearch input.nodes n) script) (sym few)
+    (subst (λ s. All (IsSearch input.nodes (length input.homes)) s) (sym same)
+    (valid.searches actor high low)))
+
+-- the looks that are left before a first look
+pub looks-origin : (setting : Setting) (finds : List FindCall)
+    → looks_after setting finds at_origin ≡ sum_by (λ (find : FindCall). most_looks setting find.from) finds
+looks-origin setting [] = refl
+looks-origin setting (call ∷ later) = sym (sum_by-cons (λ (find : FindCall). most_looks setting find.from) call later)
+
+pub room-of : (setting : Setting) (spare : ℕ) (one two : List FindCall) (stage other : Stage) → one ≡ two → stage ≡ other
+    → looks_after setting two other ≤ spare → looks_after setting one stage ≤ spare
+room-of setting spare one two stage other e f room =
+    subst (λ finds. looks_after setting finds stage ≤ spare) (sym e)
+    (subst (λ s. looks_after setting two s ≤ spare) (sym f) room)
+
+-- a caller that has a walk has done fewer finds than its script has, and these are few
+pub done-low : (input : Contents) (setup : Setup) (actor : ℕ) (seen : History) (spare : ℕ) (finder : Finder)
+    (walk : WalkData) → IsValid input → setup.homes ≡ input.homes → IsFinder input setup actor seen spare finder
+    → finder.walk ≡ Some walk → finder.done < 2 ^ 32 - 1
+done-low input setup actor seen spare finder walk valid homes its some =
+    let setting = setting_in setup in
+    let seeker = caller_in setting (scripts_of input) seen actor in
+    let at = walking setup.plan seeker.calls seeker.stage finder.walk walk some its.walk in
+    let more = drop-more finder.done (finds_of setting (scripts_of input) actor) at.call at.later
+    (sym at.calls_are ∙ its.left) in
+    omega (
+      arith,
+      more.0,
+      ap length (finds-are input setting actor homes its.high its.low),
+      length-map (get_or input.scripts actor []) find_of,
+      calls-few input actor valid,
+    )
+
+-- what is known once a caller has looked
+pub record Looked (input : Contents) (setup : Setup) (old new : PassData) (finder : Finder)
+    (moved : WalkData) : Type 0 where
+  pub made : HasMadeNext input setup old new
+  pub call : FindCall
+  pub later : List FindCall
+  pub stage : Stage
+  pub word : ℕ
+  pub left : call ∷ later ≡ drop finder.done (finds_of (setting_in setup) (scripts_of input) old.view.low)
+  pub its : call_of moved ≡ call
+  pub stage_is : stage_of setup.plan moved ≡ stage
+  pub goes : IsWalkOver setup.plan moved
+  pub is : (answer : Option Found) → answer_of stage ≡ answer
+      → caller_in (setting_in setup) (scripts_of input) new.view.seen old.view.low
+      ≡ with_stage (caller_in (setting_in setup) (scripts_of input) old.view.seen old.view.low) call later stage
+      answer
+  pub unanswered : (caller_in (setting_in setup) (scripts_of input) old.view.seen old.view.low).calls ≡ call ∷ later
+  pub fewer : looks_left (setting_in setup) call stage
+      + sum_by (λ (find : FindCall). most_looks (setting_in setup) find.from) later < old.spare
+
+pub looked : CallersKept → CallersRead → LooksFall → (input : Contents) (setup : Setup) (old new : PassData)
+    (finder : Finder) (walk moved : WalkData) → setup.homes ≡ input.homes
+    → IsFinder input setup old.view.low old.view.seen old.spare finder → finder.walk ≡ Some walk
+    → HasLookedOn setup old walk new moved → Looked input setup old new finder moved
+looked kept read fall input setup old new finder walk moved homes its some on =
+    let setting = setting_in setup in
+    let scripts = scripts_of input in
+    let actor = old.view.low in
+    let seeker = caller_in setting scripts old.view.seen actor in
+    let at = walking setup.plan seeker.calls seeker.stage finder.walk walk some its.walk in
+    let visited : HasVisited old (Look on.key) on.ticket new = on.visited in
+    let front : before on.ticket new.view.seen ≡ visited.earlier =
+    ap (take on.ticket) visited.seen
+    ∙ (ap (λ t. take t (visited.earlier ++ look_by actor on.key ∷ [])) (sym visited.count)
+    ∙ (take-append-le (length visited.earlier) visited.earlier (look_by actor on.key ∷ []) (omega arith)
+    ∙ take_all (length visited.earlier) visited.earlier (omega arith))) in
+    let word = cell setting visited.earlier on.key in
+    let stage = after_word setting at.call seeker.stage word in
+    let key : key_of at.call seeker.stage ≡ Some on.key =
+    ap (λ c. key_of c seeker.stage) (sym at.its) ∙ (ap (key_of (call_of walk)) (sym at.so_far) ∙ on.wanted) in
+    let reads : caller_in setting scripts new.view.seen actor ≡ after_read setting seeker word =
+    ap (λ h. caller_in setting scripts h actor) visited.seen
+    ∙ (read setting scripts visited.earlier actor on.key
+    ∙ ap (λ c. after_read setting c word)
+    (caller-in kept setting scripts actor old.view.seen visited.earlier visited.begins visited.visits)) in
+    record {
+      made = record {
+        act = Look on.key;
+        ticket = on.ticket;
+        visited = visited;
+        is_next = next-caller setting scripts old.view.seen actor (omega (arith, its.high, ap length homes))
+            ∙ ap (λ o. option_map (look_by actor) o)
+            (ap (λ cs. key_in cs seeker.stage) at.calls_are ∙ key);
+      };
+      call = at.call;
+      later = at.later;
+      stage = stage;
+      word = word;
+      left = sym at.calls_are ∙ its.left;
+      its = on.call ∙ at.its;
+      stage_is = on.stage
+          ∙ (ap (λ h. after_word setting (call_of walk) (stage_of setup.plan walk) (cell setting h on.key)) front
+          ∙ (ap (λ s. after_word setting (call_of walk) s word) at.so_far
+          ∙ ap (λ c. after_word setting c seeker.stage word) at.its));
+      goes = on.goes;
+      is = λ answer ends. reads ∙ read-on setting seeker at.call at.later word answer at.calls_are ends;
+      unanswered = at.calls_are;
+      fewer = omega (
+        arith,
+        fall setting at.call seeker.stage word on.key key,
+        its.room,
+        ap (λ cs. looks_after setting cs seeker.stage) at.calls_are,
+      );
+    }
+
+-- the find goes on
+pub looked-on : (input : Contents) (setup : Setup) (old new : PassData) (first last : Finder)
+    (moved : WalkData) → IsFinder input setup old.view.low old.view.seen old.spare first
+    → Looked input setup old new first moved → answer_of (stage_of setup.plan moved) ≡ None
+    → last.script.items ≡ first.script.items → last.subs ≡ first.subs → last.done ≡ first.done
+    → last.walk ≡ Some moved
+    → IsFinder input setup new.view.low new.view.seen new.spare last
+looked-on input setup old new first last moved its at none script subs done walk =
+    let setting = setting_in setup in
+    let scripts = scripts_of input in
+    let visited = at.made.visited in
+    let unanswered : answer_of at.stage ≡ None = ap answer_of (sym at.stage_is) ∙ none in
+    let is = at.is None unanswered in
+    let finds : (caller_in setting scripts new.view.seen old.view.low).calls ≡ at.call ∷ at.later =
+    ap (λ (s : Seeker). s.calls) is ∙ at.unanswered in
+    let stage : (caller_in setting scripts new.view.seen old.view.low).stage ≡ at.stage =
+    ap (λ (s : Seeker). s.stage) is in
+    subst (λ a. IsFinder input setup a new.view.seen new.spare last) (sym visited.same.actor)
+    (record {
+      high = its.high;
+      low = its.low;
+      script = script ∙ its.script;
+      subs = subs ∙ its.subs;
+      walk = subst (λ cs. IsWalking setup.plan cs (caller_in setting scripts new.view.seen old.view.low).stage last.walk)
+          (sym finds)
+          (subst (λ s. IsWalking setup.plan (at.call ∷ at.later) s last.walk) (sym stage)
+          (subst (IsWalking setup.plan (at.call ∷ at.later) at.stage) (sym walk)
+          (at.its, at.stage_is, at.goes, unanswered)));
+      left = finds ∙ (at.left ∙ ap (λ n. drop n (finds_of setting scripts old.view.low)) (sym done));
+      room = room-of setting new.spare _ _ _ _ finds stage (omega (arith, at.fewer, visited.spare));
+    })
+
+-- the find has its answer, and the next one begins
+pub looked-up : (input : Contents) (setup : Setup) (old new : PassData) (first last : Finder)
+    (moved : WalkData) (found : Found) → IsFinder input setup old.view.low old.view.seen old.spare first
+    → Looked input setup old new first moved → answer_of (stage_of setup.plan moved) ≡ Some found
+    → last.script.items ≡ first.script.items → last.subs ≡ first.subs → last.done ≡ suc first.done
+    → IsWalking setup.plan (drop last.done (map find_of first.script.items)) at_origin last.walk
+    → setup.homes ≡ input.homes
+    → IsFinder input setup new.view.low new.view.seen new.spare last
+looked-up input setup old new first last moved found its at some script subs done walk homes =
+    let setting = setting_in setup in
+    let scripts = scripts_of input in
+    let visited = at.made.visited in
+    let is = at.is (Some found) (ap answer_of (sym at.stage_is) ∙ some) in
+    let finds : (caller_in setting scripts new.view.seen old.view.low).calls ≡ at.later =
+    ap (λ (s : Seeker). s.calls) is in
+    let stage : (caller_in setting scripts new.view.seen old.view.low).stage ≡ at_origin =
+    ap (λ (s : Seeker). s.stage) is in
+    let more = drop-more first.done (finds_of setting scripts old.view.low) at.call at.later at.left in
+    let later : at.later ≡ drop last.done (finds_of setting scripts old.view.low) =
+    more.1 ∙ ap (λ n. drop n (finds_of setting scripts old.view.low)) (sym done) in
+    let all : map find_of first.script.items ≡ finds_of setting scripts old.view.low =
+    ap (map find_of) its.script ∙ sym (finds-are input setting old.view.low homes its.high its.low) in
+    subst (λ a. IsFinder input setup a new.view.seen new.spare last) (sym visited.same.actor)
+    (record {
+      high = its.high;
+      low = its.low;
+      script = script ∙ its.script;
+      subs = subs ∙ its.subs;
+      walk = subst (λ cs. IsWalking setup.plan cs (caller_in setting scripts new.view.seen old.view.low).stage last.walk)
+          (sym (finds ∙ (later ∙ ap (drop last.done) (sym all))))
+          (subst (λ s. IsWalking setup.plan (drop last.done (map find_of first.script.items)) s last.walk)
+          (sym stage) walk);
+      left = finds ∙ later;
+      room = room-of setting new.spare _ _ _ _ finds stage
+          (omega (arith, at.fewer, visited.spare, looks-origin setting at.later));
+    })
+
+-- a turn is lost
+pub finder-held : (input : Contents) (setup : Setup) (old new : PassData) (place : ℕ) (held : Held)
+    (first last : Finder) → HasLost old place held new
+    → IsFinder input setup old.view.low old.view.seen old.spare first → last ≡ first
+    → IsFinder input setup new.view.low new.view.seen new.spare last
+finder-held input setup old new place held first last lost its same =
+    subst (λ (p : PassData). IsFinder input setup p.view.low p.view.seen p.spare last) (sym lost.turn)
+    (subst (IsFinder input setup old.view.low old.view.seen old.spare) (sym same) its)
+
+-- the word of a look names nodes of the plan
+pub word-seen : MarksTell → EntriesTell → HistoryFrontsAreLegal → (setup : Setup) (plan : PlanData)
+    (old new : PassData) (act : Act) (ticket word : ℕ) (walk : WalkData) (key : Key) → plan ≡ setup.plan
+    → IsMatched plan → old.view.setup ≡ setup → HasVisited old act ticket new
+    → word ≡ cell (setting_in setup) (before ticket new.view.seen) key → walk.sub < subs_in setup
+    → IsWalkOver setup.plan walk → key_of (call_of walk) (stage_of setup.plan walk) ≡ Some key
+    → IsWordBelow (nodes_of plan) walk.progress word
+word-seen marks entries fronts setup plan old new act ticket word walk key same matched told visited reads known goes
+    wanted =
+    let matched_there : IsMatched setup.plan = subst IsMatched same matched in
+    let small : nodes_of setup.plan ≤ 2 ^ 16 = omega (arith, matched_there.metric.few) in
+    let all : (sub : ℕ) → sub < subs_in setup → IsLegal (setting_in setup) sub new.view.seen =
+    subst (λ (s : Setup). (sub : ℕ) → sub < subs_in s → IsLegal (setting_in s) sub new.view.seen) told visited.legal in
+    let legal : IsLegal (setting_in setup) walk.sub (before ticket new.view.seen) =
+    fronts (setting_in setup) walk.sub new.view.seen ticket small (all walk.sub known) in
+    subst (λ w. IsWordBelow (nodes_of plan) walk.progress w) (sym reads)
+    (subst (λ p. IsWordBelow (nodes_of p) walk.progress (cell (setting_in setup) (before ticket new.view.seen) key))
+    (sym same)
+    (word-wanted marks entries setup.plan setup.homes (before ticket new.view.seen) walk key matched_there small legal
+    goes wanted))

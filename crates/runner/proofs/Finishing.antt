@@ -1,0 +1,234 @@
+-- What becomes of a run in the end.
+use Rattle.std.proofs.Common.{◌≡◌, ◌⊎◌, inl, inr, ℕ, zero, suc, ◌+◌, ◌<◌, ◌≤◌, List, [], ◌∷◌, ◌++◌, length, map, take, drop, get_or, refl, sym, ap, ◌∙◌, subst, arith}
+use Rattle.std.specs.Prelude.{All, IfOk, Result, Ok, Err, Some, slice_get, option_to_list}
+use Rattle.std.proofs.lemmas.List.{get_or-map, length-map, take_all, take-append-le}
+use Rattle.std.proofs.lemmas.Bool.{cases_lt}
+use Rattle.directory.specs.Settings.{Setting}
+use Rattle.directory.specs.Histories.{History, IsFront, own}
+use Rattle.directory.specs.HistoryLaws.{front-append, front-itself, front-through}
+use Rattle.directory.specs.Orders.{IsPlayed, Scripts, after_turn, after_turns, history_of, last_turns, next}
+use Rattle.directory.specs.Outcomes.{Outcome, outcome_in, outcome_of}
+use Rattle.directory.specs.Statements.{HistoriesAreOrdered, OrdersAreDone, OrdersAreOwn, OrdersArePlayed}
+use Rattle.directory.specs.StepLaws.{slice_get-within}
+use Rattle.distances.specs.Table.{DistanceTable}
+use Rattle.machine.specs.Stands.{BelongTogether, setting_over}
+use Rattle.net_reader.specs.Input.{Contents}
+use Rattle.region_plan.specs.Plan.{PlanData}
+use Rattle.region_plan.specs.Settings.{setting_of}
+use Rattle.scripts.specs.Scripts.{scripts_of}
+use Rattle.station.specs.Closing.{IsOrder}
+use Rattle.station.specs.Opening.{setup_of}
+use Rattle.station.specs.Passes.{IsFreshPass, IsPassOf, PassData, TrackerData, actor_of, fresh_view}
+use Rattle.station.specs.declared.view.View.{View}
+use Rattle.station.specs.Setup.{Setup, setting_in}
+use Rattle.runner.specs.Playing.{IsPlayedBy}
+use Rattle.runner.specs.PlayLaws.{all-played, get-either, own-none, played-in}
+use Rattle.runner.specs.Roles.{IsSetFor}
+use Rattle.runner.specs.Runs.{AreWorkersOf, HasFinished, IsOutcomeOfRun, actors_of}
+use Rattle.runner.specs.Workers.{IsWorkerOf, MayServe}
+use Rattle.runner.specs.declared.worker.Worker.{Worker}
+
+get-map : {A B : Type 0} (f : A → B) (xs : List A) (k : ℕ) (x : A) → slice_get xs k ≡ Some x
+    → slice_get (map f xs) k ≡ Some (f x)
+get-map f [] k x h = cc
+get-map f (y ∷ ys) zero x h = let e : y ≡ x = cc in ap (λ z. Some (f z)) e
+get-map f (y ∷ ys) (suc k) x h = get-map f ys k x h
+
+-- turns only add visits
+turns-front : (setting : Setting) (scripts : Scripts) (order : List ℕ) (history : History)
+    → IsFront history (after_turns setting scripts history order)
+turns-front setting scripts [] history = front-itself history
+turns-front setting scripts (actor ∷ order) history =
+    let one = after_turn setting scripts history actor in
+    front-through history one (after_turns setting scripts one order)
+    (front-append history (option_to_list (next setting scripts history actor)))
+    (turns-front setting scripts order one)
+
+-- the setting of a tracker is that of its input and its plan
+pub set-over : (input : Contents) (setup : Setup) (plan : PlanData) (distances : DistanceTable)
+    → IsSetFor input setup plan distances → setting_over input plan ≡ setting_in setup
+set-over input setup plan distances set =
+    ap (λ (p : PlanData). setting_of p input.homes) set.plan_is
+    ∙ ap (λ (homes : List ℕ). setting_of setup.plan homes) (sym set.homes)
+
+-- each visit of the one history was its actor's next one
+pub order-played : (input : Contents) (tracker : TrackerData) (workers : List Worker) (order : List ℕ)
+    → AreWorkersOf input tracker workers → tracker.setup.actors ≡ length input.scripts
+    → (its : IsOrder tracker.setup (map (λ (worker : Worker). worker.pass) workers) order)
+    → IsPlayed (setting_in tracker.setup) (scripts_of input) its.history
+order-played input tracker workers order are count its =
+    all-played (setting_in tracker.setup) (scripts_of input) its.history
+    (λ actor. at actor (cases_lt actor (length workers)))
+  where
+    at : (actor : ℕ) → (actor < length workers) ⊎ (length workers ≤ actor)
+        → IsPlayedBy (setting_in tracker.setup) (scripts_of input) actor its.history
+    at actor (inl low) =
+        let found = slice_get-within workers actor low in
+        let worker : Worker = found.0 in
+        let each = are.each actor worker found.1 in
+        let there : slice_get (map (λ (w : Worker). w.pass) workers) actor ≡ Some worker.pass =
+        get-map (λ (w : Worker). w.pass) workers actor worker found.1 in
+        subst (λ a. IsPlayedBy (setting_in tracker.setup) (scripts_of input) a its.history) each.1
+        (played-in (setting_in tracker.setup) (scripts_of input) (actor_of worker.pass) worker.pass.view.seen its.history
+        (its.seen actor worker.pass there) (its.visits actor worker.pass there) each.0.played)
+    at actor (inr high) = λ ticket visit got mine.
+        absurd (own-none actor its.history ticket visit
+        (its.known actor (omega (arith, high, are.count, count))) got mine)
+
+-- a run is finished
+pub finished : HistoriesAreOrdered → (input : Contents) (tracker : TrackerData) (plan : PlanData)
+    (distances : DistanceTable) (workers : List Worker) (order : List ℕ) (outcome : Outcome)
+    → IsSetFor input tracker.setup plan distances → AreWorkersOf input tracker workers
+    → IsOrder tracker.setup (map (λ (worker : Worker). worker.pass) workers) order
+    → outcome ≡ outcome_of (setting_over input plan) (scripts_of input) order
+    → HasFinished input tracker.setup workers outcome
+finished ordered input tracker plan distances workers order outcome set are its is =
+    let setting = setting_in tracker.setup in
+    let scripts = scripts_of input in
+    let played = order-played input tracker workers order are set.actors its in
+    record {
+      history = its.history;
+      seen = λ k worker at. its.seen k worker.pass (get-map (λ (w : Worker). w.pass) workers k worker at);
+      visits = λ k worker at. subst (λ a. own a its.history ≡ own a worker.pass.view.seen) (are.each k worker at).1
+          (its.visits k worker.pass (get-map (λ (w : Worker). w.pass) workers k worker at));
+      known = λ actor high. its.known actor (omega (arith, high, are.count, set.actors));
+      legal = its.legal;
+      played = played;
+      outcome_is = is ∙ (ap (λ s. outcome_of s scripts order) (set-over input tracker.setup plan distances set)
+          ∙ ap (outcome_of setting scripts) its.actors);
+      begins = subst (IsFront its.history) (sym (ordered setting scripts its.history played))
+          (turns-front setting scripts (last_turns setting scripts) its.history);
+    }
+
+-- the outcome of an order is that of the order which it tells itself
+pub outcome-of-run : OrdersAreOwn → OrdersArePlayed → OrdersAreDone → (setting : Setting) (scripts : Scripts)
+    (order : List ℕ) (outcome : Outcome) → outcome ≡ outcome_of setting scripts order
+    → IsOutcomeOfRun setting scripts outcome
+outcome-of-run own_law played done setting scripts order outcome is =
+    let history = history_of setting scripts order in
+    record {
+      order = actors_of history;
+      is = is ∙ ap (outcome_in setting scripts)
+          (sym (own_law setting scripts history (played setting scripts order) (done setting scripts order)));
+      printed = ap (λ (o : Outcome). o.order) is;
+    }
+
+-- the element at a place of a list
+pub some-at : {A : Type 0} (xs : List A) (i : ℕ) (d : A) → i < length xs → slice_get xs i ≡ Some (get_or xs i d)
+some-at [] i d low = absurd (omega (arith, low))
+some-at (x ∷ xs) zero d low = refl
+some-at (x ∷ xs) (suc i) d low = some-at xs i d (omega (arith, low))
+
+-- it stands there whatever the default
+pub at-some : {A : Type 0} (xs : List A) (i : ℕ) (x : A) → slice_get xs i ≡ Some x
+    → (i < length xs) × (get_or xs i x ≡ x)
+at-some [] i x at = cc
+at-some (y ∷ ys) zero x at = let e : y ≡ x = cc in (omega arith, e)
+at-some (y ∷ ys) (suc i) x at = let deep = at-some ys i x at in (omega (arith, deep.0), deep.1)
+
+-- a fresh pass of a tracker may serve its actor
+pub fresh-serves : (input : Contents) (plan : PlanData) (tracker : TrackerData) (actor : ℕ) (pass : PassData)
+    → IsFreshPass tracker actor pass → IsSetFor input tracker.setup plan plan.distances
+    → actor < length input.scripts → MayServe input plan pass
+fresh-serves input plan tracker actor pass fresh set low =
+    subst (λ (p : PassData). MayServe input plan p) (sym (whole pass (fresh_view tracker.setup actor) fresh.view))
+    (record {
+      set = set;
+      outside = refl;
+      known = low;
+      none = refl;
+      bare = refl;
+      few = omega (arith, fresh.spare);
+    })
+  where
+    whole : (p : PassData) (view : View) → p.view ≡ view → p ≡ record p { view = view }
+    whole p view e = subst (λ v. p ≡ record p { view = v }) e refl
+
+-- and its worker is that of the actor
+pub fresh-actor : (tracker : TrackerData) (actor : ℕ) (pass made : PassData) → IsFreshPass tracker actor pass
+    → made ≡ record pass { spare = made.spare } → actor_of made ≡ actor
+fresh-actor tracker actor pass made fresh same =
+    ap actor_of same ∙ ap (λ (v : View). v.low) fresh.view
+
+-- one worker more
+pub one-more : (input : Contents) (tracker : TrackerData) (workers : List Worker) (worker : Worker)
+    → ((k : ℕ) (one : Worker) → slice_get workers k ≡ Some one → IsWorkerOf input tracker one × (actor_of one.pass ≡ k))
+    → IsWorkerOf input tracker worker → actor_of worker.pass ≡ length workers
+    → (k : ℕ) (one : Worker) → slice_get (workers ++ worker ∷ []) k ≡ Some one
+    → IsWorkerOf input tracker one × (actor_of one.pass ≡ k)
+one-more input tracker workers worker each its actor k one at =
+    elim (get-either workers (worker ∷ []) k one at) [
+      | inl there ↦ each k one there.0
+      | inr last ↦ new last.0 last.1 last.2
+    ]
+  where
+    new : (j : ℕ) → slice_get (worker ∷ []) j ≡ Some one → k ≡ length workers + j
+        → IsWorkerOf input tracker one × (actor_of one.pass ≡ k)
+    new zero h e = let same : worker ≡ one = cc in
+        subst (λ (w : Worker). IsWorkerOf input tracker w × (actor_of w.pass ≡ k)) same (its, omega (arith, actor, e))
+    new (suc j) h e = cc
+
+-- what stands between two parts of a list
+get-seam : {A : Type 0} (before later : List A) (x : A) → slice_get (before ++ x ∷ later) (length before) ≡ Some x
+get-seam [] later x = refl
+get-seam (y ∷ before) later x = get-seam before later x
+
+pub at-seam : {A : Type 0} (all before rest later : List A) (x : A) → all ≡ before ++ rest → rest ≡ x ∷ later
+    → slice_get all (length before) ≡ Some x
+at-seam all before rest later x whole next =
+    ap (λ xs. slice_get xs (length before)) (whole ∙ ap (λ xs. before ++ xs) next) ∙ get-seam before later x
+
+-- the passes of workers are of their tracker
+pub all-of : (input : Contents) (tracker : TrackerData) (workers : List Worker) (passes : List PassData)
+    → AreWorkersOf input tracker workers → passes ≡ map (λ (worker : Worker). worker.pass) workers
+    → All (IsPassOf tracker) passes
+all-of input tracker workers passes are same k d low =
+    let pass = λ (w : Worker). w.pass in
+    let short : k < length workers = omega (arith, low, ap length same, length-map workers pass) in
+    let found = slice_get-within workers k short in
+    let here : get_or passes k d ≡ found.0.pass =
+    ap (λ ps. get_or ps k d) same ∙ (get_or-map pass workers k found.0 d short
+    ∙ ap pass (at-some workers k found.0 found.1).1) in
+    subst (IsPassOf tracker) (sym here) (are.each k found.0 found.1).0.of
+
+-- what follows from an answer
+pub if-more : {A E : Type 0} (P Q : A → Type 0) (r : Result A E) → ((x : A) → P x → Q x) → IfOk r P → IfOk r Q
+if-more P Q (Ok x) more h = more x h
+if-more P Q (Err e) more h = tt
+
+-- a list put back into its place
+pub put-back : {A : Type 0} (xs ys : List A) (n : ℕ) → n ≡ length ys → length xs ≡ length ys
+    → take n (xs ++ drop (length xs) ys) ≡ xs
+put-back xs ys n whole same =
+    take-append-le n xs (drop (length xs) ys) (omega (arith, whole, same))
+    ∙ take_all n xs (omega (arith, whole, same))
+
+-- a worker that a call has changed
+pub changed : (input : Contents) (tracker : TrackerData) (argument last old new : Worker) (k : ℕ) → argument ≡ old
+    → last ≡ new → actor_of old.pass ≡ k
+    → IsWorkerOf input tracker last × (actor_of last.pass ≡ actor_of argument.pass)
+    → IsWorkerOf input tracker new × (actor_of new.pass ≡ k)
+changed input tracker argument last old new k is left actor now = (
+  subst (IsWorkerOf input tracker) left now.0,
+  sym (ap (λ (w : Worker). actor_of w.pass) left)
+      ∙ (now.1 ∙ (ap (λ (w : Worker). actor_of w.pass) is ∙ actor)),
+)
+
+-- a new tracker is set for its input
+pub new-set : (input : Contents) (plan : PlanData) (distances : DistanceTable) (setup : Setup) (homes : List ℕ)
+    → BelongTogether input plan distances → homes ≡ input.homes
+    → setup ≡ setup_of plan homes (length homes + input.callers)
+    → IsSetFor input setup plan distances × IsSetFor input setup plan plan.distances
+new-set input plan distances setup homes together same is =
+    let plan_is : plan ≡ setup.plan = sym (ap (λ (s : Setup). s.plan) is) in
+    let homes_are : setup.homes ≡ input.homes = ap (λ (s : Setup). s.homes) is ∙ same in
+    let count : setup.actors ≡ length input.scripts =
+    omega (arith, ap (λ (s : Setup). s.actors) is, ap length same, together.valid.scripts) in (
+      record { together = together; plan_is = plan_is; homes = homes_are; actors = count },
+      record {
+        together = subst (BelongTogether input plan) (sym together.belongs) together;
+        plan_is = plan_is;
+        homes = homes_are;
+        actors = count;
+      },
+    )

@@ -1,0 +1,7 @@
+mod Moving
+mod Finding
+mod Working
+mod Finishing
+mod Sums
+mod Playing
+mod Starting

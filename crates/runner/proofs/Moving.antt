@@ -1,0 +1,517 @@
+-- A subscriber's part of a worker: the next step of its script begins, and its next put is made.
+use Rattle.std.proofs.Common.{◌≡◌, ◌≢◌, ℕ, zero, suc, ◌-◌, ◌<◌, ◌≤◌, Bool, true, false, List, [], ◌∷◌, ◌++◌, Option, length, map, take, drop, get_or, refl, sym, ap, ◌∙◌, subst, arith, length-append}
+use Rattle.std.specs.Prelude.{Some, None, slice_get, option_map, unwrap_or, IfSome, IsSome}
+use Rattle.std.specs.Option.{is_some}
+use Rattle.std.proofs.lemmas.Option.{slice_get_within, unwrap_or-slice_get}
+use Rattle.std.proofs.lemmas.List.{append-nil, take_all, take-append-drop, length_push, length-map, get_or-map}
+use Rattle.entry_word.specs.declared.visit.Visit.{Visit}
+use Rattle.directory.specs.Settings.{Setting, start}
+use Rattle.directory.specs.Courses.{Course, MayStep, MaySteps, Step, after_step, after_steps, course_at, move_to, switch_off, switch_on}
+use Rattle.directory.specs.Amid.{course_of}
+use Rattle.directory.specs.Histories.{own, puts_to}
+use Rattle.directory.specs.HistoryLaws.{next-sub}
+use Rattle.directory.specs.Legal.{IsScript}
+use Rattle.directory.specs.Orders.{AreValid, next, script_visits, steps_of}
+use Rattle.directory.specs.StepLaws.{past-end, slice_get-within, take-append, take-more, visits-append, visits_in, writes-append}
+use Rattle.directory.specs.Writes.{step_writes, visit_of, visits, writes}
+use Rattle.handset.specs.Kept.{GoesWith, HandsetData}
+use Rattle.handset.specs.Progress.{due, due_at}
+use Rattle.handset.specs.StageLaws.{IsRestAfter, rest-after}
+use Rattle.handset.specs.Stands.{StandsForSteps}
+use Rattle.handset.specs.declared.stage.Stage.{Stage}
+use Rattle.handset.specs.declared.stage.Stage.TheVariants.{Resting, Coming, Renewing, Committing, Confirming, Erasing, Purging, Switching}
+use Rattle.machine.specs.Subscribers.{MayBegin}
+use Rattle.net_reader.specs.declared.said.Call.{Call}
+use Rattle.net_reader.specs.declared.said.Call.TheVariants as calls
+use Rattle.net_reader.specs.Input.{Contents}
+use Rattle.net_reader.specs.Valid.{IsCourse, IsValid}
+use Rattle.distances.specs.Table.{DistanceTable}
+use Rattle.region_plan.specs.Plan.{PlanData}
+use Rattle.region_plan.specs.Settings.{setting_of}
+use Rattle.scripts.specs.Laws.{ScriptsAreValid}
+use Rattle.scripts.specs.ScriptLaws.{steps-are}
+use Rattle.scripts.specs.Scripts.{IsSettingOf, scripts_of, step_of}
+use Rattle.station.specs.Handsets.{HandsetGoesOn, IsHandsetOf}
+use Rattle.station.specs.Passes.{PassData}
+use Rattle.station.specs.Plays.{visit_by}
+use Rattle.station.specs.Setup.{Setup, setting_in}
+use Rattle.station.specs.Visits.{HasLost, HasVisited}
+use Rattle.station.specs.declared.turns.Held.{Held}
+use Rattle.station.specs.declared.view.View.{View}
+use Rattle.runner.specs.Playing.{HasMadeNext, next_of}
+use Rattle.runner.specs.PlayLaws.{own-next}
+use Rattle.runner.specs.Roles.{HasBegun, IsMover, IsSetFor, IsUnderWay}
+use Rattle.runner.specs.declared.mover.Mover.{Mover}
+
+none-of : {A B : Type 0} (f : A → B) (o : Option A) → option_map f o ≡ None → o ≡ None
+none-of f None h = refl
+none-of f (Some x) h = cc
+
+some-of : {A B : Type 0} (f : A → B) (o : Option A) (y : B) → option_map f o ≡ Some y → (x : A) × (f x ≡ y)
+some-of f None y h = cc
+some-of f (Some x) y h = let e : f x ≡ y = cc in (x, e)
+
+pub none-is : {A : Type 0} (o : Option A) → is_some o ≡ false → o ≡ None
+none-is None h = refl
+none-is (Some x) h = cc
+
+pub due-some : {A : Type 0} (o : Option A) → IsSome o → (x : A) × (o ≡ Some x)
+due-some None h = cc
+due-some (Some x) h = (x, refl)
+
+stage-rests : (setting : Setting) (handset : HandsetData) (stage : Stage) → due_at setting handset stage ≡ None
+    → stage ≡ Resting
+stage-rests setting handset Resting h = refl
+stage-rests setting handset Coming h = cc
+stage-rests setting handset (Renewing level) h = cc
+stage-rests setting handset Committing h = cc
+stage-rests setting handset Confirming h = cc
+stage-rests setting handset (Erasing level) h = cc
+stage-rests setting handset (Purging node) h = cc
+stage-rests setting handset (Switching off) h = cc
+
+-- a handset that has nothing to write rests
+rests : (setting : Setting) (handset : HandsetData) (steps : List Step) (made : ℕ)
+    → StandsForSteps setting handset steps made → due setting handset ≡ None
+    → IsRestAfter setting handset.sub handset steps made
+rests setting handset steps made stands none =
+    rest-after setting handset steps made stands (stage-rests setting handset handset.stage
+    (none-of (visit_of handset.sub) (due_at setting handset handset.stage) none))
+
+-- what a handset writes is its subscriber's
+due-actor : (setting : Setting) (handset : HandsetData) (visit : Visit) → due setting handset ≡ Some visit
+    → visit ≡ record { actor = handset.sub; act = visit.act }
+due-actor setting handset visit is =
+    let found = some-of (visit_of handset.sub) (due_at setting handset handset.stage) visit is in
+    subst (λ (v : Visit). v ≡ record { actor = handset.sub; act = v.act }) found.1 refl
+
+-- a call that is a step
+abbrev pub IsStep : Call → Type 0
+IsStep (calls.Move to) = Unit {0}
+IsStep (calls.Find from sub) = ⊥
+IsStep calls.Off = Unit {0}
+IsStep calls.On = Unit {0}
+
+-- a step that may come may begin
+may-begin : (plan : PlanData) (starts : List ℕ) (handset : HandsetData) (steps : List Step) (made : ℕ) (call : Call)
+    → IsRestAfter (setting_of plan starts) handset.sub handset steps made → IsStep call
+    → MayStep (setting_of plan starts) (course_of (setting_of plan starts) handset.sub steps) (step_of call)
+    → MayBegin plan handset call
+may-begin plan starts handset steps made (calls.Move to) at its may =
+    (may.inside, λ same. may.moving (same ∙ at.place), at.is_off ∙ may.is_on, omega (arith, may.few, at.number))
+may-begin plan starts handset steps made (calls.Find from sub) at its may = absurd its
+may-begin plan starts handset steps made calls.Off at its may = at.is_off ∙ may
+may-begin plan starts handset steps made calls.On at its may = at.is_off ∙ may
+
+-- a subscriber's script has no finds
+pub course-steps : (format n here : ℕ) (off : Bool) (script : List Call) (k : ℕ) (d : Call)
+    → IsCourse format n here off script → k < length script → IsStep (get_or script k d)
+course-steps format n here off [] k d its low = absurd (omega (arith, low))
+course-steps format n here off (calls.Move to ∷ script) zero d its low = tt
+course-steps format n here off (calls.Find from sub ∷ script) k d its low = absurd its
+course-steps format n here off (calls.Off ∷ script) zero d its low = tt
+course-steps format n here off (calls.On ∷ script) zero d its low = tt
+course-steps format n here off (calls.Move to ∷ script) (suc k) d its low =
+    course-steps format n to off script k d its.3 (omega (arith, low))
+course-steps format n here off (calls.Off ∷ script) (suc k) d its low =
+    course-steps format n here true script k d its.2 (omega (arith, low))
+course-steps format n here off (calls.On ∷ script) (suc k) d its low =
+    course-steps format n here false script k d its.2 (omega (arith, low))
+
+-- the step of the call at a place of a script
+step-at : (input : Contents) (sub k : ℕ) (d : Call) → IsValid input → sub < length input.homes
+    → k < length (get_or input.scripts sub [])
+    → slice_get (steps_of (scripts_of input) sub) k ≡ Some (step_of (get_or (get_or input.scripts sub []) k d))
+step-at input sub k d valid low short =
+    let script : List Call = get_or input.scripts sub [] in
+    let found = slice_get-within (map step_of script) k (omega (arith, short, length-map script step_of)) in
+    let is : found.0 ≡ step_of (get_or script k d) =
+    ap (λ o. unwrap_or o (step_of d)) (sym found.1)
+    ∙ (unwrap_or-slice_get (map step_of script) k (step_of d)
+    ∙ get_or-map step_of script k d (step_of d) short) in
+    ap (λ ss. slice_get ss k) (steps-are input sub valid low) ∙ (found.1 ∙ ap Some is)
+
+-- the first steps of steps that may be made, and the one after them
+may-take : (setting : Setting) (course : Course) (steps : List Step) (k : ℕ) → MaySteps setting course steps
+    → MaySteps setting course (take k steps)
+unfolding MaySteps
+may-take setting course steps zero h = tt
+may-take setting course [] (suc k) h = tt
+may-take setting course (step ∷ steps) (suc k) h =
+    (h.0, may-take setting (after_step setting course step) steps k h.1)
+
+may-at : (setting : Setting) (course : Course) (steps : List Step) (k : ℕ) (step : Step)
+    → MaySteps setting course steps → slice_get steps k ≡ Some step
+    → MayStep setting (after_steps setting course (take k steps)) step
+unfolding MaySteps
+may-at setting course [] k step h at = cc
+may-at setting course (one ∷ steps) zero step h at =
+    let e : one ≡ step = cc in subst (MayStep setting course) e h.0
+may-at setting course (one ∷ steps) (suc k) step h at =
+    may-at setting (after_step setting course one) steps k step h.1 at
+
+-- each step writes something
+some-write : (setting : Setting) (course : Course) (step : Step) → 1 ≤ length (step_writes setting course step)
+some-write setting course (move_to node) = omega arith
+some-write setting course switch_off = omega arith
+some-write setting course switch_on = omega arith
+
+-- one step more adds a visit at least
+visits-longer : (setting : Setting) (sub : ℕ) (steps : List Step) (step : Step)
+    → length (visits setting sub steps) < length (visits setting sub (steps ++ step ∷ []))
+unfolding writes
+visits-longer setting sub steps step =
+    let course : Course = course_at (start setting sub) in
+    let last : Course = after_steps setting course steps in
+    omega (
+      arith,
+      some-write setting last step,
+      ap length (append-nil (step_writes setting last step)),
+      length-map (writes setting course (steps ++ step ∷ [])) (visit_of sub),
+      length-map (writes setting course steps) (visit_of sub),
+      ap length (writes-append setting course steps (step ∷ [])),
+      length-append (writes setting course steps) (writes setting last (step ∷ [])),
+    )
+
+-- the visits of the first steps of a script are its first visits
+get-left : {A : Type 0} (xs ys : List A) (i : ℕ) (x : A) → slice_get xs i ≡ Some x → slice_get (xs ++ ys) i ≡ Some x
+get-left [] ys i x h = cc
+get-left (y ∷ xs) ys zero x h = h
+get-left (y ∷ xs) ys (suc i) x h = get-left xs ys i x h
+
+in-script : (setting : Setting) (sub k n : ℕ) (steps : List Step) (visit : Visit)
+    → slice_get (visits setting sub (take k steps)) n ≡ Some visit → slice_get (visits setting sub steps) n ≡ Some visit
+in-script setting sub k n steps visit h =
+    ap (λ ss. slice_get (visits setting sub ss) n) (sym (take-append-drop k steps))
+    ∙ (ap (λ vs. slice_get vs n)
+    (visits-append setting sub (course_at (start setting sub)) (take k steps) (drop k steps))
+    ∙ get-left (visits setting sub (take k steps)) _ n visit h)
+
+-- the next visit of a subscriber is what its handset writes next, once a step is begun where one is left
+next-due : (input : Contents) (setup : Setup) (view : View) (spare : ℕ) (mover : Mover) (result : Option Visit)
+    → (part : IsMover input setup view spare mover)
+    → result ≡ slice_get (visits (setting_in setup) mover.handset.sub part.its.steps)
+    (length (puts_to view.low view.seen))
+    → (result ≡ None → mover.begun ≡ length (steps_of (scripts_of input) view.low))
+    → next_of input setup view ≡ result
+next-due input setup view spare mover result part is all =
+    let setting = setting_in setup in
+    let scripts = scripts_of input in
+    let steps = steps_of scripts view.low in
+    let n = length (puts_to view.low view.seen) in
+    let its = part.its in
+    let mine : result ≡ slice_get (visits setting view.low (take mover.begun steps)) n =
+    is ∙ (ap (λ s. slice_get (visits setting s its.steps) n) its.sub
+    ∙ ap (λ ss. slice_get (visits setting view.low ss) n) part.begun.steps_are) in
+    next-sub setting scripts view.seen view.low its.script.known
+    ∙ (ap (λ xs. slice_get (visits setting view.low steps) (length xs)) part.begun.alone
+    ∙ at result mine all)
+  where
+    at : (r : Option Visit)
+        → r ≡ slice_get (visits (setting_in setup) view.low (take mover.begun (steps_of (scripts_of input) view.low)))
+        (length (puts_to view.low view.seen))
+        → (r ≡ None → mover.begun ≡ length (steps_of (scripts_of input) view.low))
+        → slice_get (visits (setting_in setup) view.low (steps_of (scripts_of input) view.low))
+        (length (puts_to view.low view.seen)) ≡ r
+    at None e whole =
+        let every : mover.begun ≡ length (steps_of (scripts_of input) view.low) = whole refl in
+        ap (λ ss. slice_get (visits (setting_in setup) view.low ss) (length (puts_to view.low view.seen)))
+        (sym (take_all mover.begun (steps_of (scripts_of input) view.low) (omega (arith, every)))) ∙ sym e
+    at (Some visit) e whole =
+        in-script (setting_in setup) view.low mover.begun (length (puts_to view.low view.seen))
+        (steps_of (scripts_of input) view.low) visit (sym e)
+
+pub next-due-of : (input : Contents) (setup : Setup) (view : View) (spare : ℕ) (mover : Mover)
+    (result other : Option Visit) → (way : IsUnderWay input setup view spare mover)
+    → result ≡ slice_get (visits (setting_in setup) mover.handset.sub way.0.its.steps)
+    (length (puts_to view.low view.seen))
+    → result ≡ other → next_of input setup view ≡ other
+next-due-of input setup view spare mover result other way is same =
+    next-due input setup view spare mover result way.0 is (λ none. way.1 (sym is ∙ none)) ∙ same
+
+-- what is known where a step is left
+pub record Ready (input : Contents) (setup : Setup) (view : View) (mover : Mover)
+    (steps : List Step) (call : Call) : Type 0 where
+  pub may : MayBegin setup.plan mover.handset call
+  pub step : slice_get (steps_of (scripts_of input) view.low) mover.begun ≡ Some (step_of call)
+  pub all : length (puts_to view.low view.seen) ≡ length (visits (setting_in setup) view.low steps)
+  pub script : IsScript (setting_in setup) view.low (steps_of (scripts_of input) view.low)
+
+pub ready : ScriptsAreValid → (input : Contents) (setup : Setup) (plan : PlanData) (distances : DistanceTable)
+    (view : View) (spare : ℕ) (mover : Mover) (call : Call) → {next : Option Visit}
+    → IsSetFor input setup plan distances → (part : IsMover input setup view spare mover) → next ≡ None
+    → next ≡ due (setting_of plan []) mover.handset → mover.begun < length mover.script.items
+    → call ≡ get_or mover.script.items mover.begun call
+    → Ready input setup view mover part.its.steps call
+ready scripts input setup plan distances view spare mover call set part idle is short reads =
+    let setting = setting_in setup in
+    let its = part.its in
+    let low = part.begun.low in
+    let valid = set.together.valid in
+    let script = get_or input.scripts view.low [] in
+    let same : call ≡ get_or script mover.begun call =
+    reads ∙ ap (λ s. get_or s mover.begun call) part.begun.script in
+    let none : due (setting_of plan []) mover.handset ≡ None = sym is ∙ idle in
+    let shorter : mover.begun < length script = omega (arith, short, ap length part.begun.script) in
+    let nothing : due setting mover.handset ≡ None =
+    subst (λ p. due (setting_of p []) mover.handset ≡ None) set.plan_is none in
+    let rest : IsRestAfter setting mover.handset.sub mover.handset its.steps (length (puts_to view.low view.seen)) =
+    rests setting mover.handset its.steps (length (puts_to view.low view.seen)) its.stands nothing in
+    let is_setting : IsSettingOf input setting = record {
+      nodes = subst (λ (p : PlanData). (setting_of p setup.homes).nodes ≡ input.nodes) set.plan_is set.together.nodes;
+      starts = set.homes;
+    } in
+    let are : AreValid setting (scripts_of input) = scripts input setting valid is_setting in
+    let whole : IsScript setting view.low (steps_of (scripts_of input) view.low) =
+    are.steps view.low its.script.known in
+    let step : slice_get (steps_of (scripts_of input) view.low) mover.begun ≡ Some (step_of call) =
+    step-at input view.low mover.begun call valid low shorter ∙ ap (λ c. Some (step_of c)) (sym same) in
+    let is_step : IsStep call = subst IsStep (sym same)
+    (course-steps input.format input.nodes (get_or input.homes view.low 0) false script mover.begun call
+    (valid.courses view.low low) shorter) in
+    record {
+      may = may-begin setup.plan setup.homes mover.handset its.steps (length (puts_to view.low view.seen)) call rest
+          is_step
+          (subst (λ s. MayStep setting (course_of setting s its.steps) (step_of call)) (sym its.sub)
+          (subst (λ ss. MayStep setting (course_of setting view.low ss) (step_of call)) (sym part.begun.steps_are)
+          (may-at setting (course_at (start setting view.low)) (steps_of (scripts_of input) view.low) mover.begun
+          (step_of call) whole.allowed step)));
+      step = step;
+      all = rest.all ∙ ap (λ s. length (visits setting s its.steps)) its.sub;
+      script = whole;
+    }
+
+-- a subscriber that has begun its next step
+begun-more : (input : Contents) (setup : Setup) (view : View) (spare : ℕ) (old new : Mover) (call : Call)
+    → (part : IsMover input setup view spare old) → Ready input setup view old part.its.steps call
+    → GoesWith setup.plan new.handset → new.handset.sub ≡ old.handset.sub
+    → StandsForSteps (setting_in setup) new.handset (part.its.steps ++ step_of call ∷ [])
+    (length (puts_to view.low view.seen))
+    → new.script.items ≡ old.script.items → new.begun ≡ suc old.begun
+    → (next : IsMover input setup view spare new)
+    × (next.its.steps ≡ part.its.steps ++ step_of call ∷ [])
+begun-more input setup view spare old new call part at goes same stands script more =
+    let setting = setting_in setup in
+    let all = steps_of (scripts_of input) view.low in
+    let its = part.its in
+    let steps : List Step = its.steps ++ step_of call ∷ [] in
+    let are : steps ≡ take new.begun all =
+    ap (λ ss. ss ++ step_of call ∷ []) part.begun.steps_are
+    ∙ (sym (take-more all old.begun (step_of call) at.step) ∙ ap (λ k. take k all) (sym more)) in
+    let n = length (puts_to view.low view.seen) in
+    let longer = visits-longer setting view.low its.steps (step_of call) in
+    let none : n - length (visits setting view.low its.steps) ≡ 0 = omega (arith, at.all) in
+    let kept : take n (visits setting view.low its.steps) ≡ take n (visits setting view.low steps) =
+    sym (ap (take n) (visits-append setting view.low (course_at (start setting view.low)) its.steps
+    (step_of call ∷ []))
+    ∙ (take-append n (visits setting view.low its.steps)
+    (visits_in setting view.low (course_of setting view.low its.steps) (step_of call ∷ []))
+    ∙ (ap (λ k. take n (visits setting view.low its.steps) ++ take k
+    (visits_in setting view.low (course_of setting view.low its.steps) (step_of call ∷ []))) none
+    ∙ append-nil (take n (visits setting view.low its.steps))))) in (
+      record {
+        its = record {
+          goes = goes;
+          sub = same ∙ its.sub;
+          steps = steps;
+          script = record {
+            known = at.script.known;
+            begins = at.script.begins;
+            allowed = subst (MaySteps setting (course_at (start setting view.low))) (sym are)
+                (may-take setting (course_at (start setting view.low)) all new.begun at.script.allowed);
+          };
+          stands = stands;
+          made = its.made ∙ kept;
+        };
+        begun = record {
+          low = part.begun.low;
+          script = script ∙ part.begun.script;
+          steps_are = are;
+          few = omega (arith, more, slice_get_within all old.begun (step_of call) at.step);
+          alone = part.begun.alone;
+          room = part.begun.room;
+        };
+      },
+      refl,
+    )
+
+-- and then it has a visit to make
+begun-due : (setting : Setting) (sub made : ℕ) (steps : List Step) (step : Step) (result : Option Visit)
+    → made ≡ length (visits setting sub steps)
+    → result ≡ slice_get (visits setting sub (steps ++ step ∷ [])) made → result ≢ None
+begun-due setting sub made steps step result all is none =
+    let past = past-end (visits setting sub (steps ++ step ∷ [])) made (sym is ∙ none) in
+    absurd (omega (arith, past, all, visits-longer setting sub steps step))
+
+-- a step is under way
+pub still-due : (input : Contents) (setup : Setup) (plan : PlanData) (distances : DistanceTable) (view : View)
+    (spare : ℕ) (mover : Mover) (result : Option Visit) → IsSetFor input setup plan distances
+    → (part : IsMover input setup view spare mover)
+    → (StandsForSteps (setting_of plan setup.homes) mover.handset part.its.steps (length (puts_to view.low view.seen))
+    → result ≡ slice_get (visits (setting_of plan setup.homes) mover.handset.sub part.its.steps)
+    (length (puts_to view.low view.seen)))
+    → is_some result ≡ true → IsUnderWay input setup view spare mover
+still-due input setup plan distances view spare mover result set part stands some =
+    let made = length (puts_to view.low view.seen) in
+    let here = subst (λ (p : PlanData). StandsForSteps (setting_of p setup.homes) mover.handset part.its.steps made
+    → result ≡ slice_get (visits (setting_of p setup.homes) mover.handset.sub part.its.steps) made) set.plan_is stands
+    part.its.stands in (part, λ none. absurd (never result some (here ∙ none)))
+  where
+    never : (o : Option Visit) → is_some o ≡ true → o ≡ None → ⊥
+    never None h e = cc
+    never (Some x) h e = cc
+
+-- no step is left
+pub all-begun : (input : Contents) (setup : Setup) (plan : PlanData) (distances : DistanceTable) (view : View)
+    (spare : ℕ) (mover : Mover) → IsSetFor input setup plan distances → IsMover input setup view spare mover
+    → length mover.script.items ≤ mover.begun → IsUnderWay input setup view spare mover
+all-begun input setup plan distances view spare mover set part past = (
+  part,
+  λ _. omega (
+    arith,
+    past,
+    part.begun.few,
+    ap length part.begun.script,
+    ap length (steps-are input view.low set.together.valid part.begun.low),
+    length-map (get_or input.scripts view.low []) step_of,
+  ),
+)
+
+-- the next step is begun
+pub begun-now : (input : Contents) (setup : Setup) (plan : PlanData) (view : View) (spare : ℕ) (old new : Mover)
+    (call : Call) → plan ≡ setup.plan → (part : IsMover input setup view spare old)
+    → Ready input setup view old part.its.steps call
+    → GoesWith plan new.handset → new.handset.sub ≡ old.handset.sub
+    → (StandsForSteps (setting_of plan setup.homes) old.handset part.its.steps (length (puts_to view.low view.seen))
+    → StandsForSteps (setting_of plan setup.homes) new.handset (part.its.steps ++ step_of call ∷ [])
+    (length (puts_to view.low view.seen)))
+    → new.script.items ≡ old.script.items → new.begun ≡ suc old.begun
+    → IsUnderWay input setup view spare new
+begun-now input setup plan view spare old new call plan_is part at goes same stands script more =
+    let made = length (puts_to view.low view.seen) in
+    let here = subst (λ (p : PlanData). StandsForSteps (setting_of p setup.homes) old.handset part.its.steps made
+    → StandsForSteps (setting_of p setup.homes) new.handset (part.its.steps ++ step_of call ∷ []) made) plan_is stands
+    part.its.stands in
+    let on = begun-more input setup view spare old new call part at
+    (subst (λ (p : PlanData). GoesWith p new.handset) plan_is goes) same here script more in (
+      on.0,
+      λ none. absurd (begun-due (setting_in setup) view.low made part.its.steps (step_of call)
+          (slice_get (visits (setting_in setup) new.handset.sub on.0.its.steps) made) at.all
+          (ap (λ s. slice_get (visits (setting_in setup) s on.0.its.steps) made) on.0.its.sub
+          ∙ ap (λ ss. slice_get (visits (setting_in setup) view.low ss) made) on.1) none),
+    )
+
+-- a subscriber's pass has a visit of room where one is left
+pub room-left : (input : Contents) (setup : Setup) (view : View) (spare : ℕ) (mover : Mover) (visit : Visit)
+    → IsMover input setup view spare mover → next_of input setup view ≡ Some visit → 1 ≤ spare
+room-left input setup view spare mover visit part is =
+    let setting = setting_in setup in
+    let scripts = scripts_of input in
+    let there : slice_get (script_visits setting scripts view.low) (length (own view.low view.seen)) ≡ Some visit =
+    sym (next-sub setting scripts view.seen view.low part.its.script.known) ∙ is in
+    omega (
+      arith,
+      slice_get_within (script_visits setting scripts view.low) (length (own view.low view.seen)) visit there,
+      part.begun.room,
+    )
+
+-- a subscriber's next put is made
+put-made : (input : Contents) (setup : Setup) (old new : PassData) (first last : Mover) (visit : Visit)
+    (ticket : ℕ) → (part : IsMover input setup old.view old.spare first)
+    → due (setting_in setup) first.handset ≡ Some visit
+    → next_of input setup old.view ≡ due (setting_in setup) first.handset
+    → HasVisited old visit.act ticket new
+    → HandsetGoesOn setup old.view new.view last.handset part.its.steps visit
+    → last.script.items ≡ first.script.items → last.begun ≡ first.begun
+    → HasMadeNext input setup old new × IsMover input setup new.view new.spare last
+put-made input setup old new first last visit ticket part is next visited on script begun =
+    let low : new.view.low ≡ old.view.low = visited.same.actor in
+    let same : visit_by old.view visit.act ≡ visit =
+    ap (λ a. record { actor = a; act = visit.act }) (sym part.its.sub)
+    ∙ sym (due-actor (setting_in setup) first.handset visit is) in
+    let mine : own old.view.low new.view.seen ≡ own old.view.low old.view.seen ++ visit ∷ [] =
+    own-next old new visit.act ticket visited ∙ ap (λ v. own old.view.low old.view.seen ++ v ∷ []) same in
+    let puts : puts_to old.view.low new.view.seen ≡ puts_to old.view.low old.view.seen ++ visit ∷ [] =
+    subst (λ a. puts_to a new.view.seen ≡ puts_to old.view.low old.view.seen ++ visit ∷ []) low on.puts in (
+      record {
+        act = visit.act;
+        ticket = ticket;
+        visited = visited;
+        is_next = next ∙ (is ∙ ap Some (sym same));
+      },
+      record {
+        its = on.own;
+        begun = subst (λ a. HasBegun input setup a new.view.seen new.spare last on.own.steps) (sym low)
+            (record {
+              low = part.begun.low;
+              script = script ∙ part.begun.script;
+              steps_are = on.steps_are ∙ (part.begun.steps_are
+                  ∙ ap (λ k. take k (steps_of (scripts_of input) old.view.low)) (sym begun));
+              few = omega (arith, begun, part.begun.few);
+              alone = mine ∙ (ap (λ xs. xs ++ visit ∷ []) part.begun.alone ∙ sym puts);
+              room = omega (
+                arith,
+                part.begun.room,
+                visited.spare,
+                ap length mine,
+                length_push (own old.view.low old.view.seen) visit,
+              );
+            });
+      },
+    )
+
+-- a turn is lost
+mover-held : (input : Contents) (setup : Setup) (old new : PassData) (place : ℕ) (held : Held)
+    (first last : Mover) → HasLost old place held new → IsMover input setup old.view old.spare first
+    → last.handset ≡ first.handset → last.script.items ≡ first.script.items → last.begun ≡ first.begun
+    → IsMover input setup new.view new.spare last
+mover-held input setup old new place held first last lost part handset script begun =
+    let its = part.its in
+    subst (λ (p : PassData). IsMover input setup p.view p.spare last) (sym lost.turn)
+    (record {
+      its = record {
+        goes = subst (GoesWith setup.plan) (sym handset) its.goes;
+        sub = ap (λ (h : HandsetData). h.sub) handset ∙ its.sub;
+        steps = its.steps;
+        script = its.script;
+        stands = subst (λ (h : HandsetData). StandsForSteps (setting_in setup) h its.steps
+            (length (puts_to old.view.low old.view.seen))) (sym handset) its.stands;
+        made = its.made;
+      };
+      begun = record {
+        low = part.begun.low;
+        script = script ∙ part.begun.script;
+        steps_are = part.begun.steps_are
+            ∙ ap (λ k. take k (steps_of (scripts_of input) old.view.low)) (sym begun);
+        few = omega (arith, begun, part.begun.few);
+        alone = part.begun.alone;
+        room = part.begun.room;
+      };
+    })
+
+-- what comes of a put that is tried
+pub put-on : (input : Contents) (setup : Setup) (plan : PlanData) (old new : PassData) (first last : Mover)
+    (ticket : ℕ) → plan ≡ setup.plan → IsMover input setup old.view old.spare first
+    → next_of input setup old.view ≡ due (setting_of plan []) first.handset → IsSome (due (setting_of plan []) first.handset)
+    → IfSome (due (setting_of plan []) first.handset) (λ visit. HasVisited old visit.act ticket new)
+    → IfSome (due (setting_of plan []) first.handset) (λ visit. (own : IsHandsetOf setup old.view first.handset)
+    → HandsetGoesOn setup old.view new.view last.handset own.steps visit)
+    → last.script.items ≡ first.script.items → last.begun ≡ first.begun
+    → HasMadeNext input setup old new × IsMover input setup new.view new.spare last
+put-on input setup plan old new first last ticket plan_is part next some made on script begun =
+    let found = due-some (due (setting_of plan []) first.handset) some in
+    put-made input setup old new first last found.0 ticket part
+    (subst (λ (p : PlanData). due (setting_of p []) first.handset ≡ Some found.0) plan_is found.1)
+    (subst (λ (p : PlanData). next_of input setup old.view ≡ due (setting_of p []) first.handset) plan_is next)
+    (subst (λ o. IfSome o (λ (visit : Visit). HasVisited old visit.act ticket new)) found.1 made)
+    (subst (λ o. IfSome o (λ (visit : Visit). (own : IsHandsetOf setup old.view first.handset)
+    → HandsetGoesOn setup old.view new.view last.handset own.steps visit)) found.1 on part.its) script begun
+
+pub put-held : (input : Contents) (setup : Setup) (old new : PassData) (first last : Mover)
+    (place : Visit → ℕ) (wanted : Option Visit) (held : Held) → IsSome wanted
+    → IfSome wanted (λ visit. HasLost old (place visit) held new) → IsMover input setup old.view old.spare first
+    → last.handset ≡ first.handset → last.script.items ≡ first.script.items → last.begun ≡ first.begun
+    → ((place : ℕ) × HasLost old place held new) × IsMover input setup new.view new.spare last
+put-held input setup old new first last place (Some visit) held some lost part handset script begun =
+    ((place visit, lost), mover-held input setup old new (place visit) held first last lost part handset script begun)
+put-held input setup old new first last place None held some lost part handset script begun = cc

@@ -1,0 +1,222 @@
+-- What a worker does before its first visit, and how many visits it makes at most.
+use Rattle.std.proofs.Common.{◌≡◌, inl, inr, ℕ, ◌<◌, ◌≤◌, List, [], ◌∷◌, length, length-append, map, take, drop, get_or, refl, sym, ap, ◌∙◌, subst, arith, Vec, Global}
+use Rattle.std.specs.Prelude.{All, sum_by}
+use Rattle.std.proofs.lemmas.Bool.{cases_lt}
+use Rattle.std.proofs.lemmas.List.{get_or-map, length-map}
+use Rattle.std.proofs.lemmas.List.Sums.{sum_by-cons}
+use Rattle.std.proofs.lemmas.List.Elements.{All-head, All-tail}
+use Rattle.directory.specs.Settings.{Setting, start}
+use Rattle.directory.specs.Courses.{Course, MaySteps, after_step, course_at}
+use Rattle.directory.specs.Finds.{FindCall, at_origin, most_looks}
+use Rattle.directory.specs.Histories.{own, puts_to, words_after}
+use Rattle.directory.specs.Legal.{IsScript}
+use Rattle.directory.specs.Orders.{Caller as Seeker, Scripts, caller_at, caller_in, finds_of, steps_of}
+use Rattle.directory.specs.Statements.{CallersKept, MovesAreShort}
+use Rattle.directory.specs.Writes.{step_writes, visit_of, writes}
+use Rattle.handset.specs.Kept.{GoesWith}
+use Rattle.handset.specs.Stands.{StandsForSteps}
+use Rattle.machine.specs.Stands.{BeginInside, BeginsInside, IsWalking}
+use Rattle.net_reader.specs.declared.said.Call.{Call}
+use Rattle.net_reader.specs.declared.said.Call.TheVariants as calls
+use Rattle.net_reader.specs.Input.{Contents}
+use Rattle.net_reader.specs.Valid.{IsSearch}
+use Rattle.region_plan.specs.Plan.{PlanData, nodes_of}
+use Rattle.region_plan.specs.Settings.{setting_of}
+use Rattle.scripts.specs.Laws.{ScriptsAreValid}
+use Rattle.scripts.specs.ScriptLaws.{finds-are, steps-are}
+use Rattle.scripts.specs.Scripts.{find_of, most_in, most_of, scripts_of, step_of}
+use Rattle.station.specs.Setup.{Setup, setting_in}
+use Rattle.station.specs.declared.view.View.{View}
+use Rattle.runner.specs.PlayLaws.{caller-in}
+use Rattle.runner.specs.Roles.{IsFinder, IsMover, IsSetFor, MayStart}
+use Rattle.runner.specs.declared.finder.Finder.{Finder}
+use Rattle.runner.specs.declared.mover.Mover.{Mover}
+use Rattle.runner.proofs.Finding.{looks-origin, room-of, script-searches, set-setting}
+use Rattle.runner.proofs.Moving.{IsStep, course-steps}
+
+-- the script that the code reads
+pub script-is : (scripts : List (Vec Call Global)) (actor : ℕ) (held : Vec Call Global) (script : List Call)
+    → actor < length (map (λ (s : Vec Call Global). s.items) scripts) → held ≡ get_or scripts actor held
+    → script ≡ held.items → script ≡ get_or (map (λ (s : Vec Call Global). s.items) scripts) actor []
+script-is scripts actor held script low same its = its ∙ (ap (λ (s : Vec Call Global). s.items) same
+    ∙ sym (get_or-map (λ (s : Vec Call Global). s.items) scripts actor held []
+    (omega (arith, low, length-map scripts (λ (s : Vec Call Global). s.items)))))
+
+-- all finds of an actor's script begin at nodes of the plan
+step-inside : (nodes : ℕ) (call : Call) → IsStep call → BeginsInside nodes call
+step-inside nodes (calls.Move to) its = tt
+step-inside nodes (calls.Find from sub) its = absurd its
+step-inside nodes calls.Off its = tt
+step-inside nodes calls.On its = tt
+
+search-inside : (nodes subs : ℕ) (call : Call) → IsSearch nodes subs call → BeginsInside nodes call
+search-inside nodes subs (calls.Move to) its = tt
+search-inside nodes subs (calls.Find from sub) its = its.0
+search-inside nodes subs calls.Off its = tt
+search-inside nodes subs calls.On its = tt
+
+pub begin-inside : (input : Contents) (plan : PlanData) (actor : ℕ) (script : List Call) → MayStart input plan actor
+    → script ≡ get_or input.scripts actor [] → BeginInside (nodes_of plan) script
+begin-inside input plan actor script may same k d low =
+    elim (cases_lt actor (length input.homes)) as (λ _. BeginsInside (nodes_of plan) (get_or script k d)) [
+      | inl sub ↦ step-inside (nodes_of plan) (get_or script k d)
+          (subst (λ s. IsStep (get_or s k d)) (sym same)
+          (course-steps input.format input.nodes (get_or input.homes actor 0) _ (get_or input.scripts actor []) k d
+          (may.together.valid.courses actor sub) (omega (arith, low, ap length same))))
+      | inr high ↦ search-inside (nodes_of plan) (length input.homes) (get_or script k d)
+          (script-searches input plan actor script (length input.homes) may.together.valid may.together.nodes high
+          may.known same refl k d low)
+    ]
+
+-- a subscriber has no visits more than its calls have at most
+step-most : MovesAreShort → (setting : Setting) (course : Course) (call : Call)
+    → length (step_writes setting course (step_of call)) ≤ most_of setting call
+step-most short setting course (calls.Move to) = short setting course to
+step-most short setting course (calls.Find from sub) = omega arith
+step-most short setting course calls.Off = omega arith
+step-most short setting course calls.On = omega arith
+
+steps-most : MovesAreShort → (setting : Setting) (course : Course) (script : List Call)
+    → length (writes setting course (map step_of script)) ≤ most_in setting script
+unfolding writes
+steps-most short setting course [] = omega arith
+steps-most short setting course (call ∷ script) =
+    omega (
+      arith,
+      step-most short setting course call,
+      steps-most short setting (after_step setting course (step_of call)) script,
+      length-append (step_writes setting course (step_of call))
+          (writes setting (after_step setting course (step_of call)) (map step_of script)),
+      sum_by-cons (most_of setting) call script,
+    )
+
+-- nor a caller
+finds-most : (setting : Setting) (n subs : ℕ) (script : List Call) → All (IsSearch n subs) script
+    → sum_by (λ (call : FindCall). most_looks setting call.from) (map find_of script) ≤ most_in setting script
+finds-most setting n subs [] all = omega arith
+finds-most setting n subs (call ∷ script) all =
+    omega (
+      arith,
+      at_call call (All-head (IsSearch n subs) call script all),
+      finds-most setting n subs script (All-tail (IsSearch n subs) call script all),
+      sum_by-cons (most_of setting) call script,
+      sum_by-cons (λ (c : FindCall). most_looks setting c.from) (find_of call) (map find_of script),
+    )
+  where
+    at_call : (c : Call) → IsSearch n subs c → most_looks setting (find_of c).from ≤ most_of setting c
+    at_call (calls.Move to) its = absurd its
+    at_call (calls.Find from sub) its = omega arith
+    at_call calls.Off its = absurd its
+    at_call calls.On its = absurd its
+
+no-steps : (setting : Setting) (course : Course) → MaySteps setting course []
+unfolding MaySteps
+no-steps setting course = tt
+
+-- a new subscriber's part
+pub mover-at : ScriptsAreValid → MovesAreShort → (input : Contents) (plan : PlanData) (actor visits : ℕ)
+    (mover : Mover) → actor < length input.homes
+    → mover.script.items ≡ get_or input.scripts actor [] → mover.begun ≡ 0 → mover.handset.sub ≡ actor
+    → GoesWith plan mover.handset
+    → ((starts : List ℕ) → starts ≡ input.homes → StandsForSteps (setting_of plan starts) mover.handset [] 0)
+    → ((starts : List ℕ) → visits ≡ most_in (setting_of plan starts) mover.script.items)
+    → (setup : Setup) (view : View) (spare : ℕ) → IsSetFor input setup plan plan.distances → view.low ≡ actor
+    → own actor view.seen ≡ [] → puts_to actor view.seen ≡ [] → visits ≤ spare
+    → IsMover input setup view spare mover
+mover-at scripts short input plan actor visits mover low script begun sub goes stands most setup view spare set is none
+    bare enough =
+    let setting = setting_in setup in
+    let valid = scripts input setting set.together.valid (set-setting input setup plan plan.distances set) in
+    let sub_low : view.low < length input.homes = omega (arith, low, is) in
+    let whole : IsScript setting view.low (steps_of (scripts_of input) view.low) =
+    valid.steps view.low (omega (arith, sub_low, ap length set.homes)) in
+    let empty : puts_to view.low view.seen ≡ [] = ap (λ a. puts_to a view.seen) is ∙ bare in
+    let nothing : own view.low view.seen ≡ [] = ap (λ a. own a view.seen) is ∙ none in
+    let its : mover.script.items ≡ get_or input.scripts view.low [] =
+    script ∙ ap (λ a. get_or input.scripts a []) (sym is) in
+    let course = course_at (start setting view.low) in
+    record {
+      its = record {
+        goes = subst (λ p. GoesWith p mover.handset) set.plan_is goes;
+        sub = sub ∙ sym is;
+        steps = [];
+        script = record {
+          known = whole.known;
+          begins = whole.begins;
+          allowed = no-steps setting course;
+        };
+        stands = subst (λ (n : ℕ). StandsForSteps setting mover.handset [] n) (sym (ap length empty))
+            (subst (λ p. StandsForSteps (setting_of p setup.homes) mover.handset [] 0) set.plan_is
+            (stands setup.homes set.homes));
+        made = empty ∙ sym (take-none _ _ empty);
+      };
+      begun = record {
+        low = sub_low;
+        script = its;
+        steps_are = sym (ap (λ k. take k (steps_of (scripts_of input) view.low)) begun);
+        few = omega (arith, begun);
+        alone = nothing ∙ sym empty;
+        room = omega (
+          arith,
+          enough,
+          most setup.homes,
+          ap (λ p. most_in (setting_of p setup.homes) mover.script.items) set.plan_is,
+          ap (most_in setting) its,
+          steps-most short setting course (get_or input.scripts view.low []),
+          length-map (writes setting course (map step_of (get_or input.scripts view.low []))) (visit_of view.low),
+          ap (λ ss. length (map (visit_of view.low) (writes setting course ss)))
+              (steps-are input view.low set.together.valid sub_low),
+        );
+      };
+    }
+  where
+    take-none : {A B : Type 0} (xs : List A) (ys : List B) → xs ≡ [] → take (length xs) ys ≡ []
+    take-none [] ys e = refl
+    take-none (x ∷ xs) ys e = cc
+
+-- a caller before its first look
+caller-new : (setting : Setting) (scripts : Scripts) (actor : ℕ)
+    → caller_in setting scripts [] actor ≡ caller_at (finds_of setting scripts actor)
+unfolding words_after
+caller-new setting scripts actor = refl
+
+-- a new caller's part
+pub finder-at : CallersKept → (input : Contents) (plan : PlanData) (actor visits : ℕ) (finder : Finder)
+    → length input.homes ≤ actor → actor < length input.scripts
+    → finder.script.items ≡ get_or input.scripts actor [] → finder.subs ≡ length input.homes → finder.done ≡ 0
+    → IsWalking plan (map find_of finder.script.items) at_origin finder.walk
+    → ((starts : List ℕ) → visits ≡ most_in (setting_of plan starts) finder.script.items)
+    → (setup : Setup) (view : View) (spare : ℕ) → IsSetFor input setup plan plan.distances → view.low ≡ actor
+    → own actor view.seen ≡ [] → visits ≤ spare → IsFinder input setup view.low view.seen spare finder
+finder-at kept input plan actor visits finder high low script subs done walk most setup view spare set is none enough =
+    let setting = setting_in setup in
+    let scripts = scripts_of input in
+    let finds = finds_of setting scripts actor in
+    let all : finds ≡ map find_of finder.script.items =
+    finds-are input setting actor set.homes high low ∙ ap (map find_of) (sym script) in
+    let new : caller_in setting scripts view.seen actor ≡ caller_at finds =
+    caller-in kept setting scripts actor [] view.seen refl none ∙ caller-new setting scripts actor in
+    let calls_are : (caller_in setting scripts view.seen actor).calls ≡ finds = ap (λ (s : Seeker). s.calls) new in
+    let stage : (caller_in setting scripts view.seen actor).stage ≡ at_origin = ap (λ (s : Seeker). s.stage) new in
+    subst (λ a. IsFinder input setup a view.seen spare finder) (sym is)
+    (record {
+      high = high;
+      low = low;
+      script = script;
+      subs = subs;
+      walk = subst (λ cs. IsWalking setup.plan cs (caller_in setting scripts view.seen actor).stage finder.walk)
+          (sym (calls_are ∙ all))
+          (subst (λ s. IsWalking setup.plan (map find_of finder.script.items) s finder.walk) (sym stage)
+          (subst (λ p. IsWalking p (map find_of finder.script.items) at_origin finder.walk) set.plan_is walk));
+      left = calls_are ∙ sym (ap (λ n. drop n finds) done);
+      room = room-of setting spare _ _ _ _ (calls_are ∙ all) stage (omega (
+        arith,
+        enough,
+        most setup.homes,
+        ap (λ p. most_in (setting_of p setup.homes) finder.script.items) set.plan_is,
+        looks-origin setting (map find_of finder.script.items),
+        finds-most setting (nodes_of plan) (length input.homes) finder.script.items
+            (script-searches input plan actor finder.script.items (length input.homes) set.together.valid
+            set.together.nodes high low script refl),
+      ));
+    })

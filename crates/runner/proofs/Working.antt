@@ -1,0 +1,234 @@
+-- A worker after one try, and a new one.
+use Rattle.std.proofs.Common.{◌≡◌, ◌≢◌, Bool, ℕ, suc, ◌+◌, ◌≤◌, ◌^◌, false, true, [], ◌∷◌, length, refl, sym, ap, ◌∙◌, subst, arith}
+use Rattle.std.specs.Prelude.{◌↔◌, None, Result, Ok, Err, OnOk, max}
+use Rattle.std.specs.Result.{is_err}
+use Rattle.std.specs.declared.alloc.AllocError.{AllocError}
+use Rattle.std.proofs.Math.Nat.{le-max_right, max-le}
+use Rattle.std.proofs.lemmas.List.{length_push}
+use Rattle.entry_word.specs.declared.visit.Visit.{Visit}
+use Rattle.directory.specs.Histories.{IsFront, own}
+use Rattle.directory.specs.HistoryLaws.{front-append, front-itself, front-through}
+use Rattle.directory.specs.Statements.{CallersKept}
+use Rattle.distances.specs.Table.{DistanceTable}
+use Rattle.net_reader.specs.Input.{Contents}
+use Rattle.region_plan.specs.Plan.{PlanData}
+use Rattle.scripts.specs.Scripts.{scripts_of}
+use Rattle.station.specs.Passes.{IsPassOf, PassData, TrackerData, actor_of}
+use Rattle.station.specs.Plays.{visit_by}
+use Rattle.station.specs.Setup.{Setup, setting_in}
+use Rattle.station.specs.Visits.{HasLost, HasVisited, IsSamePass}
+use Rattle.station.specs.Views.{turn_at}
+use Rattle.station.specs.declared.turns.Held.{Held}
+use Rattle.runner.specs.Playing.{HasMadeNext, IsPlayedBy, next_of}
+use Rattle.runner.specs.PlayLaws.{own-next, own-none, played-next}
+use Rattle.runner.specs.Roles.{IsPrepared, IsRole, IsRoleAt, IsSetFor, TriesVisit}
+use Rattle.runner.specs.Workers.{HasGoneOn, IsWorkerOf, MayPlay, MayServe, MayTry}
+use Rattle.runner.specs.declared.role.Role.{Role}
+use Rattle.runner.specs.declared.worker.Worker.{Worker}
+
+-- a visit is made
+pub gone-made : CallersKept → (input : Contents) (tracker : TrackerData) (old new : Worker)
+    → IsWorkerOf input tracker old → HasMadeNext input tracker.setup old.pass new.pass
+    → IsRole input tracker.setup new.pass.view new.pass.spare new.role → new.made ≡ suc old.made
+    → HasGoneOn input tracker old new 0 × (new.pass.spare + 1 ≡ old.pass.spare)
+gone-made kept input tracker old new its made role count =
+    let visited : HasVisited old.pass made.act made.ticket new.pass = made.visited in
+    let actor : actor_of new.pass ≡ actor_of old.pass = visited.same.actor in
+    let mine = own-next old.pass new.pass made.act made.ticket visited in
+    let visit : Visit = visit_by old.pass.view made.act in (
+      record {
+        worker = record {
+          of = record {
+            table = visited.same.table ∙ its.of.table;
+            setup = visited.same.setup ∙ its.of.setup;
+          };
+          outside = visited.outside;
+          known = omega (arith, actor, its.known);
+          played = subst (λ a. IsPlayedBy (setting_in tracker.setup) (scripts_of input) a new.pass.view.seen) (sym actor)
+              (played-next kept input tracker.setup old.pass new.pass made its.played);
+          made = omega (
+            arith,
+            count,
+            its.made,
+            ap length mine,
+            length_push (own (actor_of old.pass) old.pass.view.seen) visit,
+            ap (λ a. length (own a new.pass.view.seen)) actor,
+          );
+          few = omega (arith, count, visited.spare, its.few);
+          role = role;
+        };
+        begins = front-through old.pass.view.seen visited.earlier new.pass.view.seen visited.begins
+            (subst (IsFront visited.earlier) (sym visited.seen) (front-append visited.earlier (visit ∷ [])));
+        same = visited.same;
+        lost = omega (arith, ap length visited.lost);
+      },
+      visited.spare,
+    )
+
+-- a turn is lost
+pub gone-held : (input : Contents) (tracker : TrackerData) (old new : Worker) (place : ℕ) (held : Held)
+    → IsWorkerOf input tracker old → HasLost old.pass place held new.pass
+    → IsRole input tracker.setup new.pass.view new.pass.spare new.role → new.made ≡ old.made
+    → HasGoneOn input tracker old new 1 × (new.pass.spare ≡ old.pass.spare)
+gone-held input tracker old new place held its lost role count =
+    let turn = lost.turn in
+    let spare : new.pass.spare ≡ old.pass.spare = ap (λ (p : PassData). p.spare) turn in (
+      record {
+        worker = record {
+          of = subst (IsPassOf tracker) (sym turn) (record { table = its.of.table; setup = its.of.setup });
+          outside = ap (λ (p : PassData). p.view.inside) turn ∙ its.outside;
+          known = omega (arith, ap actor_of turn, its.known);
+          played = subst (λ (p : PassData). IsPlayedBy (setting_in tracker.setup) (scripts_of input) (actor_of p)
+              p.view.seen) (sym turn) its.played;
+          made = count ∙ (its.made ∙ sym (ap (λ (p : PassData). length (own (actor_of p) p.view.seen)) turn));
+          few = omega (arith, count, spare, its.few);
+          role = role;
+        };
+        begins = subst (λ (p : PassData). IsFront old.pass.view.seen p.view.seen) (sym turn)
+            (front-itself old.pass.view.seen);
+        same = subst (IsSamePass old.pass) (sym turn)
+            (record { table = refl; seat = refl; setup = refl; actor = refl });
+        lost = omega (
+          arith,
+          ap (λ (p : PassData). length p.view.lost) turn,
+          length_push old.pass.view.lost (turn_at place (suc held.by)),
+        );
+      },
+      spare,
+    )
+
+-- a new worker
+worker-new : (input : Contents) (plan : PlanData) (tracker : TrackerData) (pass : PassData) (new : Worker)
+    (visits : ℕ) → MayServe input plan pass → IsPassOf tracker pass
+    → IsRoleAt input plan (actor_of pass) visits new.role → visits ≤ new.pass.spare → new.pass.spare ≤ 2 ^ 56
+    → new.pass ≡ record pass { spare = new.pass.spare } → new.made ≡ 0
+    → IsWorkerOf input tracker new
+worker-new input plan tracker pass new visits may of role enough few same none =
+    let set : IsSetFor input tracker.setup plan plan.distances =
+    subst (λ (s : Setup). IsSetFor input s plan plan.distances) of.setup may.set in
+    let view = ap (λ (p : PassData). p.view) same in
+    record {
+      of = record {
+        table = ap (λ (p : PassData). p.table) same ∙ of.table;
+        setup = ap (λ (p : PassData). p.view.setup) same ∙ of.setup;
+      };
+      outside = ap (λ (p : PassData). p.view.inside) same ∙ may.outside;
+      known = omega (arith, ap actor_of same, may.known);
+      played = subst (λ (v : _). IsPlayedBy (setting_in tracker.setup) (scripts_of input) v.low v.seen) (sym view)
+          (λ ticket visit at mine. absurd (own-none (actor_of pass) pass.view.seen ticket visit may.none at mine));
+      made = none ∙ sym (ap (λ (p : PassData). length (own (actor_of p) p.view.seen)) same ∙ ap length may.none);
+      few = omega (arith, none, few);
+      role = subst (λ v. IsRole input tracker.setup v new.pass.spare new.role) (sym view)
+          (role tracker.setup pass.view new.pass.spare set refl may.none may.bare enough);
+    }
+
+pub worker-reserved : (input : Contents) (plan : PlanData) (tracker : TrackerData) (pass reserved : PassData)
+    (role : Role) (visits : ℕ) (result : Result (Unit {0}) AllocError) → MayServe input plan pass → IsPassOf tracker pass
+    → IsRoleAt input plan (actor_of pass) visits role → visits ≤ 2 ^ 56 → is_err result ≡ false
+    → OnOk result (reserved ≡ record pass { spare = max pass.spare visits })
+    → IsWorkerOf input tracker (record { pass = reserved; made = 0; role = role })
+worker-reserved input plan tracker pass reserved role visits (Ok done) may of its few fine room =
+    let spare : reserved.spare ≡ max pass.spare visits = ap (λ (p : PassData). p.spare) room in
+    worker-new input plan tracker pass (record { pass = reserved; made = 0; role = role }) visits may of its
+    (omega (arith, spare, le-max_right pass.spare visits))
+    (omega (arith, spare, max-le may.few few))
+    (room ∙ ap (λ k. record pass { spare = k }) (sym spare)) refl
+worker-reserved input plan tracker pass reserved role visits (Err e) may of its few fine room = cc
+
+-- a worker that is prepared
+pub role-gone : (input : Contents) (tracker : TrackerData) (old : Worker) (role : Role)
+    → IsWorkerOf input tracker old → IsRole input tracker.setup old.pass.view old.pass.spare role
+    → HasGoneOn input tracker old (record old { role = role }) 0
+role-gone input tracker old role its prepared = record {
+  worker = record {
+    of = its.of;
+    outside = its.outside;
+    known = its.known;
+    played = its.played;
+    made = its.made;
+    few = its.few;
+    role = prepared;
+  };
+  begins = front-itself old.pass.view.seen;
+  same = record { table = refl; seat = refl; setup = refl; actor = refl };
+  lost = omega arith;
+}
+
+-- a worker that has gone on, and on
+pub gone-on : (input : Contents) (tracker : TrackerData) (old mid new : Worker) (held more all : ℕ)
+    → HasGoneOn input tracker old mid held → HasGoneOn input tracker mid new more → all ≡ held + more
+    → HasGoneOn input tracker old new all
+gone-on input tracker old mid new held more all one two sum = record {
+  worker = two.worker;
+  begins = front-through old.pass.view.seen mid.pass.view.seen new.pass.view.seen one.begins two.begins;
+  same = record {
+    table = two.same.table ∙ one.same.table;
+    seat = two.same.seat ∙ one.same.seat;
+    setup = two.same.setup ∙ one.same.setup;
+    actor = two.same.actor ∙ one.same.actor;
+  };
+  lost = omega (arith, one.lost, two.lost, sum);
+}
+
+-- what was tried, by its result
+pub tries-made : (input : Contents) (setup : Setup) (old new : PassData) (result : Result (Unit {0}) Held)
+    → is_err result ≡ false → TriesVisit input setup old result new → HasMadeNext input setup old new
+tries-made input setup old new (Ok done) h tries = tries
+tries-made input setup old new (Err held) h tries = cc
+
+pub tries-lost : (input : Contents) (setup : Setup) (old new : PassData) (result : Result (Unit {0}) Held)
+    → is_err result ≡ true → TriesVisit input setup old result new
+    → (held : Held) × (place : ℕ) × HasLost old place held new
+tries-lost input setup old new (Ok done) h tries = cc
+tries-lost input setup old new (Err held) h tries = (held, tries.0, tries.1)
+
+-- a worker that has gone on, and is prepared
+pub prepared-gone : (input : Contents) (tracker : TrackerData) (old mid : Worker) (role : Role) (held : ℕ)
+    → HasGoneOn input tracker old mid held → IsRole input tracker.setup mid.pass.view mid.pass.spare role
+    → HasGoneOn input tracker old (record mid { role = role }) held
+prepared-gone input tracker old mid role held gone prepared =
+    gone-on input tracker old mid (record mid { role = role }) held 0 held gone
+    (role-gone input tracker mid role gone.worker prepared) (omega arith)
+
+-- what preparing tells
+abbrev pub Prepares : Contents → Setup → PassData → Role → Bool → Type 0
+Prepares input setup pass role left =
+    IsRole input setup pass.view pass.spare role × IsPrepared input setup pass.view role
+    × ((left ≡ false) ↔ (next_of input setup pass.view ≡ None))
+
+pub some-left : (input : Contents) (setup : Setup) (pass : PassData) (role : Role) (left : Bool) → left ≡ true
+    → Prepares input setup pass role left → next_of input setup pass.view ≢ None
+some-left input setup pass role left still prepares none = never left still (prepares.2.1 none)
+  where
+    never : (b : Bool) → b ≡ true → b ≡ false → ⊥
+    never b h g = cc
+
+-- so it may try
+pub may-try : (input : Contents) (tracker : TrackerData) (plan : PlanData) (distances : DistanceTable) (mid : Worker)
+    (role : Role) (left : Bool) → MayPlay input tracker plan distances mid → left ≡ true
+    → Prepares input tracker.setup mid.pass role left
+    → MayTry input tracker plan distances (record mid { role = role })
+may-try input tracker plan distances mid role left may still prepares = record {
+  may = record {
+    set = may.set;
+    worker_is = (role-gone input tracker mid role may.worker_is prepares.0).worker;
+  };
+  prepared = prepares.1;
+  left = some-left input tracker.setup mid.pass role left still prepares;
+}
+
+-- where the gate was closed nothing has changed
+pub kept-gone : (input : Contents) (tracker : TrackerData) (old mid new : Worker) (held : ℕ)
+    → HasGoneOn input tracker old mid held → new ≡ mid → HasGoneOn input tracker old new held
+kept-gone input tracker old mid new held gone same =
+    subst (λ (w : Worker). HasGoneOn input tracker old w held) (sym same) gone
+
+pub kept-may : (input : Contents) (tracker : TrackerData) (plan : PlanData) (distances : DistanceTable)
+    (mid new : Worker) (role : Role) → MayPlay input tracker plan distances mid
+    → IsRole input tracker.setup mid.pass.view mid.pass.spare role → new ≡ record mid { role = role }
+    → MayPlay input tracker plan distances new
+kept-may input tracker plan distances mid new role may prepared same =
+    subst (MayPlay input tracker plan distances) (sym same) (record {
+      set = may.set;
+      worker_is = (role-gone input tracker mid role may.worker_is prepared).worker;
+    })

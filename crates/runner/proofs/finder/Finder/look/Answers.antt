@@ -1,0 +1,77 @@
+use Rattle.std.proofs.Common.{◌+◌, drop, map, subst, sym, ap, ◌∙◌, refl, arith}
+use Rattle.directory.specs.Finds.{answer_of, at_origin}
+use Rattle.machine.specs.Stands.{IsWalking}
+use Rattle.scripts.specs.Scripts.{find_of}
+use Rattle.runner.proofs.Finding.{done-low, look-room, looked, looked-on, looked-up, none-is, some-is, walk-known, walking-of}
+use Rattle.runner.proofs.finder.Finder.look.Goals as goal
+
+pub look_on-requires : goal.look_on-requires
+look_on-requires c =
+    let input = c.requires.its.0 in
+    let set = c.requires.its.1 in
+    let its = c.requires.its.2 in
+    let setup = c.args.tracker.now.setup in
+    let at = walking-of input setup c.args.pass.now.view.low c.args.pass.now.view.seen c.args.pass.now.spare
+    c.args.self.now c.in-Some.walk its c.in-Some.is in
+    record {
+      way = record {
+        of = c.requires.of;
+        plan_is = set.plan_is;
+        belongs = set.together.belongs;
+        matched = set.together.matched;
+        reached = set.together.reached;
+        outside = c.requires.outside;
+        spare = look-room input setup c.args.pass.now.view.low c.args.pass.now.view.seen c.args.pass.now.spare
+            c.args.self.now c.in-Some.walk its c.in-Some.is;
+        goes = at.goes;
+        known = walk-known c.scripts_are_valid.ensures input setup c.args.plan.now c.args.distances.now
+            c.args.pass.now.view.low c.args.pass.now.view.seen c.args.pass.now.spare c.args.self.now c.in-Some.walk
+            set its c.in-Some.is;
+        left = ap answer_of at.so_far ∙ at.unanswered;
+      };
+    }
+
+pub overflow_add-self : goal.overflow_add-self
+overflow_add-self c =
+    let set = c.requires.its.1 in
+    omega (
+      arith,
+      done-low c.requires.its.0 c.args.tracker.now.setup c.args.pass.now.view.low c.args.pass.now.view.seen
+          c.args.pass.now.spare c.args.self.now c.in-Some.walk set.together.valid set.homes c.requires.its.2
+          c.in-Some.is,
+    )
+
+pub returns-then-is_some : goal.returns-then-is_some
+returns-then-is_some c = record {
+  tries = λ input set its.
+      let setup = c.args.tracker.now.setup in
+      let old = c.args.pass.now in
+      let new = c.look_on.new.pass in
+      let on = c.in_ok-look_on.ensures.looked in
+      let at = looked c.lines_grow.ensures.kept c.lines_grow.ensures.read c.looks_fall.ensures input setup old new
+      c.args.self.now c.in-Some.walk c.look_on.new.walk set.homes its c.in-Some.is on in
+      let found = some-is c.answer.result (sym c.is_some.ensures ∙ c.if-is_some.true) in (
+        at.made,
+        looked-up input setup old new c.args.self.now _ c.look_on.new.walk found.0 its at
+            (sym (c.answer.ensures setup.plan on.goes) ∙ found.1) refl refl (omega arith)
+            (subst (λ p. IsWalking p (drop (c.args.self.now.done + 1) (map find_of c.args.self.now.script.items)) at_origin
+            c.walk_at-self.result) set.plan_is
+            (subst (λ s. IsWalking c.args.plan.now (drop (c.args.self.now.done + 1) (map find_of s)) at_origin
+            c.walk_at-self.result) c.deref.ensures.value c.walk_at-self.ensures)) set.homes,
+      );
+}
+
+pub returns-else-is_some : goal.returns-else-is_some
+returns-else-is_some c = record {
+  tries = λ input set its.
+      let setup = c.args.tracker.now.setup in
+      let old = c.args.pass.now in
+      let new = c.look_on.new.pass in
+      let at = looked c.lines_grow.ensures.kept c.lines_grow.ensures.read c.looks_fall.ensures input setup old new
+      c.args.self.now c.in-Some.walk c.look_on.new.walk set.homes its c.in-Some.is c.in_ok-look_on.ensures.looked in (
+        at.made,
+        looked-on input setup old new c.args.self.now _ c.look_on.new.walk its at
+            (sym (c.answer.ensures setup.plan at.goes) ∙ none-is c.answer.result (sym c.is_some.ensures ∙ c.if-is_some.false))
+            refl refl refl refl,
+      );
+}

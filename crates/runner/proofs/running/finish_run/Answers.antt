@@ -1,0 +1,43 @@
+use Rattle.std.proofs.Common.{◌≡◌, List, subst, ap, ◌∙◌}
+use Rattle.directory.specs.Outcomes.{outcome_of, result_of}
+use Rattle.machine.specs.Stands.{setting_over}
+use Rattle.net_reader.specs.Seen.{seen_input}
+use Rattle.scripts.specs.Scripts.{scripts_of}
+use Rattle.station.specs.Closing.{IsOrder}
+use Rattle.station.specs.Passes.{PassData}
+use Rattle.runner.specs.Runs.{HasFinished, IsOutcomeOfRun}
+use Rattle.runner.proofs.Finishing.{all-of, finished, if-more, outcome-of-run}
+use Rattle.runner.proofs.running.finish_run.Goals as goal
+
+pub close-requires : goal.close-requires
+close-requires c = record {
+  of = all-of (seen_input c.args.input.now) c.args.tracker c.args.workers.items c.in_ok-passes.passes.items
+      c.requires.workers c.in_ok-passes.ensures;
+}
+
+pub returns-clause-finished : goal.returns-clause-finished
+returns-clause-finished c =
+    let input = seen_input c.args.input.now in
+    if-more
+    (λ outcome. result_of outcome
+    ≡ outcome_of (setting_over input c.args.plan.now) (scripts_of input) c.deref.result.now)
+    (λ outcome. HasFinished input c.args.tracker.setup c.args.workers.items (result_of outcome)) c.complete.result
+    (λ outcome is. finished c.order_of_history.ensures.completed input c.args.tracker c.args.plan.now
+    c.args.distances.now c.args.workers.items c.in-Ok.order.items (result_of outcome) c.requires.set c.requires.workers
+    (subst (λ (ps : List PassData). IsOrder c.args.tracker.setup ps c.in-Ok.order.items) c.in_ok-passes.ensures
+    c.in-Ok.ensures.order)
+    (is ∙ ap (outcome_of (setting_over input c.args.plan.now) (scripts_of input)) c.deref.ensures.value))
+    c.complete.ensures
+
+pub returns-clause-outcome : goal.returns-clause-outcome
+returns-clause-outcome c =
+    let input = seen_input c.args.input.now in
+    if-more
+    (λ outcome. result_of outcome
+    ≡ outcome_of (setting_over input c.args.plan.now) (scripts_of input) c.deref.result.now)
+    (λ outcome. IsOutcomeOfRun (setting_over input c.args.plan.now) (scripts_of input) (result_of outcome))
+    c.complete.result
+    (λ outcome is. outcome-of-run c.order_of_history.ensures.done c.each_visit_is_next.ensures.order
+    c.all_scripts_done.ensures.done (setting_over input c.args.plan.now) (scripts_of input) c.deref.result.now
+    (result_of outcome) is)
+    c.complete.ensures

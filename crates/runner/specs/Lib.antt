@@ -1,0 +1,5 @@
+pub mod Playing
+pub mod PlayLaws
+pub mod Roles
+pub mod Workers
+pub mod Runs

@@ -1,0 +1,91 @@
+-- A worker serves an actor of an input on a tracker: each visit that its pass has made was the
+-- actor's next one, in the history before its ticket, and the pass has room for all that are left.
+-- A play adds such visits at the end and nothing else, and each turn that it loses is counted.
+-- Key laws: `Worker::new` (a fresh pass of an actor), `Worker::play` (by its clauses `played` and
+-- `closed`).
+use Rattle.std.specs.Prelude.{◌≡◌, ◌≢◌, ℕ, ◌+◌, ◌^◌, ◌<◌, ◌≤◌, [], None, length}
+use Rattle.distances.specs.Table.{DistanceTable}
+use Rattle.directory.specs.Histories.{IsFront, own, puts_to}
+use Rattle.net_reader.specs.Input.{Contents}
+use Rattle.region_plan.specs.Plan.{PlanData}
+use Rattle.scripts.specs.Scripts.{scripts_of}
+use Rattle.station.specs.Passes.{IsPassOf, PassData, TrackerData, actor_of}
+use Rattle.station.specs.Setup.{Setup, setting_in}
+use Rattle.station.specs.Visits.{IsSamePass}
+use Rattle.runner.specs.Playing.{IsPlayedBy, next_of}
+use Rattle.runner.specs.Roles.{IsPrepared, IsRole, IsSetFor}
+use Rattle.runner.specs.declared.worker.Attempt.{Attempt}
+use Rattle.runner.specs.declared.worker.Attempt.TheVariants.{Made, Held, Kept}
+use Rattle.runner.specs.declared.worker.Played.{Played}
+use Rattle.runner.specs.declared.worker.Played.TheVariants.{Finished, Stopped}
+use Rattle.runner.specs.declared.worker.Worker.{Worker}
+
+-- a worker serves an actor of an input on a tracker
+pub record IsWorkerOf (input : Contents) (tracker : TrackerData) (worker : Worker) : Type 0 where
+  pub of : IsPassOf tracker worker.pass
+  pub outside : worker.pass.view.inside ≡ None
+  pub known : actor_of worker.pass < length input.scripts
+  pub played : IsPlayedBy (setting_in tracker.setup) (scripts_of input) (actor_of worker.pass)
+      worker.pass.view.seen
+  pub made : worker.made ≡ length (own (actor_of worker.pass) worker.pass.view.seen)
+  pub few : worker.made + worker.pass.spare ≤ 2 ^ 56
+  pub role : IsRole input tracker.setup worker.pass.view worker.pass.spare worker.role
+
+-- a pass may serve its actor: it has made no visit, is in no node, and has room for no more visits
+-- than a pass may have
+pub record MayServe (input : Contents) (plan : PlanData) (pass : PassData) : Type 0 where
+  pub set : IsSetFor input pass.view.setup plan plan.distances
+  pub outside : pass.view.inside ≡ None
+  pub known : actor_of pass < length input.scripts
+  pub none : own (actor_of pass) pass.view.seen ≡ []
+  pub bare : puts_to (actor_of pass) pass.view.seen ≡ []
+  pub few : pass.spare ≤ 2 ^ 56
+
+-- a worker may play
+pub record MayPlay (input : Contents) (tracker : TrackerData) (plan : PlanData)
+    (distances : DistanceTable) (worker : Worker) : Type 0 where
+  pub set : IsSetFor input tracker.setup plan distances
+  pub worker_is : IsWorkerOf input tracker worker
+
+-- a worker may try its next visit
+pub record MayTry (input : Contents) (tracker : TrackerData) (plan : PlanData)
+    (distances : DistanceTable) (worker : Worker) : Type 0 where
+  pub may : MayPlay input tracker plan distances worker
+  pub prepared : IsPrepared input tracker.setup worker.pass.view worker.role
+  pub left : next_of input tracker.setup worker.pass.view ≢ None
+
+-- a worker has gone on: it serves its actor as before, what its pass has seen goes on from what it
+-- had seen, and so many turns more are lost
+pub record HasGoneOn (input : Contents) (tracker : TrackerData) (old new : Worker)
+    (held : ℕ) : Type 0 where
+  pub worker : IsWorkerOf input tracker new
+  pub begins : IsFront old.pass.view.seen new.pass.view.seen
+  pub same : IsSamePass old.pass new.pass
+  pub lost : length new.pass.view.lost ≡ length old.pass.view.lost + held
+
+-- what came of one try: a visit is made, or a turn is lost, or nothing has changed
+abbrev pub HasAttempted : Contents → TrackerData → Worker → Worker → Attempt → Type 0
+HasAttempted input tracker old new Made =
+    HasGoneOn input tracker old new 0 × (new.pass.spare + 1 ≡ old.pass.spare)
+HasAttempted input tracker old new Held =
+    HasGoneOn input tracker old new 1 × (new.pass.spare ≡ old.pass.spare)
+HasAttempted input tracker old new Kept = new ≡ old
+
+-- what an answer says of a play that has lost so many turns: no visit is left, or one is, and the
+-- tries are used up
+abbrev pub Says : Contents → Setup → ℕ → ℕ → PassData → Played → Type 0
+Says input setup tries lost pass Finished = next_of input setup pass.view ≡ None
+Says input setup tries lost pass (Stopped held kept) =
+    (next_of input setup pass.view ≢ None) × (held + kept ≡ tries) × (lost ≡ held)
+
+-- no gate was closed
+abbrev pub KeptNone : Played → Type 0
+KeptNone Finished = Unit {0}
+KeptNone (Stopped held kept) = kept ≡ 0
+
+-- a worker has played
+pub record HasPlayed (input : Contents) (tracker : TrackerData) (tries : ℕ) (old new : Worker)
+    (played : Played) : Type 0 where
+  pub lost : ℕ
+  pub gone : HasGoneOn input tracker old new lost
+  pub says : Says input tracker.setup tries lost new.pass played

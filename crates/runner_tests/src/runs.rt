@@ -1,0 +1,65 @@
+//! Inputs over the line 0 - 1 - 2 - 3 of unit weights, and their runs.
+ghost use Rattle.std.specs.Prelude.{◌≡◌, IfOk};
+ghost use Rattle.net_reader.specs.Seen.{seen_input};
+ghost use Rattle.net_reader.specs.Valid.{IsValid};
+ghost use Rattle.region_plan.specs.Matched.{BoundsFinds};
+ghost use Rattle.region_plan.specs.Plan.{nodes_of};
+
+use directory::Outcome;
+use distances::Distances;
+use net_graph::Graph;
+use net_reader::{Input, MAX_BYTES, inputs_are_valid, read_input};
+use region_plan::Plan;
+use runner::{Gate, run_workers};
+use std::alloc::{AllocError, Global};
+use std::test::Fail;
+use std::thread::Threads;
+
+/// The line, with one subscriber at node 3.
+pub const LINE: &str = "track 1\nnodes 4\nk 2\nedge 0 1 1\nedge 1 2 1\nedge 2 3 1\nsub 3\n";
+
+// The input of a text.
+fn input_of(alloc: Global, text: &[u8]) -> Result<Input, Fail>
+    ensures { IfOk result (λ input. IsValid (seen_input input)) }
+{
+    inputs_are_valid();
+    if text.len() > MAX_BYTES {
+        return Err(AllocError.into());
+    }
+    match read_input(alloc, text) {
+        Ok(input) => Ok(input),
+        Err(_) => Err(AllocError.into()),
+    }
+}
+
+// The plan of an input, and its distances.
+fn plan_of(alloc: Global, input: &Input) -> Result<(Plan, Distances), Fail>
+    requires { IsValid (seen_input input.now) }
+    ensures copy { IfOk result (λ pair. pair.0.distances ≡ pair.1) }
+    ensures bounding { IfOk result (λ pair. BoundsFinds pair.0) }
+    ensures nodes { IfOk result (λ pair. nodes_of pair.0 ≡ input.now.nodes) }
+{
+    let graph = match Graph::new(alloc, input.nodes, &input.edges) {
+        Ok(graph) => graph,
+        Err(_) => return Err(AllocError.into()),
+    };
+    let distances = Distances::new(alloc, &graph)?;
+    let plan = Plan::build(alloc, &graph, &distances, input.k)?;
+    Ok((plan, distances))
+}
+
+/// What becomes of these calls by workers on the line.
+pub fn run<R: Threads + Sync, G: Gate>(
+    rt: &R,
+    alloc: Global,
+    calls: &str,
+    gate: &G,
+    tries: u64,
+) -> Result<Outcome, Fail> {
+    let mut text = String::from_str(alloc, LINE)?;
+    text.push_str(calls)?;
+    let input = input_of(alloc, text.as_bytes())?;
+    let (plan, distances) = plan_of(alloc, &input)?;
+    let outcome = run_workers(rt, alloc, &input, &plan, &distances, gate, tries)?;
+    Ok(outcome)
+}
