@@ -1,0 +1,6 @@
+pub mod Slots
+pub mod Reading
+pub mod Lines
+pub mod Parts
+pub mod Verdicts
+pub mod Grounds
