@@ -4,3 +4,4 @@ pub mod Lines
 pub mod Parts
 pub mod Verdicts
 pub mod Grounds
+pub mod Examples

@@ -5,6 +5,7 @@
 mod calls;
 mod checker;
 mod cursor;
+mod examples;
 mod judge;
 mod report;
 mod slots;
@@ -12,4 +13,8 @@ mod told;
 mod verdict;
 
 pub use checker::check;
+pub use examples::{
+    flaws_of_form, flaws_of_place, flaws_of_tickets, moves_by_tickets, switches_by_tickets,
+    worked_reports,
+};
 pub use verdict::{Flaw, Verdict};
