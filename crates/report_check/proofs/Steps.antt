@@ -1,11 +1,10 @@
 -- One step of each reading loop.
-use Rattle.std.proofs.Common.{◌≡◌, ◌≢◌, ℕ, suc, ◌+◌, ◌-◌, ◌*◌, ◌<◌, ◌≤◌, Bool, true, false, cond, eqb, ltb, not, map, List, [], ◌∷◌, ◌++◌, append_assoc, append-nil, add-one, length, drop, get_or, Option, Some, None, IfNone, refl, ap, sym, ◌∙◌, arith, eq-eqb}
+use Rattle.std.proofs.Common.{◌≡◌, ◌≢◌, ℕ, suc, ◌+◌, ◌-◌, ◌*◌, ◌<◌, ◌≤◌, Bool, true, false, cond, eqb, ltb, List, [], ◌∷◌, ◌++◌, append_assoc, append-nil, add-one, length, drop, get_or, Option, Some, None, IfNone, refl, ap, sym, ◌∙◌, arith}
 use Rattle.std.proofs.lemmas.Bool.Decides.{nat_tests}
 use Rattle.std.proofs.lemmas.List.{drop_more, drop_all}
 use Rattle.std.specs.Char.{is_ascii_digit}
 use Rattle.net_reader.specs.declared.said.Call.{Call}
 use Rattle.net_reader.specs.declared.said.Call.TheVariants as calls
-use Rattle.std.specs.List.{list_any}
 use Rattle.outside.specs.Texts.{field, fields}
 use Rattle.directory.specs.declared.answers.Done.{Done}
 use Rattle.report_check.specs.Parts.{first_from, is_of_move, meets_from}
@@ -99,8 +98,8 @@ pub slots-step : (before now whole : List Slot) (slot : Slot) (a p n q m : ℕ) 
 unfolding slots_in
 slots-step before now whole slot a p n q m script i d low grown is place number same =
     let more : slots_in a p n (drop i script)
-        ≡ slot_of a p n (get_or script i d)
-        ∷ slots_in a (place_after p (get_or script i d)) (number_after n (get_or script i d)) (drop (i + 1) script) =
+    ≡ slot_of a p n (get_or script i d)
+    ∷ slots_in a (place_after p (get_or script i d)) (number_after n (get_or script i d)) (drop (i + 1) script) =
     ap (slots_in a p n) (drop_more script i d low) in
     ap (λ xs. xs ++ slots_in a q m (drop (i + 1) script)) grown
     ∙ append_assoc before (slot ∷ []) (slots_in a q m (drop (i + 1) script))
@@ -125,7 +124,7 @@ pub scripts-step : (homes : List ℕ) (before now whole : List Slot) (a : ℕ) (
 unfolding slots_from
 scripts-step homes before now whole a scripts script low is grown same =
     let more : slots_from homes a (drop a scripts)
-        ≡ slots_in a (get_or homes a 0) 0 (get_or scripts a []) ++ slots_from homes (a + 1) (drop (a + 1) scripts) =
+    ≡ slots_in a (get_or homes a 0) 0 (get_or scripts a []) ++ slots_from homes (a + 1) (drop (a + 1) scripts) =
     ap (slots_from homes a) (drop_more scripts a [] low)
     ∙ ap (λ k. slots_in a (get_or homes a 0) 0 (get_or scripts a []) ++ slots_from homes k (drop (a + 1) scripts))
     (sym (add-one a)) in

@@ -1,6 +1,6 @@
 -- What the code judges a report by is what the plan and the input say.
 -- Key law: `check` gives the verdict by it.
-use Rattle.std.specs.Prelude.{◌≡◌, ◌≤◌, ◌^◌, List}
+use Rattle.std.specs.Prelude.{◌≡◌, ◌≤◌, ◌^◌}
 use Rattle.region_plan.specs.Plan.{PlanData, nodes_of}
 use Rattle.region_plan.specs.Measures.{stretch_of}
 use Rattle.report_check.specs.declared.judge.Ground.{Ground}

@@ -189,9 +189,9 @@ weight_holds plan homes calls order (Moved actor number from to weight first com
     (setting_of plan homes).distance from to == weight
 weight_holds plan homes calls order (Switched actor off node number ticket) = true
 weight_holds plan homes calls order
-  (Found actor from sub node number level weight first last) =
+    (Found actor from sub node number level weight first last) =
     is_light plan homes calls order from sub node weight first last
 weight_holds plan homes calls order
-  (Off actor from sub node number level weight first last) =
+    (Off actor from sub node number level weight first last) =
     is_light plan homes calls order from sub node weight first last
 weight_holds plan homes calls order (Again actor from sub why weight first last) = true

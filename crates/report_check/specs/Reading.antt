@@ -3,9 +3,9 @@
 -- the texts of report_text alone, that the laws name.
 -- Key laws: `calls_are_read` and `reports_are_read` (what can be read is just the text of a line, or
 -- of a report, of sound form).
-use Rattle.std.specs.Prelude.{ℕ, suc, zero, ◌+◌, ◌-◌, ◌*◌, ◌/◌, ◌%◌, ◌^◌, ◌==◌, ◌&&◌, Bool, true, false, not, nat_lt, nat_le, if◌then◌else◌, List, [], ◌∷◌, ◌++◌, length, Option, Some, None, Result, Ok, Err, codes}
+use Rattle.std.specs.Prelude.{ℕ, suc, zero, ◌+◌, ◌-◌, ◌*◌, ◌/◌, ◌%◌, ◌^◌, ◌==◌, Bool, true, false, nat_lt, if◌then◌else◌, List, [], ◌∷◌, ◌++◌, length, Option, Some, None, Result, Ok, Err, codes}
 use Rattle.std.specs.Char.{is_ascii_digit}
-use Rattle.outside.specs.Texts.{field, fields}
+use Rattle.outside.specs.Texts.{fields}
 use Rattle.directory.specs.declared.answers.Done.{Done}
 use Rattle.directory.specs.declared.answers.Done.TheVariants.{Moved, Switched, Found, Off, Again}
 use Rattle.directory.specs.declared.answers.Why.{Why}
@@ -217,8 +217,8 @@ numbers_in zero before text = do
   Some (before, rest)
 numbers_in (suc room) before text =
     ended before (word_in (10 ∷ []) text) (do
-  number ← number_in most text
-  numbers_in room (before ++ number.0 ∷ []) number.1)
+      number ← number_in most text
+      numbers_in room (before ++ number.0 ∷ []) number.1)
 
 -- the numbers of a line of the order, behind its word
 abbrev pub order_in : List ℕ → List ℕ → Option (List ℕ × List ℕ)

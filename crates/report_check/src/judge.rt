@@ -233,7 +233,10 @@ fn weight_holds(ground: &Ground<'_>, calls: &[Line], order: &[u64], line: &Line)
 {
     match *line {
         Line::Move {
-            from, to, weight, ..
+            from,
+            to,
+            weight,
+            ..
         } => distance(ground, from, to) == weight,
         Line::Answer {
             from,

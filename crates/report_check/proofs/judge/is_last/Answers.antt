@@ -1,4 +1,3 @@
-use Rattle.std.proofs.Common.{◌≡◌}
 use Rattle.report_check.specs.declared.calls.Line.TheVariants.{Switch}
 use Rattle.std.proofs.Common.{false}
 use Rattle.report_check.proofs.Judging.{last-next, last-none}

@@ -1,4 +1,4 @@
-use Rattle.std.proofs.Common.{◌≡◌, ◌∙◌, ap, sym, map, true, false}
+use Rattle.std.proofs.Common.{◌∙◌, ap, map, true, false}
 use Rattle.report_check.specs.declared.verdict.Flaw.TheVariants as flaws
 use Rattle.report_check.specs.declared.verdict.Verdict.TheVariants.{Unsound}
 use Rattle.report_check.proofs.Judging.{judge-bad, judge-done, judge-good}

@@ -1,4 +1,4 @@
-use Rattle.std.proofs.Common.{◌≡◌, drop, map, List}
+use Rattle.std.proofs.Common.{◌≡◌, drop, map}
 use Rattle.region_plan.specs.Plan.{PlanData}
 use Rattle.report_check.specs.Grounds.{IsGround}
 use Rattle.report_check.specs.Lines.{done_of}

@@ -1,4 +1,3 @@
-use Rattle.std.proofs.Common.{◌≡◌, arith}
 use Rattle.report_check.proofs.Steps.{number-step, slots-done, slots-step}
 use Rattle.report_check.proofs.slots.push_slots.Goals as goal
 

@@ -1,4 +1,4 @@
-use Rattle.std.proofs.Common.{◌≡◌, ◌∙◌, ◌<◌, ◌^◌, ◌-◌, ap, sym, subst, map, length, get_or, ◌++◌, List, [], arith}
+use Rattle.std.proofs.Common.{◌≡◌, ◌∙◌, ◌<◌, ◌^◌, ◌-◌, ap, sym, subst, length, get_or, ◌++◌, List, [], arith}
 use Rattle.std.proofs.lemmas.List.{get_or-map, length-map}
 use Rattle.net_reader.specs.declared.said.Call.{Call}
 use Rattle.net_reader.specs.Seen.{seen_input}
@@ -29,7 +29,7 @@ actors-preserved c =
     c.deref-in-actors.result.now
     (omega (arith, c.actors-test.true, c.len-actor-end.ensures, length-map c.args.input.now.scripts.items (λ s. s.items)))
     script (c.in_ok-push_slots.ensures
-        ∙ ap (λ h. c.actors.slots.items ++ slots_in c.actors.actor h 0 c.deref-in-actors.result.now) home)
+    ∙ ap (λ h. c.actors.slots.items ++ slots_in c.actors.actor h 0 c.deref-in-actors.result.now) home)
     c.actors.invariant
 
 pub returns : goal.returns

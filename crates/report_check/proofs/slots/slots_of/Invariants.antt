@@ -1,4 +1,4 @@
-use Rattle.std.proofs.Common.{◌≡◌, ◌++◌, drop, map, List}
+use Rattle.std.proofs.Common.{◌≡◌, ◌++◌, drop}
 use Rattle.net_reader.specs.Seen.{seen_input}
 use Rattle.report_check.specs.Slots.{slots_for, slots_from}
 use Rattle.report_check.proofs.slots.slots_of.Given as goal

@@ -1,4 +1,4 @@
-use Rattle.std.proofs.Common.{◌≡◌, ◌∙◌, sym, arith}
+use Rattle.std.proofs.Common.{◌∙◌, sym}
 use Rattle.report_check.proofs.Steps.{first-found, first-none, first-step}
 use Rattle.report_check.proofs.told.first_from.Goals as goal
 

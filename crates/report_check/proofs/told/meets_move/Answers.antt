@@ -1,4 +1,4 @@
-use Rattle.std.proofs.Common.{◌≡◌, ◌∙◌, ◌+◌, ◌≤◌, suc, sym, ap, arith, map, ℕ, drop, false}
+use Rattle.std.proofs.Common.{◌∙◌, suc, sym, arith, map}
 use Rattle.report_check.specs.Lines.{done_of}
 use Rattle.report_check.proofs.Steps.{meets-here, meets-last, meets-none, meets-step}
 use Rattle.report_check.proofs.told.meets_move.Goals as goal

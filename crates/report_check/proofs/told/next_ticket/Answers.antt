@@ -1,4 +1,4 @@
-use Rattle.std.proofs.Common.{◌≡◌, ◌∙◌, ap, sym, arith, suc}
+use Rattle.std.proofs.Common.{◌∙◌, ap, sym, arith, suc}
 use Rattle.report_check.specs.Parts.{next_ticket}
 use Rattle.report_check.proofs.Steps.{first-none}
 use Rattle.report_check.proofs.told.next_ticket.Goals as goal

@@ -1,4 +1,4 @@
-use Rattle.std.proofs.Common.{◌≡◌, ◌∙◌, ap, [], List, ℕ, arith}
+use Rattle.std.proofs.Common.{◌∙◌, ap, [], arith}
 use Rattle.std.proofs.lemmas.List.{drop_all}
 use Rattle.outside.specs.Texts.{fields}
 use Rattle.report_check.specs.Reading.{word_in}

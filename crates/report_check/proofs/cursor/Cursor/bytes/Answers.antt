@@ -1,4 +1,4 @@
-use Rattle.std.proofs.Common.{◌≡◌, ◌+◌, ◌∙◌, ap, sym, drop, List, ℕ}
+use Rattle.std.proofs.Common.{◌+◌, ◌∙◌, ap, sym, drop, List, ℕ}
 use Rattle.std.proofs.lemmas.List.{take_rest}
 use Rattle.report_check.specs.Reading.{word_in}
 use Rattle.report_check.proofs.Steps.{word-differs, word-done, word-ended, word-goes}

@@ -1,4 +1,4 @@
-use Rattle.std.proofs.Common.{◌≡◌, ◌∙◌, ◌∷◌, [], ◌+◌, ◌++◌, ap, sym, drop, map, List, ℕ, Err, length, arith}
+use Rattle.std.proofs.Common.{◌≡◌, ◌∙◌, ◌∷◌, [], ◌+◌, ap, sym, drop, map, Err, length, arith}
 use Rattle.std.proofs.lemmas.List.{length-map, map-append}
 use Rattle.report_check.specs.Lines.{done_of}
 use Rattle.report_check.specs.Reading.{calls_in}

@@ -28,7 +28,7 @@ digits-preserved c =
     let low : 10 * c.digits.number + (get_or c.digits.rest.now 0 0 - 48) < c.args.limit =
     omega (arith, c.if-more-from.false, c.from.ensures, c.from-in-len1-up.ensures, c.from-in-len1-up-2.ensures) in
     let same : 10 * c.digits.number + (get_or c.digits.rest.now 0 0 - 48)
-        ≡ 10 * c.from.result + c.from-in-len1-up.result =
+    ≡ 10 * c.from.result + c.from-in-len1-up.result =
     omega (arith, c.from.ensures, c.from-in-len1-up.ensures) in record {
       low = omega (arith, low, same);
       same = c.digits.invariant.same

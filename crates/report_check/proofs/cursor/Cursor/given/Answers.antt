@@ -14,7 +14,7 @@ pub returns-clause-some : goal.returns-clause-some
 returns-clause-some c =
     let digits : c.as_bytes.result.now ≡ decimal c.args.number = c.as_bytes.ensures.value ∙ c.format.ensures.text in
     let same : word_in (field c.args.number) c.args.self.now.rest.now
-        ≡ word_in c.as_bytes.result.now c.word.new.self.rest.now =
+    ≡ word_in c.as_bytes.result.now c.word.new.self.rest.now =
     word-then (32 ∷ []) (decimal c.args.number) c.args.self.now.rest.now c.word.new.self.rest.now
     c.in_ok-word.ensures.some
     ∙ ap (λ ds. word_in ds c.word.new.self.rest.now) (sym digits) in
@@ -25,7 +25,7 @@ pub returns-clause-none : goal.returns-clause-none
 returns-clause-none c =
     let digits : c.as_bytes.result.now ≡ decimal c.args.number = c.as_bytes.ensures.value ∙ c.format.ensures.text in
     let same : word_in (field c.args.number) c.args.self.now.rest.now
-        ≡ word_in c.as_bytes.result.now c.word.new.self.rest.now =
+    ≡ word_in c.as_bytes.result.now c.word.new.self.rest.now =
     word-then (32 ∷ []) (decimal c.args.number) c.args.self.now.rest.now c.word.new.self.rest.now
     c.in_ok-word.ensures.some
     ∙ ap (λ ds. word_in ds c.word.new.self.rest.now) (sym digits) in

@@ -1,5 +1,5 @@
-use Rattle.std.proofs.Common.{◌≡◌, ◌∙◌, ◌∷◌, [], ◌-◌, ◌+◌, ap, sym, subst, List, ℕ, Option, None}
-use Rattle.report_check.specs.Reading.{most, number_in, numbers_in, word_in}
+use Rattle.std.proofs.Common.{◌≡◌, ◌∙◌, ◌-◌, ◌+◌, ap, sym, List, ℕ}
+use Rattle.report_check.specs.Reading.{most, number_in, numbers_in}
 use Rattle.report_check.proofs.Turns.{if-none, if-some, last-read, numbers-ended, numbers-missing, numbers-more}
 use Rattle.report_check.proofs.cursor.Cursor.numbers.Goals as goal
 
