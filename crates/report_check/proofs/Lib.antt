@@ -1,3 +1,4 @@
 mod Steps
 mod Turns
 mod Judging
+mod Texts

@@ -5,3 +5,4 @@ pub mod Parts
 pub mod Verdicts
 pub mod Grounds
 pub mod Examples
+pub mod Laws

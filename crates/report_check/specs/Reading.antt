@@ -1,8 +1,9 @@
--- How the lines of a report are read from the front of its text, step by step. Nothing above stands
--- on these steps but where the first line is that can't be read: which lines can be read is said by
--- the texts of report_text alone, that the laws name.
--- Key laws: `calls_are_read` and `reports_are_read` (what can be read is just the text of a line, or
--- of a report, of sound form).
+-- How the lines of a report are read from the front of its text, step by step: words just as they
+-- stand, and numbers without leading zeros. The calls of a report are those of the input's slots, in
+-- their order; then come the lines of the order, of which a line that isn't full is the last, and
+-- the number of visits, behind which nothing stands.
+-- Key laws: `words_are_text` and `numbers_are_text` (what is read is the text that is written of
+-- it).
 use Rattle.std.specs.Prelude.{ℕ, suc, zero, ◌+◌, ◌-◌, ◌*◌, ◌/◌, ◌%◌, ◌^◌, ◌==◌, Bool, true, false, nat_lt, if◌then◌else◌, List, [], ◌∷◌, ◌++◌, length, Option, Some, None, Result, Ok, Err, codes}
 use Rattle.std.specs.Char.{is_ascii_digit}
 use Rattle.outside.specs.Texts.{fields}

@@ -7,6 +7,7 @@ mod checker;
 mod cursor;
 mod examples;
 mod judge;
+mod laws;
 mod report;
 mod slots;
 mod told;
@@ -17,4 +18,5 @@ pub use examples::{
     flaws_of_form, flaws_of_place, flaws_of_tickets, moves_by_tickets, switches_by_tickets,
     worked_reports,
 };
+pub use laws::{numbers_are_text, words_are_text};
 pub use verdict::{Flaw, Verdict};

@@ -1,0 +1,12 @@
+//! Laws of what is read.
+ghost use Rattle.report_check.specs.Laws.{NumbersAreText, WordsAreText};
+
+/// A word is read just where it stands.
+pub fn words_are_text()
+    ensures { WordsAreText }
+{}
+
+/// A number is read just as it is written.
+pub fn numbers_are_text()
+    ensures { NumbersAreText }
+{}
