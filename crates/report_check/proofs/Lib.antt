@@ -2,3 +2,4 @@ mod Steps
 mod Turns
 mod Judging
 mod Texts
+mod CallTexts

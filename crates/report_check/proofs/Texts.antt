@@ -1,13 +1,13 @@
 -- What is read is the text that report_text writes of it.
-use Rattle.std.proofs.Common.{◌≡◌, ◌≢◌, ℕ, suc, ◌+◌, ◌-◌, ◌*◌, ◌^◌, ◌<◌, ◌≤◌, ◌&&◌, Bool, true, false, cond, eqb, ltb, List, [], ◌∷◌, ◌++◌, length, get_or, Option, Some, None, refl, ap, sym, ◌∙◌, arith, subst, codes, rules, append_assoc}
+use Rattle.std.proofs.Common.{◌≡◌, ◌≢◌, ℕ, ◌+◌, ◌-◌, ◌*◌, ◌^◌, ◌<◌, ◌≤◌, ◌&&◌, Bool, true, false, cond, eqb, ltb, List, [], ◌∷◌, ◌++◌, Option, Some, None, refl, ap, sym, ◌∙◌, arith, subst, codes, rules}
 use Rattle.std.proofs.lemmas.Bool.Decides.{nat_tests}
 use Rattle.std.proofs.lemmas.Fmt.{decimal-digits_value, decimal_digit}
 use Rattle.std.proofs.lemmas.Str.Parse.{IsNumeralModel, numerals_by_fold}
 use Rattle.std.specs.Char.{is_ascii_digit}
 use Rattle.std.specs.Fmt.{decimal}
 use Rattle.std.specs.List.{list_all}
-use Rattle.outside.specs.Texts.{field, fields}
-use Rattle.report_check.specs.Reading.{◌>>=◌, digits_from, digits_in, digits_of, labelled_in, number_in, starts_with_digit, word_in}
+use Rattle.outside.specs.Texts.{field}
+use Rattle.report_check.specs.Reading.{◌>>=◌, digits_from, digits_in, digits_of, number_in, starts_with_digit, word_in}
 
 -- how a reading that goes on went so far
 pub bind-inv : {A B : Type 0} (o : Option A) (f : A → Option B) (y : B) → (o >>= f) ≡ Some y
@@ -53,6 +53,7 @@ none-read value n text rest e = (ap (λ o. first o) e, ap (λ o. second o) e)
     first : Option (ℕ × List ℕ) → ℕ
     first None = 0
     first (Some p) = p.0
+
     second : Option (ℕ × List ℕ) → List ℕ
     second None = []
     second (Some p) = p.1
@@ -64,7 +65,7 @@ run-step : (limit value b n : ℕ) (text rest : List ℕ) (t u : Bool) → is_as
     (Some (value, b ∷ text)))
     (Some (n, rest))
     → (digits_from limit (10 * value + (b - 48)) text ≡ Some (n, rest)
-        → IsRun limit (10 * value + (b - 48)) text n rest)
+    → IsRun limit (10 * value + (b - 48)) text n rest)
     → IsRun limit value (b ∷ text) n rest
 run-step limit value b n text rest true true digit small e go =
     let run = go e in

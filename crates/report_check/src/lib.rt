@@ -18,5 +18,5 @@ pub use examples::{
     flaws_of_form, flaws_of_place, flaws_of_tickets, moves_by_tickets, switches_by_tickets,
     worked_reports,
 };
-pub use laws::{numbers_are_text, words_are_text};
+pub use laws::{calls_are_text, numbers_are_text, words_are_text};
 pub use verdict::{Flaw, Verdict};
