@@ -1,0 +1,5 @@
+mod Steps
+mod Turns
+mod Judging
+mod Texts
+mod CallTexts

@@ -1,0 +1,45 @@
+-- Worked examples: reports of the line of four nodes by several programs, sound and unsound.
+-- Key laws, computed: `worked_reports`, `flaws_of_form`, `flaws_of_tickets`, `flaws_of_place`,
+-- `moves_by_tickets`, `switches_by_tickets`.
+use Rattle.std.specs.Prelude.{ℕ, List, [], ◌∷◌, ◌++◌}
+use Rattle.net_reader.specs.declared.said.Call.{Call}
+use Rattle.net_reader.specs.declared.said.Call.TheVariants.{Move, Find, Off, On}
+use Rattle.net_reader.specs.Input.{Contents}
+use Rattle.region_plan.specs.Examples.{line_of_four}
+use Rattle.report_check.specs.declared.verdict.Verdict.{Verdict}
+use Rattle.report_check.specs.Verdicts.{verdict_of}
+
+infixr 65 ◌then◌
+-- a line, and what stands behind it
+abbrev pub ◌then◌ : List ℕ → List ℕ → List ℕ
+line then rest = line ++ 10 ∷ rest
+
+-- the line of four nodes with a subscriber at node 3 and a caller, whose calls these are
+abbrev pub contents_with : List Call → List Call → Contents
+contents_with steps finds =
+    record {
+      format = 2;
+      nodes = 4;
+      k = 2;
+      edges = [];
+      homes = 3 ∷ [];
+      callers = 1;
+      scripts = steps ∷ finds ∷ [];
+      order = [];
+    }
+
+-- a move to node 2, and a find from node 3
+abbrev pub one_move : Contents
+one_move = contents_with (Move 2 ∷ []) (Find 3 0 ∷ [])
+
+-- a move to node 2, and a find from node 2
+abbrev pub near_find : Contents
+near_find = contents_with (Move 2 ∷ []) (Find 2 0 ∷ [])
+
+-- off and on again, and a find from node 3
+abbrev pub switches : Contents
+switches = contents_with (Off ∷ On ∷ []) (Find 3 0 ∷ [])
+
+-- the verdict on a report of these calls
+abbrev pub verdict_for : Contents → List ℕ → Verdict
+verdict_for contents report = verdict_of line_of_four contents report

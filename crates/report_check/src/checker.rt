@@ -1,0 +1,53 @@
+//! The checker.
+ghost use Rattle.std.specs.Prelude.{◌≡◌, ◌≤◌, IfOk, length};
+ghost use Rattle.net_reader.specs.Seen.{seen_input};
+ghost use Rattle.net_reader.specs.Valid.{IsValid};
+ghost use Rattle.report_check.specs.Verdicts.{most_bytes, verdict_of};
+
+use crate::calls::Bounds;
+use crate::judge::{Ground, judge, line_behind};
+use crate::report::read_report;
+use crate::slots::slots_of;
+use crate::verdict::{Flaw, Verdict};
+use distances::Distances;
+use net_reader::Input;
+use region_plan::Plan;
+use std::alloc::{AllocError, Global};
+
+/// Whether a report is sound for an input over its plan and the plan's distances, and else its
+/// first flaw and the line where it stands (docs/FORMATS.md, "The checker"). The only fault is want
+/// of memory.
+pub fn check(
+    alloc: Global,
+    input: &Input,
+    plan: &Plan,
+    distances: &Distances,
+    report: &[u8],
+) -> Result<Verdict, AllocError>
+    requires valid { IsValid (seen_input input.now) }
+    requires distances { distances.now ≡ plan.now.distances }
+    requires few { length report.now ≤ most_bytes }
+    ensures { IfOk result
+        (λ verdict. verdict ≡ verdict_of plan.now (seen_input input.now) report.now) }
+{
+    let bounds = Bounds {
+        nodes: plan.nodes(),
+        levels: plan.levels(),
+    };
+    let slots = slots_of(alloc, input)?;
+    match read_report(alloc, bounds, &slots, report)? {
+        Err(lines) => Ok(Verdict::Unsound {
+            line: line_behind(lines),
+            cause: Flaw::Form,
+        }),
+        Ok(found) => {
+            let ground = Ground {
+                homes: &input.homes,
+                nodes: plan.nodes(),
+                stretch: plan.stretch(),
+                distances,
+            };
+            Ok(judge(&ground, &input.scripts, &found.calls, &found.order))
+        }
+    }
+}

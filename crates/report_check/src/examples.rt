@@ -1,0 +1,185 @@
+//! Worked examples, computed.
+ghost use Rattle.std.specs.Prelude.{◌≡◌, [], codes};
+ghost use Rattle.report_check.specs.declared.verdict.Flaw.TheVariants.{Form, Tickets, Place, Again, Weight};
+ghost use Rattle.report_check.specs.declared.verdict.Verdict.TheVariants.{Sound, Unsound};
+ghost use Rattle.report_check.specs.Examples.{◌then◌, near_find, one_move, switches, verdict_for};
+
+/// A sound report, and how it is broken.
+pub fn worked_reports()
+    ensures whole { verdict_for one_move (
+        codes "move 0 1 3 2 weight 1 first 0 commit 3 last 5" then
+        codes "find 1 3 0 at 2 number 1 level 0 weight 5 first 6 last 8" then
+        codes "order 0 0 0 0 0 0 1 1 1" then codes "end 9" then []) ≡ Sound }
+    ensures elsewhere { verdict_for one_move (
+        codes "move 0 1 3 2 weight 1 first 0 commit 3 last 5" then
+        codes "find 1 3 0 at 3 number 1 level 0 weight 5 first 6 last 8" then
+        codes "order 0 0 0 0 0 0 1 1 1" then codes "end 9" then []) ≡ Unsound 2 Place }
+    ensures heaviest { verdict_for one_move (
+        codes "move 0 1 3 2 weight 1 first 0 commit 3 last 5" then
+        codes "find 1 3 0 at 2 number 1 level 0 weight 144 first 6 last 8" then
+        codes "order 0 0 0 0 0 0 1 1 1" then codes "end 9" then []) ≡ Sound }
+    ensures too_heavy { verdict_for one_move (
+        codes "move 0 1 3 2 weight 1 first 0 commit 3 last 5" then
+        codes "find 1 3 0 at 2 number 1 level 0 weight 145 first 6 last 8" then
+        codes "order 0 0 0 0 0 0 1 1 1" then codes "end 9" then []) ≡ Unsound 2 Weight }
+    ensures late_commit { verdict_for one_move (
+        codes "move 0 1 3 2 weight 1 first 0 commit 5 last 5" then
+        codes "find 1 3 0 at 2 number 1 level 0 weight 5 first 6 last 8" then
+        codes "order 0 0 0 0 0 0 1 1 1" then codes "end 9" then []) ≡ Unsound 1 Tickets }
+    ensures needless { verdict_for one_move (
+        codes "move 0 1 3 2 weight 1 first 0 commit 3 last 5" then
+        codes "again 1 3 0 none weight 5 first 6 last 8" then
+        codes "order 0 0 0 0 0 0 1 1 1" then codes "end 9" then []) ≡ Unsound 2 Again }
+    ensures cut { verdict_for one_move (
+        codes "move 0 1 3 2 weight 1 first 0 commit 3 last 5" then
+        codes "find 1 3 0 at 2 number 1 level 0 weight 5 first 6 last 8" then
+        codes "order 0 0 0 0 0 0 1 1 1" then []) ≡ Unsound 4 Form }
+{}
+
+/// Form: lines that may not stand where they stand.
+pub fn flaws_of_form()
+    ensures nothing { verdict_for one_move ([]) ≡ Unsound 1 Form }
+    ensures no_line_feed { verdict_for one_move (
+        codes "move 0 1 3 2 weight 1 first 0 commit 3 last 5" then
+        codes "find 1 3 0 at 2 number 1 level 0 weight 5 first 6 last 8" then
+        codes "order 0 0 0 0 0 0 1 1 1" then codes "end 9") ≡ Unsound 4 Form }
+    ensures second_order { verdict_for one_move (
+        codes "move 0 1 3 2 weight 1 first 0 commit 3 last 5" then
+        codes "find 1 3 0 at 2 number 1 level 0 weight 5 first 6 last 8" then
+        codes "order 0 0 0 0 0 0" then codes "order 1 1 1" then codes "end 9" then []
+        ) ≡ Unsound 4 Form }
+    ensures wrong_end { verdict_for one_move (
+        codes "move 0 1 3 2 weight 1 first 0 commit 3 last 5" then
+        codes "find 1 3 0 at 2 number 1 level 0 weight 5 first 6 last 8" then
+        codes "order 0 0 0 0 0 0 1 1 1" then codes "end 8" then []) ≡ Unsound 4 Form }
+    ensures more_behind { verdict_for one_move (
+        codes "move 0 1 3 2 weight 1 first 0 commit 3 last 5" then
+        codes "find 1 3 0 at 2 number 1 level 0 weight 5 first 6 last 8" then
+        codes "order 0 0 0 0 0 0 1 1 1" then codes "end 9" then codes "end 9" then []
+        ) ≡ Unsound 5 Form }
+    ensures two_blanks { verdict_for one_move (
+        codes "move 0 1 3 2 weight 1 first 0 commit 3 last 5" then
+        codes "find 1 3 0 at  2 number 1 level 0 weight 5 first 6 last 8" then
+        codes "order 0 0 0 0 0 0 1 1 1" then codes "end 9" then []) ≡ Unsound 2 Form }
+    ensures leading_zero { verdict_for one_move (
+        codes "move 0 1 3 2 weight 1 first 0 commit 3 last 5" then
+        codes "find 1 3 0 at 2 number 01 level 0 weight 5 first 6 last 8" then
+        codes "order 0 0 0 0 0 0 1 1 1" then codes "end 9" then []) ≡ Unsound 2 Form }
+    ensures no_node { verdict_for one_move (
+        codes "move 0 1 3 2 weight 1 first 0 commit 3 last 5" then
+        codes "again 1 3 0 empty 4 weight 5 first 6 last 8" then
+        codes "order 0 0 0 0 0 0 1 1 1" then codes "end 9" then []) ≡ Unsound 2 Form }
+    ensures no_level { verdict_for one_move (
+        codes "move 0 1 3 2 weight 1 first 0 commit 3 last 5" then
+        codes "find 1 3 0 at 2 number 1 level 3 weight 5 first 6 last 8" then
+        codes "order 0 0 0 0 0 0 1 1 1" then codes "end 9" then []) ≡ Unsound 2 Form }
+    ensures wrong_number { verdict_for one_move (
+        codes "move 0 2 3 2 weight 1 first 0 commit 3 last 5" then
+        codes "find 1 3 0 at 2 number 1 level 0 weight 5 first 6 last 8" then
+        codes "order 0 0 0 0 0 0 1 1 1" then codes "end 9" then []) ≡ Unsound 1 Form }
+    ensures too_large { verdict_for one_move (
+        codes "move 0 1 3 2 weight 1 first 0 commit 3 last 5" then
+        codes "find 1 3 0 at 2 number 1 level 0 weight 9223372036854775808 first 6 last 8" then
+        codes "order 0 0 0 0 0 0 1 1 1" then codes "end 9" then []) ≡ Unsound 2 Form }
+    ensures largest { verdict_for one_move (
+        codes "move 0 1 3 2 weight 1 first 0 commit 3 last 5" then
+        codes "find 1 3 0 at 2 number 1 level 0 weight 9223372036854775807 first 6 last 8" then
+        codes "order 0 0 0 0 0 0 1 1 1" then codes "end 9" then []) ≡ Unsound 2 Weight }
+{}
+
+/// Place and weight, where every ticket is right.
+pub fn flaws_of_place()
+    ensures off_line { verdict_for one_move (
+        codes "move 0 1 3 2 weight 1 first 0 commit 3 last 5" then
+        codes "off 1 3 0 at 2 number 1 level 0 weight 5 first 6 last 8" then
+        codes "order 0 0 0 0 0 0 1 1 1" then codes "end 9" then []) ≡ Unsound 2 Place }
+    ensures wrong_count { verdict_for one_move (
+        codes "move 0 1 3 2 weight 1 first 0 commit 3 last 5" then
+        codes "find 1 3 0 at 2 number 4294967297 level 0 weight 5 first 6 last 8" then
+        codes "order 0 0 0 0 0 0 1 1 1" then codes "end 9" then []) ≡ Unsound 2 Place }
+    ensures light_move { verdict_for one_move (
+        codes "move 0 1 3 2 weight 2 first 0 commit 3 last 5" then
+        codes "find 1 3 0 at 2 number 1 level 0 weight 5 first 6 last 8" then
+        codes "order 0 0 0 0 0 0 1 1 1" then codes "end 9" then []) ≡ Unsound 1 Weight }
+{}
+
+/// Tickets that no call holds, or that aren't the call's.
+pub fn flaws_of_tickets()
+    ensures stranger { verdict_for one_move (
+        codes "move 0 1 3 2 weight 1 first 0 commit 3 last 5" then
+        codes "find 1 3 0 at 2 number 1 level 0 weight 5 first 6 last 8" then
+        codes "order 0 0 0 0 0 0 1 1 1 2" then codes "end 10" then []) ≡ Unsound 3 Tickets }
+    ensures left_over { verdict_for one_move (
+        codes "move 0 1 3 2 weight 1 first 0 commit 3 last 5" then
+        codes "find 1 3 0 at 2 number 1 level 0 weight 5 first 6 last 8" then
+        codes "order 0 0 0 0 0 0 1 1 1 1" then codes "end 10" then []) ≡ Unsound 2 Tickets }
+    ensures left_over_move { verdict_for one_move (
+        codes "move 0 1 3 2 weight 1 first 0 commit 3 last 5" then
+        codes "find 1 3 0 at 2 number 1 level 0 weight 5 first 6 last 8" then
+        codes "order 0 0 0 0 0 0 1 1 1 0" then codes "end 10" then []) ≡ Unsound 1 Tickets }
+    ensures late_first { verdict_for one_move (
+        codes "move 0 1 3 2 weight 1 first 0 commit 3 last 5" then
+        codes "find 1 3 0 at 2 number 1 level 0 weight 5 first 7 last 8" then
+        codes "order 0 0 0 0 0 0 1 1 1" then codes "end 9" then []) ≡ Unsound 2 Tickets }
+    ensures early_last { verdict_for one_move (
+        codes "move 0 1 3 2 weight 1 first 0 commit 3 last 5" then
+        codes "find 1 3 0 at 2 number 1 level 0 weight 5 first 6 last 5" then
+        codes "order 0 0 0 0 0 0 1 1 1" then codes "end 9" then []) ≡ Unsound 2 Tickets }
+    ensures no_visits { verdict_for one_move (
+        codes "move 0 1 3 2 weight 1 first 0 commit 3 last 5" then
+        codes "find 1 3 0 at 2 number 1 level 0 weight 5 first 6 last 8" then
+        codes "end 0" then []) ≡ Unsound 1 Tickets }
+{}
+
+/// Moves count by their commits, and a passage is open up to its confirm.
+pub fn moves_by_tickets()
+    ensures before { verdict_for near_find (
+        codes "move 0 1 3 2 weight 1 first 4 commit 7 last 9" then
+        codes "find 1 2 0 at 3 number 0 level 0 weight 5 first 0 last 3" then
+        codes "order 1 1 1 1 0 0 0 0 0 0" then codes "end 10" then []) ≡ Sound }
+    ensures by_lines { verdict_for near_find (
+        codes "move 0 1 3 2 weight 1 first 4 commit 7 last 9" then
+        codes "find 1 2 0 at 2 number 1 level 0 weight 5 first 0 last 3" then
+        codes "order 1 1 1 1 0 0 0 0 0 0" then codes "end 10" then []) ≡ Unsound 2 Place }
+    ensures passage { verdict_for near_find (
+        codes "move 0 1 3 2 weight 1 first 0 commit 3 last 8" then
+        codes "find 1 2 0 at 2 number 1 level - weight 2 first 4 last 6" then
+        codes "order 0 0 0 0 1 1 1 0 0" then codes "end 9" then []) ≡ Sound }
+    ensures beyond_passage { verdict_for near_find (
+        codes "move 0 1 3 2 weight 1 first 0 commit 3 last 8" then
+        codes "find 1 2 0 at 2 number 1 level - weight 3 first 4 last 6" then
+        codes "order 0 0 0 0 1 1 1 0 0" then codes "end 9" then []) ≡ Unsound 2 Weight }
+    ensures met { verdict_for near_find (
+        codes "move 0 1 3 2 weight 1 first 0 commit 5 last 7" then
+        codes "again 1 2 0 chased weight 999 first 1 last 4" then
+        codes "order 0 1 0 0 1 0 0 0" then codes "end 8" then []) ≡ Sound }
+    ensures met_heavy { verdict_for near_find (
+        codes "move 0 1 3 2 weight 1 first 0 commit 5 last 7" then
+        codes "find 1 2 0 at 3 number 0 level 0 weight 999 first 1 last 4" then
+        codes "order 0 1 0 0 1 0 0 0" then codes "end 8" then []) ≡ Sound }
+{}
+
+/// Switches.
+pub fn switches_by_tickets()
+    ensures switched { verdict_for switches (codes "switch 0 off 3 number 0 ticket 0" then
+        codes "switch 0 on 3 number 0 ticket 2" then
+        codes "off 1 3 0 at 3 number 0 level - weight 0 first 1 last 1" then
+        codes "order 0 1 0" then codes "end 3" then []) ≡ Sound }
+    ensures told_on { verdict_for switches (codes "switch 0 off 3 number 0 ticket 0" then
+        codes "switch 0 on 3 number 0 ticket 2" then
+        codes "find 1 3 0 at 3 number 0 level - weight 0 first 1 last 1" then
+        codes "order 0 1 0" then codes "end 3" then []) ≡ Unsound 3 Place }
+    ensures switch_is_no_move { verdict_for switches (
+        codes "switch 0 off 3 number 0 ticket 0" then
+        codes "switch 0 on 3 number 0 ticket 2" then
+        codes "again 1 3 0 none weight 0 first 1 last 3" then codes "order 0 1 0 1" then
+        codes "end 4" then []) ≡ Unsound 3 Again }
+    ensures two_tickets { verdict_for switches (codes "switch 0 off 3 number 0 ticket 1" then
+        codes "switch 0 on 3 number 0 ticket 3" then
+        codes "off 1 3 0 at 3 number 0 level - weight 0 first 2 last 2" then
+        codes "order 0 0 1 0" then codes "end 4" then []) ≡ Unsound 1 Tickets }
+    ensures wrong_state { verdict_for switches (codes "switch 0 on 3 number 0 ticket 0" then
+        codes "switch 0 on 3 number 0 ticket 2" then
+        codes "off 1 3 0 at 3 number 0 level - weight 0 first 1 last 1" then
+        codes "order 0 1 0" then codes "end 3" then []) ≡ Unsound 1 Form }
+{}

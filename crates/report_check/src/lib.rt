@@ -1,0 +1,22 @@
+//! A checker of reports: whether a report, by whoever made it, is sound for an input, and else its
+//! first flaw (docs/FORMATS.md, "The checker").
+#![tactic(auto)]
+
+mod calls;
+mod checker;
+mod cursor;
+mod examples;
+mod judge;
+mod laws;
+mod report;
+mod slots;
+mod told;
+mod verdict;
+
+pub use checker::check;
+pub use examples::{
+    flaws_of_form, flaws_of_place, flaws_of_tickets, moves_by_tickets, switches_by_tickets,
+    worked_reports,
+};
+pub use laws::{calls_are_text, numbers_are_text, words_are_text};
+pub use verdict::{Flaw, Verdict};
