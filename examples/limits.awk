@@ -14,6 +14,12 @@ word == "census" {
     if (NR > 65) wrong("a line more")
 }
 
+word == "costs" {
+    if (NR <= 64 && $0 != "cost " NR - 1 " moves 0 moved 0 written 0 purged 0") wrong("who doesn't move costs something")
+    if (NR == 65 && $0 != "end") wrong("the end")
+    if (NR > 65) wrong("a line more")
+}
+
 word == "replay" && $1 == "find" {
     j = $2 - 64 + 64 * made[$2]++
     if ($2 < actor || visits) wrong("the order of the lines")
@@ -79,5 +85,5 @@ word == "cover" && $1 == "end" {
 
 END {
     if (failed) exit 1
-    if (word == "census" ? NR != 65 : ended != 1) wrong("the end")
+    if (word == "census" || word == "costs" ? NR != 65 : ended != 1) wrong("the end")
 }

@@ -10,7 +10,7 @@ use Rattle.std.specs.Str.{bytes_eq}
 use Rattle.std.specs.Str.Parse.{AllDigits, digits_value}
 use Rattle.std.proofs.lemmas.Str.{digit_value_digit}
 use Rattle.word_line.specs.declared.command.Command.{Command}
-use Rattle.word_line.specs.declared.command.Command.TheVariants.{Cover, Replay, Census, Run, Make, Trial}
+use Rattle.word_line.specs.declared.command.Command.TheVariants.{Cover, Replay, Census, Costs, Run, Make, Trial}
 use Rattle.word_line.specs.declared.load.Load.{Load}
 use Rattle.word_line.specs.Forms.{◌>>=◌, actor_numbers, alone, command_of, is_sound, load_of, network_numbers, number_in, number_of, sound_alone}
 use Rattle.make_load.specs.Load.{IsLoad}
@@ -197,28 +197,40 @@ no-census : (load : Load) → HasLoad load Census → ⊥
 no-census load (inl e) = cc
 no-census load (inr e) = cc
 
+no-costs : (load : Load) → HasLoad load Costs → ⊥
+no-costs load (inl e) = cc
+no-costs load (inr e) = cc
+
 no-run : (load : Load) → HasLoad load Run → ⊥
 no-run load (inl e) = cc
 no-run load (inr e) = cc
 
-by-name : (cover replay census run make trial : Bool) (rest : List (List ℕ)) (command : Command) (load : Load)
-    → cond cover (alone Cover rest) (cond replay (alone Replay rest) (cond census (alone Census rest) (cond run (alone
-    Run rest) (cond make (load_of rest >>= (λ l. Some (Make l))) (cond trial (load_of rest >>= (λ l. Some (Trial l)))
-    None))))) ≡ Some command → HasLoad load command → IsLoad load
-by-name true replay census run make trial rest command load e has = none-alone Cover command rest load (no-cover load) e has
-by-name false true census run make trial rest command load e has = none-alone Replay command rest load (no-replay load) e has
-by-name false false true run make trial rest command load e has = none-alone Census command rest load (no-census load) e has
-by-name false false false true make trial rest command load e has = none-alone Run command rest load (no-run load) e has
-by-name false false false false true trial rest command load e has = made rest command load e has
-by-name false false false false false true rest command load e has = tried rest command load e has
-by-name false false false false false false rest command load e has = cc
+by-name : (cover replay census costs run make trial : Bool) (rest : List (List ℕ)) (command : Command) (load : Load)
+    → cond cover (alone Cover rest) (cond replay (alone Replay rest) (cond census (alone Census rest)
+    (cond costs (alone Costs rest) (cond run (alone Run rest) (cond make (load_of rest >>= (λ l. Some (Make l)))
+    (cond trial (load_of rest >>= (λ l. Some (Trial l))) None)))))) ≡ Some command
+    → HasLoad load command → IsLoad load
+by-name true replay census costs run make trial rest command load e has =
+    none-alone Cover command rest load (no-cover load) e has
+by-name false true census costs run make trial rest command load e has =
+    none-alone Replay command rest load (no-replay load) e has
+by-name false false true costs run make trial rest command load e has =
+    none-alone Census command rest load (no-census load) e has
+by-name false false false true run make trial rest command load e has =
+    none-alone Costs command rest load (no-costs load) e has
+by-name false false false false true make trial rest command load e has =
+    none-alone Run command rest load (no-run load) e has
+by-name false false false false false true trial rest command load e has = made rest command load e has
+by-name false false false false false false true rest command load e has = tried rest command load e has
+by-name false false false false false false false rest command load e has = cc
 
 command-is : (words : List (List ℕ)) (command : Command) (load : Load) → command_of words ≡ Some command
     → HasLoad load command → IsLoad load
 command-is [] command load e has = cc
 command-is (name ∷ rest) command load e has =
     by-name (bytes_eq name (codes "cover")) (bytes_eq name (codes "replay")) (bytes_eq name (codes "census"))
-    (bytes_eq name (codes "run")) (bytes_eq name (codes "make")) (bytes_eq name (codes "trial")) rest command load e has
+    (bytes_eq name (codes "costs")) (bytes_eq name (codes "run")) (bytes_eq name (codes "make"))
+    (bytes_eq name (codes "trial")) rest command load e has
 
 pub words_are_loads : (words : List (List ℕ)) (load : Load)
     → (command_of words ≡ Some (Make load)) ⊎ (command_of words ≡ Some (Trial load)) → IsLoad load

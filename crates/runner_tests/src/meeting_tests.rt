@@ -39,11 +39,19 @@ struct Meeting {
 
 impl Meeting {
     fn own(&self, actor: u32) -> &Caller {
-        if actor == 1 { &self.first } else { &self.second }
+        if actor == 1 {
+            &self.first
+        } else {
+            &self.second
+        }
     }
 
     fn other(&self, actor: u32) -> &Caller {
-        if actor == 1 { &self.second } else { &self.first }
+        if actor == 1 {
+            &self.second
+        } else {
+            &self.first
+        }
     }
 }
 

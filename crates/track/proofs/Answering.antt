@@ -24,7 +24,7 @@ most-within format = at (format == 2)
     at false = omega arith
 
 -- the network of a valid input is one within the limits
-network-valid : (contents : Contents) → IsValid contents → IsNetwork (network_of contents)
+pub network-valid : (contents : Contents) → IsValid contents → IsNetwork (network_of contents)
 network-valid contents valid = record {
   limits = record {
     positive = valid.some;

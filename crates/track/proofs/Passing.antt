@@ -4,10 +4,9 @@ use Rattle.std.specs.List.{concat}
 use Rattle.std.specs.Prelude.{IfErr}
 use Rattle.std.specs.Result.{IsErrAnd, OnOk}
 use Rattle.outside.specs.Bytes.{append_known, append_known-append}
-use Rattle.outside.specs.Calls.{HasFaulted}
 use Rattle.track.specs.declared.stop.WriteStop.{WriteStop}
 use Rattle.track.specs.declared.stop.WriteStop.TheVariants.{Failed}
-use Rattle.track.specs.Transfer.{IsOnItsWay, IsWrittenPart, StopsWriting}
+use Rattle.track.specs.Transfer.{HasFaultedOnce, IsOnItsWay, IsWrittenPart, StopsWriting}
 
 -- all that waited was written, and a piece behind it
 pub long-moved : {E : Type 0} (result : Result (Unit {0}) E) (before mid now : Option (List ℕ))
@@ -57,12 +56,12 @@ begins before mid now total text waiting piece rest one part whole = record {
 }
 
 pub stopped-writing : (stop : WriteStop) (before mid now : Option (List ℕ)) (total text waiting piece rest : List ℕ)
-    (f g h : ℕ) → (stop ≡ Failed) × HasFaulted g h → g ≡ f → IsOnItsWay before mid text waiting
+    (f g h : ℕ) → (stop ≡ Failed) × HasFaultedOnce g h → g ≡ f → IsOnItsWay before mid text waiting
     → IsWrittenPart (waiting ++ piece) mid now → total ≡ text ++ (piece ++ rest)
     → StopsWriting stop total before now f h
 stopped-writing stop before mid now total text waiting piece rest f g h failed same one part whole =
     subst (λ (s : WriteStop). StopsWriting s total before now f h) (sym failed.0) (
-      subst (λ (x : ℕ). HasFaulted x h) same failed.1,
+      subst (λ (x : ℕ). HasFaultedOnce x h) same failed.1,
       begins before mid now total text waiting piece rest one part whole,
     )
 
@@ -87,7 +86,7 @@ ends-no_fault (Err fault) f g h same is = tt
 
 pub ends-stopped : (result : Result (Unit {0}) WriteStop) (before mid now : Option (List ℕ))
     (total text waiting : List ℕ) (f g h : ℕ)
-    → IfErr result (λ stop. (stop ≡ Failed) × HasFaulted g h) → g ≡ f
+    → IfErr result (λ stop. (stop ≡ Failed) × HasFaultedOnce g h) → g ≡ f
     → IsOnItsWay before mid text waiting → IsWrittenPart waiting mid now → total ≡ text
     → IfErr result (λ stop. StopsWriting stop total before now f h)
 ends-stopped (Ok done) before mid now total text waiting f g h failed same one part whole = tt

@@ -1,4 +1,5 @@
--- The report of a valid input over its plan says what is right, and within the bound.
+-- The report of a valid input over its plan, under any order, says what is right, and within the
+-- bound.
 use Rattle.std.proofs.Common.{◌≡◌, ℕ, ◌≤◌, ◌^◌, Bool, true, false, ◌<◌, List, length, Option, Some, None, refl, sym, ap, ◌∙◌, arith}
 use Rattle.std.specs.Prelude.{◌==◌, ◌&&◌, not, if◌then◌else◌, slice_index, slice_index_or}
 use Rattle.node_set.specs.Ascending.{sift}
@@ -19,27 +20,29 @@ use Rattle.scripts.specs.Scripts.{scripts_of}
 use Rattle.census_text.specs.CensusText.{census_text_of, is_place, who_at}
 use Rattle.census_text.specs.TextLaws.{texts-same}
 use Rattle.report_text.specs.ReportText.{report_of}
-use Rattle.track.specs.Results.{IsCensusText, IsReport, history_for, outcome_for, plan_for, setting_for}
+use Rattle.track.specs.Results.{IsCensusText, IsReport, history_for, in_order, outcome_for, plan_for, setting_for}
 use Rattle.track.proofs.Answering.{plan-nodes}
 use Rattle.scripts.specs.Laws.{ScriptsAreValid}
 use Rattle.scripts.specs.ScriptLaws.{few-nodes}
 use Rattle.stretch_laws.specs.Plans.{PlansTrack}
 
-pub report-says : (contents : Contents) → TellInTurn (outcome_for contents).calls
+pub report-says : (contents : Contents) (order : List ℕ)
+    → TellInTurn (outcome_for (in_order contents order)).calls
     → OutcomesAreRight → NumbersRise → PlansTrack → PlanOutcomesAreNear → ScriptsAreValid
     → (text : List ℕ) → IsValid contents → nodes_of (plan_for contents) ≡ contents.nodes
-    → BoundsFinds (plan_for contents) → text ≡ report_of (outcome_for contents) → IsReport contents text
-report-says contents turn right rise track near scripts text valid nodes bounds text_is =
+    → BoundsFinds (plan_for contents) → text ≡ report_of (outcome_for (in_order contents order))
+    → IsReport (in_order contents order) text
+report-says contents order turn right rise track near scripts text valid nodes bounds text_is =
     let plan = plan_for contents in
     let few : nodes_of plan ≤ 2 ^ 16 = omega (arith, nodes, few-nodes contents valid) in
     let valid_scripts = scripts contents (setting_for contents) valid (record { nodes = nodes; starts = refl }) in
     record {
       text_is = text_is;
-      right = right (setting_for contents) (scripts_of contents) contents.order few
+      right = right (setting_for contents) (scripts_of contents) order few
           (track plan contents.homes bounds).whole valid_scripts;
       in_turn = turn;
-      rising = rise (setting_for contents) (scripts_of contents) contents.order few valid_scripts;
-      near = near plan contents.homes (scripts_of contents) contents.order few bounds valid_scripts;
+      rising = rise (setting_for contents) (scripts_of contents) order few valid_scripts;
+      near = near plan contents.homes (scripts_of contents) order few bounds valid_scripts;
     }
 
 -- the census by the scripts of a valid input is that of its calls' history

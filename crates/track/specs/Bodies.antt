@@ -7,10 +7,10 @@ use Rattle.report_text.specs.ReportText.{refused_line_of, report_of}
 use Rattle.track.specs.declared.answer.Body.{Body}
 use Rattle.track.specs.declared.answer.Body.TheVariants as bodies
 
--- a plan has its text, an outcome its report, a census is its text, and a fault has the line that
+-- a plan has its text, an outcome its report, a text is itself, and a fault has the line that
 -- refuses
 abbrev pub text_of : Body → List ℕ
 text_of (bodies.Plan plan) = plan_text_of plan
 text_of (bodies.Report outcome) = report_of (result_of outcome)
-text_of (bodies.Census text) = text.items
+text_of (bodies.Text text) = text.items
 text_of (bodies.Refusal fault) = refused_line_of fault

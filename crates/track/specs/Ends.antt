@@ -3,13 +3,12 @@
 -- one.
 use Rattle.std.specs.Prelude.{◌≡◌, ℕ, ◌<◌, List, length, Option, Some, None, IfSome, Bool, true, false, ◌≤◌}
 use Rattle.outside.specs.Bytes.{append_known, IsAtEnd}
-use Rattle.outside.specs.Calls.{HasFaulted}
 use Rattle.net_reader.specs.Reading.{most_bytes}
 use Rattle.word_line.specs.declared.command.Command.{Command}
 use Rattle.track.specs.declared.status.Status.{Status}
 use Rattle.track.specs.declared.status.Status.TheVariants.{Done, Refused, BadWords, OutOfMemory, ReadFailed, WriteFailed, TooLong}
-use Rattle.track.specs.Results.{IsText, is_served}
-use Rattle.track.specs.Transfer.{IsWrittenPart}
+use Rattle.track.specs.Results.{IsText, is_served, text_alone}
+use Rattle.track.specs.Transfer.{HasFaultedOnce, IsWrittenPart}
 
 -- what stands before and after a call: the bytes left, the source's count of faults, the bytes
 -- written, the sink's
@@ -57,7 +56,7 @@ EndsDone command status before now =
     × IsAtEnd now.left × (now.read_faults ≡ before.read_faults)
     × (now.write_faults ≡ before.write_faults)
 
--- what a status says, to a command that is built
+-- what a status says, to a command that reads an input
 abbrev pub EndsAs : Command → Status → Streams → Streams → Type 0
 EndsAs command Done before now = EndsDone command Done before now
 EndsAs command Refused before now = EndsDone command Refused before now
@@ -65,28 +64,52 @@ EndsAs command BadWords before now = ⊥
 EndsAs command OutOfMemory before now =
     IsSilent before now × (now.read_faults ≡ before.read_faults)
 EndsAs command ReadFailed before now =
-    IsSilent before now × HasFaulted before.read_faults now.read_faults
+    IsSilent before now × HasFaultedOnce before.read_faults now.read_faults
 EndsAs command WriteFailed before now =
-    HasFaulted before.write_faults now.write_faults
+    HasFaultedOnce before.write_faults now.write_faults
     × IfSome before.left (λ bytes. IsBegun command bytes before.written now.written)
     × IsAtEnd now.left × (now.read_faults ≡ before.read_faults)
 EndsAs command TooLong before now =
     IsSilent before now × (now.read_faults ≡ before.read_faults)
     × IfSome before.left (λ bytes. most_bytes < length bytes)
 
--- words of no command, and those of a command that isn't built, change nothing
+-- nothing was read
+abbrev pub IsUnread : Streams → Streams → Type 0
+IsUnread before now = (now.left ≡ before.left) × (now.read_faults ≡ before.read_faults)
+
+-- what a status says, to a command that reads nothing and writes this text
+abbrev pub EndsAlone : List ℕ → Status → Streams → Streams → Type 0
+EndsAlone text Done before now =
+    (now.written ≡ append_known before.written text) × (now.write_faults ≡ before.write_faults)
+    × IsUnread before now
+EndsAlone text Refused before now = ⊥
+EndsAlone text BadWords before now = ⊥
+EndsAlone text OutOfMemory before now = IsSilent before now × IsUnread before now
+EndsAlone text ReadFailed before now = ⊥
+EndsAlone text WriteFailed before now =
+    HasFaultedOnce before.write_faults now.write_faults
+    × IsWrittenPart text before.written now.written × IsUnread before now
+EndsAlone text TooLong before now = ⊥
+
+-- what a status says, to a command by its own text, if it has one
+abbrev pub EndsBy : Option (List ℕ) → Command → Status → Streams → Streams → Type 0
+EndsBy None command status before now = EndsAs command status before now
+EndsBy (Some text) command status before now = EndsAlone text status before now
+
+-- words of no command, and those of a command that isn't served, change nothing
 abbrev pub IsRefusedAtOnce : Status → Streams → Streams → Type 0
 IsRefusedAtOnce status before now = (status ≡ BadWords) × (now ≡ before)
 
--- what a status says, to a command that is built or isn't
+-- what a status says, to a command that is served or isn't
 abbrev pub EndsIf : Bool → Command → Status → Streams → Streams → Type 0
-EndsIf true command status before now = EndsAs command status before now
+EndsIf true command status before now = EndsBy (text_alone command) command status before now
 EndsIf false command status before now = IsRefusedAtOnce status before now
 
--- what a status says, to words
-abbrev pub Ends : Option Command → Status → Streams → Streams → Type 0
-Ends None status before now = IsRefusedAtOnce status before now
-Ends (Some command) status before now = EndsIf (is_served command) command status before now
+-- what a status says, to words, where threads may be started or not
+abbrev pub Ends : Bool → Option Command → Status → Streams → Streams → Type 0
+Ends threads None status before now = IsRefusedAtOnce status before now
+Ends threads (Some command) status before now =
+    EndsIf (is_served threads command) command status before now
 
 -- the number of a status
 abbrev pub status_number : Status → ℕ
@@ -99,7 +122,8 @@ status_number WriteFailed = 5
 status_number TooLong = 6
 
 -- the number is that of a status that says so
-pub record Tells (words : Option Command) (number : ℕ) (before now : Streams) : Type 0 where
+pub record Tells (threads : Bool) (words : Option Command) (number : ℕ)
+    (before now : Streams) : Type 0 where
   pub status : Status
   pub is : number ≡ status_number status
-  pub ends : Ends words status before now
+  pub ends : Ends threads words status before now

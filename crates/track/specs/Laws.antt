@@ -1,19 +1,23 @@
--- The laws of the top call, as named statements. Key laws: `bytes_have_one_text`
--- (`BytesHaveOneText`) and `complete` (`IsComplete`).
-use Rattle.std.specs.Prelude.{◌≡◌, ◌⊎◌, ℕ, ◌≤◌, List, length, Some, Ok}
+-- The laws of the top calls, as named statements. Key laws: `bytes_have_one_text`
+-- (`BytesHaveOneText`), `complete` (`IsComplete`, `IsCompleteAlone`) and `runs_are_replayed`
+-- (`RunsAreReplayed`).
+use Rattle.std.specs.Prelude.{◌≡◌, ◌⊎◌, ℕ, ◌≤◌, List, length, Some, Ok, true, false}
 use Rattle.outside.specs.Calls.{HasFaulted}
 use Rattle.net_reader.specs.Input.{Contents, IsInput}
 use Rattle.net_reader.specs.Reading.{most_bytes}
+use Rattle.report_text.specs.ReportText.{report_of}
 use Rattle.word_line.specs.declared.command.Command.{Command}
+use Rattle.word_line.specs.declared.command.Command.TheVariants.{Replay, Run}
 use Rattle.track.specs.declared.status.Status.{Status}
 use Rattle.track.specs.declared.status.Status.TheVariants.{Done, OutOfMemory}
-use Rattle.track.specs.Results.{IsText}
-use Rattle.track.specs.Ends.{EndsAs, Streams}
+use Rattle.track.specs.Results.{IsText, in_order, is_served, outcome_for}
+use Rattle.track.specs.Ends.{EndsAlone, EndsAs, Streams}
 
--- to a command, bytes have one text, with one status
+-- to a command that is served without threads, bytes have one text, with one status
 abbrev pub BytesHaveOneText : Type 0
 BytesHaveOneText =
     (command : Command) (bytes : List ℕ) (s t : Status) (one other : List ℕ)
+    → is_served false command ≡ true
     → IsText command bytes s one → IsText command bytes t other → (s ≡ t) × (one ≡ other)
 
 -- where the bytes say an input and aren't too many, and neither the source nor the sink failed, the
@@ -27,3 +31,23 @@ IsComplete =
     → (HasFaulted before.read_faults now.read_faults → ⊥)
     → (HasFaulted before.write_faults now.write_faults → ⊥)
     → (status ≡ Done) ⊎ (status ≡ OutOfMemory)
+
+-- and so it is to a command that reads nothing, where the sink didn't fail
+abbrev pub IsCompleteAlone : Type 0
+IsCompleteAlone =
+    (text : List ℕ) (status : Status) (before now : Streams) → EndsAlone text status before now
+    → (HasFaulted before.write_faults now.write_faults → ⊥)
+    → (status ≡ Done) ⊎ (status ≡ OutOfMemory)
+
+-- a run of the input that bytes say prints one order whole: its text is the report of what becomes
+-- of the calls under that order, and whatever other bytes say the same input with that order, their
+-- replay has the same text
+abbrev pub RunsAreReplayed : Type 0
+RunsAreReplayed =
+    (bytes : List ℕ) (contents : Contents) (status : Status) (text : List ℕ)
+    → IsInput bytes (Ok contents) → IsText Run bytes status text
+    → (order : List ℕ) × (text ≡ report_of (outcome_for (in_order contents order)))
+    × ((outcome_for (in_order contents order)).order ≡ order)
+    × ((others : List ℕ) (other : Status) (replayed : List ℕ)
+    → IsInput others (Ok (in_order contents order)) → IsText Replay others other replayed
+    → replayed ≡ text)

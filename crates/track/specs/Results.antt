@@ -1,8 +1,10 @@
 -- The text that answers bytes, by the command: that of the plan of the input's network, the report
--- of what becomes of its calls under its order, the census at their end, or the line that refuses
--- the input.
--- Key law: `bytes_have_one_text`.
-use Rattle.std.specs.Prelude.{◌≡◌, ℕ, Bool, true, false, All, List, Result, Ok, Err, ◌<◌, length}
+-- of what becomes of its calls under its order, or under one that threads made, the census at their
+-- end, what its moves cost, or the line that refuses the input. And the text of a command that reads nothing: a made
+-- input, or the summary of its replay.
+-- Key laws: `bytes_have_one_text`, `runs_are_replayed` (a replay under the order that a run printed
+-- writes the same).
+use Rattle.std.specs.Prelude.{◌≡◌, ℕ, ◌-◌, ◌*◌, Bool, true, false, All, List, Option, Some, None, Result, Ok, Err, ◌<◌, length}
 use Rattle.net_graph.specs.Network.{Network}
 use Rattle.net_reader.specs.declared.fault.InputFault.{InputFault}
 use Rattle.net_reader.specs.Input.{Contents, IsInput}
@@ -13,7 +15,7 @@ use Rattle.directory.specs.Outcomes.{Outcome, outcome_of}
 use Rattle.directory.specs.Settings.{Setting}
 use Rattle.trail_laws.specs.Censuses.{IsCounted, who_ends_at}
 use Rattle.trail_laws.specs.Lines.{IsRightLine}
-use Rattle.region_plan.specs.Plan.{PlanData}
+use Rattle.region_plan.specs.Plan.{PlanData, levels_of}
 use Rattle.region_plan.specs.Settings.{setting_of}
 use Rattle.stretch_laws.specs.Plans.{bound_of}
 use Rattle.stretch_laws.specs.Lines.{IsLineWithin}
@@ -21,10 +23,15 @@ use Rattle.trail_laws.specs.Lines.{TellInTurn, TellRisingNumbers}
 use Rattle.scripts.specs.Scripts.{scripts_of}
 use Rattle.region_plan.specs.Regions.{plan_of}
 use Rattle.census_text.specs.CensusText.{census_text_of}
+use Rattle.make_load.specs.Load.{IsLoad, load_contents, load_text_of}
+use Rattle.report_text.specs.SummaryText.{summary_of}
+use Rattle.move_cost.specs.Costs.{cost_lines}
+use Rattle.move_cost.specs.CostText.{costs_text_of}
+use Rattle.move_cost.specs.Plans.{IsWithinRate}
 use Rattle.report_text.specs.PlanText.{plan_text_of}
 use Rattle.report_text.specs.ReportText.{refused_line_of, report_of}
 use Rattle.word_line.specs.declared.command.Command.{Command}
-use Rattle.word_line.specs.declared.command.Command.TheVariants.{Cover, Replay, Census, Run, Make, Trial}
+use Rattle.word_line.specs.declared.command.Command.TheVariants.{Cover, Replay, Census, Costs, Run, Make, Trial}
 use Rattle.track.specs.declared.status.Status.{Status}
 use Rattle.track.specs.declared.status.Status.TheVariants.{Done, Refused}
 
@@ -66,6 +73,17 @@ pub record IsReport (contents : Contents) (text : List ℕ) : Type 0 where
   pub near : All (IsLineWithin (bound_of (plan_for contents)) (setting_for contents)
       (history_for contents)) (outcome_for contents).calls
 
+-- an input with this order in place of its own
+abbrev pub in_order : Contents → List ℕ → Contents
+in_order contents order = record contents { order = order }
+
+-- the text is the report of what becomes of an input's calls under some order, which it prints
+-- whole
+pub record IsRunReport (contents : Contents) (text : List ℕ) : Type 0 where
+  pub order : List ℕ
+  pub report : IsReport (in_order contents order) text
+  pub printed : (outcome_for (in_order contents order)).order ≡ order
+
 -- the text is the census of an input: at each node it lists whom the directory's census lists at
 -- the end of the input's calls under its order
 pub record IsCensusText (contents : Contents) (text : List ℕ) : Type 0 where
@@ -79,21 +97,62 @@ pub record IsCensusText (contents : Contents) (text : List ℕ) : Type 0 where
   pub right : (sub node : ℕ) → sub < length contents.homes → node < contents.nodes
       → IsCounted (setting_for contents) (history_for contents) sub node
 
--- whether a command is built
-abbrev pub is_served : Command → Bool
-is_served Cover = true
-is_served Replay = true
-is_served Census = true
-is_served Run = false
-is_served (Make load) = false
-is_served (Trial load) = false
+-- the text tells what the moves of each subscriber of an input cost, over the plan of its network
+pub record IsCostText (contents : Contents) (text : List ℕ) : Type 0 where
+  pub text_is : text ≡ costs_text_of (cost_lines (setting_for contents) (scripts_of contents))
+  -- what a subscriber writes weighs at most (16 (2 k - 1) + 4) times the levels times the way that
+  -- it goes, and it purges at most as many marks as it makes moves
+  pub within : All (IsWithinRate (2 * contents.k - 1) (levels_of (plan_for contents)))
+      (cost_lines (setting_for contents) (scripts_of contents))
 
--- what a command makes of an input
+-- whether a command is served, with threads or without
+abbrev pub is_served : Bool → Command → Bool
+is_served threads Cover = true
+is_served threads Replay = true
+is_served threads Census = true
+is_served threads Costs = true
+is_served threads Run = threads
+is_served threads (Make load) = true
+is_served threads (Trial load) = true
+
+-- whether a command makes of an input always the same
+abbrev pub is_made_alike : Command → Bool
+is_made_alike Cover = true
+is_made_alike Replay = true
+is_made_alike Census = true
+is_made_alike Costs = true
+is_made_alike Run = false
+is_made_alike (Make load) = false
+is_made_alike (Trial load) = false
+
+-- the load of a command, if it has one, is within the limits
+abbrev pub HasLoad : Command → Type 0
+HasLoad Cover = Unit {0}
+HasLoad Replay = Unit {0}
+HasLoad Census = Unit {0}
+HasLoad Costs = Unit {0}
+HasLoad Run = Unit {0}
+HasLoad (Make load) = IsLoad load
+HasLoad (Trial load) = IsLoad load
+
+-- the text of a command that reads nothing: the made input, or the summary of what becomes of its
+-- calls under its order, over the plan of its network
+abbrev pub text_alone : Command → Option (List ℕ)
+text_alone Cover = None
+text_alone Replay = None
+text_alone Census = None
+text_alone Costs = None
+text_alone Run = None
+text_alone (Make load) = Some (load_text_of load)
+text_alone (Trial load) = Some (summary_of (outcome_for (load_contents load)))
+
+-- what a command makes of an input; those that read nothing make nothing of one
 abbrev pub IsResult : Command → Contents → List ℕ → Type 0
 IsResult Cover contents text = text ≡ plan_text_of (plan_for contents)
 IsResult Replay contents text = IsReport contents text
 IsResult Census contents text = IsCensusText contents text
-IsResult Run contents text = ⊥
+IsResult Costs contents text = IsCostText contents text
+IsResult Run contents text = IsRunReport contents text
 IsResult (Make load) contents text = ⊥
 IsResult (Trial load) contents text = ⊥
 

@@ -2,7 +2,7 @@
 -- Key law: `command`, by its clauses `rest` (what is left is an end of what was left) and `told`.
 use Rattle.std.specs.Prelude.{◌≡◌, ℕ, ◌<◌, ◌≤◌, List, ◌++◌, length, Option, IfSome}
 use Rattle.outside.specs.Bytes.{prepend_known, append_known, IsAtEnd}
-use Rattle.outside.specs.Calls.{HasFaulted}
+use Rattle.outside.specs.Calls.{HasFaulted, one_more}
 use Rattle.net_reader.specs.Reading.{ReaderValue, StandsFor, most_bytes}
 use Rattle.track.specs.declared.status.Status.{Status}
 use Rattle.track.specs.declared.status.Status.TheVariants.{OutOfMemory, ReadFailed, WriteFailed, TooLong}
@@ -26,10 +26,14 @@ pub record IsAllRead (reader : ReaderValue) (before now : Option (List ℕ))
   pub short : length bytes ≤ most_bytes
   pub no_fault : faults_now ≡ faults_before
 
+-- there was one fault: the count of faults rose by one, or stands at its type's end
+abbrev pub HasFaultedOnce : ℕ → ℕ → Type 0
+HasFaultedOnce before now = HasFaulted before now × (now ≡ one_more before)
+
 -- why not all was read
 abbrev pub StopsReading : ReadStop → Option (List ℕ) → ℕ → ℕ → Type 0
 StopsReading reading.OutOfMemory before faults_before faults_now = faults_now ≡ faults_before
-StopsReading reading.Failed before faults_before faults_now = HasFaulted faults_before faults_now
+StopsReading reading.Failed before faults_before faults_now = HasFaultedOnce faults_before faults_now
 StopsReading reading.TooLong before faults_before faults_now =
     IfSome before (λ bytes. most_bytes < length bytes) × (faults_now ≡ faults_before)
 
@@ -57,7 +61,7 @@ abbrev pub StopsWriting : WriteStop → List ℕ → Option (List ℕ) → Optio
 StopsWriting writing.OutOfMemory text before now faults_before faults_now =
     (now ≡ before) × (faults_now ≡ faults_before)
 StopsWriting writing.Failed text before now faults_before faults_now =
-    HasFaulted faults_before faults_now × IsWrittenPart text before now
+    HasFaultedOnce faults_before faults_now × IsWrittenPart text before now
 
 -- the status that it ends with
 abbrev pub write_status : WriteStop → Status

@@ -9,9 +9,10 @@ ghost use Rattle.directory.specs.Outcomes.{result_of};
 ghost use Rattle.machine.specs.Machines.{IsSame, scripts_at, setting_at, HasHistory};
 ghost use Rattle.report_text.specs.ReportText.{report_of};
 ghost use Rattle.track.specs.Bodies.{text_of};
-ghost use Rattle.track.specs.Results.{IsReport, IsResult, IsText, is_served, plan_for};
+ghost use Rattle.track.specs.Results.{IsReport, IsResult, IsText, is_made_alike, outcome_for, plan_for};
 
 use crate::census::census;
+use crate::cost::cost_text;
 use crate::status::Status;
 use directory::{Outcome, all_scripts_done};
 use distances::Distances;
@@ -30,7 +31,7 @@ use word_line::Command;
 pub(crate) enum Body {
     Plan(Plan),
     Report(Outcome),
-    Census(Vec<u8>),
+    Text(Vec<u8>),
     Refusal(InputFault),
 }
 
@@ -53,10 +54,11 @@ fn cover(alloc: Global, input: &Input, graph: &Graph) -> Result<Plan, AllocError
 }
 
 // What becomes of an input's calls under its order, over its plan.
-fn replay(alloc: Global, input: &Input, graph: &Graph) -> Result<Outcome, AllocError>
+pub(crate) fn replay(alloc: Global, input: &Input, graph: &Graph) -> Result<Outcome, AllocError>
     requires valid { IsValid (seen_input input.now) }
     requires graph { IsGraphOf input.now.nodes input.now.edges.items graph.now }
-    ensures { IfOk result (λ outcome. IsReport (seen_input input.now)
+    ensures is { IfOk result (λ outcome. result_of outcome ≡ outcome_for (seen_input input.now)) }
+    ensures report { IfOk result (λ outcome. IsReport (seen_input input.now)
         (report_of (result_of outcome))) }
 {
     outcomes_are_right();
@@ -86,14 +88,14 @@ fn play(machine: &mut Machine<'_>, order: &[u32])
     machine.finish();
 }
 
-// What a command makes of a valid input.
+// What a command makes of a valid input, in one order of its own.
 fn body_of(
     alloc: Global,
     command: Command,
     input: &Input,
     graph: &Graph,
 ) -> Result<Body, AllocError>
-    requires served { is_served command ≡ true }
+    requires served { is_made_alike command ≡ true }
     requires valid { IsValid (seen_input input.now) }
     requires graph { IsGraphOf input.now.nodes input.now.edges.items graph.now }
     ensures { IfOk result (λ body. IsResult command (seen_input input.now) (text_of body)) }
@@ -101,7 +103,8 @@ fn body_of(
     match command {
         Command::Cover => Ok(Body::Plan(cover(alloc, input, graph)?)),
         Command::Replay => Ok(Body::Report(replay(alloc, input, graph)?)),
-        Command::Census => Ok(Body::Census(census(alloc, input)?)),
+        Command::Census => Ok(Body::Text(census(alloc, input)?)),
+        Command::Costs => Ok(Body::Text(cost_text(alloc, input, graph)?)),
         _ => unreachable!(),
     }
 }
@@ -112,7 +115,7 @@ pub(crate) fn make_answer(
     command: Command,
     reader: Reader,
 ) -> Result<Answer, AllocError>
-    requires served { is_served command ≡ true }
+    requires served { is_made_alike command ≡ true }
     ensures text { IfOk result (λ answer. (bytes : List ℕ) → StandsFor reader bytes
         → IsText command bytes answer.status (text_of answer.body)) }
 {

@@ -1,9 +1,9 @@
 //! What holds of every call. Each public function is a law, and does nothing.
-ghost use Rattle.track.specs.Laws.{BytesHaveOneText, IsComplete};
+ghost use Rattle.track.specs.Laws.{BytesHaveOneText, IsComplete, IsCompleteAlone, RunsAreReplayed};
 
 use net_reader::text_says_one;
 
-/// To a command, bytes have one text and one status only.
+/// To a command that is served without threads, bytes have one text and one status only.
 pub fn bytes_have_one_text()
     ensures { BytesHaveOneText }
 {
@@ -11,9 +11,18 @@ pub fn bytes_have_one_text()
 }
 
 /// Where the bytes say an input, not too long, and nothing failed, the whole text was written, or
-/// memory was wanting.
+/// memory was wanting; and so it is to a command that reads nothing.
 pub fn complete()
-    ensures { IsComplete }
+    ensures input { IsComplete }
+    ensures alone { IsCompleteAlone }
+{
+    text_says_one();
+}
+
+/// The text of a run is the report of one order, which it prints whole, and the replay of the same
+/// input with that order has the same text.
+pub fn runs_are_replayed()
+    ensures { RunsAreReplayed }
 {
     text_says_one();
 }

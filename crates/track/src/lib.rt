@@ -1,17 +1,20 @@
-//! The top call: what the program's words tell it to do, from the bytes read to the bytes written.
+//! The top calls: what the program's words tell it to do, from the bytes read to the bytes written.
 #![tactic(auto)]
 
 mod answer;
 mod census;
+mod cost;
 mod laws;
 mod outlet;
+mod run;
 mod status;
 mod stop;
 mod top;
 mod transfer;
+mod trial;
 mod writing;
 mod wrong;
 
-pub use laws::{bytes_have_one_text, complete};
-pub use top::command;
+pub use laws::{bytes_have_one_text, complete, runs_are_replayed};
+pub use top::{command, command_with_threads};
 pub use wrong::wrong_ends;

@@ -1,9 +1,8 @@
 //! Bytes on their way into a sink.
 ghost use Rattle.std.specs.Prelude.{◌≡◌, ◌≤◌, ◌+◌, ◌++◌, [], length, IfErr, IfOk, OnOk};
 ghost use Rattle.outside.specs.Bytes.{append_known};
-ghost use Rattle.outside.specs.Calls.{HasFaulted};
 ghost use Rattle.track.specs.declared.stop.WriteStop.TheVariants.{Failed};
-ghost use Rattle.track.specs.Transfer.{IsOnItsWay, IsWrittenPart};
+ghost use Rattle.track.specs.Transfer.{HasFaultedOnce, IsOnItsWay, IsWrittenPart};
 
 use crate::stop::WriteStop;
 use crate::transfer::write_all;
@@ -58,7 +57,7 @@ impl Outlet {
         ensures none { OnOk result (self.new ≡ []) }
         ensures no_fault { OnOk result (K.faults sink.new ≡ K.faults sink.old) }
         ensures stops { IfErr result (λ stop.
-            (stop ≡ Failed) × HasFaulted (K.faults sink.old) (K.faults sink.new)) }
+            (stop ≡ Failed) × HasFaultedOnce (K.faults sink.old) (K.faults sink.new)) }
         ensures part { IsWrittenPart self.old (K.written sink.old) (K.written sink.new) }
     {
         write_all(sink, &self.waiting)?;
@@ -72,7 +71,7 @@ impl Outlet {
             (K.written sink.old) (K.written sink.new) (self.old ++ piece.now) self.new) }
         ensures no_fault { OnOk result (K.faults sink.new ≡ K.faults sink.old) }
         ensures stops { IfErr result (λ stop.
-            (stop ≡ Failed) × HasFaulted (K.faults sink.old) (K.faults sink.new)) }
+            (stop ≡ Failed) × HasFaultedOnce (K.faults sink.old) (K.faults sink.new)) }
         ensures part { IsWrittenPart (self.old ++ piece.now) (K.written sink.old) (K.written
             sink.new) }
     {

@@ -9,7 +9,7 @@ pub enum Status {
     Done = 0,
     /// The line that refuses the input was written.
     Refused = 1,
-    /// The words are no form, or one that isn't built; nothing was read or written.
+    /// The words are no form, or `run` without threads; nothing was read or written.
     BadWords = 2,
     /// Want of memory.
     OutOfMemory = 3,

@@ -1,24 +1,25 @@
-//! The top call.
-ghost use Rattle.std.specs.Prelude.{◌≡◌, true};
+//! The top calls.
+ghost use Rattle.std.specs.Prelude.{◌≡◌, IfErr, IfSome, IsSome, OnOk, false, true};
+ghost use Rattle.word_line.specs.declared.command.Command.TheVariants.{Run};
 ghost use Rattle.word_line.specs.Forms.{bytes_of, command_of};
-ghost use Rattle.track.specs.Results.{is_served};
-ghost use Rattle.track.specs.Ends.{EndsAs, Tells, streams};
-ghost use Rattle.track.specs.Transfer.{IsEndOf};
+ghost use Rattle.track.specs.Results.{HasLoad, is_made_alike, is_served, text_alone};
+ghost use Rattle.track.specs.Ends.{EndsAs, EndsIf, Tells, streams};
+ghost use Rattle.track.specs.Transfer.{IsEndOf, write_status};
+ghost use Rattle.track.specs.declared.status.Status.TheVariants.{BadWords, Done};
 
 use crate::answer::make_answer;
+use crate::run::answer_by_threads;
 use crate::status::Status;
+use crate::stop::WriteStop;
 use crate::transfer::read_all;
+use crate::trial::{write_made, write_trial};
 use crate::writing::write_body;
+use make_load::words_are_loads;
 use outside::{Sink, Source};
+use runner::Gate;
 use std::alloc::{AllocError, Global};
+use std::thread::Threads;
 use word_line::{Command, read_words};
-
-// Whether the command is built.
-fn is_served(command: Command) -> bool
-    ensures { result ≡ is_served command }
-{
-    matches!(command, Command::Cover | Command::Replay | Command::Census)
-}
 
 // Reads the input, and writes what answers it.
 fn perform<S: Source, K: Sink>(
@@ -27,7 +28,7 @@ fn perform<S: Source, K: Sink>(
     source: &mut S,
     sink: &mut K,
 ) -> Status
-    requires { is_served command ≡ true }
+    requires { is_made_alike command ≡ true }
     ensures ends { EndsAs command result
         (streams
         (S.left source.old) (S.faults source.old) (K.written sink.old) (K.faults sink.old))
@@ -49,35 +50,170 @@ fn perform<S: Source, K: Sink>(
     }
 }
 
+// Reads the input, and writes the report of what threads make of its calls.
+fn perform_by_threads<R: Threads + Sync, S: Source, K: Sink, G: Gate>(
+    rt: &R,
+    alloc: Global,
+    source: &mut S,
+    sink: &mut K,
+    gate: &G,
+    tries: u64,
+) -> Status
+    ensures ends { EndsAs Run result
+        (streams
+        (S.left source.old) (S.faults source.old) (K.written sink.old) (K.faults sink.old))
+        (streams
+        (S.left source.new) (S.faults source.new) (K.written sink.new) (K.faults sink.new)) }
+    ensures rest { IsEndOf (S.left source.old) (S.left source.new) }
+{
+    let reader = match read_all(alloc, source) {
+        Ok(reader) => reader,
+        Err(stop) => return Status::from(stop),
+    };
+    let answer = match answer_by_threads(rt, alloc, reader, gate, tries) {
+        Ok(answer) => answer,
+        Err(AllocError) => return Status::OutOfMemory,
+    };
+    match write_body(alloc, &answer.body, sink) {
+        Ok(()) => answer.status,
+        Err(stop) => Status::from(stop),
+    }
+}
+
+// How a call ends that has written its text, or stopped.
+fn status_of(written: Result<(), WriteStop>) -> Status
+    ensures done { OnOk written (result ≡ Done) }
+    ensures stopped { IfErr written (λ stop. result ≡ write_status stop) }
+{
+    match written {
+        Ok(()) => Status::Done,
+        Err(stop) => Status::from(stop),
+    }
+}
+
+// Does what a command says, without threads: `run` is none of the commands that it serves.
+fn serve<S: Source, K: Sink>(
+    alloc: Global,
+    command: Command,
+    source: &mut S,
+    sink: &mut K,
+) -> Status
+    requires { HasLoad command }
+    ensures ends { EndsIf (is_served false command) command result
+        (streams
+        (S.left source.old) (S.faults source.old) (K.written sink.old) (K.faults sink.old))
+        (streams
+        (S.left source.new) (S.faults source.new) (K.written sink.new) (K.faults sink.new)) }
+    ensures untouched { result ≡ BadWords → (source.new ≡ source.old) × (sink.new ≡ sink.old) }
+    ensures unread { IsSome (text_alone command) → source.new ≡ source.old }
+    ensures rest { IsEndOf (S.left source.old) (S.left source.new) }
+{
+    match command {
+        Command::Run => Status::BadWords,
+        Command::Make(load) => status_of(write_made(alloc, load, sink)),
+        Command::Trial(load) => status_of(write_trial(alloc, load, sink)),
+        Command::Cover | Command::Replay | Command::Census | Command::Costs => {
+            perform(alloc, command, source, sink)
+        }
+    }
+}
+
+// Does what a command says; threads serve `run`.
+fn serve_by_threads<R: Threads + Sync, S: Source, K: Sink, G: Gate>(
+    rt: &R,
+    alloc: Global,
+    command: Command,
+    source: &mut S,
+    sink: &mut K,
+    gate: &G,
+    tries: u64,
+) -> Status
+    requires { HasLoad command }
+    ensures ends { EndsIf (is_served true command) command result
+        (streams
+        (S.left source.old) (S.faults source.old) (K.written sink.old) (K.faults sink.old))
+        (streams
+        (S.left source.new) (S.faults source.new) (K.written sink.new) (K.faults sink.new)) }
+    ensures untouched { result ≡ BadWords → (source.new ≡ source.old) × (sink.new ≡ sink.old) }
+    ensures unread { IsSome (text_alone command) → source.new ≡ source.old }
+    ensures rest { IsEndOf (S.left source.old) (S.left source.new) }
+{
+    match command {
+        Command::Run => perform_by_threads(rt, alloc, source, sink, gate, tries),
+        Command::Cover
+        | Command::Replay
+        | Command::Census
+        | Command::Costs
+        | Command::Make(_)
+        | Command::Trial(_) => serve(alloc, command, source, sink),
+    }
+}
+
 /// Does what the words say, the program's name left out, and answers the status to end with.
 ///
 /// docs/FORMATS.md tells the forms of the words, the input, the texts and the statuses. `cover`
 /// writes the plan of the input's network, `replay` the report of what becomes of its calls under
-/// its order, and `census` tells who is where at their end; the other forms aren't built yet, and
-/// end as words that are no form do. Nothing is written before the source answered its end, and the
-/// first fault of the source or the sink ends the work. Status 0 comes with the whole text, and 1
-/// with the line that refuses the input; 2 are words that read and write nothing; 3 is want of
-/// memory; 4 a fault of the source; 5 a fault of the sink, where what was written begins the text;
-/// 6 an input that is too long.
+/// its order, `census` tells who is where at their end, and `costs` what its moves cost. `make` and `trial` read nothing: the
+/// one writes a made input, the other the summary of its replay. `run` needs threads
+/// ([`command_with_threads`]), and ends here as words that are no form do. Nothing is written
+/// before the source answered its end, and the first fault of the source or the sink ends the work.
+/// Status 0 comes with the whole text, and 1 with the line that refuses the input; 2 are words that
+/// read and write nothing; 3 is want of memory; 4 a fault of the source; 5 a fault of the sink,
+/// where what was written begins the text; 6 an input that is too long.
 pub fn command<S: Source, K: Sink>(
     alloc: Global,
     words: &[String],
     source: &mut S,
     sink: &mut K,
 ) -> u8
-    ensures told { Tells (command_of (bytes_of words.now)) result
+    ensures told { Tells false (command_of (bytes_of words.now)) result
         (streams
         (S.left source.old) (S.faults source.old) (K.written sink.old) (K.faults sink.old))
         (streams
         (S.left source.new) (S.faults source.new) (K.written sink.new) (K.faults sink.new)) }
     ensures untouched { result ≡ 2 → (source.new ≡ source.old) × (sink.new ≡ sink.old) }
+    ensures unread { IfSome (command_of (bytes_of words.now)) (λ command. IsSome (text_alone command))
+        → source.new ≡ source.old }
     ensures rest { IsEndOf (S.left source.old) (S.left source.new) }
 {
-    let Ok(command) = read_words(words) else {
-        return u8::from(Status::BadWords);
-    };
-    if !is_served(command) {
-        return u8::from(Status::BadWords);
+    words_are_loads();
+    match read_words(words) {
+        Ok(command) => u8::from(serve(alloc, command, source, sink)),
+        Err(_) => u8::from(Status::BadWords),
     }
-    u8::from(perform(alloc, command, source, sink))
+}
+
+/// Does what the words say, as [`command`] does, and serves `run` too: it writes the report of what
+/// becomes of the input's calls when a thread for each actor makes them, under the order of their
+/// tickets, which the report prints whole; so that [`command`] on the same input with that order
+/// and `replay` writes the same. The gate is asked before each visit, and each thread gives up
+/// after so many turns that were lost or not allowed; the visits that are left are then made actor
+/// by actor. It neither waits nor asks who comes first.
+pub fn command_with_threads<R: Threads + Sync, S: Source, K: Sink, G: Gate>(
+    rt: &R,
+    alloc: Global,
+    words: &[String],
+    source: &mut S,
+    sink: &mut K,
+    gate: &G,
+    tries: u64,
+) -> u8
+    ensures told { Tells true (command_of (bytes_of words.now)) result
+        (streams
+        (S.left source.old) (S.faults source.old) (K.written sink.old) (K.faults sink.old))
+        (streams
+        (S.left source.new) (S.faults source.new) (K.written sink.new) (K.faults sink.new)) }
+    ensures untouched { result ≡ 2 → (source.new ≡ source.old) × (sink.new ≡ sink.old) }
+    ensures unread { IfSome (command_of (bytes_of words.now)) (λ command. IsSome (text_alone command))
+        → source.new ≡ source.old }
+    ensures rest { IsEndOf (S.left source.old) (S.left source.new) }
+{
+    words_are_loads();
+    match read_words(words) {
+        Ok(command) => {
+            let status = serve_by_threads(rt, alloc, command, source, sink, gate, tries);
+            u8::from(status)
+        }
+        Err(_) => u8::from(Status::BadWords),
+    }
 }

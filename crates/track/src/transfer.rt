@@ -1,9 +1,8 @@
 //! All bytes of a source into a reader, and a whole text into a sink.
 ghost use Rattle.std.specs.Prelude.{◌≡◌, IfOk, IfErr, OnOk};
 ghost use Rattle.outside.specs.Bytes.{append_known};
-ghost use Rattle.outside.specs.Calls.{HasFaulted};
 ghost use Rattle.track.specs.declared.stop.WriteStop.TheVariants.{Failed};
-ghost use Rattle.track.specs.Transfer.{IsAllRead, IsEndOf, IsWrittenPart, StopsReading};
+ghost use Rattle.track.specs.Transfer.{HasFaultedOnce, IsAllRead, IsEndOf, IsWrittenPart, StopsReading};
 
 use crate::stop::{ReadStop, WriteStop};
 use net_reader::{MAX_BYTES, Reader};
@@ -41,7 +40,7 @@ pub(crate) fn write_all<K: Sink>(sink: &mut K, text: &[u8]) -> Result<(), WriteS
     ensures all { OnOk result (K.written sink.new ≡ append_known (K.written sink.old) text.now) }
     ensures no_fault { OnOk result (K.faults sink.new ≡ K.faults sink.old) }
     ensures stops { IfErr result (λ stop.
-        (stop ≡ Failed) × HasFaulted (K.faults sink.old) (K.faults sink.new)) }
+        (stop ≡ Failed) × HasFaultedOnce (K.faults sink.old) (K.faults sink.new)) }
     ensures part { IsWrittenPart text.now (K.written sink.old) (K.written sink.new) }
 {
     let mut rest = text;

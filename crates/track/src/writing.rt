@@ -72,7 +72,7 @@ pub(crate) fn write_body<K: Sink>(alloc: Global, body: &Body, sink: &mut K) -> R
             let mut lines = Lines::new(alloc, outcome)?;
             write_lines(&mut lines, &mut outlet, sink)
         }
-        Body::Census(text) => write_all(sink, text),
+        Body::Text(text) => write_all(sink, text),
         Body::Refusal(fault) => {
             let line = refused_line(alloc, *fault)?;
             write_all(sink, &line)

@@ -1,8 +1,8 @@
 //! Ends that no status may tell: each is wrong in one part.
-ghost use Rattle.std.specs.Prelude.{[], ◌∷◌, Some, None};
-ghost use Rattle.word_line.specs.declared.command.Command.TheVariants.{Cover};
+ghost use Rattle.std.specs.Prelude.{[], ◌∷◌, Some, None, true, false};
+ghost use Rattle.word_line.specs.declared.command.Command.TheVariants.{Cover, Run};
 ghost use Rattle.track.specs.declared.status.Status.TheVariants.{Done, Refused, BadWords, OutOfMemory, ReadFailed, WriteFailed, TooLong};
-ghost use Rattle.track.specs.Ends.{Ends, EndsAs, streams};
+ghost use Rattle.track.specs.Ends.{Ends, EndsAlone, EndsAs, streams};
 
 /// A status with bytes left, a fault, or something written that it may not come with.
 pub fn wrong_ends()
@@ -28,6 +28,16 @@ pub fn wrong_ends()
         (streams (Some (1 ∷ [])) 0 None 1) → ⊥ }
     ensures short { EndsAs Cover TooLong (streams (Some []) 0 None 0)
         (streams None 0 None 0) → ⊥ }
-    ensures touched { Ends None BadWords (streams None 0 (Some []) 0)
+    ensures touched { Ends false None BadWords (streams None 0 (Some []) 0)
         (streams None 0 (Some (1 ∷ [])) 0) → ⊥ }
+    ensures run { Ends false (Some Run) Done (streams None 0 None 0)
+        (streams None 0 None 0) → ⊥ }
+    ensures alone_silent { EndsAlone (1 ∷ []) Done (streams None 0 (Some []) 0)
+        (streams None 0 (Some []) 0) → ⊥ }
+    ensures alone_read { EndsAlone [] Done (streams (Some (1 ∷ [])) 0 None 0)
+        (streams (Some []) 0 None 0) → ⊥ }
+    ensures alone_fault { EndsAlone [] WriteFailed (streams None 0 None 0)
+        (streams None 0 None 0) → ⊥ }
+    ensures alone_other { EndsAlone (1 ∷ []) WriteFailed (streams None 0 (Some []) 0)
+        (streams None 0 (Some (2 ∷ [])) 1) → ⊥ }
 {}

@@ -1,12 +1,13 @@
-//! The program `track`: the top call over standard input and output.
+//! The program `track`: the top call over standard input and output, and threads.
 #![tactic(auto)]
 
 use outside::{StdSink, StdSource};
+use runner::{OpenGate, RUN_TRIES};
 use std::alloc::Global;
 use std::env::{self, Env};
 use std::io::{self, ErrorKind};
 use std::process::ExitCode;
-use track::command;
+use track::command_with_threads;
 
 // The statuses of a command line that can't be read: a word is no text, or memory runs out.
 const BAD_WORDS: u8 = 2;
@@ -30,5 +31,13 @@ fn main(rt: HostRuntime) -> ExitCode {
     };
     let mut source = StdSource::new(rt.stdin());
     let mut sink = StdSink::new(rt.stdout());
-    ExitCode::from(command(rt.alloc(), &words, &mut source, &mut sink))
+    ExitCode::from(command_with_threads(
+        &rt,
+        rt.alloc(),
+        &words,
+        &mut source,
+        &mut sink,
+        &OpenGate,
+        RUN_TRIES,
+    ))
 }

@@ -9,7 +9,7 @@ use Rattle.std.specs.List.{list_all}
 use Rattle.std.specs.Str.{bytes_eq}
 use Rattle.std.specs.Str.Parse.{digits_value}
 use Rattle.word_line.specs.declared.command.Command.{Command}
-use Rattle.word_line.specs.declared.command.Command.TheVariants.{Cover, Replay, Census, Run, Make, Trial}
+use Rattle.word_line.specs.declared.command.Command.TheVariants.{Cover, Replay, Census, Costs, Run, Make, Trial}
 use Rattle.word_line.specs.declared.load.Load.{Load}
 
 -- the words as bytes
@@ -93,7 +93,8 @@ command_of (name ∷ rest) =
     if bytes_eq name (codes "cover") then alone Cover rest else
     (if bytes_eq name (codes "replay") then alone Replay rest else
     (if bytes_eq name (codes "census") then alone Census rest else
+    (if bytes_eq name (codes "costs") then alone Costs rest else
     (if bytes_eq name (codes "run") then alone Run rest else
     (if bytes_eq name (codes "make") then (load_of rest >>= λ load. Some (Make load)) else
     (if bytes_eq name (codes "trial") then (load_of rest >>= λ load. Some (Trial load)) else
-    None)))))
+    None))))))

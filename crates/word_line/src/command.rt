@@ -10,6 +10,8 @@ pub enum Command {
     Replay,
     /// Write who is where at the end of the replay.
     Census,
+    /// Write what the moves of each subscriber cost.
+    Costs,
     /// Write the report of the calls that threads make.
     Run,
     /// Write the input that this load makes.

@@ -1,11 +1,14 @@
 //! Worked examples, computed.
 ghost use Rattle.std.specs.Prelude.{◌≡◌, [], ◌∷◌, codes, Some, None};
-ghost use Rattle.word_line.specs.declared.command.Command.TheVariants.{Cover, Make, Run, Trial};
+ghost use Rattle.word_line.specs.declared.command.Command.TheVariants.{Census, Costs, Cover, Make, Replay, Run, Trial};
 ghost use Rattle.word_line.specs.Forms.{command_of};
 
 /// Words that are a command, and words that are none.
 pub fn example_words()
     ensures cover { command_of (codes "cover" ∷ []) ≡ Some Cover }
+    ensures replay { command_of (codes "replay" ∷ []) ≡ Some Replay }
+    ensures census { command_of (codes "census" ∷ []) ≡ Some Census }
+    ensures costs { command_of (codes "costs" ∷ []) ≡ Some Costs }
     ensures run { command_of (codes "run" ∷ []) ≡ Some Run }
     ensures make { command_of (codes "make" ∷ codes "042" ∷ codes "2" ∷ codes "2" ∷ codes "1"
         ∷ codes "0" ∷ codes "1" ∷ [])

@@ -95,6 +95,7 @@ fn command_of(words: &[String]) -> Option<Command>
         "cover" => alone(Command::Cover, rest),
         "replay" => alone(Command::Replay, rest),
         "census" => alone(Command::Census, rest),
+        "costs" => alone(Command::Costs, rest),
         "run" => alone(Command::Run, rest),
         "make" => Some(Command::Make(load_of(rest)?)),
         "trial" => Some(Command::Trial(load_of(rest)?)),

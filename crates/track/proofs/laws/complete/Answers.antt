@@ -1,5 +1,8 @@
-use Rattle.track.proofs.OneText.{is_complete}
+use Rattle.track.proofs.OneText.{is_complete, is_complete_alone}
 use Rattle.track.proofs.laws.complete.Goals as goal
 
-pub returns : goal.returns
-returns c = is_complete c.text_says_one.ensures
+pub returns-clause-input : goal.returns-clause-input
+returns-clause-input c = is_complete c.text_says_one.ensures
+
+pub returns-clause-alone : goal.returns-clause-alone
+returns-clause-alone c = is_complete_alone

@@ -3,10 +3,12 @@ ghost use Rattle.std.specs.Prelude.{◌≤◌};
 
 use crate::same::{same_numbers, same_text};
 use outside::{MemorySink, MemorySource};
+use runner::Gate;
 use std::alloc::Global;
 use std::process::Abort;
 use std::test::Fail;
-use track::command;
+use std::thread::Threads;
+use track::{command, command_with_threads};
 
 /// The line of four nodes.
 pub(crate) const FOUR: &str =
@@ -59,6 +61,24 @@ pub(crate) fn perform(alloc: Global, run: &Run<'_>) -> Result<Ran, Fail> {
     let mut source = source_of(alloc, run)?;
     let mut sink = sink_of(alloc, run)?;
     let status = command(alloc, &words, &mut source, &mut sink);
+    Ok(Ran {
+        status,
+        written: sink.into_bytes(),
+    })
+}
+
+/// The same where threads may be started.
+pub(crate) fn perform_by_threads<R: Threads + Sync, G: Gate>(
+    rt: &R,
+    alloc: Global,
+    run: &Run<'_>,
+    gate: &G,
+    tries: u64,
+) -> Result<Ran, Fail> {
+    let words = words_of(alloc, run.words)?;
+    let mut source = source_of(alloc, run)?;
+    let mut sink = sink_of(alloc, run)?;
+    let status = command_with_threads(rt, alloc, &words, &mut source, &mut sink, gate, tries);
     Ok(Ran {
         status,
         written: sink.into_bytes(),

@@ -1,6 +1,6 @@
 use Rattle.std.proofs.Common.{◌≡◌, ◌++◌, List, ℕ, length}
 use Rattle.net_reader.specs.Reading.{StandsFor}
-use Rattle.text_tests.proofs.reader_tests.read_in_pieces.Given as goal
+use Rattle.top_tests.proofs.reader_tests.read_in_pieces.Given as goal
 
 abbrev pub invariant-pieces : goal.invariant-pieces
 invariant-pieces l = record {

@@ -21,8 +21,15 @@ const PLAN: &str = "plan nodes 4 k 2 levels 3 degree 2 stretch 144\n\
 
 const CENSUS: &str = "node 2 count 1 subs 0\nend 1\n";
 
+const COSTS: &str = "cost 0 moves 1 moved 1 written 12 purged 0\nend\n";
+
 // What each word writes for the line of four nodes with these calls.
-const TEXTS: [(&str, &str); 3] = [("replay", REPORT), ("cover", PLAN), ("census", CENSUS)];
+const TEXTS: [(&str, &str); 4] = [
+    ("replay", REPORT),
+    ("cover", PLAN),
+    ("census", CENSUS),
+    ("costs", COSTS),
+];
 
 // A run over an input at so many bytes a call, some of whose calls fail.
 #[derive(Clone, Copy)]

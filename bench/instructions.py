@@ -1,0 +1,71 @@
+#!/usr/bin/env python3
+"""Counts the instructions of standard runs (valgrind --tool=callgrind) and compares them with those that
+bench/instructions.txt keeps, so that work that is thrown away is seen: no clause speaks of it. A count of one binary repeats to
+within one in a thousand; a run fails here that takes more than three in a hundred more than is kept. Where valgrind is missing
+it says that it was skipped, and nothing was counted.
+
+Usage, at the top of the repository: bench/instructions.py [--keep]        With --keep it writes the numbers anew, once a change
+has been found to be worth them. It runs crates/track_main/out/track_main."""
+import re
+import shutil
+import subprocess
+import sys
+
+from networks import edges, text
+
+OURS = "crates/track_main/out/track_main"
+KEPT = "bench/instructions.txt"
+MOST = 1.03
+
+
+def wide():
+    """A line of 256 nodes with heavy edges: as many levels as a network of so many nodes may have."""
+    return text(256, 2, edges("path", 256, 1048576)).encode()
+
+
+def busy():
+    """A made input of 256 nodes with 8,192 calls."""
+    return subprocess.run([OURS, "make", "42", "256", "4", "64", "64", "8192"], stdout=subprocess.PIPE, check=True).stdout
+
+
+RUNS = [
+    ("cover of a line of 256 nodes", "cover", wide),
+    ("cover of a made input", "cover", busy),
+    ("replay of a made input", "replay", busy),
+    ("census of a made input", "census", busy),
+]
+
+
+def count(word, given):
+    """The instructions of one run."""
+    words = ["valgrind", "--tool=callgrind", "--callgrind-out-file=/dev/null", OURS, word]
+    ran = subprocess.run(words, input=given, stdout=subprocess.DEVNULL, stderr=subprocess.PIPE, check=True)
+    return int(re.search(rb"Collected : (\d+)", ran.stderr).group(1))
+
+
+def kept():
+    """The numbers that are kept, by the run's name."""
+    with open(KEPT, encoding="utf-8") as lines:
+        return {name: int(number) for number, name in (line.rstrip("\n").split(" ", 1) for line in lines)}
+
+
+def main():
+    if not shutil.which("valgrind"):
+        print("bench/instructions.py: skipped, there is no valgrind here")
+        return 0
+    counted = [(name, count(word, made())) for name, word, made in RUNS]
+    if sys.argv[1:] == ["--keep"]:
+        with open(KEPT, "w", encoding="utf-8") as file:
+            file.writelines(f"{number} {name}\n" for name, number in counted)
+        return 0
+    wanted = kept()
+    failed = [name for name, number in counted if number > MOST * wanted[name]]
+    for name, number in counted:
+        print(f"{name}: {number:,} instructions, {number / wanted[name]:.3f} of those that are kept")
+    for name in failed:
+        print(f"bench/instructions.py: {name} takes more than {MOST} times what is kept", file=sys.stderr)
+    return 1 if failed else 0
+
+
+if __name__ == "__main__":
+    sys.exit(main())

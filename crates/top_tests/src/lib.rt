@@ -1,0 +1,20 @@
+//! Tests of the reader of inputs and of the top calls, in a crate above them, so that none of those
+//! crates is proved twice.
+#![tactic(auto)]
+
+#[cfg(test)]
+mod device_tests;
+#[cfg(test)]
+mod grammar_tests;
+#[cfg(test)]
+mod load_tests;
+#[cfg(test)]
+mod reader_tests;
+#[cfg(test)]
+mod run_tests;
+#[cfg(test)]
+mod runs;
+#[cfg(test)]
+mod same;
+#[cfg(test)]
+mod thread_tests;

@@ -1,0 +1,243 @@
+//! Runs by threads, at the top call: those that can end in one way alone, what fails, the replay of
+//! an order that was printed, and two callers that have to meet.
+ghost use Rattle.std.specs.Prelude.{false};
+
+use crate::runs::{FOUR, Lines, ROOM, Ran, Run, perform, perform_by_threads, text_of};
+use crate::same::{same_numbers, same_text};
+use runner::{Gate, OpenGate, RUN_TRIES};
+use std::alloc::Global;
+use std::process::Abort;
+use std::sync::atomic::{AtomicU64, Ordering};
+use std::test::Fail;
+use std::thread::Threads;
+
+// The words, the calls behind the line of four, which reads and writes fail, and what is wanted.
+type Row<'a> = (&'a [&'a str], &'a str, &'a [u64], &'a [u64], u8, &'a str);
+
+const FOUND: &str =
+    "find 1 0 0 at 3 number 0 level 1 weight 3 first 0 last 3\norder 1 1 1 1\nend 4\n";
+
+const MOVED: &str = "move 0 1 3 2 weight 1 first 0 commit 3 last 5\norder 0 0 0 0 0 0\nend 6\n";
+
+fn run_of<'a>(words: &'a [&'a str], input: &'a [u8]) -> Run<'a> {
+    Run {
+        words,
+        input,
+        most: 10,
+        room: 100_000,
+        failing_reads: &[],
+        failing_writes: &[],
+    }
+}
+
+fn play<R: Threads + Sync + Abort>(rt: &R, alloc: Global, rows: &[Row<'_>]) -> Result<(), Fail> {
+    for place in 0..rows.len() {
+        let (words, calls, failing_reads, failing_writes, status, text) = rows[place];
+        let input = text_of(alloc, Lines(FOUR, calls, b"", 0))?;
+        let run = Run {
+            failing_reads,
+            failing_writes,
+            ..run_of(words, &input)
+        };
+        let ran = perform_by_threads(rt, alloc, &run, &OpenGate, RUN_TRIES)?;
+        same_numbers(rt, place, &[u64::from(ran.status)], &[u64::from(status)]);
+        same_text(rt, place, &ran.written, text.as_bytes());
+    }
+    Ok(())
+}
+
+// One actor alone has visits, so that there is one order.
+#[test]
+fn runs_of_one_actor(rt: HostRuntime) -> Result<(), Fail> {
+    let rows: [Row<'_>; 5] = [
+        (&["run"], "find 1 0 0\n", &[], &[], 0, FOUND),
+        (&["run"], "find 1 0 0\norder 0 1 0\n", &[], &[], 0, FOUND),
+        (&["run"], "move 0 2\n", &[], &[], 0, MOVED),
+        (&["run"], "", &[], &[], 0, "end 0\n"),
+        (&["replay"], "move 0 2\n", &[], &[], 0, MOVED),
+    ];
+    play(&rt, rt.alloc(), &rows)
+}
+
+// What ends a run early: other words, a fault of the source or of the sink, a bad line.
+#[test]
+fn runs_that_stop(rt: HostRuntime) -> Result<(), Fail> {
+    let rows: [Row<'_>; 11] = [
+        (&["run", "x"], "find 1 0 0\n", &[0], &[0], 2, ""),
+        (&["Run"], "find 1 0 0\n", &[0], &[0], 2, ""),
+        (&["run"], "find 1 0 0\n", &[0], &[0], 4, ""),
+        (&["run"], "find 1 0 0\n", &[6], &[], 4, ""),
+        (&["run"], "find 1 0 0\n", &[], &[0], 5, ""),
+        (
+            &["run"],
+            "find 1 0 0\n",
+            &[],
+            &[2],
+            5,
+            "find 1 0 0 at 3 numb",
+        ),
+        (&["run"], "find 1 4 0\n", &[], &[], 1, "refused 9 unknown\n"),
+        (&["run"], "find 0 1 0\n", &[], &[], 1, "refused 9 unknown\n"),
+        (&["run"], "find 1 3", &[], &[], 1, "refused 9 form\n"),
+        (
+            &["run"],
+            "order 9999999999999999999",
+            &[],
+            &[],
+            1,
+            "refused 9 form\n",
+        ),
+        (
+            &["run"],
+            "order 999999999999999999\n",
+            &[],
+            &[],
+            1,
+            "refused 9 unknown\n",
+        ),
+    ];
+    play(&rt, rt.alloc(), &rows)
+}
+
+// The replay of an input with the order that a report of it printed.
+fn replay_again(alloc: Global, input: &[u8], report: &[u8]) -> Result<Ran, Fail> {
+    let mut again = Vec::from_slice(alloc, input)?;
+    for line in report.split(|byte| *byte == b'\n') {
+        if line.starts_with(b"order") {
+            again.extend_from_slice(line)?;
+            again.push(b'\n')?;
+        }
+    }
+    perform(alloc, &run_of(&["replay"], &again))
+}
+
+// Whether the first two tickets of a report are those of actors 1 and 2.
+fn begins_with_both(report: &[u8]) -> bool {
+    for line in report.split(|byte| *byte == b'\n') {
+        if line.starts_with(b"order") {
+            return line.starts_with(b"order 1 2 ") || line.starts_with(b"order 2 1 ");
+        }
+    }
+    false
+}
+
+// Whatever order the threads draw, its replay writes the same.
+#[test]
+fn a_run_is_replayed(rt: HostRuntime) -> Result<(), Fail> {
+    let calls = "move 0 2\nmove 0 1\nmove 0 3\nfind 1 0 0\nfind 1 2 0\nfind 1 3 0\n";
+    let input = text_of(rt.alloc(), Lines(FOUR, calls, b"", 0))?;
+    for place in 0..10 {
+        let run = run_of(&["run"], &input);
+        let ran = perform_by_threads(&rt, rt.alloc(), &run, &OpenGate, RUN_TRIES)?;
+        let again = replay_again(rt.alloc(), &input, &ran.written)?;
+        same_numbers(&rt, place, &[u64::from(ran.status)], &[0]);
+        same_text(&rt, place, &again.written, &ran.written);
+    }
+    Ok(())
+}
+
+// How often a caller reads the other's flag before it gives up.
+const MOST_READS: u64 = 200_000_000;
+
+// Lets two callers, actors 1 and 2, make their first visits only where each has seen the other ask,
+// and their second ones once both have made one.
+#[derive(Drop)]
+struct Meeting {
+    asked: [AtomicU64; 2],
+    seen: [AtomicU64; 2],
+    visits: [AtomicU64; 2],
+    went_on: [AtomicU64; 2],
+}
+
+impl Meeting {
+    fn new() -> Meeting {
+        Meeting {
+            asked: [AtomicU64::new(0), AtomicU64::new(0)],
+            seen: [AtomicU64::new(0), AtomicU64::new(0)],
+            visits: [AtomicU64::new(0), AtomicU64::new(0)],
+            went_on: [AtomicU64::new(0), AtomicU64::new(0)],
+        }
+    }
+
+    // Whether the flag is seen to be set before the reads are used up.
+    fn sees(flag: &AtomicU64) -> bool {
+        for _ in 0..MOST_READS {
+            if flag.load(Ordering::SeqCst) > 0 {
+                return true;
+            }
+        }
+        false
+    }
+
+    // The first question of one caller: it asks, and looks for the other.
+    fn first(&self, own: usize, other: usize) -> bool {
+        if own < 2 && other < 2 {
+            self.asked[own].store(1, Ordering::SeqCst);
+            if Meeting::sees(&self.asked[other]) {
+                self.seen[own].store(1, Ordering::SeqCst);
+            }
+        }
+        true
+    }
+
+    // Its second question: it goes on once the other has made a visit.
+    fn second(&self, own: usize, other: usize) -> bool {
+        if own < 2 && other < 2 {
+            let goes = self.visits[other].load(Ordering::SeqCst) > 0;
+            if goes {
+                self.went_on[own].store(1, Ordering::SeqCst);
+            }
+            return goes;
+        }
+        true
+    }
+
+    // What was seen of both: each saw the other ask, and each went on.
+    fn told(&self) -> [u64; 4] {
+        [
+            self.seen[0].load(Ordering::SeqCst),
+            self.seen[1].load(Ordering::SeqCst),
+            self.went_on[0].load(Ordering::SeqCst),
+            self.went_on[1].load(Ordering::SeqCst),
+        ]
+    }
+}
+
+impl Gate for Meeting {
+    ghost is_open = { λ _. false };
+
+    fn may_go(&self, actor: u32, done: u64) -> bool {
+        match (actor, done) {
+            (1, 0) => self.first(0, 1),
+            (2, 0) => self.first(1, 0),
+            (1, 1) => self.second(0, 1),
+            (2, 1) => self.second(1, 0),
+            _ => true,
+        }
+    }
+
+    fn made(&self, actor: u32, done: u64) {
+        match actor {
+            1 => self.visits[0].store(done, Ordering::SeqCst),
+            2 => self.visits[1].store(done, Ordering::SeqCst),
+            _ => {}
+        }
+    }
+}
+
+const TRIES: u64 = 50_000_000;
+
+// Two callers in threads of their own: where one thread asked for both, the first question of one
+// would look for the other's flag in vain; where nobody asks, nothing is seen.
+#[test]
+fn two_workers_meet(rt: HostRuntime) -> Result<(), Fail> {
+    let head = "track 1\nnodes 4\nk 2\nedge 0 1 1\nedge 1 2 1\nedge 2 3 1\nsub 3\ncallers 2\n";
+    let input = text_of(rt.alloc(), Lines(head, "find 1 0 0\nfind 2 0 0\n", b"", 0))?;
+    let gate = Meeting::new();
+    let run = run_of(&["run"], &input);
+    let ran = perform_by_threads(&rt, rt.alloc(), &run, &gate, TRIES)?;
+    same_numbers(&rt, 0, &[u64::from(ran.status)], &[0]);
+    same_numbers(&rt, 1, &gate.told(), &[1, 1, 1, 1]);
+    assert!(rt; begins_with_both(&ran.written));
+    Ok(())
+}

@@ -1,0 +1,29 @@
+use Rattle.std.proofs.Common.{◌≡◌, ◌∙◌, ap, refl}
+use Rattle.directory.specs.Orders.{AreValid}
+use Rattle.net_reader.specs.Seen.{seen_input}
+use Rattle.region_plan.specs.Plan.{PlanData}
+use Rattle.region_plan.specs.Settings.{setting_of}
+use Rattle.scripts.specs.Scripts.{scripts_of}
+use Rattle.move_cost.specs.Costs.{cost_lines}
+use Rattle.move_cost.specs.CostText.{costs_text_of}
+use Rattle.track.specs.Results.{network_of, plan_for, setting_for}
+use Rattle.track.proofs.Answering.{if_ok, network-valid, plan-nodes, plan_of_graph}
+use Rattle.track.proofs.cost.cost_text.Goals as goal
+
+pub returns : goal.returns
+returns c =
+    let contents = seen_input c.args.input.now in
+    let plan = c.in_ok-plan.plan in
+    let same : plan ≡ plan_for contents = c.in_ok-plan.ensures.plan
+    ∙ plan_of_graph c.plan_of_same_walks.ensures contents c.args.graph.now c.requires.valid c.requires.graph in
+    let scripts : AreValid (setting_for contents) (scripts_of contents) =
+    c.scripts_are_valid.ensures contents (setting_for contents) c.requires.valid (record {
+      nodes = plan-nodes c.plan_means.ensures contents c.requires.valid;
+      starts = refl;
+    }) in
+    if_ok c.costs_text.result _ _ (λ text is. record {
+      text_is = is ∙ ap costs_text_of (c.deref.ensures.value ∙ c.in_ok-lines.ensures.lines
+          ∙ ap (λ (p : PlanData). cost_lines (setting_of p contents.homes) (scripts_of contents)) same);
+      within = c.network_lines_are_within_rate.ensures (network_of contents) contents.k contents.homes
+          (scripts_of contents) (network-valid contents c.requires.valid) c.requires.valid.k_some scripts;
+    }) c.costs_text.ensures

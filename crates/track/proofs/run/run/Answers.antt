@@ -1,0 +1,43 @@
+use Rattle.std.proofs.Common.{◌≡◌, ◌∙◌, sym, subst, ap}
+use Rattle.directory.specs.Orders.{history_of}
+use Rattle.directory.specs.Outcomes.{Outcome, result_of}
+use Rattle.net_reader.specs.Seen.{seen_input}
+use Rattle.region_plan.specs.Matched.{BoundsFinds}
+use Rattle.region_plan.specs.Plan.{PlanData}
+use Rattle.region_plan.specs.Settings.{setting_of}
+use Rattle.report_text.specs.ReportText.{report_of}
+use Rattle.runner.specs.Runs.{IsOutcomeOfRun}
+use Rattle.scripts.specs.Scripts.{scripts_of}
+use Rattle.trail_laws.specs.Lines.{TellInTurn}
+use Rattle.track.specs.Results.{IsRunReport, in_order, outcome_for, plan_for, setting_for}
+use Rattle.track.proofs.Answering.{if_ok, plan-nodes, plan_of_graph}
+use Rattle.track.proofs.Replaying.{report-says}
+use Rattle.track.proofs.run.run.Goals as goal
+
+pub returns : goal.returns
+returns g c =
+    let contents = seen_input c.args.input.now in
+    let plan = c.in_ok-plan.plan in
+    let same : plan ≡ plan_for contents = c.in_ok-plan.ensures.plan
+    ∙ plan_of_graph c.plan_of_same_walks.ensures contents c.args.graph.now c.requires.valid c.requires.graph in
+    let bounds : BoundsFinds (plan_for contents) =
+    subst (λ (p : PlanData). BoundsFinds p) same c.in_ok-plan.ensures.bounding in
+    if_ok c.run_workers.result
+    (λ made. IsOutcomeOfRun (setting_of plan contents.homes) (scripts_of contents) (result_of made))
+    (λ made. IsRunReport contents (report_of (result_of made)))
+    (λ made told.
+    let its = subst (λ (p : PlanData). IsOutcomeOfRun (setting_of p contents.homes) (scripts_of contents)
+    (result_of made)) same told in
+    let turn : TellInTurn (outcome_for (in_order contents its.order)).calls =
+    c.lines_are_in_turn.ensures (setting_for contents) (scripts_of contents)
+    (history_of (setting_for contents) (scripts_of contents) its.order)
+    (c.each_visit_is_next.ensures.order (setting_for contents) (scripts_of contents) its.order) in
+    record {
+      order = its.order;
+      report = report-says contents its.order turn c.outcomes_are_right.ensures.lines
+          c.outcomes_are_right.ensures.numbers c.plans_track.ensures c.plan_outcomes_are_near.ensures
+          c.scripts_are_valid.ensures (report_of (result_of made)) c.requires.valid
+          (plan-nodes c.plan_means.ensures contents c.requires.valid) bounds (ap report_of its.is);
+      printed = sym (ap (λ (o : Outcome). o.order) its.is) ∙ its.printed;
+    })
+    c.run_workers.ensures.outcome

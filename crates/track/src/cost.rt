@@ -1,0 +1,30 @@
+//! What the moves of an input cost, as text.
+ghost use Rattle.std.specs.Prelude.{IfOk};
+ghost use Rattle.net_graph.specs.Network.{IsGraphOf};
+ghost use Rattle.net_reader.specs.Seen.{seen_input};
+ghost use Rattle.net_reader.specs.Valid.{IsValid};
+ghost use Rattle.track.specs.Results.{IsCostText};
+
+use distances::Distances;
+use move_cost::{costs, costs_text, network_lines_are_within_rate};
+use net_graph::Graph;
+use net_reader::Input;
+use region_plan::{Plan, plan_means, plan_of_same_walks};
+use scripts::scripts_are_valid;
+use std::alloc::{AllocError, Global};
+
+// What the moves of each subscriber cost, over the plan of the input's network.
+pub(crate) fn cost_text(alloc: Global, input: &Input, graph: &Graph) -> Result<Vec<u8>, AllocError>
+    requires valid { IsValid (seen_input input.now) }
+    requires graph { IsGraphOf input.now.nodes input.now.edges.items graph.now }
+    ensures { IfOk result (λ text. IsCostText (seen_input input.now) text.items) }
+{
+    network_lines_are_within_rate();
+    scripts_are_valid();
+    plan_means();
+    plan_of_same_walks();
+    let distances = Distances::new(alloc, graph)?;
+    let plan = Plan::build(alloc, graph, &distances, input.k)?;
+    let lines = costs(alloc, input, &plan, &distances)?;
+    costs_text(alloc, &lines)
+}

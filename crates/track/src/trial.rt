@@ -1,0 +1,85 @@
+//! What the commands write that read nothing: made inputs, and the summaries of their replays.
+ghost use Rattle.std.specs.Prelude.{◌≡◌, [], IfErr, IfOk, OnOk};
+ghost use Rattle.std.specs.List.{concat};
+ghost use Rattle.outside.specs.Bytes.{append_known};
+ghost use Rattle.make_load.specs.Load.{IsLoad, load_contents, load_text_of};
+ghost use Rattle.report_text.specs.SummaryText.{summary_of};
+ghost use Rattle.track.specs.Results.{outcome_for};
+ghost use Rattle.track.specs.Transfer.{StopsWriting};
+
+use crate::answer::replay;
+use crate::outlet::Outlet;
+use crate::stop::WriteStop;
+use crate::transfer::write_all;
+use input_text::InputLines;
+use make_load::{Workload, loads_are_valid, make_input};
+use net_graph::{Graph, GraphFault};
+use outside::Sink;
+use report_text::summary;
+use std::alloc::{AllocError, Global};
+use word_line::Load;
+
+// The summary of what becomes of a made input's calls under its order, over its plan.
+fn trial(alloc: Global, load: Load) -> Result<Vec<u8>, AllocError>
+    requires { IsLoad load }
+    ensures { IfOk result (λ text. text.items ≡ summary_of (outcome_for (load_contents load))) }
+{
+    loads_are_valid();
+    let input = make_input(alloc, load)?;
+    match Graph::new(alloc, input.nodes, &input.edges) {
+        Ok(graph) => {
+            let outcome = replay(alloc, &input, &graph)?;
+            summary(alloc, &outcome)
+        }
+        Err(GraphFault::Apart { .. }) => unreachable!(),
+        Err(GraphFault::OutOfMemory) => Err(AllocError),
+    }
+}
+
+// The summary of a trial into the sink. All memory is taken before the first byte is written.
+pub(crate) fn write_trial<K: Sink>(alloc: Global, load: Load, sink: &mut K) -> Result<(), WriteStop>
+    requires { IsLoad load }
+    ensures all { OnOk result (K.written sink.new ≡ append_known (K.written sink.old)
+        (summary_of (outcome_for (load_contents load)))) }
+    ensures no_fault { OnOk result (K.faults sink.new ≡ K.faults sink.old) }
+    ensures stops { IfErr result (λ stop. StopsWriting stop
+        (summary_of (outcome_for (load_contents load)))
+        (K.written sink.old) (K.written sink.new) (K.faults sink.old) (K.faults sink.new)) }
+{
+    let text = trial(alloc, load)?;
+    write_all(sink, &text)
+}
+
+// The lines of an input into the sink, through the outlet.
+fn write_input_lines<K: Sink>(
+    lines: &mut InputLines<'_>,
+    outlet: &mut Outlet,
+    sink: &mut K,
+) -> Result<(), WriteStop>
+    requires { outlet.old ≡ [] }
+    ensures all { OnOk result (K.written sink.new
+        ≡ append_known (K.written sink.old) (concat lines.old.left)) }
+    ensures no_fault { OnOk result (K.faults sink.new ≡ K.faults sink.old) }
+    ensures stops { IfErr result (λ stop. StopsWriting stop (concat lines.old.left)
+        (K.written sink.old) (K.written sink.new) (K.faults sink.old) (K.faults sink.new)) }
+{
+    'lines: while let Some(line) = lines.next_line() {
+        outlet.pass_on(sink, line)?;
+    }
+    outlet.flush(sink)
+}
+
+// A made input into the sink. All memory is taken before the first byte is written.
+pub(crate) fn write_made<K: Sink>(alloc: Global, load: Load, sink: &mut K) -> Result<(), WriteStop>
+    requires { IsLoad load }
+    ensures all { OnOk result (K.written sink.new ≡ append_known (K.written sink.old)
+        (load_text_of load)) }
+    ensures no_fault { OnOk result (K.faults sink.new ≡ K.faults sink.old) }
+    ensures stops { IfErr result (λ stop. StopsWriting stop (load_text_of load)
+        (K.written sink.old) (K.written sink.new) (K.faults sink.old) (K.faults sink.new)) }
+{
+    let workload = Workload::new(alloc, load)?;
+    let mut lines = InputLines::new(alloc, workload.listing())?;
+    let mut outlet = Outlet::new(alloc)?;
+    write_input_lines(&mut lines, &mut outlet, sink)
+}
