@@ -10,9 +10,10 @@ use Rattle.std.specs.Str.{bytes_eq}
 use Rattle.std.specs.Str.Parse.{AllDigits, digits_value}
 use Rattle.std.proofs.lemmas.Str.{digit_value_digit}
 use Rattle.word_line.specs.declared.command.Command.{Command}
-use Rattle.word_line.specs.declared.command.Command.TheVariants.{Cover, Replay, Census, Costs, Run, Make, Trial}
+use Rattle.word_line.specs.declared.command.Command.TheVariants.{Cover, Replay, Census, Costs, Check, Run, Make, Trial}
+use Rattle.word_line.specs.declared.command.Command.TheVariants.{ToJson, FromJson, ReplayJson, MeanCover, MeanReplay}
 use Rattle.word_line.specs.declared.load.Load.{Load}
-use Rattle.word_line.specs.Forms.{◌>>=◌, actor_numbers, alone, command_of, is_sound, load_of, network_numbers, number_in, number_of, sound_alone}
+use Rattle.word_line.specs.Forms.{◌>>=◌, actor_numbers, alone, command_of, is_sound, load_of, network_numbers, number_in, number_of, plain_command, sound_alone}
 use Rattle.make_load.specs.Load.{IsLoad}
 
 -- what follows a value
@@ -152,87 +153,88 @@ load-is words load h = cc
 
 -- ---- the command
 
--- a command that has this load
-abbrev HasLoad : Load → Command → Type 0
-HasLoad load command = (command ≡ Make load) ⊎ (command ≡ Trial load)
+-- the load of a command, if it has one
+abbrev load_in : Command → Option Load
+load_in Cover = None
+load_in Replay = None
+load_in Census = None
+load_in Costs = None
+load_in Check = None
+load_in Run = None
+load_in ToJson = None
+load_in FromJson = None
+load_in ReplayJson = None
+load_in MeanCover = None
+load_in MeanReplay = None
+load_in (Make load) = Some load
+load_in (Trial load) = Some load
 
--- a command without a load, and one with one
-none-alone : (plain command : Command) (words : List (List ℕ)) (load : Load) → (HasLoad load plain → ⊥)
-    → alone plain words ≡ Some command → HasLoad load command → IsLoad load
-none-alone plain command [] load never e has =
-    let same : plain ≡ command = cc in absurd (never (subst (HasLoad load) (sym same) has))
-none-alone plain command (w ∷ words) load never e has = cc
+-- what is found, if anything, has no load
+abbrev IsPlain : Option Command → Type 0
+IsPlain found = (command : Command) → found ≡ Some command → load_in command ≡ None
+
+or_named : (name : Bool) (command : Command) (later : Option Command) → load_in command ≡ None → IsPlain later
+    → IsPlain (cond name (Some command) later)
+or_named true command later none plain found e =
+    let same : command ≡ found = cc in subst (λ (c : Command). load_in c ≡ None) same none
+or_named false command later none plain found e = plain found e
+
+no-command : IsPlain None
+no-command command e = cc
+
+plain-name : (name : List ℕ) → IsPlain (plain_command name)
+plain-name name =
+    or_named _ Cover _ refl (
+    or_named _ Replay _ refl (
+    or_named _ Census _ refl (
+    or_named _ Costs _ refl (
+    or_named _ Check _ refl (
+    or_named _ Run _ refl (
+    or_named _ ToJson _ refl (
+    or_named _ FromJson _ refl (
+    or_named _ ReplayJson _ refl (
+    or_named _ MeanCover _ refl (
+    or_named _ MeanReplay _ refl (
+    no-command)))))))))))
+
+without : (found : Option Command) (words : List (List ℕ)) (command : Command) (load : Load) → IsPlain found
+    → alone found words ≡ Some command → load_in command ≡ Some load → IsLoad load
+without found [] command load plain e has = let none = plain command e in cc
+without found (w ∷ words) command load plain e has = cc
 
 made : (words : List (List ℕ)) (command : Command) (load : Load)
-    → (load_of words >>= (λ l. Some (Make l))) ≡ Some command → HasLoad load command → IsLoad load
+    → (load_of words >>= (λ l. Some (Make l))) ≡ Some command → load_in command ≡ Some load → IsLoad load
 made words command load e has =
     let found = bound (load_of words) (λ l. Some (Make l)) command e in
-    let gives = found.gives in
+    let gives : Some (Make found.value) ≡ Some command = found.gives in
     let same : Make found.value ≡ command = cc in
-    elim has [
-      | inl is ↦ let one : found.value ≡ load = cc in subst IsLoad one (load-is words found.value found.is)
-      | inr is ↦ absurd (let wrong : Make found.value ≡ Trial load = same ∙ is in cc)
-    ]
+    let whole : Some found.value ≡ Some load = subst (λ (c : Command). load_in c ≡ Some load) (sym same) has in
+    let one : found.value ≡ load = cc in subst IsLoad one (load-is words found.value found.is)
 
 tried : (words : List (List ℕ)) (command : Command) (load : Load)
-    → (load_of words >>= (λ l. Some (Trial l))) ≡ Some command → HasLoad load command → IsLoad load
+    → (load_of words >>= (λ l. Some (Trial l))) ≡ Some command → load_in command ≡ Some load → IsLoad load
 tried words command load e has =
     let found = bound (load_of words) (λ l. Some (Trial l)) command e in
-    let gives = found.gives in
+    let gives : Some (Trial found.value) ≡ Some command = found.gives in
     let same : Trial found.value ≡ command = cc in
-    elim has [
-      | inl is ↦ absurd (let wrong : Trial found.value ≡ Make load = same ∙ is in cc)
-      | inr is ↦ let one : found.value ≡ load = cc in subst IsLoad one (load-is words found.value found.is)
-    ]
+    let whole : Some found.value ≡ Some load = subst (λ (c : Command). load_in c ≡ Some load) (sym same) has in
+    let one : found.value ≡ load = cc in subst IsLoad one (load-is words found.value found.is)
 
-no-cover : (load : Load) → HasLoad load Cover → ⊥
-no-cover load (inl e) = cc
-no-cover load (inr e) = cc
-
-no-replay : (load : Load) → HasLoad load Replay → ⊥
-no-replay load (inl e) = cc
-no-replay load (inr e) = cc
-
-no-census : (load : Load) → HasLoad load Census → ⊥
-no-census load (inl e) = cc
-no-census load (inr e) = cc
-
-no-costs : (load : Load) → HasLoad load Costs → ⊥
-no-costs load (inl e) = cc
-no-costs load (inr e) = cc
-
-no-run : (load : Load) → HasLoad load Run → ⊥
-no-run load (inl e) = cc
-no-run load (inr e) = cc
-
-by-name : (cover replay census costs run make trial : Bool) (rest : List (List ℕ)) (command : Command) (load : Load)
-    → cond cover (alone Cover rest) (cond replay (alone Replay rest) (cond census (alone Census rest)
-    (cond costs (alone Costs rest) (cond run (alone Run rest) (cond make (load_of rest >>= (λ l. Some (Make l)))
-    (cond trial (load_of rest >>= (λ l. Some (Trial l))) None)))))) ≡ Some command
-    → HasLoad load command → IsLoad load
-by-name true replay census costs run make trial rest command load e has =
-    none-alone Cover command rest load (no-cover load) e has
-by-name false true census costs run make trial rest command load e has =
-    none-alone Replay command rest load (no-replay load) e has
-by-name false false true costs run make trial rest command load e has =
-    none-alone Census command rest load (no-census load) e has
-by-name false false false true run make trial rest command load e has =
-    none-alone Costs command rest load (no-costs load) e has
-by-name false false false false true make trial rest command load e has =
-    none-alone Run command rest load (no-run load) e has
-by-name false false false false false true trial rest command load e has = made rest command load e has
-by-name false false false false false false true rest command load e has = tried rest command load e has
-by-name false false false false false false false rest command load e has = cc
+by-name : (make trial : Bool) (name : List ℕ) (rest : List (List ℕ)) (command : Command) (load : Load)
+    → cond make (load_of rest >>= (λ l. Some (Make l))) (cond trial (load_of rest >>= (λ l. Some (Trial l)))
+    (alone (plain_command name) rest)) ≡ Some command → load_in command ≡ Some load → IsLoad load
+by-name true trial name rest command load e has = made rest command load e has
+by-name false true name rest command load e has = tried rest command load e has
+by-name false false name rest command load e has =
+    without (plain_command name) rest command load (plain-name name) e has
 
 command-is : (words : List (List ℕ)) (command : Command) (load : Load) → command_of words ≡ Some command
-    → HasLoad load command → IsLoad load
+    → load_in command ≡ Some load → IsLoad load
 command-is [] command load e has = cc
 command-is (name ∷ rest) command load e has =
-    by-name (bytes_eq name (codes "cover")) (bytes_eq name (codes "replay")) (bytes_eq name (codes "census"))
-    (bytes_eq name (codes "costs")) (bytes_eq name (codes "run")) (bytes_eq name (codes "make"))
-    (bytes_eq name (codes "trial")) rest command load e has
+    by-name (bytes_eq name (codes "make")) (bytes_eq name (codes "trial")) name rest command load e has
 
 pub words_are_loads : (words : List (List ℕ)) (load : Load)
     → (command_of words ≡ Some (Make load)) ⊎ (command_of words ≡ Some (Trial load)) → IsLoad load
-words_are_loads words load (inl e) = command-is words (Make load) load e (inl refl)
-words_are_loads words load (inr e) = command-is words (Trial load) load e (inr refl)
+words_are_loads words load (inl e) = command-is words (Make load) load e refl
+words_are_loads words load (inr e) = command-is words (Trial load) load e refl

@@ -53,6 +53,12 @@ has_load loads words read other commands.Cover e is = tt
 has_load loads words read other commands.Replay e is = tt
 has_load loads words read other commands.Census e is = tt
 has_load loads words read other commands.Costs e is = tt
+has_load loads words read other commands.Check e is = tt
+has_load loads words read other commands.ToJson e is = tt
+has_load loads words read other commands.FromJson e is = tt
+has_load loads words read other commands.ReplayJson e is = tt
+has_load loads words read other commands.MeanCover e is = tt
+has_load loads words read other commands.MeanReplay e is = tt
 has_load loads words read other commands.Run e is = tt
 has_load loads words read other (commands.Make load) e is =
     loads words load (inl (some_of (command_of words) read other (commands.Make load) e is))

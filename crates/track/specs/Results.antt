@@ -31,7 +31,8 @@ use Rattle.move_cost.specs.Plans.{IsWithinRate}
 use Rattle.report_text.specs.PlanText.{plan_text_of}
 use Rattle.report_text.specs.ReportText.{refused_line_of, report_of}
 use Rattle.word_line.specs.declared.command.Command.{Command}
-use Rattle.word_line.specs.declared.command.Command.TheVariants.{Cover, Replay, Census, Costs, Run, Make, Trial}
+use Rattle.word_line.specs.declared.command.Command.TheVariants.{Cover, Replay, Census, Costs, Check, Run, Make, Trial}
+use Rattle.word_line.specs.declared.command.Command.TheVariants.{ToJson, FromJson, ReplayJson, MeanCover, MeanReplay}
 use Rattle.track.specs.declared.status.Status.{Status}
 use Rattle.track.specs.declared.status.Status.TheVariants.{Done, Refused}
 
@@ -111,6 +112,12 @@ is_served threads Cover = true
 is_served threads Replay = true
 is_served threads Census = true
 is_served threads Costs = true
+is_served threads Check = false
+is_served threads ToJson = false
+is_served threads FromJson = false
+is_served threads ReplayJson = false
+is_served threads MeanCover = false
+is_served threads MeanReplay = false
 is_served threads Run = threads
 is_served threads (Make load) = true
 is_served threads (Trial load) = true
@@ -121,6 +128,12 @@ is_made_alike Cover = true
 is_made_alike Replay = true
 is_made_alike Census = true
 is_made_alike Costs = true
+is_made_alike Check = false
+is_made_alike ToJson = false
+is_made_alike FromJson = false
+is_made_alike ReplayJson = false
+is_made_alike MeanCover = false
+is_made_alike MeanReplay = false
 is_made_alike Run = false
 is_made_alike (Make load) = false
 is_made_alike (Trial load) = false
@@ -131,6 +144,12 @@ HasLoad Cover = Unit {0}
 HasLoad Replay = Unit {0}
 HasLoad Census = Unit {0}
 HasLoad Costs = Unit {0}
+HasLoad Check = Unit {0}
+HasLoad ToJson = Unit {0}
+HasLoad FromJson = Unit {0}
+HasLoad ReplayJson = Unit {0}
+HasLoad MeanCover = Unit {0}
+HasLoad MeanReplay = Unit {0}
 HasLoad Run = Unit {0}
 HasLoad (Make load) = IsLoad load
 HasLoad (Trial load) = IsLoad load
@@ -142,6 +161,12 @@ text_alone Cover = None
 text_alone Replay = None
 text_alone Census = None
 text_alone Costs = None
+text_alone Check = None
+text_alone ToJson = None
+text_alone FromJson = None
+text_alone ReplayJson = None
+text_alone MeanCover = None
+text_alone MeanReplay = None
 text_alone Run = None
 text_alone (Make load) = Some (load_text_of load)
 text_alone (Trial load) = Some (summary_of (outcome_for (load_contents load)))
@@ -152,6 +177,12 @@ IsResult Cover contents text = text ≡ plan_text_of (plan_for contents)
 IsResult Replay contents text = IsReport contents text
 IsResult Census contents text = IsCensusText contents text
 IsResult Costs contents text = IsCostText contents text
+IsResult Check contents text = ⊥
+IsResult ToJson contents text = ⊥
+IsResult FromJson contents text = ⊥
+IsResult ReplayJson contents text = ⊥
+IsResult MeanCover contents text = ⊥
+IsResult MeanReplay contents text = ⊥
 IsResult Run contents text = IsRunReport contents text
 IsResult (Make load) contents text = ⊥
 IsResult (Trial load) contents text = ⊥

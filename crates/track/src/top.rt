@@ -109,7 +109,13 @@ fn serve<S: Source, K: Sink>(
     ensures rest { IsEndOf (S.left source.old) (S.left source.new) }
 {
     match command {
-        Command::Run => Status::BadWords,
+        Command::Run
+        | Command::Check
+        | Command::ToJson
+        | Command::FromJson
+        | Command::ReplayJson
+        | Command::MeanCover
+        | Command::MeanReplay => Status::BadWords,
         Command::Make(load) => status_of(write_made(alloc, load, sink)),
         Command::Trial(load) => status_of(write_trial(alloc, load, sink)),
         Command::Cover | Command::Replay | Command::Census | Command::Costs => {
@@ -144,6 +150,12 @@ fn serve_by_threads<R: Threads + Sync, S: Source, K: Sink, G: Gate>(
         | Command::Replay
         | Command::Census
         | Command::Costs
+        | Command::Check
+        | Command::ToJson
+        | Command::FromJson
+        | Command::ReplayJson
+        | Command::MeanCover
+        | Command::MeanReplay
         | Command::Make(_)
         | Command::Trial(_) => serve(alloc, command, source, sink),
     }

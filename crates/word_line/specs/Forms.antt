@@ -9,7 +9,8 @@ use Rattle.std.specs.List.{list_all}
 use Rattle.std.specs.Str.{bytes_eq}
 use Rattle.std.specs.Str.Parse.{digits_value}
 use Rattle.word_line.specs.declared.command.Command.{Command}
-use Rattle.word_line.specs.declared.command.Command.TheVariants.{Cover, Replay, Census, Costs, Run, Make, Trial}
+use Rattle.word_line.specs.declared.command.Command.TheVariants.{Cover, Replay, Census, Costs, Check, Run, Make, Trial}
+use Rattle.word_line.specs.declared.command.Command.TheVariants.{ToJson, FromJson, ReplayJson, MeanCover, MeanReplay}
 use Rattle.word_line.specs.declared.load.Load.{Load}
 
 -- the words as bytes
@@ -81,20 +82,31 @@ load_of (start ∷ nodes ∷ k ∷ subs ∷ callers ∷ calls ∷ []) =
     load_from (network_numbers start nodes k) (actor_numbers subs callers calls)
 load_of _ = None
 
--- the command, where no word stands behind its name
-abbrev pub alone : Command → List (List ℕ) → Option Command
-alone command [] = Some command
+-- the command, if there is one, where no word stands behind its name
+abbrev pub alone : Option Command → List (List ℕ) → Option Command
+alone command [] = command
 alone command (word ∷ words) = None
+
+-- the command that is a name alone
+abbrev pub plain_command : List ℕ → Option Command
+plain_command name =
+    if bytes_eq name (codes "cover") then Some Cover else
+    (if bytes_eq name (codes "replay") then Some Replay else
+    (if bytes_eq name (codes "census") then Some Census else
+    (if bytes_eq name (codes "costs") then Some Costs else
+    (if bytes_eq name (codes "check") then Some Check else
+    (if bytes_eq name (codes "run") then Some Run else
+    (if bytes_eq name (codes "tojson") then Some ToJson else
+    (if bytes_eq name (codes "fromjson") then Some FromJson else
+    (if bytes_eq name (codes "replayjson") then Some ReplayJson else
+    (if bytes_eq name (codes "meancover") then Some MeanCover else
+    (if bytes_eq name (codes "meanreplay") then Some MeanReplay else
+    None))))))))))
 
 -- the command that words are
 abbrev pub command_of : List (List ℕ) → Option Command
 command_of [] = None
 command_of (name ∷ rest) =
-    if bytes_eq name (codes "cover") then alone Cover rest else
-    (if bytes_eq name (codes "replay") then alone Replay rest else
-    (if bytes_eq name (codes "census") then alone Census rest else
-    (if bytes_eq name (codes "costs") then alone Costs rest else
-    (if bytes_eq name (codes "run") then alone Run rest else
-    (if bytes_eq name (codes "make") then (load_of rest >>= λ load. Some (Make load)) else
+    if bytes_eq name (codes "make") then (load_of rest >>= λ load. Some (Make load)) else
     (if bytes_eq name (codes "trial") then (load_of rest >>= λ load. Some (Trial load)) else
-    None))))))
+    alone (plain_command name) rest)

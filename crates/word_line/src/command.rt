@@ -12,6 +12,18 @@ pub enum Command {
     Census,
     /// Write what the moves of each subscriber cost.
     Costs,
+    /// Judge the report that stands behind the input.
+    Check,
+    /// Write the input as JSON.
+    ToJson,
+    /// Write the input that JSON says.
+    FromJson,
+    /// Write the report of the calls under the order of the input, as JSON.
+    ReplayJson,
+    /// Write the plan of a network over covers that are small in the sum.
+    MeanCover,
+    /// Write the report over that plan.
+    MeanReplay,
     /// Write the report of the calls that threads make.
     Run,
     /// Write the input that this load makes.

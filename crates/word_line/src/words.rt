@@ -2,7 +2,7 @@
 ghost use Rattle.std.specs.Prelude.{◌≡◌};
 ghost use Rattle.std.specs.Option.{ok_or};
 ghost use Rattle.word_line.specs.declared.command.WordsFault.TheVariants.{Refused};
-ghost use Rattle.word_line.specs.Forms.{actor_numbers, alone, bytes_of, command_of, is_sound, load_from, load_of, network_numbers};
+ghost use Rattle.word_line.specs.Forms.{actor_numbers, alone, bytes_of, command_of, is_sound, load_from, load_of, network_numbers, plain_command};
 
 use crate::number::{number_in, number_of};
 use crate::{Command, Load, WordsFault};
@@ -78,11 +78,31 @@ fn load_of(words: &[String]) -> Option<Load>
     )
 }
 
-// The command, where no word stands behind its name.
-fn alone(command: Command, words: &[String]) -> Option<Command>
+// The command, if there is one, where no word stands behind its name.
+fn alone(command: Option<Command>, words: &[String]) -> Option<Command>
     ensures { result ≡ alone command (bytes_of words.now) }
 {
-    words.is_empty().then_some(command)
+    if words.is_empty() { command } else { None }
+}
+
+// The command that is a name alone.
+fn plain_command(name: &str) -> Option<Command>
+    ensures { result ≡ plain_command name.now }
+{
+    match name {
+        "cover" => Some(Command::Cover),
+        "replay" => Some(Command::Replay),
+        "census" => Some(Command::Census),
+        "costs" => Some(Command::Costs),
+        "check" => Some(Command::Check),
+        "run" => Some(Command::Run),
+        "tojson" => Some(Command::ToJson),
+        "fromjson" => Some(Command::FromJson),
+        "replayjson" => Some(Command::ReplayJson),
+        "meancover" => Some(Command::MeanCover),
+        "meanreplay" => Some(Command::MeanReplay),
+        _ => None,
+    }
 }
 
 fn command_of(words: &[String]) -> Option<Command>
@@ -92,14 +112,9 @@ fn command_of(words: &[String]) -> Option<Command>
         return None;
     };
     match name.as_str() {
-        "cover" => alone(Command::Cover, rest),
-        "replay" => alone(Command::Replay, rest),
-        "census" => alone(Command::Census, rest),
-        "costs" => alone(Command::Costs, rest),
-        "run" => alone(Command::Run, rest),
         "make" => Some(Command::Make(load_of(rest)?)),
         "trial" => Some(Command::Trial(load_of(rest)?)),
-        _ => None,
+        plain => alone(plain_command(plain), rest),
     }
 }
 
