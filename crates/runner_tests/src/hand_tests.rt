@@ -1,5 +1,5 @@
 //! Runs by hand: one worker plays alone, or nobody does, or a node is held.
-ghost use Rattle.std.specs.Prelude.{◌<◌, ℕ, IfSome, length};
+ghost use Rattle.std.specs.Prelude.{◌<◌, ℕ, IfSome};
 ghost use Rattle.net_reader.specs.Input.{Contents};
 ghost use Rattle.station.specs.Passes.{IsFree, IsPassOf, TrackerData};
 ghost use Rattle.station.specs.Setup.{nodes_in};
@@ -18,20 +18,24 @@ use std::test::Fail;
 
 const TRIES: u64 = 5;
 
-// The worker of actor 0 plays.
+// The worker of actor 0 plays, if it is to.
 fn play_first(
-    workers: &mut [Worker],
+    workers: &mut Vec<Worker>,
     tracker: &Tracker,
     plan: &Plan,
     distances: &Distances,
-) -> Played
+    plays: bool,
+) -> Option<Played>
     requires set { (input : Contents) × IsSetFor input tracker.now.setup plan.now distances.now
-        × AreWorkersOf input tracker.now workers.old }
-    requires some { 0 < length workers.old }
+        × AreWorkersOf input tracker.now workers.old.items }
     ensures { (input : Contents) → IsSetFor input tracker.now.setup plan.now distances.now
-        → AreWorkersOf input tracker.now workers.old → AreWorkersOf input tracker.now workers.new }
+        → AreWorkersOf input tracker.now workers.old.items
+        → AreWorkersOf input tracker.now workers.new.items }
 {
-    workers[0].play(tracker, plan, distances, &OpenGate, TRIES)
+    if !plays || workers.is_empty() {
+        return None;
+    }
+    Some(workers[0].play(tracker, plan, distances, &OpenGate, TRIES))
 }
 
 // How the worker of actor 0 ends, where it plays, and what becomes of all calls.
@@ -39,10 +43,7 @@ fn by_hand(alloc: Global, calls: &str, plays: bool) -> Result<(Option<Played>, O
     let input = input_of_calls(alloc, calls)?;
     let (plan, distances) = plan_of(alloc, &input)?;
     let (tracker, mut workers) = open_run(alloc, &input, &plan)?;
-    let mut played = None;
-    if plays {
-        played = Some(play_first(&mut workers, &tracker, &plan, &distances));
-    }
+    let played = play_first(&mut workers, &tracker, &plan, &distances, plays);
     let outcome = finish_run(alloc, &input, &plan, &distances, tracker, workers)?;
     Ok((played, outcome))
 }

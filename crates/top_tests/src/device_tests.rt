@@ -141,7 +141,12 @@ fn each_write_fails(rt: HostRuntime) -> Result<(), Fail> {
 // A row is which reads and which writes fail, at how many bytes a call, the status and the text.
 type Row<'a> = (&'a [u64], &'a [u64], usize, u8, &'a str);
 
-fn play<R: Threads + Sync + Abort>(rt: &R, alloc: Global, lines: Lines<'_>, rows: &[Row<'_>]) -> Result<(), Fail> {
+fn play<R: Threads + Sync + Abort>(
+    rt: &R,
+    alloc: Global,
+    lines: Lines<'_>,
+    rows: &[Row<'_>],
+) -> Result<(), Fail> {
     let input = text_of(alloc, lines)?;
     for place in 0..rows.len() {
         let (reads, writes, most, status, text) = rows[place];

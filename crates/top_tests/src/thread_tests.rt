@@ -102,7 +102,11 @@ fn runs_that_stop(rt: HostRuntime) -> Result<(), Fail> {
 // A run whose read fails: eight reads of 10 bytes take the input, and one more tells its end.
 fn read_fails<R: Threads + Sync + Abort>(rt: &R, alloc: Global, call: u64) -> Result<(), Fail> {
     let (status, text) = if call < 9 { (4, "") } else { (0, MOVED) };
-    play(rt, alloc, &[(&["run"], "move 0 2\n", &[call], &[], status, text)])
+    play(
+        rt,
+        alloc,
+        &[(&["run"], "move 0 2\n", &[call], &[], status, text)],
+    )
 }
 
 // A run whose write of 10 bytes fails: what was written before stays.
