@@ -24,7 +24,8 @@ use Rattle.machine.specs.declared.caller.Caller.{Caller}
 use Rattle.scripts.specs.Scripts.{scripts_of}
 use Rattle.machine.specs.Stands.{IsWalking, Sees, setting_over}
 use Rattle.machine.specs.Callers.{IsCaller, first_ticket}
-use Rattle.machine.proofs.Looking.{Walks, drop-more, key-wanted, read-on, walking}
+use Rattle.machine.specs.WalkingLaws.{Walks, drop-more, read-on, walking}
+use Rattle.machine.proofs.Looking.{key-wanted}
 use Rattle.directory.specs.HistoryLaws.{next-caller}
 
 -- the ticket of the first look

@@ -1,6 +1,6 @@
 -- A subscriber at rest: that nothing is left, or how far it is after the first visit of its next step.
-use Rattle.std.proofs.Common.{◌≡◌, ℕ, zero, suc, ◌<◌, ◌≤◌, Bool, true, false, List, [], ◌∷◌, ◌++◌, Option, length, map, take, get_or, refl, sym, ap, ◌∙◌, subst, arith, length-append}
-use Rattle.std.specs.Prelude.{Some, None, slice_get, vec_capacity, option_map, unwrap_or}
+use Rattle.std.proofs.Common.{◌≡◌, ℕ, suc, ◌<◌, ◌≤◌, true, false, List, [], ◌∷◌, ◌++◌, length, map, take, get_or, sym, ap, ◌∙◌, subst, arith, length-append}
+use Rattle.std.specs.Prelude.{Some, None, slice_get, vec_capacity, unwrap_or}
 use Rattle.std.proofs.lemmas.Option.{slice_get_past, unwrap_or-slice_get}
 use Rattle.std.proofs.lemmas.List.{append-nil, take_all, length_push, length-map, get_or-map, same_from_push}
 use Rattle.entry_word.specs.declared.visit.Visit.{Visit}
@@ -16,19 +16,18 @@ use Rattle.directory.specs.declared.answers.Done.TheVariants.{Moved, Switched}
 use Rattle.net_reader.specs.declared.said.Call.{Call}
 use Rattle.net_reader.specs.declared.said.Call.TheVariants as calls
 use Rattle.net_reader.specs.Input.{Contents}
-use Rattle.net_reader.specs.Valid.{IsCourse, IsValid}
+use Rattle.net_reader.specs.Valid.{IsValid}
 use Rattle.region_plan.specs.Plan.{PlanData}
 use Rattle.region_plan.specs.Settings.{setting_of}
 use Rattle.distances.specs.Table.{DistanceTable}
 use Rattle.handset.specs.Kept.{GoesWith, HandsetData}
-use Rattle.handset.specs.Progress.{due, due_at}
+use Rattle.handset.specs.Progress.{due}
 use Rattle.handset.specs.Stands.{StandsForSteps}
-use Rattle.handset.specs.declared.stage.Stage.{Stage}
-use Rattle.handset.specs.declared.stage.Stage.TheVariants.{Resting, Coming, Renewing, Committing, Confirming, Erasing, Purging, Switching}
 use Rattle.visit_log.specs.Cells.{CellData, GoWith, Hold}
 use Rattle.machine.specs.declared.subscriber.Subscriber.{Subscriber}
 use Rattle.scripts.specs.Scripts.{scripts_of, step_of}
 use Rattle.scripts.specs.Laws.{ScriptsAreValid}
+use Rattle.machine.specs.RestLaws.{IsStep, course-steps, may-begin, rests}
 use Rattle.machine.specs.Stands.{BelongTogether, setting_over}
 use Rattle.machine.specs.Subscribers.{IsSubscriber, MayBegin, begun_line, begun_steps}
 use Rattle.scripts.specs.ScriptLaws.{steps-are}
@@ -36,63 +35,7 @@ use Rattle.machine.proofs.Steps.{lines-partial, some-write}
 use Rattle.machine.proofs.Seen.{Seen, seen-after, step-allowed}
 use Rattle.directory.specs.HistoryLaws.{next-sub, tickets-count}
 use Rattle.directory.specs.Statements.{TicketsGrow, OwnGrow, TicketsAreOwn}
-use Rattle.handset.specs.StageLaws.{IsRestAfter, rest-after}
-
-none-of : {A B : Type 0} (f : A → B) (o : Option A) → option_map f o ≡ None → o ≡ None
-none-of f None h = refl
-none-of f (Some x) h = cc
-
-stage-rests : (setting : Setting) (handset : HandsetData) (stage : Stage) → due_at setting handset stage ≡ None
-    → stage ≡ Resting
-stage-rests setting handset Resting h = refl
-stage-rests setting handset Coming h = cc
-stage-rests setting handset (Renewing level) h = cc
-stage-rests setting handset Committing h = cc
-stage-rests setting handset Confirming h = cc
-stage-rests setting handset (Erasing level) h = cc
-stage-rests setting handset (Purging node) h = cc
-stage-rests setting handset (Switching off) h = cc
-
-pub rests : (setting : Setting) (handset : HandsetData) (steps : List Step) (made : ℕ)
-    → StandsForSteps setting handset steps made → due setting handset ≡ None
-    → IsRestAfter setting handset.sub handset steps made
-rests setting handset steps made stands none =
-    rest-after setting handset steps made stands (stage-rests setting handset handset.stage
-    (none-of (visit_of handset.sub) (due_at setting handset handset.stage) none))
-
--- a call that is a step
-abbrev IsStep : Call → Type 0
-IsStep (calls.Move to) = Unit {0}
-IsStep (calls.Find from sub) = ⊥
-IsStep calls.Off = Unit {0}
-IsStep calls.On = Unit {0}
-
--- a step that may come may begin
-may-begin : (plan : PlanData) (starts : List ℕ) (handset : HandsetData) (steps : List Step) (made : ℕ) (call : Call)
-    → IsRestAfter (setting_of plan starts) handset.sub handset steps made → IsStep call
-    → MayStep (setting_of plan starts)
-    (after_steps (setting_of plan starts) (course_at (start (setting_of plan starts) handset.sub)) steps) (step_of call)
-    → MayBegin plan handset call
-may-begin plan starts handset steps made (calls.Move to) at its may =
-    (may.inside, λ same. may.moving (same ∙ at.place), at.is_off ∙ may.is_on, omega (arith, may.few, at.number))
-may-begin plan starts handset steps made (calls.Find from sub) at its may = absurd its
-may-begin plan starts handset steps made calls.Off at its may = at.is_off ∙ may
-may-begin plan starts handset steps made calls.On at its may = at.is_off ∙ may
-
--- a subscriber's script has no finds
-course-steps : (format n here : ℕ) (off : Bool) (script : List Call) (k : ℕ) (d : Call)
-    → IsCourse format n here off script → k < length script → IsStep (get_or script k d)
-course-steps format n here off [] k d its low = absurd (omega (arith, low))
-course-steps format n here off (calls.Move to ∷ script) zero d its low = tt
-course-steps format n here off (calls.Find from sub ∷ script) k d its low = absurd its
-course-steps format n here off (calls.Off ∷ script) zero d its low = tt
-course-steps format n here off (calls.On ∷ script) zero d its low = tt
-course-steps format n here off (calls.Move to ∷ script) (suc k) d its low =
-    course-steps format n to off script k d its.3 (omega (arith, low))
-course-steps format n here off (calls.Off ∷ script) (suc k) d its low =
-    course-steps format n here true script k d its.2 (omega (arith, low))
-course-steps format n here off (calls.On ∷ script) (suc k) d its low =
-    course-steps format n here false script k d its.2 (omega (arith, low))
+use Rattle.handset.specs.StageLaws.{IsRestAfter}
 
 -- the step of the call at a place of a script
 step-at : (input : Contents) (sub k : ℕ) (call : Call) → IsValid input → sub < length input.homes

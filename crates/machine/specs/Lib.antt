@@ -2,3 +2,5 @@ pub mod Stands
 pub mod Callers
 pub mod Subscribers
 pub mod Machines
+pub mod WalkingLaws
+pub mod RestLaws

@@ -3,7 +3,7 @@
 -- keeps the actor of each ticket.
 -- Key laws: `Machine::new` (it stands for no visits), `turn` (for a turn more), `finish` (for all
 -- visits) and `outcome`, by their clauses.
-use Rattle.std.specs.Prelude.{◌≡◌, ℕ, ◌+◌, ◌<◌, ◌≤◌, List, [], ◌∷◌, ◌++◌, All, Some, None, length, map, slice_get, slice_index_or, vec_capacity}
+use Rattle.std.specs.Prelude.{◌≡◌, ℕ, ◌+◌, ◌<◌, ◌≤◌, [], ◌∷◌, ◌++◌, Some, None, length, map, slice_index_or, vec_capacity}
 use Rattle.entry_word.specs.declared.visit.Visit.{Visit}
 use Rattle.directory.specs.Settings.{Setting}
 use Rattle.directory.specs.Histories.{History}

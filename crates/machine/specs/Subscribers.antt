@@ -4,14 +4,10 @@
 -- Key law: `Subscriber::write`, by its clause (a turn makes the subscriber's next visit, or none is
 -- left).
 use Rattle.std.specs.Prelude.{◌≡◌, ℕ, suc, ◌-◌, ◌<◌, ◌≤◌, ◌^◌, ◌≢◌, Bool, true, false, if◌then◌else◌, List, [], ◌∷◌, ◌++◌, Some, None, length, take, vec_capacity}
-use Rattle.entry_word.specs.declared.mark.PresenceMark.{PresenceMark}
-use Rattle.entry_word.specs.declared.mark.PresenceMark.TheVariants.{Empty, Here, Gone, Coming, Off}
-use Rattle.entry_word.specs.declared.visit.Act.{Act}
 use Rattle.entry_word.specs.declared.visit.Visit.{Visit}
 use Rattle.directory.specs.Settings.{start}
 use Rattle.directory.specs.Courses.{Step, course_at}
 use Rattle.directory.specs.Histories.{History, own, tickets}
-use Rattle.directory.specs.Puts.{mark_put}
 use Rattle.directory.specs.Writes.{writes}
 use Rattle.directory.specs.Orders.{next, steps_of}
 use Rattle.directory.specs.Outcomes.{step_lines}

@@ -244,11 +244,9 @@ impl<'a> Machine<'a> {
 fn log(order: &mut Vec<u32>, actor: u32)
     requires room { length order.old.items < vec_capacity order.old }
     ensures items { order.new.items ≡ order.old.items ++ actor ∷ [] }
-    ensures capacity { vec_capacity order.old ≤ vec_capacity order.new }
+    ensures capacity { vec_capacity order.new ≡ vec_capacity order.old }
 {
-    if order.push(actor).is_err() {
-        unreachable!()
-    }
+    order.push_reserved(actor);
 }
 
 // The subscribers, before their first steps.

@@ -118,6 +118,7 @@ is_told told off node number =
     told.node == node && (told.number == number
     && (if off then told.is_off else not told.is_off))
 
+-- Place: only a find that answers names one
 abbrev pub place_holds : List ℕ → List Done → Done → Bool
 place_holds homes calls (Moved actor number from to weight first commit last) = true
 place_holds homes calls (Switched actor off node number ticket) = true
@@ -184,6 +185,7 @@ is_light plan homes calls order from sub node weight first last =
     + 2 * open_passage order sub last (told_before homes calls sub last)
     (told_before homes calls sub last).commit)
 
+-- Weight: a move weighs its distance, and a find that answers is light
 abbrev pub weight_holds : PlanData → List ℕ → List Done → List ℕ → Done → Bool
 weight_holds plan homes calls order (Moved actor number from to weight first commit last) =
     (setting_of plan homes).distance from to == weight

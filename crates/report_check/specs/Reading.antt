@@ -56,6 +56,7 @@ digits_of limit (b ∷ text) =
     if b == 48 then (if starts_with_digit text then None else Some (0, text))
     else (if is_ascii_digit b then digits_from limit 0 (b ∷ text) else None)
 
+-- the same, where some number is below the limit
 abbrev pub digits_in : ℕ → List ℕ → Option (ℕ × List ℕ)
 digits_in limit text = if nat_lt 0 limit then digits_of limit text else None
 
@@ -168,6 +169,7 @@ again_in bounds actor from sub text = do
   visits ← visits_in why.1
   Some (Again actor from sub why.0 visits.0.weight visits.0.first visits.0.last, visits.1)
 
+-- behind the word of a find that answers off, or else that of one to be made again
 abbrev pub off_or_again : Bounds → ℕ → ℕ → ℕ → List ℕ → Option (List ℕ)
     → Option (Done × List ℕ)
 off_or_again bounds actor from sub text (Some rest) = answer_in bounds true actor from sub rest
@@ -175,6 +177,7 @@ off_or_again bounds actor from sub text None = do
   rest ← word_in (codes "again") text
   again_in bounds actor from sub rest
 
+-- behind the word of a find that answers a node, or else one of the other two words
 abbrev pub found_or_other : Bounds → ℕ → ℕ → ℕ → List ℕ → Option (List ℕ)
     → Option (Done × List ℕ)
 found_or_other bounds actor from sub text (Some rest) = answer_in bounds false actor from sub rest

@@ -1,10 +1,8 @@
 -- A caller's part of a worker: its next look is made.
-use Rattle.std.proofs.Common.{◌≡◌, ℕ, zero, suc, ◌+◌, ◌-◌, ◌<◌, ◌≤◌, ◌^◌, true, false, List, [], ◌∷◌, ◌++◌, Option, length, map, take, drop, drop-cons, get_or, refl, sym, ap, ◌∙◌, subst, arith}
-use Rattle.std.specs.Prelude.{All, option_map, Some, None, Result, Ok, Err, IfOk, nat_le, sum_by, if◌then◌else◌}
+use Rattle.std.proofs.Common.{◌≡◌, ℕ, suc, ◌+◌, ◌-◌, ◌<◌, ◌≤◌, ◌^◌, true, false, List, [], ◌∷◌, ◌++◌, Option, length, map, take, drop, get_or, refl, sym, ap, ◌∙◌, subst, arith}
+use Rattle.std.specs.Prelude.{All, option_map, Some, None, sum_by}
 use Rattle.std.specs.Option.{is_some}
-use Rattle.std.specs.Result.{result_ok}
-use Rattle.std.proofs.lemmas.Bool.Decides.{nat_tests}
-use Rattle.std.proofs.lemmas.List.{get_or-map, length-map, length-drop, take_all, take-append-le}
+use Rattle.std.proofs.lemmas.List.{length-map, length-drop, take_all, take-append-le}
 use Rattle.std.proofs.lemmas.List.Sums.{sum_by-cons}
 use Rattle.entry_word.specs.declared.visit.Key.{Key}
 use Rattle.entry_word.specs.declared.visit.Act.{Act}
@@ -15,13 +13,13 @@ use Rattle.directory.specs.Histories.{History, before, cell}
 use Rattle.directory.specs.Legal.{IsLegal}
 use Rattle.directory.specs.Looks.{look_by}
 use Rattle.directory.specs.HistoryLaws.{next-caller}
-use Rattle.directory.specs.Orders.{AreValid, Caller as Seeker, IsFindCall, after_read, caller_in, finds_of, key_in, next, next_key, read_by, with_stage}
+use Rattle.directory.specs.Orders.{AreValid, Caller as Seeker, IsFindCall, after_read, caller_in, finds_of, key_in, next, next_key, with_stage}
 use Rattle.directory.specs.Statements.{CallersKept, CallersRead, LooksFall}
 use Rattle.directory.specs.declared.answers.Found.{Found}
 use Rattle.distances.specs.Table.{DistanceTable}
 use Rattle.machine.specs.Stands.{IsWalking}
+use Rattle.machine.specs.WalkingLaws.{Walks, drop-more, idle-done, read-on, walking}
 use Rattle.net_reader.specs.declared.said.Call.{Call}
-use Rattle.net_reader.specs.declared.said.Call.TheVariants as calls
 use Rattle.net_reader.specs.Input.{Contents}
 use Rattle.net_reader.specs.Valid.{IsSearch, IsValid}
 use Rattle.region_plan.specs.Matched.{IsMatched}
@@ -36,41 +34,11 @@ use Rattle.station.specs.declared.turns.Held.{Held}
 use Rattle.trail_laws.specs.Trail.{EntriesTell, MarksTell}
 use Rattle.trail_laws.specs.Within.{HistoryFrontsAreLegal}
 use Rattle.walk.specs.LookLaws.{word-wanted}
-use Rattle.walk.specs.Walks.{IsWalkOver, IsWordBelow, WalkData, call_of, stage_of, walk_or_fault}
-use Rattle.walk.specs.declared.progress.Progress.TheVariants.{AtOrigin}
-use Rattle.walk.specs.declared.walk.WalkFault.{WalkFault}
-use Rattle.walk.specs.declared.walk.WalkFault.TheVariants.{NoNode, NoSubscriber}
+use Rattle.walk.specs.Walks.{IsWalkOver, IsWordBelow, WalkData, call_of, stage_of}
 use Rattle.runner.specs.Playing.{HasMadeNext, looks_after}
 use Rattle.runner.specs.PlayLaws.{caller-in}
 use Rattle.runner.specs.Roles.{HasLookedOn, IsFinder, IsSetFor}
 use Rattle.runner.specs.declared.finder.Finder.{Finder}
-
--- the walk of the find that a caller is at
-pub record Walks (plan : PlanData) (finds : List FindCall) (stage : Stage) (walk : WalkData) : Type 0 where
-  pub call : FindCall
-  pub later : List FindCall
-  pub calls_are : finds ≡ call ∷ later
-  pub its : call_of walk ≡ call
-  pub so_far : stage_of plan walk ≡ stage
-  pub goes : IsWalkOver plan walk
-  pub unanswered : answer_of stage ≡ None
-
-walking : (plan : PlanData) (finds : List FindCall) (stage : Stage) (held : Option WalkData) (walk : WalkData)
-    → held ≡ Some walk → IsWalking plan finds stage held → Walks plan finds stage walk
-walking plan [] stage None walk same h = cc
-walking plan (call ∷ later) stage None walk same h = cc
-walking plan [] stage (Some other) walk same h = absurd h
-walking plan (call ∷ later) stage (Some other) walk same h =
-    let e : other ≡ walk = cc in
-    record {
-      call = call;
-      later = later;
-      calls_are = refl;
-      its = subst (λ w. call_of w ≡ call) e h.0;
-      so_far = subst (λ w. stage_of plan w ≡ stage) e h.1;
-      goes = subst (IsWalkOver plan) e h.2;
-      unanswered = h.3;
-    }
 
 -- the walk of a caller's part
 pub walking-of : (input : Contents) (setup : Setup) (actor : ℕ) (seen : History) (spare : ℕ) (finder : Finder)
@@ -80,12 +48,6 @@ pub walking-of : (input : Contents) (setup : Setup) (actor : ℕ) (seen : Histor
 walking-of input setup actor seen spare finder walk its some =
     walking setup.plan (caller_in (setting_in setup) (scripts_of input) seen actor).calls
     (caller_in (setting_in setup) (scripts_of input) seen actor).stage finder.walk walk some its.walk
-
-idle-done : (plan : PlanData) (finds : List FindCall) (stage : Stage) (held : Option WalkData) → held ≡ None
-    → IsWalking plan finds stage held → key_in finds stage ≡ None
-idle-done plan [] stage held same h = refl
-idle-done plan (call ∷ later) stage None same h = absurd h
-idle-done plan (call ∷ later) stage (Some walk) same h = cc
 
 -- what an option holds, by its test
 pub some-is : {A : Type 0} (o : Option A) → is_some o ≡ true → (x : A) × (o ≡ Some x)
@@ -133,57 +95,6 @@ walk-some input setup actor seen spare finder walk homes its some =
       next-caller setting (scripts_of input) seen actor (omega (arith, its.high, ap length homes))
           ∙ ap (λ o. option_map (look_by actor) o) is_next,
     )
-
--- a caller that has read one word more
-read-on : (setting : Setting) (seeker : Seeker) (call : FindCall) (later : List FindCall) (word : ℕ)
-    (answer : Option Found) → seeker.calls ≡ call ∷ later
-    → answer_of (after_word setting call seeker.stage word) ≡ answer
-    → after_read setting seeker word
-    ≡ with_stage seeker call later (after_word setting call seeker.stage word) answer
-read-on setting seeker call later word answer same ends =
-    ap (λ cs. read_by setting seeker cs word) same
-    ∙ ap (with_stage seeker call later (after_word setting call seeker.stage word)) ends
-
--- the calls that are left are the last of the script
-pub drop-more : {A : Type 0} (n : ℕ) (xs : List A) (x : A) (later : List A) → x ∷ later ≡ drop n xs
-    → (n < length xs) × (later ≡ drop (suc n) xs) × ((d : A) → get_or xs n d ≡ x)
-drop-more zero [] x later h = cc
-drop-more (suc n) [] x later h = cc
-drop-more zero (y ∷ ys) x later h =
-    let e : x ≡ y = cc in let f : later ≡ ys = cc in (omega arith, f, λ d. sym e)
-drop-more (suc n) (y ∷ ys) x later h =
-    let deep = drop-more n ys x later h in (omega (arith, deep.0), deep.1, deep.2)
-
--- the walk of the find at a place of a script
-pub walk-at : (plan : PlanData) (script : List Call) (place count from sub : ℕ) (made : Result WalkData WalkFault)
-    (held : Option WalkData) → place < length script → ((d : Call) → calls.Find from sub ≡ get_or script place d)
-    → All (IsSearch (nodes_of plan) count) script → made ≡ walk_or_fault plan from sub count
-    → IfOk made (IsWalkOver plan) → held ≡ result_ok made
-    → IsWalking plan (drop place (map find_of script)) at_origin held
-walk-at plan script place count from sub made held low here searches answer goes same =
-    let its : IsSearch (nodes_of plan) count (calls.Find from sub) =
-    subst (IsSearch (nodes_of plan) count) (sym (here (calls.Find from sub)))
-    (searches place (calls.Find from sub) low) in
-    let inside : nat_le (nodes_of plan) from ≡ false = grind (arith, nat_tests, its.0) in
-    let known : nat_le count sub ≡ false = grind (arith, nat_tests, its.1) in
-    let fine : made ≡ Ok (record { from = from; sub = sub; progress = AtOrigin }) = answer
-    ∙ (ap (λ b. if b then Err NoNode else if nat_le count sub then Err NoSubscriber
-    else Ok (record { from = from; sub = sub; progress = AtOrigin })) inside
-    ∙ ap (λ b. if b then Err NoSubscriber else Ok (record { from = from; sub = sub; progress = AtOrigin })) known) in
-    let there : drop place (map find_of script)
-    ≡ (record { from = from; sub = sub }) ∷ drop (suc place) (map find_of script) =
-    drop-cons (map find_of script) place (record { from = from; sub = sub })
-    (omega (arith, low, length-map script find_of))
-    ∙ ap (λ x. x ∷ drop (suc place) (map find_of script))
-    (get_or-map find_of script place (calls.Find from sub) (record { from = from; sub = sub }) low
-    ∙ ap find_of (sym (here (calls.Find from sub)))) in
-    let goes_on : IsWalkOver plan (record { from = from; sub = sub; progress = AtOrigin }) =
-    subst (λ r. IfOk r (IsWalkOver plan)) fine goes in
-    let is_held : held ≡ Some (record { from = from; sub = sub; progress = AtOrigin }) = same ∙ ap result_ok fine in
-    subst (λ cs. IsWalking plan cs at_origin held) (sym there)
-    (subst (IsWalking plan (record { from = from; sub = sub } ∷ drop (suc place) (map find_of script)) at_origin)
-    (sym is_held)
-    (refl, refl, goes_on, refl))
 
 -- the setting of a tracker is one of the input that it is set for
 pub set-setting : (input : Contents) (setup : Setup) (plan : PlanData) (distances : DistanceTable)

@@ -215,20 +215,12 @@ changed input tracker argument last old new k is left actor now = (
 )
 
 -- a new tracker is set for its input
-pub new-set : (input : Contents) (plan : PlanData) (distances : DistanceTable) (setup : Setup) (homes : List ℕ)
-    → BelongTogether input plan distances → homes ≡ input.homes
-    → setup ≡ setup_of plan homes (length homes + input.callers)
-    → IsSetFor input setup plan distances × IsSetFor input setup plan plan.distances
-new-set input plan distances setup homes together same is =
-    let plan_is : plan ≡ setup.plan = sym (ap (λ (s : Setup). s.plan) is) in
-    let homes_are : setup.homes ≡ input.homes = ap (λ (s : Setup). s.homes) is ∙ same in
-    let count : setup.actors ≡ length input.scripts =
-    omega (arith, ap (λ (s : Setup). s.actors) is, ap length same, together.valid.scripts) in (
-      record { together = together; plan_is = plan_is; homes = homes_are; actors = count },
-      record {
-        together = subst (BelongTogether input plan) (sym together.belongs) together;
-        plan_is = plan_is;
-        homes = homes_are;
-        actors = count;
-      },
-    )
+pub new-set : (input : Contents) (plan : PlanData) (setup : Setup) (homes : List ℕ)
+    → BelongTogether input plan plan.distances → homes ≡ input.homes
+    → setup ≡ setup_of plan homes (length homes + input.callers) → IsSetFor input setup plan plan.distances
+new-set input plan setup homes together same is = record {
+  together = together;
+  plan_is = sym (ap (λ (s : Setup). s.plan) is);
+  homes = ap (λ (s : Setup). s.homes) is ∙ same;
+  actors = omega (arith, ap (λ (s : Setup). s.actors) is, ap length same, together.valid.scripts);
+}

@@ -1,5 +1,5 @@
 -- A subscriber's part of a worker: the next step of its script begins, and its next put is made.
-use Rattle.std.proofs.Common.{◌≡◌, ◌≢◌, ℕ, zero, suc, ◌-◌, ◌<◌, ◌≤◌, Bool, true, false, List, [], ◌∷◌, ◌++◌, Option, length, map, take, drop, get_or, refl, sym, ap, ◌∙◌, subst, arith, length-append}
+use Rattle.std.proofs.Common.{◌≡◌, ◌≢◌, ℕ, zero, suc, ◌-◌, ◌<◌, ◌≤◌, true, false, List, [], ◌∷◌, ◌++◌, Option, length, map, take, drop, get_or, refl, sym, ap, ◌∙◌, subst, arith, length-append}
 use Rattle.std.specs.Prelude.{Some, None, slice_get, option_map, unwrap_or, IfSome, IsSome}
 use Rattle.std.specs.Option.{is_some}
 use Rattle.std.proofs.lemmas.Option.{slice_get_within, unwrap_or-slice_get}
@@ -16,15 +16,13 @@ use Rattle.directory.specs.StepLaws.{past-end, slice_get-within, take-append, ta
 use Rattle.directory.specs.Writes.{step_writes, visit_of, visits, writes}
 use Rattle.handset.specs.Kept.{GoesWith, HandsetData}
 use Rattle.handset.specs.Progress.{due, due_at}
-use Rattle.handset.specs.StageLaws.{IsRestAfter, rest-after}
+use Rattle.handset.specs.StageLaws.{IsRestAfter}
 use Rattle.handset.specs.Stands.{StandsForSteps}
-use Rattle.handset.specs.declared.stage.Stage.{Stage}
-use Rattle.handset.specs.declared.stage.Stage.TheVariants.{Resting, Coming, Renewing, Committing, Confirming, Erasing, Purging, Switching}
+use Rattle.machine.specs.RestLaws.{IsStep, course-steps, may-begin, rests}
 use Rattle.machine.specs.Subscribers.{MayBegin}
 use Rattle.net_reader.specs.declared.said.Call.{Call}
-use Rattle.net_reader.specs.declared.said.Call.TheVariants as calls
 use Rattle.net_reader.specs.Input.{Contents}
-use Rattle.net_reader.specs.Valid.{IsCourse, IsValid}
+use Rattle.net_reader.specs.Valid.{IsValid}
 use Rattle.distances.specs.Table.{DistanceTable}
 use Rattle.region_plan.specs.Plan.{PlanData}
 use Rattle.region_plan.specs.Settings.{setting_of}
@@ -43,10 +41,6 @@ use Rattle.runner.specs.PlayLaws.{own-next}
 use Rattle.runner.specs.Roles.{HasBegun, IsMover, IsSetFor, IsUnderWay}
 use Rattle.runner.specs.declared.mover.Mover.{Mover}
 
-none-of : {A B : Type 0} (f : A → B) (o : Option A) → option_map f o ≡ None → o ≡ None
-none-of f None h = refl
-none-of f (Some x) h = cc
-
 some-of : {A B : Type 0} (f : A → B) (o : Option A) (y : B) → option_map f o ≡ Some y → (x : A) × (f x ≡ y)
 some-of f None y h = cc
 some-of f (Some x) y h = let e : f x ≡ y = cc in (x, e)
@@ -59,64 +53,12 @@ pub due-some : {A : Type 0} (o : Option A) → IsSome o → (x : A) × (o ≡ So
 due-some None h = cc
 due-some (Some x) h = (x, refl)
 
-stage-rests : (setting : Setting) (handset : HandsetData) (stage : Stage) → due_at setting handset stage ≡ None
-    → stage ≡ Resting
-stage-rests setting handset Resting h = refl
-stage-rests setting handset Coming h = cc
-stage-rests setting handset (Renewing level) h = cc
-stage-rests setting handset Committing h = cc
-stage-rests setting handset Confirming h = cc
-stage-rests setting handset (Erasing level) h = cc
-stage-rests setting handset (Purging node) h = cc
-stage-rests setting handset (Switching off) h = cc
-
--- a handset that has nothing to write rests
-rests : (setting : Setting) (handset : HandsetData) (steps : List Step) (made : ℕ)
-    → StandsForSteps setting handset steps made → due setting handset ≡ None
-    → IsRestAfter setting handset.sub handset steps made
-rests setting handset steps made stands none =
-    rest-after setting handset steps made stands (stage-rests setting handset handset.stage
-    (none-of (visit_of handset.sub) (due_at setting handset handset.stage) none))
-
 -- what a handset writes is its subscriber's
 due-actor : (setting : Setting) (handset : HandsetData) (visit : Visit) → due setting handset ≡ Some visit
     → visit ≡ record { actor = handset.sub; act = visit.act }
 due-actor setting handset visit is =
     let found = some-of (visit_of handset.sub) (due_at setting handset handset.stage) visit is in
     subst (λ (v : Visit). v ≡ record { actor = handset.sub; act = v.act }) found.1 refl
-
--- a call that is a step
-abbrev pub IsStep : Call → Type 0
-IsStep (calls.Move to) = Unit {0}
-IsStep (calls.Find from sub) = ⊥
-IsStep calls.Off = Unit {0}
-IsStep calls.On = Unit {0}
-
--- a step that may come may begin
-may-begin : (plan : PlanData) (starts : List ℕ) (handset : HandsetData) (steps : List Step) (made : ℕ) (call : Call)
-    → IsRestAfter (setting_of plan starts) handset.sub handset steps made → IsStep call
-    → MayStep (setting_of plan starts) (course_of (setting_of plan starts) handset.sub steps) (step_of call)
-    → MayBegin plan handset call
-may-begin plan starts handset steps made (calls.Move to) at its may =
-    (may.inside, λ same. may.moving (same ∙ at.place), at.is_off ∙ may.is_on, omega (arith, may.few, at.number))
-may-begin plan starts handset steps made (calls.Find from sub) at its may = absurd its
-may-begin plan starts handset steps made calls.Off at its may = at.is_off ∙ may
-may-begin plan starts handset steps made calls.On at its may = at.is_off ∙ may
-
--- a subscriber's script has no finds
-pub course-steps : (format n here : ℕ) (off : Bool) (script : List Call) (k : ℕ) (d : Call)
-    → IsCourse format n here off script → k < length script → IsStep (get_or script k d)
-course-steps format n here off [] k d its low = absurd (omega (arith, low))
-course-steps format n here off (calls.Move to ∷ script) zero d its low = tt
-course-steps format n here off (calls.Find from sub ∷ script) k d its low = absurd its
-course-steps format n here off (calls.Off ∷ script) zero d its low = tt
-course-steps format n here off (calls.On ∷ script) zero d its low = tt
-course-steps format n here off (calls.Move to ∷ script) (suc k) d its low =
-    course-steps format n to off script k d its.3 (omega (arith, low))
-course-steps format n here off (calls.Off ∷ script) (suc k) d its low =
-    course-steps format n here true script k d its.2 (omega (arith, low))
-course-steps format n here off (calls.On ∷ script) (suc k) d its low =
-    course-steps format n here false script k d its.2 (omega (arith, low))
 
 -- the step of the call at a place of a script
 step-at : (input : Contents) (sub k : ℕ) (d : Call) → IsValid input → sub < length input.homes

@@ -1,18 +1,15 @@
 -- What a worker does before its first visit, and how many visits it makes at most.
-use Rattle.std.proofs.Common.{◌≡◌, inl, inr, ℕ, ◌<◌, ◌≤◌, List, [], ◌∷◌, length, length-append, map, take, drop, get_or, refl, sym, ap, ◌∙◌, subst, arith, Vec, Global}
-use Rattle.std.specs.Prelude.{All, sum_by}
+use Rattle.std.proofs.Common.{◌≡◌, inl, inr, ℕ, ◌<◌, ◌≤◌, List, [], ◌∷◌, length, map, take, drop, get_or, refl, sym, ap, ◌∙◌, subst, arith, Vec, Global}
 use Rattle.std.proofs.lemmas.Bool.{cases_lt}
 use Rattle.std.proofs.lemmas.List.{get_or-map, length-map}
-use Rattle.std.proofs.lemmas.List.Sums.{sum_by-cons}
-use Rattle.std.proofs.lemmas.List.Elements.{All-head, All-tail}
 use Rattle.directory.specs.Settings.{Setting, start}
-use Rattle.directory.specs.Courses.{Course, MaySteps, after_step, course_at}
-use Rattle.directory.specs.Finds.{FindCall, at_origin, most_looks}
+use Rattle.directory.specs.Courses.{Course, MaySteps, course_at}
+use Rattle.directory.specs.Finds.{at_origin}
 use Rattle.directory.specs.Histories.{own, puts_to, words_after}
 use Rattle.directory.specs.Legal.{IsScript}
 use Rattle.directory.specs.Orders.{Caller as Seeker, Scripts, caller_at, caller_in, finds_of, steps_of}
 use Rattle.directory.specs.Statements.{CallersKept, MovesAreShort}
-use Rattle.directory.specs.Writes.{step_writes, visit_of, writes}
+use Rattle.directory.specs.Writes.{visit_of, writes}
 use Rattle.handset.specs.Kept.{GoesWith}
 use Rattle.handset.specs.Stands.{StandsForSteps}
 use Rattle.machine.specs.Stands.{BeginInside, BeginsInside, IsWalking}
@@ -23,8 +20,9 @@ use Rattle.net_reader.specs.Valid.{IsSearch}
 use Rattle.region_plan.specs.Plan.{PlanData, nodes_of}
 use Rattle.region_plan.specs.Settings.{setting_of}
 use Rattle.scripts.specs.Laws.{ScriptsAreValid}
+use Rattle.scripts.specs.MostLaws.{finds-most, steps-most}
 use Rattle.scripts.specs.ScriptLaws.{finds-are, steps-are}
-use Rattle.scripts.specs.Scripts.{find_of, most_in, most_of, scripts_of, step_of}
+use Rattle.scripts.specs.Scripts.{find_of, most_in, scripts_of, step_of}
 use Rattle.station.specs.Setup.{Setup, setting_in}
 use Rattle.station.specs.declared.view.View.{View}
 use Rattle.runner.specs.PlayLaws.{caller-in}
@@ -32,7 +30,7 @@ use Rattle.runner.specs.Roles.{IsFinder, IsMover, IsSetFor, MayStart}
 use Rattle.runner.specs.declared.finder.Finder.{Finder}
 use Rattle.runner.specs.declared.mover.Mover.{Mover}
 use Rattle.runner.proofs.Finding.{looks-origin, room-of, script-searches, set-setting}
-use Rattle.runner.proofs.Moving.{IsStep, course-steps}
+use Rattle.machine.specs.RestLaws.{IsStep, course-steps}
 
 -- the script that the code reads
 pub script-is : (scripts : List (Vec Call Global)) (actor : ℕ) (held : Vec Call Global) (script : List Call)
@@ -67,47 +65,6 @@ begin-inside input plan actor script may same k d low =
           (script-searches input plan actor script (length input.homes) may.together.valid may.together.nodes high
           may.known same refl k d low)
     ]
-
--- a subscriber has no visits more than its calls have at most
-step-most : MovesAreShort → (setting : Setting) (course : Course) (call : Call)
-    → length (step_writes setting course (step_of call)) ≤ most_of setting call
-step-most short setting course (calls.Move to) = short setting course to
-step-most short setting course (calls.Find from sub) = omega arith
-step-most short setting course calls.Off = omega arith
-step-most short setting course calls.On = omega arith
-
-steps-most : MovesAreShort → (setting : Setting) (course : Course) (script : List Call)
-    → length (writes setting course (map step_of script)) ≤ most_in setting script
-unfolding writes
-steps-most short setting course [] = omega arith
-steps-most short setting course (call ∷ script) =
-    omega (
-      arith,
-      step-most short setting course call,
-      steps-most short setting (after_step setting course (step_of call)) script,
-      length-append (step_writes setting course (step_of call))
-          (writes setting (after_step setting course (step_of call)) (map step_of script)),
-      sum_by-cons (most_of setting) call script,
-    )
-
--- nor a caller
-finds-most : (setting : Setting) (n subs : ℕ) (script : List Call) → All (IsSearch n subs) script
-    → sum_by (λ (call : FindCall). most_looks setting call.from) (map find_of script) ≤ most_in setting script
-finds-most setting n subs [] all = omega arith
-finds-most setting n subs (call ∷ script) all =
-    omega (
-      arith,
-      at_call call (All-head (IsSearch n subs) call script all),
-      finds-most setting n subs script (All-tail (IsSearch n subs) call script all),
-      sum_by-cons (most_of setting) call script,
-      sum_by-cons (λ (c : FindCall). most_looks setting c.from) (find_of call) (map find_of script),
-    )
-  where
-    at_call : (c : Call) → IsSearch n subs c → most_looks setting (find_of c).from ≤ most_of setting c
-    at_call (calls.Move to) its = absurd its
-    at_call (calls.Find from sub) its = omega arith
-    at_call calls.Off its = absurd its
-    at_call calls.On its = absurd its
 
 no-steps : (setting : Setting) (course : Course) → MaySteps setting course []
 unfolding MaySteps

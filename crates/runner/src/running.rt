@@ -46,10 +46,27 @@ pub fn run_workers<R: Threads + Sync, G: Gate>(
         (setting_over (seen_input input.now) plan.now) (scripts_of (seen_input input.now))
         (result_of outcome)) }
 {
-    let (tracker, passes) = Tracker::new(alloc, plan, &input.homes, input.callers)?;
-    let mut workers = workers_of(alloc, passes, input, plan)?;
+    let (tracker, mut workers) = open_run(alloc, input, plan)?;
     play_all(rt, &tracker, &mut workers, plan, distances, gate, tries);
     finish_run(alloc, input, plan, distances, tracker, workers)
+}
+
+/// Opens a tracker for an input, and makes a worker for each of its actors, in ascending number.
+/// [`run_workers`] begins so; who lets workers play by hand calls [`finish_run`] in the end.
+pub fn open_run(
+    alloc: Global,
+    input: &Input,
+    plan: &Plan,
+) -> Result<(Tracker, Vec<Worker>), AllocError>
+    requires together { BelongTogether (seen_input input.now) plan.now plan.now.distances }
+    ensures set { IfOk result (λ opened. IsSetFor (seen_input input.now) opened.0.setup plan.now
+        plan.now.distances) }
+    ensures workers { IfOk result (λ opened. AreWorkersOf (seen_input input.now) opened.0
+        opened.1.items) }
+{
+    let (tracker, passes) = Tracker::new(alloc, plan, &input.homes, input.callers)?;
+    let workers = workers_of(alloc, passes, input, plan)?;
+    Ok((tracker, workers))
 }
 
 /// Closes the tracker, makes the visits that are left, and tells what became of all calls. There is

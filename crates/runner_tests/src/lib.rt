@@ -1,6 +1,8 @@
-//! Tests of whole runs: what becomes of all calls, and that two threads meet.
+//! Tests of runs, whole and by hand: what becomes of all calls, and that two threads meet.
 #![tactic(auto)]
 
+#[cfg(test)]
+mod hand_tests;
 #[cfg(test)]
 mod meeting_tests;
 #[cfg(test)]

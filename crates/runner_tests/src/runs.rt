@@ -32,8 +32,17 @@ fn input_of(alloc: Global, text: &[u8]) -> Result<Input, Fail>
     }
 }
 
-// The plan of an input, and its distances.
-fn plan_of(alloc: Global, input: &Input) -> Result<(Plan, Distances), Fail>
+/// The input of these calls on the line.
+pub fn input_of_calls(alloc: Global, calls: &str) -> Result<Input, Fail>
+    ensures { IfOk result (λ input. IsValid (seen_input input)) }
+{
+    let mut text = String::from_str(alloc, LINE)?;
+    text.push_str(calls)?;
+    input_of(alloc, text.as_bytes())
+}
+
+/// The plan of an input, and its distances.
+pub fn plan_of(alloc: Global, input: &Input) -> Result<(Plan, Distances), Fail>
     requires { IsValid (seen_input input.now) }
     ensures copy { IfOk result (λ pair. pair.0.distances ≡ pair.1) }
     ensures bounding { IfOk result (λ pair. BoundsFinds pair.0) }
@@ -56,9 +65,7 @@ pub fn run<R: Threads + Sync, G: Gate>(
     gate: &G,
     tries: u64,
 ) -> Result<Outcome, Fail> {
-    let mut text = String::from_str(alloc, LINE)?;
-    text.push_str(calls)?;
-    let input = input_of(alloc, text.as_bytes())?;
+    let input = input_of_calls(alloc, calls)?;
     let (plan, distances) = plan_of(alloc, &input)?;
     let outcome = run_workers(rt, alloc, &input, &plan, &distances, gate, tries)?;
     Ok(outcome)

@@ -1,5 +1,5 @@
 -- No history has more visits than the scripts have at most.
-use Rattle.std.proofs.Common.{◌≡◌, ◌⊎◌, inl, inr, ℕ, zero, suc, ◌+◌, ◌<◌, ◌≤◌, ◌==◌, Bool, true, false, cond, List, [], ◌∷◌, ◌++◌, length, map, take, get_or, refl, sym, ap, ◌∙◌, subst, arith, length-append}
+use Rattle.std.proofs.Common.{◌≡◌, ◌⊎◌, inl, inr, ℕ, zero, suc, ◌+◌, ◌<◌, ◌≤◌, ◌==◌, Bool, true, false, cond, List, [], ◌∷◌, ◌++◌, length, map, take, get_or, refl, sym, ap, ◌∙◌, subst, arith}
 use Rattle.std.specs.Prelude.{All, None, Some, slice_get, sum_by}
 use Rattle.std.proofs.lemmas.Bool.{eqb-true, eq-eqb, ne_eqb, lt-ltb, le-ltb}
 use Rattle.std.proofs.lemmas.Bool.Decides.{nat_tests}
@@ -8,20 +8,19 @@ use Rattle.std.proofs.lemmas.List.Sums.{sum_by-cons}
 use Rattle.std.proofs.lemmas.List.Elements.{All-head, All-tail}
 use Rattle.entry_word.specs.declared.visit.Visit.{Visit}
 use Rattle.directory.specs.Settings.{Setting, start, subs}
-use Rattle.directory.specs.Courses.{Course, after_step, course_at}
+use Rattle.directory.specs.Courses.{course_at}
 use Rattle.directory.specs.Finds.{FindCall, most_looks}
 use Rattle.directory.specs.Histories.{History, own}
 use Rattle.directory.specs.Orders.{IsPlayed, Scripts, most_turns, next}
 use Rattle.directory.specs.Statements.{TurnsAreFew, OwnGrow, MovesAreShort, MoreIsPlayed}
 use Rattle.directory.specs.HistoryLaws.{none-played}
 use Rattle.directory.specs.StepLaws.{by_fronts}
-use Rattle.directory.specs.Writes.{step_writes, visit_of, writes}
-use Rattle.net_reader.specs.declared.said.Call.{Call}
-use Rattle.net_reader.specs.declared.said.Call.TheVariants as calls
+use Rattle.directory.specs.Writes.{visit_of, writes}
 use Rattle.net_reader.specs.Input.{Contents}
-use Rattle.net_reader.specs.Valid.{IsSearch, IsValid}
-use Rattle.scripts.specs.Scripts.{IsSettingOf, find_of, most_in, most_of, most_visits, scripts_of, step_of}
+use Rattle.net_reader.specs.Valid.{IsValid}
+use Rattle.scripts.specs.Scripts.{IsSettingOf, most_in, scripts_of, step_of}
 use Rattle.scripts.specs.Laws.{VisitsAreFew}
+use Rattle.scripts.specs.MostLaws.{finds-most, steps-most}
 use Rattle.scripts.specs.ScriptLaws.{finds-are, steps-are, stranger-done}
 
 -- sums over so many numbers from one on
@@ -134,48 +133,6 @@ own-most grow few more setting scripts history actor none played =
                 ∙ append-nil (own actor (take t history)))),
           ),
         )
-
-step-most : MovesAreShort
-    → (setting : Setting) (course : Course) (call : Call)
-    → length (step_writes setting course (step_of call)) ≤ most_of setting call
-step-most short setting course (calls.Move to) = short setting course to
-step-most short setting course (calls.Find from sub) = omega arith
-step-most short setting course calls.Off = omega arith
-step-most short setting course calls.On = omega arith
-
-steps-most :
-    MovesAreShort
-    → (setting : Setting) (course : Course) (script : List Call)
-    → length (writes setting course (map step_of script)) ≤ most_in setting script
-unfolding writes
-steps-most short setting course [] = omega arith
-steps-most short setting course (call ∷ script) =
-    omega (
-      arith,
-      step-most short setting course call,
-      steps-most short setting (after_step setting course (step_of call)) script,
-      length-append (step_writes setting course (step_of call))
-          (writes setting (after_step setting course (step_of call)) (map step_of script)),
-      sum_by-cons (most_of setting) call script,
-    )
-
-finds-most : (setting : Setting) (n subs : ℕ) (script : List Call) → All (IsSearch n subs) script
-    → sum_by (λ (call : FindCall). most_looks setting call.from) (map find_of script) ≤ most_in setting script
-finds-most setting n subs [] all = omega arith
-finds-most setting n subs (call ∷ script) all =
-    omega (
-      arith,
-      at_call call (All-head (IsSearch n subs) call script all),
-      finds-most setting n subs script (All-tail (IsSearch n subs) call script all),
-      sum_by-cons (most_of setting) call script,
-      sum_by-cons (λ (c : FindCall). most_looks setting c.from) (find_of call) (map find_of script),
-    )
-  where
-    at_call : (c : Call) → IsSearch n subs c → most_looks setting (find_of c).from ≤ most_of setting c
-    at_call (calls.Move to) its = absurd its
-    at_call (calls.Find from sub) its = omega arith
-    at_call calls.Off its = absurd its
-    at_call calls.On its = absurd its
 
 turns-most : MovesAreShort → (input : Contents) (setting : Setting) (actor : ℕ) → IsValid input
     → IsSettingOf input setting → actor < length input.scripts

@@ -1,7 +1,7 @@
 -- The scripts of a valid input are valid.
-use Rattle.std.proofs.Common.{◌≡◌, ℕ, zero, suc, ◌+◌, ◌-◌, ◌<◌, ◌≤◌, ◌^◌, Bool, true, false, List, [], ◌∷◌, ◌++◌, length, map, take, drop, fold, get_or, refl, sym, ap, ◌∙◌, subst, arith, inl, inr}
+use Rattle.std.proofs.Common.{◌≡◌, ℕ, ◌+◌, ◌-◌, ◌<◌, ◌^◌, Bool, true, false, List, [], ◌∷◌, length, map, take, drop, get_or, refl, sym, ap, ◌∙◌, subst, arith}
 use Rattle.std.specs.Prelude.{All}
-use Rattle.std.proofs.lemmas.List.{get_or_default, get_or-map, get_or-take, get_or-drop, length-map, length-drop, length-take-le, length_push}
+use Rattle.std.proofs.lemmas.List.{get_or_default, get_or-drop, length-map, length-drop, length-take-le, length_push}
 use Rattle.std.proofs.lemmas.List.Elements.{All-map}
 use Rattle.std.proofs.lemmas.List.Sums.{fold-append}
 use Rattle.directory.specs.Settings.{Setting, start, subs}
@@ -10,9 +10,7 @@ use Rattle.directory.specs.Legal.{IsScript}
 use Rattle.directory.specs.Orders.{IsFindCall, steps_of}
 use Rattle.net_reader.specs.declared.said.Call.{Call}
 use Rattle.net_reader.specs.declared.said.Call.TheVariants as calls
-use Rattle.net_reader.specs.Input.{Contents}
-use Rattle.net_reader.specs.Table.{most_calls}
-use Rattle.net_reader.specs.Valid.{IsCourse, IsSearch, IsValid, count_calls}
+use Rattle.net_reader.specs.Valid.{IsCourse, IsSearch}
 use Rattle.scripts.specs.Scripts.{find_of, scripts_of, step_of}
 use Rattle.scripts.specs.Laws.{ScriptsAreValid}
 use Rattle.scripts.specs.ScriptLaws.{calls-few, steps-are}

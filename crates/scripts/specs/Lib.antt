@@ -1,3 +1,4 @@
 pub mod Scripts
 pub mod Laws
 pub mod ScriptLaws
+pub mod MostLaws

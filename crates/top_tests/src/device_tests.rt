@@ -4,6 +4,7 @@ use crate::runs::{FOUR, Lines, ROOM, Run, ends, text_of};
 use std::alloc::Global;
 use std::process::Abort;
 use std::test::Fail;
+use std::thread::Threads;
 
 const CALLS: Lines<'static> = Lines(FOUR, "", b"move 0 2\nfind 1 3 0\n", 1);
 
@@ -40,8 +41,8 @@ struct Broken<'a> {
     writes: &'a [u64],
 }
 
-fn breaks(
-    rt: &impl Abort,
+fn breaks<R: Threads + Sync + Abort>(
+    rt: &R,
     alloc: Global,
     place: usize,
     broken: Broken<'_>,
@@ -61,8 +62,8 @@ fn breaks(
 }
 
 // Twelve reads of 8 bytes take the input, and one more tells its end.
-fn read_fails(
-    rt: &impl Abort,
+fn read_fails<R: Threads + Sync + Abort>(
+    rt: &R,
     alloc: Global,
     word: &str,
     text: &str,
@@ -99,8 +100,8 @@ fn each_read_fails(rt: HostRuntime) -> Result<(), Fail> {
 }
 
 // Writes of 10 bytes: what was written before the one that fails stays.
-fn write_fails(
-    rt: &impl Abort,
+fn write_fails<R: Threads + Sync + Abort>(
+    rt: &R,
     alloc: Global,
     word: &str,
     text: &[u8],
@@ -140,7 +141,12 @@ fn each_write_fails(rt: HostRuntime) -> Result<(), Fail> {
 // A row is which reads and which writes fail, at how many bytes a call, the status and the text.
 type Row<'a> = (&'a [u64], &'a [u64], usize, u8, &'a str);
 
-fn play(rt: &impl Abort, alloc: Global, lines: Lines<'_>, rows: &[Row<'_>]) -> Result<(), Fail> {
+fn play<R: Threads + Sync + Abort>(
+    rt: &R,
+    alloc: Global,
+    lines: Lines<'_>,
+    rows: &[Row<'_>],
+) -> Result<(), Fail> {
     let input = text_of(alloc, lines)?;
     for place in 0..rows.len() {
         let (reads, writes, most, status, text) = rows[place];

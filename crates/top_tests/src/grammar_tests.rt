@@ -1,6 +1,9 @@
 //! Inputs that are refused, cut short or meant to do harm, at the top call.
-use crate::runs::{FOUR, Lines, ROOM, Row, Run, ends, play, text_of};
+use crate::runs::{FOUR, Lines, READING, ROOM, Row, Run, ends, play, text_of};
+use std::alloc::Global;
+use std::process::Abort;
 use std::test::Fail;
+use std::thread::Threads;
 
 const TWO: &str = "track 1\nnodes 2\nk 2\n";
 
@@ -49,8 +52,7 @@ fn refused_inputs(rt: HostRuntime) -> Result<(), Fail> {
         (Lines(ONE, "", b"sub 0\n", 64), 1, "refused 67 unfinished\n"),
         (Lines(ONE, "", b"sub 0\n", 65), 1, "refused 68 too-many\n"),
     ];
-    let words = ["cover", "replay", "census", "costs"];
-    play(&rt, rt.alloc(), &words, &[1, 7, 64], &rows)
+    play(&rt, rt.alloc(), &READING, &[1, 7, 64], &rows)
 }
 
 // Both sides of the limits of numbers.
@@ -116,21 +118,34 @@ fn cut_inputs(rt: HostRuntime) -> Result<(), Fail> {
         (20, 1, "refused 3 unfinished\n"),
         (53, 1, "refused 6 unfinished\n"),
         (66, 1, "refused 8 form\n"),
-        (68, 0, "end 0\n"),
         (86, 1, "refused 10 form\n"),
     ];
-    for (length, status, text) in rows {
-        let mut input = text_of(rt.alloc(), Lines(FOUR, "", b"move 0 2\nfind 1 3 0\n", 1))?;
-        input.truncate(length);
+    'rows: for (length, status, text) in rows {
+        cut_behind(&rt, rt.alloc(), &READING, length, status, text)?;
+    }
+    cut_behind(&rt, rt.alloc(), &["replay", "run"], 68, 0, "end 0\n")
+}
+
+fn cut_behind<R: Threads + Sync + Abort>(
+    rt: &R,
+    alloc: Global,
+    words: &[&str],
+    length: usize,
+    status: u8,
+    text: &str,
+) -> Result<(), Fail> {
+    let mut input = text_of(alloc, Lines(FOUR, "", b"move 0 2\nfind 1 3 0\n", 1))?;
+    input.truncate(length);
+    for word in words {
         let run = Run {
-            words: &["replay"],
+            words: &[word],
             input: &input,
             most: 7,
             room: ROOM,
             failing_reads: &[],
             failing_writes: &[],
         };
-        ends(&rt, rt.alloc(), length, &run, status, text.as_bytes())?;
+        ends(rt, alloc, length, &run, status, text.as_bytes())?;
     }
     Ok(())
 }
@@ -160,7 +175,7 @@ fn harmful_lines(rt: HostRuntime) -> Result<(), Fail> {
         ),
         (Lines(FOUR, "find", b"find", 250_000), 1, "refused 9 form\n"),
     ];
-    play(&rt, rt.alloc(), &["replay"], &[64], &rows)
+    play(&rt, rt.alloc(), &READING, &[64], &rows)
 }
 
 // Bytes that no other test has: a comment with a byte that begins no character, tabs between
@@ -181,7 +196,7 @@ fn unusual_bytes(rt: HostRuntime) -> Result<(), Fail> {
             "refused 9 form\n",
         ),
     ];
-    play(&rt, rt.alloc(), &["replay"], &[7], &rows)
+    play(&rt, rt.alloc(), &["replay", "run"], &[7], &rows)
 }
 
 // Switches that don't fit, and those of a format that has none.

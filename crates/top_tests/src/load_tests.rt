@@ -4,6 +4,7 @@ use crate::same::same_numbers;
 use std::alloc::Global;
 use std::process::Abort;
 use std::test::Fail;
+use std::thread::Threads;
 
 const TWO_NODES: &str =
     "track 1\nnodes 2\nk 2\nedge 0 1 8\nedge 1 0 4\nsub 1\ncallers 0\nmove 0 0\n\
@@ -19,7 +20,7 @@ const ONE_NODE: &str = "track 1\nnodes 1\nk 1\nsub 0\ncallers 0\n";
 type Row<'a> = (&'a [&'a str], &'a [u64], u8, &'a str);
 
 // Reads would fail, and must not be made.
-fn play(rt: &impl Abort, alloc: Global, rows: &[Row<'_>]) -> Result<(), Fail> {
+fn play<R: Threads + Sync + Abort>(rt: &R, alloc: Global, rows: &[Row<'_>]) -> Result<(), Fail> {
     for place in 0..rows.len() {
         let (words, failing_writes, status, text) = rows[place];
         let run = Run {

@@ -1,6 +1,6 @@
 //! Whole runs over sources and sinks in memory: worked inputs with their texts, and inputs and
 //! reports at the limits.
-use crate::runs::{FOUR, Lines, ROOM, Ran, Row, Run, ends, perform, play, text_of};
+use crate::runs::{FOUR, Lines, ROOM, Ran, Row, Run, perform, play, text_of};
 use crate::same::{same_numbers, same_text};
 use std::alloc::Global;
 use std::process::Abort;
@@ -63,7 +63,9 @@ fn words_that_are_refused(rt: HostRuntime) -> Result<(), Fail> {
             failing_reads: &[0],
             failing_writes: &[0],
         };
-        ends(&rt, rt.alloc(), place, &run, 2, b"")?;
+        let ran = perform(rt.alloc(), &run)?;
+        same_numbers(&rt, place, &[u64::from(ran.status)], &[2]);
+        same_text(&rt, place, &ran.written, b"");
     }
     Ok(())
 }

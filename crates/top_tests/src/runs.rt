@@ -3,7 +3,7 @@ ghost use Rattle.std.specs.Prelude.{◌≤◌};
 
 use crate::same::{same_numbers, same_text};
 use outside::{MemorySink, MemorySource};
-use runner::Gate;
+use runner::{Gate, OpenGate, RUN_TRIES};
 use std::alloc::Global;
 use std::process::Abort;
 use std::test::Fail;
@@ -13,6 +13,9 @@ use track::{command, command_with_threads};
 /// The line of four nodes.
 pub(crate) const FOUR: &str =
     "track 1\nnodes 4\nk 2\nedge 0 1 1\nedge 1 2 1\nedge 2 3 1\nsub 3\ncallers 1\n";
+
+/// The words that read an input.
+pub(crate) const READING: [&str; 5] = ["cover", "replay", "census", "costs", "run"];
 
 /// The room of a sink that is large enough.
 pub(crate) const ROOM: usize = 4096;
@@ -85,16 +88,24 @@ pub(crate) fn perform_by_threads<R: Threads + Sync, G: Gate>(
     })
 }
 
+// A run by the call that serves its words.
+fn perform_either<R: Threads + Sync>(rt: &R, alloc: Global, run: &Run<'_>) -> Result<Ran, Fail> {
+    if run.words.starts_with(&["run"]) {
+        return perform_by_threads(rt, alloc, run, &OpenGate, RUN_TRIES);
+    }
+    perform(alloc, run)
+}
+
 /// A run is to end with this status, and to write this text.
-pub(crate) fn ends(
-    rt: &impl Abort,
+pub(crate) fn ends<R: Threads + Sync + Abort>(
+    rt: &R,
     alloc: Global,
     place: usize,
     run: &Run<'_>,
     status: u8,
     text: &[u8],
 ) -> Result<(), Fail> {
-    let ran = perform(alloc, run)?;
+    let ran = perform_either(rt, alloc, run)?;
     same_numbers(rt, place, &[u64::from(ran.status)], &[u64::from(status)]);
     same_text(rt, place, &ran.written, text);
     Ok(())
@@ -123,8 +134,8 @@ pub(crate) fn text_of(alloc: Global, lines: Lines<'_>) -> Result<Vec<u8>, Fail> 
 pub(crate) type Row<'a> = (Lines<'a>, u8, &'a str);
 
 /// Each input is to be answered so by each of these words, however many bytes come in a call.
-pub(crate) fn play(
-    rt: &impl Abort,
+pub(crate) fn play<R: Threads + Sync + Abort>(
+    rt: &R,
     alloc: Global,
     words: &[&str],
     mosts: &[usize],
@@ -140,8 +151,8 @@ pub(crate) fn play(
     Ok(())
 }
 
-fn play_word(
-    rt: &impl Abort,
+fn play_word<R: Threads + Sync + Abort>(
+    rt: &R,
     alloc: Global,
     place: usize,
     word: &str,

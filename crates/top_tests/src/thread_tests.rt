@@ -99,6 +99,41 @@ fn runs_that_stop(rt: HostRuntime) -> Result<(), Fail> {
     play(&rt, rt.alloc(), &rows)
 }
 
+// A run whose read fails: eight reads of 10 bytes take the input, and one more tells its end.
+fn read_fails<R: Threads + Sync + Abort>(rt: &R, alloc: Global, call: u64) -> Result<(), Fail> {
+    let (status, text) = if call < 9 { (4, "") } else { (0, MOVED) };
+    play(
+        rt,
+        alloc,
+        &[(&["run"], "move 0 2\n", &[call], &[], status, text)],
+    )
+}
+
+// A run whose write of 10 bytes fails: what was written before stays.
+fn write_fails<R: Threads + Sync + Abort>(rt: &R, alloc: Global, call: u64) -> Result<(), Fail> {
+    let input = text_of(alloc, Lines(FOUR, "move 0 2\n", b"", 0))?;
+    let text = MOVED.as_bytes();
+    let written = text.len().min(10 * call as usize);
+    let status = if written < text.len() { 5 } else { 0 };
+    let run = Run {
+        failing_writes: &[call],
+        ..run_of(&["run"], &input)
+    };
+    let ran = perform_by_threads(rt, alloc, &run, &OpenGate, RUN_TRIES)?;
+    same_numbers(rt, call as usize, &[u64::from(ran.status)], &[status]);
+    same_text(rt, call as usize, &ran.written, &text[..written]);
+    Ok(())
+}
+
+#[test]
+fn each_call_of_a_run_fails(rt: HostRuntime) -> Result<(), Fail> {
+    'calls: for call in 0..14u64 {
+        read_fails(&rt, rt.alloc(), call)?;
+        write_fails(&rt, rt.alloc(), call)?;
+    }
+    Ok(())
+}
+
 // The replay of an input with the order that a report of it printed.
 fn replay_again(alloc: Global, input: &[u8], report: &[u8]) -> Result<Ran, Fail> {
     let mut again = Vec::from_slice(alloc, input)?;

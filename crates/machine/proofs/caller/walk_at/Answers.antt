@@ -1,5 +1,5 @@
 use Rattle.std.proofs.Common.{sym, ◌∙◌}
-use Rattle.machine.proofs.Looking.{walk-at}
+use Rattle.machine.specs.WalkingLaws.{walk-at}
 use Rattle.machine.proofs.caller.walk_at.Goals as goal
 
 pub returns-in-Find : goal.returns-in-Find

@@ -1,5 +1,5 @@
 use Rattle.std.proofs.Common.{sym, ◌∙◌}
-use Rattle.runner.proofs.Finding.{walk-at}
+use Rattle.machine.specs.WalkingLaws.{walk-at}
 use Rattle.runner.proofs.finder.walk_at.Goals as goal
 
 pub returns-in-Find : goal.returns-in-Find

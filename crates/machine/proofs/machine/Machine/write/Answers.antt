@@ -1,6 +1,4 @@
-use Rattle.std.proofs.Common.{[], arith, refl}
-use Rattle.net_reader.specs.Seen.{seen_input}
-use Rattle.machine.specs.Machines.{scripts_at, setting_at}
+use Rattle.std.proofs.Common.{arith, refl}
 use Rattle.machine.proofs.Turning.{at-sub, room-left, sub-kept-machine, sub-turned, ticket-is}
 use Rattle.machine.proofs.machine.Machine.write.Goals as goal
 

@@ -1,0 +1,141 @@
+//! Runs by hand: one worker plays alone, or nobody does, or a node is held.
+ghost use Rattle.std.specs.Prelude.{◌<◌, ℕ, IfSome};
+ghost use Rattle.net_reader.specs.Input.{Contents};
+ghost use Rattle.station.specs.Passes.{IsFree, IsPassOf, TrackerData};
+ghost use Rattle.station.specs.Setup.{nodes_in};
+ghost use Rattle.runner.specs.Roles.{IsSetFor};
+ghost use Rattle.runner.specs.Runs.{AreWorkersOf};
+ghost use Rattle.runner.specs.Workers.{IsWorkerOf};
+
+use crate::runs::{input_of_calls, plan_of};
+use directory::{Done, Outcome};
+use distances::Distances;
+use region_plan::Plan;
+use runner::{OpenGate, Played, Worker, finish_run, open_run};
+use station::{Pass, Tracker};
+use std::alloc::{AllocError, Global};
+use std::test::Fail;
+
+const TRIES: u64 = 5;
+
+// The worker of actor 0 plays, if it is to.
+fn play_first(
+    workers: &mut Vec<Worker>,
+    tracker: &Tracker,
+    plan: &Plan,
+    distances: &Distances,
+    plays: bool,
+) -> Option<Played>
+    requires set { (input : Contents) × IsSetFor input tracker.now.setup plan.now distances.now
+        × AreWorkersOf input tracker.now workers.old.items }
+    ensures { (input : Contents) → IsSetFor input tracker.now.setup plan.now distances.now
+        → AreWorkersOf input tracker.now workers.old.items
+        → AreWorkersOf input tracker.now workers.new.items }
+{
+    if !plays || workers.is_empty() {
+        return None;
+    }
+    Some(workers[0].play(tracker, plan, distances, &OpenGate, TRIES))
+}
+
+// How the worker of actor 0 ends, where it plays, and what becomes of all calls.
+fn by_hand(alloc: Global, calls: &str, plays: bool) -> Result<(Option<Played>, Outcome), Fail> {
+    let input = input_of_calls(alloc, calls)?;
+    let (plan, distances) = plan_of(alloc, &input)?;
+    let (tracker, mut workers) = open_run(alloc, &input, &plan)?;
+    let played = play_first(&mut workers, &tracker, &plan, &distances, plays);
+    let outcome = finish_run(alloc, &input, &plan, &distances, tracker, workers)?;
+    Ok((played, outcome))
+}
+
+// The workers of actors 0 and 1.
+fn first_two(workers: Vec<Worker>) -> Option<(Worker, Worker)>
+    ensures { IfSome result (λ two. (input : Contents) (tracker : TrackerData)
+        → AreWorkersOf input tracker workers.items
+        → IsWorkerOf input tracker two.0 × IsWorkerOf input tracker two.1) }
+{
+    let mut rest = workers.into_iter();
+    let first = rest.next()?;
+    let second = rest.next()?;
+    Some((first, second))
+}
+
+// How a worker's plays end: one while another pass is inside a node, and one after it has left.
+fn play_around(
+    tracker: &Tracker,
+    other: &mut Pass,
+    worker: &mut Worker,
+    plan: &Plan,
+    distances: &Distances,
+    node: u32,
+) -> Option<[Played; 2]>
+    requires set { (input : Contents) × IsSetFor input tracker.now.setup plan.now distances.now
+        × IsWorkerOf input tracker.now worker.old }
+    requires other { IsFree tracker.now 0 other.old }
+    requires node { node < nodes_in tracker.now.setup }
+    ensures other { IsPassOf tracker.now other.new }
+    ensures worker { IsPassOf tracker.now worker.new.pass }
+{
+    let Ok(stay) = tracker.enter(other, node) else {
+        return None;
+    };
+    let first = worker.play(tracker, plan, distances, &OpenGate, TRIES);
+    tracker.leave(other, stay);
+    let second = worker.play(tracker, plan, distances, &OpenGate, TRIES);
+    Some([first, second])
+}
+
+// How the caller's plays end around a stay of the subscriber's pass, and the order of all tickets.
+fn around_a_stay(alloc: Global, calls: &str, node: u32) -> Result<([Played; 2], Vec<u32>), Fail> {
+    let input = input_of_calls(alloc, calls)?;
+    let (plan, distances) = plan_of(alloc, &input)?;
+    let (tracker, workers) = open_run(alloc, &input, &plan)?;
+    let Some((subscriber, mut caller)) = first_two(workers) else {
+        return Err(AllocError.into());
+    };
+    if node >= plan.nodes() {
+        return Err(AllocError.into());
+    }
+    let mut pass = subscriber.into_pass();
+    let Some(played) = play_around(&tracker, &mut pass, &mut caller, &plan, &distances, node) else {
+        return Err(AllocError.into());
+    };
+    let mut passes = Vec::with_capacity(alloc, 2)?;
+    passes.push(pass)?;
+    passes.push(caller.into_pass())?;
+    match tracker.close(alloc, passes) {
+        Ok(order) => Ok((played, order)),
+        Err(_) => Err(AllocError.into()),
+    }
+}
+
+#[test]
+fn one_worker_or_none_has_played(rt: HostRuntime) -> Result<(), Fail> {
+    let moved = [Done::Moved {
+        actor: 0,
+        number: 1,
+        from: 3,
+        to: 2,
+        weight: 1,
+        first: 0,
+        commit: 3,
+        last: 5,
+    }];
+    let ends = [(true, Some(Played::Finished)), (false, None)];
+    'ends: for (plays, wanted) in ends {
+        let (played, outcome) = by_hand(rt.alloc(), "callers 1\nmove 0 2\n", plays)?;
+        let calls = outcome.calls.as_slice();
+        assert!(rt; played == wanted && calls == moved.as_slice());
+        assert!(rt; outcome.order.as_slice() == [0; 6].as_slice());
+    }
+    Ok(())
+}
+
+#[test]
+fn a_worker_stops_at_a_held_node(rt: HostRuntime) -> Result<(), Fail> {
+    let (played, order) = around_a_stay(rt.alloc(), "callers 1\nfind 1 2 0\n", 3)?;
+    let stopped = Played::Stopped { held: 5, kept: 0 };
+    assert!(rt; played == [stopped, Played::Finished]);
+    assert!(rt; order.as_slice() == [1; 4].as_slice());
+    Ok(())
+}
