@@ -114,7 +114,15 @@ fn add_cluster(
         work.old work.new cover.old cover.new) }
 {
     let number = cover.clusters.len() as u32;
-    let members = grow(alloc, balls, rows, k, first, &work.waiting, &mut work.growth)?;
+    let members = grow(
+        alloc,
+        balls,
+        rows,
+        k,
+        first,
+        &work.waiting,
+        &mut work.growth,
+    )?;
     work.waiting.remove(&work.growth.touched);
     set_homes(&work.growth.touched, number, &mut cover.home);
     cover.clusters.push(MeanCluster {
