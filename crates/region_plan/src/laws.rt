@@ -8,15 +8,15 @@ ghost use Rattle.region_plan.specs.Plan.{readers, leader, inside};
 ghost use Rattle.region_plan.specs.Meanings.{PlansMean, PlansOfSameWalks};
 ghost use Rattle.region_plan.specs.Meanings.{CoveredPlansMean, CoveredPlansOfSameWalks};
 ghost use Rattle.region_plan.specs.Flat.{IsFlat};
-ghost use Rattle.region_plan.specs.Regions.{plan_of};
+ghost use Rattle.region_plan.specs.Regions.{mean_plan, plan_of};
 ghost use Rattle.region_plan.specs.Matched.{IsMatched, IsWithinReach, PlansBoundFinds, BoundsFinds};
 ghost use Rattle.region_plan.specs.Matched.{CoveredPlansBoundFinds, MeanPlansHaveSmallSums};
 ghost use Rattle.region_plan.specs.Matched.{PlansHaveFewReaders};
-ghost use Rattle.region_plan.specs.Measures.{degree_of};
+ghost use Rattle.region_plan.specs.Measures.{degree_of, stretch_of};
 ghost use Rattle.region_plan.specs.Settings.{setting_of};
 ghost use Rattle.directory.specs.Finds.{most_looks};
 ghost use Rattle.directory.specs.Writes.{most_writes};
-ghost use Rattle.region_plan.specs.Examples.{line_network, line_of_four};
+ghost use Rattle.region_plan.specs.Examples.{line_network, line_of_four, mean_line_of_four};
 
 use crate::covering::{covering_home_means, covering_shape};
 use coarse_cover::covers_are_sparse;
@@ -138,4 +138,13 @@ pub fn line_has_its_plan()
     ensures bounding { BoundsFinds line_of_four }
 {
     plan_is_bounding();
+}
+
+/// The same of its plan over mean covers, whose stretch is 232.
+pub fn line_has_its_mean_plan()
+    ensures plan { mean_plan line_network 2 ≡ mean_line_of_four }
+    ensures stretch { stretch_of mean_line_of_four ≡ 232 }
+    ensures bounding { BoundsFinds mean_line_of_four }
+{
+    covered_plan_is_bounding();
 }
