@@ -1,6 +1,5 @@
-use Rattle.std.proofs.Common.{◌≡◌, ℕ, zero, suc, ◌<◌, true, List, [], ◌∷◌, refl, arith}
+use Rattle.std.proofs.Common.{zero, suc, [], ◌∷◌, refl, arith}
 use Rattle.std.proofs.lemmas.Bool.{false≢true}
-use Rattle.node_set.specs.Ascending.{AllBelow, has}
 use Rattle.node_set.specs.Balls.{AreCentred, AreInside, growth, home_of, least, union_of}
 use Rattle.node_set.specs.SetLaws.{below-has}
 use Rattle.mean_cover.specs.Covering.{is_last, mean_cluster, mean_clusters}
@@ -20,17 +19,17 @@ unfolding mean_clusters mean_cluster is_last least growth union_of
 returns-clause-sum c = refl
 
 line_centred : AreCentred line_balls
-line_centred 0 h = refl
-line_centred 1 h = refl
-line_centred 2 h = refl
-line_centred 3 h = refl
+line_centred zero h = refl
+line_centred (suc zero) h = refl
+line_centred (suc (suc zero)) h = refl
+line_centred (suc (suc (suc zero))) h = refl
 line_centred (suc (suc (suc (suc v)))) h = absurd (omega arith)
 
 line_inside : AreInside line_balls
-line_inside 0 x h = below-has 4 x (0 ∷ 1 ∷ []) (omega arith, omega arith, tt) h
-line_inside 1 x h = below-has 4 x (0 ∷ 1 ∷ 2 ∷ []) (omega arith, omega arith, omega arith, tt) h
-line_inside 2 x h = below-has 4 x (1 ∷ 2 ∷ 3 ∷ []) (omega arith, omega arith, omega arith, tt) h
-line_inside 3 x h = below-has 4 x (2 ∷ 3 ∷ []) (omega arith, omega arith, tt) h
+line_inside zero x h = below-has 4 x (0 ∷ 1 ∷ []) (omega arith, (omega arith, tt)) h
+line_inside (suc zero) x h = below-has 4 x (0 ∷ 1 ∷ 2 ∷ []) (omega arith, (omega arith, (omega arith, tt))) h
+line_inside (suc (suc zero)) x h = below-has 4 x (1 ∷ 2 ∷ 3 ∷ []) (omega arith, (omega arith, (omega arith, tt))) h
+line_inside (suc (suc (suc zero))) x h = below-has 4 x (2 ∷ 3 ∷ []) (omega arith, (omega arith, tt)) h
 line_inside (suc (suc (suc (suc v)))) x h = absurd (false≢true h)
 
 pub returns-clause-centred : goal.returns-clause-centred
