@@ -1,13 +1,10 @@
 -- Growth of one cluster: fewer than k growths are enough.
-use Rattle.std.proofs.Common.{◌≡◌, inl, inr, ℕ, zero, suc, ◌-◌, ◌*◌, ◌^◌, ◌<◌, ◌≤◌, Bool, true, false, ◌||◌, List, ◌∷◌}
+use Rattle.std.proofs.Common.{◌≡◌, inl, inr, ℕ, suc, ◌*◌, ◌^◌, ◌<◌, ◌≤◌, true, false, List, ◌∷◌}
 use Rattle.std.proofs.Common.{length, filter, refl, sym, ◌∙◌, ap, subst, arith}
 use Rattle.std.proofs.lemmas.Bool.{cases_lt, false≢true, leb-true, leb-false, le-leb, lt-leb}
-use Rattle.std.proofs.Math.Nat.{pow-zero, pow-succ', mul-lt-mul_of_pos_left, lt_of_not-le}
-use Rattle.node_set.specs.Ascending.{has, IsAscending}
+use Rattle.std.proofs.Math.Nat.{lt_of_not-le}
 use Rattle.node_set.specs.Balls.{union_of, touches, growth, least}
-use Rattle.node_set.specs.SetLaws.{same_members}
-use Rattle.node_set.specs.FilterLaws.{filter_has}
-use Rattle.node_set.specs.BallLaws.{HoldCentres, union_more, ascending-union_of, touches_own, growth_waits, growth_size}
+use Rattle.node_set.specs.BallLaws.{growth_size}
 use Rattle.node_set.specs.BallLaws.{growth_first, least_passes, least_first, least_is}
 use Rattle.node_set.specs.GrowthLaws.{reached}
 use Rattle.whole_powers.specs.PowerLaws.{outgrows}

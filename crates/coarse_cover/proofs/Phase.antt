@@ -1,11 +1,10 @@
 -- One phase: its clusters are disjoint, and the balls that they are homes of are many.
-use Rattle.std.proofs.Common.{◌≡◌, ◌⊎◌, inl, inr, ℕ, zero, suc, ◌+◌, ◌*◌, ◌^◌, ◌<◌, ◌≤◌, Bool, true, false, cond, not}
+use Rattle.std.proofs.Common.{◌≡◌, inl, inr, ℕ, zero, suc, ◌+◌, ◌*◌, ◌^◌, ◌<◌, ◌≤◌, Bool, true, false, cond, not}
 use Rattle.std.proofs.Common.{◌&&◌, List, [], ◌∷◌, length, filter, refl, sym, ◌∙◌, ap, subst, arith}
 use Rattle.std.specs.Prelude.{count_by, All}
 use Rattle.std.proofs.lemmas.List.Elements.{All-nil, All-cons, All-head, All-tail}
 use Rattle.std.proofs.lemmas.List.Sums.{sum_by-cons}
-use Rattle.std.proofs.lemmas.List.{get_or_past}
-use Rattle.std.proofs.lemmas.Bool.{cases_lt, false≢true, false_from_ne_true, not-true, and_from, and_parts}
+use Rattle.std.proofs.lemmas.Bool.{false≢true, false_from_ne_true, not-true, and_from, and_parts}
 use Rattle.std.proofs.Math.Nat.{le_trans, pow-le-pow_left, mul-le-mul_left}
 use Rattle.node_set.specs.Ascending.{has, IsBelowAll, share}
 use Rattle.node_set.specs.SetLaws.{share_from, share_gives}

@@ -1,12 +1,11 @@
 -- What a finished cover is, and what follows of its clusters.
-use Rattle.std.proofs.Common.{◌≡◌, ℕ, suc, ◌+◌, ◌-◌, ◌*◌, ◌^◌, ◌<◌, ◌≤◌, true, false, cond, List, [], ◌∷◌, ◌++◌, length}
+use Rattle.std.proofs.Common.{◌≡◌, ℕ, suc, ◌-◌, ◌*◌, ◌^◌, ◌<◌, ◌≤◌, true, false, cond, List, [], ◌∷◌, ◌++◌, length}
 use Rattle.std.proofs.Common.{get_or, map, refl, sym, ◌∙◌, ap, subst, arith}
 use Rattle.std.specs.Prelude.{count_by, All}
 use Rattle.std.specs.List.{sum_by}
 use Rattle.std.proofs.lemmas.Grind.{same_number_lists}
 use Rattle.std.proofs.lemmas.List.{get_or-map, length-map}
 use Rattle.std.proofs.lemmas.List.Elements.{All-nil, All-append, All-map, All-weaker}
-use Rattle.std.proofs.lemmas.List.Sums.{sum_by-cons}
 use Rattle.node_set.specs.Ascending.{has, share}
 use Rattle.whole_powers.specs.Bounds.{PowersAdd, OnePhase}
 use Rattle.coarse_cover.specs.Coarsening.{without_home, all_clusters, coarsening, HomesAreFound}

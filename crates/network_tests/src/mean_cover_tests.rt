@@ -119,6 +119,10 @@ fn on_path(cover: &MeanCover, v: u32, c: u32) -> [u64; 6] {
     ]
 }
 
+fn is_on_path(rt: &impl Abort, cover: &MeanCover, v: u32, c: u32, wanted: [u64; 6]) {
+    assert_eq!(rt; on_path(cover, v, c), wanted, "ball {v}");
+}
+
 // Each row is a ball, a cluster, and what is wanted of the mean cover of a path of `n` nodes.
 fn ask_path(
     rt: &impl Abort,
@@ -136,7 +140,7 @@ fn ask_path(
     let cover = coarsen_mean(alloc, &balls, k)?;
     for place in 0..rows.len() {
         let (v, c, wanted) = rows[place];
-        same_numbers(rt, place, &on_path(&cover, v, c), &wanted);
+        is_on_path(rt, &cover, v, c, wanted);
     }
     Ok(())
 }

@@ -49,7 +49,14 @@ fn refused_inputs(rt: HostRuntime) -> Result<(), Fail> {
         (Lines(ONE, "", b"sub 0\n", 64), 1, "refused 67 unfinished\n"),
         (Lines(ONE, "", b"sub 0\n", 65), 1, "refused 68 too-many\n"),
     ];
-    let words = ["cover", "replay", "census", "costs", "meancover", "meanreplay"];
+    let words = [
+        "cover",
+        "replay",
+        "census",
+        "costs",
+        "meancover",
+        "meanreplay",
+    ];
     play(&rt, rt.alloc(), &words, &[1, 7, 64], &rows)
 }
 

@@ -109,11 +109,8 @@ fn serve<S: Source, K: Sink>(
     ensures rest { IsEndOf (S.left source.old) (S.left source.new) }
 {
     match command {
-        Command::Run
-        | Command::Check
-        | Command::ToJson
-        | Command::FromJson
-        | Command::ReplayJson => Status::BadWords,
+        Command::Run | Command::Check | Command::ToJson | Command::FromJson | Command::ReplayJson =>
+            Status::BadWords,
         Command::Make(load) => status_of(write_made(alloc, load, sink)),
         Command::Trial(load) => status_of(write_trial(alloc, load, sink)),
         Command::Cover
