@@ -1,8 +1,9 @@
 #!/usr/bin/env python3
-"""Checks the text that `cover` writes by plain means of its own: on networks of 256 nodes with weights of 1 and of
-1,048,576, for k of 1 to 8. Of each level: the radius and the phases; that every home contains the ball of its node; that
-clusters of one phase are disjoint, and no node lies in more clusters than there are phases; that depths are the greatest least
-weights inside from the leader, within (2k-1) radii; that p^k <= k^k n; of the top level, that every home is whole.
+"""Checks the texts that `cover` and `meancover` write by plain means of its own: on networks of 256 nodes with weights of 1 and
+of 1,048,576, for k of 1 to 8. Of each level: the radius and the phases; that every home contains the ball of its node; that
+depths are the greatest least weights inside from the leader, within (2k-1) radii, or 2k+1; of the top level, that every home is
+whole. Of `cover`: that clusters of one phase are disjoint, and no node lies in more clusters than there are phases; that p^k <=
+k^k n. Of `meancover`: that there is one phase, and t^k <= n^(k+1) for the sum t of the sizes.
 
 Usage, at the top of the repository: bench/check_covers.py [NODES]        It runs crates/track_main/out/track_main."""
 import heapq
@@ -31,7 +32,7 @@ def least(neighbours, root, inside=None):
     return weights
 
 
-def check(kind, n, k, weight):
+def check(kind, n, k, weight, mean):
     es = edges(kind, n, weight)
     neighbours = [[] for _ in range(n)]
     for a, b, w in es:
@@ -39,13 +40,14 @@ def check(kind, n, k, weight):
         neighbours[b].append((a, w))
     distance = [least(neighbours, v) for v in range(n)]
     diameter = max(max(d.values()) for d in distance)
-    done = subprocess.run([OURS, "cover"], input=text(n, k, es).encode(), stdout=subprocess.PIPE, check=True)
+    done = subprocess.run([OURS, "meancover" if mean else "cover"], input=text(n, k, es).encode(), stdout=subprocess.PIPE, check=True)
     lines = done.stdout.decode().split("\n")
     assert lines[-2:] == ["end", ""]
     head = lines[0].split()
     levels, degree, stretch = int(head[6]), int(head[8]), int(head[10])
     assert head[:5] == ["plan", "nodes", str(n), "k", str(k)]
     top = levels - 1
+    width = 2 * k + 1 if mean else 2 * k - 1
     assert 2**top >= diameter and (top == 0 or 2 ** (top - 1) < diameter)
     at = 1
     most = 0
@@ -62,12 +64,16 @@ def check(kind, n, k, weight):
             phase, leader, depth, members = int(f[3]), int(f[5]), int(f[7]), list(map(int, f[9:]))
             assert members == sorted(set(members)) and leader in members and phase < phases
             weights = least(neighbours, leader, set(members))
-            assert set(weights) == set(members) and max(weights.values()) == depth <= (2 * k - 1) * 2**i
+            assert set(weights) == set(members) and max(weights.values()) == depth <= width * 2**i
             clusters.append((phase, set(members)))
         homes = list(map(int, lines[at].split()[1:]))
         at += 1
-        assert len(homes) == n and phases**k <= k**k * n
-        for p in range(phases):
+        assert len(homes) == n
+        if mean:
+            assert phases == 1 and sum(len(m) for _, m in clusters) ** k <= n ** (k + 1)
+        else:
+            assert phases**k <= k**k * n
+        for p in range(0 if mean else phases):
             of_phase = [m for q, m in clusters if q == p]
             assert of_phase and sum(map(len, of_phase)) == len(set().union(*of_phase))
         for v in range(n):
@@ -75,9 +81,9 @@ def check(kind, n, k, weight):
             assert all(w in home for w in range(n) if distance[v][w] <= 2**i)
             assert i < top or len(home) == n
             read = sum(v in m for _, m in clusters)
-            assert read <= phases
+            assert mean or read <= phases
             most = max(most, read)
-    assert degree == most and stretch == 16 * degree * (2 * k - 1) + 24 * k
+    assert degree == most and stretch == 16 * degree * width + 12 * width + 12
     return levels
 
 
@@ -86,7 +92,8 @@ def main():
     for kind in KINDS:
         for weight in (1, 1048576):
             for k in range(1, 9):
-                levels = check(kind, n, k, weight)
+                levels = check(kind, n, k, weight, False)
+                check(kind, n, k, weight, True)
             print(f"{kind} of {n} nodes, weights of {weight}: k of 1 to 8 hold, {levels} levels", flush=True)
 
 

@@ -1,6 +1,6 @@
 #!/usr/bin/env python3
-"""Compares what the program writes with what scripts/directory.py does, byte for byte: the plans and reports of the stored inputs, of
-those of examples/networks/ but the largest, and of made inputs with moves, switches, finds and orders.
+"""Compares what the program writes with what scripts/directory.py does, byte for byte: the plans and reports of both covers, of the stored
+inputs, of those of examples/networks/ but the largest, and of made inputs with moves, switches, finds and orders.
 
 Usage, at the top of the repository: bench/check_python.py [COUNT [FIRST]]        so many made inputs, of the seeds from FIRST on.
 TRACK names the program, ./track where it isn't set."""
@@ -32,11 +32,12 @@ def compare(name, text):
         if written("cover", text) != fault.text() + "\n":
             raise BadText(f"{name}: it isn't refused as '{fault.text()}'") from None
         return False
-    machine = directory.run_input(said)
-    if written("cover", text) != directory.plan_text(machine.setting.plan):
-        raise BadText(f"{name}: another plan")
-    if written("replay", text) != machine.report():
-        raise BadText(f"{name}: another report")
+    for before, mean in (("", False), ("mean", True)):
+        machine = directory.run_input(said, mean)
+        if written(before + "cover", text) != directory.plan_text(machine.setting.plan):
+            raise BadText(f"{name}: another plan by {before}cover")
+        if written(before + "replay", text) != machine.report():
+            raise BadText(f"{name}: another report by {before}replay")
     return True
 
 

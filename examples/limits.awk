@@ -2,6 +2,12 @@
 # at node 4 s, and `calls` finds, of which number j is by caller 64 + j % 64, from node j * 13 % nodes, of subscriber
 # j * 5 % 64. Nobody moves. It prints the first thing that is wrong, and nothing where all is right.
 
+# Over mean covers clusters are wider, and there is one phase.
+BEGIN {
+    mean = sub(/^mean/, "", word)
+    width = mean ? 9 : 7
+}
+
 function wrong(what) {
     if (!failed) print "line " NR ": " what
     failed = 1
@@ -48,13 +54,13 @@ word == "replay" && $1 != "find" && $1 != "order" {
 
 word == "cover" && NR == 1 {
     if ($0 !~ /^plan nodes [0-9]+ k 4 levels [0-9]+ degree [0-9]+ stretch [0-9]+$/ || $3 != nodes) wrong("the plan")
-    if ($11 != 112 * $9 + 96) wrong("the stretch")
+    if ($11 != 16 * width * $9 + 12 * width + 12) wrong("the stretch")
     levels = $7
     degree = $9
 }
 
 word == "cover" && $1 == "level" {
-    if ($2 != level || $4 != 2 ^ level || cluster != clusters || $8 > $6) wrong("the level")
+    if ($2 != level || $4 != 2 ^ level || cluster != clusters || $8 > $6 || (mean && $8 != 1)) wrong("the level")
     clusters = $6
     cluster = 0
     split("", inside)
@@ -62,7 +68,7 @@ word == "cover" && $1 == "level" {
 }
 
 word == "cover" && $1 == "cluster" {
-    if ($2 != cluster || $8 > 7 * 2 ^ level || $9 != "members" || NF < 10) wrong("the cluster")
+    if ($2 != cluster || $8 > width * 2 ^ level || $9 != "members" || NF < 10) wrong("the cluster")
     for (i = 10; i <= NF; i++) {
         if ($i >= nodes || (i > 10 && $i <= $(i - 1))) wrong("the members")
         inside[cluster, $i] = 1

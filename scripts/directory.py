@@ -77,12 +77,30 @@ def cover_of(balls, k):
     return clusters, homes, phase
 
 
-def plan_of(network, k):
-    """The plan that `cover` writes, as texts.Plan."""
+def mean_cover_of(balls, k):
+    """The same of a mean cover, of one phase: a cluster is the home of all balls that touch it in its last growth."""
+    clusters, homes, waiting = [], [None] * len(balls), set(range(len(balls)))
+    while waiting:
+        center = min(waiting)
+        union, last = balls[center], False
+        while not last:
+            touched = {u for u in waiting if not union.isdisjoint(balls[u])}
+            grown = set().union(*(balls[u] for u in touched))
+            last = len(grown) ** k <= len(balls) * len(union) ** k
+            union = grown
+        for u in touched:
+            homes[u] = len(clusters)
+        clusters.append((0, center, sorted(union)))
+        waiting -= touched
+    return clusters, homes, 1
+
+
+def plan_of(network, k, mean=False):
+    """The plan that `cover` writes, or `meancover`, as texts.Plan."""
     nodes, levels, degree, radius = network.nodes, [], 0, 1
     while not levels or levels[-1].radius < network.diameter():
         balls = [{w for w in range(nodes) if network.distance(v, w) <= radius} for v in range(nodes)]
-        raw, homes, phases = cover_of(balls, k)
+        raw, homes, phases = mean_cover_of(balls, k) if mean else cover_of(balls, k)
         clusters = []
         for phase, leader, members in raw:
             depth = max(least_weights(network.arcs, leader, set(members)).values())
@@ -91,7 +109,8 @@ def plan_of(network, k):
         degree = max(degree, max(read.values()))
         levels.append(texts.Level(radius, phases, clusters, homes))
         radius *= 2
-    return texts.Plan(nodes, k, degree, 16 * degree * (2 * k - 1) + 24 * k, levels)
+    width = 2 * k + 1 if mean else 2 * k - 1
+    return texts.Plan(nodes, k, degree, 16 * degree * width + 12 * width + 12, levels)
 
 
 class Setting:
@@ -357,9 +376,9 @@ def plan_text(plan):
     return "\n".join(lines + ["end"]) + "\n"
 
 
-def run_input(said):
-    """The machine of an input, once all calls are done."""
+def run_input(said, mean=False):
+    """The machine of an input, once all calls are done, over its plan or the one over mean covers."""
     network = Network(said.nodes, said.edges)
-    machine = Machine(Setting(network, plan_of(network, said.k)), said.homes, said.scripts())
+    machine = Machine(Setting(network, plan_of(network, said.k, mean)), said.homes, said.scripts())
     machine.run(said.order)
     return machine

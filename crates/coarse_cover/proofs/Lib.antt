@@ -1,5 +1,3 @@
-mod Leading
-mod Turns
 mod Growth
 mod Phase
 mod Whole

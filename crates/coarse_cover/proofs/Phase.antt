@@ -1,19 +1,20 @@
 -- One phase: its clusters are disjoint, and the balls that they are homes of are many.
-use Rattle.std.proofs.Common.{◌≡◌, ◌⊎◌, inl, inr, ℕ, zero, suc, ◌+◌, ◌*◌, ◌^◌, ◌<◌, ◌≤◌, Bool, true, false, cond, not}
+use Rattle.std.proofs.Common.{◌≡◌, inl, inr, ℕ, zero, suc, ◌+◌, ◌*◌, ◌^◌, ◌<◌, ◌≤◌, Bool, true, false, cond, not}
 use Rattle.std.proofs.Common.{◌&&◌, List, [], ◌∷◌, length, filter, refl, sym, ◌∙◌, ap, subst, arith}
 use Rattle.std.specs.Prelude.{count_by, All}
 use Rattle.std.proofs.lemmas.List.Elements.{All-nil, All-cons, All-head, All-tail}
 use Rattle.std.proofs.lemmas.List.Sums.{sum_by-cons}
-use Rattle.std.proofs.lemmas.List.{get_or_past}
-use Rattle.std.proofs.lemmas.Bool.{cases_lt, false≢true, false_from_ne_true, not-true, and_from, and_parts}
+use Rattle.std.proofs.lemmas.Bool.{false≢true, false_from_ne_true, not-true, and_from, and_parts}
 use Rattle.std.proofs.Math.Nat.{le_trans, pow-le-pow_left, mul-le-mul_left}
 use Rattle.node_set.specs.Ascending.{has, IsBelowAll, share}
 use Rattle.node_set.specs.SetLaws.{share_from, share_gives}
 use Rattle.whole_powers.specs.Bounds.{PowersAdd}
 use Rattle.whole_powers.specs.PowerLaws.{zero_pow}
-use Rattle.coarse_cover.specs.Coarsening.{is_enough, cluster_of, phase, IsShaped}
+use Rattle.coarse_cover.specs.Coarsening.{is_enough, cluster_of, phase}
 use Rattle.coarse_cover.specs.Progress.{IsReady}
-use Rattle.node_set.specs.Balls.{ball, union_of, touches, growth, least, GrownCluster, is_homed}
+use Rattle.node_set.specs.Balls.{ball, union_of, touches, growth, least, GrownCluster, IsShaped, is_homed}
+use Rattle.node_set.specs.GrowthLaws.{touching_below}
+use Rattle.node_set.specs.HomeLaws.{homed_here, homed_later, homed_cases}
 use Rattle.node_set.specs.FilterLaws.{filter_keeps, filter_has, filter_twice, filter_halves, filter_fewer, filter_more}
 use Rattle.node_set.specs.FilterLaws.{some_length, ascending-filter}
 use Rattle.node_set.specs.BallLaws.{HoldCentres, union_from, touches_own, growth_waits, growth_leader, growth_picked}
@@ -21,15 +22,6 @@ use Rattle.node_set.specs.BallLaws.{least_passes}
 use Rattle.coarse_cover.proofs.Growth.{growths_few, enough_means}
 
 -- ---- one cluster
-
--- a ball that touches others is there
-touching_below : (balls : List (List ℕ)) (nodes : List ℕ) (v : ℕ) → touches balls nodes v ≡ true → v < length balls
-touching_below balls nodes v h = elim (cases_lt v (length balls)) [
-  | inl below ↦ below
-  | inr past ↦
-      let x = share_gives (ball balls v) nodes h in
-      absurd (false≢true (sym (ap (has x.0) (get_or_past balls v [] past)) ∙ x.1))
-]
 
 -- those that do not touch the cluster
 abbrev pub apart : List (List ℕ) → List ℕ → List ℕ → List ℕ
@@ -62,29 +54,6 @@ is_cluster balls k r a rest pos fits below hold =
       picked = growth_picked balls a rest below (least (is_enough balls k r (a ∷ rest) a) k);
       shape = refl;
     }
-
--- the cluster's own balls, and those that the rest of the phase finds a home for, are apart
-homed_here : (c : GrownCluster) (cs : List GrownCluster) (v : ℕ) → has v c.homed ≡ true → is_homed (c ∷ cs) v ≡ true
-unfolding is_homed
-homed_here c cs v h = rw h refl
-
-homed_later : (c : GrownCluster) (cs : List GrownCluster) (v : ℕ) → is_homed cs v ≡ true → is_homed (c ∷ cs) v ≡ true
-unfolding is_homed
-homed_later c cs v h = at (has v c.homed)
-  where
-    at : (b : Bool) → cond b true (is_homed cs v) ≡ true
-    at true = refl
-    at false = h
-
-homed_cases : (c : GrownCluster) (cs : List GrownCluster) (v : ℕ) → is_homed (c ∷ cs) v ≡ true
-    → (has v c.homed ≡ true) ⊎ (is_homed cs v ≡ true)
-unfolding is_homed
-homed_cases c cs v h = at (has v c.homed) refl h
-  where
-    at : (b : Bool) → has v c.homed ≡ b → cond b true (is_homed cs v) ≡ true
-        → (has v c.homed ≡ true) ⊎ (is_homed cs v ≡ true)
-    at true e h = inl e
-    at false e h = inr h
 
 -- ---- a phase, without its fuel
 

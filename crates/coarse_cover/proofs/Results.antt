@@ -1,24 +1,24 @@
 -- What a finished cover is, and what follows of its clusters.
-use Rattle.std.proofs.Common.{◌≡◌, ℕ, suc, ◌+◌, ◌-◌, ◌*◌, ◌^◌, ◌<◌, ◌≤◌, true, false, cond, List, [], ◌∷◌, ◌++◌, length}
+use Rattle.std.proofs.Common.{◌≡◌, ℕ, suc, ◌-◌, ◌*◌, ◌^◌, ◌<◌, ◌≤◌, true, false, cond, List, [], ◌∷◌, ◌++◌, length}
 use Rattle.std.proofs.Common.{get_or, map, refl, sym, ◌∙◌, ap, subst, arith}
 use Rattle.std.specs.Prelude.{count_by, All}
 use Rattle.std.specs.List.{sum_by}
 use Rattle.std.proofs.lemmas.Grind.{same_number_lists}
 use Rattle.std.proofs.lemmas.List.{get_or-map, length-map}
 use Rattle.std.proofs.lemmas.List.Elements.{All-nil, All-append, All-map, All-weaker}
-use Rattle.std.proofs.lemmas.List.Sums.{sum_by-cons}
 use Rattle.node_set.specs.Ascending.{has, share}
 use Rattle.whole_powers.specs.Bounds.{PowersAdd, OnePhase}
-use Rattle.coarse_cover.specs.Coarsening.{IsShaped, without_home, all_clusters, coarsening, HomesAreFound}
+use Rattle.coarse_cover.specs.Coarsening.{without_home, all_clusters, coarsening, HomesAreFound}
 use Rattle.coarse_cover.specs.Coarsening.{ClustersAreShaped, CoversAreSparse}
 use Rattle.coarse_cover.specs.Covers.{cluster_list, as_cluster, IsCover, AreApart, member_lists}
 use Rattle.coarse_cover.specs.Progress.{phases_of, Agrees, IsBetween}
 use Rattle.coarse_cover.specs.declared.cover.Cluster.{Cluster}
 use Rattle.coarse_cover.specs.declared.cover.Cover.{Cover}
 use Rattle.coarse_cover.proofs.Phase.{IsPhase, apart, phase_apart}
-use Rattle.coarse_cover.proofs.Whole.{ArePhases, all_homed, home_within, home_has, few_have, all_joined, phases_few}
+use Rattle.coarse_cover.proofs.Whole.{ArePhases, all_homed, few_have, all_joined, phases_few}
 use Rattle.coarse_cover.proofs.Whole.{clusters_within}
-use Rattle.node_set.specs.Balls.{ball, union_of, GrownCluster, is_homed, home_of, centres, AreCentred, AreHomes}
+use Rattle.node_set.specs.HomeLaws.{home_within, home_has}
+use Rattle.node_set.specs.Balls.{ball, union_of, GrownCluster, IsShaped, is_homed, home_of, centres, AreCentred, AreHomes}
 use Rattle.node_set.specs.BallLaws.{union_has, length-centres, get_or-map_centres, has_centre}
 use Rattle.coarse_cover.proofs.Steps.{phases_of_none, coarsening_phases}
 use Rattle.coarse_cover.specs.CoverLaws.{cluster_list_nodes, count_lists, length-cluster_list}
@@ -111,14 +111,14 @@ home_has_nodes : (balls : List (List ℕ)) (k v x : ℕ) (left : List ℕ) (all 
 home_has_nodes balls k v x left all are waits inside =
     let homed : is_homed (all_clusters all) v ≡ true = all_homed balls k left all are v waits in
     let within : home_of (all_clusters all) v < length (all_clusters all) =
-    home_within balls k (all_clusters all) v homed in
+    home_within (all_clusters all) v homed in
     let joined : (get_or (all_clusters all) (home_of (all_clusters all) v) no_cluster).members
     ≡ union_of balls (get_or (all_clusters all) (home_of (all_clusters all) v) no_cluster).homed =
     (all_joined balls k left all are (home_of (all_clusters all) v) no_cluster within).1
     in
     subst (λ (l : List ℕ). has x l ≡ true) (sym joined)
     (union_has balls x v (get_or (all_clusters all) (home_of (all_clusters all) v) no_cluster).homed
-    (home_has balls k (all_clusters all) v no_cluster homed) inside)
+    (home_has (all_clusters all) v no_cluster homed) inside)
 
 pub homes_hold : (balls : List (List ℕ)) (k n : ℕ) (cover : Cover) → 0 < k → AreCentred balls → n ≡ length balls
     → IsCover n (coarsening balls k) cover → AreHomes balls (member_lists cover.clusters.items) cover.home.items
@@ -130,7 +130,7 @@ homes_hold balls k n cover some centred size is = λ v h.
     ≡ home_of (all_clusters (coarsening balls k)) v = ap (λ (l : List ℕ). get_or l v 0) is.homes
     ∙ get_or-map_centres (home_of (all_clusters (coarsening balls k))) n v 0 (omega arith) in
     let within : home_of (all_clusters (coarsening balls k)) v < length (all_clusters (coarsening balls k)) =
-    home_within balls k (all_clusters (coarsening balls k)) v
+    home_within (all_clusters (coarsening balls k)) v
     (all_homed balls k (centres (length balls)) (coarsening balls k) are v waits)
     in
     let count : length (member_lists cover.clusters.items) ≡ length (all_clusters (coarsening balls k)) =
@@ -205,8 +205,8 @@ homes_found balls k v d some centred below =
     all_homed balls k (centres (length balls)) (coarsening balls k) (coarsening_phases balls k some centred) v
     (has_centre (length balls) v below)
     in (
-      home_within balls k (all_clusters (coarsening balls k)) v homed,
-      home_has balls k (all_clusters (coarsening balls k)) v d homed,
+      home_within (all_clusters (coarsening balls k)) v homed,
+      home_has (all_clusters (coarsening balls k)) v d homed,
     )
 
 pub covers_sparse : PowersAdd → OnePhase → CoversAreSparse

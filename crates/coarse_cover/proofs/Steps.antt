@@ -5,14 +5,14 @@ use Rattle.std.proofs.Common.{subst, arith}
 use Rattle.std.proofs.Math.Nat.{le_refl}
 use Rattle.std.proofs.lemmas.Bool.{cases_lt, false≢true, not-true, not_from_false, false_from_ne_true, and_right}
 use Rattle.node_set.specs.Ascending.{has}
-use Rattle.node_set.specs.Scan.{IsNext}
+use Rattle.node_set.specs.HomeLaws.{home_step}
 use Rattle.node_set.specs.SetLaws.{has-passing, passing_over, ascending-passing}
 use Rattle.coarse_cover.specs.Coarsening.{cluster_of, phase, phases, without_home, all_clusters, coarsening}
 use Rattle.coarse_cover.specs.Covers.{cluster_list, as_cluster}
 use Rattle.coarse_cover.specs.Progress.{phase_of, phases_of, IsReady, Agrees, IsInPhase, IsBetween, IsAdded}
 use Rattle.coarse_cover.specs.declared.cover.Cluster.{Cluster}
 use Rattle.coarse_cover.specs.declared.cover.Cover.{Cover}
-use Rattle.coarse_cover.specs.declared.workspace.Workspace.{Workspace}
+use Rattle.node_set.specs.declared.workspace.Workspace.{Workspace}
 use Rattle.coarse_cover.proofs.Phase.{IsCluster, IsPhase, apart, apart_fewer, cluster_ready, ready_filter, phase_is}
 use Rattle.node_set.specs.Balls.{touches, GrownCluster, is_homed, home_of, centres, AreCentred}
 use Rattle.node_set.specs.FilterLaws.{filter_keeps, filter_has, filter_twice, filter_same, has-filter}
@@ -172,13 +172,6 @@ unhomed_none : (left : List ℕ) → without_home [] left ≡ left
 unfolding is_homed
 unhomed_none [] = refl
 unhomed_none (v ∷ vs) = ap (λ (l : List ℕ). v ∷ l) (unhomed_none vs)
-
-home_step : (b h : Bool) (old new len more rest f : ℕ) → (h ≡ true → b ≡ true) → more ≡ len + 1
-    → cond b (len + cond h 0 (suc rest)) old ≡ f → new ≡ cond h len old → cond (b && not h) (more + rest) new ≡ f
-home_step true true old new len more rest f inside next before now = omega arith
-home_step true false old new len more rest f inside next before now = omega arith
-home_step false true old new len more rest f inside next before now = absurd (false≢true (inside refl))
-home_step false false old new len more rest f inside next before now = omega arith
 
 -- what the steps keep
 agrees_cluster : (n : ℕ) (all later : List (List GrownCluster)) (c : GrownCluster) (cs : List GrownCluster)
@@ -405,11 +398,3 @@ none_next balls k r a rest old new leads ready gone none v h =
           subst (λ (u : ℕ). has u (apart balls (cluster_of balls k r old a).members old) ≡ false) (sym same)
           (leader_gone balls k r a old rest leads ready)
     ]
-
--- none waits below the next
-pub none_waits : (waiting : List ℕ) (from a : ℕ) → ((v : ℕ) → v < from → has v waiting ≡ false) → IsNext waiting from a
-    → (v : ℕ) → v < a → has v waiting ≡ false
-none_waits waiting from a before next v below = elim (cases_lt v from) [
-  | inl less ↦ before v less
-  | inr more ↦ next.first v more below
-]

@@ -1,6 +1,6 @@
 -- All phases: how many they are, that each ball finds a home, and how many clusters a node is in.
 use Rattle.std.proofs.Common.{◌≡◌, inl, inr, ℕ, zero, suc, ◌+◌, ◌-◌, ◌*◌, ◌^◌, ◌<◌, ◌≤◌, Bool, true, false, cond, not}
-use Rattle.std.proofs.Common.{List, [], ◌∷◌, ◌++◌, length, length-append, filter, get_or, refl, ap, subst, arith}
+use Rattle.std.proofs.Common.{List, [], ◌∷◌, ◌++◌, length, length-append, filter, refl, ap, subst, arith}
 use Rattle.std.specs.Prelude.{count_by, All}
 use Rattle.std.proofs.Math.Nat.{le_refl}
 use Rattle.std.proofs.lemmas.List.Elements.{All-nil, All-append}
@@ -9,9 +9,9 @@ use Rattle.std.proofs.lemmas.Bool.{cases_Bool, false≢true, not_from_false}
 use Rattle.node_set.specs.Ascending.{has}
 use Rattle.whole_powers.specs.Bounds.{PowersAdd, OnePhase}
 use Rattle.whole_powers.specs.PowerLaws.{zero_pow}
-use Rattle.coarse_cover.specs.Coarsening.{IsShaped, phase, without_home, phases, all_clusters}
+use Rattle.coarse_cover.specs.Coarsening.{phase, without_home, phases, all_clusters}
 use Rattle.coarse_cover.specs.Progress.{IsReady}
-use Rattle.node_set.specs.Balls.{GrownCluster, is_homed, home_of}
+use Rattle.node_set.specs.Balls.{GrownCluster, IsShaped, is_homed}
 use Rattle.node_set.specs.FilterLaws.{filter_has, filter_halves, filter_fewer}
 use Rattle.coarse_cover.proofs.Phase.{IsPhase, ready_filter, phase_is, phase_size, phase_count, phase_once}
 use Rattle.coarse_cover.proofs.Phase.{phase_joined}
@@ -139,28 +139,6 @@ module _ (balls : List (List ℕ)) (k : ℕ) where
             (all_homed (without_home cs left) later are.2 v
             (filter_has (λ w. not (is_homed cs w)) v left h (not_from_false (is_homed cs v) gone)))
       ]
-
-  pub home_within : (cs : List GrownCluster) (v : ℕ) → is_homed cs v ≡ true → home_of cs v < length cs
-  unfolding is_homed home_of
-  home_within [] v h = absurd (false≢true h)
-  home_within (c ∷ cs) v h = at (has v c.homed) h (home_within cs v)
-    where
-      at : (b : Bool) → cond b true (is_homed cs v) ≡ true → (is_homed cs v ≡ true → home_of cs v < length cs)
-          → cond b 0 (suc (home_of cs v)) < suc (length cs)
-      at true h rest = omega arith
-      at false h rest = omega (arith, rest h)
-
-  pub home_has : (cs : List GrownCluster) (v : ℕ) (d : GrownCluster) → is_homed cs v ≡ true
-      → has v (get_or cs (home_of cs v) d).homed ≡ true
-  unfolding is_homed home_of
-  home_has [] v d h = absurd (false≢true h)
-  home_has (c ∷ cs) v d h = at (has v c.homed) refl h (home_has cs v d)
-    where
-      at : (b : Bool) → has v c.homed ≡ b → cond b true (is_homed cs v) ≡ true
-          → (is_homed cs v ≡ true → has v (get_or cs (home_of cs v) d).homed ≡ true) →
-          has v (get_or (c ∷ cs) (cond b 0 (suc (home_of cs v))) d).homed ≡ true
-      at true e h rest = e
-      at false e h rest = rest h
 
   -- ---- how many clusters have a node
 

@@ -7,7 +7,7 @@ use Rattle.std.specs.Prelude.{◌≡◌, ℕ, zero, suc, ◌*◌, ◌^◌, ◌<�
 use Rattle.std.specs.Prelude.{◌++◌, ◌≤◌, count_by, length, filter, nat_le, All}
 use Rattle.node_set.specs.Ascending.{has}
 use Rattle.node_set.specs.Balls.{centres, AreCentred, union_of, touches, growth, least}
-use Rattle.node_set.specs.Balls.{GrownCluster, is_homed, home_of}
+use Rattle.node_set.specs.Balls.{GrownCluster, IsShaped, is_homed, home_of}
 
 -- whether j growths are enough: one more would not multiply the number of balls, to the power k, by
 -- more than r
@@ -57,14 +57,6 @@ all_clusters (clusters ∷ later) = clusters ++ all_clusters later
 -- the clusters of all phases of these balls
 abbrev pub coarsening : List (List ℕ) → ℕ → List (List GrownCluster)
 coarsening balls k = phases balls k (length balls) (centres (length balls))
-
--- a cluster of a coarsening: grown fewer than k times from its leader's ball among balls that
--- waited, it has the nodes of the balls that it is the home of
-abbrev pub IsShaped : List (List ℕ) → ℕ → GrownCluster → Type 0
-IsShaped balls k c = (c.growths < k) × (c.members ≡ union_of balls c.homed)
-    × (c.first < length balls)
-    × ((waiting : List ℕ) × (has c.first waiting ≡ true)
-    × (c.homed ≡ growth balls waiting c.first c.growths))
 
 -- all clusters of a coarsening are of that shape
 abbrev pub ClustersAreShaped : Type 0

@@ -2,5 +2,3 @@ pub mod Coarsening
 pub mod Covers
 pub mod CoverLaws
 pub mod Progress
-pub mod Turned
-pub mod Workspaces

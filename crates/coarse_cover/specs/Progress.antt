@@ -10,8 +10,8 @@ use Rattle.coarse_cover.specs.Covers.{cluster_list, as_cluster}
 use Rattle.coarse_cover.specs.declared.cover.Cluster.{Cluster}
 use Rattle.coarse_cover.specs.declared.cover.Cover.{Cover}
 use Rattle.node_set.specs.Balls.{ball, touches, GrownCluster, home_of}
-use Rattle.coarse_cover.specs.Workspaces.{IsWorkspace}
-use Rattle.coarse_cover.specs.declared.workspace.Workspace.{Workspace}
+use Rattle.node_set.specs.Workspaces.{IsWorkspace}
+use Rattle.node_set.specs.declared.workspace.Workspace.{Workspace}
 
 -- the clusters of a phase, from these waiting balls on
 unfoldable pub phase_of : List (List ℕ) → ℕ → ℕ → List ℕ → List GrownCluster

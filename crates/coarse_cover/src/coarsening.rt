@@ -5,18 +5,15 @@ ghost use Rattle.std.specs.Prelude.{OnOk};
 ghost use Rattle.node_set.specs.Ascending.{has};
 ghost use Rattle.node_set.specs.Nodes.{Nodes};
 ghost use Rattle.coarse_cover.specs.Coarsening.{coarsening, all_clusters};
-ghost use Rattle.coarse_cover.specs.Workspaces.{IsWorkspace};
-ghost use Rattle.coarse_cover.specs.Turned.{AreTurned};
+ghost use Rattle.node_set.specs.Workspaces.{IsWorkspace};
+ghost use Rattle.node_set.specs.Turned.{AreTurned};
 ghost use Rattle.node_set.specs.Balls.{sets, AreCentred, AreHomes};
 ghost use Rattle.coarse_cover.specs.Covers.{IsCover, member_lists, AreApart};
 
 use crate::cover::Cover;
 use crate::laws::covers_are_sparse;
-use crate::marks::fill_all;
 use crate::phasing::make_phase;
-use crate::turning::rows_of;
-use crate::workspace::Workspace;
-use node_set::{NodeSet, OutOfMemory};
+use node_set::{NodeSet, OutOfMemory, Workspace, fill_all, rows_of};
 use std::alloc::Global;
 
 /// Coarsens balls into clusters, with a trade-off `k` of 1 to 8: a larger `k` makes larger clusters

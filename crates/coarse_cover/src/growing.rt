@@ -3,25 +3,14 @@
 ghost use Rattle.std.specs.Prelude.{◌≡◌, ℕ, ◌≤◌, ◌<◌, ◌∷◌, List, length, filter, All, IfOk, OnOk};
 ghost use Rattle.node_set.specs.Nodes.{Nodes};
 ghost use Rattle.coarse_cover.specs.Coarsening.{cluster_of};
-ghost use Rattle.coarse_cover.specs.Turned.{AreTurned};
+ghost use Rattle.node_set.specs.Turned.{AreTurned};
 ghost use Rattle.node_set.specs.Balls.{touches, sets};
 ghost use Rattle.coarse_cover.specs.Progress.{IsReady};
 
-use crate::marks::{absorb_balls, touch};
-use crate::workspace::empty_set;
-use node_set::{NodeSet, OutOfMemory};
+use node_set::{Growth, NodeSet, OutOfMemory, absorb_balls, empty_set, touch};
 use std::alloc::Global;
 use std::mem;
 use whole_powers::at_most;
-
-// The balls of the cluster that grows, and the waiting balls that touch it; and sets to make
-// clusters of.
-#[derive(Drop)]
-pub struct Growth {
-    pub taken: NodeSet,
-    pub touched: NodeSet,
-    pub spare: Vec<NodeSet>,
-}
 
 // Grows the cluster that `first` leads, until one more growth would not multiply its balls enough.
 pub fn grow(

@@ -5,12 +5,8 @@ mod coarsening;
 mod cover;
 mod growing;
 mod laws;
-mod marks;
 mod phasing;
-mod turning;
-mod workspace;
 
 pub use coarsening::{coarsen, coarsen_by_rows};
 pub use cover::{Cluster, Cover};
 pub use laws::{cluster_shape, covers_are_sparse, home_means};
-pub use workspace::Workspace;

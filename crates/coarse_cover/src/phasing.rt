@@ -5,14 +5,12 @@ ghost use Rattle.node_set.specs.Nodes.{Nodes};
 ghost use Rattle.coarse_cover.specs.Coarsening.{cluster_of};
 ghost use Rattle.node_set.specs.Balls.{sets, AreCentred};
 ghost use Rattle.coarse_cover.specs.Progress.{IsReady, IsAdded, IsBetween};
-ghost use Rattle.coarse_cover.specs.Workspaces.{IsWorkspace};
-ghost use Rattle.coarse_cover.specs.Turned.{AreTurned};
+ghost use Rattle.node_set.specs.Workspaces.{IsWorkspace};
+ghost use Rattle.node_set.specs.Turned.{AreTurned};
 
 use crate::cover::{Cluster, Cover};
 use crate::growing::grow;
-use crate::marks::set_homes;
-use crate::workspace::Workspace;
-use node_set::{NodeSet, OutOfMemory};
+use node_set::{NodeSet, OutOfMemory, Workspace, set_homes};
 use std::alloc::Global;
 
 // Adds the cluster that `first` leads.

@@ -12,7 +12,7 @@ use std::alloc::{AllocError, Global};
 use std::process::Abort;
 use std::test::Fail;
 
-fn ball(alloc: Global, a: u32, b: u32, c: u32) -> Result<NodeSet, AllocError>
+pub(crate) fn ball(alloc: Global, a: u32, b: u32, c: u32) -> Result<NodeSet, AllocError>
     requires a { a < 4 }
     requires b { b < 4 }
     requires c { c < 4 }
@@ -157,7 +157,7 @@ fn ball_on_path(alloc: Global, n: u32, v: u32, reach: u32) -> Result<NodeSet, Al
 }
 
 // The balls round all nodes of a path.
-fn balls_on_path(alloc: Global, n: u32, reach: u32) -> Result<Vec<NodeSet>, AllocError>
+pub(crate) fn balls_on_path(alloc: Global, n: u32, reach: u32) -> Result<Vec<NodeSet>, AllocError>
     requires { n ≤ 1024 }
     ensures count { IfOk result (λ balls. length balls.items ≡ n) }
     ensures rooms { IfOk result (λ balls. All (λ (b : Nodes). b.room ≡ n) balls.items) }

@@ -9,6 +9,8 @@ mod distance_tests;
 #[cfg(test)]
 mod graph_tests;
 #[cfg(test)]
+mod mean_cover_tests;
+#[cfg(test)]
 mod plan_tests;
 #[cfg(test)]
 mod power_tests;

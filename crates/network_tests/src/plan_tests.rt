@@ -171,10 +171,11 @@ fn ask(rt: &impl Abort, alloc: Global, plan: &Plan, rows: &[(Asked, &[u64])]) ->
     Ok(())
 }
 
-// How a plan is made: built with a trade-off, or flat.
+// How a plan is made: built with a trade-off, over mean covers with one, or flat.
 #[derive(Clone, Copy)]
 enum Made {
     With(u32),
+    Mean(u32),
     Flat,
 }
 
@@ -191,6 +192,12 @@ fn plan_of(alloc: Global, n: u32, weight: u64, made: Made) -> Result<Plan, Fail>
                 return Err("the trade-off is from 1 to 8".into());
             }
             Ok(Plan::build(alloc, &graph, &distances, k)?)
+        }
+        Made::Mean(k) => {
+            if k < 1 || k > 8 {
+                return Err("the trade-off is from 1 to 8".into());
+            }
+            Ok(Plan::build_mean(alloc, &graph, &distances, k)?)
         }
         Made::Flat => Ok(Plan::flat(alloc, &graph, &distances)?),
     }
@@ -315,6 +322,66 @@ fn flat_plan_of_a_line(rt: HostRuntime) -> Result<(), Fail> {
         (Asked::Looks(1), &[9]),
     ];
     ask_path(&rt, rt.alloc(), 4, 1, Made::Flat, &rows)
+}
+
+#[test]
+fn mean_plan_of_a_line(rt: HostRuntime) -> Result<(), Fail> {
+    let rows: [(Asked, &[u64]); 12] = [
+        (Asked::Whole, &[4, 2, 3, 2, 232, 13]),
+        (Asked::Level(0), &[0, 1, 1, 2]),
+        (Asked::Homes(0), &[0, 0, 0, 1]),
+        (Asked::Cluster(0, 0), &[0, 0, 3]),
+        (Asked::Members(0, 0), &[0, 1, 2, 3]),
+        (Asked::Weights(0, 0), &[0, 1, 2, 3]),
+        (Asked::Cluster(0, 1), &[0, 3, 1]),
+        (Asked::Members(0, 1), &[2, 3]),
+        (Asked::Weights(0, 1), &[1, 0]),
+        (Asked::Readers(0, 2), &[0, 1]),
+        (Asked::Level(2), &[2, 2, 1, 1]),
+        (Asked::Homes(2), &[0, 0, 0, 0]),
+    ];
+    ask_path(&rt, rt.alloc(), 4, 1, Made::Mean(2), &rows)
+}
+
+#[test]
+fn all_trade_offs_of_mean_plans(rt: HostRuntime) -> Result<(), Fail> {
+    // the trade-off, the stretch, the clusters of level 2
+    let rows = [
+        (1, 144, 15),
+        (2, 232, 15),
+        (3, 320, 15),
+        (4, 408, 15),
+        (5, 496, 15),
+        (6, 584, 14),
+        (7, 672, 14),
+        (8, 760, 9),
+    ];
+    for (k, stretch, clusters) in rows {
+        let rows: [(Asked, &[u64]); 2] = [
+            (Asked::Whole, &[130, u64::from(k), 9, 2, stretch, 151]),
+            (Asked::Level(2), &[2, 2, 1, clusters]),
+        ];
+        ask_path(&rt, rt.alloc(), 130, 1, Made::Mean(k), &rows)?;
+    }
+    Ok(())
+}
+
+#[test]
+fn mean_plans_at_the_limits(rt: HostRuntime) -> Result<(), Fail> {
+    let heavy: [(Asked, &[u64]); 6] = [
+        (Asked::Whole, &[256, 2, 29, 2, 232, 317]),
+        (Asked::Level(22), &[22, 2_097_152, 1, 29]),
+        (Asked::Home(22, 255), &[28]),
+        (Asked::Level(23), &[23, 4_194_304, 1, 16]),
+        (Asked::Home(23, 255), &[15]),
+        (Asked::Level(28), &[28, 134_217_728, 1, 1]),
+    ];
+    ask_path(&rt, rt.alloc(), 256, MAX_WEIGHT, Made::Mean(2), &heavy)?;
+    let most: [(Asked, &[u64]); 2] = [
+        (Asked::Whole, &[1024, 8, 11, 2, 760, 1049]),
+        (Asked::Level(2), &[2, 2, 1, 113]),
+    ];
+    ask_path(&rt, rt.alloc(), MAX_NODES, 1, Made::Mean(8), &most)
 }
 
 #[test]

@@ -3,3 +3,5 @@ mod Words
 mod Remains
 mod Scans
 mod Limiting
+mod Leading
+mod Turns

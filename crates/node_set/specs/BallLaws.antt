@@ -4,11 +4,11 @@
 use Rattle.std.proofs.Common.{◌≡◌, inl, inr, ℕ, zero, suc, ◌+◌, ◌<◌, ◌≤◌, Bool, ◌↔◌, true, false, cond, List, [], ◌∷◌, length, filter, map, refl, sym, ◌∙◌, ap, subst, arith}
 use Rattle.std.specs.Prelude.{◌==◌, slice_index_or}
 use Rattle.std.proofs.lemmas.Bool.{cases_lt, false≢true, eqb-true, ne_eqb, or_cases, or_left, or_right}
-use Rattle.std.proofs.lemmas.List.{get_or-map, length-map}
+use Rattle.std.proofs.lemmas.List.{get_or-map, get_or_past, length-map}
 use Rattle.node_set.specs.Ascending.{has, IsBelowAll, IsAscending, share, union}
 use Rattle.node_set.specs.Nodes.{Nodes}
-use Rattle.node_set.specs.Balls.{sets, centres, ball, union_of, touches, growth, least}
-use Rattle.node_set.specs.SetLaws.{has_head, has-union, ascending-union, share_from, has-passing, passing_over, length-passing_all, passing_all-each}
+use Rattle.node_set.specs.Balls.{AreInside, sets, centres, ball, union_of, touches, growth, least}
+use Rattle.node_set.specs.SetLaws.{few_below, has_head, has-union, ascending-union, share_from, has-passing, passing_over, length-passing_all, passing_all-each}
 use Rattle.node_set.specs.FilterLaws.{filter_keeps, filter_has, filter_own, filter_fewer}
 
 -- ---- lists of balls, and of centres
@@ -249,3 +249,21 @@ next_growth_means balls waiting a j v = (
   λ w.
       filter_has (touches balls (union_of balls (growth balls waiting a j))) v waiting w.0 w.1,
 )
+
+-- ---- balls whose nodes have balls
+
+-- it is enough to know it of the balls that there are
+pub inside_from : (balls : List (List ℕ))
+    → ((v x : ℕ) → v < length balls → has x (ball balls v) ≡ true → x < length balls)
+    → AreInside balls
+inside_from balls each v x h = elim (cases_lt v (length balls)) [
+  | inl below ↦ each v x below h
+  | inr past ↦ absurd (false≢true (sym (ap (has x) (get_or_past balls v [] past)) ∙ h))
+]
+
+-- then a union has no more nodes than there are balls
+pub union_size : (balls : List (List ℕ)) (vs : List ℕ) → AreInside balls
+    → length (union_of balls vs) ≤ length balls
+union_size balls vs inside =
+    few_below (length balls) (union_of balls vs) (ascending-union_of balls vs)
+    (λ x h. let v = union_from balls x vs h in inside v.0 x v.2)

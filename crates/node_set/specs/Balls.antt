@@ -22,6 +22,10 @@ ball balls v = slice_index_or balls v []
 abbrev pub AreCentred : List (List ℕ) → Type 0
 AreCentred balls = (v : ℕ) → v < length balls → has v (ball balls v) ≡ true
 
+-- each node of a ball has a ball of its own
+abbrev pub AreInside : List (List ℕ) → Type 0
+AreInside balls = (v x : ℕ) → has x (ball balls v) ≡ true → x < length balls
+
 -- the nodes of all the balls round these centres
 unfoldable pub union_of : List (List ℕ) → List ℕ → List ℕ
 union_of balls [] = []
@@ -50,6 +54,14 @@ pub record GrownCluster : Type 0 where
   pub growths : ℕ
   pub homed : List ℕ
   pub members : List ℕ
+
+-- a cluster of a cover: grown fewer than k times from its leader's ball among balls that waited, it
+-- has the nodes of the balls that it is the home of
+abbrev pub IsShaped : List (List ℕ) → ℕ → GrownCluster → Type 0
+IsShaped balls k c = (c.growths < k) × (c.members ≡ union_of balls c.homed)
+    × (c.first < length balls)
+    × ((waiting : List ℕ) × (has c.first waiting ≡ true)
+    × (c.homed ≡ growth balls waiting c.first c.growths))
 
 -- whether one of the clusters is the home of the ball round v
 unfoldable pub is_homed : List GrownCluster → ℕ → Bool

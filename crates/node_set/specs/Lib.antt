@@ -8,3 +8,9 @@ pub mod BallLaws
 pub mod Scan
 pub mod Limits
 pub mod ScanLaws
+pub mod Turned
+pub mod Workspaces
+pub mod TurnLaws
+pub mod LeadLaws
+pub mod GrowthLaws
+pub mod HomeLaws

@@ -342,6 +342,21 @@ passing_all-each v (suc n) (suc i) d h = passing_all-each (suc v) n i d (omega a
     next : (v i : ℕ) → suc v + i ≡ v + suc i
     next v i = omega arith
 
+-- an ascending list of numbers below n has at most n of them
+pub few_below : (n : ℕ) (xs : List ℕ) → IsAscending xs → ((x : ℕ) → has x xs ≡ true → x < n)
+    → length xs ≤ n
+few_below n xs ascending below =
+    subst (λ l. length l ≤ n)
+    (same_members (sift (λ x. has x xs) 0 n) xs (ascending-passing (λ x. has x xs) 0 n) ascending
+    (λ x. elim (cases_lt x n) [
+      | inl within ↦ has-passing (λ y. has y xs) x 0 n (omega arith) (omega arith)
+      | inr past ↦ passing_over (λ y. has y xs) x 0 n (omega arith)
+          ∙ elim (cases_Bool (has x xs)) [
+            | inl member ↦ absurd (omega (arith, below x member))
+            | inr other ↦ sym other
+          ]
+    ])) (length-passing-le (λ x. has x xs) 0 n)
+
 -- ---- the members of a set, one number after another
 
 -- the members of a set, one number after another

@@ -19,7 +19,11 @@ use Rattle.region_plan.specs.Plan.{PlanCluster, Level, PlanData, level_at, level
 use Rattle.node_set.specs.Balls.{GrownCluster}
 use Rattle.node_set.specs.BallLaws.{ascending-union_of}
 use Rattle.region_plan.specs.Regions.{regions_of, readers_of}
-use Rattle.region_plan.specs.Meanings.{IsTop, IsClusterOf, AreClustersOf, IsLevelOf, IsPlanOf}
+use Rattle.mean_cover.specs.Covering.{mean_cluster, mean_clusters, mean_covering}
+use Rattle.region_plan.specs.Coverings.{covering_of}
+use Rattle.region_plan.specs.Meanings.{IsTop, IsClusterOf, AreClustersOf, IsCoveredPlan, IsLevelOf}
+use Rattle.region_plan.specs.declared.covering.Covering.{Covering}
+use Rattle.region_plan.specs.declared.covering.Covering.TheVariants.{Phased, Mean}
 use Rattle.region_plan.specs.Meanings.{as_tree}
 
 -- ---- the clusters of a coarsening have ascending members
@@ -62,6 +66,22 @@ listed_rise n p (cs ∷ later) h =
     All-append Rises (map (as_cluster n p) cs) (cluster_list n (suc p) later)
     (shown_rise n p cs (All-head (All Ascends) cs later h))
     (listed_rise n (suc p) later (All-tail (All Ascends) cs later h))
+
+-- the same of a mean cover
+mean_ascends : (balls : List (List ℕ)) (k more : ℕ) (waiting : List ℕ)
+    → All Ascends (mean_clusters balls k more waiting)
+unfolding mean_clusters mean_cluster
+mean_ascends balls k zero waiting = All-nil Ascends
+mean_ascends balls k (suc more) [] = All-nil Ascends
+mean_ascends balls k (suc more) (a ∷ rest) =
+    let cluster = mean_cluster balls k (a ∷ rest) a in
+    All-cons Ascends cluster (mean_clusters balls k more _) (ascending-union_of balls cluster.homed)
+    (mean_ascends balls k more _)
+
+covering_ascends : (covering : Covering) (balls : List (List ℕ)) → All (All Ascends) (covering_of covering balls)
+covering_ascends (Phased k) balls = phases_ascend balls k _ _
+covering_ascends (Mean k) balls = All-cons (All Ascends) (mean_covering balls k) [] (mean_ascends balls k _ _)
+    (All-nil (All Ascends))
 
 -- ---- one cluster
 
@@ -121,13 +141,14 @@ same_clusters one_weight network (c ∷ cs) (d ∷ ds) (e ∷ es) all p q =
 
 -- ---- one level, and one plan
 
-same_level : (one_weight : LeastIsOne) (network : Network) (table : DistanceTable) (k i : ℕ) (one two : Level)
-    → IsLevelOf network table k i one → IsLevelOf network table k i two → one ≡ two
-same_level one_weight network table k i one two p q =
-    let rise : All Rises (cluster_list table.nodes 0 (regions_of table k i)) =
-    listed_rise table.nodes 0 (regions_of table k i) (phases_ascend _ k _ _) in
+same_level : (one_weight : LeastIsOne) (network : Network) (table : DistanceTable) (covering : Covering) (i : ℕ)
+    (one two : Level)
+    → IsLevelOf network table covering i one → IsLevelOf network table covering i two → one ≡ two
+same_level one_weight network table covering i one two p q =
+    let rise : All Rises (cluster_list table.nodes 0 (regions_of table covering i)) =
+    listed_rise table.nodes 0 (regions_of table covering i) (covering_ascends covering _) in
     let clusters : one.clusters ≡ two.clusters =
-    same_clusters one_weight network (cluster_list table.nodes 0 (regions_of table k i)) one.clusters two.clusters
+    same_clusters one_weight network (cluster_list table.nodes 0 (regions_of table covering i)) one.clusters two.clusters
     rise p.clusters q.clusters in
     let exponent : one.exponent ≡ two.exponent = p.exponent ∙ sym q.exponent in
     let threshold : one.threshold ≡ two.threshold = p.threshold ∙ sym q.threshold in
@@ -164,9 +185,10 @@ same_top table one two p q =
           [ inl greater ↦ absurd (omega (arith, p.least two greater, q.enough, le, ge)) | inr same ↦ omega arith ]
     ]
 
-pub one_plan : (one_table : DistancesAreOne) (one_weight : LeastIsOne) (network : Network) (k : ℕ) (one two : PlanData)
-    → IsPlanOf network k one → IsPlanOf network k two → one ≡ two
-one_plan one_table one_weight network k one two p q =
+pub one_plan : (one_table : DistancesAreOne) (one_weight : LeastIsOne) (network : Network) (covering : Covering)
+    (one two : PlanData)
+    → IsCoveredPlan covering network one → IsCoveredPlan covering network two → one ≡ two
+one_plan one_table one_weight network covering one two p q =
     let a : one.distances ≡ two.distances = tables in
     let b : one.k ≡ two.k = trade_off in
     let r : one.reach ≡ two.reach = p.reach ∙ sym q.reach in
@@ -190,8 +212,8 @@ one_plan one_table one_weight network k one two p q =
     count = omega (arith, tops, p.some, q.some)
 
     level : (i : ℕ) → i < levels_of one → level_at one i ≡ level_at two i
-    level i below = same_level one_weight network two.distances k i (level_at one i) (level_at two i)
-        (subst (λ (t : DistanceTable). IsLevelOf network t k i (level_at one i)) tables (p.each i below))
+    level i below = same_level one_weight network two.distances covering i (level_at one i) (level_at two i)
+        (subst (λ (t : DistanceTable). IsLevelOf network t covering i (level_at one i)) tables (p.each i below))
         (q.each i (omega (arith, count)))
 
     levels : one.levels ≡ two.levels

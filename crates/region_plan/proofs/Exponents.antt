@@ -9,10 +9,12 @@ use Rattle.net_graph.specs.Network.{Network}
 use Rattle.node_set.specs.Balls.{centres, home_of}
 use Rattle.node_set.specs.SetLaws.{passing_same}
 use Rattle.distances.specs.Table.{DistanceTable, dist, ball_of}
-use Rattle.coarse_cover.specs.Coarsening.{coarsening, all_clusters}
+use Rattle.coarse_cover.specs.Coarsening.{all_clusters}
 use Rattle.coarse_cover.specs.Covers.{cluster_list}
 use Rattle.region_plan.specs.Plan.{Level, level_in, no_level}
+use Rattle.region_plan.specs.Coverings.{covering_of}
 use Rattle.region_plan.specs.Regions.{balls_of, regions_of, threshold_of}
+use Rattle.region_plan.specs.declared.covering.Covering.{Covering}
 use Rattle.region_plan.specs.Meanings.{AreClustersOf, IsLevelOf}
 use Rattle.region_plan.specs.Kept.{AreLevelsOf, IsSized, level_with}
 use Rattle.region_plan.specs.Spread.{AreMarked, HasExponent}
@@ -68,11 +70,12 @@ module _ (table : DistanceTable) (marks : List Bool) (marked : AreMarked table m
       (λ v hv. passing_same (λ w. nat_le (dist table v w) (2 ^ suc i)) (λ w. nat_le (dist table v w) (2 ^ i)) 0
       table.nodes (λ w low high. same_test v w hv (omega arith)))
 
-  pub level_above : (network : Network) (k : ℕ) (level : Level) → IsLevelOf network table k i level
-      → IsLevelOf network table k (suc i) (level_with (suc i) (threshold_of (suc i)) level)
-  level_above network k level is =
-      let regions : regions_of table k i ≡ regions_of table k (suc i) = ap (λ (balls : List (List ℕ)). coarsening balls
-      k) (sym same_balls) in
+  pub level_above : (network : Network) (covering : Covering) (level : Level)
+      → IsLevelOf network table covering i level
+      → IsLevelOf network table covering (suc i) (level_with (suc i) (threshold_of (suc i)) level)
+  level_above network covering level is =
+      let regions : regions_of table covering i ≡ regions_of table covering (suc i) =
+      ap (covering_of covering) (sym same_balls) in
       record {
         exponent = refl;
         threshold = refl;
@@ -88,15 +91,15 @@ sized_above n exponent threshold level few sized =
     record { homes = sized.homes; readers = sized.readers; clusters = sized.clusters; exponent = few }
 
 -- a level that shares the table of the one below
-pub levels_shared : (network : Network) (table : DistanceTable) (k i t : ℕ) (marks : List Bool)
+pub levels_shared : (network : Network) (table : DistanceTable) (covering : Covering) (i t : ℕ) (marks : List Bool)
     (old new : List Level) → AreMarked table marks → 0 < i → i ≤ 30 → get_or marks i false ≡ false
-    → AreLevelsOf network table k i old → t ≡ threshold_of i
-    → new ≡ old ++ level_with i t (level_in old (length old - 1)) ∷ [] → AreLevelsOf network table k (i + 1) new
-levels_shared network table k zero t marks old new marked some few none before is now = absurd (omega arith)
-levels_shared network table k (suc i) t marks old new marked some few none before is now =
+    → AreLevelsOf network table covering i old → t ≡ threshold_of i
+    → new ≡ old ++ level_with i t (level_in old (length old - 1)) ∷ [] → AreLevelsOf network table covering (i + 1) new
+levels_shared network table covering zero t marks old new marked some few none before is now = absurd (omega arith)
+levels_shared network table covering (suc i) t marks old new marked some few none before is now =
     let last : length old - 1 ≡ i = omega (arith, before.count_is) in
-    levels_more network table k (suc i) old new (level_with (suc i) (threshold_of (suc i)) (level_in old i)) before
-    (level_above table marks marked i none network k (level_in old i) (before.each i (omega arith)))
+    levels_more network table covering (suc i) old new (level_with (suc i) (threshold_of (suc i)) (level_in old i)) before
+    (level_above table marks marked i none network covering (level_in old i) (before.each i (omega arith)))
     (sized_above table.nodes (suc i) (threshold_of (suc i)) (level_in old i) few
     (before.sized i no_level (omega (arith, before.count_is))))
     (now ∙ ap (λ n. old ++ level_with (suc i) n (level_in old (length old - 1)) ∷ []) is

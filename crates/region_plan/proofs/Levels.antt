@@ -1,6 +1,6 @@
 -- A level as it is built, and the plan of all levels.
 use Rattle.std.proofs.Common.{◌≡◌, ℕ, ◌+◌, ◌-◌, ◌^◌, ◌<◌, ◌≤◌, List, [], ◌∷◌, ◌++◌, length, get_or, refl, sym, ◌∙◌}
-use Rattle.std.proofs.Common.{ap, subst, inl, inr, arith, ◌*◌}
+use Rattle.std.proofs.Common.{ap, subst, inl, inr, arith}
 use Rattle.std.specs.Prelude.{All, nat_le}
 use Rattle.std.proofs.lemmas.Bool.{cases_lt}
 use Rattle.std.proofs.lemmas.List.{get_or_append_left, get_or_push, length_push}
@@ -8,23 +8,25 @@ use Rattle.std.proofs.lemmas.List.Elements.{All-push}
 use Rattle.net_graph.specs.Network.{Network, IsNetwork}
 use Rattle.node_set.specs.Nodes.{Nodes}
 use Rattle.distances.specs.Table.{DistanceTable, AreDistancesOf, IsMetric, ball_of, dist}
-use Rattle.coarse_cover.specs.Coarsening.{coarsening, all_clusters, ClustersAreShaped}
+use Rattle.coarse_cover.specs.Coarsening.{all_clusters}
 use Rattle.coarse_cover.specs.Covers.{IsCover}
 use Rattle.coarse_cover.specs.declared.cover.Cluster.{Cluster}
 use Rattle.coarse_cover.specs.declared.cover.Cover.{Cover}
-use Rattle.coarse_cover.specs.declared.workspace.Workspace.{Workspace}
-use Rattle.coarse_cover.specs.Workspaces.{IsWorkspace}
+use Rattle.node_set.specs.declared.workspace.Workspace.{Workspace}
+use Rattle.node_set.specs.Workspaces.{IsWorkspace}
 use Rattle.region_plan.specs.Plan.{PlanCluster, Level, PlanData, level_in, no_level}
 use Rattle.region_plan.specs.Regions.{balls_of, regions_of, readers_of, threshold_of}
 use Rattle.region_plan.specs.Meanings.{IsTop, AreClustersOf, IsLevelOf}
-use Rattle.region_plan.specs.Meanings.{IsPlanOf}
+use Rattle.region_plan.specs.Meanings.{IsCoveredPlan}
 use Rattle.region_plan.specs.Kept.{AreLevelsOf, IsSpanned, IsSized, Shape, level_of, shape_with}
-use Rattle.region_plan.proofs.Spanning.{centred, listed_spanned}
+use Rattle.region_plan.specs.Coverings.{CoveringsAreShaped, covering_of, reach_of, trade_off_of}
+use Rattle.region_plan.specs.declared.covering.Covering.{Covering}
+use Rattle.region_plan.proofs.Spanning.{centred, inside, listed_spanned}
 use Rattle.node_set.specs.Ascending.{has}
-use Rattle.node_set.specs.Balls.{ball, home_of, sets, AreCentred}
+use Rattle.node_set.specs.Balls.{ball, home_of, sets, AreCentred, AreInside}
 use Rattle.node_set.specs.BallLaws.{length-sets, length-map_centres, get_or-map_centres}
 use Rattle.node_set.specs.SetLaws.{has-passing}
-use Rattle.coarse_cover.specs.Turned.{AreTurned}
+use Rattle.node_set.specs.Turned.{AreTurned}
 use Rattle.region_plan.proofs.Making.{clusters_count, level_sized}
 
 -- a node is in a ball just where the ball's centre is in the node's ball
@@ -42,7 +44,7 @@ balls_are_rows table metric i u v u_below v_below =
         ∙ has-passing (λ y. nat_le (dist table w y) (2 ^ i)) x 0 table.nodes (omega arith) (omega arith)
 
 module _ (network : Network) (table : DistanceTable) (metric : IsMetric table) (least : AreDistancesOf network table)
-    (sound : IsNetwork network) (k i : ℕ) (low : 1 ≤ k)
+    (sound : IsNetwork network) (covering : Covering) (i : ℕ) (low : 1 ≤ trade_off_of covering)
     (now : List Nodes) (sets_are : sets now ≡ balls_of table i) where
   count : length now ≡ table.nodes
   count = sym (length-sets now) ∙ ap length sets_are ∙ length-map_centres (λ v. ball_of table v (2 ^ i)) table.nodes
@@ -62,24 +64,28 @@ module _ (network : Network) (table : DistanceTable) (metric : IsMetric table) (
 
   pub balls_centred : AreCentred (sets now)
   balls_centred = subst (λ (bs : List (List ℕ)). AreCentred bs) (sym sets_are)
-      (centred network table metric least sound k i low)
+      (centred network table metric least sound covering i low)
+
+  pub balls_inside : AreInside (sets now)
+  balls_inside = subst (λ (bs : List (List ℕ)). AreInside bs) (sym sets_are)
+      (inside network table metric least sound covering i low)
 
   -- the balls are their own rows
   pub balls_turned : AreTurned (sets now) (sets now)
   balls_turned = subst (λ (bs : List (List ℕ)). AreTurned bs bs) (sym sets_are) (balls_are_rows table metric i)
 
-  module _ (cover : Cover) (exact : IsCover (length now) (coarsening (sets now) k) cover) where
-    cover_is : IsCover table.nodes (regions_of table k i) cover
-    cover_is = subst (λ (n : ℕ). IsCover n (regions_of table k i) cover) count
-        (subst (λ (bs : List (List ℕ)). IsCover (length now) (coarsening bs k) cover) sets_are exact)
+  module _ (cover : Cover) (exact : IsCover (length now) (covering_of covering (sets now)) cover) where
+    cover_is : IsCover table.nodes (regions_of table covering i) cover
+    cover_is = subst (λ (n : ℕ). IsCover n (regions_of table covering i) cover) count
+        (subst (λ (bs : List (List ℕ)). IsCover (length now) (covering_of covering bs) cover) sets_are exact)
 
-    pub cover_spanned : ClustersAreShaped → All (IsSpanned network) cover.clusters.items
+    pub cover_spanned : CoveringsAreShaped → All (IsSpanned network) cover.clusters.items
     cover_spanned law = subst (λ (cs : List Cluster). All (IsSpanned network) cs) (sym cover_is.clusters)
-        (listed_spanned network table metric least sound k i low law)
+        (listed_spanned network table metric least sound covering i low law)
 
     pub homes_count : length cover.home.items ≡ table.nodes
     homes_count = ap length cover_is.homes
-        ∙ length-map_centres (home_of (all_clusters (regions_of table k i))) table.nodes
+        ∙ length-map_centres (home_of (all_clusters (regions_of table covering i))) table.nodes
 
     -- the balls' sets are as many as the homes, and have room for as many
     pub sets_fit : length now ≡ length cover.home.items
@@ -95,9 +101,9 @@ module _ (network : Network) (table : DistanceTable) (metric : IsMetric table) (
       rows_few = omega (arith, clusters_count network cover.clusters.items rows rows_are, count)
 
       pub level_built : (shape : Shape) → shape ≡ shape_with cover.phases rows cover.home.items
-          → IsLevelOf network table k i (level_of i (threshold_of i) shape)
+          → IsLevelOf network table covering i (level_of i (threshold_of i) shape)
       level_built shape made =
-          subst (λ (s : Shape). IsLevelOf network table k i (level_of i (threshold_of i) s)) (sym made) (record {
+          subst (λ (s : Shape). IsLevelOf network table covering i (level_of i (threshold_of i) s)) (sym made) (record {
             exponent = refl;
             threshold = refl;
             phases = cover_is.phases;
@@ -115,55 +121,57 @@ module _ (network : Network) (table : DistanceTable) (metric : IsMetric table) (
 
 -- ---- the levels, one after another
 
-pub more_levels : (network : Network) (table : DistanceTable) (k i : ℕ) (old new : List Level) (level : Level)
+pub more_levels : (network : Network) (table : DistanceTable) (covering : Covering) (i : ℕ) (old new : List Level)
+    (level : Level)
     → length old ≡ i
-    → ((j : ℕ) → j < i → IsLevelOf network table k j (level_in old j)) → IsLevelOf network table k i level → new
+    → ((j : ℕ) → j < i → IsLevelOf network table covering j (level_in old j)) → IsLevelOf network table covering i level → new
     ≡ old ++ level ∷ []
-    → (j : ℕ) → j < i + 1 → IsLevelOf network table k j (level_in new j)
-more_levels network table k i old new level count each is now j below = elim (cases_lt j i) [
-  | inl less ↦ subst (λ (l : Level). IsLevelOf network table k j l)
+    → (j : ℕ) → j < i + 1 → IsLevelOf network table covering j (level_in new j)
+more_levels network table covering i old new level count each is now j below = elim (cases_lt j i) [
+  | inl less ↦ subst (λ (l : Level). IsLevelOf network table covering j l)
       (sym (ap (λ (ls : List Level). get_or ls j no_level) now
       ∙ get_or_append_left old (level ∷ []) no_level j (omega (arith, count)))) (each j less)
   | inr more ↦
       let same : i ≡ j = omega arith in
-      subst (λ (m : ℕ). IsLevelOf network table k m (level_in new m)) same
-      (subst (λ (l : Level). IsLevelOf network table k i l)
+      subst (λ (m : ℕ). IsLevelOf network table covering m (level_in new m)) same
+      (subst (λ (l : Level). IsLevelOf network table covering i l)
       (sym (ap (λ (ls : List Level). get_or ls i no_level) now ∙ get_or_push old level no_level i count)) is)
 ]
 
 -- one level more
-pub levels_more : (network : Network) (table : DistanceTable) (k i : ℕ) (old new : List Level) (level : Level)
-    → AreLevelsOf network table k i old → IsLevelOf network table k i level → IsSized table.nodes level
-    → new ≡ old ++ level ∷ [] → AreLevelsOf network table k (i + 1) new
-levels_more network table k i old new level before is sized now = record {
+pub levels_more : (network : Network) (table : DistanceTable) (covering : Covering) (i : ℕ) (old new : List Level)
+    (level : Level)
+    → AreLevelsOf network table covering i old → IsLevelOf network table covering i level → IsSized table.nodes level
+    → new ≡ old ++ level ∷ [] → AreLevelsOf network table covering (i + 1) new
+levels_more network table covering i old new level before is sized now = record {
   count_is = ap (length {A = Level}) now ∙ length_push old level ∙ ap (λ n. n + 1) before.count_is;
-  each = more_levels network table k i old new level before.count_is before.each is now;
+  each = more_levels network table covering i old new level before.count_is before.each is now;
   sized = subst (λ (ls : List Level). All (IsSized table.nodes) ls) (sym now)
       (All-push (IsSized table.nodes) old level before.sized sized);
 }
 
 -- a level over a table of its own
-pub levels_tabled : (network : Network) (table : DistanceTable) (k i threshold : ℕ) (old new : List Level)
-    (shape : Shape) → AreLevelsOf network table k i old
-    → IsLevelOf network table k i (level_of i (threshold_of i) shape)
+pub levels_tabled : (network : Network) (table : DistanceTable) (covering : Covering) (i threshold : ℕ)
+    (old new : List Level) (shape : Shape) → AreLevelsOf network table covering i old
+    → IsLevelOf network table covering i (level_of i (threshold_of i) shape)
     → IsSized table.nodes (level_of i (threshold_of i) shape) → threshold ≡ threshold_of i
-    → new ≡ old ++ level_of i threshold shape ∷ [] → AreLevelsOf network table k (i + 1) new
-levels_tabled network table k i threshold old new shape before is sized same now =
-    levels_more network table k i old new (level_of i (threshold_of i) shape) before is sized
+    → new ≡ old ++ level_of i threshold shape ∷ [] → AreLevelsOf network table covering (i + 1) new
+levels_tabled network table covering i threshold old new shape before is sized same now =
+    levels_more network table covering i old new (level_of i (threshold_of i) shape) before is sized
     (now ∙ ap (λ t. old ++ level_of i t shape ∷ []) same)
 
 abbrev plan_with : ℕ → ℕ → List Level → DistanceTable → PlanData
 plan_with k reach levels t = record { k = k; reach = reach; distances = t; levels = levels }
 
-pub plan_built : (network : Network) (table copy : DistanceTable) (k reach top : ℕ) (levels : List Level)
+pub plan_built : (network : Network) (table copy : DistanceTable) (covering : Covering) (k reach top : ℕ) (levels : List Level)
     (plan : PlanData) → AreDistancesOf network table → copy ≡ table
-    → reach ≡ 2 * k - 1 → plan ≡ record { k = k; reach = reach; distances = copy; levels = levels } → length levels
+    → k ≡ trade_off_of covering → reach ≡ reach_of covering → plan ≡ record { k = k; reach = reach; distances = copy; levels = levels } → length levels
     ≡ top + 1 → IsTop table top
-    → ((j : ℕ) → j < top + 1 → IsLevelOf network table k j (level_in levels j)) → IsPlanOf network k plan
-plan_built network table copy k reach top levels plan least same reach_is is count top_is each =
-    subst (λ (p : PlanData). IsPlanOf network k p) (sym (is ∙ ap (plan_with k reach levels) same)) (record {
+    → ((j : ℕ) → j < top + 1 → IsLevelOf network table covering j (level_in levels j)) → IsCoveredPlan covering network plan
+plan_built network table copy covering k reach top levels plan least same k_is reach_is is count top_is each =
+    subst (λ (p : PlanData). IsCoveredPlan covering network p) (sym (is ∙ ap (plan_with k reach levels) same)) (record {
       distances = least;
-      trade_off = refl;
+      trade_off = k_is;
       reach = reach_is;
       some = omega (arith, count);
       top = subst (λ (t : ℕ). IsTop table t) last top_is;

@@ -4,6 +4,7 @@ mod Measuring
 mod Making
 mod Flatness
 mod Reaching
+mod Covered
 mod Spanning
 mod Gathering
 mod Laying
@@ -13,6 +14,7 @@ mod Shapes
 mod Matching
 mod Alone
 mod Sparse
+mod Small
 mod Meaning
 mod Uniqueness
 mod LineNetwork

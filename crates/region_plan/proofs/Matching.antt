@@ -1,5 +1,5 @@
 -- The plan of a network is matched, and its clusters are within their radius.
-use Rattle.std.proofs.Common.{◌≡◌, ℕ, ◌-◌, ◌*◌, ◌^◌, ◌<◌, ◌≤◌, true, List, [], length, get_or, refl, sym, ◌∙◌, ap}
+use Rattle.std.proofs.Common.{◌≡◌, ℕ, ◌*◌, ◌^◌, ◌<◌, ◌≤◌, true, List, [], length, get_or, refl, sym, ◌∙◌, ap}
 use Rattle.std.proofs.Common.{subst, arith}
 use Rattle.std.proofs.lemmas.List.{get_or-map}
 use Rattle.net_graph.specs.Walks.{IsLeastWeight, weight_of, everywhere}
@@ -8,7 +8,7 @@ use Rattle.net_graph.specs.WalkLaws.{walk_widened}
 use Rattle.node_set.specs.Ascending.{has}
 use Rattle.node_set.specs.SetLaws.{has-passing}
 use Rattle.distances.specs.Table.{IsMetric, dist, ball_of}
-use Rattle.coarse_cover.specs.Coarsening.{all_clusters, ClustersAreShaped, HomesAreFound}
+use Rattle.coarse_cover.specs.Coarsening.{all_clusters}
 use Rattle.coarse_cover.specs.Covers.{cluster_list}
 use Rattle.coarse_cover.specs.declared.cover.Cluster.{Cluster}
 use Rattle.coarse_cover.specs.CoverLaws.{cluster_list_nodes, length-cluster_list}
@@ -16,10 +16,13 @@ use Rattle.cluster_tree.specs.Tree.{within}
 use Rattle.region_plan.specs.Plan.{PlanData, nodes_of, levels_of, top_of, distance, level_at, no_cluster, cluster_in}
 use Rattle.region_plan.specs.Plan.{cluster_at, clusters_of, members_of, home, readers, leader, inside}
 use Rattle.region_plan.specs.Regions.{balls_of, regions_of, clusters_with}
-use Rattle.region_plan.specs.Meanings.{IsClusterOf, IsLevelOf, IsPlanOf}
+use Rattle.region_plan.specs.Coverings.{CoveringsAreShaped, CoveringsHaveHomes, reach_of, trade_off_of}
+use Rattle.region_plan.specs.Meanings.{IsClusterOf, IsCoveredPlan, IsLevelOf}
+use Rattle.region_plan.specs.declared.covering.Covering.{Covering}
 use Rattle.region_plan.specs.Matched.{IsMatched, IsWithinReach, BoundsFinds}
 use Rattle.region_plan.proofs.Reaching.{to_ball}
 use Rattle.region_plan.proofs.Spanning.{IsClose, centred, listed_close}
+use Rattle.region_plan.proofs.Spanning.{inside as inside_balls}
 use Rattle.node_set.specs.Balls.{GrownCluster, ball, home_of}
 use Rattle.node_set.specs.BallLaws.{union_has, length-map_centres, get_or-map_centres}
 use Rattle.region_plan.proofs.Making.{clusters_count, clusters_at}
@@ -31,13 +34,14 @@ no_made = record { first = 0; members = record { room = 0; members = [] }; phase
 abbrev no_grown : GrownCluster
 no_grown = record { first = 0; growths = 0; homed = []; members = [] }
 
-module _ (shape : ClustersAreShaped) (found : HomesAreFound) (network : Network) (sound : IsNetwork network) (k : ℕ)
-    (low : 1 ≤ k) (plan : PlanData) (metric : IsMetric plan.distances) (is : IsPlanOf network k plan) where
+module _ (shape : CoveringsAreShaped) (found : CoveringsHaveHomes) (network : Network) (sound : IsNetwork network)
+    (covering : Covering) (low : 1 ≤ trade_off_of covering) (plan : PlanData) (metric : IsMetric plan.distances)
+    (is : IsCoveredPlan covering network plan) where
   module _ (i : ℕ) (below : i < levels_of plan) where
     abbrev made : List Cluster
-    made = cluster_list (nodes_of plan) 0 (regions_of plan.distances k i)
+    made = cluster_list (nodes_of plan) 0 (regions_of plan.distances covering i)
 
-    level : IsLevelOf network plan.distances k i (level_at plan i)
+    level : IsLevelOf network plan.distances covering i (level_at plan i)
     level = is.each i below
 
     as_many : length made ≡ clusters_of plan i
@@ -47,8 +51,8 @@ module _ (shape : ClustersAreShaped) (found : HomesAreFound) (network : Network)
     cluster_is c h = clusters_at network made (level_at plan i).clusters level.clusters c no_made no_cluster
         (omega (arith, as_many))
 
-    close : (c : ℕ) → c < clusters_of plan i → IsClose network ((2 * k - 1) * 2 ^ i) (get_or made c no_made)
-    close c h = listed_close network plan.distances metric is.distances sound k i low shape c no_made
+    close : (c : ℕ) → c < clusters_of plan i → IsClose network (reach_of covering * 2 ^ i) (get_or made c no_made)
+    close c h = listed_close network plan.distances metric is.distances sound covering i low shape c no_made
         (omega (arith, as_many))
 
     made_member : (c v : ℕ) → c < clusters_of plan i → has v (members_of plan i c) ≡ true
@@ -90,7 +94,7 @@ module _ (shape : ClustersAreShaped) (found : HomesAreFound) (network : Network)
         subst (λ u. distance plan u v ≤ inside plan i c v) (sym (cluster_is c h).leader) (omega (arith, far, walk.sum))
 
     pub inside_near : (c v : ℕ) → c < clusters_of plan i → has v (members_of plan i c) ≡ true
-        → inside plan i c v ≤ (2 * k - 1) * 2 ^ i
+        → inside plan i c v ≤ reach_of covering * 2 ^ i
     inside_near c v h member =
         let near = (close c h).near v (made_member c v h member) in
         let least = (weighs c v h member).least near.steps near.walk in
@@ -99,10 +103,10 @@ module _ (shape : ClustersAreShaped) (found : HomesAreFound) (network : Network)
     -- ---- homes
 
     abbrev groups : List GrownCluster
-    groups = all_clusters (regions_of plan.distances k i)
+    groups = all_clusters (regions_of plan.distances covering i)
 
     groups_count : length groups ≡ clusters_of plan i
-    groups_count = sym (length-cluster_list (nodes_of plan) 0 (regions_of plan.distances k i)) ∙ as_many
+    groups_count = sym (length-cluster_list (nodes_of plan) 0 (regions_of plan.distances covering i)) ∙ as_many
 
     home_is : (v : ℕ) → v < nodes_of plan → home plan i v ≡ home_of groups v
     home_is v h = ap (λ (xs : List ℕ). get_or xs v 0) level.homes
@@ -111,14 +115,20 @@ module _ (shape : ClustersAreShaped) (found : HomesAreFound) (network : Network)
     ball_below : (v : ℕ) → v < nodes_of plan → v < length (balls_of plan.distances i)
     ball_below v h = omega (arith, length-map_centres (λ u. ball_of plan.distances u (2 ^ i)) (nodes_of plan))
 
+    found_home : (v : ℕ) → v < nodes_of plan → (home_of groups v < length groups)
+        × (has v (get_or groups (home_of groups v) no_grown).homed ≡ true)
+    found_home v h =
+        found covering (balls_of plan.distances i) v no_grown low
+        (centred network plan.distances metric is.distances sound covering i low)
+        (inside_balls network plan.distances metric is.distances sound covering i low) (ball_below v h)
+
     pub home_below : (v : ℕ) → v < nodes_of plan → home plan i v < clusters_of plan i
     home_below v h =
         omega (
           arith,
           home_is v h,
           groups_count,
-          (found (balls_of plan.distances i) k v no_grown low
-              (centred network plan.distances metric is.distances sound k i low) (ball_below v h)).0,
+          (found_home v h).0,
         )
 
     group_members : (c : ℕ) → c < length groups → (get_or made c no_made).members.members
@@ -126,7 +136,7 @@ module _ (shape : ClustersAreShaped) (found : HomesAreFound) (network : Network)
     group_members c h =
         sym (get_or-map (λ (d : Cluster). d.members.members) made c no_made [] (omega (arith, groups_count, as_many)))
         ∙ ap (λ (xs : List (List ℕ)). get_or xs c [])
-        (cluster_list_nodes (nodes_of plan) 0 (regions_of plan.distances k i))
+        (cluster_list_nodes (nodes_of plan) 0 (regions_of plan.distances covering i))
         ∙ get_or-map (λ (g : GrownCluster). g.members) groups c no_grown [] h
 
     in_home : (v x : ℕ) → v < nodes_of plan → has x (ball (balls_of plan.distances i) v) ≡ true
@@ -134,13 +144,12 @@ module _ (shape : ClustersAreShaped) (found : HomesAreFound) (network : Network)
     in_home v x h member =
         let c : ℕ = home_of groups v in
         let is_within : c < length groups =
-        (found (balls_of plan.distances i) k v no_grown low
-        (centred network plan.distances metric is.distances sound k i low) (ball_below v h)).0
+        (found_home v h).0
         in
-        let homed = (found (balls_of plan.distances i) k v no_grown low
-        (centred network plan.distances metric is.distances sound k i low) (ball_below v h)).1 in
-        let shaped = shape (balls_of plan.distances i) k low
-        (centred network plan.distances metric is.distances sound k i low) c no_grown is_within in
+        let homed = (found_home v h).1 in
+        let shaped = shape covering (balls_of plan.distances i) low
+        (centred network plan.distances metric is.distances sound covering i low)
+        (inside_balls network plan.distances metric is.distances sound covering i low) c no_grown is_within in
         subst (λ d. has x (members_of plan i d) ≡ true) (sym (home_is v h))
         (ap (has x) ((cluster_is c (omega (arith, groups_count))).members ∙ group_members c is_within ∙ shaped.1)
         ∙ union_has (balls_of plan.distances i) x v (get_or groups c no_grown).homed homed member)
@@ -193,7 +202,7 @@ module _ (shape : ClustersAreShaped) (found : HomesAreFound) (network : Network)
   plan_near : IsWithinReach plan
   plan_near i c v h hc member =
       subst (λ j. inside plan i c v ≤ j * 2 ^ (level_at plan i).exponent) (sym is.reach)
-      (subst (λ e. inside plan i c v ≤ (2 * k - 1) * 2 ^ e) (sym (is.each i h).exponent)
+      (subst (λ e. inside plan i c v ≤ reach_of covering * 2 ^ e) (sym (is.each i h).exponent)
       (inside_near i h c v hc member))
 
   pub plan_bounds : BoundsFinds plan

@@ -14,22 +14,28 @@ use Rattle.node_set.specs.Balls.{least}
 use Rattle.node_set.specs.BallLaws.{get_or-map_centres, length-map_centres, least_first, least_passes, least_within}
 use Rattle.distances.specs.Table.{DistanceTable, AreDistancesOf, DistancesAreOne, IsDiameter, IsMetric}
 use Rattle.distances.specs.Table.{NetworksHaveDistances, dist, table_of}
-use Rattle.coarse_cover.specs.Coarsening.{ClustersAreShaped, CoversAreSparse, HomesAreFound}
+use Rattle.coarse_cover.specs.Coarsening.{CoversAreSparse}
 use Rattle.coarse_cover.specs.Covers.{cluster_list}
 use Rattle.coarse_cover.specs.declared.cover.Cluster.{Cluster}
 use Rattle.cluster_tree.specs.PlaceLaws.{beside_map, has_place, member_place}
 use Rattle.cluster_tree.specs.Tree.{WeighedCluster, IsTreeOf, inside_weight, weight_beside, within}
 use Rattle.region_plan.specs.Kept.{IsSpanned}
-use Rattle.region_plan.specs.Matched.{PlansBoundFinds, PlansHaveFewReaders}
+use Rattle.mean_cover.specs.Covering.{MeanCoversAreSmall}
+use Rattle.region_plan.specs.Coverings.{CoveringsAreShaped, CoveringsHaveHomes, trade_off_of}
+use Rattle.region_plan.specs.Matched.{CoveredPlansBoundFinds, MeanPlansHaveSmallSums, PlansHaveFewReaders}
 use Rattle.region_plan.specs.Measures.{most}
-use Rattle.region_plan.specs.Meanings.{IsTop, IsClusterOf, AreClustersOf, IsLevelOf, IsPlanOf, PlansMean, PlansOfSameWalks}
+use Rattle.region_plan.specs.Meanings.{IsTop, IsClusterOf, AreClustersOf, IsCoveredPlan, IsLevelOf, PlansMean}
+use Rattle.region_plan.specs.Meanings.{CoveredPlansMean, CoveredPlansOfSameWalks}
 use Rattle.region_plan.specs.Meanings.{as_tree}
 use Rattle.region_plan.specs.Plan.{PlanCluster, Level, PlanData, level_at, no_level}
-use Rattle.region_plan.specs.Regions.{level_for, plan_of, plan_over, regions_of, top_for, weighed}
+use Rattle.region_plan.specs.Regions.{covered_plan, level_for, mean_plan, plan_of, plan_over, regions_of, top_for, weighed}
+use Rattle.region_plan.specs.declared.covering.Covering.{Covering}
+use Rattle.region_plan.specs.declared.covering.Covering.TheVariants.{Mean}
 use Rattle.region_plan.proofs.Alone.{LeastIsOne, one_plan}
 use Rattle.region_plan.proofs.Matching.{plan_bounds}
 use Rattle.region_plan.proofs.Measuring.{greatest_in, most_bounds}
 use Rattle.region_plan.proofs.Spanning.{listed_spanned}
+use Rattle.region_plan.proofs.Small.{small_sums}
 use Rattle.region_plan.proofs.Sparse.{few_readers}
 
 -- ---- the top level
@@ -128,40 +134,41 @@ module _ (found : LeastWeightsAreFound) (network : Network) (sound : IsNetwork n
 
 -- ---- a level, and the plan
 
-module _ (found : LeastWeightsAreFound) (shape : ClustersAreShaped) (network : Network) (sound : IsNetwork network)
-    (table : DistanceTable) (metric : IsMetric table) (are : AreDistancesOf network table) (k : ℕ) (low : 1 ≤ k) where
-  level_is : (i : ℕ) → IsLevelOf network table k i (level_for network table k i)
+module _ (found : LeastWeightsAreFound) (shape : CoveringsAreShaped) (network : Network) (sound : IsNetwork network)
+    (table : DistanceTable) (metric : IsMetric table) (are : AreDistancesOf network table) (covering : Covering)
+    (low : 1 ≤ trade_off_of covering) where
+  level_is : (i : ℕ) → IsLevelOf network table covering i (level_for network table covering i)
   level_is i = record {
     exponent = refl;
     threshold = refl;
     phases = refl;
-    clusters = clusters_are found network sound (cluster_list table.nodes 0 (regions_of table k i))
-        (listed_spanned network table metric are sound k i low shape);
+    clusters = clusters_are found network sound (cluster_list table.nodes 0 (regions_of table covering i))
+        (listed_spanned network table metric are sound covering i low shape);
     homes = refl;
     readers = refl;
   }
 
-  plan_is : IsPlanOf network k (plan_over network table k)
+  plan_is : IsCoveredPlan covering network (plan_over network table covering)
   plan_is =
       let top : ℕ = top_for (most table.cells) in
-      let count = length-map_centres (level_for network table k) (top + 1) in
-      let last : top ≡ length (plan_over network table k).levels - 1 = omega (arith, count) in
+      let count = length-map_centres (level_for network table covering) (top + 1) in
+      let last : top ≡ length (plan_over network table covering).levels - 1 = omega (arith, count) in
       record {
         distances = are;
         trade_off = refl;
         reach = refl;
         some = omega (arith, count);
         top = subst (IsTop table) last (top_is table (most table.cells) (widest table metric.some metric.count));
-        each = λ i h. subst (λ (l : Level). IsLevelOf network table k i l)
-            (sym (get_or-map_centres (level_for network table k) (top + 1) i no_level (omega (arith, h, count))))
+        each = λ i h. subst (λ (l : Level). IsLevelOf network table covering i l)
+            (sym (get_or-map_centres (level_for network table covering) (top + 1) i no_level (omega (arith, h, count))))
             (level_is i);
       }
 
-pub means : LeastWeightsAreFound → NetworksHaveDistances → ClustersAreShaped → PlansMean
-unfolding plan_of
-means found distances shape network k sound low =
+pub means : LeastWeightsAreFound → NetworksHaveDistances → CoveringsAreShaped → CoveredPlansMean
+unfolding covered_plan
+means found distances shape covering network sound low =
     let table = distances network sound in
-    plan_is found shape network sound (table_of network) table.1 table.0 k low
+    plan_is found shape network sound (table_of network) table.1 table.0 covering low
 
 -- ---- over the same walks
 
@@ -191,9 +198,9 @@ clusters_over one other (c ∷ cs) (d ∷ ds) same h = (
   clusters_over one other cs ds same h.1,
 )
 
-plan_over_same : (one other : Network) (k : ℕ) (plan : PlanData) → one.nodes ≡ other.nodes
-    → SameWalks other.edges one.edges → IsPlanOf one k plan → IsPlanOf other k plan
-plan_over_same one other k plan nodes same is = record {
+plan_over_same : (one other : Network) (covering : Covering) (plan : PlanData) → one.nodes ≡ other.nodes
+    → SameWalks other.edges one.edges → IsCoveredPlan covering one plan → IsCoveredPlan covering other plan
+plan_over_same one other covering plan nodes same is = record {
   distances = record {
     nodes = is.distances.nodes ∙ nodes;
     count = is.distances.count;
@@ -209,33 +216,42 @@ plan_over_same one other k plan nodes same is = record {
         exponent = level.exponent;
         threshold = level.threshold;
         phases = level.phases;
-        clusters = clusters_over one other (cluster_list plan.distances.nodes 0 (regions_of plan.distances k i))
+        clusters = clusters_over one other (cluster_list plan.distances.nodes 0 (regions_of plan.distances covering i))
             (level_at plan i).clusters same level.clusters;
         homes = level.homes;
         readers = level.readers;
       };
 }
 
-pub same_plans : PlansMean → DistancesAreOne → LeastIsOne → PlansOfSameWalks
-same_plans plans_mean one_table one_weight one other k sound given nodes same low =
-    one_plan one_table one_weight other k (plan_of one k) (plan_of other k)
-    (plan_over_same one other k (plan_of one k) nodes same (plans_mean one k sound low))
-    (plans_mean other k given low)
+pub same_plans : CoveredPlansMean → DistancesAreOne → LeastIsOne → CoveredPlansOfSameWalks
+same_plans plans_mean one_table one_weight covering one other sound given nodes same low =
+    one_plan one_table one_weight other covering (covered_plan covering one) (covered_plan covering other)
+    (plan_over_same one other covering (covered_plan covering one) nodes same (plans_mean covering one sound low))
+    (plans_mean covering other given low)
 
 -- what is a plan of a network is the plan
-pub plan_is_this : PlansMean → DistancesAreOne → LeastIsOne → (network : Network) → IsNetwork network → (k : ℕ)
-    → 1 ≤ k → (plan : PlanData) → IsPlanOf network k plan → plan ≡ plan_of network k
-plan_is_this plans_mean one_table one_weight network sound k low plan is =
-    one_plan one_table one_weight network k plan (plan_of network k) is (plans_mean network k sound low)
+pub plan_is_this : CoveredPlansMean → DistancesAreOne → LeastIsOne → (network : Network) → IsNetwork network
+    → (covering : Covering) → 1 ≤ trade_off_of covering → (plan : PlanData) → IsCoveredPlan covering network plan
+    → plan ≡ covered_plan covering network
+plan_is_this plans_mean one_table one_weight network sound covering low plan is =
+    one_plan one_table one_weight network covering plan (covered_plan covering network) is
+    (plans_mean covering network sound low)
 
-pub bounds : PlansMean → NetworksHaveDistances → ClustersAreShaped → HomesAreFound → PlansBoundFinds
-unfolding plan_of
-bounds plans_mean distances shape homes network k sound low =
-    plan_bounds shape homes network sound k low (plan_of network k) (distances network sound).1
-    (plans_mean network k sound low)
+pub bounds : CoveredPlansMean → NetworksHaveDistances → CoveringsAreShaped → CoveringsHaveHomes
+    → CoveredPlansBoundFinds
+unfolding covered_plan
+bounds plans_mean distances shape homes covering network sound low =
+    plan_bounds shape homes network sound covering low (covered_plan covering network) (distances network sound).1
+    (plans_mean covering network sound low)
 
 pub sparse : PlansMean → NetworksHaveDistances → CoversAreSparse → PlansHaveFewReaders
-unfolding plan_of
+unfolding covered_plan
 sparse plans_mean distances covers network k sound low =
     few_readers covers network sound k low (plan_of network k) (distances network sound).1
     (plans_mean network k sound low)
+
+pub small : CoveredPlansMean → NetworksHaveDistances → MeanCoversAreSmall → MeanPlansHaveSmallSums
+unfolding covered_plan
+small plans_mean distances covers network k sound low =
+    small_sums covers network sound k low (mean_plan network k) (distances network sound).1
+    (plans_mean (Mean k) network sound low)

@@ -9,13 +9,16 @@ use Rattle.net_graph.specs.Network.{Network, IsNetwork}
 use Rattle.net_graph.specs.WalkLaws.{IsNoHeavier}
 use Rattle.node_set.specs.Ascending.{has}
 use Rattle.distances.specs.Table.{DistanceTable, AreDistancesOf, IsMetric, ball_of}
-use Rattle.coarse_cover.specs.Coarsening.{all_clusters, IsShaped, ClustersAreShaped}
+use Rattle.coarse_cover.specs.Coarsening.{all_clusters}
 use Rattle.coarse_cover.specs.Covers.{cluster_list, as_cluster}
 use Rattle.coarse_cover.specs.declared.cover.Cluster.{Cluster}
 use Rattle.cluster_tree.specs.Tree.{within}
+use Rattle.region_plan.specs.Coverings.{CoveringsAreShaped, reach_of, steps_of, trade_off_of}
 use Rattle.region_plan.specs.Regions.{balls_of, regions_of}
+use Rattle.region_plan.specs.declared.covering.Covering.{Covering}
+use Rattle.region_plan.proofs.Covered.{reach_is}
 use Rattle.region_plan.specs.Kept.{IsSpanned}
-use Rattle.node_set.specs.Balls.{GrownCluster, union_of, growth, AreCentred}
+use Rattle.node_set.specs.Balls.{GrownCluster, IsShaped, union_of, growth, AreCentred, AreInside}
 use Rattle.node_set.specs.BallLaws.{union_has, union_from, length-map_centres}
 use Rattle.region_plan.proofs.Reaching.{near_more, in_ball, own_ball, near_leader, growth_leads}
 
@@ -55,13 +58,19 @@ close_spans network radius c close = record {
 }
 
 module _ (network : Network) (table : DistanceTable) (metric : IsMetric table) (least : AreDistancesOf network table)
-    (sound : IsNetwork network) (k i : ℕ) (low : 1 ≤ k) where
+    (sound : IsNetwork network) (covering : Covering) (i : ℕ) (low : 1 ≤ trade_off_of covering) where
   pub centred : AreCentred (balls_of table i)
   centred v h = own_ball network table metric least sound.limits.edges (2 ^ i) (balls_of table i) refl v
       (omega (arith, length-map_centres (λ u. ball_of table u (2 ^ i)) table.nodes))
 
-  shape_close : (p : ℕ) (c : GrownCluster) → IsShaped (balls_of table i) k c
-      → IsClose network ((2 * k - 1) * 2 ^ i) (as_cluster table.nodes p c)
+  -- the nodes of balls are nodes
+  pub inside : AreInside (balls_of table i)
+  inside v x h =
+      let within = in_ball network table metric least sound.limits.edges (2 ^ i) (balls_of table i) refl v x h in
+      omega (arith, within.1, length-map_centres (λ u. ball_of table u (2 ^ i)) table.nodes)
+
+  shape_close : (p : ℕ) (c : GrownCluster) → IsShaped (balls_of table i) (steps_of covering) c
+      → IsClose network (reach_of covering * 2 ^ i) (as_cluster table.nodes p c)
   unfolding as_cluster
   shape_close p c shaped =
       let waiting : List ℕ = shaped.3.0 in
@@ -84,28 +93,28 @@ module _ (network : Network) (table : DistanceTable) (metric : IsMetric table) (
         below = λ v h.
             let from = union_from (balls_of table i) v (growth (balls_of table i) waiting c.first c.growths)
             (ap (has v) (sym is) ∙ h) in
-            let inside = in_ball network table metric least sound.limits.edges (2 ^ i) (balls_of table i) refl from.0 v
+            let here = in_ball network table metric least sound.limits.edges (2 ^ i) (balls_of table i) refl from.0 v
             from.2 in
-            omega (arith, inside.1, least.nodes);
+            omega (arith, here.1, least.nodes);
         near = λ v h.
-            near_more network.edges (within c.members) c.first v ((2 * c.growths + 1) * 2 ^ i) ((2 * k - 1) * 2 ^ i)
-            (enough c.growths k (2 ^ i) shaped.0)
+            near_more network.edges (within c.members) c.first v ((2 * c.growths + 1) * 2 ^ i) (reach_of covering * 2 ^ i)
+            (enough c.growths (steps_of covering) (reach_of covering) (2 ^ i) shaped.0 (reach_is covering low))
             (subst (λ (xs : List ℕ). IsNoHeavier network.edges (within xs) c.first v ((2 * c.growths + 1) * 2 ^ i))
             (sym is)
             (near_leader network table metric least sound.limits.edges (2 ^ i) (balls_of table i) refl waiting c.first
             below shaped.3.1 c.growths v (ap (has v) (sym is) ∙ h)));
       }
     where
-      enough : (j k r : ℕ) → j < k → (2 * j + 1) * r ≤ (2 * k - 1) * r
-      enough j k r h = mul-le-mul_right r (omega arith)
+      enough : (j k w r : ℕ) → j < k → 2 * k - 1 ≡ w → (2 * j + 1) * r ≤ w * r
+      enough j k w r h is = mul-le-mul_right r (omega arith)
 
-  pub listed_close : ClustersAreShaped
-      → All (IsClose network ((2 * k - 1) * 2 ^ i)) (cluster_list table.nodes 0 (regions_of table k i))
+  pub listed_close : CoveringsAreShaped
+      → All (IsClose network (reach_of covering * 2 ^ i)) (cluster_list table.nodes 0 (regions_of table covering i))
   listed_close law =
-      for_each_listed (IsClose network ((2 * k - 1) * 2 ^ i)) (IsShaped (balls_of table i) k) table.nodes shape_close 0
-      (regions_of table k i)
-      (law (balls_of table i) k low centred)
+      for_each_listed (IsClose network (reach_of covering * 2 ^ i)) (IsShaped (balls_of table i) (steps_of covering)) table.nodes shape_close 0
+      (regions_of table covering i)
+      (law covering (balls_of table i) low centred inside)
 
-  pub listed_spanned : ClustersAreShaped → All (IsSpanned network) (cluster_list table.nodes 0 (regions_of table k i))
-  listed_spanned law j d h = close_spans network ((2 * k - 1) * 2 ^ i)
-      (get_or (cluster_list table.nodes 0 (regions_of table k i)) j d) (listed_close law j d h)
+  pub listed_spanned : CoveringsAreShaped → All (IsSpanned network) (cluster_list table.nodes 0 (regions_of table covering i))
+  listed_spanned law j d h = close_spans network (reach_of covering * 2 ^ i)
+      (get_or (cluster_list table.nodes 0 (regions_of table covering i)) j d) (listed_close law j d h)

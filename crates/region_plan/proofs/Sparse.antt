@@ -21,6 +21,7 @@ use Rattle.region_plan.specs.Measures.{degree_in, degree_of}
 use Rattle.region_plan.specs.Plan.{PlanCluster, PlanData, cluster_in, level_at, levels_of, no_level, nodes_of}
 use Rattle.region_plan.specs.Plan.{readers}
 use Rattle.region_plan.specs.Regions.{balls_of, clusters_with, regions_of}
+use Rattle.region_plan.specs.declared.covering.Covering.TheVariants.{Phased}
 use Rattle.region_plan.proofs.Measuring.{greatest_in}
 use Rattle.region_plan.proofs.Spanning.{centred}
 
@@ -28,7 +29,7 @@ use Rattle.region_plan.proofs.Spanning.{centred}
 abbrev have : ℕ → List (List ℕ) → ℕ
 have v lists = sum_by (λ m. cond (has v m) 1 0) lists
 
-abbrev nodes_in : List PlanCluster → List (List ℕ)
+abbrev pub nodes_in : List PlanCluster → List (List ℕ)
 nodes_in clusters = map (λ (c : PlanCluster). c.members) clusters
 
 -- as many numbers pass as clusters have v
@@ -58,7 +59,7 @@ sifted v test from (c ∷ cs) same =
     one true false e = cc
     one false true e = cc
 
-same_nodes : (network : Network) (made : List Cluster) (clusters : List PlanCluster)
+pub same_nodes : (network : Network) (made : List Cluster) (clusters : List PlanCluster)
     → AreClustersOf network made clusters → nodes_in clusters ≡ map (λ (c : Cluster). c.members.members) made
 same_nodes network [] [] are = refl
 same_nodes network [] (e ∷ es) are = absurd are
@@ -104,13 +105,13 @@ attained plan some wide =
 
 module _ (sparse : CoversAreSparse) (network : Network) (sound : IsNetwork network) (k : ℕ) (low : 1 ≤ k)
     (plan : PlanData) (metric : IsMetric plan.distances) (is : IsPlanOf network k plan) where
-  at_level : (i : ℕ) → (length (regions_of plan.distances k i) ^ k ≤ k ^ k * nodes_of plan)
-      × ((v : ℕ) → count_by (λ c. has v c.members) (all_clusters (regions_of plan.distances k i))
-      ≤ length (regions_of plan.distances k i))
+  at_level : (i : ℕ) → (length (regions_of plan.distances (Phased k) i) ^ k ≤ k ^ k * nodes_of plan)
+      × ((v : ℕ) → count_by (λ c. has v c.members) (all_clusters (regions_of plan.distances (Phased k) i))
+      ≤ length (regions_of plan.distances (Phased k) i))
   at_level i =
-      let here = sparse (balls_of plan.distances i) k low (centred network plan.distances metric is.distances sound k i low)
+      let here = sparse (balls_of plan.distances i) k low (centred network plan.distances metric is.distances sound (Phased k) i low)
       in (
-        subst (λ n. length (regions_of plan.distances k i) ^ k ≤ k ^ k * n)
+        subst (λ n. length (regions_of plan.distances (Phased k) i) ^ k ≤ k ^ k * n)
             (length-map_centres (λ u. ball_of plan.distances u (2 ^ i)) (nodes_of plan)) here.0,
         here.1,
       )
@@ -120,7 +121,7 @@ module _ (sparse : CoversAreSparse) (network : Network) (sound : IsNetwork netwo
 
   read_few : (i v : ℕ) → i < levels_of plan → length (readers plan i v) ≤ (level_at plan i).phases
   read_few i v below =
-      let level : IsLevelOf network plan.distances k i (level_at plan i) = is.each i below in
+      let level : IsLevelOf network plan.distances (Phased k) i (level_at plan i) = is.each i below in
       let clusters = (level_at plan i).clusters in
       let rows : readers plan i v ≡ get_or (map (clusters_with clusters) (centres (nodes_of plan))) v [] =
       ap (λ (l : List (List ℕ)). get_or l v []) level.readers in
@@ -129,7 +130,7 @@ module _ (sparse : CoversAreSparse) (network : Network) (sound : IsNetwork netwo
           arith,
           ap length rows,
           ap length (get_or-map_centres (clusters_with clusters) (nodes_of plan) v [] within),
-          read_count network (nodes_of plan) v (regions_of plan.distances k i) clusters level.clusters,
+          read_count network (nodes_of plan) v (regions_of plan.distances (Phased k) i) clusters level.clusters,
           (at_level i).1 v,
           level.phases,
         )

@@ -1,7 +1,7 @@
--- The line of four nodes, 0 - 1 - 2 - 3 with weights of 1, and its plan with the trade-off 2: three
--- levels, of which the lowest has two clusters.
--- Key law: `line_has_its_plan` (it is the plan of its network, and bounds its finds, so that what
--- is said of such plans is said of some).
+-- The line of four nodes, 0 - 1 - 2 - 3 with weights of 1, and its plans with the trade-off 2, in
+-- phases and over mean covers: three levels, of which the lowest has two clusters.
+-- Key laws: `line_has_its_plan` and `line_has_its_mean_plan` (they are the plans of its network, and
+-- bound their finds, so that what is said of such plans is said of some).
 use Rattle.std.specs.Prelude.{ℕ, List, [], ◌∷◌}
 use Rattle.net_graph.specs.declared.edge.Edge.{Edge}
 use Rattle.net_graph.specs.Network.{Network}
@@ -86,6 +86,36 @@ line_of_four = record {
   distances = line_table;
   levels =
       line_level_0 ∷ line_level 1 1 ∷ line_level 2 2 ∷ [];
+}
+
+-- the last two nodes in a cover of one phase
+abbrev pub mean_end_of_line : PlanCluster
+mean_end_of_line = record {
+  leader = 3;
+  phase = 0;
+  members = 2 ∷ 3 ∷ [];
+  weights = 1 ∷ 0 ∷ [];
+  depth = 1;
+}
+
+-- the lowest level over mean covers
+abbrev pub mean_line_level_0 : Level
+mean_line_level_0 = record {
+  exponent = 0;
+  threshold = 1;
+  phases = 1;
+  clusters = whole_line ∷ mean_end_of_line ∷ [];
+  homes = 0 ∷ 0 ∷ 0 ∷ 1 ∷ [];
+  readers = readers_of 4 (whole_line ∷ mean_end_of_line ∷ []);
+}
+
+-- the plan over mean covers
+abbrev pub mean_line_of_four : PlanData
+mean_line_of_four = record {
+  k = 2;
+  reach = 5;
+  distances = line_table;
+  levels = mean_line_level_0 ∷ line_level 1 1 ∷ line_level 2 2 ∷ [];
 }
 
 -- the line with its plan, and one subscriber that starts at node 3

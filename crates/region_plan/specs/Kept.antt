@@ -15,6 +15,7 @@ use Rattle.region_plan.specs.Plan.{level_in, weight_in}
 use Rattle.region_plan.specs.Regions.{clusters_with, readers_of}
 use Rattle.region_plan.specs.Meanings.{IsLevelOf}
 use Rattle.region_plan.specs.Measures.{degree_of}
+use Rattle.region_plan.specs.declared.covering.Covering.{Covering}
 use Rattle.region_plan.specs.declared.sharing.LevelHead.{LevelHead}
 
 -- a level over n nodes
@@ -127,9 +128,9 @@ pub record IsSpanned (network : Network) (cluster : Cluster) : Type 0 where
 abbrev pub level_with : ℕ → ℕ → Level → Level
 level_with exponent threshold level = level_of exponent threshold (shape_of level)
 
--- the first so many levels of the plan of a network
-pub record AreLevelsOf (network : Network) (table : DistanceTable) (k count : ℕ)
-    (levels : List Level) : Type 0 where
+-- the first so many levels of the plan of a network over this covering
+pub record AreLevelsOf (network : Network) (table : DistanceTable) (covering : Covering)
+    (count : ℕ) (levels : List Level) : Type 0 where
   pub count_is : length levels ≡ count
-  pub each : (j : ℕ) → j < count → IsLevelOf network table k j (level_in levels j)
+  pub each : (j : ℕ) → j < count → IsLevelOf network table covering j (level_in levels j)
   pub sized : All (IsSized table.nodes) levels

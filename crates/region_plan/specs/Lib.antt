@@ -1,4 +1,5 @@
 pub mod Plan
+pub mod Coverings
 pub mod Regions
 pub mod Meanings
 pub mod Flat

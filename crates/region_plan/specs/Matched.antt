@@ -1,16 +1,19 @@
 -- A matched plan: at each level the home of a node is read by every node within the level's radius.
 -- And what the bound on the weight of finds asks of a plan beside that.
--- Key laws: `Plan::build` gives plans that bound their finds, by its clause `bounding`, and
--- `plan_is_bounding` says the same of the plan of every network; `plan_is_sparse` and the clause
--- `sparse` bound the degree by the number of nodes and k; `Plan::flat` gives matched plans
+-- Key laws: `Plan::build` and `Plan::build_mean` give plans that bound their finds, by the clause
+-- `bounding`, and `covered_plan_is_bounding` says the same of the plan of every network over either
+-- covering; `plan_is_sparse` and the clause `sparse` bound the degree by the number of nodes and k,
+-- `mean_plan_is_small` and the clause `small_sum` the sum of sizes; `Plan::flat` gives matched plans
 -- whose clusters are within their reach, by its clauses `matched` and `reached`.
-use Rattle.std.specs.Prelude.{◌≡◌, ℕ, ◌*◌, ◌^◌, ◌<◌, ◌≤◌, true, length}
+use Rattle.std.specs.Prelude.{◌≡◌, ℕ, ◌+◌, ◌*◌, ◌^◌, ◌<◌, ◌≤◌, true, length, sum_by}
 use Rattle.node_set.specs.Ascending.{has}
 use Rattle.distances.specs.Table.{IsMetric}
-use Rattle.region_plan.specs.Plan.{PlanData, nodes_of, levels_of, top_of, distance, level_at}
+use Rattle.region_plan.specs.Plan.{PlanCluster, PlanData, nodes_of, levels_of, top_of, distance, level_at}
 use Rattle.region_plan.specs.Plan.{clusters_of, members_of, home, readers, leader, inside}
 use Rattle.region_plan.specs.Plan.{threshold}
-use Rattle.region_plan.specs.Regions.{clusters_with, plan_of, threshold_of}
+use Rattle.region_plan.specs.Coverings.{trade_off_of}
+use Rattle.region_plan.specs.Regions.{clusters_with, covered_plan, mean_plan, plan_of, threshold_of}
+use Rattle.region_plan.specs.declared.covering.Covering.{Covering}
 use Rattle.region_plan.specs.Measures.{degree_of}
 use Rattle.net_graph.specs.Network.{Network, IsNetwork}
 
@@ -73,7 +76,24 @@ abbrev pub PlansHaveFewReaders : Type 0
 PlansHaveFewReaders = (network : Network) (k : ℕ) → IsNetwork network → 1 ≤ k
     → HasFewReaders (plan_of network k)
 
--- and they bound their finds
+-- the clusters of a plan are small in the sum: the sum t of the sizes of a level's clusters has t ^ k
+-- ≤ n ^ (k + 1)
+abbrev pub HasSmallSum : PlanData → Type 0
+HasSmallSum plan = (i : ℕ) → i < levels_of plan
+    → sum_by (λ (c : PlanCluster). length c.members) (level_at plan i).clusters ^ plan.k
+    ≤ nodes_of plan ^ (plan.k + 1)
+
+-- the plans of networks over mean covers are such plans
+abbrev pub MeanPlansHaveSmallSums : Type 0
+MeanPlansHaveSmallSums = (network : Network) (k : ℕ) → IsNetwork network → 1 ≤ k
+    → HasSmallSum (mean_plan network k)
+
+-- the plans of networks over every covering bound their finds
+abbrev pub CoveredPlansBoundFinds : Type 0
+CoveredPlansBoundFinds = (covering : Covering) (network : Network) → IsNetwork network
+    → 1 ≤ trade_off_of covering → BoundsFinds (covered_plan covering network)
+
+-- and so do the plans of networks
 abbrev pub PlansBoundFinds : Type 0
 PlansBoundFinds = (network : Network) (k : ℕ) → IsNetwork network → 1 ≤ k
     → BoundsFinds (plan_of network k)

@@ -1,19 +1,23 @@
--- The plan of a network, level by level: level i coarsens the balls of radius 2^i, and each cluster
--- has the least weights inside it from its leader.
--- Key laws: `Plan::build` gives the plan of its network and k; in words of walks, `plan_means` says
--- what this plan is, and `plan_is_bounding` what bounds the finds over it.
-use Rattle.std.specs.Prelude.{ℕ, zero, suc, ◌+◌, ◌-◌, ◌*◌, ◌^◌, List, length, map, nat_le}
+-- The plan of a network over a covering, level by level: level i covers the balls of radius 2^i,
+-- and each cluster has the least weights inside it from its leader.
+-- Key laws: `Plan::build` gives the plan of its network and k, `Plan::build_mean` the one over mean
+-- covers; in words of walks, `covered_plan_means` says what these plans are, and
+-- `covered_plan_is_bounding` what bounds the finds over them.
+use Rattle.std.specs.Prelude.{ℕ, zero, suc, ◌+◌, ◌^◌, List, length, map, nat_le}
 use Rattle.net_graph.specs.LeastWeights.{least_weight}
 use Rattle.net_graph.specs.Network.{Network}
 use Rattle.node_set.specs.Ascending.{has, sift}
 use Rattle.node_set.specs.Balls.{GrownCluster, centres, home_of, least}
 use Rattle.distances.specs.Table.{DistanceTable, ball_of, table_of}
-use Rattle.coarse_cover.specs.Coarsening.{coarsening, all_clusters}
+use Rattle.coarse_cover.specs.Coarsening.{all_clusters}
 use Rattle.coarse_cover.specs.Covers.{cluster_list}
 use Rattle.coarse_cover.specs.declared.cover.Cluster.{Cluster}
 use Rattle.cluster_tree.specs.Tree.{within}
+use Rattle.region_plan.specs.Coverings.{covering_of, reach_of, trade_off_of}
 use Rattle.region_plan.specs.Measures.{most}
 use Rattle.region_plan.specs.Plan.{PlanCluster, Level, PlanData, cluster_in}
+use Rattle.region_plan.specs.declared.covering.Covering.{Covering}
+use Rattle.region_plan.specs.declared.covering.Covering.TheVariants.{Phased, Mean}
 
 -- the threshold of a level
 abbrev pub threshold_of : ℕ → ℕ
@@ -24,9 +28,9 @@ threshold_of (suc i) = 2 ^ i
 abbrev pub balls_of : DistanceTable → ℕ → List (List ℕ)
 balls_of table i = map (λ v. ball_of table v (2 ^ i)) (centres table.nodes)
 
--- the coarsening of a level, phase by phase
-abbrev pub regions_of : DistanceTable → ℕ → ℕ → List (List GrownCluster)
-regions_of table k i = coarsening (balls_of table i) k
+-- the clusters of a level, phase by phase
+abbrev pub regions_of : DistanceTable → Covering → ℕ → List (List GrownCluster)
+regions_of table covering i = covering_of covering (balls_of table i)
 
 -- the ascending numbers of the clusters that contain v
 abbrev pub clusters_with : List PlanCluster → ℕ → List ℕ
@@ -52,7 +56,7 @@ weighed network made =
       depth = most (weights_in network made);
     }
 
--- a level with these clusters, from these phases of the coarsening
+-- a level with these clusters, from these phases of the covering
 abbrev pub level_with_clusters : ℕ → ℕ → List (List GrownCluster) → List PlanCluster → Level
 level_with_clusters n i regions clusters =
     record {
@@ -65,25 +69,33 @@ level_with_clusters n i regions clusters =
     }
 
 -- level i
-abbrev pub level_for : Network → DistanceTable → ℕ → ℕ → Level
-level_for network table k i =
-    level_with_clusters table.nodes i (regions_of table k i)
-    (map (weighed network) (cluster_list table.nodes 0 (regions_of table k i)))
+abbrev pub level_for : Network → DistanceTable → Covering → ℕ → Level
+level_for network table covering i =
+    level_with_clusters table.nodes i (regions_of table covering i)
+    (map (weighed network) (cluster_list table.nodes 0 (regions_of table covering i)))
 
 -- the top level: the least whose power of two reaches a diameter
 abbrev pub top_for : ℕ → ℕ
 top_for diameter = least (λ i. nat_le diameter (2 ^ i)) diameter
 
--- the plan with the trade-off k, over the network's distances
-abbrev pub plan_over : Network → DistanceTable → ℕ → PlanData
-plan_over network table k =
+-- the plan over this covering, of a network with these distances
+abbrev pub plan_over : Network → DistanceTable → Covering → PlanData
+plan_over network table covering =
     record {
-      k = k;
-      reach = 2 * k - 1;
+      k = trade_off_of covering;
+      reach = reach_of covering;
       distances = table;
-      levels = map (level_for network table k) (centres (top_for (most table.cells) + 1));
+      levels = map (level_for network table covering) (centres (top_for (most table.cells) + 1));
     }
 
+-- the plan of a network over this covering
+unfoldable pub covered_plan : Covering → Network → PlanData
+covered_plan covering network = plan_over network (table_of network) covering
+
 -- the plan of a network with the trade-off k
-unfoldable pub plan_of : Network → ℕ → PlanData
-plan_of network k = plan_over network (table_of network) k
+abbrev pub plan_of : Network → ℕ → PlanData
+plan_of network k = covered_plan (Phased k) network
+
+-- its plan over mean covers
+abbrev pub mean_plan : Network → ℕ → PlanData
+mean_plan network k = covered_plan (Mean k) network

@@ -3,7 +3,8 @@
 ghost use Rattle.std.specs.Prelude.{◌≡◌, ◌+◌, ◌≤◌, ◌^◌, All, IfOk, OnOk, length};
 ghost use Rattle.net_graph.specs.Network.{IsNetwork};
 ghost use Rattle.distances.specs.Table.{AreDistancesOf, IsMetric};
-ghost use Rattle.coarse_cover.specs.Workspaces.{IsWorkspace};
+ghost use Rattle.node_set.specs.Workspaces.{IsWorkspace};
+ghost use Rattle.region_plan.specs.Coverings.{trade_off_of};
 ghost use Rattle.region_plan.specs.Regions.{threshold_of};
 ghost use Rattle.region_plan.specs.Meanings.{IsLevelOf};
 ghost use Rattle.region_plan.specs.Kept.{AreLevelsOf, IsSized, level_of};
@@ -12,23 +13,24 @@ ghost use Rattle.node_set.specs.Nodes.{Nodes};
 
 use crate::balls::fill_balls;
 use crate::clusters::Clusters;
+use crate::covering::{Covering, covering_shape};
 use crate::level::LevelTable;
 use crate::sharing::Levels;
 use crate::spread::Spread;
-use coarse_cover::{Cover, Workspace, cluster_shape, coarsen_by_rows};
+use coarse_cover::Cover;
 use distances::Distances;
 use net_graph::{Graph, OutOfMemory};
-use node_set::NodeSet;
+use node_set::{NodeSet, Workspace};
 use std::alloc::Global;
 
-// What level `i` of the plan with the trade-off `k` shares. The sets, one for each node, and the
+// What level `i` of the plan over the covering shares. The sets, one for each node, and the
 // workspace are written over.
 fn build_table(
     alloc: Global,
     graph: &Graph,
     distances: &Distances,
     spread: &Spread,
-    k: u32,
+    covering: Covering,
     i: u32,
     sets: &mut [NodeSet],
     work: &mut Workspace,
@@ -36,8 +38,8 @@ fn build_table(
     requires belongs { AreDistancesOf graph.now distances.now }
     requires metric { IsMetric distances.now }
     requires network { IsNetwork graph.now }
-    requires low { 1 ≤ k }
-    requires high { k ≤ 8 }
+    requires low { 1 ≤ trade_off_of covering }
+    requires high { trade_off_of covering ≤ 8 }
     requires few { i ≤ 30 }
     requires spread { IsSpreadOf distances.now spread.now }
     requires count { length sets.old ≡ distances.now.nodes }
@@ -46,7 +48,7 @@ fn build_table(
     ensures work { OnOk result (IsWorkspace distances.now.nodes work.new) }
     ensures rooms { OnOk result (All (λ (s : Nodes). s.room ≡ distances.now.nodes) sets.new) }
     ensures level { IfOk result (λ table.
-        IsLevelOf graph.now distances.now k i (level_of i (threshold_of i) table)) }
+        IsLevelOf graph.now distances.now covering i (level_of i (threshold_of i) table)) }
     ensures sized { IfOk result (λ table.
         IsSized distances.now.nodes (level_of i (threshold_of i) table)) }
 {
@@ -56,8 +58,8 @@ fn build_table(
         clusters: made,
         home,
         phases,
-    } = coarsen_by_rows(alloc, sets, sets, k, work)?;
-    cluster_shape();
+    } = covering.cover(alloc, sets, work)?;
+    covering_shape();
     let clusters = Clusters::of_cover(alloc, graph, distances, made, work)?;
     Ok(LevelTable::new(alloc, phases, clusters, home, sets)?)
 }
@@ -70,7 +72,7 @@ pub fn push_level(
     graph: &Graph,
     distances: &Distances,
     spread: &Spread,
-    k: u32,
+    covering: Covering,
     i: u32,
     sets: &mut [NodeSet],
     work: &mut Workspace,
@@ -79,22 +81,22 @@ pub fn push_level(
     requires belongs { AreDistancesOf graph.now distances.now }
     requires metric { IsMetric distances.now }
     requires network { IsNetwork graph.now }
-    requires low { 1 ≤ k }
-    requires high { k ≤ 8 }
+    requires low { 1 ≤ trade_off_of covering }
+    requires high { trade_off_of covering ≤ 8 }
     requires few { i ≤ 30 }
     requires spread { IsSpreadOf distances.now spread.now }
     requires count { length sets.old ≡ distances.now.nodes }
     requires rooms { All (λ (s : Nodes). s.room ≡ distances.now.nodes) sets.old }
     requires work { IsWorkspace distances.now.nodes work.old }
-    requires below { AreLevelsOf graph.now distances.now k i levels.old }
+    requires below { AreLevelsOf graph.now distances.now covering i levels.old }
     ensures rooms { OnOk result (All (λ (s : Nodes). s.room ≡ distances.now.nodes) sets.new) }
     ensures work { OnOk result (IsWorkspace distances.now.nodes work.new) }
-    ensures levels { OnOk result (AreLevelsOf graph.now distances.now k (i + 1) levels.new) }
+    ensures levels { OnOk result (AreLevelsOf graph.now distances.now covering (i + 1) levels.new) }
 {
     if i > 0 && !spread.in_use[i as usize] {
         Ok(levels.push_shared(i, threshold_for(i))?)
     } else {
-        let table = build_table(alloc, graph, distances, spread, k, i, sets, work)?;
+        let table = build_table(alloc, graph, distances, spread, covering, i, sets, work)?;
         Ok(levels.push_table(i, threshold_for(i), table)?)
     }
 }

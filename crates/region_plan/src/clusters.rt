@@ -4,7 +4,7 @@ ghost use Rattle.std.specs.Prelude.{◌≡◌, ◌<◌, ◌≤◌, ◌^◌, All,
 ghost use Rattle.node_set.specs.Ascending.{IsAscending, has};
 ghost use Rattle.net_graph.specs.Trees.{AreDistancesFrom};
 ghost use Rattle.cluster_tree.specs.Inside.{AreWeightsWritten};
-ghost use Rattle.coarse_cover.specs.Workspaces.{IsWorkspace};
+ghost use Rattle.node_set.specs.Workspaces.{IsWorkspace};
 ghost use Rattle.distances.specs.Table.{AreDistancesOf};
 ghost use Rattle.region_plan.specs.Kept.{IsSpanned};
 ghost use Rattle.region_plan.specs.Laid.{AreLaid, IsPushed};
@@ -15,10 +15,10 @@ ghost use Rattle.region_plan.specs.Flat.{IsWholeAlone};
 
 use crate::readers::push_members;
 use cluster_tree::{TreeFault, inside_weights};
-use coarse_cover::{Cluster, Workspace};
+use coarse_cover::Cluster;
 use distances::Distances;
 use net_graph::{Graph, OutOfMemory, greatest_weight};
-use node_set::NodeSet;
+use node_set::{NodeSet, Workspace};
 use std::alloc::{AllocError, Global};
 use std::marker::Model;
 

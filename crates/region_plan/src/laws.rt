@@ -6,38 +6,66 @@ ghost use Rattle.distances.specs.Table.{IsMetric};
 ghost use Rattle.region_plan.specs.Plan.{PlanData, nodes_of, levels_of, readers_in, distance, home};
 ghost use Rattle.region_plan.specs.Plan.{readers, leader, inside};
 ghost use Rattle.region_plan.specs.Meanings.{PlansMean, PlansOfSameWalks};
+ghost use Rattle.region_plan.specs.Meanings.{CoveredPlansMean, CoveredPlansOfSameWalks};
 ghost use Rattle.region_plan.specs.Flat.{IsFlat};
-ghost use Rattle.region_plan.specs.Regions.{plan_of};
+ghost use Rattle.region_plan.specs.Regions.{mean_plan, plan_of};
 ghost use Rattle.region_plan.specs.Matched.{IsMatched, IsWithinReach, PlansBoundFinds, BoundsFinds};
+ghost use Rattle.region_plan.specs.Matched.{CoveredPlansBoundFinds, MeanPlansHaveSmallSums};
 ghost use Rattle.region_plan.specs.Matched.{PlansHaveFewReaders};
-ghost use Rattle.region_plan.specs.Measures.{degree_of};
+ghost use Rattle.region_plan.specs.Measures.{degree_of, stretch_of};
 ghost use Rattle.region_plan.specs.Settings.{setting_of};
 ghost use Rattle.directory.specs.Finds.{most_looks};
 ghost use Rattle.directory.specs.Writes.{most_writes};
-ghost use Rattle.region_plan.specs.Examples.{line_network, line_of_four};
+ghost use Rattle.region_plan.specs.Examples.{line_network, line_of_four, mean_line_of_four};
 
-use coarse_cover::{cluster_shape, covers_are_sparse, home_means};
+use crate::covering::{covering_home_means, covering_shape};
+use coarse_cover::covers_are_sparse;
 use distances::{distances_are_one, networks_have_distances};
+use mean_cover::mean_covers_are_small;
 use net_graph::{least_weight_is_found, least_weight_is_one};
 
-/// What the plan of a network is in words of walks: its distances and the weights inside its
-/// clusters are those of least walks, and its clusters are those of the coarsening.
-pub fn plan_means()
-    ensures { PlansMean }
+/// What the plan of a network over a covering is in words of walks: its distances and the weights
+/// inside its clusters are those of least walks, and its clusters are those of the covering.
+pub fn covered_plan_means()
+    ensures { CoveredPlansMean }
 {
     least_weight_is_found();
     networks_have_distances();
-    cluster_shape();
+    covering_shape();
 }
 
-/// The plan of a network is matched, and has what bounds the weight of finds.
+/// The same of the plan of a network.
+pub fn plan_means()
+    ensures { PlansMean }
+{
+    covered_plan_means();
+}
+
+/// The plan of a network over a covering is matched, and has what bounds the weight of finds.
+pub fn covered_plan_is_bounding()
+    ensures { CoveredPlansBoundFinds }
+{
+    networks_have_distances();
+    covering_shape();
+    covering_home_means();
+    covered_plan_means();
+}
+
+/// The same of the plan of a network.
 pub fn plan_is_bounding()
     ensures { PlansBoundFinds }
 {
+    covered_plan_is_bounding();
+}
+
+/// The plan of a network over mean covers has clusters that are small in the sum: at each level the
+/// sum of their sizes to the power `k` is at most the number of nodes to the power `k + 1`.
+pub fn mean_plan_is_small()
+    ensures { MeanPlansHaveSmallSums }
+{
     networks_have_distances();
-    cluster_shape();
-    home_means();
-    plan_means();
+    mean_covers_are_small();
+    covered_plan_means();
 }
 
 /// The plan of a network has few clusters at a node: the degree to the power `k` is at most `k` to
@@ -50,13 +78,20 @@ pub fn plan_is_sparse()
     plan_means();
 }
 
-/// Networks over which the least walks weigh the same have one plan.
-pub fn plan_of_same_walks()
-    ensures { PlansOfSameWalks }
+/// Networks over which the least walks weigh the same have one plan over each covering.
+pub fn covered_plan_of_same_walks()
+    ensures { CoveredPlansOfSameWalks }
 {
     distances_are_one();
     least_weight_is_one();
-    plan_means();
+    covered_plan_means();
+}
+
+/// And so one plan.
+pub fn plan_of_same_walks()
+    ensures { PlansOfSameWalks }
+{
+    covered_plan_of_same_walks();
 }
 
 /// A network has one flat plan.
@@ -103,4 +138,13 @@ pub fn line_has_its_plan()
     ensures bounding { BoundsFinds line_of_four }
 {
     plan_is_bounding();
+}
+
+/// The same of its plan over mean covers, whose stretch is 232.
+pub fn line_has_its_mean_plan()
+    ensures plan { mean_plan line_network 2 ≡ mean_line_of_four }
+    ensures stretch { stretch_of mean_line_of_four ≡ 232 }
+    ensures bounding { BoundsFinds mean_line_of_four }
+{
+    covered_plan_is_bounding();
 }

@@ -1,7 +1,8 @@
 //! Plans: for each power of two a cover of a network, with a home and readers for each node.
 //!
 //! [`Plan::build`] makes the plan of a network and a trade-off `k`, from the graph and its
-//! distances; [`Plan::flat`] makes one of a single level. Nodes, levels and clusters are numbered
+//! distances; [`Plan::build_mean`] makes one over covers that are small in the sum, and
+//! [`Plan::build_by`] either; [`Plan::flat`] makes one of a single level. Nodes, levels and clusters are numbered
 //! from 0. Weights, distances, radii and thresholds have the unit of the network's edges; level `i`
 //! has the radius 2^exponent, and the exponent of a level of `build` is `i`. Accessors ask for
 //! numbers that there are.
@@ -15,6 +16,7 @@
 mod balls;
 mod building;
 mod clusters;
+mod covering;
 mod flat;
 mod laws;
 mod level;
@@ -23,9 +25,11 @@ mod readers;
 mod sharing;
 mod spread;
 
+pub use covering::Covering;
 pub use laws::{
-    degree_bounds, flat_is_one, flat_means, line_has_its_plan, plan_counts, plan_is_bounding,
-    plan_is_sparse, plan_means, plan_of_same_walks,
+    covered_plan_is_bounding, covered_plan_means, covered_plan_of_same_walks, degree_bounds,
+    flat_is_one, flat_means, line_has_its_mean_plan, line_has_its_plan, mean_plan_is_small,
+    plan_counts, plan_is_bounding, plan_is_sparse, plan_means, plan_of_same_walks,
 };
 pub use net_graph::OutOfMemory;
 pub use plan::Plan;

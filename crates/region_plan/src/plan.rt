@@ -8,9 +8,11 @@ ghost use Rattle.region_plan.specs.Plan.{level_at, levels_of, nodes_of, clusters
 ghost use Rattle.region_plan.specs.Plan.{Repeats, members_of, inside};
 ghost use Rattle.region_plan.specs.Plan.{home as home_in, readers as readers_at};
 ghost use Rattle.region_plan.specs.Plan.{leader as leader_in, threshold as threshold_at};
-ghost use Rattle.region_plan.specs.Regions.{plan_of};
+ghost use Rattle.region_plan.specs.Coverings.{trade_off_of};
+ghost use Rattle.region_plan.specs.Regions.{covered_plan, mean_plan, plan_of};
 ghost use Rattle.region_plan.specs.Flat.{IsFlat};
 ghost use Rattle.region_plan.specs.Matched.{IsMatched, IsWithinReach, BoundsFinds, HasFewReaders};
+ghost use Rattle.region_plan.specs.Matched.{HasSmallSum};
 ghost use Rattle.region_plan.specs.Measures.{degree_of, stretch_of};
 ghost use Rattle.region_plan.specs.Settings.{setting_of};
 ghost use Rattle.directory.specs.Finds.{most_looks};
@@ -19,14 +21,15 @@ ghost use Rattle.region_plan.specs.Kept.{IsKept};
 
 use crate::balls::top_for;
 use crate::building::push_level;
+use crate::covering::{Covering, covering_home_means, covering_shape};
 use crate::flat::flat_levels;
-use crate::laws::{plan_is_sparse, plan_means};
+use crate::laws::{covered_plan_means, mean_plan_is_small, plan_is_sparse};
 use crate::readers::empty_sets;
 use crate::sharing::Levels;
 use crate::spread::Spread;
-use coarse_cover::{Workspace, cluster_shape, home_means};
 use distances::{Distances, distances_are_one};
 use net_graph::{Graph, OutOfMemory, least_weight_is_one};
+use node_set::Workspace;
 use std::alloc::Global;
 use std::marker::Model;
 
@@ -34,8 +37,8 @@ use std::marker::Model;
 /// reads.
 ///
 /// A number that names a node is below `nodes`, one that names a level below `levels`, and one that
-/// names a cluster below the clusters of its level. All calls but `flat` and `build` take no
-/// memory.
+/// names a cluster below the clusters of its level. All calls but those that make a
+/// plan take no memory.
 ///
 /// ```text
 /// let graph = Graph::new(alloc, 4, &edges)?;
@@ -130,13 +133,56 @@ impl Plan {
     {
         // The calls tell the proof that the network is connected and within the limits, and what
         // covers keep.
+        let _nodes = graph.nodes();
+        plan_is_sparse();
+        Ok(Plan::build_by(alloc, graph, distances, Covering::Phased(k))?)
+    }
+
+    /// The plan of the network over mean covers, with the trade-off `k`: the sizes of a level's
+    /// clusters are small in the sum, and a node can be in many of them. Level `i` covers the balls
+    /// of radius 2^`i` in one phase.
+    pub fn build_mean(
+        alloc: Global,
+        graph: &Graph,
+        distances: &Distances,
+        k: u32,
+    ) -> Result<Plan, OutOfMemory>
+        requires belongs { AreDistancesOf graph.now distances.now }
+        requires low { 1 ≤ k }
+        requires high { k ≤ 8 }
+        ensures plan { IfOk result (λ plan. plan ≡ mean_plan graph.now k) }
+        ensures copy { IfOk result (λ plan. plan.distances ≡ distances.now) }
+        ensures bounding { IfOk result BoundsFinds }
+        ensures small_sum { IfOk result HasSmallSum }
+    {
+        // The calls tell the proof the same.
+        let _nodes = graph.nodes();
+        mean_plan_is_small();
+        Ok(Plan::build_by(alloc, graph, distances, Covering::Mean(k))?)
+    }
+
+    /// The plan of the network over either covering, as `build` and `build_mean` make it.
+    pub fn build_by(
+        alloc: Global,
+        graph: &Graph,
+        distances: &Distances,
+        covering: Covering,
+    ) -> Result<Plan, OutOfMemory>
+        requires belongs { AreDistancesOf graph.now distances.now }
+        requires low { 1 ≤ trade_off_of covering }
+        requires high { trade_off_of covering ≤ 8 }
+        ensures plan { IfOk result (λ plan. plan ≡ covered_plan covering graph.now) }
+        ensures copy { IfOk result (λ plan. plan.distances ≡ distances.now) }
+        ensures bounding { IfOk result BoundsFinds }
+    {
+        // The calls tell the proof that the network is connected and within the limits, and what
+        // covers keep.
         let nodes = graph.nodes();
-        cluster_shape();
-        home_means();
+        covering_shape();
+        covering_home_means();
         distances_are_one();
         least_weight_is_one();
-        plan_means();
-        plan_is_sparse();
+        covered_plan_means();
         let top = top_for(distances);
         let mut levels = Levels::with_capacity(alloc, top as usize + 1)?;
         let spread = Spread::new(alloc, distances)?;
@@ -148,14 +194,15 @@ impl Plan {
                 graph,
                 distances,
                 &spread,
-                k,
+                covering,
                 i,
                 &mut sets,
                 &mut work,
                 &mut levels,
             )?;
         }
-        Ok(Plan::of_levels(k, 2 * k - 1, distances.copy()?, levels))
+        let copy = distances.copy()?;
+        Ok(Plan::of_levels(covering.trade_off(), covering.reach(), copy, levels))
     }
 
     /// How many nodes there are.

@@ -20,16 +20,27 @@ const PLAN: &str = "plan nodes 4 k 2 levels 3 degree 2 stretch 144\n\
         level 2 radius 4 clusters 1 phases 1\n\
         cluster 0 phase 0 leader 0 depth 3 members 0 1 2 3\nhomes 0 0 0 0\nend\n";
 
+const MEAN_PLAN: &str = "plan nodes 4 k 2 levels 3 degree 2 stretch 232\n\
+        level 0 radius 1 clusters 2 phases 1\n\
+        cluster 0 phase 0 leader 0 depth 3 members 0 1 2 3\n\
+        cluster 1 phase 0 leader 3 depth 1 members 2 3\nhomes 0 0 0 1\n\
+        level 1 radius 2 clusters 1 phases 1\n\
+        cluster 0 phase 0 leader 0 depth 3 members 0 1 2 3\nhomes 0 0 0 0\n\
+        level 2 radius 4 clusters 1 phases 1\n\
+        cluster 0 phase 0 leader 0 depth 3 members 0 1 2 3\nhomes 0 0 0 0\nend\n";
+
 const CENSUS: &str = "node 2 count 1 subs 0\nend 1\n";
 
 const COSTS: &str = "cost 0 moves 1 moved 1 written 12 purged 0\nend\n";
 
 // What each word writes for the line of four nodes with these calls.
-const TEXTS: [(&str, &str); 4] = [
+const TEXTS: [(&str, &str); 6] = [
     ("replay", REPORT),
     ("cover", PLAN),
     ("census", CENSUS),
     ("costs", COSTS),
+    ("meancover", MEAN_PLAN),
+    ("meanreplay", REPORT),
 ];
 
 // A run over an input at so many bytes a call, some of whose calls fail.

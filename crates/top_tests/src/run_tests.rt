@@ -41,6 +41,49 @@ fn worked_plans(rt: HostRuntime) -> Result<(), Fail> {
     play(&rt, rt.alloc(), &["cover"], &[1, 7, 64], &rows)
 }
 
+// The plan of two nodes over mean covers: one cluster, where phases made two.
+const TWO_NODES_MEAN: &str =
+    "plan nodes 2 k 1 levels 1 degree 1 stretch 96\nlevel 0 radius 1 clusters 1 phases 1\n\
+        cluster 0 phase 0 leader 0 depth 1 members 0 1\nhomes 0 0\nend\n";
+
+const ONE_NODE_MEAN: &str = "plan nodes 1 k 1 levels 1 degree 1 stretch 96\n\
+        level 0 radius 1 clusters 1 phases 1\n\
+        cluster 0 phase 0 leader 0 depth 0 members 0\nhomes 0\nend\n";
+
+const FOUR_MEAN: &str = "plan nodes 4 k 2 levels 3 degree 2 stretch 232\n\
+        level 0 radius 1 clusters 2 phases 1\n\
+        cluster 0 phase 0 leader 0 depth 3 members 0 1 2 3\n\
+        cluster 1 phase 0 leader 3 depth 1 members 2 3\nhomes 0 0 0 1\n\
+        level 1 radius 2 clusters 1 phases 1\n\
+        cluster 0 phase 0 leader 0 depth 3 members 0 1 2 3\nhomes 0 0 0 0\n\
+        level 2 radius 4 clusters 1 phases 1\n\
+        cluster 0 phase 0 leader 0 depth 3 members 0 1 2 3\nhomes 0 0 0 0\nend\n";
+
+#[test]
+fn worked_mean_plans(rt: HostRuntime) -> Result<(), Fail> {
+    let rows: [Row<'_>; 4] = [
+        (Lines(FOUR, "", b"", 0), 0, FOUR_MEAN),
+        (Lines(TWO_NODES, "", b"", 0), 0, TWO_NODES_MEAN),
+        (Lines(ONE_NODE, "", b"", 0), 0, ONE_NODE_MEAN),
+        (Lines(APART, "", b"", 0), 1, "refused 6 apart 2\n"),
+    ];
+    play(&rt, rt.alloc(), &["meancover"], &[1, 7, 64], &rows)
+}
+
+// Over mean covers a find on two nodes has one reader, where over phases it asks an empty one first.
+#[test]
+fn worked_mean_reports(rt: HostRuntime) -> Result<(), Fail> {
+    let far = "find 1 0 0 at 3 number 0 level 1 weight 3 first 0 last 3\norder 1 1 1 1\nend 4\n";
+    let head = "track 1\nnodes 2\nk 1\nedge 0 1 1\nsub 1\ncallers 1\n";
+    let two = "find 1 0 0 at 1 number 0 level 0 weight 1 first 0 last 2\norder 1 1 1\nend 3\n";
+    let rows: [Row<'_>; 3] = [
+        (Lines(FOUR, "", b"find 1 0 0\n", 1), 0, far),
+        (Lines(head, "", b"find 1 0 0\n", 1), 0, two),
+        (Lines("", "", b"", 0), 1, "refused 0 unfinished\n"),
+    ];
+    play(&rt, rt.alloc(), &["meanreplay"], &[1, 7, 64], &rows)
+}
+
 // An input may have 4,194,304 bytes and no more.
 #[test]
 fn longest_input(rt: HostRuntime) -> Result<(), Fail> {

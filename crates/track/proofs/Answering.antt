@@ -8,9 +8,11 @@ use Rattle.net_graph.specs.Walks.{IsReached, everywhere}
 use Rattle.net_reader.specs.Input.{Contents}
 use Rattle.net_reader.specs.Table.{most_nodes}
 use Rattle.net_reader.specs.Valid.{IsValid}
-use Rattle.region_plan.specs.Meanings.{PlansMean, PlansOfSameWalks}
+use Rattle.region_plan.specs.Coverings.{trade_off_of}
+use Rattle.region_plan.specs.Meanings.{CoveredPlansMean, CoveredPlansOfSameWalks, PlansMean, PlansOfSameWalks}
 use Rattle.region_plan.specs.Plan.{nodes_of}
-use Rattle.region_plan.specs.Regions.{plan_of}
+use Rattle.region_plan.specs.Regions.{covered_plan, plan_of}
+use Rattle.region_plan.specs.declared.covering.Covering.{Covering}
 use Rattle.track.specs.Results.{network_of, plan_for}
 
 -- ---- the plan of the input's network
@@ -45,6 +47,18 @@ pub plan_of_graph : PlansOfSameWalks → (contents : Contents) (network : Networ
 plan_of_graph same contents network valid graph =
     same network (network_of contents) contents.k graph.sound (network-valid contents valid) graph.nodes graph.same
     valid.k_some
+
+-- the same of the plan over any covering
+pub covered-nodes : CoveredPlansMean → (covering : Covering) (contents : Contents) → IsValid contents
+    → 1 ≤ trade_off_of covering → nodes_of (covered_plan covering (network_of contents)) ≡ contents.nodes
+covered-nodes means covering contents valid low =
+    (means covering (network_of contents) (network-valid contents valid) low).distances.nodes
+
+pub covered_of_graph : CoveredPlansOfSameWalks → (covering : Covering) (contents : Contents) (network : Network)
+    → IsValid contents → IsGraphOf contents.nodes contents.edges network → 1 ≤ trade_off_of covering
+    → covered_plan covering network ≡ covered_plan covering (network_of contents)
+covered_of_graph same covering contents network valid graph low =
+    same covering network (network_of contents) graph.sound (network-valid contents valid) graph.nodes graph.same low
 
 -- what follows from a result
 pub if_ok : {X E : Type 0} (r : Result X E) (P Q : X → Type 0) → ((x : X) → P x → Q x) → IfOk r P → IfOk r Q

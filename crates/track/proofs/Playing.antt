@@ -4,15 +4,15 @@ use Rattle.std.proofs.lemmas.List.{take_more}
 use Rattle.std.proofs.lemmas.List.Sums.{fold-append}
 use Rattle.directory.specs.Settings.{Setting}
 use Rattle.directory.specs.Orders.{Scripts, after_turn, after_turns, history_of}
-use Rattle.directory.specs.Outcomes.{Outcome, outcome_of}
+use Rattle.directory.specs.Outcomes.{outcome_of}
 use Rattle.net_reader.specs.declared.input.Input.{Input}
-use Rattle.net_reader.specs.Input.{Contents}
 use Rattle.net_reader.specs.Seen.{seen_input}
 use Rattle.region_plan.specs.Plan.{PlanData}
 use Rattle.region_plan.specs.Settings.{setting_of}
 use Rattle.machine.specs.declared.machine.Machine.{Machine}
 use Rattle.machine.specs.Machines.{IsSame, HasHistory, scripts_at, setting_at}
 use Rattle.scripts.specs.Scripts.{scripts_of}
+use Rattle.track.specs.Results.{outcome_over}
 
 -- a machine that keeps its input and its plan keeps its setting and its scripts
 of_same : (P : Setting → Scripts → Type 0) (old new : Machine) → IsSame old new
@@ -42,15 +42,10 @@ pub play-ended : (old new : Machine) (order : List ℕ) → IsSame old new
 play-ended old new order same goes =
     of_same (λ setting scripts. HasHistory new (history_of setting scripts order)) old new same goes
 
--- what becomes of an input's calls under its order, over any plan
-abbrev pub outcome_over : Contents → PlanData → Outcome
-outcome_over contents plan =
-    outcome_of (setting_of plan contents.homes) (scripts_of contents) contents.order
-
 -- what becomes of the calls, told by the input and the plan
 pub play-outcome : (machine : Machine) (input : Input) (plan : PlanData) → machine.input.now ≡ input
     → machine.plan.now ≡ plan
-    → outcome_of (setting_at machine) (scripts_at machine) input.order.items ≡ outcome_over (seen_input input) plan
+    → outcome_of (setting_at machine) (scripts_at machine) input.order.items ≡ outcome_over plan (seen_input input)
 play-outcome machine input plan same_input same_plan =
     ap (λ i. outcome_of (setting_of machine.plan.now (seen_input i).homes) (scripts_of (seen_input i))
     input.order.items)

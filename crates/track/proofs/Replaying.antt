@@ -1,4 +1,4 @@
--- The report of a valid input over its plan, under any order, says what is right, and within the
+-- The report of a valid input over a plan, under any order, says what is right, and within the
 -- bound.
 use Rattle.std.proofs.Common.{◌≡◌, ℕ, ◌≤◌, ◌^◌, Bool, true, false, ◌<◌, List, length, Option, Some, None, refl, sym, ap, ◌∙◌, arith}
 use Rattle.std.specs.Prelude.{◌==◌, ◌&&◌, not, if◌then◌else◌, slice_index, slice_index_or}
@@ -10,7 +10,7 @@ use Rattle.region_plan.specs.Meanings.{PlansMean}
 use Rattle.net_reader.specs.Input.{Contents}
 use Rattle.net_reader.specs.Valid.{IsValid}
 use Rattle.region_plan.specs.Matched.{BoundsFinds}
-use Rattle.region_plan.specs.Plan.{nodes_of}
+use Rattle.region_plan.specs.Plan.{PlanData, nodes_of}
 use Rattle.directory.specs.Orders.{AreValid, steps_of}
 use Rattle.trail_laws.specs.Censuses.{CensusesEndByScripts, CensusesEndRight, Place, is_on_at, place_at_end, who_ends_at}
 use Rattle.trail_laws.specs.Lines.{NumbersRise, OutcomesAreRight}
@@ -20,28 +20,28 @@ use Rattle.scripts.specs.Scripts.{scripts_of}
 use Rattle.census_text.specs.CensusText.{census_text_of, is_place, who_at}
 use Rattle.census_text.specs.TextLaws.{texts-same}
 use Rattle.report_text.specs.ReportText.{report_of}
-use Rattle.track.specs.Results.{IsCensusText, IsReport, history_for, in_order, outcome_for, plan_for, setting_for}
+use Rattle.track.specs.Results.{IsCensusText, IsReportOver, history_for, in_order, outcome_over, plan_for, setting_for}
+use Rattle.track.specs.Results.{setting_over}
 use Rattle.track.proofs.Answering.{plan-nodes}
 use Rattle.scripts.specs.Laws.{ScriptsAreValid}
 use Rattle.scripts.specs.ScriptLaws.{few-nodes}
 use Rattle.stretch_laws.specs.Plans.{PlansTrack}
 
-pub report-says : (contents : Contents) (order : List ℕ)
-    → TellInTurn (outcome_for (in_order contents order)).calls
+pub report-says : (plan : PlanData) (contents : Contents) (order : List ℕ)
+    → TellInTurn (outcome_over plan (in_order contents order)).calls
     → OutcomesAreRight → NumbersRise → PlansTrack → PlanOutcomesAreNear → ScriptsAreValid
-    → (text : List ℕ) → IsValid contents → nodes_of (plan_for contents) ≡ contents.nodes
-    → BoundsFinds (plan_for contents) → text ≡ report_of (outcome_for (in_order contents order))
-    → IsReport (in_order contents order) text
-report-says contents order turn right rise track near scripts text valid nodes bounds text_is =
-    let plan = plan_for contents in
+    → (text : List ℕ) → IsValid contents → nodes_of plan ≡ contents.nodes
+    → BoundsFinds plan → text ≡ report_of (outcome_over plan (in_order contents order))
+    → IsReportOver plan (in_order contents order) text
+report-says plan contents order turn right rise track near scripts text valid nodes bounds text_is =
     let few : nodes_of plan ≤ 2 ^ 16 = omega (arith, nodes, few-nodes contents valid) in
-    let valid_scripts = scripts contents (setting_for contents) valid (record { nodes = nodes; starts = refl }) in
+    let valid_scripts = scripts contents (setting_over plan contents) valid (record { nodes = nodes; starts = refl }) in
     record {
       text_is = text_is;
-      right = right (setting_for contents) (scripts_of contents) order few
+      right = right (setting_over plan contents) (scripts_of contents) order few
           (track plan contents.homes bounds).whole valid_scripts;
       in_turn = turn;
-      rising = rise (setting_for contents) (scripts_of contents) order few valid_scripts;
+      rising = rise (setting_over plan contents) (scripts_of contents) order few valid_scripts;
       near = near plan contents.homes (scripts_of contents) order few bounds valid_scripts;
     }
 

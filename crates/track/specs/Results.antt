@@ -1,10 +1,11 @@
 -- The text that answers bytes, by the command: that of the plan of the input's network, the report
 -- of what becomes of its calls under its order, or under one that threads made, the census at their
--- end, what its moves cost, or the line that refuses the input. And the text of a command that reads nothing: a made
--- input, or the summary of its replay.
+-- end, what its moves cost, or the line that refuses the input; the plan and the report are there
+-- over mean covers too. And the text of a command that reads nothing: a made input, or the summary
+-- of its replay.
 -- Key laws: `bytes_have_one_text`, `runs_are_replayed` (a replay under the order that a run printed
 -- writes the same).
-use Rattle.std.specs.Prelude.{◌≡◌, ℕ, ◌-◌, ◌*◌, Bool, true, false, All, List, Option, Some, None, Result, Ok, Err, ◌<◌, length}
+use Rattle.std.specs.Prelude.{◌≡◌, ℕ, ◌+◌, ◌-◌, ◌*◌, Bool, true, false, All, List, Option, Some, None, Result, Ok, Err, ◌<◌, length}
 use Rattle.net_graph.specs.Network.{Network}
 use Rattle.net_reader.specs.declared.fault.InputFault.{InputFault}
 use Rattle.net_reader.specs.Input.{Contents, IsInput}
@@ -21,7 +22,8 @@ use Rattle.stretch_laws.specs.Plans.{bound_of}
 use Rattle.stretch_laws.specs.Lines.{IsLineWithin}
 use Rattle.trail_laws.specs.Lines.{TellInTurn, TellRisingNumbers}
 use Rattle.scripts.specs.Scripts.{scripts_of}
-use Rattle.region_plan.specs.Regions.{plan_of}
+use Rattle.region_plan.specs.Matched.{BoundsFinds, HasSmallSum}
+use Rattle.region_plan.specs.Regions.{mean_plan, plan_of}
 use Rattle.census_text.specs.CensusText.{census_text_of}
 use Rattle.make_load.specs.Load.{IsLoad, load_contents, load_text_of}
 use Rattle.report_text.specs.SummaryText.{summary_of}
@@ -44,35 +46,64 @@ network_of contents = record { nodes = contents.nodes; edges = contents.edges }
 abbrev pub plan_for : Contents → PlanData
 plan_for contents = plan_of (network_of contents) contents.k
 
--- the plan with the homes of an input's subscribers
+-- its plan over mean covers, with its k
+abbrev pub mean_plan_for : Contents → PlanData
+mean_plan_for contents = mean_plan (network_of contents) contents.k
+
+-- a plan with the homes of an input's subscribers
+abbrev pub setting_over : PlanData → Contents → Setting
+setting_over plan contents = setting_of plan contents.homes
+
+-- the history of an input's calls under its order, over a plan
+abbrev pub history_over : PlanData → Contents → History
+history_over plan contents =
+    history_of (setting_over plan contents) (scripts_of contents) contents.order
+
+-- what becomes of an input's calls under its order, over a plan
+abbrev pub outcome_over : PlanData → Contents → Outcome
+outcome_over plan contents =
+    outcome_of (setting_over plan contents) (scripts_of contents) contents.order
+
+-- the same over the plan of the input's network
 abbrev pub setting_for : Contents → Setting
-setting_for contents = setting_of (plan_for contents) contents.homes
+setting_for contents = setting_over (plan_for contents) contents
 
--- the history of an input's calls under its order
+-- its history
 abbrev pub history_for : Contents → History
-history_for contents = history_of (setting_for contents) (scripts_of contents) contents.order
+history_for contents = history_over (plan_for contents) contents
 
--- what becomes of an input's calls under its order
+-- and its outcome
 abbrev pub outcome_for : Contents → Outcome
-outcome_for contents = outcome_of (setting_for contents) (scripts_of contents) contents.order
+outcome_for contents = outcome_over (plan_for contents) contents
 
--- the text is the report of what becomes of an input's calls under its order, over the plan of its
--- network
-pub record IsReport (contents : Contents) (text : List ℕ) : Type 0 where
-  pub text_is : text ≡ report_of (outcome_for contents)
+-- the text is the report of what becomes of an input's calls under its order, over this plan
+pub record IsReportOver (plan : PlanData) (contents : Contents) (text : List ℕ) : Type 0 where
+  pub text_is : text ≡ report_of (outcome_over plan contents)
   -- an answer names where its subscriber stood at the find's last visit, and a find that is to be
   -- made again had a visit of a move of its subscriber within it
-  pub right : All (IsRightLine (setting_for contents) (history_for contents))
-      (outcome_for contents).calls
+  pub right : All (IsRightLine (setting_over plan contents) (history_over plan contents))
+      (outcome_over plan contents).calls
   -- of two answers about one subscriber, the one with the later last visit tells no lower number;
   -- and a caller's later finds have no earlier last visits, so that along its finds of a subscriber
   -- the numbers never fall
-  pub rising : TellRisingNumbers (outcome_for contents).calls
-  pub in_turn : TellInTurn (outcome_for contents).calls
+  pub rising : TellRisingNumbers (outcome_over plan contents).calls
+  pub in_turn : TellInTurn (outcome_over plan contents).calls
   -- a quiet find has its answer, and its weight is within the plan's bound: the stretch times the
   -- distance, and twice an open passage
-  pub near : All (IsLineWithin (bound_of (plan_for contents)) (setting_for contents)
-      (history_for contents)) (outcome_for contents).calls
+  pub near : All (IsLineWithin (bound_of plan) (setting_over plan contents)
+      (history_over plan contents)) (outcome_over plan contents).calls
+
+-- the text is the report over the plan of the input's network
+abbrev pub IsReport : Contents → List ℕ → Type 0
+IsReport contents text = IsReportOver (plan_for contents) contents text
+
+-- the text is that of the plan over mean covers: a matched plan whose clusters are within 2 k + 1
+-- radii of their leaders, and whose sizes at a level are small in the sum
+pub record IsMeanPlanText (contents : Contents) (text : List ℕ) : Type 0 where
+  pub text_is : text ≡ plan_text_of (mean_plan_for contents)
+  pub reach_is : (mean_plan_for contents).reach ≡ 2 * contents.k + 1
+  pub bounding : BoundsFinds (mean_plan_for contents)
+  pub small_sum : HasSmallSum (mean_plan_for contents)
 
 -- an input with this order in place of its own
 abbrev pub in_order : Contents → List ℕ → Contents
@@ -116,8 +147,8 @@ is_served threads Check = false
 is_served threads ToJson = false
 is_served threads FromJson = false
 is_served threads ReplayJson = false
-is_served threads MeanCover = false
-is_served threads MeanReplay = false
+is_served threads MeanCover = true
+is_served threads MeanReplay = true
 is_served threads Run = threads
 is_served threads (Make load) = true
 is_served threads (Trial load) = true
@@ -132,8 +163,8 @@ is_made_alike Check = false
 is_made_alike ToJson = false
 is_made_alike FromJson = false
 is_made_alike ReplayJson = false
-is_made_alike MeanCover = false
-is_made_alike MeanReplay = false
+is_made_alike MeanCover = true
+is_made_alike MeanReplay = true
 is_made_alike Run = false
 is_made_alike (Make load) = false
 is_made_alike (Trial load) = false
@@ -181,8 +212,8 @@ IsResult Check contents text = ⊥
 IsResult ToJson contents text = ⊥
 IsResult FromJson contents text = ⊥
 IsResult ReplayJson contents text = ⊥
-IsResult MeanCover contents text = ⊥
-IsResult MeanReplay contents text = ⊥
+IsResult MeanCover contents text = IsMeanPlanText contents text
+IsResult MeanReplay contents text = IsReportOver (mean_plan_for contents) contents text
 IsResult Run contents text = IsRunReport contents text
 IsResult (Make load) contents text = ⊥
 IsResult (Trial load) contents text = ⊥

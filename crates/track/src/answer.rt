@@ -9,7 +9,11 @@ ghost use Rattle.directory.specs.Outcomes.{result_of};
 ghost use Rattle.machine.specs.Machines.{IsSame, scripts_at, setting_at, HasHistory};
 ghost use Rattle.report_text.specs.ReportText.{report_of};
 ghost use Rattle.track.specs.Bodies.{text_of};
-ghost use Rattle.track.specs.Results.{IsReport, IsResult, IsText, is_made_alike, outcome_for, plan_for};
+ghost use Rattle.region_plan.specs.Coverings.{trade_off_of};
+ghost use Rattle.region_plan.specs.Regions.{covered_plan};
+ghost use Rattle.report_text.specs.PlanText.{plan_text_of};
+ghost use Rattle.track.specs.Results.{IsMeanPlanText, IsReportOver, IsResult, IsText};
+ghost use Rattle.track.specs.Results.{is_made_alike, network_of, outcome_over};
 
 use crate::census::census;
 use crate::cost::cost_text;
@@ -19,7 +23,10 @@ use distances::Distances;
 use machine::Machine;
 use net_graph::Graph;
 use net_reader::{Input, InputFault, ReadRefusal, Reader, inputs_are_valid};
-use region_plan::{Plan, plan_means, plan_of_same_walks};
+use region_plan::{
+    Covering, Plan, covered_plan_is_bounding, covered_plan_means, covered_plan_of_same_walks,
+    mean_plan_is_small,
+};
 use scripts::scripts_are_valid;
 use std::alloc::{AllocError, Global};
 use stretch_laws::{plan_outcomes_are_near, plans_track};
@@ -42,23 +49,51 @@ pub(crate) struct Answer {
     pub(crate) body: Body,
 }
 
-// The plan of an input's network.
-fn cover(alloc: Global, input: &Input, graph: &Graph) -> Result<Plan, AllocError>
+// The plan of an input's network over a covering.
+fn cover(
+    alloc: Global,
+    covering: Covering,
+    input: &Input,
+    graph: &Graph,
+) -> Result<Plan, AllocError>
     requires valid { IsValid (seen_input input.now) }
     requires graph { IsGraphOf input.now.nodes input.now.edges.items graph.now }
-    ensures { IfOk result (λ plan. plan ≡ plan_for (seen_input input.now)) }
+    requires trade_off { trade_off_of covering ≡ input.now.k }
+    ensures { IfOk result
+        (λ plan. plan ≡ covered_plan covering (network_of (seen_input input.now))) }
 {
-    plan_of_same_walks();
+    covered_plan_of_same_walks();
     let distances = Distances::new(alloc, graph)?;
-    Plan::build(alloc, graph, &distances, input.k)
+    Plan::build_by(alloc, graph, &distances, covering)
 }
 
-// What becomes of an input's calls under its order, over its plan.
-pub(crate) fn replay(alloc: Global, input: &Input, graph: &Graph) -> Result<Outcome, AllocError>
+// The plan of an input's network over mean covers.
+fn mean_cover(alloc: Global, input: &Input, graph: &Graph) -> Result<Plan, AllocError>
     requires valid { IsValid (seen_input input.now) }
     requires graph { IsGraphOf input.now.nodes input.now.edges.items graph.now }
-    ensures is { IfOk result (λ outcome. result_of outcome ≡ outcome_for (seen_input input.now)) }
-    ensures report { IfOk result (λ outcome. IsReport (seen_input input.now)
+    ensures { IfOk result (λ plan. IsMeanPlanText (seen_input input.now) (plan_text_of plan)) }
+{
+    covered_plan_means();
+    covered_plan_is_bounding();
+    mean_plan_is_small();
+    cover(alloc, Covering::Mean(input.k), input, graph)
+}
+
+// What becomes of an input's calls under its order, over its plan of a covering.
+pub(crate) fn replay(
+    alloc: Global,
+    covering: Covering,
+    input: &Input,
+    graph: &Graph,
+) -> Result<Outcome, AllocError>
+    requires valid { IsValid (seen_input input.now) }
+    requires graph { IsGraphOf input.now.nodes input.now.edges.items graph.now }
+    requires trade_off { trade_off_of covering ≡ input.now.k }
+    ensures is { IfOk result (λ outcome. result_of outcome
+        ≡ outcome_over (covered_plan covering (network_of (seen_input input.now)))
+        (seen_input input.now)) }
+    ensures report { IfOk result (λ outcome. IsReportOver
+        (covered_plan covering (network_of (seen_input input.now))) (seen_input input.now)
         (report_of (result_of outcome))) }
 {
     outcomes_are_right();
@@ -66,10 +101,10 @@ pub(crate) fn replay(alloc: Global, input: &Input, graph: &Graph) -> Result<Outc
     plan_outcomes_are_near();
     scripts_are_valid();
     all_scripts_done();
-    plan_means();
-    plan_of_same_walks();
+    covered_plan_means();
+    covered_plan_of_same_walks();
     let distances = Distances::new(alloc, graph)?;
-    let plan = Plan::build(alloc, graph, &distances, input.k)?;
+    let plan = Plan::build_by(alloc, graph, &distances, covering)?;
     let mut machine = Machine::new(alloc, input, &plan, &distances)?;
     play(&mut machine, &input.order);
     Ok(machine.outcome())
@@ -101,8 +136,19 @@ fn body_of(
     ensures { IfOk result (λ body. IsResult command (seen_input input.now) (text_of body)) }
 {
     match command {
-        Command::Cover => Ok(Body::Plan(cover(alloc, input, graph)?)),
-        Command::Replay => Ok(Body::Report(replay(alloc, input, graph)?)),
+        Command::Cover => {
+            let plan = cover(alloc, Covering::Phased(input.k), input, graph)?;
+            Ok(Body::Plan(plan))
+        }
+        Command::MeanCover => Ok(Body::Plan(mean_cover(alloc, input, graph)?)),
+        Command::Replay => {
+            let outcome = replay(alloc, Covering::Phased(input.k), input, graph)?;
+            Ok(Body::Report(outcome))
+        }
+        Command::MeanReplay => {
+            let outcome = replay(alloc, Covering::Mean(input.k), input, graph)?;
+            Ok(Body::Report(outcome))
+        }
         Command::Census => Ok(Body::Text(census(alloc, input)?)),
         Command::Costs => Ok(Body::Text(cost_text(alloc, input, graph)?)),
         _ => unreachable!(),

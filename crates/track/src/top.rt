@@ -109,18 +109,16 @@ fn serve<S: Source, K: Sink>(
     ensures rest { IsEndOf (S.left source.old) (S.left source.new) }
 {
     match command {
-        Command::Run
-        | Command::Check
-        | Command::ToJson
-        | Command::FromJson
-        | Command::ReplayJson
-        | Command::MeanCover
-        | Command::MeanReplay => Status::BadWords,
+        Command::Run | Command::Check | Command::ToJson | Command::FromJson | Command::ReplayJson =>
+            Status::BadWords,
         Command::Make(load) => status_of(write_made(alloc, load, sink)),
         Command::Trial(load) => status_of(write_trial(alloc, load, sink)),
-        Command::Cover | Command::Replay | Command::Census | Command::Costs => {
-            perform(alloc, command, source, sink)
-        }
+        Command::Cover
+        | Command::Replay
+        | Command::Census
+        | Command::Costs
+        | Command::MeanCover
+        | Command::MeanReplay => perform(alloc, command, source, sink),
     }
 }
 
@@ -165,8 +163,9 @@ fn serve_by_threads<R: Threads + Sync, S: Source, K: Sink, G: Gate>(
 ///
 /// docs/FORMATS.md tells the forms of the words, the input, the texts and the statuses. `cover`
 /// writes the plan of the input's network, `replay` the report of what becomes of its calls under
-/// its order, `census` tells who is where at their end, and `costs` what its moves cost. `make` and `trial` read nothing: the
-/// one writes a made input, the other the summary of its replay. `run` needs threads
+/// its order, `census` tells who is where at their end, and `costs` what its moves cost; `meancover`
+/// and `meanreplay` write the plan and the report over mean covers. `make` and `trial` read nothing:
+/// the one writes a made input, the other the summary of its replay. `run` needs threads
 /// ([`command_with_threads`]), and ends here as words that are no form do. Nothing is written
 /// before the source answered its end, and the first fault of the source or the sink ends the work.
 /// Status 0 comes with the whole text, and 1 with the line that refuses the input; 2 are words that

@@ -15,6 +15,7 @@ use input_text::InputLines;
 use make_load::{Workload, loads_are_valid, make_input};
 use net_graph::{Graph, GraphFault};
 use outside::Sink;
+use region_plan::Covering;
 use report_text::summary;
 use std::alloc::{AllocError, Global};
 use word_line::Load;
@@ -28,7 +29,7 @@ fn trial(alloc: Global, load: Load) -> Result<Vec<u8>, AllocError>
     let input = make_input(alloc, load)?;
     match Graph::new(alloc, input.nodes, &input.edges) {
         Ok(graph) => {
-            let outcome = replay(alloc, &input, &graph)?;
+            let outcome = replay(alloc, Covering::Phased(input.k), &input, &graph)?;
             summary(alloc, &outcome)
         }
         Err(GraphFault::Apart { .. }) => unreachable!(),

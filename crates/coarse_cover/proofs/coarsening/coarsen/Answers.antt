@@ -1,4 +1,4 @@
-use Rattle.std.proofs.Common.{◌≤◌, ◌*◌, ◌^◌, ℕ, length, sym, subst}
+use Rattle.std.proofs.Common.{length, sym}
 use Rattle.coarse_cover.proofs.Results.{growths_bounded, homes_hold, clusters_apart}
 use Rattle.coarse_cover.proofs.coarsening.coarsen.Goals as goal
 use Rattle.node_set.specs.Balls.{sets}

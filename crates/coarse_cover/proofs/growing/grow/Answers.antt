@@ -3,9 +3,10 @@ use Rattle.std.proofs.lemmas.Bool.{false≢true}
 use Rattle.node_set.specs.Ascending.{has, with_number}
 use Rattle.node_set.specs.Nodes.{Nodes}
 use Rattle.coarse_cover.specs.Coarsening.{is_enough}
-use Rattle.coarse_cover.proofs.Leading.{nodes_from}
-use Rattle.coarse_cover.proofs.Turns.{touched_grown}
-use Rattle.coarse_cover.proofs.Growth.{cluster_homed, cluster_members, growth_fits, some_enough, next_union, reached}
+use Rattle.node_set.specs.LeadLaws.{nodes_from}
+use Rattle.node_set.specs.TurnLaws.{touched_grown}
+use Rattle.coarse_cover.proofs.Growth.{cluster_homed, cluster_members, some_enough}
+use Rattle.node_set.specs.GrowthLaws.{growth_fits, next_union, reached}
 use Rattle.coarse_cover.proofs.Growth.{stops, goes_on}
 use Rattle.coarse_cover.proofs.growing.grow.Goals as goal
 use Rattle.node_set.specs.Balls.{growth, least, touches, union_of, sets}
@@ -61,7 +62,7 @@ pub at_most-requires-clause-y_small : goal.at_most-requires-clause-y_small
 at_most-requires-clause-y_small c =
     omega (
       arith,
-      growth_fits (sets c.args.balls.now) c.args.k c.args.r c.args.first c.args.waiting.now.members c.requires.leads.0
+      growth_fits (sets c.args.balls.now) c.args.first c.args.waiting.now.members c.requires.leads.0
           c.requires.leads.1
           c.loop-step._step,
       c.requires.ready.fits,
@@ -122,14 +123,13 @@ loop-step-preserved c =
     in
     let next : c.touch.new.touched.members
     ≡ growth (sets c.args.balls.now) c.args.waiting.now.members c.args.first (suc c.loop-step._step) =
-    reached (sets c.args.balls.now) c.args.k c.args.r c.args.first c.args.waiting.now.members c.loop-step._step
-    c.count-more.result
-    c.loop-step.size c.loop-step.members.members c.touch.new.touched.members members touched
+    reached (sets c.args.balls.now) c.args.first c.args.waiting.now.members c.loop-step._step
+    c.loop-step.members.members c.touch.new.touched.members members touched
     in
     let union_is : c.absorb_balls.new.nodes.members
     ≡ union_of (sets c.args.balls.now) (growth (sets c.args.balls.now) c.args.waiting.now.members c.args.first
     (suc c.loop-step._step)) =
-    next_union (sets c.args.balls.now) c.args.k c.args.r c.args.first c.args.waiting.now.members c.requires.leads.0
+    next_union (sets c.args.balls.now) c.args.first c.args.waiting.now.members c.requires.leads.0
     c.requires.leads.1
     c.requires.ready.centred c.loop-step._step c.absorb_balls.new.nodes.members
     (c.absorb_balls.ensures.order c.touch.ensures.sound.ascending)

@@ -4,7 +4,7 @@ use Rattle.node_set.specs.Ascending.{has}
 use Rattle.node_set.specs.Nodes.{Nodes}
 use Rattle.coarse_cover.specs.Coarsening.{cluster_of}
 use Rattle.coarse_cover.specs.declared.cover.Cluster.{Cluster}
-use Rattle.coarse_cover.proofs.Leading.{written}
+use Rattle.node_set.specs.LeadLaws.{written}
 use Rattle.coarse_cover.proofs.Steps.{as_cluster_is, filter_rest}
 use Rattle.node_set.specs.Balls.{touches, sets}
 use Rattle.coarse_cover.proofs.phasing.add_cluster.Goals as goal

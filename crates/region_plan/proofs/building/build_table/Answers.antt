@@ -1,48 +1,48 @@
 use Rattle.std.proofs.Common.{◌≡◌, ℕ, arith, subst, sym}
 use Rattle.std.specs.Prelude.{All}
 use Rattle.node_set.specs.Nodes.{Nodes}
-use Rattle.coarse_cover.specs.Workspaces.{IsWorkspace}
-use Rattle.region_plan.proofs.Levels.{balls_few, balls_rooms, balls_centred, balls_turned, balls_work, cover_spanned, nodes_work}
+use Rattle.node_set.specs.Workspaces.{IsWorkspace}
+use Rattle.region_plan.proofs.Levels.{balls_few, balls_rooms, balls_centred, balls_inside, balls_turned, balls_work, cover_spanned, nodes_work}
 use Rattle.region_plan.proofs.Levels.{homes_count, sets_fit, rooms_fit, rows_few, level_built, level_fits}
 use Rattle.region_plan.proofs.building.build_table.Goals as goal
 
-pub coarsen_by_rows-requires-clause-small : goal.coarsen_by_rows-requires-clause-small
-coarsen_by_rows-requires-clause-small c =
-    balls_few c.args.graph.now c.args.distances.now c.requires.metric c.requires.belongs c.requires.network c.args.k
+pub cover-requires-clause-small : goal.cover-requires-clause-small
+cover-requires-clause-small c =
+    balls_few c.args.graph.now c.args.distances.now c.requires.metric c.requires.belongs c.requires.network c.args.covering
     c.args.i c.requires.low c.fill_balls.new.balls c.fill_balls.ensures.balls
 
-pub coarsen_by_rows-requires-clause-rooms : goal.coarsen_by_rows-requires-clause-rooms
-coarsen_by_rows-requires-clause-rooms c =
-    balls_rooms c.args.graph.now c.args.distances.now c.requires.metric c.requires.belongs c.requires.network c.args.k
+pub cover-requires-clause-rooms : goal.cover-requires-clause-rooms
+cover-requires-clause-rooms c =
+    balls_rooms c.args.graph.now c.args.distances.now c.requires.metric c.requires.belongs c.requires.network c.args.covering
     c.args.i c.requires.low c.fill_balls.new.balls c.fill_balls.ensures.balls c.fill_balls.ensures.rooms
 
-pub coarsen_by_rows-requires-clause-centred : goal.coarsen_by_rows-requires-clause-centred
-coarsen_by_rows-requires-clause-centred c =
-    balls_centred c.args.graph.now c.args.distances.now c.requires.metric c.requires.belongs c.requires.network c.args.k
+pub cover-requires-clause-centred : goal.cover-requires-clause-centred
+cover-requires-clause-centred c =
+    balls_centred c.args.graph.now c.args.distances.now c.requires.metric c.requires.belongs c.requires.network c.args.covering
     c.args.i c.requires.low c.fill_balls.new.balls c.fill_balls.ensures.balls
 
-pub coarsen_by_rows-requires-clause-rows : goal.coarsen_by_rows-requires-clause-rows
-coarsen_by_rows-requires-clause-rows c =
-    balls_rooms c.args.graph.now c.args.distances.now c.requires.metric c.requires.belongs c.requires.network c.args.k
-    c.args.i c.requires.low c.fill_balls.new.balls c.fill_balls.ensures.balls c.fill_balls.ensures.rooms
-
-pub coarsen_by_rows-requires-clause-turned : goal.coarsen_by_rows-requires-clause-turned
-coarsen_by_rows-requires-clause-turned c =
-    balls_turned c.args.graph.now c.args.distances.now c.requires.metric c.requires.belongs c.requires.network c.args.k
+pub cover-requires-clause-turned : goal.cover-requires-clause-turned
+cover-requires-clause-turned c =
+    balls_turned c.args.graph.now c.args.distances.now c.requires.metric c.requires.belongs c.requires.network c.args.covering
     c.args.i c.requires.low c.fill_balls.new.balls c.fill_balls.ensures.balls
+
+pub cover-requires-clause-inside : goal.cover-requires-clause-inside
+cover-requires-clause-inside c =
+    balls_inside c.args.graph.now c.args.distances.now c.requires.metric c.requires.belongs c.requires.network
+    c.args.covering c.args.i c.requires.low c.fill_balls.new.balls c.fill_balls.ensures.balls
 
 pub of_cover-requires-clause-spanned : goal.of_cover-requires-clause-spanned
 of_cover-requires-clause-spanned c =
-    cover_spanned c.args.graph.now c.args.distances.now c.requires.metric c.requires.belongs c.requires.network c.args.k
+    cover_spanned c.args.graph.now c.args.distances.now c.requires.metric c.requires.belongs c.requires.network c.args.covering
     c.args.i c.requires.low c.fill_balls.new.balls c.fill_balls.ensures.balls
-    c.in_ok-made.field-0 c.in_ok-made.ensures.exact c.cluster_shape.ensures
+    c.in_ok-made.field-0 c.in_ok-made.ensures.exact c.covering_shape.ensures
 
 pub new-requires-clause-nodes : goal.new-requires-clause-nodes
 new-requires-clause-nodes c =
     omega (
       arith,
       c.requires.metric.few,
-      homes_count c.args.graph.now c.args.distances.now c.requires.metric c.requires.belongs c.requires.network c.args.k
+      homes_count c.args.graph.now c.args.distances.now c.requires.metric c.requires.belongs c.requires.network c.args.covering
           c.args.i c.requires.low c.fill_balls.new.balls c.fill_balls.ensures.balls
           c.in_ok-made.field-0 c.in_ok-made.ensures.exact,
     )
@@ -51,10 +51,10 @@ pub new-requires-clause-clusters : goal.new-requires-clause-clusters
 new-requires-clause-clusters c =
     omega (
       arith,
-      homes_count c.args.graph.now c.args.distances.now c.requires.metric c.requires.belongs c.requires.network c.args.k
+      homes_count c.args.graph.now c.args.distances.now c.requires.metric c.requires.belongs c.requires.network c.args.covering
           c.args.i c.requires.low c.fill_balls.new.balls c.fill_balls.ensures.balls
           c.in_ok-made.field-0 c.in_ok-made.ensures.exact,
-      rows_few c.args.graph.now c.args.distances.now c.requires.metric c.requires.belongs c.requires.network c.args.k
+      rows_few c.args.graph.now c.args.distances.now c.requires.metric c.requires.belongs c.requires.network c.args.covering
           c.args.i c.requires.low c.fill_balls.new.balls c.fill_balls.ensures.balls
           c.in_ok-made.field-0 c.in_ok-made.ensures.exact
           c.in_ok-clusters.clusters c.in_ok-clusters.ensures.clusters c.in_ok-made.ensures.few,
@@ -62,26 +62,26 @@ new-requires-clause-clusters c =
 
 pub new-requires-clause-sets : goal.new-requires-clause-sets
 new-requires-clause-sets c =
-    sets_fit c.args.graph.now c.args.distances.now c.requires.metric c.requires.belongs c.requires.network c.args.k
+    sets_fit c.args.graph.now c.args.distances.now c.requires.metric c.requires.belongs c.requires.network c.args.covering
     c.args.i c.requires.low c.fill_balls.new.balls c.fill_balls.ensures.balls
     c.in_ok-made.field-0 c.in_ok-made.ensures.exact
 
 pub new-requires-clause-rooms : goal.new-requires-clause-rooms
 new-requires-clause-rooms c =
-    rooms_fit c.args.graph.now c.args.distances.now c.requires.metric c.requires.belongs c.requires.network c.args.k
+    rooms_fit c.args.graph.now c.args.distances.now c.requires.metric c.requires.belongs c.requires.network c.args.covering
     c.args.i c.requires.low c.fill_balls.new.balls c.fill_balls.ensures.balls
     c.in_ok-made.field-0 c.in_ok-made.ensures.exact c.fill_balls.ensures.rooms
 
 pub returns-clause-rooms : goal.returns-clause-rooms
 returns-clause-rooms c =
     subst (λ (n : ℕ). All (λ (b : Nodes). b.room ≡ n) c.new.new.sets)
-    (homes_count c.args.graph.now c.args.distances.now c.requires.metric c.requires.belongs c.requires.network c.args.k
+    (homes_count c.args.graph.now c.args.distances.now c.requires.metric c.requires.belongs c.requires.network c.args.covering
     c.args.i c.requires.low c.fill_balls.new.balls c.fill_balls.ensures.balls
     c.in_ok-made.field-0 c.in_ok-made.ensures.exact) c.in_ok-new.ensures.rooms
 
 pub returns-clause-level : goal.returns-clause-level
 returns-clause-level c =
-    level_built c.args.graph.now c.args.distances.now c.requires.metric c.requires.belongs c.requires.network c.args.k
+    level_built c.args.graph.now c.args.distances.now c.requires.metric c.requires.belongs c.requires.network c.args.covering
     c.args.i c.requires.low c.fill_balls.new.balls c.fill_balls.ensures.balls
     c.in_ok-made.field-0 c.in_ok-made.ensures.exact
     c.in_ok-clusters.clusters c.in_ok-clusters.ensures.clusters c.in_ok-made.ensures.few c.in_ok-new.field-0
@@ -89,24 +89,24 @@ returns-clause-level c =
 
 pub returns-clause-sized : goal.returns-clause-sized
 returns-clause-sized c =
-    level_fits c.args.graph.now c.args.distances.now c.requires.metric c.requires.belongs c.requires.network c.args.k
+    level_fits c.args.graph.now c.args.distances.now c.requires.metric c.requires.belongs c.requires.network c.args.covering
     c.args.i c.requires.low c.fill_balls.new.balls c.fill_balls.ensures.balls
     c.in_ok-made.field-0 c.in_ok-made.ensures.exact
     c.in_ok-clusters.clusters c.in_ok-clusters.ensures.clusters c.in_ok-made.ensures.few c.in_ok-new.field-0
     c.requires.few
     c.in_ok-new.ensures.table
 
-pub coarsen_by_rows-requires-clause-work : goal.coarsen_by_rows-requires-clause-work
-coarsen_by_rows-requires-clause-work c =
-    balls_work c.args.graph.now c.args.distances.now c.requires.metric c.requires.belongs c.requires.network c.args.k
+pub cover-requires-clause-work : goal.cover-requires-clause-work
+cover-requires-clause-work c =
+    balls_work c.args.graph.now c.args.distances.now c.requires.metric c.requires.belongs c.requires.network c.args.covering
     c.args.i c.requires.low c.fill_balls.new.balls c.fill_balls.ensures.balls
     c.args.work.now c.requires.work
 
 pub of_cover-requires-clause-work : goal.of_cover-requires-clause-work
 of_cover-requires-clause-work c =
-    nodes_work c.args.graph.now c.args.distances.now c.requires.metric c.requires.belongs c.requires.network c.args.k
+    nodes_work c.args.graph.now c.args.distances.now c.requires.metric c.requires.belongs c.requires.network c.args.covering
     c.args.i c.requires.low c.fill_balls.new.balls c.fill_balls.ensures.balls
-    c.coarsen_by_rows.new.work c.in_ok-made.ensures.work
+    c.cover.new.work c.in_ok-made.ensures.work
 
 pub returns-clause-work : goal.returns-clause-work
 returns-clause-work c = subst (λ (n : ℕ). IsWorkspace n c.of_cover.new.work) (sym c.requires.belongs.nodes)

@@ -6,7 +6,7 @@ use Rattle.region_plan.proofs.building.push_level.Goals as goal
 
 pub returns-in_ok-push_shared-clause-levels : goal.returns-in_ok-push_shared-clause-levels
 returns-in_ok-push_shared-clause-levels c =
-    levels_shared c.args.graph.now c.args.distances.now c.args.k c.args.i c.threshold_for.result
+    levels_shared c.args.graph.now c.args.distances.now c.args.covering c.args.i c.threshold_for.result
     c.args.spread.now.in_use.items
     c.args.levels.now c.push_shared.new.self c.requires.spread.marked c.if-i-gt0.true c.requires.few
     (get_or_default c.args.spread.now.in_use.items c.args.i false c.index.result.now
@@ -15,6 +15,6 @@ returns-in_ok-push_shared-clause-levels c =
 
 pub returns-in_ok-push_table-clause-levels : goal.returns-in_ok-push_table-clause-levels
 returns-in_ok-push_table-clause-levels c =
-    levels_tabled c.args.graph.now c.args.distances.now c.args.k c.args.i c.threshold_for-else-i-gt0.result
+    levels_tabled c.args.graph.now c.args.distances.now c.args.covering c.args.i c.threshold_for-else-i-gt0.result
     c.args.levels.now c.push_table.new.self c.in_ok-table.table c.requires.below c.in_ok-table.ensures.level
     c.in_ok-table.ensures.sized c.threshold_for-else-i-gt0.ensures c.in_ok-push_table.ensures

@@ -1,5 +1,5 @@
-use Rattle.region_plan.proofs.Meaning.{bounds}
+use Rattle.region_plan.specs.declared.covering.Covering.TheVariants.{Phased}
 use Rattle.region_plan.proofs.laws.plan_is_bounding.Goals as goal
 
 pub returns : goal.returns
-returns c = bounds c.plan_means.ensures c.networks_have_distances.ensures c.cluster_shape.ensures c.home_means.ensures
+returns c = λ network k. c.covered_plan_is_bounding.ensures (Phased k) network

@@ -1,5 +1,5 @@
-use Rattle.region_plan.proofs.Meaning.{means}
+use Rattle.region_plan.specs.declared.covering.Covering.TheVariants.{Phased}
 use Rattle.region_plan.proofs.laws.plan_means.Goals as goal
 
 pub returns : goal.returns
-returns c = means c.least_weight_is_found.ensures c.networks_have_distances.ensures c.cluster_shape.ensures
+returns c = λ network k. c.covered_plan_means.ensures (Phased k) network

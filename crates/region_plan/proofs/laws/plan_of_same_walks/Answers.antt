@@ -1,5 +1,5 @@
-use Rattle.region_plan.proofs.Meaning.{same_plans}
+use Rattle.region_plan.specs.declared.covering.Covering.TheVariants.{Phased}
 use Rattle.region_plan.proofs.laws.plan_of_same_walks.Goals as goal
 
 pub returns : goal.returns
-returns c = same_plans c.plan_means.ensures c.distances_are_one.ensures c.least_weight_is_one.ensures
+returns c = λ one other k. c.covered_plan_of_same_walks.ensures (Phased k) one other

@@ -1,15 +1,16 @@
-use Rattle.std.proofs.Common.{◌≡◌, ◌∙◌}
+use Rattle.std.proofs.Common.{◌≡◌, ◌∙◌, arith}
 use Rattle.net_reader.specs.Seen.{seen_input}
 use Rattle.region_plan.specs.Plan.{PlanData}
-use Rattle.region_plan.specs.Regions.{plan_of}
-use Rattle.track.specs.Results.{plan_for}
-use Rattle.track.proofs.Answering.{if_ok, plan_of_graph}
+use Rattle.region_plan.specs.Regions.{covered_plan}
+use Rattle.track.specs.Results.{network_of}
+use Rattle.track.proofs.Answering.{covered_of_graph, if_ok}
 use Rattle.track.proofs.answer.cover.Goals as goal
 
 pub returns : goal.returns
 returns c =
     let contents = seen_input c.args.input.now in
-    if_ok c.build.result (λ (plan : PlanData). plan ≡ plan_of c.args.graph.now contents.k)
-    (λ (plan : PlanData). plan ≡ plan_for contents)
-    (λ plan is. is ∙ plan_of_graph c.plan_of_same_walks.ensures contents c.args.graph.now c.requires.valid
-    c.requires.graph) c.build.ensures.plan
+    if_ok c.build_by.result (λ (plan : PlanData). plan ≡ covered_plan c.args.covering c.args.graph.now)
+    (λ (plan : PlanData). plan ≡ covered_plan c.args.covering (network_of contents))
+    (λ plan is. is ∙ covered_of_graph c.covered_plan_of_same_walks.ensures c.args.covering contents c.args.graph.now
+    c.requires.valid c.requires.graph (omega (arith, c.requires.trade_off, c.requires.valid.k_some)))
+    c.build_by.ensures.plan

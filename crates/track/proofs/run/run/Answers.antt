@@ -34,7 +34,7 @@ returns g c =
     (c.each_visit_is_next.ensures.order (setting_for contents) (scripts_of contents) its.order) in
     record {
       order = its.order;
-      report = report-says contents its.order turn c.outcomes_are_right.ensures.lines
+      report = report-says (plan_for contents) contents its.order turn c.outcomes_are_right.ensures.lines
           c.outcomes_are_right.ensures.numbers c.plans_track.ensures c.plan_outcomes_are_near.ensures
           c.scripts_are_valid.ensures (report_of (result_of made)) c.requires.valid
           (plan-nodes c.plan_means.ensures contents c.requires.valid) bounds (ap report_of its.is);

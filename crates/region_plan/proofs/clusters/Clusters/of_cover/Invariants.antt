@@ -1,6 +1,6 @@
 use Rattle.std.proofs.Common.{◌≡◌, ◌++◌}
 use Rattle.std.specs.Vec.Iter.{into_iter_items}
-use Rattle.coarse_cover.specs.Workspaces.{IsWorkspace}
+use Rattle.node_set.specs.Workspaces.{IsWorkspace}
 use Rattle.region_plan.specs.Laid.{AreLaid, clusters_of_lists}
 use Rattle.region_plan.specs.Meanings.{AreClustersOf}
 use Rattle.region_plan.proofs.clusters.Clusters.of_cover.Given as goal

@@ -1,8 +1,0 @@
-use Rattle.coarse_cover.proofs.Turns.{rows_turned}
-use Rattle.std.proofs.Common.{arith}
-use Rattle.coarse_cover.proofs.turning.rows_of.Goals as goal
-
-pub returns-clause-turned : goal.returns-clause-turned
-returns-clause-turned c =
-    rows_turned c.args.balls.now c.loop-v.rows.items (omega (arith, c.loop-v.invariant.count, c.loop-v-test.false))
-    (λ v below. c.loop-v.invariant.each v (omega (arith, c.loop-v-test.false)))

@@ -1,0 +1,4 @@
+mod Growth
+mod Clusters
+mod Steps
+mod Results

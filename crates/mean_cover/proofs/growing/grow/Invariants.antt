@@ -1,0 +1,19 @@
+use Rattle.std.proofs.Common.{◌≡◌, ℕ, ◌<◌, false, length}
+use Rattle.std.specs.Prelude.{All}
+use Rattle.node_set.specs.Balls.{growth, union_of, sets}
+use Rattle.node_set.specs.Nodes.{Nodes}
+use Rattle.mean_cover.specs.Covering.{is_last, size_after}
+use Rattle.mean_cover.proofs.growing.grow.Given as goal
+
+abbrev pub invariant-loop-step : goal.invariant-loop-step
+invariant-loop-step l = record {
+  members : l.members ≡ record {
+    room = length l.balls;
+    members = union_of (sets l.balls) (growth (sets l.balls) l.waiting.members l.first l._step);
+  };
+  size : l.size ≡ size_after (sets l.balls) l.waiting.members l.first l._step;
+  none : (i : ℕ) → i < l._step → is_last (sets l.balls) l.k l.waiting.members l.first i ≡ false;
+  taken_room : l.growth.taken.room ≡ l.fn.growth.taken.room;
+  touched_room : l.growth.touched.room ≡ length l.balls;
+  spare_rooms : All (λ (s : Nodes). s.room ≡ length l.balls) l.growth.spare.items;
+}

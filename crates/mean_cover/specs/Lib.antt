@@ -1,0 +1,4 @@
+pub mod Covering
+pub mod MeanCovers
+pub mod Progress
+pub mod Examples

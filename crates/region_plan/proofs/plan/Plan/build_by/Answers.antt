@@ -1,0 +1,61 @@
+use Rattle.std.proofs.Common.{subst, sym, ap, ◌∙◌, arith, ◌≡◌, ◌++◌, length, take, drop}
+use Rattle.std.specs.Prelude.{All}
+use Rattle.distances.specs.Table.{DistanceTable, IsMetric}
+use Rattle.region_plan.specs.Plan.{PlanData}
+use Rattle.region_plan.specs.Meanings.{IsCoveredPlan}
+use Rattle.region_plan.specs.Kept.{IsSized}
+use Rattle.region_plan.proofs.Covered.{reach_near}
+use Rattle.node_set.specs.Nodes.{Nodes}
+use Rattle.region_plan.proofs.Lists.{written}
+use Rattle.region_plan.proofs.Levels.{plan_built}
+use Rattle.region_plan.proofs.Matching.{plan_bounds}
+use Rattle.region_plan.proofs.Meaning.{plan_is_this}
+use Rattle.region_plan.proofs.plan.Plan.build_by.Goals as goal
+use Rattle.region_plan.proofs.plan.Plan.build_by.Goals.{After-drop-spread-3}
+
+plan_is : (c : After-drop-spread-3) → IsCoveredPlan c.args.covering c.args.graph.now c.of_levels.result
+plan_is c = plan_built c.args.graph.now c.args.distances.now c.in_ok-copy.copy c.args.covering c.trade_off.result
+    c.reach.result c.top_for-top.result c.loop-i.levels c.of_levels.result
+    c.requires.belongs c.in_ok-copy.ensures c.trade_off.ensures c.reach.ensures c.of_levels.ensures
+    (omega (arith, c.loop-i.invariant.levels.count_is))
+    c.top_for-top.ensures.top
+    (λ j h. c.loop-i.invariant.levels.each j (omega arith))
+
+metric_is : (c : After-drop-spread-3) → IsMetric c.of_levels.result.distances
+metric_is c = subst (λ (t : DistanceTable). IsMetric t)
+    (sym (ap (λ (p : PlanData). p.distances) c.of_levels.ensures ∙ c.in_ok-copy.ensures)) c.top_for-top.ensures.metric
+
+pub returns-clause-plan : goal.returns-clause-plan
+returns-clause-plan c = plan_is_this c.covered_plan_means.ensures c.distances_are_one.ensures
+    c.least_weight_is_one.ensures
+    c.args.graph.now c.nodes-nodes.ensures.sound c.args.covering c.requires.low c.of_levels.result (plan_is c)
+
+pub returns-clause-bounding : goal.returns-clause-bounding
+returns-clause-bounding c = plan_bounds c.covering_shape.ensures c.covering_home_means.ensures c.args.graph.now
+    c.nodes-nodes.ensures.sound c.args.covering c.requires.low c.of_levels.result (metric_is c) (plan_is c)
+
+pub of_levels-requires : goal.of_levels-requires
+of_levels-requires c = record {
+  some = omega (arith, c.loop-i.invariant.levels.count_is, c.loop-i-test.false);
+  few = omega (arith, c.loop-i.invariant.levels.count_is, c.top_for-top.ensures.few, c.loop-i.auto.i-end);
+  low = omega (arith, c.trade_off.ensures, c.requires.low);
+  high = omega (arith, c.trade_off.ensures, c.requires.high);
+  near = omega (arith, c.reach.ensures, reach_near c.args.covering c.requires.high);
+  metric = subst (λ (t : DistanceTable). IsMetric t) (sym c.in_ok-copy.ensures) c.top_for-top.ensures.metric;
+  levels = subst (λ (t : DistanceTable). All (IsSized t.nodes) c.loop-i.levels) (sym c.in_ok-copy.ensures)
+      c.loop-i.invariant.levels.sized;
+}
+
+pub loop-i-preserved : goal.loop-i-preserved
+loop-i-preserved c =
+    let kept : length c.push_level.new.sets ≡ length c.loop-i.sets.items =
+    c.push_level.auto.sets ∙ ap (length {A = Nodes}) c.deref_mut.ensures.value in
+    let whole : take c.loop-i.sets.len (c.push_level.new.sets ++ drop (length c.push_level.new.sets)
+    c.loop-i.sets.items) ≡ c.push_level.new.sets =
+    written c.loop-i.sets.len c.push_level.new.sets c.loop-i.sets.items kept c.loop-i.sets.ok.0 in
+    rw whole (record {
+      levels = c.in_ok-push_level.ensures.levels;
+      count = kept ∙ c.loop-i.invariant.count;
+      work = c.in_ok-push_level.ensures.work;
+      rooms = c.in_ok-push_level.ensures.rooms;
+    })
