@@ -3,3 +3,4 @@ mod Turns
 mod Judging
 mod Texts
 mod CallTexts
+mod Cutting
