@@ -5,14 +5,13 @@ use Rattle.outside.specs.Calls.{HasFaulted}
 use Rattle.net_reader.specs.declared.fault.InputFault.{InputFault}
 use Rattle.net_reader.specs.Input.{Contents, IsInput}
 use Rattle.net_reader.specs.Laws.{TextSaysOne}
-use Rattle.net_reader.specs.Reading.{most_bytes}
 use Rattle.report_text.specs.ReportText.{report_of}
 use Rattle.word_line.specs.declared.command.Command.{Command}
 use Rattle.word_line.specs.declared.command.Command.TheVariants as commands
 use Rattle.track.specs.declared.status.Status.{Status}
 use Rattle.track.specs.declared.status.Status.TheVariants as statuses
-use Rattle.track.specs.Results.{IsRightAnswer, IsResult, IsRunReport, in_order, is_served, outcome_for}
-use Rattle.track.specs.Ends.{EndsAlone, EndsAs, IsTextWritten, Streams}
+use Rattle.track.specs.Results.{IsInputText, IsRightAnswer, IsResult, IsRunReport, IsText, SaysInput, in_order, is_served, outcome_for}
+use Rattle.track.specs.Ends.{EndsAlone, EndsAs, IsLong, IsShort, IsTextWritten, Streams}
 use Rattle.track.specs.Laws.{BytesHaveOneText, IsCompleteAlone, RunsAreReplayed}
 
 same_result : (command : Command) (contents : Contents) (one other : List ℕ) → is_served false command ≡ true
@@ -39,12 +38,18 @@ same_answer command (Ok contents) s t one other served p q = (
 )
 same_answer command (Err fault) s t one other served p q = (p.0 ∙ sym q.0, p.1 ∙ sym q.1)
 
-pub one_text : TextSaysOne → BytesHaveOneText
-one_text says command bytes s t one other served p q =
+one_input_text : TextSaysOne → (command : Command) (bytes : List ℕ) (s t : Status) (one other : List ℕ)
+    → is_served false command ≡ true → IsInputText command bytes s one → IsInputText command bytes t other
+    → (s ≡ t) × (one ≡ other)
+one_input_text says command bytes s t one other served p q =
     let same = says bytes p.input q.input p.says q.says in
     same_answer command q.input s t one other served
     (subst (λ (input : Result Contents InputFault). IsRightAnswer command
     input s one) same p.answer) q.answer
+
+pub one_text : TextSaysOne → BytesHaveOneText
+one_text says command bytes s t one other served p q =
+    one_input_text says command bytes s t one other served p q
 
 -- an input is not refused
 not_refused : (command : Command) (input : Result Contents InputFault) (contents : Contents) (text : List ℕ)
@@ -55,25 +60,38 @@ not_refused command (Err fault) contents text e h = cc
 of_some : (P : List ℕ → Type 0) (o : Option (List ℕ)) (bytes : List ℕ) → o ≡ Some bytes → IfSome o P → P bytes
 of_some P o bytes e h = subst (λ (x : Option (List ℕ)). IfSome x P) e h
 
+not_refused_input : TextSaysOne → (command : Command) (bytes text : List ℕ) (contents : Contents)
+    → IsInputText command bytes statuses.Refused text → IsInput bytes (Ok contents) → ⊥
+not_refused_input says command bytes text contents right input =
+    not_refused command right.input contents text (says bytes right.input (Ok contents) right.says input) right.answer
+
+-- bytes that say an input to a command aren't refused
+said_not_refused : TextSaysOne → (command : Command) (bytes text : List ℕ) (contents : Contents)
+    → IsText command bytes statuses.Refused text → SaysInput command bytes contents → ⊥
+said_not_refused says command bytes text contents right input =
+    not_refused_input says command bytes text contents right input
+
+-- the bytes of a command aren't both too many and not too many
+short_or_long : (command : Command) (bytes : List ℕ) → IsShort command bytes → IsLong command bytes → ⊥
+short_or_long command bytes short long = omega (arith, short, long)
+
 pub is_complete : TextSaysOne → (command : Command) (status : Status) (before now : Streams) (bytes : List ℕ) (contents
     : Contents)
-    → EndsAs command status before now → before.left ≡ Some bytes → length bytes ≤ most_bytes
-    → IsInput bytes (Ok contents)
+    → EndsAs command status before now → before.left ≡ Some bytes → IsShort command bytes
+    → SaysInput command bytes contents
     → (HasFaulted before.read_faults now.read_faults → ⊥) → (HasFaulted before.write_faults now.write_faults → ⊥)
     → (status ≡ statuses.Done) ⊎ (status ≡ statuses.OutOfMemory)
 is_complete says command statuses.Done before now bytes contents h left short input r w = inl refl
 is_complete says command statuses.Refused before now bytes contents h left short input r w =
     let written = of_some (λ bytes. IsTextWritten command statuses.Refused bytes before.written now.written) before.left
     bytes left h.0 in
-    absurd (not_refused command written.right.input contents written.text (says bytes written.right.input (Ok contents)
-    written.right.says input) written.right.answer)
+    absurd (said_not_refused says command bytes written.text contents written.right input)
 is_complete says command statuses.BadWords before now bytes contents h left short input r w = absurd h
 is_complete says command statuses.OutOfMemory before now bytes contents h left short input r w = inr refl
 is_complete says command statuses.ReadFailed before now bytes contents h left short input r w = absurd (r h.1.0)
 is_complete says command statuses.WriteFailed before now bytes contents h left short input r w = absurd (w h.0.0)
 is_complete says command statuses.TooLong before now bytes contents h left short input r w =
-    let long = of_some (λ bytes. most_bytes < length bytes) before.left bytes left h.2 in
-    absurd (omega (arith, long, short))
+    absurd (short_or_long command bytes short (of_some (λ bytes. IsLong command bytes) before.left bytes left h.2))
 
 pub is_complete_alone : IsCompleteAlone
 is_complete_alone text statuses.Done before now h w = inl refl

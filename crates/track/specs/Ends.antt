@@ -28,10 +28,18 @@ streams left read_faults written write_faults =
       write_faults = write_faults;
     }
 
+-- a command may be given so many bytes
+abbrev pub IsShort : Command → List ℕ → Type 0
+IsShort command bytes = length bytes ≤ most_bytes
+
+-- these are more than it may be given
+abbrev pub IsLong : Command → List ℕ → Type 0
+IsLong command bytes = most_bytes < length bytes
+
 -- the text of the bytes that were left was written whole; they are no more than may be read
 pub record IsTextWritten (command : Command) (status : Status) (bytes : List ℕ)
     (before now : Option (List ℕ)) : Type 0 where
-  pub short : length bytes ≤ most_bytes
+  pub short : IsShort command bytes
   pub text : List ℕ
   pub right : IsText command bytes status text
   pub written : now ≡ append_known before text
@@ -39,7 +47,7 @@ pub record IsTextWritten (command : Command) (status : Status) (bytes : List ℕ
 -- a front of it was written
 pub record IsBegun (command : Command) (bytes : List ℕ)
     (before now : Option (List ℕ)) : Type 0 where
-  pub short : length bytes ≤ most_bytes
+  pub short : IsShort command bytes
   pub status : Status
   pub text : List ℕ
   pub right : IsText command bytes status text
@@ -71,7 +79,7 @@ EndsAs command WriteFailed before now =
     × IsAtEnd now.left × (now.read_faults ≡ before.read_faults)
 EndsAs command TooLong before now =
     IsSilent before now × (now.read_faults ≡ before.read_faults)
-    × IfSome before.left (λ bytes. most_bytes < length bytes)
+    × IfSome before.left (λ bytes. IsLong command bytes)
 
 -- nothing was read
 abbrev pub IsUnread : Streams → Streams → Type 0

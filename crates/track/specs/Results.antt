@@ -193,9 +193,17 @@ IsRightAnswer command (Ok contents) status text = (status ≡ Done) × IsResult 
 IsRightAnswer command (Err fault) status text =
     (status ≡ Refused) × (text ≡ refused_line_of fault)
 
--- the text of a command over these bytes, and the status that goes with it
-pub record IsText (command : Command) (bytes : List ℕ) (status : Status)
+-- the text of a command to which all bytes are an input, and the status that goes with it
+pub record IsInputText (command : Command) (bytes : List ℕ) (status : Status)
     (text : List ℕ) : Type 0 where
   pub input : Result Contents InputFault
   pub says : IsInput bytes input
   pub answer : IsRightAnswer command input status text
+
+-- the text of a command over these bytes, and the status that goes with it
+abbrev pub IsText : Command → List ℕ → Status → List ℕ → Type 0
+IsText command bytes status text = IsInputText command bytes status text
+
+-- the bytes say this input to a command
+abbrev pub SaysInput : Command → List ℕ → Contents → Type 0
+SaysInput command bytes contents = IsInput bytes (Ok contents)

@@ -9,7 +9,7 @@ ghost use Rattle.directory.specs.Outcomes.{result_of};
 ghost use Rattle.machine.specs.Machines.{IsSame, scripts_at, setting_at, HasHistory};
 ghost use Rattle.report_text.specs.ReportText.{report_of};
 ghost use Rattle.track.specs.Bodies.{text_of};
-ghost use Rattle.track.specs.Results.{IsReport, IsResult, IsText, is_made_alike, outcome_for, plan_for};
+ghost use Rattle.track.specs.Results.{IsInputText, IsReport, IsResult, is_made_alike, outcome_for, plan_for};
 
 use crate::census::census;
 use crate::cost::cost_text;
@@ -117,7 +117,7 @@ pub(crate) fn make_answer(
 ) -> Result<Answer, AllocError>
     requires served { is_made_alike command ≡ true }
     ensures text { IfOk result (λ answer. (bytes : List ℕ) → StandsFor reader bytes
-        → IsText command bytes answer.status (text_of answer.body)) }
+        → IsInputText command bytes answer.status (text_of answer.body)) }
 {
     inputs_are_valid();
     match reader.end_with_graph(alloc) {
