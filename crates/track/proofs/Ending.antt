@@ -5,13 +5,17 @@ use Rattle.outside.specs.Bytes.{append_known, prepend_known, IsAtEnd}
 use Rattle.net_reader.specs.declared.fault.InputFault.{InputFault}
 use Rattle.net_reader.specs.Input.{Contents}
 use Rattle.net_reader.specs.Reading.{ReaderValue, StandsFor, most_bytes}
+use Rattle.report_check.specs.declared.verdict.Verdict.{Verdict}
+use Rattle.report_check.specs.declared.verdict.Verdict.TheVariants as verdicts
+use Rattle.report_check.specs.Cuts.{input_part, report_part}
+use Rattle.report_check.specs.Verdicts.{most_bytes as most_text_bytes}
 use Rattle.word_line.specs.declared.command.Command.{Command}
 use Rattle.word_line.specs.declared.command.Command.TheVariants as commands
 use Rattle.track.specs.declared.status.Status.{Status}
 use Rattle.track.specs.declared.status.Status.TheVariants as statuses
-use Rattle.track.specs.Results.{IsInputText, IsRightAnswer, IsText, is_made_alike}
+use Rattle.track.specs.Results.{IsInputText, IsJudged, IsRightAnswer, IsRightVerdict, IsText, is_made_alike, verdict_for, verdict_status}
 use Rattle.track.specs.Ends.{EndsAs, EndsDone, IsBegun, IsLong, IsShort, IsTextWritten, Streams, streams}
-use Rattle.track.specs.Transfer.{IsAllRead, StopsReading, StopsWriting, read_status, write_status}
+use Rattle.track.specs.Transfer.{IsAllRead, IsTextRead, StopsReading, StopsWriting, read_status, write_status}
 use Rattle.track.specs.declared.stop.ReadStop.{ReadStop}
 use Rattle.track.specs.declared.stop.ReadStop.TheVariants as reading
 use Rattle.track.specs.declared.stop.WriteStop.{WriteStop}
@@ -25,14 +29,28 @@ of_left P before (Some rest) bytes e end p =
     let whole : bytes ≡ bytes ++ rest = sym (ap (λ (xs : List ℕ). bytes ++ xs) end ∙ append-nil bytes) in
     subst (λ (o : Option (List ℕ)). IfSome o P) (sym e) (subst P whole p)
 
+-- a status that comes with a whole text
+abbrev IsTold : Status → Type 0
+IsTold status = (status ≡ statuses.Done) ⊎ ((status ≡ statuses.Refused) ⊎ (status ≡ statuses.Unsound))
+
 status_of_answer : (command : Command) (input : Result Contents InputFault) (status : Status) (text : List ℕ)
-    → IsRightAnswer command input status text → (status ≡ statuses.Done) ⊎ (status ≡ statuses.Refused)
+    → IsRightAnswer command input status text → IsTold status
 status_of_answer command (Ok contents) status text h = inl h.0
-status_of_answer command (Err fault) status text h = inr h.0
+status_of_answer command (Err fault) status text h = inr (inl h.0)
+
+status_of_verdict : (verdict : Verdict) (status : Status) → status ≡ verdict_status verdict → IsTold status
+status_of_verdict verdicts.Sound status is = inl is
+status_of_verdict (verdicts.Unsound line cause) status is = inr (inr is)
+
+status_of_judged : (report : List ℕ) (input : Result Contents InputFault) (status : Status) (text : List ℕ)
+    → IsRightVerdict report input status text → IsTold status
+status_of_judged report (Ok contents) status text h = status_of_verdict (verdict_for contents report) status h.0
+status_of_judged report (Err fault) status text h = inr (inl h.0)
 
 -- the status that goes with a text
 status_of_text : (command : Command) (bytes : List ℕ) (status : Status) (text : List ℕ)
-    → IsText command bytes status text → (status ≡ statuses.Done) ⊎ (status ≡ statuses.Refused)
+    → IsText command bytes status text → IsTold status
+status_of_text commands.Check bytes status text is = status_of_judged (report_part bytes) is.input status text is.answer
 status_of_text command bytes status text is =
     status_of_answer command is.input status text is.answer
 
@@ -45,6 +63,7 @@ pub record IsPlain (command : Command) : Type 0 where
 
 -- they are to those that make always the same of one, and to a run
 pub is_plain : (command : Command) → is_made_alike command ≡ true → IsPlain command
+is_plain commands.Check alike = cc
 is_plain command alike = record { short = λ bytes is. is; long = λ bytes is. is; text = λ bytes status text is. is }
 
 pub is_plain_run : IsPlain commands.Run
@@ -63,16 +82,15 @@ stopped command plain reading.OutOfMemory left left' rf rf' written wf h = ((ref
 stopped command plain reading.Failed left left' rf rf' written wf h = ((refl, refl), h)
 stopped command plain reading.TooLong left left' rf rf' written wf h = ((refl, refl), h.1, long_in command plain left h.0)
 
--- a status that comes with a whole text
-abbrev IsTold : Status → Type 0
-IsTold status = (status ≡ statuses.Done) ⊎ (status ≡ statuses.Refused)
-
 told : (command : Command) (status : Status) (before now : Streams) → IsTold status
     → EndsDone command status before now → EndsAs command status before now
 told command status before now (inl e) h =
     subst (λ (s : Status). EndsAs command s before now) (sym e)
     (subst (λ (s : Status). EndsDone command s before now) e h)
-told command status before now (inr e) h =
+told command status before now (inr (inl e)) h =
+    subst (λ (s : Status). EndsAs command s before now) (sym e)
+    (subst (λ (s : Status). EndsDone command s before now) e h)
+told command status before now (inr (inr e)) h =
     subst (λ (s : Status). EndsAs command s before now) (sym e)
     (subst (λ (s : Status). EndsDone command s before now) e h)
 
@@ -130,3 +148,58 @@ pub unwritten : (command : Command) → IsPlain command → (status : Status) (s
 unwritten command plain status stop text reader left left' rf rf' written written' wf wf' all right h =
     begun-bytes command status stop text all.bytes left left' rf rf' written written' wf wf' all.parts all.end
     all.no_fault (plain.short all.bytes all.short) (plain.text all.bytes status text (right all.bytes all.stands)) h
+
+-- ---- a text that has a report
+
+-- reading stopped
+pub stopped-check : (stop : ReadStop) (left left' : Option (List ℕ)) (rf rf' : ℕ) (written : Option (List ℕ)) (wf : ℕ)
+    → StopsReading most_text_bytes stop left rf rf'
+    → EndsAs commands.Check (read_status stop) (streams left rf written wf) (streams left' rf' written wf)
+stopped-check reading.OutOfMemory left left' rf rf' written wf h = ((refl, refl), h)
+stopped-check reading.Failed left left' rf rf' written wf h = ((refl, refl), h)
+stopped-check reading.TooLong left left' rf rf' written wf h = ((refl, refl), h.1, long-check left h.0)
+  where
+    long-check : (left : Option (List ℕ)) → IfSome left (λ bytes. most_text_bytes < length bytes)
+        → IfSome left (λ bytes. IsLong commands.Check bytes)
+    long-check None long = tt
+    long-check (Some bytes) long = inl long
+
+-- the input part is too long
+pub long-part : (bytes part : List ℕ) (left left' : Option (List ℕ)) (rf rf' : ℕ) (written : Option (List ℕ)) (wf : ℕ)
+    → IsTextRead most_text_bytes bytes left left' rf rf' → part ≡ input_part bytes → most_bytes < length part
+    → EndsAs commands.Check statuses.TooLong (streams left rf written wf) (streams left' rf' written wf)
+long-part bytes part left left' rf rf' written wf all same long = (
+  (refl, refl),
+  all.no_fault,
+  of_left (λ bytes. IsLong commands.Check bytes) left left' bytes all.parts all.end
+      (inr (subst (λ (t : List ℕ). most_bytes < length t) same long)),
+)
+
+-- the parts of the text that was read may be so long
+part-short : (bytes part : List ℕ) → part ≡ input_part bytes → length part ≤ most_bytes
+    → length bytes ≤ most_text_bytes → IsShort commands.Check bytes
+part-short bytes part same short all = (all, subst (λ (t : List ℕ). length t ≤ most_bytes) same short)
+
+judged-text : (bytes part report : List ℕ) (status : Status) (text : List ℕ) → part ≡ input_part bytes
+    → report ≡ report_part bytes → IsJudged part report status text → IsText commands.Check bytes status text
+judged-text bytes part report status text p r h =
+    subst (λ (t : List ℕ). IsJudged (input_part bytes) t status text) r
+    (subst (λ (t : List ℕ). IsJudged t report status text) p h)
+
+pub done-check : (bytes part report : List ℕ) (status : Status) (text : List ℕ) (left left' : Option (List ℕ))
+    (rf rf' : ℕ) (written written' : Option (List ℕ)) (wf wf' : ℕ)
+    → IsTextRead most_text_bytes bytes left left' rf rf' → part ≡ input_part bytes → report ≡ report_part bytes
+    → length part ≤ most_bytes → IsJudged part report status text → written' ≡ append_known written text → wf' ≡ wf
+    → EndsAs commands.Check status (streams left rf written wf) (streams left' rf' written' wf')
+done-check bytes part report status text left left' rf rf' written written' wf wf' all p r short h w f =
+    done-bytes commands.Check status text bytes left left' rf rf' written written' wf wf' all.parts all.end all.no_fault
+    (part-short bytes part p short all.short) (judged-text bytes part report status text p r h) w f
+
+pub begun-check : (bytes part report : List ℕ) (status : Status) (stop : WriteStop) (text : List ℕ)
+    (left left' : Option (List ℕ)) (rf rf' : ℕ) (written written' : Option (List ℕ)) (wf wf' : ℕ)
+    → IsTextRead most_text_bytes bytes left left' rf rf' → part ≡ input_part bytes → report ≡ report_part bytes
+    → length part ≤ most_bytes → IsJudged part report status text → StopsWriting stop text written written' wf wf'
+    → EndsAs commands.Check (write_status stop) (streams left rf written wf) (streams left' rf' written' wf')
+begun-check bytes part report status stop text left left' rf rf' written written' wf wf' all p r short h w =
+    begun-bytes commands.Check status stop text bytes left left' rf rf' written written' wf wf' all.parts all.end
+    all.no_fault (part-short bytes part p short all.short) (judged-text bytes part report status text p r h) w

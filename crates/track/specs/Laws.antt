@@ -9,7 +9,7 @@ use Rattle.word_line.specs.declared.command.Command.{Command}
 use Rattle.word_line.specs.declared.command.Command.TheVariants.{Replay, Run}
 use Rattle.track.specs.declared.status.Status.{Status}
 use Rattle.track.specs.declared.status.Status.TheVariants.{Done, OutOfMemory}
-use Rattle.track.specs.Results.{IsText, SaysInput, in_order, is_served, outcome_for}
+use Rattle.track.specs.Results.{IsText, SaysInput, in_order, is_served, outcome_for, whole_status}
 use Rattle.track.specs.Ends.{EndsAlone, EndsAs, IsShort, Streams}
 
 -- to a command that is served without threads, bytes have one text, with one status
@@ -20,7 +20,7 @@ BytesHaveOneText =
     → IsText command bytes s one → IsText command bytes t other → (s ≡ t) × (one ≡ other)
 
 -- where the bytes say an input and aren't too many, and neither the source nor the sink failed, the
--- whole text was written, or memory was wanting
+-- whole text was written, with status 0, or of a check that of the verdict; or memory was wanting
 abbrev pub IsComplete : Type 0
 IsComplete =
     (command : Command) (status : Status) (before now : Streams) (bytes : List ℕ)
@@ -29,7 +29,7 @@ IsComplete =
     → IsShort command bytes → SaysInput command bytes contents
     → (HasFaulted before.read_faults now.read_faults → ⊥)
     → (HasFaulted before.write_faults now.write_faults → ⊥)
-    → (status ≡ Done) ⊎ (status ≡ OutOfMemory)
+    → (status ≡ whole_status command bytes contents) ⊎ (status ≡ OutOfMemory)
 
 -- and so it is to a command that reads nothing, where the sink didn't fail
 abbrev pub IsCompleteAlone : Type 0

@@ -2,7 +2,7 @@ use Rattle.std.proofs.Common.{subst, sym}
 use Rattle.track.specs.declared.status.Status.{Status}
 use Rattle.track.specs.Bodies.{text_of}
 use Rattle.track.specs.Ends.{EndsAs, streams}
-use Rattle.track.proofs.Ending.{done, is_plain, stopped, unwritten}
+use Rattle.track.proofs.Ending.{is_plain, unwritten}
 use Rattle.track.proofs.top.perform.Goals as goal
 
 pub returns-clause-ends : goal.returns-clause-ends

@@ -3,7 +3,7 @@ use Rattle.track.specs.declared.status.Status.{Status}
 use Rattle.word_line.specs.declared.command.Command.TheVariants.{Run}
 use Rattle.track.specs.Bodies.{text_of}
 use Rattle.track.specs.Ends.{EndsAs, streams}
-use Rattle.track.proofs.Ending.{done, is_plain_run, stopped, unwritten}
+use Rattle.track.proofs.Ending.{done, is_plain_run, unwritten}
 use Rattle.track.proofs.top.perform_by_threads.Goals as goal
 
 pub returns-clause-ends : goal.returns-clause-ends
