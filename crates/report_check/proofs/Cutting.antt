@@ -8,7 +8,7 @@ use Rattle.std.proofs.lemmas.Bool.Decides.{Decides-eqb, nat_tests}
 use Rattle.std.proofs.lemmas.List.{drop_all, drop_more, take_all, take_more}
 use Rattle.std.proofs.lemmas.List.Edits.{between_more, between_none}
 use Rattle.std.proofs.lemmas.Slice.Eq.{bytes_eq-Decides}
-use Rattle.net_reader.specs.Lines.{fields_from, fields_of, is_blank, piece, without_return}
+use Rattle.net_reader.specs.Lines.{fields_from, is_blank, without_return}
 use Rattle.report_check.specs.Cuts.{behind_blanks, input_from, is_cut, is_report_alone, report_from}
 use Rattle.report_check.specs.Reading.{word_in}
 

@@ -4,3 +4,4 @@ mod Judging
 mod Texts
 mod CallTexts
 mod Cutting
+mod Blocking

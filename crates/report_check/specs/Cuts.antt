@@ -2,7 +2,7 @@
 -- `report`. What stands before that line is the input part, and what stands behind it the report;
 -- where there is no such line, all is the input part, and the report is empty.
 -- Key laws: `cut_text` parts a text so; `example_cuts` computes some.
-use Rattle.std.specs.Prelude.{ℕ, ◌==◌, Bool, true, false, if◌then◌else◌, List, [], ◌∷◌, ◌++◌, codes}
+use Rattle.std.specs.Prelude.{ℕ, ◌==◌, Bool, false, if◌then◌else◌, List, [], ◌∷◌, ◌++◌, codes}
 use Rattle.std.specs.Str.{bytes_eq}
 use Rattle.net_reader.specs.Lines.{fields_of, is_blank}
 

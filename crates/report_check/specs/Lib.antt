@@ -6,5 +6,6 @@ pub mod Verdicts
 pub mod VerdictText
 pub mod Cuts
 pub mod Grounds
+pub mod Blocks
 pub mod Examples
 pub mod Laws

@@ -2,6 +2,7 @@
 //! first flaw (docs/FORMATS.md, "The checker").
 #![tactic(auto)]
 
+mod blocks;
 mod calls;
 mod checker;
 mod cursor;

@@ -1,4 +1,4 @@
-use Rattle.std.proofs.Common.{◌∙◌, sym, ap, List, ℕ, drop}
+use Rattle.std.proofs.Common.{◌∙◌, sym, ap, List, ℕ}
 use Rattle.std.proofs.lemmas.List.{take_rest}
 use Rattle.report_check.specs.Cuts.{behind_blanks}
 use Rattle.report_check.proofs.Cutting.{blanks-ended, blanks-goes, blanks-none}

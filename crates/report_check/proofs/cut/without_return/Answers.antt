@@ -1,4 +1,4 @@
-use Rattle.std.proofs.Common.{sym, arith}
+use Rattle.std.proofs.Common.{sym}
 use Rattle.report_check.proofs.Cutting.{return-at-end, return-kept}
 use Rattle.report_check.proofs.cut.without_return.Goals as goal
 
