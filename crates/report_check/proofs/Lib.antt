@@ -5,3 +5,4 @@ mod Texts
 mod CallTexts
 mod Cutting
 mod Blocking
+mod Shorts
