@@ -28,11 +28,19 @@ def busy():
     return subprocess.run([OURS, "make", "42", "256", "4", "64", "64", "8192"], stdout=subprocess.PIPE, check=True).stdout
 
 
+def judged():
+    """That input, and the report that its replay writes."""
+    given = busy()
+    report = subprocess.run([OURS, "replay"], input=given, stdout=subprocess.PIPE, check=True).stdout
+    return given + b"report\n" + report
+
+
 RUNS = [
     ("cover of a line of 256 nodes", "cover", wide),
     ("cover of a made input", "cover", busy),
     ("replay of a made input", "replay", busy),
     ("census of a made input", "census", busy),
+    ("check of a made input", "check", judged),
 ]
 
 

@@ -3,3 +3,6 @@ mod Turns
 mod Judging
 mod Texts
 mod CallTexts
+mod Cutting
+mod Blocking
+mod Shorts

@@ -3,6 +3,9 @@ pub mod Reading
 pub mod Lines
 pub mod Parts
 pub mod Verdicts
+pub mod VerdictText
+pub mod Cuts
 pub mod Grounds
+pub mod Blocks
 pub mod Examples
 pub mod Laws

@@ -1,8 +1,9 @@
 //! A place in a report that is read from its front.
 ghost use Rattle.std.specs.Prelude.{◌≡◌, ◌≤◌, ◌<◌, ◌^◌, ◌++◌, ◌∷◌, [], ℕ, List, Some, None, IfSome, IfNone, drop, length};
 ghost use Rattle.outside.specs.Texts.{field, fields};
-ghost use Rattle.report_check.specs.Reading.{digits_from, digits_in, labelled_in, number_in, starts_with_digit, word_in};
+ghost use Rattle.report_check.specs.Reading.{digits_from, digits_in, labelled_in, most, number_in, starts_with_digit, word_in};
 
+use crate::calls::MOST;
 use itoa::Buffer;
 
 // What is left of a report.
@@ -21,7 +22,53 @@ fn starts_with_digit(text: &[u8]) -> bool
     }
 }
 
+// A number of one to three digits behind a blank, where more bytes stand behind it and no digit, and
+// how many bytes it takes.
+fn short_number(text: &[u8]) -> Option<(u64, usize)>
+    ensures some { IfSome result (λ found. number_in most text.now ≡ Some (found.0, drop found.1 text.now)) }
+    ensures within { IfSome result (λ found. found.1 ≤ length text.now) }
+{
+    let [blank, a, b, c, d, ..] = text else {
+        return None;
+    };
+    if *blank != b' ' || !a.is_ascii_digit() {
+        return None;
+    }
+    let first = u64::from(*a - b'0');
+    if !b.is_ascii_digit() {
+        return Some((first, 2));
+    }
+    if *a == b'0' {
+        return None;
+    }
+    let second = u64::from(*b - b'0');
+    if !c.is_ascii_digit() {
+        return Some((10 * first + second, 3));
+    }
+    if d.is_ascii_digit() {
+        return None;
+    }
+    let third = u64::from(*c - b'0');
+    Some((10 * (10 * first + second) + third, 4))
+}
+
 impl<'a> Cursor<'a> {
+    // Goes behind the line's end, where it comes next.
+    pub(crate) fn line_end(&mut self) -> Option<()>
+        ensures some { IfSome result (λ done. word_in (10 ∷ []) self.old.rest.now ≡ Some self.new.rest.now) }
+        ensures none { IfNone result (word_in (10 ∷ []) self.old.rest.now ≡ None) }
+        ensures still { IfNone result (self.new.rest.now ≡ self.old.rest.now) }
+    {
+        let [byte, others @ ..] = self.rest else {
+            return None;
+        };
+        if *byte != b'\n' {
+            return None;
+        }
+        self.rest = others;
+        Some(())
+    }
+
     // Goes behind these bytes, where they come next.
     pub(crate) fn bytes(&mut self, word: &[u8]) -> Option<()>
         ensures some { IfSome result (λ done. word_in word.now self.old.rest.now ≡ Some self.new.rest.now) }
@@ -111,6 +158,21 @@ impl<'a> Cursor<'a> {
     {
         self.word(" ")?;
         self.digits(limit)
+    }
+
+    // A blank and a number of a list, most of which are short.
+    pub(crate) fn listed(&mut self) -> Option<u64>
+        ensures some { IfSome result (λ n. number_in most self.old.rest.now ≡ Some (n, self.new.rest.now)) }
+        ensures none { IfNone result (number_in most self.old.rest.now ≡ None) }
+    {
+        match short_number(self.rest) {
+            Some(found) => {
+                let (number, count) = found;
+                self.rest = &self.rest[count..];
+                Some(number)
+            }
+            None => self.number(MOST),
+        }
     }
 
     // A label, a blank, and a number below this limit.

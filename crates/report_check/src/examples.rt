@@ -1,5 +1,7 @@
 //! Worked examples, computed.
-ghost use Rattle.std.specs.Prelude.{◌≡◌, [], codes};
+ghost use Rattle.std.specs.Prelude.{◌≡◌, ◌++◌, ◌∷◌, [], codes};
+ghost use Rattle.report_check.specs.Cuts.{input_part, report_part};
+ghost use Rattle.report_check.specs.VerdictText.{verdict_line_of};
 ghost use Rattle.report_check.specs.declared.verdict.Flaw.TheVariants.{Form, Tickets, Place, Again, Weight};
 ghost use Rattle.report_check.specs.declared.verdict.Verdict.TheVariants.{Sound, Unsound};
 ghost use Rattle.report_check.specs.Examples.{◌then◌, near_find, one_move, switches, verdict_for};
@@ -182,4 +184,35 @@ pub fn switches_by_tickets()
         codes "switch 0 on 3 number 0 ticket 2" then
         codes "off 1 3 0 at 3 number 0 level - weight 0 first 1 last 1" then
         codes "order 0 1 0" then codes "end 3" then []) ≡ Unsound 1 Form }
+{}
+
+/// Where texts are cut: on the first line, with blanks and a carriage return, at the first of two,
+/// nowhere, and at a last line without its line feed.
+pub fn example_cuts()
+    ensures first { input_part (codes "report" then codes "yes" then []) ≡ [] }
+    ensures first_report { report_part (codes "report" then codes "yes" then [])
+        ≡ codes "yes" then [] }
+    ensures blanks { input_part (codes "sub 3" then codes " \treport \r" then codes "end" then [])
+        ≡ codes "sub 3" then [] }
+    ensures blanks_report { report_part (codes "sub 3" then codes " \treport \r" then codes "end")
+        ≡ codes "end" }
+    ensures first_of_two { input_part (codes "k 2" then codes "report" then codes "report" then [])
+        ≡ codes "k 2" then [] }
+    ensures second_is_report { report_part (codes "k 2" then codes "report" then
+        codes "report" then []) ≡ codes "report" then [] }
+    ensures nowhere { input_part (codes "k 2" then codes "reports" then codes "report x" then
+        codes "a report") ≡ codes "k 2" then codes "reports" then codes "report x" then
+        codes "a report" }
+    ensures nowhere_report { report_part (codes "k 2" then codes "reports" then
+        codes "report x" then codes "a report") ≡ [] }
+    ensures two_returns { report_part (codes "k 2" then codes "report\r\r" then codes "end")
+        ≡ [] }
+    ensures last { input_part (codes "k 2" then codes "report") ≡ codes "k 2" then [] }
+    ensures last_report { report_part (codes "k 2" then codes "report") ≡ [] }
+{}
+
+/// Lines that tell verdicts.
+pub fn example_verdicts()
+    ensures sound { verdict_line_of Sound ≡ codes "yes" ++ 10 ∷ [] }
+    ensures unsound { verdict_line_of (Unsound 12 Weight) ≡ codes "no 12 weight" ++ 10 ∷ [] }
 {}

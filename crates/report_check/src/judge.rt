@@ -1,15 +1,17 @@
 //! The parts that a sound report keeps, line by line.
-ghost use Rattle.std.specs.Prelude.{◌≡◌, ◌+◌, ◌*◌, ◌<◌, ◌≤◌, ◌^◌, None, Some, if◌then◌else◌, nat_le, ℕ, List, length, map, slice_index};
+ghost use Rattle.std.specs.Prelude.{◌≡◌, ◌+◌, ◌*◌, ◌<◌, ◌≤◌, ◌^◌, None, Some, if◌then◌else◌, nat_le, suc, ℕ, List, length, map, slice_index};
 ghost use Rattle.std.specs.List.{list_all};
 ghost use Rattle.region_plan.specs.Plan.{PlanData};
 ghost use Rattle.region_plan.specs.Settings.{setting_of};
 ghost use Rattle.report_check.specs.Lines.{done_of};
-ghost use Rattle.report_check.specs.Parts.{actor_of, again_holds, end_of, has_tickets, is_light, is_number, is_told, is_ticket, none_left, open_passage, place_holds, tickets_hold, unconfirmed, weight_holds};
+ghost use Rattle.report_check.specs.Parts.{again_holds, end_of, has_tickets, is_light, is_number, is_told, is_ticket, none_left, open_passage, place_holds, tickets_hold, unconfirmed, weight_holds};
 ghost use Rattle.report_check.specs.Verdicts.{flaw_of, has_call, is_last_at, judged, line_behind};
+ghost use Rattle.report_check.specs.Blocks.{AreBehind, AreBlocks};
 ghost use Rattle.report_check.specs.Grounds.{IsGround, IsGroundAlone};
 
+use crate::blocks::{Lines, actor_of};
 use crate::calls::{Line, Place, Visits};
-use crate::told::{Told, meets_move, next_ticket, told_before};
+use crate::told::{Told, meets_move, next_ticket, told_of};
 use crate::verdict::{Flaw, Verdict};
 use distances::Distances;
 use net_reader::Call;
@@ -21,18 +23,6 @@ pub(crate) struct Ground<'a> {
     pub(crate) nodes: u32,
     pub(crate) stretch: u64,
     pub(crate) distances: &'a Distances,
-}
-
-// Whose line it is.
-fn actor_of(line: &Line) -> u32
-    ensures { result ≡ actor_of (done_of line.now) }
-{
-    match *line {
-        Line::Move { actor, .. } => actor,
-        Line::Switch { actor, .. } => actor,
-        Line::Answer { actor, .. } => actor,
-        Line::Again { actor, .. } => actor,
-    }
 }
 
 // The last ticket of a call.
@@ -104,11 +94,22 @@ fn tickets_hold(order: &[u64], before: Option<u64>, line: &Line) -> bool
     }
 }
 
-// Whether no ticket of an actor is behind its last call.
-fn none_left(order: &[u64], line: &Line) -> bool
+// Whether a ticket is at most the one behind another.
+fn is_at_most_behind(ticket: u64, end: u64) -> bool
+    ensures { result ≡ nat_le ticket (suc end) }
+{
+    ticket == 0 || ticket - 1 <= end
+}
+
+// Whether no ticket of an actor is behind its last call, by the tickets behind the last ones.
+fn none_left(behind: &[u64], order: &[u64], line: &Line) -> bool
+    requires { AreBehind order.now behind.now }
     ensures { result ≡ none_left order.now (done_of line.now) }
 {
-    next_ticket(order, actor_of(line), Some(end_of(line))).is_none()
+    match behind.get(actor_of(line) as usize) {
+        Some(ticket) => is_at_most_behind(*ticket, end_of(line)),
+        None => next_ticket(order, actor_of(line), Some(end_of(line))).is_none(),
+    }
 }
 
 // Whether a find tells where its subscriber was.
@@ -130,8 +131,10 @@ fn home_of(homes: &[u32], sub: u32) -> u32
     }
 }
 
-fn place_holds(ground: &Ground<'_>, calls: &[Line], line: &Line) -> bool
-    ensures { result ≡ place_holds ground.now.homes.now (map done_of calls.now) (done_of line.now) }
+fn place_holds(ground: &Ground<'_>, lines: &Lines<'_>, line: &Line) -> bool
+    requires { AreBlocks lines.now }
+    ensures { result ≡ place_holds ground.now.homes.now (map done_of lines.now.calls.now)
+        (done_of line.now) }
 {
     match *line {
         Line::Answer {
@@ -141,19 +144,20 @@ fn place_holds(ground: &Ground<'_>, calls: &[Line], line: &Line) -> bool
             visits,
             ..
         } => {
-            let told = told_before(home_of(ground.homes, sub), calls, sub, visits.last);
+            let told = told_of(lines, home_of(ground.homes, sub), sub, visits.last);
             is_told(told, off, place)
         }
         _ => true,
     }
 }
 
-fn again_holds(calls: &[Line], order: &[u64], line: &Line) -> bool
-    ensures { result ≡ again_holds (map done_of calls.now) order.now (done_of line.now) }
+fn again_holds(lines: &Lines<'_>, order: &[u64], line: &Line) -> bool
+    requires { AreBlocks lines.now }
+    ensures { result ≡ again_holds (map done_of lines.now.calls.now) order.now (done_of line.now) }
 {
     match *line {
         Line::Again { sub, visits, .. } => {
-            meets_move(calls, order, sub, visits.first, visits.last)
+            meets_move(lines, order, sub, visits.first, visits.last)
         }
         _ => true,
     }
@@ -204,31 +208,33 @@ fn is_within(weight: u64, stretch: u64, distance: u64, passage: u64) -> bool
 // Whether a find that met no move weighs what is promised at most.
 fn is_light(
     ground: &Ground<'_>,
-    calls: &[Line],
+    lines: &Lines<'_>,
     order: &[u64],
     from: u32,
     sub: u32,
     place: Place,
     visits: Visits,
 ) -> bool
-    requires { IsGroundAlone ground.now }
+    requires ground { IsGroundAlone ground.now }
+    requires blocks { AreBlocks lines.now }
     ensures { (plan : PlanData) → IsGround plan ground.now
-        → result ≡ is_light plan ground.now.homes.now (map done_of calls.now) order.now from sub
+        → result ≡ is_light plan ground.now.homes.now (map done_of lines.now.calls.now) order.now from sub
         place.node visits.weight visits.first visits.last }
 {
-    if meets_move(calls, order, sub, visits.first, visits.last) {
+    if meets_move(lines, order, sub, visits.first, visits.last) {
         return true;
     }
-    let told = told_before(home_of(ground.homes, sub), calls, sub, visits.last);
+    let told = told_of(lines, home_of(ground.homes, sub), sub, visits.last);
     let passage = open_passage(order, sub, visits.last, told);
     let way = distance(ground, from, place.node);
     is_within(visits.weight, ground.stretch, way, passage)
 }
 
-fn weight_holds(ground: &Ground<'_>, calls: &[Line], order: &[u64], line: &Line) -> bool
-    requires { IsGroundAlone ground.now }
+fn weight_holds(ground: &Ground<'_>, lines: &Lines<'_>, order: &[u64], line: &Line) -> bool
+    requires ground { IsGroundAlone ground.now }
+    requires blocks { AreBlocks lines.now }
     ensures { (plan : PlanData) → IsGround plan ground.now
-        → result ≡ weight_holds plan ground.now.homes.now (map done_of calls.now) order.now
+        → result ≡ weight_holds plan ground.now.homes.now (map done_of lines.now.calls.now) order.now
         (done_of line.now) }
 {
     match *line {
@@ -244,7 +250,7 @@ fn weight_holds(ground: &Ground<'_>, calls: &[Line], order: &[u64], line: &Line)
             place,
             visits,
             ..
-        } => is_light(ground, calls, order, from, sub, place, visits),
+        } => is_light(ground, lines, order, from, sub, place, visits),
         _ => true,
     }
 }
@@ -252,30 +258,33 @@ fn weight_holds(ground: &Ground<'_>, calls: &[Line], order: &[u64], line: &Line)
 // The first part that a line breaks; the end of the actor's call before is handed in.
 fn flaw_of(
     ground: &Ground<'_>,
-    calls: &[Line],
+    lines: &Lines<'_>,
     order: &[u64],
+    behind: &[u64],
     before: Option<u64>,
     last: bool,
     line: &Line,
 ) -> Option<Flaw>
-    requires { IsGroundAlone ground.now }
+    requires ground { IsGroundAlone ground.now }
+    requires blocks { AreBlocks lines.now }
+    requires behind { AreBehind order.now behind.now }
     ensures { (plan : PlanData) → IsGround plan ground.now
-        → result ≡ flaw_of plan ground.now.homes.now (map done_of calls.now) order.now before last
+        → result ≡ flaw_of plan ground.now.homes.now (map done_of lines.now.calls.now) order.now before last
         (done_of line.now) }
 {
     if !tickets_hold(order, before, line) {
         return Some(Flaw::Tickets);
     }
-    if last && !none_left(order, line) {
+    if last && !none_left(behind, order, line) {
         return Some(Flaw::Tickets);
     }
-    if !place_holds(ground, calls, line) {
+    if !place_holds(ground, lines, line) {
         return Some(Flaw::Place);
     }
-    if !again_holds(calls, order, line) {
+    if !again_holds(lines, order, line) {
         return Some(Flaw::Again);
     }
-    if !weight_holds(ground, calls, order, line) {
+    if !weight_holds(ground, lines, order, line) {
         return Some(Flaw::Weight);
     }
     None
@@ -336,18 +345,22 @@ fn end_before(last: bool, line: &Line) -> Option<u64>
 pub(crate) fn judge(
     ground: &Ground<'_>,
     scripts: &[Vec<Call>],
-    calls: &[Line],
+    lines: &Lines<'_>,
     order: &[u64],
+    behind: &[u64],
 ) -> Verdict
-    requires { IsGroundAlone ground.now }
+    requires ground { IsGroundAlone ground.now }
+    requires blocks { AreBlocks lines.now }
+    requires behind { AreBehind order.now behind.now }
     ensures { (plan : PlanData) → IsGround plan ground.now
         → result ≡ judged plan ground.now.homes.now (map (λ script. script.items) scripts.now)
-        (record { calls = map done_of calls.now; order = order.now }) }
+        (record { calls = map done_of lines.now.calls.now; order = order.now }) }
 {
+    let calls = lines.calls;
     let mut before = None;
     'lines: for index in 0..calls.len() {
         let last = is_last(calls, index);
-        match flaw_of(ground, calls, order, before, last, &calls[index]) {
+        match flaw_of(ground, lines, order, behind, before, last, &calls[index]) {
             Some(cause) => {
                 return Verdict::Unsound {
                     line: line_behind(index),

@@ -2,9 +2,11 @@
 //! first flaw (docs/FORMATS.md, "The checker").
 #![tactic(auto)]
 
+mod blocks;
 mod calls;
 mod checker;
 mod cursor;
+mod cut;
 mod examples;
 mod judge;
 mod laws;
@@ -14,9 +16,10 @@ mod told;
 mod verdict;
 
 pub use checker::check;
+pub use cut::{CutText, cut_text};
 pub use examples::{
-    flaws_of_form, flaws_of_place, flaws_of_tickets, moves_by_tickets, switches_by_tickets,
-    worked_reports,
+    example_cuts, example_verdicts, flaws_of_form, flaws_of_place, flaws_of_tickets,
+    moves_by_tickets, switches_by_tickets, worked_reports,
 };
 pub use laws::{calls_are_text, numbers_are_text, words_are_text};
-pub use verdict::{Flaw, Verdict};
+pub use verdict::{Flaw, Verdict, verdict_line};

@@ -57,15 +57,15 @@ impl<'a> Cursor<'a> {
             self.new.rest.now) }
     {
         'numbers: for _number in 0..room {
-            if self.bytes(b"\n").is_some() {
+            if self.line_end().is_some() {
                 return Ok(Some(()));
             }
-            match self.number(MOST) {
+            match self.listed() {
                 Some(number) => order.push(number)?,
                 None => return Ok(None),
             }
         }
-        Ok(self.bytes(b"\n"))
+        Ok(self.line_end())
     }
 
     // The numbers of a line of the order, behind its word; whether the line has that form.
@@ -74,7 +74,7 @@ impl<'a> Cursor<'a> {
             (order_in order.old.items self.old.rest.now) read order.new.items
             self.new.rest.now) }
     {
-        match self.number(MOST) {
+        match self.listed() {
             Some(number) => order.push(number)?,
             None => return Ok(None),
         }
@@ -87,7 +87,8 @@ impl<'a> Cursor<'a> {
             (orders_in (length self.old.rest.now) [] self.old.rest.now) read self.new.rest.now) }
         ensures few { IfOk result (λ read. IfErr read (λ lines. lines ≤ 2 ^ 58)) }
     {
-        let mut order = Vec::new(alloc);
+        // A number takes two bytes at least.
+        let mut order = Vec::with_capacity(alloc, self.rest.len() / 2)?;
         'lines: for _line in 0..self.rest.len() {
             if order.len() % MOST_ON_A_LINE != 0 {
                 return Ok(Ok(order));

@@ -1,9 +1,11 @@
 //! What the lines of a report tell of a subscriber before a ticket.
 ghost use Rattle.std.specs.Prelude.{◌≡◌, ◌-◌, ◌<◌, ◌^◌, Some, None, drop, fold, length, map};
 ghost use Rattle.std.specs.List.{list_any};
+ghost use Rattle.report_check.specs.Blocks.{AreBlocks};
 ghost use Rattle.report_check.specs.Lines.{done_of};
 ghost use Rattle.report_check.specs.Parts.{at_home, first_from, is_of_move, is_switch_at, meets_move, next_ticket, tell, told_before};
 
+use crate::blocks::Lines;
 use crate::calls::Line;
 
 /// Where a subscriber is, how many moves it has made, whether it is off, and the commit and the
@@ -75,8 +77,8 @@ fn at_home(home: u32) -> Told
     }
 }
 
-// What the lines tell of a subscriber before a ticket.
-pub(crate) fn told_before(home: u32, calls: &[Line], sub: u32, ticket: u64) -> Told
+// What some lines tell of a subscriber before a ticket.
+fn told_before(home: u32, calls: &[Line], sub: u32, ticket: u64) -> Told
     ensures { result ≡ fold (tell sub ticket) (at_home home) (map done_of calls.now) }
 {
     let mut told = at_home(home);
@@ -84,6 +86,14 @@ pub(crate) fn told_before(home: u32, calls: &[Line], sub: u32, ticket: u64) -> T
         told = tell(sub, ticket, told, line);
     }
     told
+}
+
+// What all lines tell of a subscriber before a ticket, by those among which its own stand.
+pub(crate) fn told_of(lines: &Lines<'_>, home: u32, sub: u32, ticket: u64) -> Told
+    requires { AreBlocks lines.now }
+    ensures { result ≡ fold (tell sub ticket) (at_home home) (map done_of lines.now.calls.now) }
+{
+    told_before(home, lines.of_actor(sub), sub, ticket)
 }
 
 // Whether a line is that of a switch with this ticket.
@@ -108,11 +118,20 @@ fn is_switch(calls: &[Line], ticket: u64) -> bool
     false
 }
 
-// Whether an actor's ticket is of a move of a subscriber.
-fn is_of_move(calls: &[Line], sub: u32, ticket: u64, actor: u64) -> bool
-    ensures { result ≡ is_of_move (map done_of calls.now) sub ticket actor }
+// The same by the lines among which the switches stand.
+fn is_switch_among(lines: &Lines<'_>, ticket: u64) -> bool
+    requires { AreBlocks lines.now }
+    ensures { result ≡ list_any (is_switch_at ticket) (map done_of lines.now.calls.now) }
 {
-    actor == u64::from(sub) && !is_switch(calls, ticket)
+    is_switch(lines.of_switches(), ticket)
+}
+
+// Whether an actor's ticket is of a move of a subscriber.
+fn is_of_move(lines: &Lines<'_>, sub: u32, ticket: u64, actor: u64) -> bool
+    requires { AreBlocks lines.now }
+    ensures { result ≡ is_of_move (map done_of lines.now.calls.now) sub ticket actor }
+{
+    actor == u64::from(sub) && !is_switch_among(lines, ticket)
 }
 
 // The first ticket of an actor from this ticket on.
@@ -143,8 +162,9 @@ pub(crate) fn next_ticket(order: &[u64], actor: u32, before: Option<u64>) -> Opt
 }
 
 // Whether a ticket of a move of a subscriber comes between two tickets.
-pub(crate) fn meets_move(calls: &[Line], order: &[u64], sub: u32, first: u64, last: u64) -> bool
-    ensures { result ≡ meets_move (map done_of calls.now) order.now sub first last }
+pub(crate) fn meets_move(lines: &Lines<'_>, order: &[u64], sub: u32, first: u64, last: u64) -> bool
+    requires { AreBlocks lines.now }
+    ensures { result ≡ meets_move (map done_of lines.now.calls.now) order.now sub first last }
 {
     if first >= order.len() as u64 {
         return false;
@@ -153,7 +173,7 @@ pub(crate) fn meets_move(calls: &[Line], order: &[u64], sub: u32, first: u64, la
         if ticket as u64 >= last {
             return false;
         }
-        if is_of_move(calls, sub, ticket as u64, order[ticket]) {
+        if is_of_move(lines, sub, ticket as u64, order[ticket]) {
             return true;
         }
     }

@@ -1,7 +1,9 @@
 //! What a checker says of a report.
-ghost use Rattle.std.specs.Prelude.{◌≡◌, codes};
+ghost use Rattle.std.specs.Prelude.{◌≡◌, IfOk, codes};
+ghost use Rattle.report_check.specs.VerdictText.{verdict_line_of};
 ghost use Rattle.report_check.specs.Verdicts.{name_of};
 
+use std::alloc::{AllocError, Global};
 use std::fmt;
 
 /// What is wrong with a report, in the order in which a line is tested.
@@ -39,4 +41,22 @@ impl Flaw {
 pub enum Verdict {
     Sound,
     Unsound { line: u32, cause: Flaw },
+}
+
+/// The line that tells a verdict: `yes`, or `no` with the line and the name of its flaw.
+pub fn verdict_line(alloc: Global, verdict: Verdict) -> Result<Vec<u8>, AllocError>
+    ensures { IfOk result (λ line. line.items ≡ verdict_line_of verdict) }
+{
+    let mut text = String::new(alloc);
+    match verdict {
+        Verdict::Sound => write!(text, "yes\n")?,
+        Verdict::Unsound { line, cause } => match cause {
+            Flaw::Form => write!(text, "no {line} form\n")?,
+            Flaw::Tickets => write!(text, "no {line} tickets\n")?,
+            Flaw::Place => write!(text, "no {line} place\n")?,
+            Flaw::Again => write!(text, "no {line} again\n")?,
+            Flaw::Weight => write!(text, "no {line} weight\n")?,
+        },
+    }
+    Ok(text.into_bytes())
 }

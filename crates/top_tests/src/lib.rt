@@ -5,6 +5,8 @@
 #[cfg(test)]
 mod device_tests;
 #[cfg(test)]
+mod foreign_reports;
+#[cfg(test)]
 mod grammar_tests;
 #[cfg(test)]
 mod load_tests;
@@ -18,3 +20,5 @@ mod runs;
 mod same;
 #[cfg(test)]
 mod thread_tests;
+#[cfg(test)]
+mod verdict_tests;

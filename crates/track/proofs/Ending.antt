@@ -1,16 +1,21 @@
 -- How a call ends, by what its parts answered.
-use Rattle.std.proofs.Common.{◌≡◌, ◌⊎◌, inl, inr, ℕ, List, ◌++◌, Option, Some, None, Result, Ok, Err, refl, sym, ap, subst, ◌∙◌, append-nil}
+use Rattle.std.proofs.Common.{◌≡◌, ◌⊎◌, inl, inr, ℕ, ◌<◌, ◌≤◌, true, List, ◌++◌, length, Option, Some, None, Result, Ok, Err, refl, sym, ap, subst, ◌∙◌, append-nil}
 use Rattle.std.specs.Prelude.{IfSome}
 use Rattle.outside.specs.Bytes.{append_known, prepend_known, IsAtEnd}
 use Rattle.net_reader.specs.declared.fault.InputFault.{InputFault}
 use Rattle.net_reader.specs.Input.{Contents}
-use Rattle.net_reader.specs.Reading.{ReaderValue, StandsFor}
+use Rattle.net_reader.specs.Reading.{ReaderValue, StandsFor, most_bytes}
+use Rattle.report_check.specs.declared.verdict.Verdict.{Verdict}
+use Rattle.report_check.specs.declared.verdict.Verdict.TheVariants as verdicts
+use Rattle.report_check.specs.Cuts.{input_part, report_part}
+use Rattle.report_check.specs.Verdicts.{most_bytes as most_text_bytes}
 use Rattle.word_line.specs.declared.command.Command.{Command}
+use Rattle.word_line.specs.declared.command.Command.TheVariants as commands
 use Rattle.track.specs.declared.status.Status.{Status}
 use Rattle.track.specs.declared.status.Status.TheVariants as statuses
-use Rattle.track.specs.Results.{IsRightAnswer, IsText}
-use Rattle.track.specs.Ends.{EndsAs, IsBegun, IsTextWritten, streams}
-use Rattle.track.specs.Transfer.{IsAllRead, StopsReading, StopsWriting, read_status, write_status}
+use Rattle.track.specs.Results.{IsInputText, IsJudged, IsRightAnswer, IsRightVerdict, IsText, is_made_alike, verdict_for, verdict_status}
+use Rattle.track.specs.Ends.{EndsAs, EndsDone, IsBegun, IsLong, IsShort, IsTextWritten, Streams, streams}
+use Rattle.track.specs.Transfer.{IsAllRead, IsTextRead, StopsReading, StopsWriting, read_status, write_status}
 use Rattle.track.specs.declared.stop.ReadStop.{ReadStop}
 use Rattle.track.specs.declared.stop.ReadStop.TheVariants as reading
 use Rattle.track.specs.declared.stop.WriteStop.{WriteStop}
@@ -24,73 +29,177 @@ of_left P before (Some rest) bytes e end p =
     let whole : bytes ≡ bytes ++ rest = sym (ap (λ (xs : List ℕ). bytes ++ xs) end ∙ append-nil bytes) in
     subst (λ (o : Option (List ℕ)). IfSome o P) (sym e) (subst P whole p)
 
-status_of_text : (command : Command) (input : Result Contents InputFault) (status : Status) (text : List ℕ)
-    → IsRightAnswer command input status text → (status ≡ statuses.Done) ⊎ (status ≡ statuses.Refused)
-status_of_text command (Ok contents) status text h = inl h.0
-status_of_text command (Err fault) status text h = inr h.0
+-- a status that comes with a whole text
+abbrev IsTold : Status → Type 0
+IsTold status = (status ≡ statuses.Done) ⊎ ((status ≡ statuses.Refused) ⊎ (status ≡ statuses.Unsound))
+
+status_of_answer : (command : Command) (input : Result Contents InputFault) (status : Status) (text : List ℕ)
+    → IsRightAnswer command input status text → IsTold status
+status_of_answer command (Ok contents) status text h = inl h.0
+status_of_answer command (Err fault) status text h = inr (inl h.0)
+
+status_of_verdict : (verdict : Verdict) (status : Status) → status ≡ verdict_status verdict → IsTold status
+status_of_verdict verdicts.Sound status is = inl is
+status_of_verdict (verdicts.Unsound line cause) status is = inr (inr is)
+
+status_of_judged : (report : List ℕ) (input : Result Contents InputFault) (status : Status) (text : List ℕ)
+    → IsRightVerdict report input status text → IsTold status
+status_of_judged report (Ok contents) status text h = status_of_verdict (verdict_for contents report) status h.0
+status_of_judged report (Err fault) status text h = inr (inl h.0)
+
+-- the status that goes with a text
+status_of_text : (command : Command) (bytes : List ℕ) (status : Status) (text : List ℕ)
+    → IsText command bytes status text → IsTold status
+status_of_text commands.Check bytes status text is = status_of_judged (report_part bytes) is.input status text is.answer
+status_of_text command bytes status text is =
+    status_of_answer command is.input status text is.answer
+
+-- all bytes are an input to a command
+pub record IsPlain (command : Command) : Type 0 where
+  pub short : (bytes : List ℕ) → length bytes ≤ most_bytes → IsShort command bytes
+  pub long : (bytes : List ℕ) → most_bytes < length bytes → IsLong command bytes
+  pub text : (bytes : List ℕ) (status : Status) (text : List ℕ) → IsInputText command bytes status text
+      → IsText command bytes status text
+
+-- they are to those that make always the same of one, and to a run
+pub is_plain : (command : Command) → is_made_alike command ≡ true → IsPlain command
+is_plain commands.Check alike = cc
+is_plain command alike = record { short = λ bytes is. is; long = λ bytes is. is; text = λ bytes status text is. is }
+
+pub is_plain_run : IsPlain commands.Run
+is_plain_run = record { short = λ bytes is. is; long = λ bytes is. is; text = λ bytes status text is. is }
+
+long_in : (command : Command) → IsPlain command → (left : Option (List ℕ))
+    → IfSome left (λ bytes. most_bytes < length bytes) → IfSome left (λ bytes. IsLong command bytes)
+long_in command plain None long = tt
+long_in command plain (Some bytes) long = plain.long bytes long
 
 -- reading stopped
-pub stopped : (command : Command) (stop : ReadStop) (left left' : Option (List ℕ)) (rf rf' : ℕ)
-    (written : Option (List ℕ)) (wf : ℕ) → StopsReading stop left rf rf'
+pub stopped : (command : Command) → IsPlain command → (stop : ReadStop) (left left' : Option (List ℕ)) (rf rf' : ℕ)
+    (written : Option (List ℕ)) (wf : ℕ) → StopsReading most_bytes stop left rf rf'
     → EndsAs command (read_status stop) (streams left rf written wf) (streams left' rf' written wf)
-stopped command reading.OutOfMemory left left' rf rf' written wf h = ((refl, refl), h)
-stopped command reading.Failed left left' rf rf' written wf h = ((refl, refl), h)
-stopped command reading.TooLong left left' rf rf' written wf h = ((refl, refl), h.1, h.0)
+stopped command plain reading.OutOfMemory left left' rf rf' written wf h = ((refl, refl), h)
+stopped command plain reading.Failed left left' rf rf' written wf h = ((refl, refl), h)
+stopped command plain reading.TooLong left left' rf rf' written wf h = ((refl, refl), h.1, long_in command plain left h.0)
 
--- the text was written
-done-go : (command : Command) (status : Status) (text : List ℕ) (reader : ReaderValue) (left left' : Option (List ℕ))
-    (rf rf' : ℕ) (written written' : Option (List ℕ)) (wf wf' : ℕ) (all : IsAllRead reader left left' rf rf')
-    → IsText command all.bytes status text → written' ≡ append_known written text → wf' ≡ wf
-    → (status ≡ statuses.Done) ⊎ (status ≡ statuses.Refused)
+told : (command : Command) (status : Status) (before now : Streams) → IsTold status
+    → EndsDone command status before now → EndsAs command status before now
+told command status before now (inl e) h =
+    subst (λ (s : Status). EndsAs command s before now) (sym e)
+    (subst (λ (s : Status). EndsDone command s before now) e h)
+told command status before now (inr (inl e)) h =
+    subst (λ (s : Status). EndsAs command s before now) (sym e)
+    (subst (λ (s : Status). EndsDone command s before now) e h)
+told command status before now (inr (inr e)) h =
+    subst (λ (s : Status). EndsAs command s before now) (sym e)
+    (subst (λ (s : Status). EndsDone command s before now) e h)
+
+-- the text of all bytes that were left was written
+pub done-bytes : (command : Command) (status : Status) (text bytes : List ℕ) (left left' : Option (List ℕ))
+    (rf rf' : ℕ) (written written' : Option (List ℕ)) (wf wf' : ℕ) → left ≡ prepend_known bytes left'
+    → IsAtEnd left' → rf' ≡ rf → IsShort command bytes → IsText command bytes status text
+    → written' ≡ append_known written text → wf' ≡ wf
     → EndsAs command status (streams left rf written wf) (streams left' rf' written' wf')
-done-go command status text reader left left' rf rf' written written' wf wf' all right w f (inl e) =
-    let is : IsText command all.bytes statuses.Done text =
-    subst (λ (s : Status). IsText command all.bytes s text) e right in
-    let whole : IsTextWritten command statuses.Done all.bytes written written' =
-    record { short = all.short; text = text; right = is; written = w } in
-    subst (λ (s : Status). EndsAs command s (streams left rf written wf) (streams left' rf' written' wf')) (sym e) (
-      of_left (λ bytes. IsTextWritten command statuses.Done bytes written written') left left' all.bytes all.parts
-          all.end whole,
-      all.end,
-      all.no_fault,
-      f,
-    )
-done-go command status text reader left left' rf rf' written written' wf wf' all right w f (inr e) =
-    let is : IsText command all.bytes statuses.Refused text =
-    subst (λ (s : Status). IsText command all.bytes s text) e right in
-    let whole : IsTextWritten command statuses.Refused all.bytes written written' =
-    record { short = all.short; text = text; right = is; written = w } in
-    subst (λ (s : Status). EndsAs command s (streams left rf written wf) (streams left' rf' written' wf')) (sym e) (
-      of_left (λ bytes. IsTextWritten command statuses.Refused bytes written written') left left' all.bytes all.parts
-          all.end whole,
-      all.end,
-      all.no_fault,
+done-bytes command status text bytes left left' rf rf' written written' wf wf' parts end calm short right w f =
+    let whole : IsTextWritten command status bytes written written' =
+    record { short = short; text = text; right = right; written = w } in
+    told command status (streams left rf written wf) (streams left' rf' written' wf')
+    (status_of_text command bytes status text right) (
+      of_left (λ bytes. IsTextWritten command status bytes written written') left left' bytes parts end whole,
+      end,
+      calm,
       f,
     )
 
-pub done : (command : Command) (status : Status) (text shown : List ℕ) (reader : ReaderValue) (left left' : Option
+-- a front of it was written
+pub begun-bytes : (command : Command) (status : Status) (stop : WriteStop) (text bytes : List ℕ)
+    (left left' : Option (List ℕ)) (rf rf' : ℕ) (written written' : Option (List ℕ)) (wf wf' : ℕ)
+    → left ≡ prepend_known bytes left' → IsAtEnd left' → rf' ≡ rf → IsShort command bytes
+    → IsText command bytes status text → StopsWriting stop text written written' wf wf'
+    → EndsAs command (write_status stop) (streams left rf written wf) (streams left' rf' written' wf')
+begun-bytes command status writing.OutOfMemory text bytes left left' rf rf' written written' wf wf' parts end calm short
+    right h = ((h.0, h.1), calm)
+begun-bytes command status writing.Failed text bytes left left' rf rf' written written' wf wf' parts end calm short
+    right h =
+    let is : IsBegun command bytes written written' =
+    record { short = short; status = status; text = text; right = right; part = h.1 } in (
+      h.0,
+      of_left (λ bytes. IsBegun command bytes written written') left left' bytes parts end is,
+      end,
+      calm,
+    )
+
+pub done : (command : Command) → IsPlain command → (status : Status) (text shown : List ℕ) (reader : ReaderValue) (left left' : Option
     (List ℕ)) (rf rf' : ℕ) (written written' : Option (List ℕ)) (wf wf' : ℕ) → IsAllRead reader left left' rf rf'
-    → ((bytes : List ℕ) → StandsFor reader bytes → IsText command bytes status text) → shown ≡ text
+    → ((bytes : List ℕ) → StandsFor reader bytes → IsInputText command bytes status text) → shown ≡ text
     → written' ≡ append_known written shown → wf' ≡ wf
     → EndsAs command status (streams left rf written wf) (streams left' rf' written' wf')
-done command status text shown reader left left' rf rf' written written' wf wf' all right same w f =
-    let is = right all.bytes all.stands in
-    done-go command status text reader left left' rf rf' written written' wf wf' all is (w
-    ∙ ap (append_known written) same) f (status_of_text command is.input status text is.answer)
+done command plain status text shown reader left left' rf rf' written written' wf wf' all right same w f =
+    done-bytes command status text all.bytes left left' rf rf' written written' wf wf' all.parts all.end all.no_fault
+    (plain.short all.bytes all.short) (plain.text all.bytes status text (right all.bytes all.stands))
+    (w ∙ ap (append_known written) same) f
 
 -- the text wasn't written whole
-pub unwritten : (command : Command) (status : Status) (stop : WriteStop) (text : List ℕ) (reader : ReaderValue)
+pub unwritten : (command : Command) → IsPlain command → (status : Status) (stop : WriteStop) (text : List ℕ) (reader : ReaderValue)
     (left left' : Option (List ℕ)) (rf rf' : ℕ) (written written' : Option (List ℕ)) (wf wf' : ℕ)
     → IsAllRead reader left left' rf rf' → ((bytes : List ℕ) → StandsFor reader bytes
-    → IsText command bytes status text) → StopsWriting stop text written written' wf wf'
+    → IsInputText command bytes status text) → StopsWriting stop text written written' wf wf'
     → EndsAs command (write_status stop) (streams left rf written wf) (streams left' rf' written' wf')
-unwritten command status writing.OutOfMemory text reader left left' rf rf' written written' wf wf' all right h =
-    ((h.0, h.1), all.no_fault)
-unwritten command status writing.Failed text reader left left' rf rf' written written' wf wf' all right h =
-    let is : IsBegun command all.bytes written written' =
-    record { short = all.short; status = status; text = text; right = right all.bytes all.stands; part = h.1 } in (
-      h.0,
-      of_left (λ bytes. IsBegun command bytes written written') left left' all.bytes all.parts all.end is,
-      all.end,
-      all.no_fault,
-    )
+unwritten command plain status stop text reader left left' rf rf' written written' wf wf' all right h =
+    begun-bytes command status stop text all.bytes left left' rf rf' written written' wf wf' all.parts all.end
+    all.no_fault (plain.short all.bytes all.short) (plain.text all.bytes status text (right all.bytes all.stands)) h
+
+-- ---- a text that has a report
+
+-- reading stopped
+pub stopped-check : (stop : ReadStop) (left left' : Option (List ℕ)) (rf rf' : ℕ) (written : Option (List ℕ)) (wf : ℕ)
+    → StopsReading most_text_bytes stop left rf rf'
+    → EndsAs commands.Check (read_status stop) (streams left rf written wf) (streams left' rf' written wf)
+stopped-check reading.OutOfMemory left left' rf rf' written wf h = ((refl, refl), h)
+stopped-check reading.Failed left left' rf rf' written wf h = ((refl, refl), h)
+stopped-check reading.TooLong left left' rf rf' written wf h = ((refl, refl), h.1, long-check left h.0)
+  where
+    long-check : (left : Option (List ℕ)) → IfSome left (λ bytes. most_text_bytes < length bytes)
+        → IfSome left (λ bytes. IsLong commands.Check bytes)
+    long-check None long = tt
+    long-check (Some bytes) long = inl long
+
+-- the input part is too long
+pub long-part : (bytes part : List ℕ) (left left' : Option (List ℕ)) (rf rf' : ℕ) (written : Option (List ℕ)) (wf : ℕ)
+    → IsTextRead most_text_bytes bytes left left' rf rf' → part ≡ input_part bytes → most_bytes < length part
+    → EndsAs commands.Check statuses.TooLong (streams left rf written wf) (streams left' rf' written wf)
+long-part bytes part left left' rf rf' written wf all same long = (
+  (refl, refl),
+  all.no_fault,
+  of_left (λ bytes. IsLong commands.Check bytes) left left' bytes all.parts all.end
+      (inr (subst (λ (t : List ℕ). most_bytes < length t) same long)),
+)
+
+-- the parts of the text that was read may be so long
+part-short : (bytes part : List ℕ) → part ≡ input_part bytes → length part ≤ most_bytes
+    → length bytes ≤ most_text_bytes → IsShort commands.Check bytes
+part-short bytes part same short all = (all, subst (λ (t : List ℕ). length t ≤ most_bytes) same short)
+
+judged-text : (bytes part report : List ℕ) (status : Status) (text : List ℕ) → part ≡ input_part bytes
+    → report ≡ report_part bytes → IsJudged part report status text → IsText commands.Check bytes status text
+judged-text bytes part report status text p r h =
+    subst (λ (t : List ℕ). IsJudged (input_part bytes) t status text) r
+    (subst (λ (t : List ℕ). IsJudged t report status text) p h)
+
+pub done-check : (bytes part report : List ℕ) (status : Status) (text : List ℕ) (left left' : Option (List ℕ))
+    (rf rf' : ℕ) (written written' : Option (List ℕ)) (wf wf' : ℕ)
+    → IsTextRead most_text_bytes bytes left left' rf rf' → part ≡ input_part bytes → report ≡ report_part bytes
+    → length part ≤ most_bytes → IsJudged part report status text → written' ≡ append_known written text → wf' ≡ wf
+    → EndsAs commands.Check status (streams left rf written wf) (streams left' rf' written' wf')
+done-check bytes part report status text left left' rf rf' written written' wf wf' all p r short h w f =
+    done-bytes commands.Check status text bytes left left' rf rf' written written' wf wf' all.parts all.end all.no_fault
+    (part-short bytes part p short all.short) (judged-text bytes part report status text p r h) w f
+
+pub begun-check : (bytes part report : List ℕ) (status : Status) (stop : WriteStop) (text : List ℕ)
+    (left left' : Option (List ℕ)) (rf rf' : ℕ) (written written' : Option (List ℕ)) (wf wf' : ℕ)
+    → IsTextRead most_text_bytes bytes left left' rf rf' → part ≡ input_part bytes → report ≡ report_part bytes
+    → length part ≤ most_bytes → IsJudged part report status text → StopsWriting stop text written written' wf wf'
+    → EndsAs commands.Check (write_status stop) (streams left rf written wf) (streams left' rf' written' wf')
+begun-check bytes part report status stop text left left' rf rf' written written' wf wf' all p r short h w =
+    begun-bytes commands.Check status stop text bytes left left' rf rf' written written' wf wf' all.parts all.end
+    all.no_fault (part-short bytes part p short all.short) (judged-text bytes part report status text p r h) w

@@ -1,18 +1,18 @@
 -- Bytes have one text, and what ends without a fault is whole.
-use Rattle.std.proofs.Common.{◌≡◌, ◌⊎◌, inl, inr, ℕ, ◌<◌, ◌≤◌, true, false, List, length, Option, Some, Result, Ok, Err, refl, sym, subst, ◌∙◌, arith}
+use Rattle.std.proofs.Common.{◌≡◌, ◌⊎◌, inl, inr, ℕ, true, false, List, Option, Some, Result, Ok, Err, refl, ap, sym, subst, ◌∙◌, arith}
 use Rattle.std.specs.Prelude.{IfSome}
 use Rattle.outside.specs.Calls.{HasFaulted}
 use Rattle.net_reader.specs.declared.fault.InputFault.{InputFault}
-use Rattle.net_reader.specs.Input.{Contents, IsInput}
+use Rattle.net_reader.specs.Input.{Contents}
 use Rattle.net_reader.specs.Laws.{TextSaysOne}
-use Rattle.net_reader.specs.Reading.{most_bytes}
+use Rattle.report_check.specs.Cuts.{input_part, report_part}
 use Rattle.report_text.specs.ReportText.{report_of}
 use Rattle.word_line.specs.declared.command.Command.{Command}
 use Rattle.word_line.specs.declared.command.Command.TheVariants as commands
 use Rattle.track.specs.declared.status.Status.{Status}
 use Rattle.track.specs.declared.status.Status.TheVariants as statuses
-use Rattle.track.specs.Results.{IsRightAnswer, IsResult, IsRunReport, in_order, is_served, outcome_for}
-use Rattle.track.specs.Ends.{EndsAlone, EndsAs, IsTextWritten, Streams}
+use Rattle.track.specs.Results.{IsInputText, IsJudged, IsRightAnswer, IsRightVerdict, IsResult, IsRunReport, IsText, SaysInput, in_order, is_served, outcome_for, verdict_for, verdict_status, whole_status}
+use Rattle.track.specs.Ends.{EndsAs, EndsDone, IsLong, IsShort, IsTextWritten, Streams}
 use Rattle.track.specs.Laws.{BytesHaveOneText, IsCompleteAlone, RunsAreReplayed}
 
 same_result : (command : Command) (contents : Contents) (one other : List ℕ) → is_served false command ≡ true
@@ -39,45 +39,99 @@ same_answer command (Ok contents) s t one other served p q = (
 )
 same_answer command (Err fault) s t one other served p q = (p.0 ∙ sym q.0, p.1 ∙ sym q.1)
 
-pub one_text : TextSaysOne → BytesHaveOneText
-one_text says command bytes s t one other served p q =
+one_input_text : TextSaysOne → (command : Command) (bytes : List ℕ) (s t : Status) (one other : List ℕ)
+    → is_served false command ≡ true → IsInputText command bytes s one → IsInputText command bytes t other
+    → (s ≡ t) × (one ≡ other)
+one_input_text says command bytes s t one other served p q =
     let same = says bytes p.input q.input p.says q.says in
     same_answer command q.input s t one other served
     (subst (λ (input : Result Contents InputFault). IsRightAnswer command
     input s one) same p.answer) q.answer
 
--- an input is not refused
-not_refused : (command : Command) (input : Result Contents InputFault) (contents : Contents) (text : List ℕ)
-    → input ≡ Ok contents → IsRightAnswer command input statuses.Refused text → ⊥
-not_refused command (Ok other) contents text e h = let no : statuses.Refused ≡ statuses.Done = h.0 in cc
-not_refused command (Err fault) contents text e h = cc
+-- an input part and a report have one verdict
+same_verdict : (report : List ℕ) (input : Result Contents InputFault) (s t : Status) (one other : List ℕ)
+    → IsRightVerdict report input s one → IsRightVerdict report input t other → (s ≡ t) × (one ≡ other)
+same_verdict report (Ok contents) s t one other p q = (p.0 ∙ sym q.0, p.1 ∙ sym q.1)
+same_verdict report (Err fault) s t one other p q = (p.0 ∙ sym q.0, p.1 ∙ sym q.1)
+
+one_verdict : TextSaysOne → (part report : List ℕ) (s t : Status) (one other : List ℕ)
+    → IsJudged part report s one → IsJudged part report t other → (s ≡ t) × (one ≡ other)
+one_verdict says part report s t one other p q =
+    same_verdict report q.input s t one other
+    (subst (λ (input : Result Contents InputFault). IsRightVerdict report input s one)
+    (says part p.input q.input p.says q.says) p.answer) q.answer
+
+pub one_text : TextSaysOne → BytesHaveOneText
+one_text says commands.Check bytes s t one other served p q =
+    one_verdict says (input_part bytes) (report_part bytes) s t one other p q
+one_text says command bytes s t one other served p q =
+    one_input_text says command bytes s t one other served p q
 
 of_some : (P : List ℕ → Type 0) (o : Option (List ℕ)) (bytes : List ℕ) → o ≡ Some bytes → IfSome o P → P bytes
 of_some P o bytes e h = subst (λ (x : Option (List ℕ)). IfSome x P) e h
 
+done_input : (command : Command) (input : Result Contents InputFault) (contents : Contents) (status : Status)
+    (text : List ℕ) → input ≡ Ok contents → IsRightAnswer command input status text → status ≡ statuses.Done
+done_input command (Ok other) contents status text e h = h.0
+done_input command (Err fault) contents status text e h = cc
+
+judged_input : (report : List ℕ) (input : Result Contents InputFault) (contents : Contents) (status : Status)
+    (text : List ℕ) → input ≡ Ok contents → IsRightVerdict report input status text
+    → status ≡ verdict_status (verdict_for contents report)
+judged_input report (Ok other) contents status text e h =
+    let same : other ≡ contents = cc in
+    h.0 ∙ ap (λ (c : Contents). verdict_status (verdict_for c report)) same
+judged_input report (Err fault) contents status text e h = cc
+
+-- the status of bytes that say an input to a command
+status_is : TextSaysOne → (command : Command) (bytes : List ℕ) (status : Status) (text : List ℕ) (contents : Contents)
+    → IsText command bytes status text → SaysInput command bytes contents
+    → status ≡ whole_status command bytes contents
+status_is says commands.Check bytes status text contents right input =
+    judged_input (report_part bytes) right.input contents status text
+    (says (input_part bytes) right.input (Ok contents) right.says input) right.answer
+status_is says command bytes status text contents right input =
+    done_input command right.input contents status text (says bytes right.input (Ok contents) right.says input)
+    right.answer
+
+-- what was written whole has that status
+whole_is : TextSaysOne → (command : Command) (status : Status) (before now : Streams) (bytes : List ℕ) (contents
+    : Contents) → EndsDone command status before now → before.left ≡ Some bytes → SaysInput command bytes contents
+    → status ≡ whole_status command bytes contents
+whole_is says command status before now bytes contents h left input =
+    let written = of_some (λ bytes. IsTextWritten command status bytes before.written now.written) before.left bytes
+    left h.0 in
+    status_is says command bytes status written.text contents written.right input
+
+-- the bytes of a command aren't both too many and not too many
+short_or_long : (command : Command) (bytes : List ℕ) → IsShort command bytes → IsLong command bytes → ⊥
+short_or_long commands.Check bytes short (inl long) = omega (arith, short.0, long)
+short_or_long commands.Check bytes short (inr long) = omega (arith, short.1, long)
+short_or_long command bytes short long = omega (arith, short, long)
+
 pub is_complete : TextSaysOne → (command : Command) (status : Status) (before now : Streams) (bytes : List ℕ) (contents
     : Contents)
-    → EndsAs command status before now → before.left ≡ Some bytes → length bytes ≤ most_bytes
-    → IsInput bytes (Ok contents)
+    → EndsAs command status before now → before.left ≡ Some bytes → IsShort command bytes
+    → SaysInput command bytes contents
     → (HasFaulted before.read_faults now.read_faults → ⊥) → (HasFaulted before.write_faults now.write_faults → ⊥)
-    → (status ≡ statuses.Done) ⊎ (status ≡ statuses.OutOfMemory)
-is_complete says command statuses.Done before now bytes contents h left short input r w = inl refl
+    → (status ≡ whole_status command bytes contents) ⊎ (status ≡ statuses.OutOfMemory)
+is_complete says command statuses.Done before now bytes contents h left short input r w =
+    inl (whole_is says command statuses.Done before now bytes contents h left input)
 is_complete says command statuses.Refused before now bytes contents h left short input r w =
-    let written = of_some (λ bytes. IsTextWritten command statuses.Refused bytes before.written now.written) before.left
-    bytes left h.0 in
-    absurd (not_refused command written.right.input contents written.text (says bytes written.right.input (Ok contents)
-    written.right.says input) written.right.answer)
+    inl (whole_is says command statuses.Refused before now bytes contents h left input)
+is_complete says command statuses.Unsound before now bytes contents h left short input r w =
+    inl (whole_is says command statuses.Unsound before now bytes contents h left input)
 is_complete says command statuses.BadWords before now bytes contents h left short input r w = absurd h
 is_complete says command statuses.OutOfMemory before now bytes contents h left short input r w = inr refl
 is_complete says command statuses.ReadFailed before now bytes contents h left short input r w = absurd (r h.1.0)
 is_complete says command statuses.WriteFailed before now bytes contents h left short input r w = absurd (w h.0.0)
 is_complete says command statuses.TooLong before now bytes contents h left short input r w =
-    let long = of_some (λ bytes. most_bytes < length bytes) before.left bytes left h.2 in
-    absurd (omega (arith, long, short))
+    absurd (short_or_long command bytes short (of_some (λ bytes. IsLong command bytes) before.left bytes left h.2))
 
 pub is_complete_alone : IsCompleteAlone
 is_complete_alone text statuses.Done before now h w = inl refl
 is_complete_alone text statuses.Refused before now h w = absurd h
+is_complete_alone text statuses.Unsound before now h w = absurd h
 is_complete_alone text statuses.BadWords before now h w = absurd h
 is_complete_alone text statuses.OutOfMemory before now h w = inr refl
 is_complete_alone text statuses.ReadFailed before now h w = absurd h

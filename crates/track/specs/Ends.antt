@@ -1,12 +1,15 @@
 -- How a call ends: its status, and what that says of the words, of the source and of the sink. Key
 -- laws: `complete`, and `bytes_have_one_text`, by which the text that was written is the only right
 -- one.
-use Rattle.std.specs.Prelude.{◌≡◌, ℕ, ◌<◌, List, length, Option, Some, None, IfSome, Bool, true, false, ◌≤◌}
+use Rattle.std.specs.Prelude.{◌≡◌, ◌⊎◌, ℕ, ◌<◌, List, length, Option, Some, None, IfSome, Bool, true, false, ◌≤◌}
 use Rattle.outside.specs.Bytes.{append_known, IsAtEnd}
 use Rattle.net_reader.specs.Reading.{most_bytes}
+use Rattle.report_check.specs.Cuts.{input_part}
+use Rattle.report_check.specs.Verdicts.{most_bytes as most_text_bytes}
 use Rattle.word_line.specs.declared.command.Command.{Command}
+use Rattle.word_line.specs.declared.command.Command.TheVariants.{Check}
 use Rattle.track.specs.declared.status.Status.{Status}
-use Rattle.track.specs.declared.status.Status.TheVariants.{Done, Refused, BadWords, OutOfMemory, ReadFailed, WriteFailed, TooLong}
+use Rattle.track.specs.declared.status.Status.TheVariants.{Done, Refused, BadWords, OutOfMemory, ReadFailed, WriteFailed, TooLong, Unsound}
 use Rattle.track.specs.Results.{IsText, is_served, text_alone}
 use Rattle.track.specs.Transfer.{HasFaultedOnce, IsWrittenPart}
 
@@ -28,10 +31,22 @@ streams left read_faults written write_faults =
       write_faults = write_faults;
     }
 
+-- a command may be given so many bytes
+abbrev pub IsShort : Command → List ℕ → Type 0
+IsShort Check bytes =
+    (length bytes ≤ most_text_bytes) × (length (input_part bytes) ≤ most_bytes)
+IsShort command bytes = length bytes ≤ most_bytes
+
+-- these are more than it may be given
+abbrev pub IsLong : Command → List ℕ → Type 0
+IsLong Check bytes =
+    (most_text_bytes < length bytes) ⊎ (most_bytes < length (input_part bytes))
+IsLong command bytes = most_bytes < length bytes
+
 -- the text of the bytes that were left was written whole; they are no more than may be read
 pub record IsTextWritten (command : Command) (status : Status) (bytes : List ℕ)
     (before now : Option (List ℕ)) : Type 0 where
-  pub short : length bytes ≤ most_bytes
+  pub short : IsShort command bytes
   pub text : List ℕ
   pub right : IsText command bytes status text
   pub written : now ≡ append_known before text
@@ -39,7 +54,7 @@ pub record IsTextWritten (command : Command) (status : Status) (bytes : List ℕ
 -- a front of it was written
 pub record IsBegun (command : Command) (bytes : List ℕ)
     (before now : Option (List ℕ)) : Type 0 where
-  pub short : length bytes ≤ most_bytes
+  pub short : IsShort command bytes
   pub status : Status
   pub text : List ℕ
   pub right : IsText command bytes status text
@@ -60,6 +75,7 @@ EndsDone command status before now =
 abbrev pub EndsAs : Command → Status → Streams → Streams → Type 0
 EndsAs command Done before now = EndsDone command Done before now
 EndsAs command Refused before now = EndsDone command Refused before now
+EndsAs command Unsound before now = EndsDone command Unsound before now
 EndsAs command BadWords before now = ⊥
 EndsAs command OutOfMemory before now =
     IsSilent before now × (now.read_faults ≡ before.read_faults)
@@ -71,7 +87,7 @@ EndsAs command WriteFailed before now =
     × IsAtEnd now.left × (now.read_faults ≡ before.read_faults)
 EndsAs command TooLong before now =
     IsSilent before now × (now.read_faults ≡ before.read_faults)
-    × IfSome before.left (λ bytes. most_bytes < length bytes)
+    × IfSome before.left (λ bytes. IsLong command bytes)
 
 -- nothing was read
 abbrev pub IsUnread : Streams → Streams → Type 0
@@ -83,6 +99,7 @@ EndsAlone text Done before now =
     (now.written ≡ append_known before.written text) × (now.write_faults ≡ before.write_faults)
     × IsUnread before now
 EndsAlone text Refused before now = ⊥
+EndsAlone text Unsound before now = ⊥
 EndsAlone text BadWords before now = ⊥
 EndsAlone text OutOfMemory before now = IsSilent before now × IsUnread before now
 EndsAlone text ReadFailed before now = ⊥
@@ -120,6 +137,7 @@ status_number OutOfMemory = 3
 status_number ReadFailed = 4
 status_number WriteFailed = 5
 status_number TooLong = 6
+status_number Unsound = 8
 
 -- the number is that of a status that says so
 pub record Tells (threads : Bool) (words : Option Command) (number : ℕ)

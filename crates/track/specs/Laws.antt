@@ -1,17 +1,16 @@
 -- The laws of the top calls, as named statements. Key laws: `bytes_have_one_text`
 -- (`BytesHaveOneText`), `complete` (`IsComplete`, `IsCompleteAlone`) and `runs_are_replayed`
 -- (`RunsAreReplayed`).
-use Rattle.std.specs.Prelude.{◌≡◌, ◌⊎◌, ℕ, ◌≤◌, List, length, Some, Ok, true, false}
+use Rattle.std.specs.Prelude.{◌≡◌, ◌⊎◌, ℕ, List, Some, Ok, true, false}
 use Rattle.outside.specs.Calls.{HasFaulted}
 use Rattle.net_reader.specs.Input.{Contents, IsInput}
-use Rattle.net_reader.specs.Reading.{most_bytes}
 use Rattle.report_text.specs.ReportText.{report_of}
 use Rattle.word_line.specs.declared.command.Command.{Command}
 use Rattle.word_line.specs.declared.command.Command.TheVariants.{Replay, Run}
 use Rattle.track.specs.declared.status.Status.{Status}
 use Rattle.track.specs.declared.status.Status.TheVariants.{Done, OutOfMemory}
-use Rattle.track.specs.Results.{IsText, in_order, is_served, outcome_for}
-use Rattle.track.specs.Ends.{EndsAlone, EndsAs, Streams}
+use Rattle.track.specs.Results.{IsText, SaysInput, in_order, is_served, outcome_for, whole_status}
+use Rattle.track.specs.Ends.{EndsAlone, EndsAs, IsShort, Streams}
 
 -- to a command that is served without threads, bytes have one text, with one status
 abbrev pub BytesHaveOneText : Type 0
@@ -21,16 +20,16 @@ BytesHaveOneText =
     → IsText command bytes s one → IsText command bytes t other → (s ≡ t) × (one ≡ other)
 
 -- where the bytes say an input and aren't too many, and neither the source nor the sink failed, the
--- whole text was written, or memory was wanting
+-- whole text was written, with status 0, or of a check that of the verdict; or memory was wanting
 abbrev pub IsComplete : Type 0
 IsComplete =
     (command : Command) (status : Status) (before now : Streams) (bytes : List ℕ)
     (contents : Contents)
     → EndsAs command status before now → before.left ≡ Some bytes
-    → length bytes ≤ most_bytes → IsInput bytes (Ok contents)
+    → IsShort command bytes → SaysInput command bytes contents
     → (HasFaulted before.read_faults now.read_faults → ⊥)
     → (HasFaulted before.write_faults now.write_faults → ⊥)
-    → (status ≡ Done) ⊎ (status ≡ OutOfMemory)
+    → (status ≡ whole_status command bytes contents) ⊎ (status ≡ OutOfMemory)
 
 -- and so it is to a command that reads nothing, where the sink didn't fail
 abbrev pub IsCompleteAlone : Type 0

@@ -1,8 +1,8 @@
 -- The text that answers bytes, by the command: that of the plan of the input's network, the report
 -- of what becomes of its calls under its order, or under one that threads made, the census at their
 -- end, what its moves cost, or the line that refuses the input; the plan and the report are there
--- over mean covers too. And the text of a command that reads nothing: a made input, or the summary
--- of its replay.
+-- over mean covers too; to a text that has an input and a report, the verdict on it. And the text of
+-- a command that reads nothing: a made input, or the summary of its replay.
 -- Key laws: `bytes_have_one_text`, `runs_are_replayed` (a replay under the order that a run printed
 -- writes the same).
 use Rattle.std.specs.Prelude.{◌≡◌, ℕ, ◌+◌, ◌-◌, ◌*◌, Bool, true, false, All, List, Option, Some, None, Result, Ok, Err, ◌<◌, length}
@@ -32,11 +32,17 @@ use Rattle.move_cost.specs.CostText.{costs_text_of}
 use Rattle.move_cost.specs.Plans.{IsWithinRate}
 use Rattle.report_text.specs.PlanText.{plan_text_of}
 use Rattle.report_text.specs.ReportText.{refused_line_of, report_of}
+use Rattle.report_check.specs.declared.verdict.Verdict.{Verdict}
+use Rattle.report_check.specs.declared.verdict.Verdict.TheVariants as verdicts
+use Rattle.report_check.specs.declared.verdict.Verdict.TheVariants.{Sound}
+use Rattle.report_check.specs.Cuts.{input_part, report_part}
+use Rattle.report_check.specs.Verdicts.{verdict_of}
+use Rattle.report_check.specs.VerdictText.{verdict_line_of}
 use Rattle.word_line.specs.declared.command.Command.{Command}
 use Rattle.word_line.specs.declared.command.Command.TheVariants.{Cover, Replay, Census, Costs, Check, Run, Make, Trial}
 use Rattle.word_line.specs.declared.command.Command.TheVariants.{ToJson, FromJson, ReplayJson, MeanCover, MeanReplay}
 use Rattle.track.specs.declared.status.Status.{Status}
-use Rattle.track.specs.declared.status.Status.TheVariants.{Done, Refused}
+use Rattle.track.specs.declared.status.Status.TheVariants.{Done, Refused, Unsound}
 
 -- the network of an input
 abbrev pub network_of : Contents → Network
@@ -143,7 +149,7 @@ is_served threads Cover = true
 is_served threads Replay = true
 is_served threads Census = true
 is_served threads Costs = true
-is_served threads Check = false
+is_served threads Check = true
 is_served threads ToJson = false
 is_served threads FromJson = false
 is_served threads ReplayJson = false
@@ -224,9 +230,47 @@ IsRightAnswer command (Ok contents) status text = (status ≡ Done) × IsResult 
 IsRightAnswer command (Err fault) status text =
     (status ≡ Refused) × (text ≡ refused_line_of fault)
 
--- the text of a command over these bytes, and the status that goes with it
-pub record IsText (command : Command) (bytes : List ℕ) (status : Status)
+-- the text of a command to which all bytes are an input, and the status that goes with it
+pub record IsInputText (command : Command) (bytes : List ℕ) (status : Status)
     (text : List ℕ) : Type 0 where
   pub input : Result Contents InputFault
   pub says : IsInput bytes input
   pub answer : IsRightAnswer command input status text
+
+-- the verdict on a report of an input, over the plan of its network
+abbrev pub verdict_for : Contents → List ℕ → Verdict
+verdict_for contents report = verdict_of (plan_for contents) contents report
+
+-- the status that goes with a verdict
+abbrev pub verdict_status : Verdict → Status
+verdict_status Sound = Done
+verdict_status (verdicts.Unsound line cause) = Unsound
+
+-- the text that answers a report of what an input part says, and the status that goes with it
+abbrev pub IsRightVerdict : List ℕ → Result Contents InputFault → Status → List ℕ → Type 0
+IsRightVerdict report (Ok contents) status text =
+    (status ≡ verdict_status (verdict_for contents report))
+    × (text ≡ verdict_line_of (verdict_for contents report))
+IsRightVerdict report (Err fault) status text =
+    (status ≡ Refused) × (text ≡ refused_line_of fault)
+
+-- the text that answers an input part and a report, and the status that goes with it
+pub record IsJudged (part report : List ℕ) (status : Status) (text : List ℕ) : Type 0 where
+  pub input : Result Contents InputFault
+  pub says : IsInput part input
+  pub answer : IsRightVerdict report input status text
+
+-- the text of a command over these bytes, and the status that goes with it
+abbrev pub IsText : Command → List ℕ → Status → List ℕ → Type 0
+IsText Check bytes status text = IsJudged (input_part bytes) (report_part bytes) status text
+IsText command bytes status text = IsInputText command bytes status text
+
+-- the bytes say this input to a command
+abbrev pub SaysInput : Command → List ℕ → Contents → Type 0
+SaysInput Check bytes contents = IsInput (input_part bytes) (Ok contents)
+SaysInput command bytes contents = IsInput bytes (Ok contents)
+
+-- the status that goes with the whole text, where the bytes say an input to a command
+abbrev pub whole_status : Command → List ℕ → Contents → Status
+whole_status Check bytes contents = verdict_status (verdict_for contents (report_part bytes))
+whole_status command bytes contents = Done

@@ -26,16 +26,26 @@ pub record IsAllRead (reader : ReaderValue) (before now : Option (List ℕ))
   pub short : length bytes ≤ most_bytes
   pub no_fault : faults_now ≡ faults_before
 
+-- these bytes are all that was left, at most so many; nothing is left, and there was no fault
+pub record IsTextRead (limit : ℕ) (bytes : List ℕ) (before now : Option (List ℕ))
+    (faults_before faults_now : ℕ) : Type 0 where
+  pub parts : before ≡ prepend_known bytes now
+  pub end : IsAtEnd now
+  pub short : length bytes ≤ limit
+  pub no_fault : faults_now ≡ faults_before
+
 -- there was one fault: the count of faults rose by one, or stands at its type's end
 abbrev pub HasFaultedOnce : ℕ → ℕ → Type 0
 HasFaultedOnce before now = HasFaulted before now × (now ≡ one_more before)
 
--- why not all was read
-abbrev pub StopsReading : ReadStop → Option (List ℕ) → ℕ → ℕ → Type 0
-StopsReading reading.OutOfMemory before faults_before faults_now = faults_now ≡ faults_before
-StopsReading reading.Failed before faults_before faults_now = HasFaultedOnce faults_before faults_now
-StopsReading reading.TooLong before faults_before faults_now =
-    IfSome before (λ bytes. most_bytes < length bytes) × (faults_now ≡ faults_before)
+-- why not all was read, where so many bytes may be
+abbrev pub StopsReading : ℕ → ReadStop → Option (List ℕ) → ℕ → ℕ → Type 0
+StopsReading limit reading.OutOfMemory before faults_before faults_now =
+    faults_now ≡ faults_before
+StopsReading limit reading.Failed before faults_before faults_now =
+    HasFaultedOnce faults_before faults_now
+StopsReading limit reading.TooLong before faults_before faults_now =
+    IfSome before (λ bytes. limit < length bytes) × (faults_now ≡ faults_before)
 
 -- the status that it ends with
 abbrev pub read_status : ReadStop → Status

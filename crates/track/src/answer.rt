@@ -12,7 +12,7 @@ ghost use Rattle.track.specs.Bodies.{text_of};
 ghost use Rattle.region_plan.specs.Coverings.{trade_off_of};
 ghost use Rattle.region_plan.specs.Regions.{covered_plan};
 ghost use Rattle.report_text.specs.PlanText.{plan_text_of};
-ghost use Rattle.track.specs.Results.{IsMeanPlanText, IsReportOver, IsResult, IsText};
+ghost use Rattle.track.specs.Results.{IsInputText, IsMeanPlanText, IsReportOver, IsResult};
 ghost use Rattle.track.specs.Results.{is_made_alike, network_of, outcome_over};
 
 use crate::census::census;
@@ -163,7 +163,7 @@ pub(crate) fn make_answer(
 ) -> Result<Answer, AllocError>
     requires served { is_made_alike command ≡ true }
     ensures text { IfOk result (λ answer. (bytes : List ℕ) → StandsFor reader bytes
-        → IsText command bytes answer.status (text_of answer.body)) }
+        → IsInputText command bytes answer.status (text_of answer.body)) }
 {
     inputs_are_valid();
     match reader.end_with_graph(alloc) {

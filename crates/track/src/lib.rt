@@ -4,6 +4,7 @@
 mod answer;
 mod census;
 mod cost;
+mod judging;
 mod laws;
 mod outlet;
 mod run;

@@ -8,7 +8,7 @@ ghost use Rattle.net_reader.specs.Valid.{IsValid};
 ghost use Rattle.report_text.specs.ReportText.{report_of};
 ghost use Rattle.word_line.specs.declared.command.Command.TheVariants.{Run};
 ghost use Rattle.track.specs.Bodies.{text_of};
-ghost use Rattle.track.specs.Results.{IsRunReport, IsText};
+ghost use Rattle.track.specs.Results.{IsInputText, IsRunReport};
 
 use crate::answer::{Answer, Body};
 use crate::status::Status;
@@ -60,7 +60,7 @@ pub(crate) fn answer_by_threads<R: Threads + Sync, G: Gate>(
     tries: u64,
 ) -> Result<Answer, AllocError>
     ensures text { IfOk result (λ answer. (bytes : List ℕ) → StandsFor reader bytes
-        → IsText Run bytes answer.status (text_of answer.body)) }
+        → IsInputText Run bytes answer.status (text_of answer.body)) }
 {
     inputs_are_valid();
     match reader.end_with_graph(alloc) {

@@ -19,6 +19,8 @@ pub enum Status {
     WriteFailed = 5,
     /// The input is too long; nothing was written.
     TooLong = 6,
+    /// The line was written that tells why a report is unsound.
+    Unsound = 8,
 }
 
 impl From<Status> for u8 {

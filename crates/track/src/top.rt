@@ -1,6 +1,6 @@
 //! The top calls.
 ghost use Rattle.std.specs.Prelude.{◌≡◌, IfErr, IfSome, IsSome, OnOk, false, true};
-ghost use Rattle.word_line.specs.declared.command.Command.TheVariants.{Run};
+ghost use Rattle.word_line.specs.declared.command.Command.TheVariants.{Check, FromJson, Run};
 ghost use Rattle.word_line.specs.Forms.{bytes_of, command_of};
 ghost use Rattle.track.specs.Results.{HasLoad, is_made_alike, is_served, text_alone};
 ghost use Rattle.track.specs.Ends.{EndsAs, EndsIf, Tells, streams};
@@ -8,18 +8,25 @@ ghost use Rattle.track.specs.Transfer.{IsEndOf, write_status};
 ghost use Rattle.track.specs.declared.status.Status.TheVariants.{BadWords, Done};
 
 use crate::answer::make_answer;
+use crate::json::answer_json;
+use crate::judging::judge_parts;
 use crate::run::answer_by_threads;
 use crate::status::Status;
 use crate::stop::WriteStop;
-use crate::transfer::read_all;
+use crate::transfer::{read_all, read_text};
 use crate::trial::{write_made, write_trial};
 use crate::writing::write_body;
 use make_load::words_are_loads;
+use net_reader::MAX_BYTES;
 use outside::{Sink, Source};
+use report_check::cut_text;
 use runner::Gate;
 use std::alloc::{AllocError, Global};
 use std::thread::Threads;
 use word_line::{Command, read_words};
+
+// How many bytes a text may have that has a report.
+const MAX_TEXT_BYTES: usize = 67_108_864;
 
 // Reads the input, and writes what answers it.
 fn perform<S: Source, K: Sink>(
@@ -41,6 +48,56 @@ fn perform<S: Source, K: Sink>(
         Err(stop) => return Status::from(stop),
     };
     let answer = match make_answer(alloc, command, reader) {
+        Ok(answer) => answer,
+        Err(AllocError) => return Status::OutOfMemory,
+    };
+    match write_body(alloc, &answer.body, sink) {
+        Ok(()) => answer.status,
+        Err(stop) => Status::from(stop),
+    }
+}
+
+// Reads an input and a report, and writes the verdict on it.
+fn perform_check<S: Source, K: Sink>(alloc: Global, source: &mut S, sink: &mut K) -> Status
+    ensures ends { EndsAs Check result
+        (streams
+        (S.left source.old) (S.faults source.old) (K.written sink.old) (K.faults sink.old))
+        (streams
+        (S.left source.new) (S.faults source.new) (K.written sink.new) (K.faults sink.new)) }
+    ensures rest { IsEndOf (S.left source.old) (S.left source.new) }
+{
+    let text = match read_text(alloc, source, MAX_TEXT_BYTES) {
+        Ok(text) => text,
+        Err(stop) => return Status::from(stop),
+    };
+    let parts = cut_text(&text);
+    if parts.input.len() > MAX_BYTES {
+        return Status::TooLong;
+    }
+    let answer = match judge_parts(alloc, parts.input, parts.report) {
+        Ok(answer) => answer,
+        Err(AllocError) => return Status::OutOfMemory,
+    };
+    match write_body(alloc, &answer.body, sink) {
+        Ok(()) => answer.status,
+        Err(stop) => Status::from(stop),
+    }
+}
+
+// Reads JSON, and writes the text of the input that it tells.
+fn perform_json<S: Source, K: Sink>(alloc: Global, source: &mut S, sink: &mut K) -> Status
+    ensures ends { EndsAs FromJson result
+        (streams
+        (S.left source.old) (S.faults source.old) (K.written sink.old) (K.faults sink.old))
+        (streams
+        (S.left source.new) (S.faults source.new) (K.written sink.new) (K.faults sink.new)) }
+    ensures rest { IsEndOf (S.left source.old) (S.left source.new) }
+{
+    let text = match read_text(alloc, source, MAX_BYTES) {
+        Ok(text) => text,
+        Err(stop) => return Status::from(stop),
+    };
+    let answer = match answer_json(alloc, &text) {
         Ok(answer) => answer,
         Err(AllocError) => return Status::OutOfMemory,
     };
@@ -109,14 +166,17 @@ fn serve<S: Source, K: Sink>(
     ensures rest { IsEndOf (S.left source.old) (S.left source.new) }
 {
     match command {
-        Command::Run | Command::Check | Command::ToJson | Command::FromJson | Command::ReplayJson =>
-            Status::BadWords,
+        Command::Run => Status::BadWords,
+        Command::Check => perform_check(alloc, source, sink),
+        Command::FromJson => perform_json(alloc, source, sink),
         Command::Make(load) => status_of(write_made(alloc, load, sink)),
         Command::Trial(load) => status_of(write_trial(alloc, load, sink)),
         Command::Cover
         | Command::Replay
         | Command::Census
         | Command::Costs
+        | Command::ToJson
+        | Command::ReplayJson
         | Command::MeanCover
         | Command::MeanReplay => perform(alloc, command, source, sink),
     }
@@ -164,13 +224,15 @@ fn serve_by_threads<R: Threads + Sync, S: Source, K: Sink, G: Gate>(
 /// docs/FORMATS.md tells the forms of the words, the input, the texts and the statuses. `cover`
 /// writes the plan of the input's network, `replay` the report of what becomes of its calls under
 /// its order, `census` tells who is where at their end, and `costs` what its moves cost; `meancover`
-/// and `meanreplay` write the plan and the report over mean covers. `make` and `trial` read nothing:
-/// the one writes a made input, the other the summary of its replay. `run` needs threads
+/// and `meanreplay` write the plan and the report over mean covers. `check` reads an input and a
+/// report of it, and writes the verdict. `make` and `trial` read nothing: the one writes a made
+/// input, the other the summary of its replay. `run` needs threads
 /// ([`command_with_threads`]), and ends here as words that are no form do. Nothing is written
 /// before the source answered its end, and the first fault of the source or the sink ends the work.
 /// Status 0 comes with the whole text, and 1 with the line that refuses the input; 2 are words that
 /// read and write nothing; 3 is want of memory; 4 a fault of the source; 5 a fault of the sink,
-/// where what was written begins the text; 6 an input that is too long.
+/// where what was written begins the text; 6 an input, or a text with a report, that is too long;
+/// 8 comes with the line that tells a report's first flaw.
 pub fn command<S: Source, K: Sink>(
     alloc: Global,
     words: &[String],

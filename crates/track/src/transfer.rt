@@ -1,8 +1,9 @@
 //! All bytes of a source into a reader, and a whole text into a sink.
 ghost use Rattle.std.specs.Prelude.{◌≡◌, IfOk, IfErr, OnOk};
+ghost use Rattle.net_reader.specs.Reading.{most_bytes};
 ghost use Rattle.outside.specs.Bytes.{append_known};
 ghost use Rattle.track.specs.declared.stop.WriteStop.TheVariants.{Failed};
-ghost use Rattle.track.specs.Transfer.{HasFaultedOnce, IsAllRead, IsEndOf, IsWrittenPart, StopsReading};
+ghost use Rattle.track.specs.Transfer.{HasFaultedOnce, IsAllRead, IsEndOf, IsTextRead, IsWrittenPart, StopsReading};
 
 use crate::stop::{ReadStop, WriteStop};
 use net_reader::{MAX_BYTES, Reader};
@@ -15,7 +16,7 @@ const PIECE: usize = 16_384;
 pub(crate) fn read_all<S: Source>(alloc: Global, source: &mut S) -> Result<Reader, ReadStop>
     ensures all { IfOk result (λ reader. IsAllRead reader
         (S.left source.old) (S.left source.new) (S.faults source.old) (S.faults source.new)) }
-    ensures stops { IfErr result (λ stop. StopsReading stop
+    ensures stops { IfErr result (λ stop. StopsReading most_bytes stop
         (S.left source.old) (S.faults source.old) (S.faults source.new)) }
     ensures rest { IsEndOf (S.left source.old) (S.left source.new) }
 {
@@ -29,6 +30,31 @@ pub(crate) fn read_all<S: Source>(alloc: Global, source: &mut S) -> Result<Reade
                 count += more;
             }
             Took::End => return Ok(reader),
+            Took::Failed => return Err(ReadStop::Failed),
+        }
+    }
+    Err(ReadStop::TooLong)
+}
+
+// All bytes that are left in the source, where they are at most so many. It stops at the first
+// fault.
+pub(crate) fn read_text<S: Source>(
+    alloc: Global,
+    source: &mut S,
+    limit: usize,
+) -> Result<Vec<u8>, ReadStop>
+    ensures all { IfOk result (λ text. IsTextRead limit text.items
+        (S.left source.old) (S.left source.new) (S.faults source.old) (S.faults source.new)) }
+    ensures stops { IfErr result (λ stop. StopsReading limit stop
+        (S.left source.old) (S.faults source.old) (S.faults source.new)) }
+    ensures rest { IsEndOf (S.left source.old) (S.left source.new) }
+{
+    let mut text = Vec::new(alloc);
+    let mut piece = [0; PIECE];
+    'pieces: while text.len() <= limit {
+        match source.read(&mut piece) {
+            Took::Got(more) => text.extend_from_slice(&piece[..more])?,
+            Took::End => return Ok(text),
             Took::Failed => return Err(ReadStop::Failed),
         }
     }

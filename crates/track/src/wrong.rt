@@ -1,7 +1,7 @@
 //! Ends that no status may tell: each is wrong in one part.
 ghost use Rattle.std.specs.Prelude.{[], ◌∷◌, Some, None, true, false};
-ghost use Rattle.word_line.specs.declared.command.Command.TheVariants.{Cover, Run};
-ghost use Rattle.track.specs.declared.status.Status.TheVariants.{Done, Refused, BadWords, OutOfMemory, ReadFailed, WriteFailed, TooLong};
+ghost use Rattle.word_line.specs.declared.command.Command.TheVariants.{Check, Cover, Replay, Run};
+ghost use Rattle.track.specs.declared.status.Status.TheVariants.{Done, Refused, BadWords, OutOfMemory, ReadFailed, WriteFailed, TooLong, Unsound};
 ghost use Rattle.track.specs.Ends.{Ends, EndsAlone, EndsAs, streams};
 
 /// A status with bytes left, a fault, or something written that it may not come with.
@@ -27,6 +27,10 @@ pub fn wrong_ends()
     ensures unread_at_fault { EndsAs Cover WriteFailed (streams None 0 None 0)
         (streams (Some (1 ∷ [])) 0 None 1) → ⊥ }
     ensures short { EndsAs Cover TooLong (streams (Some []) 0 None 0)
+        (streams None 0 None 0) → ⊥ }
+    ensures check_short { EndsAs Check TooLong (streams (Some []) 0 None 0)
+        (streams None 0 None 0) → ⊥ }
+    ensures no_verdict { EndsAs Replay Unsound (streams (Some []) 0 None 0)
         (streams None 0 None 0) → ⊥ }
     ensures touched { Ends false None BadWords (streams None 0 (Some []) 0)
         (streams None 0 (Some (1 ∷ [])) 0) → ⊥ }

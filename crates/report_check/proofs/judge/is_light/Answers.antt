@@ -7,11 +7,11 @@ use Rattle.report_check.proofs.judge.is_light.Goals as goal
 
 pub returns : goal.returns
 returns c = λ plan is.
-    let calls = map done_of c.args.calls.now in
+    let calls = map done_of c.args.lines.now.calls.now in
     let homes = c.args.ground.now.homes.now in
     let weight = c.args.visits.weight in
-    let told : c.told_before-told.result ≡ told_before homes calls c.args.sub c.args.visits.last =
-    c.told_before-told.ensures ∙ ap (λ h. fold (tell c.args.sub c.args.visits.last) (at_home h) calls) c.home_of.ensures in
+    let told : c.told_of-told.result ≡ told_before homes calls c.args.sub c.args.visits.last =
+    c.told_of-told.ensures ∙ ap (λ h. fold (tell c.args.sub c.args.visits.last) (at_home h) calls) c.home_of.ensures in
     let passage : c.open_passage-passage.result
     ≡ open_passage c.args.order.now c.args.sub c.args.visits.last
     (told_before homes calls c.args.sub c.args.visits.last)

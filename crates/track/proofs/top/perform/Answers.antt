@@ -2,7 +2,7 @@ use Rattle.std.proofs.Common.{subst, sym}
 use Rattle.track.specs.declared.status.Status.{Status}
 use Rattle.track.specs.Bodies.{text_of}
 use Rattle.track.specs.Ends.{EndsAs, streams}
-use Rattle.track.proofs.Ending.{unwritten}
+use Rattle.track.proofs.Ending.{is_plain, unwritten}
 use Rattle.track.proofs.top.perform.Goals as goal
 
 pub returns-clause-ends : goal.returns-clause-ends
@@ -17,6 +17,6 @@ returns-clause-ends g c =
     let writes_now = g.K.Sink.faults c.write_body.new.sink in
     subst (λ (s : Status). EndsAs c.args.command s (streams left reads written writes)
     (streams left_now reads_now written_now writes_now)) (sym c.from-in-Err-write_body.ensures)
-    (unwritten c.args.command c.in-Ok-make_answer.answer.status c.in-Err-write_body.stop
+    (unwritten c.args.command (is_plain c.args.command c.requires) c.in-Ok-make_answer.answer.status c.in-Err-write_body.stop
     (text_of c.in-Ok-make_answer.answer.body) c.in-Ok.reader left left_now reads reads_now written written_now writes
     writes_now c.in-Ok.ensures.all c.in-Ok-make_answer.ensures.text c.in-Err-write_body.ensures.stops)

@@ -1,9 +1,7 @@
-use Rattle.std.proofs.Common.{◌≡◌, ◌∙◌, ap, subst, sym, List}
+use Rattle.std.proofs.Common.{◌≡◌, ◌∙◌, ap, subst, sym}
 use Rattle.make_load.specs.Load.{load_contents}
 use Rattle.report_text.specs.SummaryText.{summary_of}
-use Rattle.net_graph.specs.declared.edge.Edge.{Edge}
 use Rattle.net_graph.specs.Faults.{IsGraphFault}
-use Rattle.net_graph.specs.Network.{IsFirstApart}
 use Rattle.net_reader.specs.Input.{Contents}
 use Rattle.net_reader.specs.Seen.{seen_input}
 use Rattle.net_reader.specs.Valid.{IsValid}

@@ -1,0 +1,423 @@
+-- Lines and tickets that are looked up, and not gone through.
+use Rattle.std.proofs.Common.{◌≡◌, ◌≢◌, ℕ, zero, suc, ◌+◌, ◌-◌, ◌<◌, ◌≤◌, Bool, true, false, cond, eqb, leb, ltb, fold, map, List, [], ◌∷◌, ◌++◌, length, take, drop, get_or, set, length-set, length-take, length-drop, Some, None, refl, ap, sym, subst, ◌∙◌, arith}
+use Rattle.std.specs.Prelude.{◌&&◌, ◌||◌, slice_index_or}
+use Rattle.std.specs.List.{between, list_any}
+use Rattle.std.proofs.lemmas.Bool.Decides.{Decides-eqb, nat_tests}
+use Rattle.std.proofs.lemmas.List.{drop-append-le, drop-drop, drop-map, drop_all, get_or-drop, get_or-map, get_or-set_other, get_or-set_same, length-map, take-map, take_all, take_more}
+use Rattle.std.proofs.lemmas.List.Edits.{split_between}
+use Rattle.std.proofs.lemmas.List.Folds.{list_any-append}
+use Rattle.std.proofs.lemmas.List.Sums.{fold-append}
+use Rattle.directory.specs.declared.answers.Done.{Done}
+use Rattle.directory.specs.declared.answers.Done.TheVariants.{Moved, Switched, Found, Off, Again}
+use Rattle.report_check.specs.declared.blocks.Block.{Block}
+use Rattle.report_check.specs.declared.blocks.Lines.{Lines}
+use Rattle.report_check.specs.declared.calls.Line.{Line}
+use Rattle.report_check.specs.Lines.{done_of}
+use Rattle.report_check.specs.declared.told.Told.{Told}
+use Rattle.report_check.specs.Blocks.{AreBehind, AreBlocks, IsBehind, IsBlock, SwitchesAlike, TellsAlike, grown, is_of, is_switched, no_block}
+use Rattle.report_check.specs.Parts.{actor_of, end_of, first_from, is_missing, is_switch_at, none_left, tell}
+
+false-or : (a b : Bool) → (a || b) ≡ false → (a ≡ false) × (b ≡ false)
+false-or true b e = absurd (true-false e)
+  where
+    true-false : true ≡ false → ⊥
+    true-false e = cc
+false-or false b e = (refl, e)
+
+or-false : (a b : Bool) → a ≡ false → b ≡ false → (a || b) ≡ false
+or-false a b e f = ap (λ t. t || b) e ∙ f
+
+-- ---- blocks while they are made
+
+-- a block among the first lines
+pub record IsSoFar (counts : Done → Bool) (calls : List Done) (place : ℕ) (block : Block) : Type 0 where
+  pub low : block.start ≤ block.end
+  pub high : block.end ≤ place
+  pub before : list_any counts (take block.start calls) ≡ false
+  pub behind : list_any counts (drop block.end (take place calls)) ≡ false
+
+-- no line was seen
+pub block-none : (counts : Done → Bool) (calls : List Done) → IsSoFar counts calls 0 no_block
+block-none counts calls = record { low = omega arith; high = omega arith; before = refl; behind = refl }
+
+taken : (calls : List Done) (place : ℕ) → place < length calls → length (take place calls) ≡ place
+taken calls place low = omega (arith, length-take place calls, low)
+
+-- a line more that doesn't count
+pub block-other : (counts : Done → Bool) (calls : List Done) (place : ℕ) (block : Block) (d : Done)
+    → place < length calls → IsSoFar counts calls place block → counts (get_or calls place d) ≡ false
+    → IsSoFar counts calls (place + 1) block
+block-other counts calls place block d low is no-line =
+    let more : drop block.end (take (place + 1) calls)
+    ≡ drop block.end (take place calls) ++ get_or calls place d ∷ [] =
+    ap (drop block.end) (take_more calls place d low)
+    ∙ drop-append-le block.end (take place calls) (get_or calls place d ∷ [])
+    (omega (arith, is.high, taken calls place low)) in
+    record {
+      low = is.low;
+      high = omega (arith, is.high);
+      before = is.before;
+      behind = ap (list_any counts) more
+          ∙ list_any-append counts (drop block.end (take place calls)) (get_or calls place d ∷ [])
+          ∙ or-false (list_any counts (drop block.end (take place calls)))
+          (list_any counts (get_or calls place d ∷ [])) is.behind (or-false (counts (get_or calls place d)) false no-line refl);
+    }
+
+nothing-behind : (counts : Done → Bool) (calls : List Done) (place : ℕ)
+    → list_any counts (drop (place + 1) (take (place + 1) calls)) ≡ false
+nothing-behind counts calls place =
+    ap (list_any counts) (drop_all (place + 1) (take (place + 1) calls)
+    (omega (arith, length-take (place + 1) calls)))
+
+-- a line more that counts
+grown-at : (counts : Done → Bool) (calls : List Done) (place : ℕ) (block : Block) (first : Bool)
+    → eqb block.end 0 ≡ first → IsSoFar counts calls place block
+    → IsSoFar counts calls (place + 1)
+    (cond first (record { start = place; end = place + 1 }) (record { start = block.start; end = place + 1 }))
+grown-at counts calls place block true e is =
+    let none : block.end ≡ 0 = (Decides-eqb block.end 0).0 e in
+    record {
+      low = omega arith;
+      high = omega arith;
+      before = ap (λ n. list_any counts (drop n (take place calls))) (sym none) ∙ is.behind;
+      behind = nothing-behind counts calls place;
+    }
+grown-at counts calls place block false e is = record {
+  low = omega (arith, is.low, is.high);
+  high = omega arith;
+  before = is.before;
+  behind = nothing-behind counts calls place;
+}
+
+pub block-line : (counts : Done → Bool) (calls : List Done) (place : ℕ) (block : Block)
+    → IsSoFar counts calls place block → IsSoFar counts calls (place + 1) (grown block place)
+block-line counts calls place block is =
+    subst (IsSoFar counts calls (place + 1)) refl (at (eqb block.end 0) refl)
+  where
+    at : (first : Bool) → eqb block.end 0 ≡ first → IsSoFar counts calls (place + 1) (grown block place)
+    at first e = subst (λ (b : Bool). IsSoFar counts calls (place + 1)
+        (cond b (record { start = place; end = place + 1 }) (record { start = block.start; end = place + 1 }))) (sym e)
+        (grown-at counts calls place block first e is)
+
+-- all lines were seen
+pub block-done : (counts : Done → Bool) (calls : List Done) (place : ℕ) (block : Block) → place ≡ length calls
+    → IsSoFar counts calls place block → IsBlock counts calls block
+block-done counts calls place block end is = record {
+  low = is.low;
+  high = omega (arith, is.high, end);
+  before = is.before;
+  behind = ap (λ cs. list_any counts (drop block.end cs)) (sym (take_all place calls (omega (arith, end)))) ∙ is.behind;
+}
+
+-- ---- what a block tells
+
+parted : (calls : List Done) (start end : ℕ) → start ≤ end
+    → calls ≡ take start calls ++ (between start end calls ++ drop end calls)
+parted calls start end low = split_between calls start end low
+
+tell-other : (actor ticket : ℕ) (told : Told) (call : Done) → is_of actor call ≡ false
+    → tell actor ticket told call ≡ told
+tell-other actor ticket told (Moved a number from to weight first commit last) e =
+    ap (λ b. cond (b && ltb commit ticket) (record {
+      node = to;
+      number = suc told.number;
+      is_off = told.is_off;
+      commit = Some commit;
+      weight = weight;
+    }) told) e
+tell-other actor ticket told (Switched a off node number at) e =
+    ap (λ b. cond (b && ltb at ticket) (record told { is_off = off }) told) e
+tell-other actor ticket told (Found a from other node number level weight first last) e = refl
+tell-other actor ticket told (Off a from other node number level weight first last) e = refl
+tell-other actor ticket told (Again a from other why weight first last) e = refl
+
+tell-others : (actor ticket : ℕ) (told : Told) (calls : List Done) → list_any (is_of actor) calls ≡ false
+    → fold (tell actor ticket) told calls ≡ told
+tell-others actor ticket told [] e = refl
+tell-others actor ticket told (call ∷ calls) e =
+    let both = false-or (is_of actor call) (list_any (is_of actor) calls) e in
+    ap (λ t. fold (tell actor ticket) t calls) (tell-other actor ticket told call both.0)
+    ∙ tell-others actor ticket told calls both.1
+
+pub tells-alike : (actor : ℕ) (calls : List Done) (block : Block) → IsBlock (is_of actor) calls block
+    → (ticket : ℕ) (told : Told)
+    → fold (tell actor ticket) told (between block.start block.end calls) ≡ fold (tell actor ticket) told calls
+tells-alike actor calls block is ticket told =
+    let f = tell actor ticket in
+    let a = take block.start calls in
+    let b = between block.start block.end calls in
+    let c = drop block.end calls in
+    sym (ap (fold f told) (parted calls block.start block.end is.low) ∙ fold-append f told a (b ++ c)
+    ∙ ap (λ t. fold f t (b ++ c)) (tell-others actor ticket told a is.before) ∙ fold-append f told b c
+    ∙ tell-others actor ticket (fold f told b) c is.behind)
+
+switch-other : (ticket : ℕ) (call : Done) → is_switched call ≡ false → is_switch_at ticket call ≡ false
+switch-other ticket (Moved a number from to weight first commit last) e = refl
+switch-other ticket (Switched a off node number at) e = cc
+switch-other ticket (Found a from other node number level weight first last) e = refl
+switch-other ticket (Off a from other node number level weight first last) e = refl
+switch-other ticket (Again a from other why weight first last) e = refl
+
+switch-others : (ticket : ℕ) (calls : List Done) → list_any is_switched calls ≡ false
+    → list_any (is_switch_at ticket) calls ≡ false
+switch-others ticket [] e = refl
+switch-others ticket (call ∷ calls) e =
+    let both = false-or (is_switched call) (list_any is_switched calls) e in
+    or-false (is_switch_at ticket call) (list_any (is_switch_at ticket) calls) (switch-other ticket call both.0)
+    (switch-others ticket calls both.1)
+
+or-none : (a : Bool) → (a || false) ≡ a
+or-none true = refl
+or-none false = refl
+
+pub switches-alike : (calls : List Done) (block : Block) → IsBlock is_switched calls block → (ticket : ℕ)
+    → list_any (is_switch_at ticket) (between block.start block.end calls) ≡ list_any (is_switch_at ticket) calls
+switches-alike calls block is ticket =
+    let p = is_switch_at ticket in
+    let a = take block.start calls in
+    let b = between block.start block.end calls in
+    let c = drop block.end calls in
+    sym (ap (list_any p) (parted calls block.start block.end is.low) ∙ list_any-append p a (b ++ c)
+    ∙ ap (λ t. t || list_any p (b ++ c)) (switch-others ticket a is.before) ∙ list_any-append p b c
+    ∙ ap (λ t. list_any p b || t) (switch-others ticket c is.behind) ∙ or-none (list_any p b))
+
+-- ---- the last tickets
+
+first-never : (actor ticket : ℕ) (later : List ℕ) → list_any (λ other. eqb other actor) later ≡ false
+    → first_from actor ticket later ≡ None
+unfolding first_from
+first-never actor ticket [] e = refl
+first-never actor ticket (other ∷ later) e =
+    let both = false-or (eqb other actor) (list_any (λ x. eqb x actor) later) e in
+    ap (λ b. cond b (Some ticket) (first_from actor (suc ticket) later)) both.0
+    ∙ first-never actor (suc ticket) later both.1
+
+first-once : (actor ticket : ℕ) (later : List ℕ) (j d : ℕ) → j < length later → get_or later j d ≡ actor
+    → is_missing (first_from actor ticket later) ≡ false
+unfolding first_from
+first-once actor ticket [] j d low e = absurd (omega (arith, low))
+first-once actor ticket (other ∷ later) zero d low e =
+    ap (λ b. is_missing (cond b (Some ticket) (first_from actor (suc ticket) later))) ((Decides-eqb other actor).1 e)
+first-once actor ticket (other ∷ later) (suc j) d low e =
+    at (eqb other actor) (first-once actor (suc ticket) later j d (omega (arith, low)) e)
+  where
+    at : (same : Bool) → is_missing (first_from actor (suc ticket) later) ≡ false
+        → is_missing (cond same (Some ticket) (first_from actor (suc ticket) later)) ≡ false
+    at true h = refl
+    at false h = h
+
+-- ---- lines as the code keeps them
+
+between-map : (lines : List Line) (start end : ℕ)
+    → map done_of (take (end - start) (drop start lines)) ≡ between start end (map done_of lines)
+between-map lines start end =
+    sym (take-map done_of (end - start) (drop start lines)) ∙ ap (take (end - start)) (sym (drop-map done_of start lines))
+
+pub switch-lines : (lines : List Line) (block : Block) → IsBlock is_switched (map done_of lines) block
+    → SwitchesAlike (map done_of lines) (map done_of (take (block.end - block.start) (drop block.start lines)))
+switch-lines lines block is ticket =
+    ap (list_any (is_switch_at ticket)) (between-map lines block.start block.end)
+    ∙ switches-alike (map done_of lines) block is ticket
+
+pub actor-lines : (lines : Lines) (actor : ℕ) (block : Block) → AreBlocks lines → actor < length lines.blocks.now
+    → slice_index_or lines.blocks.now actor no_block ≡ block
+    → TellsAlike actor (map done_of lines.calls.now)
+    (map done_of (take (block.end - block.start) (drop block.start lines.calls.now)))
+actor-lines lines actor block are low same ticket told =
+    let is : IsBlock (is_of actor) (map done_of lines.calls.now) block =
+    subst (IsBlock (is_of actor) (map done_of lines.calls.now)) same (are.actors actor low) in
+    ap (fold (tell actor ticket) told) (between-map lines.calls.now block.start block.end)
+    ∙ tells-alike actor (map done_of lines.calls.now) block is ticket told
+
+pub line-other : (counts : Done → Bool) (lines : List Line) (place : ℕ) (block : Block) (d : Line)
+    → place < length lines → IsSoFar counts (map done_of lines) place block
+    → counts (done_of (get_or lines place d)) ≡ false → IsSoFar counts (map done_of lines) (place + 1) block
+line-other counts lines place block d low is no-line =
+    block-other counts (map done_of lines) place block (done_of d)
+    (omega (arith, low, length-map lines done_of)) is
+    (ap counts (get_or-map done_of lines place d (done_of d) low) ∙ no-line)
+
+true-not-false : true ≡ false → ⊥
+true-not-false e = cc
+
+not-same : (a b : ℕ) → eqb a b ≡ false → a ≢ b
+not-same a b e = λ same. true-not-false (sym ((Decides-eqb a b).1 same) ∙ e)
+
+swapped : (a b : ℕ) → eqb a b ≡ false → eqb b a ≡ false
+swapped a b e = at (eqb b a) refl
+  where
+    at : (same : Bool) → eqb b a ≡ same → same ≡ false
+    at true s = absurd (true-not-false (sym ((Decides-eqb a b).1 (sym ((Decides-eqb b a).0 s))) ∙ e))
+    at false s = refl
+
+-- the block of an actor more, where the line is this actor's
+pub blocks-line : (lines : List Line) (blocks blocks' : List Block) (place actor : ℕ) (d : Line)
+    → place < length lines → actor ≡ actor_of (done_of (get_or lines place d)) → actor < length blocks
+    → blocks' ≡ set blocks actor (grown (get_or blocks actor no_block) place)
+    → ((a : ℕ) → a < length blocks → IsSoFar (is_of a) (map done_of lines) place (get_or blocks a no_block))
+    → (a : ℕ) → a < length blocks' → IsSoFar (is_of a) (map done_of lines) (place + 1) (get_or blocks' a no_block)
+blocks-line lines blocks blocks' place actor d low whose known same is a few = at (eqb a actor) refl
+  where
+    count : length blocks' ≡ length blocks
+    count = ap length same ∙ length-set blocks actor (grown (get_or blocks actor no_block) place)
+
+    at : (own : Bool) → eqb a actor ≡ own
+        → IsSoFar (is_of a) (map done_of lines) (place + 1) (get_or blocks' a no_block)
+    at true e =
+        let own : a ≡ actor = (Decides-eqb a actor).0 e in
+        let value : get_or blocks' a no_block ≡ grown (get_or blocks a no_block) place =
+        ap (λ bs. get_or bs a no_block) same
+        ∙ ap (λ (x : ℕ). get_or (set blocks x (grown (get_or blocks x no_block) place)) a no_block) (sym own)
+        ∙ get_or-set_same blocks a (grown (get_or blocks a no_block) place) no_block (omega (arith, few, count)) in
+        subst (IsSoFar (is_of a) (map done_of lines) (place + 1)) (sym value)
+        (block-line (is_of a) (map done_of lines) place (get_or blocks a no_block) (is a (omega (arith, few, count))))
+    at false e =
+        let other : a ≢ actor = not-same a actor e in
+        let value : get_or blocks' a no_block ≡ get_or blocks a no_block =
+        ap (λ bs. get_or bs a no_block) same
+        ∙ get_or-set_other blocks actor a (grown (get_or blocks actor no_block) place) no_block other in
+        subst (IsSoFar (is_of a) (map done_of lines) (place + 1)) (sym value)
+        (line-other (is_of a) lines place (get_or blocks a no_block) d low (is a (omega (arith, few, count)))
+        (ap (λ x. eqb x a) (sym whose) ∙ swapped a actor e))
+
+-- ---- the last tickets while they are found
+
+pub record IsBehindSoFar (order : List ℕ) (ticket actor n : ℕ) : Type 0 where
+  pub few : n ≤ ticket
+  pub none : list_any (λ other. eqb other actor) (drop n (take ticket order)) ≡ false
+  pub last : n ≢ 0 → get_or order (n - 1) 0 ≡ actor
+
+pub behind-none : (order : List ℕ) (actor : ℕ) → IsBehindSoFar order 0 actor 0
+behind-none order actor = record { few = omega arith; none = refl; last = λ some. absurd (some refl) }
+
+behind-other : (order : List ℕ) (ticket actor n : ℕ) → ticket < length order → IsBehindSoFar order ticket actor n
+    → eqb (get_or order ticket 0) actor ≡ false → IsBehindSoFar order (ticket + 1) actor n
+behind-other order ticket actor n low is other =
+    let p : ℕ → Bool = λ x. eqb x actor in
+    let more : drop n (take (ticket + 1) order) ≡ drop n (take ticket order) ++ get_or order ticket 0 ∷ [] =
+    ap (drop n) (take_more order ticket 0 low)
+    ∙ drop-append-le n (take ticket order) (get_or order ticket 0 ∷ [])
+    (omega (arith, is.few, length-take ticket order, low)) in
+    record {
+      few = omega (arith, is.few);
+      none = ap (list_any p) more ∙ list_any-append p (drop n (take ticket order)) (get_or order ticket 0 ∷ [])
+          ∙ or-false (list_any p (drop n (take ticket order))) (list_any p (get_or order ticket 0 ∷ [])) is.none
+          (or-false (eqb (get_or order ticket 0) actor) false other refl);
+      last = is.last;
+    }
+
+behind-own : (order : List ℕ) (ticket actor : ℕ) → get_or order ticket 0 ≡ actor
+    → IsBehindSoFar order (ticket + 1) actor (ticket + 1)
+behind-own order ticket actor own = record {
+  few = omega arith;
+  none = ap (list_any (λ other. eqb other actor)) (drop_all (ticket + 1) (take (ticket + 1) order)
+      (omega (arith, length-take (ticket + 1) order)));
+  last = λ some. ap (λ (i : ℕ). get_or order i 0) (before ticket) ∙ own;
+}
+  where
+    before : (t : ℕ) → t + 1 - 1 ≡ t
+    before t = omega arith
+
+pub behind-more : (order behind behind' : List ℕ) (ticket actor : ℕ) → ticket < length order
+    → actor ≡ get_or order ticket 0 → actor < length behind → behind' ≡ set behind actor (ticket + 1)
+    → ((a : ℕ) → a < length behind → IsBehindSoFar order ticket a (get_or behind a 0))
+    → (a : ℕ) → a < length behind' → IsBehindSoFar order (ticket + 1) a (get_or behind' a 0)
+behind-more order behind behind' ticket actor low whose known same is a few = at (eqb a actor) refl
+  where
+    count : length behind' ≡ length behind
+    count = ap length same ∙ length-set behind actor (ticket + 1)
+
+    at : (own : Bool) → eqb a actor ≡ own → IsBehindSoFar order (ticket + 1) a (get_or behind' a 0)
+    at true e =
+        let own : a ≡ actor = (Decides-eqb a actor).0 e in
+        let value : get_or behind' a 0 ≡ ticket + 1 =
+        ap (λ bs. get_or bs a 0) same ∙ ap (λ (x : ℕ). get_or (set behind x (ticket + 1)) a 0) (sym own)
+        ∙ get_or-set_same behind a (ticket + 1) 0 (omega (arith, few, count)) in
+        subst (IsBehindSoFar order (ticket + 1) a) (sym value) (behind-own order ticket a (sym whose ∙ sym own))
+    at false e =
+        let value : get_or behind' a 0 ≡ get_or behind a 0 =
+        ap (λ bs. get_or bs a 0) same ∙ get_or-set_other behind actor a (ticket + 1) 0 (not-same a actor e) in
+        subst (IsBehindSoFar order (ticket + 1) a) (sym value)
+        (behind-other order ticket a (get_or behind a 0) low (is a (omega (arith, few, count)))
+        (ap (λ x. eqb x a) (sym whose) ∙ swapped a actor e))
+
+-- a ticket of an actor that isn't asked for
+pub behind-past : (order behind : List ℕ) (ticket actor : ℕ) → ticket < length order
+    → actor ≡ get_or order ticket 0 → length behind ≤ actor
+    → ((a : ℕ) → a < length behind → IsBehindSoFar order ticket a (get_or behind a 0))
+    → (a : ℕ) → a < length behind → IsBehindSoFar order (ticket + 1) a (get_or behind a 0)
+behind-past order behind ticket actor low whose unknown is a few =
+    behind-other order ticket a (get_or behind a 0) low (is a few)
+    (ap (λ x. eqb x a) (sym whose) ∙ swapped a actor (apart a actor (omega (arith, few, unknown))))
+  where
+    apart : (x y : ℕ) → x < y → eqb x y ≡ false
+    apart x y h = grind (arith, nat_tests)
+
+pub behind-done : (order : List ℕ) (ticket actor n : ℕ) → ticket ≡ length order
+    → IsBehindSoFar order ticket actor n → IsBehind order actor n
+behind-done order ticket actor n end is = record {
+  few = omega (arith, is.few, end);
+  none = ap (λ os. list_any (λ other. eqb other actor) (drop n os)) (sym (take_all ticket order (omega (arith, end))))
+      ∙ is.none;
+  last = is.last;
+}
+
+pub blocks-other : (lines : List Line) (blocks : List Block) (place actor : ℕ) (d : Line)
+    → place < length lines → actor ≡ actor_of (done_of (get_or lines place d)) → length blocks ≤ actor
+    → ((a : ℕ) → a < length blocks → IsSoFar (is_of a) (map done_of lines) place (get_or blocks a no_block))
+    → (a : ℕ) → a < length blocks → IsSoFar (is_of a) (map done_of lines) (place + 1) (get_or blocks a no_block)
+blocks-other lines blocks place actor d low whose unknown is a few =
+    line-other (is_of a) lines place (get_or blocks a no_block) d low (is a few)
+    (ap (λ x. eqb x a) (sym whose) ∙ swapped a actor (apart a actor (omega (arith, few, unknown))))
+  where
+    apart : (x y : ℕ) → x < y → eqb x y ≡ false
+    apart x y h = grind (arith, nat_tests)
+
+within : (m n : ℕ) → leb m n ≡ true → m ≤ n
+within m n e = grind (arith, nat_tests, e)
+
+over : (m n : ℕ) → leb m n ≡ false → n < m
+over m n e = grind (arith, nat_tests, e)
+
+any-behind : (p : ℕ → Bool) (xs : List ℕ) (k : ℕ) → list_any p xs ≡ false → list_any p (drop k xs) ≡ false
+any-behind p xs zero e = e
+any-behind p [] (suc k) e = e
+any-behind p (x ∷ xs) (suc k) e = any-behind p xs k (false-or (p x) (list_any p xs) e).1
+
+-- the test of whether an actor has a ticket behind another
+pub none-behind : (order : List ℕ) (actor n end : ℕ) → IsBehind order actor n
+    → leb n (suc end) ≡ is_missing (first_from actor (suc end) (drop (suc end) order))
+none-behind order actor n end is = at (leb n (suc end)) refl
+  where
+    same : n ≤ suc end → n + (suc end - n) ≡ suc end
+    same h = omega (arith, h)
+
+    place : suc end < n → suc end + (n - 1 - suc end) ≡ n - 1
+    place h = omega (arith, h)
+
+    some : suc end < n → n ≢ 0
+    some h e = omega (arith, h, e)
+
+    at : (low : Bool) → leb n (suc end) ≡ low
+        → low ≡ is_missing (first_from actor (suc end) (drop (suc end) order))
+    at true e =
+        let low : n ≤ suc end = within n (suc end) e in
+        sym (ap is_missing (first-never actor (suc end) (drop (suc end) order)
+        (ap (λ (k : ℕ). list_any (λ other. eqb other actor) (drop k order)) (sym (same low))
+        ∙ ap (list_any (λ other. eqb other actor)) (sym (drop-drop (suc end - n) n order))
+        ∙ any-behind (λ other. eqb other actor) (drop n order) (suc end - n) is.none)))
+    at false e =
+        let high : suc end < n = over n (suc end) e in
+        sym (first-once actor (suc end) (drop (suc end) order) (n - 1 - suc end) 0
+        (omega (arith, high, is.few, length-drop (suc end) order))
+        (get_or-drop (suc end) order (n - 1 - suc end) 0
+        ∙ ap (λ (i : ℕ). get_or order i 0) (place high) ∙ is.last (some high)))
+
+pub none-line : (order behind : List ℕ) (call : Done) (actor end n : ℕ) (low : Bool) → AreBehind order behind
+    → actor < length behind → n ≡ get_or behind actor 0 → actor ≡ actor_of call → end ≡ end_of call
+    → low ≡ leb n (suc end) → low ≡ none_left order call
+none-line order behind call actor end n low are known value whose last is =
+    let its : IsBehind order actor n = subst (IsBehind order actor) (sym value) (are actor known) in
+    is ∙ none-behind order actor n end its
+    ∙ ap (λ (a : ℕ). is_missing (first_from a (suc end) (drop (suc end) order))) whose
+    ∙ ap (λ (e : ℕ). is_missing (first_from (actor_of call) (suc e) (drop (suc e) order))) last

@@ -1,0 +1,22 @@
+use Rattle.std.proofs.Common.{◌<◌, ap, arith, get_or, length, refl, subst, sym, List, Vec, Global, ℕ, ◌+◌}
+use Rattle.report_check.proofs.Blocking.{IsBehindSoFar, behind-more, behind-past}
+use Rattle.report_check.proofs.blocks.behind_tickets.Goals as goal
+use Rattle.report_check.proofs.blocks.behind_tickets.Goals.{then-actor-len, else-actor-len}
+
+pub tickets-preserved : goal.tickets-preserved
+tickets-preserved c =
+    let behind : List ℕ = c.tickets.behind.items in
+    let order = c.args.order.now in
+    let ticket = c.tickets.ticket in
+    let actor = get_or order ticket 0 in
+    elim c.if-actor-len.branch [
+      | then-actor-len w ↦
+          behind-more order behind c.if-actor-len.behind.items ticket actor c.tickets-test.true refl
+          (omega (arith, w.if-actor-len.true, c.len.ensures)) (ap (λ (v : Vec ℕ Global). v.items) w.behind-is)
+          c.tickets.invariant
+      | else-actor-len w ↦
+          subst (λ (v : Vec ℕ Global). (a : ℕ) → a < length v.items
+          → IsBehindSoFar order (ticket + 1) a (get_or v.items a 0)) (sym w.behind-is)
+          (behind-past order behind ticket actor c.tickets-test.true refl
+          (omega (arith, w.if-actor-len.false, c.len.ensures)) c.tickets.invariant)
+    ]

@@ -1,0 +1,277 @@
+//! Checks of reports by the top call: worked rows, a report by hand whose rules are broken one by
+//! one, inputs that are refused, lengths at the limits, and faults of reading and writing.
+use crate::foreign_reports::{ANSWERS, Change, FORMS, INPUT, REPORT, TICKETS};
+use crate::runs::{FOUR, Lines, ROOM, Row, Run, ends, play, text_of};
+use std::alloc::Global;
+use std::process::Abort;
+use std::test::Fail;
+
+const CALLS: &str = "track 1\nnodes 4\nk 2\nedge 0 1 1\nedge 1 2 1\nedge 2 3 1\nsub 3\n\
+        callers 1\nmove 0 2\nfind 1 3 0\n";
+
+const MOVE: &str = "report\nmove 0 1 3 2 weight 1 first 0 commit 3 last 5\n";
+
+const LATE: &str = "report\nmove 0 1 3 2 weight 1 first 0 commit 5 last 5\n\
+        find 1 3 0 at 2 number 1 level 0 weight 5 first 6 last 8\n";
+
+const FOUND: &str = "report\nmove 0 1 3 2 weight 1 first 0 commit 3 last 5\n\
+        find 1 3 0 at 2 number 1 level 0 weight 5 first 6 last 8\n";
+
+const END: &[u8] = b"order 0 0 0 0 0 0 1 1 1\nend 9\n";
+
+#[test]
+fn worked_verdicts(rt: HostRuntime) -> Result<(), Fail> {
+    let rows: [Row<'_>; 3] = [
+        (Lines(CALLS, FOUND, END, 1), 0, "yes\n"),
+        (Lines(CALLS, LATE, END, 1), 8, "no 1 tickets\n"),
+        (
+            Lines(CALLS, FOUND, b"order 0 0 0 0 0 0 1 1 1\n", 1),
+            8,
+            "no 4 form\n",
+        ),
+    ];
+    play(&rt, rt.alloc(), &["check"], &[1, 7, ROOM], &rows)
+}
+
+// The same with other lines of the find.
+#[test]
+fn worked_finds(rt: HostRuntime) -> Result<(), Fail> {
+    let rows: [Row<'_>; 4] = [
+        (
+            Lines(
+                CALLS,
+                MOVE,
+                b"find 1 3 0 at 3 number 1 level 0 weight 5 first 6 last 8\n\
+                order 0 0 0 0 0 0 1 1 1\nend 9\n",
+                1,
+            ),
+            8,
+            "no 2 place\n",
+        ),
+        (
+            Lines(
+                CALLS,
+                MOVE,
+                b"find 1 3 0 at 2 number 1 level 0 weight 144 first 6 last 8\n\
+                order 0 0 0 0 0 0 1 1 1\nend 9\n",
+                1,
+            ),
+            0,
+            "yes\n",
+        ),
+        (
+            Lines(
+                CALLS,
+                MOVE,
+                b"find 1 3 0 at 2 number 1 level 0 weight 145 first 6 last 8\n\
+                order 0 0 0 0 0 0 1 1 1\nend 9\n",
+                1,
+            ),
+            8,
+            "no 2 weight\n",
+        ),
+        (
+            Lines(
+                CALLS,
+                MOVE,
+                b"again 1 3 0 none weight 5 first 6 last 8\n\
+                order 0 0 0 0 0 0 1 1 1\nend 9\n",
+                1,
+            ),
+            8,
+            "no 2 again\n",
+        ),
+    ];
+    play(&rt, rt.alloc(), &["check"], &[ROOM], &rows)
+}
+
+// Where a text is cut, and input parts that are refused.
+#[test]
+fn cuts(rt: HostRuntime) -> Result<(), Fail> {
+    let rows: [Row<'_>; 8] = [
+        (Lines("", "", b"", 0), 1, "refused 0 unfinished\n"),
+        (
+            Lines("report\n", "", b"end 0\n", 1),
+            1,
+            "refused 0 unfinished\n",
+        ),
+        (Lines(FOUR, "", b"", 0), 8, "no 1 form\n"),
+        (Lines(FOUR, " \treport \r\n", b"end 0\n", 1), 0, "yes\n"),
+        (
+            Lines(FOUR, "report\r\r\n", b"end 0\n", 1),
+            1,
+            "refused 9 form\n",
+        ),
+        (Lines(FOUR, "report\n", b"report\n", 1), 8, "no 1 form\n"),
+        (Lines(FOUR, "report", b"", 0), 8, "no 1 form\n"),
+        (
+            Lines(FOUR, "edge 0 1 1\nreport\n", b"end 0\n", 1),
+            1,
+            "refused 9 form\n",
+        ),
+    ];
+    play(&rt, rt.alloc(), &["check"], &[1, 7, ROOM], &rows)
+}
+
+// Under the first format a subscriber is never off: such a line of a find has a form.
+#[test]
+fn never_off(rt: HostRuntime) -> Result<(), Fail> {
+    let rows: [Row<'_>; 1] = [(
+        Lines(
+            CALLS,
+            MOVE,
+            b"off 1 3 0 at 2 number 1 level 0 weight 5 first 6 last 8\n\
+            order 0 0 0 0 0 0 1 1 1\nend 9\n",
+            1,
+        ),
+        8,
+        "no 2 place\n",
+    )];
+    play(&rt, rt.alloc(), &["check"], &[ROOM], &rows)
+}
+
+// The input and its report, but for what stands at one place.
+fn changed(alloc: Global, place: usize, line: &str) -> Result<Vec<u8>, Fail> {
+    let mut text = Vec::from_slice(alloc, INPUT.as_bytes())?;
+    text.extend_from_slice(b"report\n")?;
+    for index in 0..REPORT.len() {
+        let kept = if index + 1 == place {
+            line
+        } else {
+            REPORT[index]
+        };
+        text.extend_from_slice(kept.as_bytes())?;
+    }
+    Ok(text)
+}
+
+fn told(
+    rt: &impl Abort,
+    alloc: Global,
+    place: usize,
+    input: &[u8],
+    verdict: &str,
+) -> Result<(), Fail> {
+    let run = Run {
+        words: &["check"],
+        input,
+        most: ROOM,
+        room: ROOM,
+        failing_reads: &[],
+        failing_writes: &[],
+    };
+    let status = if verdict == "yes\n" { 0 } else { 8 };
+    ends(rt, alloc, place, &run, status, verdict.as_bytes())
+}
+
+fn play_changes(rt: &impl Abort, alloc: Global, changes: &[Change<'_>]) -> Result<(), Fail> {
+    for at in 0..changes.len() {
+        let (place, line, verdict) = changes[at];
+        let text = changed(alloc, place, line)?;
+        told(rt, alloc, at, &text, verdict)?;
+    }
+    Ok(())
+}
+
+#[test]
+fn broken_forms(rt: HostRuntime) -> Result<(), Fail> {
+    play_changes(&rt, rt.alloc(), &FORMS)
+}
+
+#[test]
+fn broken_tickets(rt: HostRuntime) -> Result<(), Fail> {
+    play_changes(&rt, rt.alloc(), &TICKETS)
+}
+
+#[test]
+fn broken_answers(rt: HostRuntime) -> Result<(), Fail> {
+    play_changes(&rt, rt.alloc(), &ANSWERS)
+}
+
+// An input part may have 4,194,304 bytes and no more.
+#[test]
+fn longest_part(rt: HostRuntime) -> Result<(), Fail> {
+    let rows: [Row<'_>; 2] = [
+        (Lines("", "", b"#", 4_194_304), 1, "refused 1 unfinished\n"),
+        (Lines("", "", b"#", 4_194_305), 6, ""),
+    ];
+    play(&rt, rt.alloc(), &["check"], &[100_000], &rows)
+}
+
+// An empty input part, and a report that fills a text up to this length.
+fn long_text(alloc: Global, length: usize) -> Result<Vec<u8>, Fail> {
+    let mut text = Vec::with_capacity(alloc, length)?;
+    text.extend_from_slice(b"report\n")?;
+    let piece = [b'x'; 65_536];
+    for _ in 0..1_025 {
+        let count = length.saturating_sub(text.len()).min(piece.len());
+        text.extend_from_slice(&piece[..count])?;
+    }
+    Ok(text)
+}
+
+fn long_ends(
+    rt: &impl Abort,
+    alloc: Global,
+    length: usize,
+    status: u8,
+    text: &[u8],
+) -> Result<(), Fail> {
+    let input = long_text(alloc, length)?;
+    let run = Run {
+        words: &["check"],
+        input: &input,
+        most: 1_000_000,
+        room: ROOM,
+        failing_reads: &[],
+        failing_writes: &[],
+    };
+    ends(rt, alloc, length, &run, status, text)
+}
+
+// All of it may have 67,108,864 bytes and no more.
+#[test]
+fn longest_text(rt: HostRuntime) -> Result<(), Fail> {
+    long_ends(&rt, rt.alloc(), 67_108_864, 1, b"refused 0 unfinished\n")?;
+    long_ends(&rt, rt.alloc(), 67_108_865, 6, b"")
+}
+
+// How a run over the worked report ends, some of whose calls fail.
+fn breaks(
+    rt: &impl Abort,
+    alloc: Global,
+    call: u64,
+    reads: &[u64],
+    writes: &[u64],
+    status: u8,
+    text: &[u8],
+) -> Result<(), Fail> {
+    let input = text_of(alloc, Lines(CALLS, FOUND, END, 1))?;
+    let run = Run {
+        words: &["check"],
+        input: &input,
+        most: 3,
+        room: ROOM,
+        failing_reads: reads,
+        failing_writes: writes,
+    };
+    ends(rt, alloc, call as usize, &run, status, text)
+}
+
+// Each of the 77 reads of three bytes fails, and the one that tells the end.
+#[test]
+fn each_read_fails(rt: HostRuntime) -> Result<(), Fail> {
+    for call in 0..80u64 {
+        let (status, text) = if call < 78 { (4, "") } else { (0, "yes\n") };
+        breaks(&rt, rt.alloc(), call, &[call], &[], status, text.as_bytes())?;
+    }
+    Ok(())
+}
+
+// Two writes of at most three bytes take the verdict.
+#[test]
+fn each_write_fails(rt: HostRuntime) -> Result<(), Fail> {
+    breaks(&rt, rt.alloc(), 0, &[], &[0], 5, b"")?;
+    breaks(&rt, rt.alloc(), 1, &[], &[1], 5, b"yes")?;
+    breaks(&rt, rt.alloc(), 2, &[], &[2], 0, b"yes\n")
+}
