@@ -1,4 +1,6 @@
 mod Steps
+mod ReadBack
+mod ReportRead
 mod Turns
 mod Judging
 mod Texts

@@ -6,3 +6,4 @@ pub mod Verdicts
 pub mod Grounds
 pub mod Examples
 pub mod Laws
+pub mod Forms

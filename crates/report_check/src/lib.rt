@@ -6,6 +6,7 @@ mod calls;
 mod checker;
 mod cursor;
 mod examples;
+mod forms;
 mod judge;
 mod laws;
 mod report;
@@ -18,5 +19,6 @@ pub use examples::{
     flaws_of_form, flaws_of_place, flaws_of_tickets, moves_by_tickets, switches_by_tickets,
     worked_reports,
 };
+pub use forms::reports_are_read;
 pub use laws::{calls_are_text, numbers_are_text, words_are_text};
 pub use verdict::{Flaw, Verdict};
