@@ -1,0 +1,6 @@
+mod Order
+mod Runs
+mod StepRuns
+mod FindRuns
+mod Strangers
+mod Tickets
