@@ -4,3 +4,6 @@ mod StepRuns
 mod FindRuns
 mod Strangers
 mod Tickets
+mod Cuts
+mod Plain
+mod Tellings

@@ -27,7 +27,7 @@ first-head actor t (v ∷ h) = at_test (v.actor == actor) (first-head actor (suc
     at_test false h = h
 
 -- no ticket is below the first visit's
-high : (actor t i c : ℕ) (history : History) → slice_get (tickets_from actor t history) i ≡ Some c → t ≤ c
+pub high : (actor t i c : ℕ) (history : History) → slice_get (tickets_from actor t history) i ≡ Some c → t ≤ c
 unfolding tickets_from
 high actor t i c [] is = let bad : None ≡ Some c = is in cc
 high actor t i c (v ∷ h) is = at_test (v.actor == actor) i is (λ j. high actor (suc t) j c h)

@@ -17,7 +17,7 @@ use Rattle.directory.specs.Statements.{ScriptsInOrder}
 use Rattle.report_check.specs.Parts.{actor_of}
 use Rattle.own_reports.proofs.Runs.{HasEnds, HaveRuns, IsRun}
 
-length-numbers : (from count : ℕ) → length (numbers_from from count) ≡ count
+pub length-numbers : (from count : ℕ) → length (numbers_from from count) ≡ count
 length-numbers from zero = refl
 length-numbers from (suc count) = ap suc (length-numbers (suc from) count)
 

@@ -2,7 +2,7 @@
 -- visits, whether the order is the input's own or one that threads made, the checker of reports
 -- finds no flaw in the report of what becomes of the input's calls.
 -- Key laws: `tickets_are_told` (`TicketsAreTold`: each call has its tickets, and none is left over).
-use Rattle.std.specs.Prelude.{◌≡◌, ℕ, ◌&&◌, Bool, true, if◌then◌else◌, List, [], ◌∷◌, Option, None}
+use Rattle.std.specs.Prelude.{◌≡◌, ℕ, ◌&&◌, All, Bool, true, if◌then◌else◌, List, [], ◌∷◌, Option, None}
 use Rattle.std.specs.List.{list_all}
 use Rattle.directory.specs.declared.answers.Done.{Done}
 use Rattle.directory.specs.Outcomes.{Outcome, outcome_of}
@@ -51,6 +51,19 @@ TicketsAreTold =
     (contents : Contents) (order : List ℕ) → IsValid contents
     → HaveTickets (outcome_under contents order).order None (outcome_under contents order).calls
     × (list_all (has_call contents.scripts) (outcome_under contents order).order ≡ true)
+
+-- a call keeps the other parts: its place, what is to be made again, and its weight
+abbrev pub KeepsParts : PlanData → List ℕ → List Done → List ℕ → Done → Type 0
+KeepsParts plan homes calls order call =
+    (place_holds homes calls call ≡ true) × (again_holds calls order call ≡ true)
+    × (weight_holds plan homes calls order call ≡ true)
+
+-- so do the calls of what the directory reports (`places_are_told`)
+abbrev pub PlacesAreTold : Type 0
+PlacesAreTold =
+    (contents : Contents) (order : List ℕ) → IsValid contents
+    → All (KeepsParts (plan_in contents) contents.homes (outcome_under contents order).calls
+    (outcome_under contents order).order) (outcome_under contents order).calls
 
 -- what the directory reports is sound (`own_reports_are_sound`)
 abbrev pub OwnReportsAreSound : Type 0

@@ -1,11 +1,17 @@
 //! The laws of the directory's own reports.
-ghost use Rattle.own_reports.specs.Reports.{TicketsAreTold};
+ghost use Rattle.own_reports.specs.Reports.{PlacesAreTold, TicketsAreTold};
 
 use directory::{
     all_scripts_done, each_visit_is_next, lines_are_made, lines_grow, scripts_in_order,
     tickets_tell,
 };
+use entry_word::mark_words;
+use directory::{done_is_rest, every_order_is_legal, told_by_writes, writes_are_small};
+use region_plan::plan_is_bounding;
+use region_plan::plan_means;
 use scripts::scripts_are_valid;
+use stretch_laws::plan_outcomes_are_near;
+use trail_laws::outcomes_are_right;
 
 /// Under every order each call of a valid input has its tickets, and no ticket is left over.
 pub fn tickets_are_told()
@@ -18,4 +24,26 @@ pub fn tickets_are_told()
     scripts_in_order();
     scripts_are_valid();
     tickets_tell();
+}
+
+/// Under every order each find of a valid input keeps what is asked of its place, of what is to be
+/// made again, and of its weight.
+pub fn places_are_told()
+    ensures { PlacesAreTold }
+{
+    all_scripts_done();
+    done_is_rest();
+    each_visit_is_next();
+    every_order_is_legal();
+    lines_are_made();
+    mark_words();
+    outcomes_are_right();
+    plan_is_bounding();
+    plan_means();
+    plan_outcomes_are_near();
+    scripts_are_valid();
+    scripts_in_order();
+    tickets_tell();
+    told_by_writes();
+    writes_are_small();
 }

@@ -3,4 +3,4 @@
 
 mod laws;
 
-pub use laws::tickets_are_told;
+pub use laws::{places_are_told, tickets_are_told};
