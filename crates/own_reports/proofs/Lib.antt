@@ -7,3 +7,5 @@ mod Tickets
 mod Cuts
 mod Plain
 mod Tellings
+mod RowsTold
+mod Switches

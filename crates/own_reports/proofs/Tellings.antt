@@ -231,7 +231,7 @@ module _ (setting : Setting) (homes : List ℕ) (sub ticket : ℕ) (seen : List 
       (length course.moves) p m done lines count amid.fits refl refl told
 
   -- whether a subscriber is off after a step
-  off-after : (course : Course) (step : Step) (done : List Write) → MayStep setting course step
+  pub off-after : (course : Course) (step : Step) (done : List Write) → MayStep setting course step
       → off_by false done ≡ course.is_off
       → off_by false (done ++ step_writes setting course step) ≡ (after_step setting course step).is_off
   off-after course (move_to node) done may now =
