@@ -9,3 +9,7 @@ mod Plain
 mod Tellings
 mod RowsTold
 mod Switches
+mod Looked
+mod FindParts
+mod Inputs
+mod Places

@@ -10,7 +10,7 @@ use directory::{done_is_rest, every_order_is_legal, told_by_writes, writes_are_s
 use region_plan::plan_is_bounding;
 use region_plan::plan_means;
 use scripts::scripts_are_valid;
-use stretch_laws::plan_outcomes_are_near;
+use stretch_laws::{plan_outcomes_are_near, plans_track};
 use trail_laws::outcomes_are_right;
 
 /// Under every order each call of a valid input has its tickets, and no ticket is left over.
@@ -36,11 +36,13 @@ pub fn places_are_told()
     each_visit_is_next();
     every_order_is_legal();
     lines_are_made();
+    lines_grow();
     mark_words();
     outcomes_are_right();
     plan_is_bounding();
     plan_means();
     plan_outcomes_are_near();
+    plans_track();
     scripts_are_valid();
     scripts_in_order();
     tickets_tell();
