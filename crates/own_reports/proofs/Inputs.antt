@@ -23,7 +23,7 @@ use Rattle.own_reports.proofs.Cuts.{IsOver}
 abbrev pub network_in : Contents → Network
 network_in contents = record { nodes = contents.nodes; edges = contents.edges }
 
-most-within : (format : ℕ) → most_nodes format ≤ MAX_NODES
+pub most-within : (format : ℕ) → most_nodes format ≤ MAX_NODES
 most-within format = at (format == 2)
   where
     at : (second : Bool) → (if second then 1024 else 256) ≤ MAX_NODES

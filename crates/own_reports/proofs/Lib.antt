@@ -13,3 +13,5 @@ mod Looked
 mod FindParts
 mod Inputs
 mod Places
+mod SlotsTold
+mod Sizes

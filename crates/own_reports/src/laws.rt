@@ -1,17 +1,16 @@
 //! The laws of the directory's own reports.
-ghost use Rattle.own_reports.specs.Reports.{PlacesAreTold, TicketsAreTold};
+ghost use Rattle.own_reports.specs.Reports.{OutcomesHaveForm, PlacesAreTold, TicketsAreTold};
 
 use directory::{
-    all_scripts_done, each_visit_is_next, lines_are_made, lines_grow, scripts_in_order,
+    all_scripts_done, each_visit_is_next, lines_are_made, looks_fall, lines_grow, scripts_in_order,
     tickets_tell,
 };
 use entry_word::mark_words;
 use directory::{done_is_rest, every_order_is_legal, told_by_writes, writes_are_small};
-use region_plan::plan_is_bounding;
-use region_plan::plan_means;
-use scripts::scripts_are_valid;
+use region_plan::{plan_is_bounding, plan_is_sparse, plan_means};
+use scripts::{scripts_are_valid, visits_are_few};
 use stretch_laws::{plan_outcomes_are_near, plans_track};
-use trail_laws::outcomes_are_right;
+use trail_laws::{entries_tell, marks_tell, outcomes_are_right};
 
 /// Under every order each call of a valid input has its tickets, and no ticket is left over.
 pub fn tickets_are_told()
@@ -47,5 +46,31 @@ pub fn places_are_told()
     scripts_in_order();
     tickets_tell();
     told_by_writes();
+    writes_are_small();
+}
+
+/// Under every order the outcome of a valid input has the form that the checker reads.
+pub fn outcomes_have_form()
+    ensures { OutcomesHaveForm }
+{
+    all_scripts_done();
+    done_is_rest();
+    each_visit_is_next();
+    entries_tell();
+    every_order_is_legal();
+    lines_are_made();
+    looks_fall();
+    mark_words();
+    marks_tell();
+    outcomes_are_right();
+    plan_is_bounding();
+    plan_is_sparse();
+    plan_means();
+    plans_track();
+    scripts_are_valid();
+    scripts_in_order();
+    tickets_tell();
+    told_by_writes();
+    visits_are_few();
     writes_are_small();
 }
