@@ -15,3 +15,4 @@ mod Inputs
 mod Places
 mod SlotsTold
 mod Sizes
+mod Fits

@@ -86,7 +86,7 @@ degree-few k d n some few nodes most = elim (cases_lt 1024 d) [
     each (suc (suc (suc (suc (suc (suc (suc (suc (suc k))))))))) some few h = omega (arith, few)
 
 -- a cluster of a level
-abbrev reader_at : ℕ → ℕ → Reader
+abbrev pub reader_at : ℕ → ℕ → Reader
 reader_at level cluster = record { level = level; cluster = cluster }
 
 -- few readers of each level are few readers
