@@ -1,20 +1,19 @@
 -- What a subscriber has put before a ticket: the first writes of its script, as many as it has
 -- tickets before it. They tell where it stands, and whether it is off.
-use Rattle.std.proofs.Common.{◌≡◌, ℕ, zero, suc, ◌+◌, ◌-◌, ◌^◌, ◌<◌, ◌≤◌, ◌==◌, Bool, true, false, cond, List, [], ◌∷◌, ◌++◌, length, take, drop, map, fold, get_or, Option, Some, None, refl, ap, sym, ◌∙◌, arith, subst}
+use Rattle.std.proofs.Common.{◌≡◌, ℕ, zero, suc, ◌+◌, ◌^◌, ◌<◌, ◌≤◌, ◌==◌, Bool, true, false, cond, List, [], ◌∷◌, ◌++◌, length, take, drop, map, fold, Some, None, refl, ap, sym, ◌∙◌, arith}
 use Rattle.std.specs.Prelude.{slice_get, slice_index, filter_map}
 use Rattle.std.proofs.lemmas.List.{length-map, length-take, take-append-drop, take-append-le}
 use Rattle.std.proofs.lemmas.List.Elements.{filter-append}
-use Rattle.std.proofs.lemmas.Option.{slice_get-get_or, slice_get-map, slice_get_within}
+use Rattle.std.proofs.lemmas.Option.{slice_get-get_or}
 use Rattle.entry_word.specs.Marks.{MarksUnpack, says_off}
 use Rattle.entry_word.specs.declared.visit.Visit.{Visit}
 use Rattle.directory.specs.Settings.{Setting, start, subs}
 use Rattle.directory.specs.Courses.{Course, Step, after_steps, course_at}
 use Rattle.directory.specs.Histories.{History, before, is_put_for, own, puts_to, tickets, tickets_from}
-use Rattle.directory.specs.HistoryLaws.{tickets-count}
 use Rattle.directory.specs.Legal.{IsLegal}
-use Rattle.directory.specs.Orders.{AreValid, IsDone, IsPlayed, Scripts, next, script_visits, steps_of}
+use Rattle.directory.specs.Orders.{AreValid, IsDone, IsPlayed, Scripts, next, steps_of}
 use Rattle.directory.specs.Puts.{mark_put, steps_from, steps_in}
-use Rattle.directory.specs.Standing.{Commit, commits, off}
+use Rattle.directory.specs.Standing.{commits, off}
 use Rattle.directory.specs.States.{AreSmall, write_commit, write_off, writes_made}
 use Rattle.directory.specs.Statements.{CommitsAreTold, DoneShowsScript, OffIsTold, OwnPutsAlone, PlayedIsLegal, ScriptsInOrder, TicketsAreOwn, TicketsAscend}
 use Rattle.directory.specs.StepLaws.{steps-append, writes-append}
@@ -139,12 +138,13 @@ module _ (laws : Laws) (setting : Setting) (scripts : Scripts) (history : Histor
       × (steps_of scripts sub ≡ steps_in (puts_to sub (before ticket history)) ++ later)
   steps-before ticket =
       let front : List Visit = puts_to sub (before ticket history) in
-      let back : List Visit = puts_to sub (drop ticket history) in
-      (steps_from (fold (λ o (visit : Visit). says_off (mark_put visit.act)) false front) back,
+      let back : List Visit = puts_to sub (drop ticket history) in (
+        steps_from (fold (λ o (visit : Visit). says_off (mark_put visit.act)) false front) back,
         sym (laws.shown setting scripts history sub over.nodes over.valid known over.played (over.done sub))
-        ∙ ap (λ (h : History). steps_in (puts_to sub h)) (sym (take-append-drop ticket history))
-        ∙ ap steps_in (filter-append (λ (v : Visit). is_put_for sub v.act) (before ticket history) (drop ticket history))
-        ∙ steps-append false front back)
+            ∙ ap (λ (h : History). steps_in (puts_to sub h)) (sym (take-append-drop ticket history))
+            ∙ ap steps_in (filter-append (λ (v : Visit). is_put_for sub v.act) (before ticket history) (drop ticket history))
+            ∙ steps-append false front back,
+      )
 
   -- the writes made before a ticket are the first of all
   pub made-before : (ticket : ℕ) → writes_made setting sub (puts_to sub (before ticket history))

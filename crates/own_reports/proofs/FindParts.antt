@@ -1,7 +1,7 @@
 -- Each line of an outcome keeps what is asked of its place, of what is to be made again, and of its
 -- weight.
-use Rattle.std.proofs.Common.{◌≡◌, ◌≢◌, ◌⊎◌, inl, inr, ℕ, zero, suc, ◌+◌, ◌-◌, ◌*◌, ◌^◌, ◌<◌, ◌≤◌, ◌==◌, ◌&&◌, ◌||◌, Bool, true, false, not, eqb, ltb, leb, cond, List, [], ◌∷◌, ◌++◌, length, take, drop, map, fold, Option, Some, None, refl, ap, sym, ◌∙◌, arith, subst, append-nil}
-use Rattle.std.specs.Prelude.{All, filter_map, flat_map, nat_le, option_map, slice_get, slice_index}
+use Rattle.std.proofs.Common.{◌≡◌, inl, inr, ℕ, zero, suc, ◌+◌, ◌*◌, ◌<◌, ◌≤◌, ◌==◌, ◌&&◌, ◌||◌, Bool, true, false, not, eqb, leb, cond, List, [], ◌∷◌, length, take, map, fold, Option, Some, None, refl, ap, sym, ◌∙◌, arith, subst}
+use Rattle.std.specs.Prelude.{filter_map, flat_map, option_map, slice_get, slice_index}
 use Rattle.std.specs.List.{last_or, list_any}
 use Rattle.std.proofs.lemmas.Bool.{cases_lt}
 use Rattle.std.proofs.lemmas.Bool.Decides.{nat_tests}
@@ -14,15 +14,15 @@ use Rattle.entry_word.specs.declared.visit.Visit.{Visit}
 use Rattle.directory.specs.Settings.{Setting, start, subs}
 use Rattle.directory.specs.Courses.{Course, Step, after_steps, course_at, move_to, switch_off, switch_on}
 use Rattle.directory.specs.Finds.{FindCall}
-use Rattle.directory.specs.Histories.{History, before, is_put_for, puts_to, through, tickets}
-use Rattle.directory.specs.Looks.{IsQuiet, first_of, last_of, look_by, moves_at}
+use Rattle.directory.specs.Histories.{History, is_put_for, puts_to, through, tickets}
+use Rattle.directory.specs.Looks.{IsQuiet, first_of, last_of, moves_at}
 use Rattle.directory.specs.Orders.{Answer, IsFindCall, Scripts, caller_in, steps_of}
 use Rattle.directory.specs.Outcomes.{IsFindLine, IsMade, answer_line, caller_lines, found_line, outcome_in, step_line, sub_lines}
 use Rattle.directory.specs.Puts.{ends_off, mark_put, node_put}
 use Rattle.directory.specs.ScriptLaws.{call_of_valid}
 use Rattle.directory.specs.Standing.{Commit, commit_of, commits, confirms, number, off, passage, passage_of, standing}
 use Rattle.directory.specs.Statements.{CallersCount}
-use Rattle.directory.specs.Writes.{Write, mark_at, numbers_from, visit_of, writes}
+use Rattle.directory.specs.Writes.{Write, mark_at, numbers_from, visit_of}
 use Rattle.directory.specs.declared.answers.Done.{Done}
 use Rattle.directory.specs.declared.answers.Done.TheVariants.{Moved, Switched, Found as FoundBy, Off as OffBy, Again as AgainBy}
 use Rattle.directory.specs.declared.answers.Found.{Found}
@@ -30,7 +30,7 @@ use Rattle.directory.specs.declared.answers.Found.TheVariants.{At, Off as OffAt,
 use Rattle.region_plan.specs.Plan.{PlanData}
 use Rattle.region_plan.specs.Settings.{setting_of}
 use Rattle.region_plan.specs.Measures.{stretch_of}
-use Rattle.report_check.specs.Parts.{again_holds, is_light, is_missing, is_number, is_switch_at, is_ticket, is_told, meets_move, next_ticket, open_passage, place_holds, told_before, unconfirmed, weight_holds}
+use Rattle.report_check.specs.Parts.{is_light, is_number, is_switch_at, is_ticket, is_told, meets_move, next_ticket, open_passage, told_before, unconfirmed}
 use Rattle.stretch_laws.specs.Lines.{IsLimited, IsLineWithin}
 use Rattle.stretch_laws.specs.Plans.{bound_of}
 use Rattle.trail_laws.specs.Lines.{IsRightLine}
@@ -38,8 +38,8 @@ use Rattle.own_reports.specs.Reports.{KeepsParts}
 use Rattle.own_reports.proofs.Cuts.{IsOver, Laws, all_writes, commits-before, cut-below, cut-past, made_before, off-before, puts-before}
 use Rattle.own_reports.proofs.FindRuns.{caller-runs}
 use Rattle.own_reports.proofs.Looked.{IsLook, ends-look, look-puts-not, meets-move, move-own}
-use Rattle.own_reports.proofs.Order.{AreTickets, actors_of, tickets-are}
-use Rattle.own_reports.proofs.Plain.{commits_in, off_by}
+use Rattle.own_reports.proofs.Order.{actors_of, tickets-are}
+use Rattle.own_reports.proofs.Plain.{commits_in}
 use Rattle.own_reports.proofs.RowsTold.{rows-none, rows-skip, rows-told}
 use Rattle.own_reports.proofs.StepRuns.{sub-runs}
 use Rattle.own_reports.proofs.Switches.{count-all, mark-read, switch-moves-not, switch-ticket, visit-at}
@@ -190,11 +190,11 @@ module _ (laws : Laws) (count : CallersCount) (plan : PlanData) (homes : List �
         (over.valid.steps sub known).allowed refl (omega (arith, count-all laws S scripts history over sub known)) refl refl
         start_told in
         let finders = rows-skip homes sub last (λ actor. tickets actor history) (caller_lines S scripts history) (subs S)
-            (length scripts.finds) (flat_map (sub_lines S scripts history) (numbers_from 0 (subs S)))
-            (λ actor low high. caller-runs count S scripts history actor low over.played (over.done actor)) (inl known) in
+        (length scripts.finds) (flat_map (sub_lines S scripts history) (numbers_from 0 (subs S)))
+        (λ actor low high. caller-runs count S scripts history actor low over.played (over.done actor)) (inl known) in
         let movers = rows-told homes sub last (λ actor. tickets actor history) (sub_lines S scripts history) 0 (subs S) []
-            (λ actor low high. sub-runs laws.in_order S scripts history actor (omega (arith, high)) over.played (over.done actor))
-            (omega arith) (omega (arith, known)) refl in
+        (λ actor low high. sub-runs laws.in_order S scripts history actor (omega (arith, high)) over.played (over.done actor))
+        (omega arith) (omega (arith, known)) refl in
         let same = finders ∙ movers in record {
           node = rw same mine.node;
           number = rw same mine.number;
@@ -258,9 +258,13 @@ module _ (laws : Laws) (count : CallersCount) (plan : PlanData) (homes : List �
           | inl low ↦
               let whole : unconfirmed last weight (next_ticket order sub (Some ticket)) ≡ weight =
               ap (unconfirmed last weight) next ∙ still-open last weight (slice_index seen (suc j)) low in
-              omega (arith, whole, weighs,
+              omega (
+                arith,
+                whole,
+                weighs,
                 at-most (list_any (λ visit. confirms commit (node_put visit.act) (mark_put visit.act)) puts)
-                (S.distance commit.from commit.to))
+                    (S.distance commit.from commit.to),
+              )
           | inr past ↦
               let before_it : slice_index seen (suc j) < last =
               strict (λ same. no-look last (suc j) commit.to (Here commit.number) look inside confirm
@@ -293,10 +297,13 @@ module _ (laws : Laws) (count : CallersCount) (plan : PlanData) (homes : List �
         ap (λ (ps : List Visit). passage_of S ps (last_or None (commits sub (through last history)))) puts
         ∙ ap (λ (cs : List Commit). passage_of S (take m (map (visit_of sub) all)) (last_or None cs))
         (commits-through last look) in
-        omega (arith, same,
+        omega (
+          arith,
+          same,
           open-same homes order calls sub last (told_before homes calls sub last).commit,
           open-covers last (last_or None (commits_in (take m all))) (told_before homes calls sub last).commit
-          (told_before homes calls sub last).weight look (sub-told last).last)
+              (told_before homes calls sub last).weight look (sub-told last).last,
+        )
 
     -- a find that answers keeps what is asked of its place and its weight
     answered : (is_off : Bool) (from node q weight first last : ℕ) → IsLook history first → IsLook history last
@@ -305,11 +312,11 @@ module _ (laws : Laws) (count : CallersCount) (plan : PlanData) (homes : List �
         → (IsQuiet history sub first last → IsLimited (bound_of plan) S from sub weight (through last history))
         → (is_told (told_before homes calls sub last) is_off node q ≡ true)
         × (is_light plan homes calls order from sub node weight first last ≡ true)
-    answered is_off from node q weight first last one two at n o near =
-        (told-true is_off (told_before homes calls sub last).node node (told_before homes calls sub last).number q
-        (told_before homes calls sub last).is_off (node-told last two ∙ sym at) (number-told last two ∙ sym n)
-        (off-told last two ∙ o),
-          or-true (meets_move calls order sub first last) _ (λ none.
+    answered is_off from node q weight first last one two at n o near = (
+      told-true is_off (told_before homes calls sub last).node node (told_before homes calls sub last).number q
+          (told_before homes calls sub last).is_off (node-told last two ∙ sym at) (number-told last two ∙ sym n)
+          (off-told last two ∙ o),
+      or-true (meets_move calls order sub first last) _ (λ none.
           let quiet : IsQuiet history sub first last = λ t low high. none-where (moves_at sub history t) (λ moves.
           let met : meets_move calls order sub first last ≡ true =
           meets-move S scripts history calls sub first last t over.played one two low high moves (no-switch sub t known moves) in
@@ -319,7 +326,8 @@ module _ (laws : Laws) (count : CallersCount) (plan : PlanData) (homes : List �
           (near quiet) in
           light (stretch_of plan) (S.distance from node) (passage S sub (through last history))
           (open_passage order sub last (told_before homes calls sub last) (told_before homes calls sub last).commit) weight
-          limited (passage-le last two)))
+          limited (passage-le last two)),
+    )
 
   -- the first ticket of a line, and the last
   abbrev first_told : Done → ℕ
@@ -348,10 +356,11 @@ module _ (laws : Laws) (count : CallersCount) (plan : PlanData) (homes : List �
       → IsLook history (first_told line) × IsLook history (last_told line) × IsFindCall S call
   ends-are caller call line made =
       let looks = ends-look S history caller call made.found made.seen made.find in
-      let ends = found-ends caller call made.found (first_of made.seen) (last_of made.seen) in
-      (subst (IsLook history) (sym (ap first_told made.tells ∙ ends.0)) looks.0,
+      let ends = found-ends caller call made.found (first_of made.seen) (last_of made.seen) in (
+        subst (IsLook history) (sym (ap first_told made.tells ∙ ends.0)) looks.0,
         subst (IsLook history) (sym (ap last_told made.tells ∙ ends.1)) looks.1,
-        call_of_valid S scripts caller made.before call made.later over.valid made.script)
+        call_of_valid S scripts caller made.before call made.later over.valid made.script,
+      )
 
   -- a move weighs its distance
   abbrev IsWeighed : Done → Type 0
@@ -372,24 +381,28 @@ module _ (laws : Laws) (count : CallersCount) (plan : PlanData) (homes : List �
   -- each line keeps the parts
   pub line-keeps : (line : Done) → IsMade S scripts history line → IsRightLine S history line
       → IsLineWithin (bound_of plan) S history line → KeepsParts plan homes calls order line
-  line-keeps (Moved actor n from to weight first commit last) made right near =
-      (refl, refl, same-true (S.distance from to) weight
-      (subst IsWeighed (sym made.tells)
-      (step-weighed actor (after_steps S (course_at (start S actor)) made.before) made.step made.seen)))
+  line-keeps (Moved actor n from to weight first commit last) made right near = (
+    refl,
+    refl,
+    same-true (S.distance from to) weight
+        (subst IsWeighed (sym made.tells)
+        (step-weighed actor (after_steps S (course_at (start S actor)) made.before) made.step made.seen)),
+  )
   line-keeps (Switched actor is_off node n ticket) made right near = (refl, refl, refl)
   line-keeps (FoundBy actor from sub node n level weight first last) made right near =
       let ends = ends-are actor (record { from = from; sub = sub })
-          (FoundBy actor from sub node n level weight first last) made in
+      (FoundBy actor from sub node n level weight first last) made in
       let both = answered sub ends.2.known false from node n weight first last ends.0 ends.1 right.0 right.1 right.2 near in
       (both.0, refl, both.1)
   line-keeps (OffBy actor from sub node n level weight first last) made right near =
       let ends = ends-are actor (record { from = from; sub = sub })
-          (OffBy actor from sub node n level weight first last) made in
+      (OffBy actor from sub node n level weight first last) made in
       let both = answered sub ends.2.known true from node n weight first last ends.0 ends.1 right.0 right.1 right.2 near in
       (both.0, refl, both.1)
   line-keeps (AgainBy actor from sub why weight first last) made (t, low, high, moves) near =
-      let ends = ends-are actor (record { from = from; sub = sub }) (AgainBy actor from sub why weight first last) made in
-      (refl,
+      let ends = ends-are actor (record { from = from; sub = sub }) (AgainBy actor from sub why weight first last) made in (
+        refl,
         meets-move S scripts history calls sub first last t over.played ends.0 ends.1 low high moves
-        (no-switch sub t ends.2.known moves),
-        refl)
+            (no-switch sub t ends.2.known moves),
+        refl,
+      )

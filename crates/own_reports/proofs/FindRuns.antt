@@ -1,17 +1,15 @@
 -- A caller's lines have runs of its tickets: its finds come one behind another, without a gap.
-use Rattle.std.proofs.Common.{◌≡◌, ℕ, zero, suc, ◌+◌, ◌-◌, ◌<◌, ◌≤◌, Bool, true, false, List, [], ◌∷◌, ◌++◌, length, map, fold, Option, Some, None, refl, ap, sym, ◌∙◌, arith, subst, append_assoc}
+use Rattle.std.proofs.Common.{◌≡◌, ℕ, suc, ◌≤◌, List, [], ◌∷◌, ◌++◌, length, map, fold, Option, Some, None, refl, ap, sym, ◌∙◌, arith, subst, append_assoc}
 use Rattle.std.specs.Prelude.{option_map, slice_index}
 use Rattle.std.proofs.lemmas.List.{map-append}
-use Rattle.entry_word.specs.declared.visit.Key.{Key}
 use Rattle.directory.specs.Settings.{Setting, subs}
 use Rattle.directory.specs.Finds.{FindCall, Stage, after_word, answer_of, at_origin, chases, climbs, ended, key_of}
 use Rattle.directory.specs.Histories.{History, tickets, words_read}
 use Rattle.directory.specs.HistoryLaws.{next-caller}
 use Rattle.directory.specs.Looks.{look_by}
-use Rattle.directory.specs.Orders.{Answer, Caller, IsDone, IsPlayed, Scripts, after_read, caller_after, caller_at, caller_in, finds_of, key_in, next_key, read_by, with_stage}
+use Rattle.directory.specs.Orders.{Answer, Caller, IsDone, IsPlayed, Scripts, after_read, caller_at, caller_in, finds_of, key_in, next_key, read_by, with_stage}
 use Rattle.directory.specs.Outcomes.{answer_line, caller_lines, found_line}
 use Rattle.directory.specs.Statements.{CallersCount}
-use Rattle.directory.specs.declared.answers.Done.{Done}
 use Rattle.directory.specs.declared.answers.Found.{Found}
 use Rattle.directory.specs.declared.answers.Found.TheVariants.{At, Off as OffAt, Again}
 use Rattle.report_check.specs.Parts.{actor_of}
@@ -131,9 +129,13 @@ unfolding HaveRuns
 find-runs seen actor p [] joined = joined
 find-runs seen actor p (answer ∷ answers) joined =
     let here = found-run seen actor p answer.last (slice_index seen answer.first) (slice_index seen answer.last) answer.call
-        answer.found (omega (arith, joined.0, joined.1), ap (slice_index seen) (sym joined.0), refl) in
-    (answer.last, omega (arith, joined-up (suc answer.last) (length seen) answers joined.2), here.0, here.1,
-      find-runs seen actor (suc answer.last) answers joined.2)
+    answer.found (omega (arith, joined.0, joined.1), ap (slice_index seen) (sym joined.0), refl) in (
+      answer.last,
+      omega (arith, joined-up (suc answer.last) (length seen) answers joined.2),
+      here.0,
+      here.1,
+      find-runs seen actor (suc answer.last) answers joined.2,
+    )
 
 -- the lines of a caller that is done have runs
 pub caller-runs : CallersCount → (setting : Setting) (scripts : Scripts) (history : History) (actor : ℕ)

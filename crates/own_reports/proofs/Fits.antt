@@ -1,7 +1,7 @@
 -- What a find answers can be written: its node and its level are those of the network and the plan,
 -- and its weight is small, since each look adds little and there are few.
-use Rattle.std.proofs.Common.{◌≡◌, ℕ, zero, suc, ◌+◌, ◌-◌, ◌*◌, ◌^◌, ◌<◌, ◌≤◌, ◌==◌, ◌||◌, Bool, true, false, cond, List, [], ◌∷◌, ◌++◌, length, map, Option, Some, None, refl, ap, sym, ◌∙◌, arith, subst}
-use Rattle.std.specs.Prelude.{flat_map, slice_get}
+use Rattle.std.proofs.Common.{◌≡◌, ℕ, zero, suc, ◌+◌, ◌*◌, ◌^◌, ◌<◌, ◌≤◌, ◌==◌, ◌||◌, Bool, true, false, cond, List, [], ◌∷◌, ◌++◌, map, Option, Some, None, refl, ap, sym, arith, subst}
+use Rattle.std.specs.Prelude.{flat_map}
 use Rattle.std.proofs.lemmas.Bool.Decides.{nat_tests}
 use Rattle.entry_word.specs.Addresses.{address_in}
 use Rattle.entry_word.specs.Marks.{mark_in}
@@ -12,16 +12,15 @@ use Rattle.entry_word.specs.declared.visit.Key.{Key}
 use Rattle.entry_word.specs.declared.visit.Key.TheVariants.{Presence, Entry}
 use Rattle.node_set.specs.Ascending.{has}
 use Rattle.directory.specs.Settings.{Setting, levels}
-use Rattle.directory.specs.Finds.{Chase, FindCall, Reader, Stage, after_entry, after_mark, after_origin, after_word, all_readers, at_origin, begin_chase, chases, climb, climbs, ended, find, found_weight, hop, is_known, key_of, known_with, looks_left, most_looks, way_in}
-use Rattle.directory.specs.Histories.{History, before, cell, words_at}
+use Rattle.directory.specs.Finds.{Chase, FindCall, Reader, Stage, after_entry, after_mark, after_origin, after_word, all_readers, at_origin, chases, climb, climbs, ended, found_weight, hop, is_known, key_of, known_with, looks_left, way_in}
+use Rattle.directory.specs.Histories.{History, before, cell}
 use Rattle.directory.specs.Legal.{IsLegal}
 use Rattle.directory.specs.LookLaws.{stage-step, stage_after}
-use Rattle.directory.specs.Looks.{AreLooks, IsFind, look_by}
+use Rattle.directory.specs.Looks.{AreLooks, IsFind}
 use Rattle.directory.specs.Statements.{LooksFall}
 use Rattle.directory.specs.Writes.{numbers_from}
 use Rattle.directory.specs.declared.answers.Found.{Found}
 use Rattle.directory.specs.declared.answers.Found.TheVariants.{At, Off as OffAt, Again}
-use Rattle.directory.specs.declared.answers.Why.TheVariants.{Empty as EmptyAt, NoEntry, Chased}
 use Rattle.report_check.specs.Forms.{IsLevelBelow, IsWhyBelow}
 use Rattle.trail_laws.specs.Trail.{EntriesTell, EntryTells, MarkTells, MarksTell}
 use Rattle.own_reports.proofs.Sizes.{IsSmall, reader_at}
@@ -66,9 +65,10 @@ module _ (setting : Setting) (small : IsSmall setting) (call : FindCall) (from_i
       → ((c : ℕ) → has c clusters ≡ true → has c (setting.readers level call.from) ≡ true)
       → AreReaders (map (reader_at level) clusters)
   level-readers level [] low inside = tt
-  level-readers level (c ∷ clusters) low inside =
-      ((low, small.inside level c call.from low from_inside (inside c (self c (has c clusters)))),
-        level-readers level clusters low (λ d found. inside d (or-right (d == c) (has d clusters) found)))
+  level-readers level (c ∷ clusters) low inside = (
+    (low, small.inside level c call.from low from_inside (inside c (self c (has c clusters)))),
+    level-readers level clusters low (λ d found. inside d (or-right (d == c) (has d clusters) found)),
+  )
     where
       self : (n : ℕ) (b : Bool) → ((n == n) || b) ≡ true
       self n b = let e : (n == n) ≡ true = grind (arith, nat_tests) in ap (λ x. x || b) e
@@ -133,9 +133,10 @@ module _ (setting : Setting) (small : IsSmall setting) (call : FindCall) (from_i
       → IsNext (climbs known weight reader later) (after_entry setting call known weight reader later address)
   entry-next known weight reader later None all inside =
       climb-next known (weight + 2 * way_in setting call reader) _ later all.1 (omega (arith, all.0.1))
-  entry-next known weight reader later (Some address) all inside =
-      ((inside, omega (arith, all.0.0)),
-        omega (arith, all.0.1, small.distance (setting.leader reader.level reader.cluster) address.node))
+  entry-next known weight reader later (Some address) all inside = (
+    (inside, omega (arith, all.0.0)),
+    omega (arith, all.0.1, small.distance (setting.leader reader.level reader.cluster) address.node),
+  )
 
   coming-next : (b : Bool) (chase : Chase) (node number from : ℕ) → node < setting.nodes
       → IsLevelBelow (levels setting) chase.level → from < setting.nodes

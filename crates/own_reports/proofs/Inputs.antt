@@ -1,12 +1,12 @@
 -- What holds of the plan, the setting and the scripts of a valid input.
-use Rattle.std.proofs.Common.{◌≡◌, ℕ, ◌^◌, ◌<◌, ◌≤◌, Bool, true, false, List, refl, arith, subst, sym}
+use Rattle.std.proofs.Common.{ℕ, ◌^◌, ◌≤◌, Bool, true, false, List, refl, arith}
 use Rattle.std.specs.Prelude.{◌==◌, if◌then◌else◌}
 use Rattle.net_graph.specs.declared.edge.TheConstants.{MAX_NODES}
 use Rattle.net_graph.specs.Network.{IsNetwork, Network}
 use Rattle.net_reader.specs.Input.{Contents}
 use Rattle.net_reader.specs.Table.{most_nodes}
 use Rattle.net_reader.specs.Valid.{IsValid}
-use Rattle.directory.specs.Orders.{AreValid, history_of}
+use Rattle.directory.specs.Orders.{history_of}
 use Rattle.directory.specs.Settings.{Setting}
 use Rattle.directory.specs.Statements.{OrdersAreDone, OrdersArePlayed}
 use Rattle.region_plan.specs.Matched.{BoundsFinds, PlansBoundFinds}

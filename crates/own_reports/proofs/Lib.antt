@@ -16,3 +16,5 @@ mod Places
 mod SlotsTold
 mod Sizes
 mod Fits
+mod Formed
+mod Sound

@@ -1,19 +1,18 @@
 -- The looks of a find: its first ticket and its last are looks of its caller, which put nothing.
-use Rattle.std.proofs.Common.{◌≡◌, ℕ, zero, suc, ◌+◌, ◌-◌, ◌<◌, ◌≤◌, ◌==◌, ◌&&◌, Bool, true, false, not, eqb, ltb, cond, List, [], ◌∷◌, ◌++◌, length, take, drop, map, Option, Some, None, refl, ap, sym, ◌∙◌, arith, subst, append-nil, inl, inr}
+use Rattle.std.proofs.Common.{◌≡◌, ℕ, zero, suc, ◌+◌, ◌-◌, ◌<◌, ◌≤◌, ◌==◌, ◌&&◌, Bool, true, false, not, eqb, ltb, cond, List, [], ◌∷◌, length, drop, Option, Some, None, refl, ap, sym, ◌∙◌, arith, append-nil, inl, inr}
 use Rattle.std.specs.Prelude.{slice_get, slice_index, flat_map, option_map}
 use Rattle.std.specs.List.{list_any}
-use Rattle.std.proofs.lemmas.Bool.{cases_eq, cases_lt}
+use Rattle.std.proofs.lemmas.Bool.{cases_lt}
 use Rattle.std.proofs.lemmas.Bool.Decides.{nat_tests}
 use Rattle.std.proofs.lemmas.Option.{slice_get-map}
 use Rattle.entry_word.specs.declared.visit.Key.{Key}
 use Rattle.entry_word.specs.declared.visit.Visit.{Visit}
 use Rattle.directory.specs.Settings.{Setting, start, subs}
-use Rattle.directory.specs.Finds.{FindCall, Stage, after_word, at_origin, ended, find}
-use Rattle.directory.specs.Histories.{History, before, cell, is_put_for, own, puts_to, through, words_at}
+use Rattle.directory.specs.Finds.{FindCall, Stage, at_origin, ended, find}
+use Rattle.directory.specs.Histories.{History, before, is_put_for, own, puts_to, through, words_at}
 use Rattle.directory.specs.HistoryLaws.{next-caller, next-sub}
-use Rattle.directory.specs.Keys.{key_sub}
 use Rattle.directory.specs.Looks.{AreLooks, IsFind, first_of, last_of, look_by, moves_at, moves_by}
-use Rattle.directory.specs.Orders.{IsPlayed, Scripts, caller_in, next, next_key, script_visits, steps_of}
+use Rattle.directory.specs.Orders.{IsPlayed, Scripts, caller_in, next, next_key, steps_of}
 use Rattle.directory.specs.Courses.{course_at}
 use Rattle.directory.specs.StepLaws.{puts-push, take-more}
 use Rattle.directory.specs.Writes.{Write, entry_at, mark_at, visit_of, writes}
@@ -45,9 +44,10 @@ some-looks setting history call found (t ∷ seen) is = omega arith
 pub ends-look : (setting : Setting) (history : History) (actor : ℕ) (call : FindCall) (found : Found) (seen : List ℕ)
     → IsFind setting history actor call found seen → IsLook history (first_of seen) × IsLook history (last_of seen)
 ends-look setting history actor call found seen is =
-    let some : 0 < length seen = some-looks setting history call found seen is.answer in
-    (each-look setting history actor call 0 at_origin seen 0 is.looks some,
-      each-look setting history actor call 0 at_origin seen (length seen - 1) is.looks (omega (arith, some)))
+    let some : 0 < length seen = some-looks setting history call found seen is.answer in (
+      each-look setting history actor call 0 at_origin seen 0 is.looks some,
+      each-look setting history actor call 0 at_origin seen (length seen - 1) is.looks (omega (arith, some)),
+    )
 
 -- a look is of no move
 pub look-moves-not : (history : History) (sub t : ℕ) → IsLook history t → moves_at sub history t ≡ false

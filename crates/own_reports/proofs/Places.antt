@@ -1,6 +1,6 @@
 -- The calls of outcomes keep the parts of place, of what is to be made again, and of weight.
-use Rattle.std.proofs.Common.{ℕ, List, get_or}
-use Rattle.directory.specs.Orders.{AreValid, Scripts, history_of}
+use Rattle.std.proofs.Common.{get_or}
+use Rattle.directory.specs.Orders.{Scripts, history_of}
 use Rattle.directory.specs.Settings.{Setting}
 use Rattle.directory.specs.Statements.{CallersCount, LinesAreMade, OrdersAreDone, OrdersArePlayed}
 use Rattle.directory.specs.Outcomes.{outcome_of}
@@ -15,7 +15,7 @@ use Rattle.trail_laws.specs.Lines.{OutcomesAreRight}
 use Rattle.own_reports.specs.Reports.{PlacesAreTold, plan_in}
 use Rattle.own_reports.proofs.Cuts.{IsOver, Laws}
 use Rattle.own_reports.proofs.FindParts.{line-keeps}
-use Rattle.own_reports.proofs.Inputs.{few-in, over-in, plan-bounds, setting_in}
+use Rattle.own_reports.proofs.Inputs.{over-in, plan-bounds, setting_in}
 
 -- the laws of plans and of finds that are used
 pub record PlanLaws : Type 0 where

@@ -1,11 +1,10 @@
 -- Writes of a move: one is the commit, the next one the confirm, and none says that its subscriber
 -- is off.
-use Rattle.std.proofs.Common.{◌≡◌, ℕ, zero, suc, ◌+◌, ◌-◌, ◌<◌, ◌≤◌, Bool, true, false, cond, List, [], ◌∷◌, ◌++◌, length, take, map, fold, Option, Some, None, refl, ap, sym, ◌∙◌, arith, subst}
+use Rattle.std.proofs.Common.{◌≡◌, ℕ, zero, suc, ◌+◌, ◌<◌, ◌≤◌, Bool, true, false, cond, List, [], ◌∷◌, ◌++◌, length, take, map, fold, Option, Some, None, refl, ap, ◌∙◌, arith}
 use Rattle.std.specs.Prelude.{slice_get, filter_map}
 use Rattle.std.specs.List.{cons_option, last_or}
 use Rattle.std.proofs.lemmas.List.{length-map, take-append-le}
 use Rattle.entry_word.specs.declared.mark.PresenceMark.TheVariants.{Coming, Empty, Gone, Here}
-use Rattle.node_set.specs.Ascending.{has, sift}
 use Rattle.directory.specs.Settings.{Setting}
 use Rattle.directory.specs.Courses.{Course, Move}
 use Rattle.directory.specs.Standing.{Commit, commit_by}
@@ -89,9 +88,12 @@ plain-purge true nodes = plain-map (λ node. mark_at node Empty) nodes (λ x. re
 plain-purge false nodes = tt
 
 plain-back : (setting : Setting) (course : Course) (move : Move) → ArePlain (back_of setting course move)
-plain-back setting course move =
-    (refl, refl, plain-append (erasure_writes setting course move) (purge_writes setting course move)
-    (plain-map _ _ (λ x. refl) (λ x. refl)) (plain-purge _ _))
+plain-back setting course move = (
+  refl,
+  refl,
+  plain-append (erasure_writes setting course move) (purge_writes setting course move)
+      (plain-map _ _ (λ x. refl) (λ x. refl)) (plain-purge _ _),
+)
 
 -- the commit of a move that has made more writes than come before it
 pub move-commits : (k : ℕ) (setting : Setting) (course : Course) (move : Move) → suc (suc move.renewed) < k

@@ -1,5 +1,5 @@
 -- What all lines tell of a subscriber before a ticket is what its own lines tell.
-use Rattle.std.proofs.Common.{◌≡◌, ◌≢◌, ◌⊎◌, inl, inr, ℕ, zero, suc, ◌+◌, ◌<◌, ◌≤◌, ◌&&◌, ◌||◌, Bool, true, false, cond, eqb, ltb, List, [], ◌∷◌, ◌++◌, length, fold, refl, ap, sym, ◌∙◌, arith, subst, append_assoc, append-nil}
+use Rattle.std.proofs.Common.{◌≡◌, ◌≢◌, ◌⊎◌, inl, inr, ℕ, zero, suc, ◌+◌, ◌<◌, ◌≤◌, ◌&&◌, ◌||◌, Bool, false, eqb, ltb, List, [], ◌∷◌, ◌++◌, fold, refl, ap, sym, ◌∙◌, arith, append_assoc, append-nil}
 use Rattle.std.specs.Prelude.{flat_map, slice_index}
 use Rattle.std.specs.List.{list_any}
 use Rattle.std.proofs.lemmas.Bool.{cases_eq}
@@ -32,11 +32,17 @@ module _ (homes : List ℕ) (sub ticket : ℕ) where
   told-other : (before : List Done) (call : Done) → actor_of call ≢ sub
       → told_before homes (before ++ call ∷ []) sub ticket ≡ told_before homes before sub ticket
   told-other before (Moved actor number from to weight first commit last) other =
-      rw (fold-append (tell sub ticket) (at_home (slice_index homes sub)) before
-      (Moved actor number from to weight first commit last ∷ []), test-other actor sub commit ticket other) refl
+      rw (
+        fold-append (tell sub ticket) (at_home (slice_index homes sub)) before
+            (Moved actor number from to weight first commit last ∷ []),
+        test-other actor sub commit ticket other,
+      ) refl
   told-other before (Switched actor off node number at) other =
-      rw (fold-append (tell sub ticket) (at_home (slice_index homes sub)) before
-      (Switched actor off node number at ∷ []), test-other actor sub at ticket other) refl
+      rw (
+        fold-append (tell sub ticket) (at_home (slice_index homes sub)) before
+            (Switched actor off node number at ∷ []),
+        test-other actor sub at ticket other,
+      ) refl
   told-other before (Found actor from other node number level weight first last) differs =
       fold-append (tell sub ticket) (at_home (slice_index homes sub)) before _
   told-other before (Off actor from other node number level weight first last) differs =

@@ -1,6 +1,6 @@
 -- The runs of an actor's calls: each has the tickets from behind the end of the call before to its
 -- own end.
-use Rattle.std.proofs.Common.{◌≡◌, ◌≢◌, ◌⊎◌, inl, inr, ℕ, zero, suc, ◌+◌, ◌-◌, ◌<◌, ◌≤◌, ◌==◌, ◌&&◌, Bool, true, false, cond, eqb, ltb, leb, not, List, [], ◌∷◌, ◌++◌, length, get_or, append_assoc, Option, Some, None, refl, ap, sym, ◌∙◌, arith, subst}
+use Rattle.std.proofs.Common.{◌≡◌, inl, inr, ℕ, zero, suc, ◌+◌, ◌<◌, ◌≤◌, ◌&&◌, Bool, true, false, cond, ltb, leb, List, [], ◌∷◌, ◌++◌, length, append_assoc, Option, Some, None, refl, ap, sym, ◌∙◌, arith, subst}
 use Rattle.std.specs.Prelude.{slice_get, slice_index, flat_map}
 use Rattle.std.proofs.lemmas.Bool.{cases_lt}
 use Rattle.std.proofs.lemmas.Bool.Decides.{nat_tests}
@@ -9,7 +9,7 @@ use Rattle.directory.specs.declared.answers.Done.{Done}
 use Rattle.directory.specs.declared.answers.Done.TheVariants.{Moved, Switched, Found, Off, Again}
 use Rattle.directory.specs.Writes.{numbers_from}
 use Rattle.report_check.specs.Parts.{actor_of, end_of, has_tickets, is_missing, is_number, is_ticket, next_ticket, none_left, tickets_hold}
-use Rattle.report_check.specs.Verdicts.{end_before, is_last}
+use Rattle.report_check.specs.Verdicts.{is_last}
 use Rattle.own_reports.specs.Reports.{HaveTickets}
 use Rattle.own_reports.proofs.Order.{AreTickets}
 
@@ -73,27 +73,36 @@ run-holds order seen actor p e before (Moved a n from to w first commit last) ar
     let here : AreTickets order a seen = subst (λ k. AreTickets order k seen) (sym same) are in
     let goes : next_ticket order a before ≡ slice_get seen p =
     subst (λ k. next_ticket order k before ≡ slice_get seen p) (sym same) next in
-    let commits : commit ≡ slice_index seen run.0 = run.3 in
-    (both (has_tickets order before a first last) _ (has-ends order seen a p e first last before here goes low ends)
-    (both (is_ticket order a commit) _
-    (ap (is_ticket order a) commits ∙ here.own run.0 (omega (arith, run.2, low)))
-    (both (ltb first commit) (ltb commit last)
-    (lt-true first commit (omega (arith, ends.1, commits, here.rise p run.0 run.1 (omega (arith, run.2, low)))))
-    (lt-true commit last (omega (arith, ends.2, commits, here.rise run.0 e run.2 low))))), ends.2)
-run-holds order seen actor p e before (Switched a off node n ticket) are next low same run =
-    (ap (is_number ticket) (ap (λ k. next_ticket order k before) same ∙ next
-    ∙ slice_get-get_or seen p 0 (omega (arith, low, run.0)))
-    ∙ is-self ticket (slice_index seen p) run.1,
-      run.1 ∙ ap (slice_index seen) run.0)
-run-holds order seen actor p e before (Found a from sub node n level w first last) are next low same ends =
-    (has-ends order seen a p e first last before (subst (λ k. AreTickets order k seen) (sym same) are)
-    (ap (λ k. next_ticket order k before) same ∙ next) low ends, ends.2)
-run-holds order seen actor p e before (Off a from sub node n level w first last) are next low same ends =
-    (has-ends order seen a p e first last before (subst (λ k. AreTickets order k seen) (sym same) are)
-    (ap (λ k. next_ticket order k before) same ∙ next) low ends, ends.2)
-run-holds order seen actor p e before (Again a from sub why w first last) are next low same ends =
-    (has-ends order seen a p e first last before (subst (λ k. AreTickets order k seen) (sym same) are)
-    (ap (λ k. next_ticket order k before) same ∙ next) low ends, ends.2)
+    let commits : commit ≡ slice_index seen run.0 = run.3 in (
+      both (has_tickets order before a first last) _ (has-ends order seen a p e first last before here goes low ends)
+          (both (is_ticket order a commit) _
+          (ap (is_ticket order a) commits ∙ here.own run.0 (omega (arith, run.2, low)))
+          (both (ltb first commit) (ltb commit last)
+          (lt-true first commit (omega (arith, ends.1, commits, here.rise p run.0 run.1 (omega (arith, run.2, low)))))
+          (lt-true commit last (omega (arith, ends.2, commits, here.rise run.0 e run.2 low))))),
+      ends.2,
+    )
+run-holds order seen actor p e before (Switched a off node n ticket) are next low same run = (
+  ap (is_number ticket) (ap (λ k. next_ticket order k before) same ∙ next
+      ∙ slice_get-get_or seen p 0 (omega (arith, low, run.0)))
+      ∙ is-self ticket (slice_index seen p) run.1,
+  run.1 ∙ ap (slice_index seen) run.0,
+)
+run-holds order seen actor p e before (Found a from sub node n level w first last) are next low same ends = (
+  has-ends order seen a p e first last before (subst (λ k. AreTickets order k seen) (sym same) are)
+      (ap (λ k. next_ticket order k before) same ∙ next) low ends,
+  ends.2,
+)
+run-holds order seen actor p e before (Off a from sub node n level w first last) are next low same ends = (
+  has-ends order seen a p e first last before (subst (λ k. AreTickets order k seen) (sym same) are)
+      (ap (λ k. next_ticket order k before) same ∙ next) low ends,
+  ends.2,
+)
+run-holds order seen actor p e before (Again a from sub why w first last) are next low same ends = (
+  has-ends order seen a p e first last before (subst (λ k. AreTickets order k seen) (sym same) are)
+      (ap (λ k. next_ticket order k before) same ∙ next) low ends,
+  ends.2,
+)
 
 -- the first of these calls, if there is one, is of no actor below this one
 abbrev pub IsFrom : ℕ → List Done → Type 0
@@ -122,19 +131,21 @@ runs-hold order seen actor p before call [] rest are next runs others held =
     ap (λ k. next_ticket order k (Some (end_of call))) runs.2
     ∙ ap (λ k. next_ticket order actor (Some k)) here.1
     ∙ are.next runs.0 runs.1
-    ∙ slice_get_past seen (suc runs.0) (omega (arith, runs.4)) in
-    (both (tickets_hold order before call) _ here.0
-    (ap (λ b. cond b (none_left order call) true) last ∙ ap is_missing behind),
-      subst (λ o. HaveTickets order o rest) (sym (ap (λ b. cond b None (Some (end_of call))) last)) held)
+    ∙ slice_get_past seen (suc runs.0) (omega (arith, runs.4)) in (
+      both (tickets_hold order before call) _ here.0
+          (ap (λ b. cond b (none_left order call) true) last ∙ ap is_missing behind),
+      subst (λ o. HaveTickets order o rest) (sym (ap (λ b. cond b None (Some (end_of call))) last)) held,
+    )
 runs-hold order seen actor p before call (other ∷ later) rest are next runs others held =
     let here = run-holds order seen actor p runs.0 before call are next runs.1 runs.2 runs.3 in
     let last : is_last call (other ∷ later ++ rest) ≡ false =
     same-last actor call other (later ++ rest) runs.2 runs.4.2 in
     let deep = runs-hold order seen actor (suc runs.0) (Some (end_of call)) other later rest are
-        (ap (λ k. next_ticket order actor (Some k)) here.1 ∙ are.next runs.0 runs.1) runs.4 others held in
-    (both (tickets_hold order before call) _ here.0 (ap (λ b. cond b (none_left order call) true) last),
+    (ap (λ k. next_ticket order actor (Some k)) here.1 ∙ are.next runs.0 runs.1) runs.4 others held in (
+      both (tickets_hold order before call) _ here.0 (ap (λ b. cond b (none_left order call) true) last),
       subst (λ o. HaveTickets order o (other ∷ later ++ rest)) (sym (ap (λ b. cond b None (Some (end_of call))) last))
-      deep)
+          deep,
+    )
 
 -- the same of an actor that may have no calls
 runs-join : (order seen : List ℕ) (actor : ℕ) (calls rest : List Done) → AreTickets order actor seen
@@ -159,9 +170,9 @@ pub rows-hold : (order : List ℕ) (seen : ℕ → List ℕ) (lines : ℕ → Li
 rows-hold order seen lines from zero rest are runs others held = (held, subst (λ k. IsFrom k rest) (omega arith) others)
 rows-hold order seen lines from (suc count) rest are runs others held =
     let back = rows-hold order seen lines (suc from) count rest are
-        (λ actor low high. runs actor (omega (arith, low)) (omega (arith, high)))
-        (subst (λ k. IsFrom k rest) (omega arith) others) held in
+    (λ actor low high. runs actor (omega (arith, low)) (omega (arith, high)))
+    (subst (λ k. IsFrom k rest) (omega arith) others) held in
     let now = runs-join order (seen from) from (lines from) (flat_map lines (numbers_from (suc from) count) ++ rest)
-        (are from) (runs from (omega arith) (omega arith)) back.1 back.0 in
+    (are from) (runs from (omega arith) (omega arith)) back.1 back.0 in
     subst (λ calls. HaveTickets order None calls × IsFrom from calls)
     (sym (append_assoc (lines from) (flat_map lines (numbers_from (suc from) count)) rest)) now

@@ -1,28 +1,27 @@
 -- How large the numbers of a valid input's directory are: its distances, the weights inside its
 -- clusters, its levels, and how many looks a find makes.
-use Rattle.std.proofs.Common.{◌≡◌, ℕ, zero, suc, ◌+◌, ◌-◌, ◌*◌, ◌^◌, ◌<◌, ◌≤◌, ◌&&◌, Bool, true, false, cond, ltb, List, [], ◌∷◌, ◌++◌, length, map, refl, ap, sym, ◌∙◌, arith, subst, length-append, inl, inr}
-use Rattle.std.specs.Prelude.{flat_map, sum_by}
+use Rattle.std.proofs.Common.{◌≡◌, ℕ, zero, suc, ◌*◌, ◌^◌, ◌<◌, ◌≤◌, ◌&&◌, Bool, true, false, cond, ltb, List, length, map, refl, arith, subst, length-append, inl, inr}
+use Rattle.std.specs.Prelude.{flat_map}
 use Rattle.std.proofs.Math.Nat.{pow-le-pow_left, pow-le-pow_right, pow-succ'}
 use Rattle.std.proofs.lemmas.Bool.{cases_lt}
 use Rattle.std.proofs.lemmas.Bool.Decides.{nat_tests}
 use Rattle.std.proofs.lemmas.List.{length-map}
 use Rattle.std.proofs.lemmas.Nat.{mul-le}
 use Rattle.distances.specs.Table.{IsMetric, dist}
-use Rattle.net_graph.specs.declared.edge.TheConstants.{MAX_NODES, MAX_WEIGHT}
 use Rattle.node_set.specs.Ascending.{has}
 use Rattle.directory.specs.Settings.{Setting, levels}
-use Rattle.directory.specs.Finds.{Reader, all_readers, most_looks}
+use Rattle.directory.specs.Finds.{Reader, most_looks}
 use Rattle.directory.specs.Writes.{numbers_from}
 use Rattle.net_reader.specs.Input.{Contents}
 use Rattle.net_reader.specs.Valid.{IsValid}
 use Rattle.region_plan.specs.Matched.{BoundsFinds, HasFewReaders, PlansBoundFinds, PlansHaveFewReaders}
-use Rattle.region_plan.specs.Meanings.{IsPlanOf, IsTop, PlansMean}
+use Rattle.region_plan.specs.Meanings.{IsPlanOf, PlansMean}
 use Rattle.region_plan.specs.Measures.{degree_of}
-use Rattle.region_plan.specs.Plan.{PlanData, levels_of, nodes_of, readers, top_of}
+use Rattle.region_plan.specs.Plan.{PlanData, nodes_of, top_of}
 use Rattle.stretch_laws.specs.Plans.{PlansTrack}
-use Rattle.stretch_laws.specs.Tracking.{IsTracking, radius}
+use Rattle.stretch_laws.specs.Tracking.{IsTracking}
 use Rattle.own_reports.specs.Reports.{plan_in}
-use Rattle.own_reports.proofs.Inputs.{most-within, network-valid, network_in, plan-bounds, plan-means, setting_in}
+use Rattle.own_reports.proofs.Inputs.{network-valid, network_in, plan-bounds, plan-means, setting_in}
 
 -- the numbers of a setting are small
 pub record IsSmall (setting : Setting) : Type 0 where
@@ -101,7 +100,7 @@ readers-few setting node from (suc count) few =
       few from,
       length-map (setting.readers from node) (λ cluster. reader_at from cluster),
       length-append now (flat_map (λ (level : ℕ). map (λ cluster. reader_at level cluster)
-      (setting.readers level node)) (numbers_from (suc from) count)),
+          (setting.readers level node)) (numbers_from (suc from) count)),
       readers-few setting node (suc from) count few,
     )
 

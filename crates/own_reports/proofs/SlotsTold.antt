@@ -1,16 +1,16 @@
 -- The calls of an outcome have the slots of the input.
-use Rattle.std.proofs.Common.{◌≡◌, ◌≢◌, ℕ, zero, suc, ◌+◌, ◌-◌, ◌<◌, ◌≤◌, Bool, true, false, List, [], ◌∷◌, ◌++◌, length, take, drop, map, fold, get_or, Option, Some, None, refl, ap, sym, ◌∙◌, arith, subst, append_assoc, append-nil, length-append}
+use Rattle.std.proofs.Common.{◌≡◌, ℕ, suc, ◌+◌, ◌<◌, Bool, true, false, List, [], ◌∷◌, ◌++◌, length, take, drop, map, get_or, refl, ap, sym, ◌∙◌, arith, subst, append_assoc, append-nil, length-append}
 use Rattle.std.specs.Prelude.{All, flat_map, slice_index}
 use Rattle.std.proofs.lemmas.List.{get_or-drop, get_or-take, length-drop, length-map, length-take, map-append, take-append-drop}
 use Rattle.std.proofs.lemmas.List.Elements.{All-head, All-tail}
 use Rattle.std.proofs.lemmas.List.Sums.{fold-append}
 use Rattle.directory.specs.Settings.{Setting, start, subs}
-use Rattle.directory.specs.Courses.{Course, Move, Step, after_step, course_at, last_stop, move_to, next_move, switch_off, switch_on}
+use Rattle.directory.specs.Courses.{Course, Move, after_step, course_at, last_stop, move_to, next_move, switch_off, switch_on}
 use Rattle.directory.specs.Finds.{FindCall}
 use Rattle.directory.specs.Histories.{History, tickets}
-use Rattle.directory.specs.Orders.{Answer, Caller as Seeker, Scripts, caller_in, finds_of, steps_of}
+use Rattle.directory.specs.Orders.{Answer, Caller as Seeker, Scripts, caller_in}
 use Rattle.directory.specs.Outcomes.{answer_line, caller_lines, found_line, outcome_in, step_lines, sub_lines}
-use Rattle.directory.specs.Writes.{numbers_from, step_writes}
+use Rattle.directory.specs.Writes.{numbers_from}
 use Rattle.directory.specs.declared.answers.Done.{Done}
 use Rattle.directory.specs.declared.answers.Done.TheVariants.{Moved, Switched, Again as AgainBy}
 use Rattle.directory.specs.declared.answers.Why.TheVariants.{NoEntry}

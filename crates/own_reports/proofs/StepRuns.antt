@@ -1,9 +1,8 @@
 -- A subscriber's lines have runs of its tickets, as many as each step has writes.
-use Rattle.std.proofs.Common.{◌≡◌, ℕ, zero, suc, ◌+◌, ◌-◌, ◌<◌, ◌≤◌, Bool, true, false, List, [], ◌∷◌, ◌++◌, length, take, drop, map, get_or, Option, Some, None, refl, ap, sym, ◌∙◌, arith, subst, length-append}
-use Rattle.std.specs.Prelude.{slice_get, slice_index}
+use Rattle.std.proofs.Common.{◌≡◌, ℕ, zero, suc, ◌+◌, ◌-◌, ◌<◌, ◌≤◌, List, [], ◌∷◌, ◌++◌, length, take, drop, map, refl, ap, sym, ◌∙◌, arith, subst, length-append}
+use Rattle.std.specs.Prelude.{slice_index}
 use Rattle.std.proofs.lemmas.List.{get_or-drop, get_or-take, length-drop, length-map, length-take, drop-drop}
 use Rattle.entry_word.specs.declared.visit.Visit.{Visit}
-use Rattle.node_set.specs.Ascending.{sift}
 use Rattle.directory.specs.Settings.{Setting, start, subs}
 use Rattle.directory.specs.Courses.{Course, Move, Step, after_step, course_at, move_to, next_move, switch_off, switch_on}
 use Rattle.entry_word.specs.declared.mark.PresenceMark.TheVariants.{Gone, Here}
@@ -15,7 +14,7 @@ use Rattle.directory.specs.Outcomes.{step_line, step_lines, sub_lines}
 use Rattle.directory.specs.StepLaws.{past-end}
 use Rattle.directory.specs.Statements.{ScriptsInOrder}
 use Rattle.report_check.specs.Parts.{actor_of}
-use Rattle.own_reports.proofs.Runs.{HasEnds, HaveRuns, IsRun}
+use Rattle.own_reports.proofs.Runs.{HaveRuns, IsRun}
 
 pub length-numbers : (from count : ℕ) → length (numbers_from from count) ≡ count
 length-numbers from zero = refl
@@ -55,13 +54,23 @@ step-run setting sub course (move_to node) seen p e ends fits =
     let n : ℕ = length (move_writes setting course move) in
     let long : suc (suc (suc move.renewed)) < n = move-long setting course move in
     let count : length (take n (drop p seen)) ≡ n = part-length seen p n (omega (arith, ends, fits)) in
-    let last_place : p + (n - 1) ≡ e = omega (arith, ends, long) in
-    (refl, ((omega (arith, ends, long),
-      part-at seen p n 0 (omega (arith, long)) ∙ ap (slice_index seen) (let z : p + 0 ≡ p = omega arith in z),
-      ap (λ k. slice_index (take n (drop p seen)) (k - 1)) count ∙ part-at seen p n (n - 1) (omega (arith, long))
-          ∙ ap (slice_index seen) last_place),
-      (p + suc (suc move.renewed), omega arith, omega (arith, ends, long),
-        part-at seen p n (suc (suc move.renewed)) (omega (arith, long)))))
+    let last_place : p + (n - 1) ≡ e = omega (arith, ends, long) in (
+      refl,
+      (
+        (
+          omega (arith, ends, long),
+          part-at seen p n 0 (omega (arith, long)) ∙ ap (slice_index seen) (let z : p + 0 ≡ p = omega arith in z),
+          ap (λ k. slice_index (take n (drop p seen)) (k - 1)) count ∙ part-at seen p n (n - 1) (omega (arith, long))
+              ∙ ap (slice_index seen) last_place,
+        ),
+        (
+          p + suc (suc move.renewed),
+          omega arith,
+          omega (arith, ends, long),
+          part-at seen p n (suc (suc move.renewed)) (omega (arith, long)),
+        ),
+      ),
+    )
 step-run setting sub course switch_off seen p e ends fits =
     (refl, (omega (arith, ends), part-at seen p 1 0 (omega arith) ∙ ap (slice_index seen) (let z : p + 0 ≡ p = omega arith in z)))
 step-run setting sub course switch_on seen p e ends fits =
@@ -90,10 +99,14 @@ step-runs setting sub course (step ∷ steps) seen p ends =
     let low : e < length seen = omega (arith, some, ends, split) in
     let here = step-run setting sub course step seen p e next low in
     let later : HaveRuns sub seen (suc e) (step_lines setting sub (after_step setting course step) steps (drop (suc e) seen)) =
-    step-runs setting sub (after_step setting course step) steps seen (suc e) (omega (arith, ends, split, next)) in
-    (e, low, here.0, here.1,
+    step-runs setting sub (after_step setting course step) steps seen (suc e) (omega (arith, ends, split, next)) in (
+      e,
+      low,
+      here.0,
+      here.1,
       subst (λ (rest : List ℕ). HaveRuns sub seen (suc e) (step_lines setting sub (after_step setting course step) steps rest))
-          (ap (λ k. drop k seen) (sym next) ∙ sym (drop-drop n p seen)) later)
+          (ap (λ k. drop k seen) (sym next) ∙ sym (drop-drop n p seen)) later,
+    )
 
 -- a subscriber whose script is done has a ticket for each of its writes
 pub all-made : ScriptsInOrder → (setting : Setting) (scripts : Scripts) (history : History) (sub : ℕ)

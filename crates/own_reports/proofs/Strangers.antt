@@ -1,17 +1,16 @@
 -- Each ticket is of an actor that has a call, since an actor without one is done from the beginning.
-use Rattle.std.proofs.Common.{◌≡◌, ◌⊎◌, inl, inr, ℕ, zero, suc, ◌+◌, ◌-◌, ◌<◌, ◌≤◌, ◌&&◌, Bool, true, false, ltb, List, [], ◌∷◌, length, map, take, fold, get_or, Option, Some, None, refl, ap, sym, ◌∙◌, arith, subst}
-use Rattle.std.specs.Prelude.{slice_get, slice_index_or, option_map}
+use Rattle.std.proofs.Common.{◌≡◌, ◌⊎◌, inl, inr, ℕ, suc, ◌<◌, ◌&&◌, Bool, true, ltb, List, [], ◌∷◌, length, map, get_or, Some, None, refl, ap, sym, ◌∙◌, arith}
+use Rattle.std.specs.Prelude.{slice_get, option_map}
 use Rattle.std.specs.List.{list_all}
 use Rattle.std.proofs.lemmas.Bool.{cases_lt}
 use Rattle.std.proofs.lemmas.Bool.Decides.{nat_tests}
 use Rattle.entry_word.specs.declared.visit.Visit.{Visit}
-use Rattle.directory.specs.Settings.{Setting, start, subs}
-use Rattle.directory.specs.Courses.{Step, course_at}
-use Rattle.directory.specs.Finds.{FindCall}
+use Rattle.directory.specs.Settings.{Setting, subs}
+use Rattle.directory.specs.Courses.{Step}
 use Rattle.directory.specs.Histories.{History, before, own, words_read}
 use Rattle.directory.specs.HistoryLaws.{next-caller, next-sub}
 use Rattle.directory.specs.Looks.{look_by}
-use Rattle.directory.specs.Orders.{IsPlayed, Scripts, caller_at, finds_of, next, next_key, script_visits, steps_of}
+use Rattle.directory.specs.Orders.{IsPlayed, caller_at, finds_of, next, steps_of}
 use Rattle.directory.specs.Writes.{visits, writes}
 use Rattle.net_reader.specs.declared.said.Call.{Call}
 use Rattle.net_reader.specs.Input.{Contents}
@@ -37,7 +36,7 @@ no-writes setting sub [] k none = refl
 no-writes setting sub (step ∷ steps) k none = let bad : step ∷ steps ≡ [] = none in cc
 
 -- an actor without a call has no visit
-idle : (contents : Contents) (setting : Setting) (history : History) (actor : ℕ) → IsValid contents
+pub idle : (contents : Contents) (setting : Setting) (history : History) (actor : ℕ) → IsValid contents
     → setting.starts ≡ contents.homes → get_or contents.scripts actor [] ≡ []
     → next setting (scripts_of contents) history actor ≡ None
 idle contents setting history actor valid same none = elim (cases_lt actor (subs setting)) [

@@ -1,8 +1,7 @@
 -- The tickets of switches are of no move, and all other tickets of a subscriber are.
-use Rattle.std.proofs.Common.{◌≡◌, ◌≢◌, ◌⊎◌, inl, inr, ℕ, zero, suc, ◌+◌, ◌-◌, ◌<◌, ◌≤◌, ◌==◌, ◌&&◌, ◌||◌, Bool, true, false, not, cond, eqb, ltb, List, [], ◌∷◌, ◌++◌, length, take, drop, map, get_or, Option, Some, None, refl, ap, sym, ◌∙◌, arith, subst, append_assoc, append-nil, length-append}
+use Rattle.std.proofs.Common.{◌≡◌, ◌⊎◌, inl, inr, ℕ, zero, suc, ◌+◌, ◌<◌, ◌==◌, ◌&&◌, ◌||◌, Bool, true, false, not, List, [], ◌∷◌, ◌++◌, length, take, drop, map, Option, Some, None, refl, ap, sym, ◌∙◌, arith, subst, append_assoc, length-append}
 use Rattle.std.specs.Prelude.{slice_get, slice_index, option_map, unwrap_or}
 use Rattle.std.specs.List.{list_any}
-use Rattle.std.proofs.lemmas.Bool.{cases_lt}
 use Rattle.std.proofs.lemmas.Bool.Decides.{nat_tests}
 use Rattle.std.proofs.lemmas.List.{drop-drop, length-map, take_all, take-append-le}
 use Rattle.std.proofs.lemmas.Option.{slice_get-get_or, slice_get-map}
@@ -20,7 +19,6 @@ use Rattle.directory.specs.Outcomes.{step_line, step_lines, sub_lines}
 use Rattle.directory.specs.Puts.{ends_off}
 use Rattle.directory.specs.States.{AreSmall, IsSmallWrite}
 use Rattle.directory.specs.Writes.{Write, mark_at, step_writes, visit_of, writes}
-use Rattle.directory.specs.declared.answers.Done.{Done}
 use Rattle.report_check.specs.Parts.{is_switch_at}
 use Rattle.own_reports.proofs.Cuts.{IsOver, Laws, all_writes, cut-below, cut-past, legal-before, made-before, made_before, off-before}
 use Rattle.own_reports.proofs.Order.{tickets-are}
@@ -80,15 +78,31 @@ module _ (setting : Setting) (sub t : ℕ) (seen : List ℕ) (all : List Write) 
           (take (length (step_writes setting course step)) (drop p seen))) ≡ true
           → IsSwitchTicket seen all t
       at_step (move_to node) may low is found = let bad : false ≡ true = found in cc
-      at_step switch_off may low is found =
-          (p, low, sym (equal-by _ t found) ∙ place-of p, (last_stop course, length course.moves,
-            inl (ap (λ (xs : List Write). slice_get xs p) is ∙ get-add done _ p 0 (omega (arith, place)))))
-      at_step switch_on may low is found =
-          (p, low, sym (equal-by _ t found) ∙ place-of p, (last_stop course, length course.moves,
-            inr (ap (λ (xs : List Write). slice_get xs p) is ∙ get-add done _ p 0 (omega (arith, place)),
+      at_step switch_off may low is found = (
+        p,
+        low,
+        sym (equal-by _ t found) ∙ place-of p,
+        (
+          last_stop course,
+          length course.moves,
+          inl (ap (λ (xs : List Write). slice_get xs p) is ∙ get-add done _ p 0 (omega (arith, place))),
+        ),
+      )
+      at_step switch_on may low is found = (
+        p,
+        low,
+        sym (equal-by _ t found) ∙ place-of p,
+        (
+          last_stop course,
+          length course.moves,
+          inr (
+            ap (λ (xs : List Write). slice_get xs p) is ∙ get-add done _ p 0 (omega (arith, place)),
             ap (λ (xs : List Write). off_by false (take p xs)) is
-            ∙ ap (off_by false) (take-append-le p done _ (omega (arith, place)) ∙ take_all p done (omega (arith, place)))
-            ∙ off ∙ may)))
+                ∙ ap (off_by false) (take-append-le p done _ (omega (arith, place)) ∙ take_all p done (omega (arith, place)))
+                ∙ off ∙ may,
+          ),
+        ),
+      )
 
 -- ---- what stands at a ticket
 
@@ -154,7 +168,7 @@ module _ (laws : Laws) (setting : Setting) (scripts : Scripts) (history : Histor
   count-at (suc i) low =
       let few = cut-past laws setting scripts history over sub known (slice_index seen (suc i)) (suc i) low (omega arith) in
       let many = cut-below laws setting scripts history over sub known (slice_index seen (suc i)) i (omega (arith, low))
-          ((tickets-are laws.ascend history sub).rise i (suc i) (omega arith) low) in
+      ((tickets-are laws.ascend history sub).rise i (suc i) (omega arith) low) in
       omega (arith, few, many)
 
   -- what is written fits

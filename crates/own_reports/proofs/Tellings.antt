@@ -1,7 +1,7 @@
 -- What the lines of a subscriber's steps tell of it before a ticket is what its writes before that
 -- ticket tell.
-use Rattle.std.proofs.Common.{◌≡◌, ◌⊎◌, inl, inr, ℕ, zero, suc, ◌+◌, ◌-◌, ◌<◌, ◌≤◌, ◌==◌, ◌&&◌, Bool, true, false, cond, eqb, ltb, List, [], ◌∷◌, ◌++◌, length, take, drop, map, fold, Option, Some, None, refl, ap, sym, ◌∙◌, arith, subst, append_assoc, append-nil, length-append}
-use Rattle.std.specs.Prelude.{slice_get, slice_index, filter_map}
+use Rattle.std.proofs.Common.{◌≡◌, inl, inr, ℕ, suc, ◌+◌, ◌-◌, ◌<◌, ◌≤◌, ◌&&◌, Bool, true, false, eqb, ltb, List, [], ◌∷◌, ◌++◌, length, take, drop, fold, Option, Some, None, refl, ap, sym, ◌∙◌, arith, subst, append_assoc, append-nil, length-append}
+use Rattle.std.specs.Prelude.{slice_get, slice_index}
 use Rattle.std.specs.List.{cons_option, last_or}
 use Rattle.std.proofs.lemmas.Bool.{cases_lt}
 use Rattle.std.proofs.lemmas.Bool.Decides.{nat_tests}
@@ -166,13 +166,13 @@ module _ (setting : Setting) (homes : List ℕ) (sub ticket : ℕ) (seen : List 
       part-at seen p n (suc (suc move.renewed)) (omega (arith, long)) in
       let inside : suc i < length seen = omega (arith, long, amid.fits) in
       let still : off_by (off_by false (take m done)) (take (m - p) ws) ≡ off_by false (take m done) =
-          elim (cases_lt p m) [
-            | inl more ↦
-                let on : off_by false (take m done) ≡ false =
-                off-now m p done amid.place (omega (arith, more)) ∙ amid.is_off ∙ amid.may.is_on in
-                ap (λ b. off_by b (take (m - p) ws)) on ∙ move-on (m - p) setting course move ∙ sym on
-            | inr none ↦ nothing-off (m - p) (off_by false (take m done)) ws (omega (arith, none))
-          ] in
+      elim (cases_lt p m) [
+        | inl more ↦
+            let on : off_by false (take m done) ≡ false =
+            off-now m p done amid.place (omega (arith, more)) ∙ amid.is_off ∙ amid.may.is_on in
+            ap (λ b. off_by b (take (m - p) ws)) on ∙ move-on (m - p) setting course move ∙ sym on
+        | inr none ↦ nothing-off (m - p) (off_by false (take m done)) ws (omega (arith, none))
+      ] in
       elim (cases_lt (slice_index seen i) ticket) [
         | inl low ↦
             let more : i < m = count.below i (omega (arith, inside)) low in

@@ -2,7 +2,7 @@
 -- visits, whether the order is the input's own or one that threads made, the checker of reports
 -- finds no flaw in the report of what becomes of the input's calls.
 -- Key laws: `tickets_are_told` (`TicketsAreTold`: each call has its tickets, and none is left over).
-use Rattle.std.specs.Prelude.{◌≡◌, ℕ, ◌&&◌, All, Bool, true, if◌then◌else◌, List, [], ◌∷◌, Option, None}
+use Rattle.std.specs.Prelude.{◌≡◌, ℕ, ◌&&◌, All, true, if◌then◌else◌, List, [], ◌∷◌, Option, None}
 use Rattle.std.specs.List.{list_all}
 use Rattle.directory.specs.declared.answers.Done.{Done}
 use Rattle.directory.specs.Outcomes.{Outcome, outcome_of}

@@ -1,13 +1,13 @@
 //! The laws of the directory's own reports.
-ghost use Rattle.own_reports.specs.Reports.{OutcomesHaveForm, PlacesAreTold, TicketsAreTold};
+ghost use Rattle.own_reports.specs.Reports.{OutcomesHaveForm, OwnReportsAreSound, PlacesAreTold, TicketsAreTold};
 
 use directory::{
-    all_scripts_done, each_visit_is_next, lines_are_made, looks_fall, lines_grow, scripts_in_order,
-    tickets_tell,
+    all_scripts_done, done_is_rest, each_visit_is_next, every_order_is_legal, lines_are_made,
+    lines_grow, looks_fall, scripts_in_order, tickets_tell, told_by_writes, writes_are_small,
 };
 use entry_word::mark_words;
-use directory::{done_is_rest, every_order_is_legal, told_by_writes, writes_are_small};
 use region_plan::{plan_is_bounding, plan_is_sparse, plan_means};
+use report_check::reports_are_read;
 use scripts::{scripts_are_valid, visits_are_few};
 use stretch_laws::{plan_outcomes_are_near, plans_track};
 use trail_laws::{entries_tell, marks_tell, outcomes_are_right};
@@ -66,6 +66,7 @@ pub fn outcomes_have_form()
     plan_is_bounding();
     plan_is_sparse();
     plan_means();
+    plan_outcomes_are_near();
     plans_track();
     scripts_are_valid();
     scripts_in_order();
@@ -73,4 +74,18 @@ pub fn outcomes_have_form()
     told_by_writes();
     visits_are_few();
     writes_are_small();
+}
+
+/// What the directory reports of a valid input is sound, under every order.
+pub fn own_reports_are_sound()
+    ensures { OwnReportsAreSound }
+{
+    outcomes_have_form();
+    places_are_told();
+    plan_is_bounding();
+    plan_is_sparse();
+    plan_means();
+    plans_track();
+    reports_are_read();
+    tickets_are_told();
 }

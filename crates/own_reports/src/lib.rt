@@ -3,4 +3,4 @@
 
 mod laws;
 
-pub use laws::{outcomes_have_form, places_are_told, tickets_are_told};
+pub use laws::{outcomes_have_form, own_reports_are_sound, places_are_told, tickets_are_told};
