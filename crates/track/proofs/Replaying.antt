@@ -25,14 +25,23 @@ use Rattle.track.proofs.Answering.{plan-nodes}
 use Rattle.scripts.specs.Laws.{ScriptsAreValid}
 use Rattle.scripts.specs.ScriptLaws.{few-nodes}
 use Rattle.stretch_laws.specs.Plans.{PlansTrack}
+use Rattle.own_reports.specs.Reports.{OwnReportsAreSound}
+use Rattle.report_check.specs.declared.verdict.Verdict.TheVariants.{Sound}
+use Rattle.report_check.specs.Verdicts.{verdict_of}
+
+-- the checker finds no flaw in the report, and doesn't read the order of the input
+pub sound-text : (contents : Contents) (order : List ℕ) → OwnReportsAreSound → (text : List ℕ) → IsValid contents
+    → text ≡ report_of (outcome_for (in_order contents order)) → verdict_of (plan_for contents) contents text ≡ Sound
+sound-text contents order own text valid text_is =
+    ap (verdict_of (plan_for contents) contents) text_is ∙ own contents order valid
 
 pub report-says : (contents : Contents) (order : List ℕ)
     → TellInTurn (outcome_for (in_order contents order)).calls
-    → OutcomesAreRight → NumbersRise → PlansTrack → PlanOutcomesAreNear → ScriptsAreValid
+    → OutcomesAreRight → NumbersRise → PlansTrack → PlanOutcomesAreNear → ScriptsAreValid → OwnReportsAreSound
     → (text : List ℕ) → IsValid contents → nodes_of (plan_for contents) ≡ contents.nodes
     → BoundsFinds (plan_for contents) → text ≡ report_of (outcome_for (in_order contents order))
     → IsReport (in_order contents order) text
-report-says contents order turn right rise track near scripts text valid nodes bounds text_is =
+report-says contents order turn right rise track near scripts own text valid nodes bounds text_is =
     let plan = plan_for contents in
     let few : nodes_of plan ≤ 2 ^ 16 = omega (arith, nodes, few-nodes contents valid) in
     let valid_scripts = scripts contents (setting_for contents) valid (record { nodes = nodes; starts = refl }) in
@@ -43,6 +52,7 @@ report-says contents order turn right rise track near scripts text valid nodes b
       in_turn = turn;
       rising = rise (setting_for contents) (scripts_of contents) order few valid_scripts;
       near = near plan contents.homes (scripts_of contents) order few bounds valid_scripts;
+      sound = sound-text contents order own text valid text_is;
     }
 
 -- the census by the scripts of a valid input is that of its calls' history

@@ -30,6 +30,8 @@ use Rattle.move_cost.specs.CostText.{costs_text_of}
 use Rattle.move_cost.specs.Plans.{IsWithinRate}
 use Rattle.report_text.specs.PlanText.{plan_text_of}
 use Rattle.report_text.specs.ReportText.{refused_line_of, report_of}
+use Rattle.report_check.specs.declared.verdict.Verdict.TheVariants.{Sound}
+use Rattle.report_check.specs.Verdicts.{verdict_of}
 use Rattle.word_line.specs.declared.command.Command.{Command}
 use Rattle.word_line.specs.declared.command.Command.TheVariants.{Cover, Replay, Census, Costs, Run, Make, Trial}
 use Rattle.track.specs.declared.status.Status.{Status}
@@ -72,6 +74,8 @@ pub record IsReport (contents : Contents) (text : List ℕ) : Type 0 where
   -- distance, and twice an open passage
   pub near : All (IsLineWithin (bound_of (plan_for contents)) (setting_for contents)
       (history_for contents)) (outcome_for contents).calls
+  -- the checker of reports finds no flaw in it
+  pub sound : verdict_of (plan_for contents) contents text ≡ Sound
 
 -- an input with this order in place of its own
 abbrev pub in_order : Contents → List ℕ → Contents
@@ -83,6 +87,8 @@ pub record IsRunReport (contents : Contents) (text : List ℕ) : Type 0 where
   pub order : List ℕ
   pub report : IsReport (in_order contents order) text
   pub printed : (outcome_for (in_order contents order)).order ≡ order
+  -- the checker finds no flaw in it for the input itself, whose own order it doesn't read
+  pub sound : verdict_of (plan_for contents) contents text ≡ Sound
 
 -- the text is the census of an input: at each node it lists whom the directory's census lists at
 -- the end of the input's calls under its order

@@ -19,6 +19,7 @@ use distances::Distances;
 use machine::Machine;
 use net_graph::Graph;
 use net_reader::{Input, InputFault, ReadRefusal, Reader, inputs_are_valid};
+use own_reports::own_reports_are_sound;
 use region_plan::{Plan, plan_means, plan_of_same_walks};
 use scripts::scripts_are_valid;
 use std::alloc::{AllocError, Global};
@@ -64,6 +65,7 @@ pub(crate) fn replay(alloc: Global, input: &Input, graph: &Graph) -> Result<Outc
     outcomes_are_right();
     plans_track();
     plan_outcomes_are_near();
+    own_reports_are_sound();
     scripts_are_valid();
     all_scripts_done();
     plan_means();

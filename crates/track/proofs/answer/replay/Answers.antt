@@ -59,5 +59,5 @@ returns-clause-report c =
     c.requires.valid c.requires.graph) c.in_ok-plan.ensures.bounding in
     report-says contents contents.order turn
     c.outcomes_are_right.ensures.lines c.outcomes_are_right.ensures.numbers c.plans_track.ensures
-    c.plan_outcomes_are_near.ensures c.scripts_are_valid.ensures (report_of (result_of c.outcome.result))
+    c.plan_outcomes_are_near.ensures c.scripts_are_valid.ensures c.own_reports_are_sound.ensures (report_of (result_of c.outcome.result))
     c.requires.valid (plan-nodes c.plan_means.ensures contents c.requires.valid) bounds (ap report_of is)
