@@ -1,6 +1,6 @@
 -- Each line of an outcome keeps what is asked of its place, of what is to be made again, and of its
 -- weight.
-use Rattle.std.proofs.Common.{◌≡◌, inl, inr, ℕ, zero, suc, ◌+◌, ◌*◌, ◌<◌, ◌≤◌, ◌==◌, ◌&&◌, ◌||◌, Bool, true, false, not, eqb, leb, cond, List, [], ◌∷◌, length, take, map, fold, Option, Some, None, refl, ap, sym, ◌∙◌, arith, subst}
+use Rattle.std.proofs.Common.{◌≡◌, inl, inr, ℕ, suc, ◌+◌, ◌*◌, ◌<◌, ◌≤◌, ◌==◌, ◌||◌, Bool, true, false, cond, List, [], length, take, map, fold, Option, Some, None, refl, ap, sym, ◌∙◌, arith, subst}
 use Rattle.std.specs.Prelude.{filter_map, flat_map, option_map, slice_get, slice_index}
 use Rattle.std.specs.List.{last_or, list_any}
 use Rattle.std.proofs.lemmas.Bool.{cases_lt}
@@ -16,8 +16,8 @@ use Rattle.directory.specs.Courses.{Course, Step, after_steps, course_at, move_t
 use Rattle.directory.specs.Finds.{FindCall}
 use Rattle.directory.specs.Histories.{History, is_put_for, puts_to, through, tickets}
 use Rattle.directory.specs.Looks.{IsQuiet, first_of, last_of, moves_at}
-use Rattle.directory.specs.Orders.{Answer, IsFindCall, Scripts, caller_in, steps_of}
-use Rattle.directory.specs.Outcomes.{IsFindLine, IsMade, answer_line, caller_lines, found_line, outcome_in, step_line, sub_lines}
+use Rattle.directory.specs.Orders.{IsFindCall, Scripts, caller_in, steps_of}
+use Rattle.directory.specs.Outcomes.{IsFindLine, IsMade, caller_lines, found_line, outcome_in, step_line, sub_lines}
 use Rattle.directory.specs.Puts.{ends_off, mark_put, node_put}
 use Rattle.directory.specs.ScriptLaws.{call_of_valid}
 use Rattle.directory.specs.Standing.{Commit, commit_of, commits, confirms, number, off, passage, passage_of, standing}
@@ -41,92 +41,10 @@ use Rattle.own_reports.proofs.Looked.{IsLook, ends-look, look-puts-not, meets-mo
 use Rattle.own_reports.proofs.Order.{actors_of, tickets-are}
 use Rattle.own_reports.proofs.Plain.{commits_in}
 use Rattle.own_reports.proofs.RowsTold.{rows-none, rows-skip, rows-told}
+use Rattle.own_reports.proofs.Signs.{any-at, at-most, both-same, equal-by, finds-no-switch, get-take, light, none-where, open-same, open_by, or-true, same-true, still-open, told-true}
 use Rattle.own_reports.proofs.StepRuns.{sub-runs}
 use Rattle.own_reports.proofs.Switches.{count-all, mark-read, switch-moves-not, switch-ticket, visit-at}
 use Rattle.own_reports.proofs.Tellings.{IsCount, IsLast, IsToldBy, steps-told}
-
--- ---- no line of a find is that of a switch
-
-found-no-switch : (t caller : ℕ) (call : FindCall) (found : Found) (first last : ℕ)
-    → is_switch_at t (found_line caller call found first last) ≡ false
-found-no-switch t caller call (At node number level weight) first last = refl
-found-no-switch t caller call (OffAt node number level weight) first last = refl
-found-no-switch t caller call (Again why weight) first last = refl
-
-finds-no-switch : (t caller : ℕ) (seen : List ℕ) (answers : List Answer)
-    → list_any (is_switch_at t) (map (answer_line caller seen) answers) ≡ false
-finds-no-switch t caller seen [] = refl
-finds-no-switch t caller seen (answer ∷ answers) =
-    ap (λ b. b || list_any (is_switch_at t) (map (answer_line caller seen) answers))
-    (found-no-switch t caller answer.call answer.found (slice_index seen answer.first) (slice_index seen answer.last))
-    ∙ finds-no-switch t caller seen answers
-
-none-where : (b : Bool) → (b ≡ true → ⊥) → b ≡ false
-none-where true never = absurd (never refl)
-none-where false never = refl
-
-equal-by : (a b : ℕ) → (a == b) ≡ true → a ≡ b
-equal-by a b e = grind (arith, nat_tests)
-
--- what is told is a node, a number and a state
-told-true : (off : Bool) (n node q number : ℕ) (o : Bool) → n ≡ node → q ≡ number → o ≡ off
-    → (eqb n node && (eqb q number && cond off o (not o))) ≡ true
-told-true true n node q number true a b c = grind (arith, nat_tests)
-told-true true n node q number false a b c = let bad : false ≡ true = c in cc
-told-true false n node q number true a b c = let bad : true ≡ false = c in cc
-told-true false n node q number false a b c = grind (arith, nat_tests)
-
-any-at : {A : Type 0} (test : A → Bool) (xs : List A) (i : ℕ) (x : A) → slice_get xs i ≡ Some x → test x ≡ true
-    → list_any test xs ≡ true
-any-at test [] i x is passes = let bad : None ≡ Some x = is in cc
-any-at test (y ∷ xs) zero x is passes =
-    let same : y ≡ x = cc in ap (λ b. b || list_any test xs) (ap test same ∙ passes)
-any-at test (y ∷ xs) (suc i) x is passes = behind (test y) (any-at test xs i x is passes)
-  where
-    behind : (b : Bool) → list_any test xs ≡ true → (b || list_any test xs) ≡ true
-    behind true e = refl
-    behind false e = e
-
-get-take : {A : Type 0} (xs : List A) (k i : ℕ) → i < k → slice_get (take k xs) i ≡ slice_get xs i
-get-take xs zero i low = absurd (omega (arith, low))
-get-take [] (suc k) i low = refl
-get-take (x ∷ xs) (suc k) zero low = refl
-get-take (x ∷ xs) (suc k) (suc i) low = get-take xs k i (omega (arith, low))
-
--- ---- the open passage
-
--- the weight of the passage that is open at a ticket, by the weight of the last move
-abbrev open_by : List ℕ → ℕ → ℕ → ℕ → Option ℕ → ℕ
-open_by order sub last weight None = 0
-open_by order sub last weight (Some commit) = unconfirmed last weight (next_ticket order sub (Some commit))
-
-open-same : (homes order : List ℕ) (lines : List Done) (sub last : ℕ) (commit : Option ℕ)
-    → open_passage order sub last (told_before homes lines sub last) commit
-    ≡ open_by order sub last (told_before homes lines sub last).weight commit
-open-same homes order lines sub last None = refl
-open-same homes order lines sub last (Some commit) = refl
-
-at-most : (b : Bool) (d : ℕ) → cond b 0 d ≤ d
-at-most true d = omega arith
-at-most false d = omega arith
-
-still-open : (last weight confirm : ℕ) → last < confirm → unconfirmed last weight (Some confirm) ≡ weight
-still-open last weight confirm low = grind (arith, nat_tests)
-
-both-same : (a b : ℕ) → (eqb a a && eqb b b) ≡ true
-both-same a b = grind (arith, nat_tests)
-
-light : (stretch distance paid still weight : ℕ) → weight ≤ stretch * distance + 2 * paid → paid ≤ still
-    → leb weight (stretch * distance + 2 * still) ≡ true
-light stretch distance paid still weight most le =
-    small weight (stretch * distance) paid still most le
-  where
-    small : (w a p q : ℕ) → w ≤ a + 2 * p → p ≤ q → leb w (a + 2 * q) ≡ true
-    small w a p q h k = let m : w ≤ a + 2 * q = omega (arith, h, k) in grind (arith, nat_tests)
-
-or-true : (a b : Bool) → (a ≡ false → b ≡ true) → (a || b) ≡ true
-or-true true b e = refl
-or-true false b e = e refl
 
 module _ (laws : Laws) (count : CallersCount) (plan : PlanData) (homes : List ℕ) (scripts : Scripts) (history : History)
     (over : IsOver (setting_of plan homes) scripts history) where
@@ -374,9 +292,6 @@ module _ (laws : Laws) (count : CallersCount) (plan : PlanData) (homes : List �
   step-weighed sub course (move_to node) ts = refl
   step-weighed sub course switch_off ts = tt
   step-weighed sub course switch_on ts = tt
-
-  same-true : (a b : ℕ) → a ≡ b → (a == b) ≡ true
-  same-true a b e = grind (arith, nat_tests)
 
   -- each line keeps the parts
   pub line-keeps : (line : Done) → IsMade S scripts history line → IsRightLine S history line

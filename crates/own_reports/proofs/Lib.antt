@@ -1,3 +1,4 @@
+mod Signs
 mod Order
 mod Runs
 mod StepRuns

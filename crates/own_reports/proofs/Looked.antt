@@ -1,5 +1,5 @@
 -- The looks of a find: its first ticket and its last are looks of its caller, which put nothing.
-use Rattle.std.proofs.Common.{◌≡◌, ℕ, zero, suc, ◌+◌, ◌-◌, ◌<◌, ◌≤◌, ◌==◌, ◌&&◌, Bool, true, false, not, eqb, ltb, cond, List, [], ◌∷◌, length, drop, Option, Some, None, refl, ap, sym, ◌∙◌, arith, append-nil, inl, inr}
+use Rattle.std.proofs.Common.{◌≡◌, ℕ, zero, suc, ◌+◌, ◌-◌, ◌<◌, ◌≤◌, ◌&&◌, Bool, true, false, not, eqb, cond, List, [], ◌∷◌, length, drop, Option, Some, None, refl, ap, sym, ◌∙◌, arith, append-nil, inl, inr}
 use Rattle.std.specs.Prelude.{slice_get, slice_index, flat_map, option_map}
 use Rattle.std.specs.List.{list_any}
 use Rattle.std.proofs.lemmas.Bool.{cases_lt}
@@ -19,6 +19,7 @@ use Rattle.directory.specs.Writes.{Write, entry_at, mark_at, visit_of, writes}
 use Rattle.directory.specs.declared.answers.Done.{Done}
 use Rattle.directory.specs.declared.answers.Found.{Found}
 use Rattle.report_check.specs.Parts.{is_of_move, is_switch_at, meets_from, meets_move}
+use Rattle.own_reports.proofs.Signs.{equal-by, lt-true}
 use Rattle.own_reports.proofs.Order.{actors_of}
 
 -- the visit with a ticket is a look
@@ -71,9 +72,6 @@ mapped-some : {A B : Type 0} (f : A → B) (o : Option A) (y : B) → option_map
 mapped-some f None y e = let bad : None ≡ Some y = e in cc
 mapped-some f (Some x) y e = (x, let s : f x ≡ y = cc in s)
 
-equal-by : (a b : ℕ) → (a == b) ≡ true → a ≡ b
-equal-by a b e = grind (arith, nat_tests)
-
 put-own : (setting : Setting) (scripts : Scripts) (history : History) (sub t : ℕ) (v : Visit)
     → next setting scripts (before t history) v.actor ≡ Some v → is_put_for sub v.act ≡ true → v.actor ≡ sub
 put-own setting scripts history sub t v is put = elim (cases_lt v.actor (subs setting)) [
@@ -115,9 +113,6 @@ move-own setting scripts history sub t played is =
 test-move : (sub : ℕ) (b : Bool) → b ≡ false → (eqb sub sub && not b) ≡ true
 test-move sub true e = let bad : true ≡ false = e in cc
 test-move sub false e = grind (arith, nat_tests)
-
-lt-true : (n m : ℕ) → n < m → ltb n m ≡ true
-lt-true n m e = grind (arith, nat_tests)
 
 meets : (calls : List Done) (sub last from t d : ℕ) (later : List ℕ) → t ≡ from + d → slice_get later d ≡ Some sub
     → t < last → list_any (is_switch_at t) calls ≡ false → meets_from calls sub last from later ≡ true

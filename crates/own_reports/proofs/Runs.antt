@@ -11,6 +11,7 @@ use Rattle.directory.specs.Writes.{numbers_from}
 use Rattle.report_check.specs.Parts.{actor_of, end_of, has_tickets, is_missing, is_number, is_ticket, next_ticket, none_left, tickets_hold}
 use Rattle.report_check.specs.Verdicts.{is_last}
 use Rattle.own_reports.specs.Reports.{HaveTickets}
+use Rattle.own_reports.proofs.Signs.{lt-true}
 use Rattle.own_reports.proofs.Order.{AreTickets}
 
 -- a call's first ticket has this place among its actor's, and its last one this
@@ -42,9 +43,6 @@ is-self n m e = grind (arith, nat_tests)
 
 le-true : (n m : ℕ) → n ≤ m → leb n m ≡ true
 le-true n m e = grind (arith, nat_tests)
-
-lt-true : (n m : ℕ) → n < m → ltb n m ≡ true
-lt-true n m e = grind (arith, nat_tests)
 
 in-order : (seen : List ℕ) (p e : ℕ) → ((i j : ℕ) → i < j → j < length seen → slice_index seen i < slice_index seen j)
     → p ≤ e → e < length seen → slice_index seen p ≤ slice_index seen e

@@ -2,7 +2,6 @@
 use Rattle.std.proofs.Common.{◌≡◌, ◌⊎◌, inl, inr, ℕ, zero, suc, ◌+◌, ◌<◌, ◌==◌, ◌&&◌, ◌||◌, Bool, true, false, not, List, [], ◌∷◌, ◌++◌, length, take, drop, map, Option, Some, None, refl, ap, sym, ◌∙◌, arith, subst, append_assoc, length-append}
 use Rattle.std.specs.Prelude.{slice_get, slice_index, option_map, unwrap_or}
 use Rattle.std.specs.List.{list_any}
-use Rattle.std.proofs.lemmas.Bool.Decides.{nat_tests}
 use Rattle.std.proofs.lemmas.List.{drop-drop, length-map, take_all, take-append-le}
 use Rattle.std.proofs.lemmas.Option.{slice_get-get_or, slice_get-map}
 use Rattle.entry_word.specs.Marks.{mark_in, mark_word, says_here, says_off}
@@ -21,6 +20,7 @@ use Rattle.directory.specs.States.{AreSmall, IsSmallWrite}
 use Rattle.directory.specs.Writes.{Write, mark_at, step_writes, visit_of, writes}
 use Rattle.report_check.specs.Parts.{is_switch_at}
 use Rattle.own_reports.proofs.Cuts.{IsOver, Laws, all_writes, cut-below, cut-past, legal-before, made-before, made_before, off-before}
+use Rattle.own_reports.proofs.Signs.{equal-by}
 use Rattle.own_reports.proofs.Order.{tickets-are}
 use Rattle.own_reports.proofs.Plain.{get-add, off_by}
 use Rattle.own_reports.proofs.StepRuns.{all-made, part-at, some-writes}
@@ -42,9 +42,6 @@ IsSwitchTicket seen all t = (i : ℕ) × (i < length seen) × (t ≡ slice_index
 or-cases : (a b : Bool) → (a || b) ≡ true → (a ≡ true) ⊎ (b ≡ true)
 or-cases true b e = inl refl
 or-cases false b e = inr e
-
-equal-by : (a b : ℕ) → (a == b) ≡ true → a ≡ b
-equal-by a b e = grind (arith, nat_tests)
 
 module _ (setting : Setting) (sub t : ℕ) (seen : List ℕ) (all : List Write) where
   pub switch-lines : (course : Course) (steps : List Step) (p : ℕ) (done : List Write) → MaySteps setting course steps

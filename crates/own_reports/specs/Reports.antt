@@ -1,7 +1,9 @@
 -- What the directory itself reports of an input is sound: for every valid input and every order of
 -- visits, whether the order is the input's own or one that threads made, the checker of reports
 -- finds no flaw in the report of what becomes of the input's calls.
--- Key laws: `tickets_are_told` (`TicketsAreTold`: each call has its tickets, and none is left over).
+-- Key laws: `own_reports_are_sound` (`OwnReportsAreSound`), by `outcomes_have_form`,
+-- `tickets_are_told` and `places_are_told` (the report is read, each call has its tickets, and none
+-- is left over; and each line keeps the other parts).
 use Rattle.std.specs.Prelude.{◌≡◌, ℕ, ◌&&◌, All, true, if◌then◌else◌, List, [], ◌∷◌, Option, None}
 use Rattle.std.specs.List.{list_all}
 use Rattle.directory.specs.declared.answers.Done.{Done}

@@ -1,6 +1,5 @@
 -- What report_text writes of an outcome of the form of reports is read as the outcome.
-use Rattle.std.proofs.Common.{◌≡◌, ◌⊎◌, inl, inr, ℕ, zero, suc, ◌+◌, ◌-◌, ◌*◌, ◌/◌, ◌%◌, ◌^◌, ◌<◌, ◌≤◌, ◌&&◌, Bool, true, false, cond, eqb, ltb, List, [], ◌∷◌, ◌++◌, length, get_or, take, drop, map, Option, Some, None, Result, Ok, Err, refl, ap, sym, ◌∙◌, arith, subst, codes, rules, append_assoc, append-nil, length-append}
-use Rattle.std.specs.Prelude.{All}
+use Rattle.std.proofs.Common.{◌≡◌, ℕ, zero, suc, ◌+◌, ◌-◌, ◌*◌, ◌^◌, ◌<◌, ◌≤◌, ◌&&◌, Bool, true, false, cond, eqb, ltb, List, [], ◌∷◌, ◌++◌, length, get_or, Option, Some, None, refl, ap, ◌∙◌, arith, codes, rules, append_assoc, append-nil}
 use Rattle.std.proofs.lemmas.Bool.Decides.{nat_tests}
 use Rattle.std.proofs.lemmas.Fmt.{digits_decimal, digits_value-decimal, first_decimal, decimal_digit, decimal_nonempty}
 use Rattle.std.proofs.lemmas.Str.Parse.{IsNumeralModel, numerals_by_fold}
@@ -14,10 +13,8 @@ use Rattle.directory.specs.declared.answers.Why.{Why}
 use Rattle.directory.specs.declared.answers.Why.TheVariants.{Empty, NoEntry, Chased}
 use Rattle.report_text.specs.ReportText.{call_line, level_field, place_fields, switch_field, visit_fields, why_field}
 use Rattle.report_check.specs.declared.calls.Bounds.{Bounds}
-use Rattle.report_check.specs.declared.calls.Place.{Place}
-use Rattle.report_check.specs.declared.calls.Visits.{Visits}
 use Rattle.report_check.specs.Forms.{IsCallBelow, IsLevelBelow, IsWhyBelow, slot_told}
-use Rattle.report_check.specs.Reading.{◌>>=◌, again_in, answer, answer_in, call_in, digits_from, digits_in, digits_of, empty_or_other, find_in, labelled_in, level_in, level_or_dash, most, move_in, number_in, place_in, starts_with_digit, switch_in, visits_in, why_in, word_in}
+use Rattle.report_check.specs.Reading.{◌>>=◌, again_in, answer, answer_in, call_in, digits_from, digits_in, digits_of, labelled_in, level_in, level_or_dash, most, move_in, number_in, place_in, starts_with_digit, switch_in, visits_in, why_in, word_in}
 
 -- ---- words and numbers
 

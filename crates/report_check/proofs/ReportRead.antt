@@ -1,5 +1,5 @@
 -- The text of a whole outcome of the form of reports is read as the outcome.
-use Rattle.std.proofs.Common.{◌≡◌, ◌⊎◌, inl, inr, ℕ, zero, suc, ◌+◌, ◌-◌, ◌*◌, ◌/◌, ◌%◌, ◌^◌, ◌<◌, ◌≤◌, Bool, true, false, cond, eqb, ltb, List, [], ◌∷◌, ◌++◌, length, take, drop, map, Option, Some, None, Result, Ok, Err, refl, ap, sym, ◌∙◌, arith, subst, codes, rules, append_assoc, append-nil, length-append}
+use Rattle.std.proofs.Common.{◌≡◌, ◌⊎◌, inl, inr, ℕ, zero, suc, ◌+◌, ◌%◌, ◌^◌, ◌<◌, ◌≤◌, Bool, true, false, cond, eqb, List, [], ◌∷◌, ◌++◌, length, take, drop, map, Option, Some, None, Result, Ok, refl, ap, sym, ◌∙◌, arith, codes, append_assoc, append-nil, length-append}
 use Rattle.std.specs.Prelude.{All}
 use Rattle.std.specs.List.{concat}
 use Rattle.std.proofs.lemmas.Bool.Decides.{nat_tests}
@@ -12,12 +12,11 @@ use Rattle.directory.specs.declared.answers.Done.{Done}
 use Rattle.directory.specs.Outcomes.{Outcome}
 use Rattle.report_text.specs.ReportText.{call_line, last_line, report_of}
 use Rattle.report_check.specs.declared.calls.Bounds.{Bounds}
-use Rattle.report_check.specs.declared.slots.Slot.{Slot}
-use Rattle.report_check.specs.Forms.{HasForm, IsCallBelow, ReportsAreRead, slot_told}
-use Rattle.report_check.specs.Reading.{◌>>=◌, and_then, call_in, calls_in, end_in, ended, ends_with, in_order, labelled_in, lines_before_end, lines_more, most, nothing_behind, number_in, numbers_in, or_lines, order_in, order_line_count, orders_in, report_end, report_in, starts_with_digit, word_in}
+use Rattle.report_check.specs.Forms.{IsCallBelow, ReportsAreRead, slot_told}
+use Rattle.report_check.specs.Reading.{◌>>=◌, and_then, call_in, calls_in, ends_with, in_order, lines_before_end, lines_more, most, number_in, numbers_in, or_lines, order_in, order_line_count, orders_in, report_end, report_in, starts_with_digit, word_in}
 use Rattle.report_check.proofs.ReadBack.{call-reads, label-then, number-reads, word-reads, word-then}
 
-concat-append : (xs ys : List (List ℕ)) → concat (xs ++ ys) ≡ concat xs ++ concat ys
+pub concat-append : (xs ys : List (List ℕ)) → concat (xs ++ ys) ≡ concat xs ++ concat ys
 concat-append [] ys = refl
 concat-append (x ∷ xs) ys =
     ap (λ (l : List ℕ). x ++ l) (concat-append xs ys) ∙ sym (append_assoc x (concat xs) (concat ys))
@@ -43,7 +42,7 @@ calls-read bounds before (call ∷ calls) rest few short low =
 -- ---- the order
 
 -- actors that can be written
-abbrev AreSmall : List ℕ → Type 0
+abbrev pub AreSmall : List ℕ → Type 0
 AreSmall ns = All (λ actor. actor < most) ns
 
 -- behind a number of a line no digit comes
@@ -115,7 +114,7 @@ order-ends (suc fuel) before tail stop =
     either (eqb (length before % 64) 0) before tail (word_in (codes "order") tail) _ stop
 
 -- the lines of numbers, cut into at most so many pieces
-abbrev lines_for : ℕ → List ℕ → List ℕ
+abbrev pub lines_for : ℕ → List ℕ → List ℕ
 lines_for most_pieces ns = concat (map order_line (pieces_within most_pieces ns))
 
 -- behind a line that is full another may come, and none behind another
@@ -177,7 +176,7 @@ end-reads outcome low =
     (omega arith) refl (word-then (10 ∷ []) [] [] _ _ refl))
     ∙ same-count (lines_before_end outcome) (length outcome.order) outcome refl
 
-text-parts : (outcome : Outcome)
+pub text-parts : (outcome : Outcome)
     → report_of outcome ≡ concat (map call_line outcome.calls)
     ++ (lines_for (length outcome.order) outcome.order ++ (last_line (length outcome.order) ++ []))
 text-parts outcome =

@@ -1,7 +1,7 @@
 -- Which outcomes have the form of reports: their calls are those of an input's slots, in order, and
 -- their numbers are within what a report may write. A report is read just where it is the text of
 -- such an outcome. Key laws: `reports_are_read` (`ReportsAreRead`: each such text is read as its
--- outcome).
+-- outcome; `ReadReportsAreText`: and no other text is read).
 use Rattle.std.specs.Prelude.{◌≡◌, ℕ, ◌<◌, ◌≤◌, ◌^◌, All, List, map, length, Option, Some, None, Ok}
 use Rattle.directory.specs.declared.answers.Done.{Done}
 use Rattle.directory.specs.declared.answers.Done.TheVariants.{Moved, Switched, Found, Off, Again}
@@ -67,3 +67,10 @@ ReportsAreRead =
     (bounds : Bounds) (slots : List Slot) (outcome : Outcome) → bounds.nodes ≤ 2 ^ 63
     → bounds.levels ≤ 2 ^ 63 → HasForm bounds slots outcome
     → report_in bounds slots (report_of outcome) ≡ Ok outcome
+
+-- a text that is read as an outcome is its text, and the outcome has this form (`reports_are_read`)
+abbrev pub ReadReportsAreText : Type 0
+ReadReportsAreText =
+    (bounds : Bounds) (slots : List Slot) (text : List ℕ) (outcome : Outcome)
+    → bounds.nodes ≤ 2 ^ 63 → bounds.levels ≤ 2 ^ 63 → report_in bounds slots text ≡ Ok outcome
+    → HasForm bounds slots outcome × (text ≡ report_of outcome)
