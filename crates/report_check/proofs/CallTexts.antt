@@ -38,7 +38,7 @@ label-front label limit text found more rest high e later =
     (number-front limit found.0 went.0 found.1 more rest high went.2 later)
 
 -- the value and the rest of a reading
-value-is : {A : Type 0} (x y : A) (text rest : List ℕ)
+pub value-is : {A : Type 0} (x y : A) (text rest : List ℕ)
     → ◌≡◌ {A = Option (A × List ℕ)} (Some (x, text)) (Some (y, rest)) → x ≡ y
 value-is x y text rest e = ap (λ o. first-or x o) e
   where
@@ -46,7 +46,7 @@ value-is x y text rest e = ap (λ o. first-or x o) e
     first-or x None = x
     first-or x (Some p) = p.0
 
-rest-is : {A : Type 0} (x y : A) (text rest : List ℕ)
+pub rest-is : {A : Type 0} (x y : A) (text rest : List ℕ)
     → ◌≡◌ {A = Option (A × List ℕ)} (Some (x, text)) (Some (y, rest)) → text ≡ rest
 rest-is x y text rest e = ap (λ o. second-of o) e
   where
@@ -92,7 +92,7 @@ visits-text text rest v e =
 high : most ≤ 2 ^ 63
 high = omega arith
 
-bind-elim : {A B P : Type 0} (o : Option A) (f : A → Option B) (y : B) → (o >>= f) ≡ Some y
+pub bind-elim : {A B P : Type 0} (o : Option A) (f : A → Option B) (y : B) → (o >>= f) ≡ Some y
     → ((x : A) → o ≡ Some x → f x ≡ Some y → P) → P
 bind-elim None f y e go = let bad : None ≡ Some y = e in cc
 bind-elim (Some x) f y e go = go x refl e

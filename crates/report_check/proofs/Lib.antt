@@ -1,4 +1,8 @@
 mod Steps
+mod ReadBack
+mod ReportRead
+mod CallForms
+mod ReportForms
 mod Turns
 mod Judging
 mod Texts

@@ -163,3 +163,34 @@ number-text limit n text rest high e =
     bind-inv (word_in (codes " ") text) (digits_in limit) (n, rest) e in
     word-text (codes " ") text went.0 went.1
     ∙ ap (λ (xs : List ℕ). 32 ∷ xs) (digits-read limit n went.0 rest (ltb 0 limit) high went.2)
+
+-- a number that is read is below its limit
+first-low : (limit b n : ℕ) (text rest : List ℕ) (z t : Bool) → 0 < limit
+    → ◌≡◌ {A = Option (ℕ × List ℕ)}
+    (cond {A = Option (ℕ × List ℕ)} z (cond {A = Option (ℕ × List ℕ)} (starts_with_digit text) None (Some (0, text)))
+    (cond {A = Option (ℕ × List ℕ)} t (digits_from limit 0 (b ∷ text)) None))
+    (Some (n, rest))
+    → n < limit
+first-low limit b n text rest true t some e = at_zero (starts_with_digit text) e
+  where
+    at_zero : (s : Bool)
+        → ◌≡◌ {A = Option (ℕ × List ℕ)} (cond {A = Option (ℕ × List ℕ)} s None (Some (0, text))) (Some (n, rest))
+        → n < limit
+    at_zero true e = let bad : None ≡ Some (n, rest) = e in cc
+    at_zero false e = subst (λ k. k < limit) (none-read 0 n text rest e).0 some
+first-low limit b n text rest false true some e = (digits-run limit 0 (b ∷ text) n rest e).low some
+first-low limit b n text rest false false some e = let bad : None ≡ Some (n, rest) = e in cc
+
+digits-low : (limit n : ℕ) (text rest : List ℕ) (t : Bool) → ltb 0 limit ≡ t
+    → cond t (digits_of limit text) None ≡ Some (n, rest) → n < limit
+digits-low limit n [] rest true is e = let bad : None ≡ Some (n, rest) = e in cc
+digits-low limit n (b ∷ text) rest true is e =
+    first-low limit b n text rest (eqb b 48) (is_ascii_digit b)
+    (let some : 0 < limit = grind (arith, nat_tests) in some) e
+digits-low limit n text rest false is e = let bad : None ≡ Some (n, rest) = e in cc
+
+pub number-low : (limit n : ℕ) (text rest : List ℕ) → number_in limit text ≡ Some (n, rest) → n < limit
+number-low limit n text rest e =
+    let went : (mid : List ℕ) × (word_in (codes " ") text ≡ Some mid) × (digits_in limit mid ≡ Some (n, rest)) =
+    bind-inv (word_in (codes " ") text) (digits_in limit) (n, rest) e in
+    digits-low limit n went.0 rest (ltb 0 limit) refl went.2

@@ -9,3 +9,4 @@ pub mod Grounds
 pub mod Blocks
 pub mod Examples
 pub mod Laws
+pub mod Forms

@@ -8,6 +8,7 @@ mod checker;
 mod cursor;
 mod cut;
 mod examples;
+mod forms;
 mod judge;
 mod laws;
 mod report;
@@ -21,5 +22,6 @@ pub use examples::{
     example_cuts, example_verdicts, flaws_of_form, flaws_of_place, flaws_of_tickets,
     moves_by_tickets, switches_by_tickets, worked_reports,
 };
+pub use forms::reports_are_read;
 pub use laws::{calls_are_text, numbers_are_text, words_are_text};
 pub use verdict::{Flaw, Verdict, verdict_line};

@@ -20,12 +20,19 @@ use Rattle.scripts.specs.Scripts.{scripts_of}
 use Rattle.census_text.specs.CensusText.{census_text_of, is_place, who_at}
 use Rattle.census_text.specs.TextLaws.{texts-same}
 use Rattle.report_text.specs.ReportText.{report_of}
-use Rattle.track.specs.Results.{IsCensusText, IsReportOver, history_for, in_order, outcome_over, plan_for, setting_for}
+use Rattle.own_reports.specs.Reports.{OwnReportsAreSound}
+use Rattle.report_check.specs.declared.verdict.Verdict.TheVariants.{Sound}
+use Rattle.track.specs.Results.{IsCensusText, IsReportOver, history_for, in_order, outcome_for, outcome_over, plan_for, setting_for, verdict_for}
 use Rattle.track.specs.Results.{setting_over}
 use Rattle.track.proofs.Answering.{plan-nodes}
 use Rattle.scripts.specs.Laws.{ScriptsAreValid}
 use Rattle.scripts.specs.ScriptLaws.{few-nodes}
 use Rattle.stretch_laws.specs.Plans.{PlansTrack}
+
+-- the checker finds no flaw in the report of a valid input, under whatever order
+pub sound-text : OwnReportsAreSound → (contents : Contents) (order : List ℕ) (text : List ℕ) → IsValid contents
+    → text ≡ report_of (outcome_for (in_order contents order)) → verdict_for contents text ≡ Sound
+sound-text own contents order text valid text_is = ap (verdict_for contents) text_is ∙ own contents order valid
 
 pub report-says : (plan : PlanData) (contents : Contents) (order : List ℕ)
     → TellInTurn (outcome_over plan (in_order contents order)).calls

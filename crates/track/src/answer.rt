@@ -12,17 +12,19 @@ ghost use Rattle.track.specs.Bodies.{text_of};
 ghost use Rattle.region_plan.specs.Coverings.{trade_off_of};
 ghost use Rattle.region_plan.specs.Regions.{covered_plan};
 ghost use Rattle.report_text.specs.PlanText.{plan_text_of};
-ghost use Rattle.track.specs.Results.{IsInputText, IsMeanPlanText, IsReportOver, IsResult};
-ghost use Rattle.track.specs.Results.{is_made_alike, network_of, outcome_over};
+ghost use Rattle.track.specs.Results.{IsInputText, IsMeanPlanText, IsReport, IsReportOver, IsResult};
+ghost use Rattle.track.specs.Results.{is_made_alike, network_of, outcome_for, outcome_over};
 
 use crate::census::census;
 use crate::cost::cost_text;
 use crate::status::Status;
 use directory::{Outcome, all_scripts_done};
 use distances::Distances;
+use json_form::input_json;
 use machine::Machine;
 use net_graph::Graph;
 use net_reader::{Input, InputFault, ReadRefusal, Reader, inputs_are_valid};
+use own_reports::own_reports_are_sound;
 use region_plan::{
     Covering, Plan, covered_plan_is_bounding, covered_plan_means, covered_plan_of_same_walks,
     mean_plan_is_small,
@@ -38,6 +40,7 @@ use word_line::Command;
 pub(crate) enum Body {
     Plan(Plan),
     Report(Outcome),
+    Json(Outcome),
     Text(Vec<u8>),
     Refusal(InputFault),
 }
@@ -110,6 +113,19 @@ pub(crate) fn replay(
     Ok(machine.outcome())
 }
 
+// What becomes of an input's calls under its order, over the plan of its network: its report is
+// sound.
+fn own_replay(alloc: Global, input: &Input, graph: &Graph) -> Result<Outcome, AllocError>
+    requires valid { IsValid (seen_input input.now) }
+    requires graph { IsGraphOf input.now.nodes input.now.edges.items graph.now }
+    ensures is { IfOk result (λ outcome. result_of outcome ≡ outcome_for (seen_input input.now)) }
+    ensures report { IfOk result (λ outcome. IsReport (seen_input input.now)
+        (report_of (result_of outcome))) }
+{
+    own_reports_are_sound();
+    replay(alloc, Covering::Phased(input.k), input, graph)
+}
+
 // Plays an order to its end.
 fn play(machine: &mut Machine<'_>, order: &[u32])
     requires stands { HasHistory machine.old [] }
@@ -142,7 +158,7 @@ fn body_of(
         }
         Command::MeanCover => Ok(Body::Plan(mean_cover(alloc, input, graph)?)),
         Command::Replay => {
-            let outcome = replay(alloc, Covering::Phased(input.k), input, graph)?;
+            let outcome = own_replay(alloc, input, graph)?;
             Ok(Body::Report(outcome))
         }
         Command::MeanReplay => {
@@ -151,6 +167,8 @@ fn body_of(
         }
         Command::Census => Ok(Body::Text(census(alloc, input)?)),
         Command::Costs => Ok(Body::Text(cost_text(alloc, input, graph)?)),
+        Command::ToJson => Ok(Body::Text(input_json(alloc, input)?)),
+        Command::ReplayJson => Ok(Body::Json(own_replay(alloc, input, graph)?)),
         _ => unreachable!(),
     }
 }

@@ -16,6 +16,7 @@ use directory::{Outcome, each_visit_is_next};
 use distances::Distances;
 use net_graph::Graph;
 use net_reader::{Input, ReadRefusal, Reader, inputs_are_valid};
+use own_reports::own_reports_are_sound;
 use region_plan::{Plan, plan_means, plan_of_same_walks};
 use runner::{Gate, run_workers};
 use scripts::scripts_are_valid;
@@ -43,6 +44,7 @@ fn run<R: Threads + Sync, G: Gate>(
     outcomes_are_right();
     plans_track();
     plan_outcomes_are_near();
+    own_reports_are_sound();
     scripts_are_valid();
     plan_means();
     plan_of_same_walks();

@@ -11,7 +11,7 @@ use Rattle.scripts.specs.Scripts.{scripts_of}
 use Rattle.trail_laws.specs.Lines.{TellInTurn}
 use Rattle.track.specs.Results.{IsRunReport, in_order, outcome_for, plan_for, setting_for}
 use Rattle.track.proofs.Answering.{if_ok, plan-nodes, plan_of_graph}
-use Rattle.track.proofs.Replaying.{report-says}
+use Rattle.track.proofs.Replaying.{report-says, sound-text}
 use Rattle.track.proofs.run.run.Goals as goal
 
 pub returns : goal.returns
@@ -36,8 +36,10 @@ returns g c =
       order = its.order;
       report = report-says (plan_for contents) contents its.order turn c.outcomes_are_right.ensures.lines
           c.outcomes_are_right.ensures.numbers c.plans_track.ensures c.plan_outcomes_are_near.ensures
-          c.scripts_are_valid.ensures (report_of (result_of made)) c.requires.valid
+          c.scripts_are_valid.ensures c.own_reports_are_sound.ensures (report_of (result_of made)) c.requires.valid
           (plan-nodes c.plan_means.ensures contents c.requires.valid) bounds (ap report_of its.is);
       printed = sym (ap (λ (o : Outcome). o.order) its.is) ∙ its.printed;
+      sound = sound-text contents its.order c.own_reports_are_sound.ensures (report_of (result_of made))
+          c.requires.valid (ap report_of its.is);
     })
     c.run_workers.ensures.outcome

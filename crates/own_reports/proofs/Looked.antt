@@ -1,0 +1,167 @@
+-- The looks of a find: its first ticket and its last are looks of its caller, which put nothing.
+use Rattle.std.proofs.Common.{◌≡◌, ℕ, zero, suc, ◌+◌, ◌-◌, ◌<◌, ◌≤◌, ◌&&◌, Bool, true, false, not, eqb, cond, List, [], ◌∷◌, length, drop, Option, Some, None, refl, ap, sym, ◌∙◌, arith, append-nil, inl, inr}
+use Rattle.std.specs.Prelude.{slice_get, slice_index, flat_map, option_map}
+use Rattle.std.specs.List.{list_any}
+use Rattle.std.proofs.lemmas.Bool.{cases_lt}
+use Rattle.std.proofs.lemmas.Bool.Decides.{nat_tests}
+use Rattle.std.proofs.lemmas.Option.{slice_get-map}
+use Rattle.entry_word.specs.declared.visit.Key.{Key}
+use Rattle.entry_word.specs.declared.visit.Visit.{Visit}
+use Rattle.directory.specs.Settings.{Setting, start, subs}
+use Rattle.directory.specs.Finds.{FindCall, Stage, at_origin, ended, find}
+use Rattle.directory.specs.Histories.{History, before, is_put_for, own, puts_to, through, words_at}
+use Rattle.directory.specs.HistoryLaws.{next-caller, next-sub}
+use Rattle.directory.specs.Looks.{AreLooks, IsFind, first_of, last_of, look_by, moves_at, moves_by}
+use Rattle.directory.specs.Orders.{IsPlayed, Scripts, caller_in, next, next_key, steps_of}
+use Rattle.directory.specs.Courses.{course_at}
+use Rattle.directory.specs.StepLaws.{puts-push, take-more}
+use Rattle.directory.specs.Writes.{Write, entry_at, mark_at, visit_of, writes}
+use Rattle.directory.specs.declared.answers.Done.{Done}
+use Rattle.directory.specs.declared.answers.Found.{Found}
+use Rattle.report_check.specs.Parts.{is_of_move, is_switch_at, meets_from, meets_move}
+use Rattle.own_reports.proofs.Signs.{equal-by, lt-true}
+use Rattle.own_reports.proofs.Order.{actors_of}
+
+-- the visit with a ticket is a look
+abbrev pub IsLook : History → ℕ → Type 0
+IsLook history t = (actor : ℕ) × (key : Key) × (slice_get history t ≡ Some (look_by actor key))
+
+each-look : (setting : Setting) (history : History) (actor : ℕ) (call : FindCall) (earliest : ℕ) (stage : Stage)
+    (seen : List ℕ) (i : ℕ) → AreLooks setting history actor call earliest stage seen → i < length seen
+    → IsLook history (slice_index seen i)
+unfolding AreLooks
+each-look setting history actor call earliest stage [] i looks low = absurd (omega (arith, low))
+each-look setting history actor call earliest stage (t ∷ seen) zero looks low =
+    (actor, looks.1.0, looks.1.2)
+each-look setting history actor call earliest stage (t ∷ seen) (suc i) looks low =
+    each-look setting history actor call (suc t) _ seen i looks.1.3 (omega (arith, low))
+
+some-looks : (setting : Setting) (history : History) (call : FindCall) (found : Found) (seen : List ℕ)
+    → find setting call (flat_map (words_at setting history) seen) ≡ ended found → 0 < length seen
+some-looks setting history call found [] is = let bad : at_origin ≡ ended found = is in cc
+some-looks setting history call found (t ∷ seen) is = omega arith
+
+-- the first visit of a find and its last are looks
+pub ends-look : (setting : Setting) (history : History) (actor : ℕ) (call : FindCall) (found : Found) (seen : List ℕ)
+    → IsFind setting history actor call found seen → IsLook history (first_of seen) × IsLook history (last_of seen)
+ends-look setting history actor call found seen is =
+    let some : 0 < length seen = some-looks setting history call found seen is.answer in (
+      each-look setting history actor call 0 at_origin seen 0 is.looks some,
+      each-look setting history actor call 0 at_origin seen (length seen - 1) is.looks (omega (arith, some)),
+    )
+
+-- a look is of no move
+pub look-moves-not : (history : History) (sub t : ℕ) → IsLook history t → moves_at sub history t ≡ false
+look-moves-not history sub t (actor, key, is) = ap (moves_by sub (before t history)) is
+
+-- what is put through a look was put before it
+pub look-puts-not : (history : History) (sub t : ℕ) → IsLook history t
+    → puts_to sub (through t history) ≡ puts_to sub (before t history)
+look-puts-not history sub t (actor, key, is) =
+    ap (puts_to sub) (take-more history t (look_by actor key) is)
+    ∙ puts-push sub (before t history) (look_by actor key) ∙ append-nil (puts_to sub (before t history))
+
+-- ---- the visits of moves are their subscriber's
+
+and-left : (a b : Bool) → (a && b) ≡ true → a ≡ true
+and-left true b e = refl
+and-left false b e = let bad : false ≡ true = e in cc
+
+mapped-some : {A B : Type 0} (f : A → B) (o : Option A) (y : B) → option_map f o ≡ Some y
+    → (x : A) × (f x ≡ y)
+mapped-some f None y e = let bad : None ≡ Some y = e in cc
+mapped-some f (Some x) y e = (x, let s : f x ≡ y = cc in s)
+
+put-own : (setting : Setting) (scripts : Scripts) (history : History) (sub t : ℕ) (v : Visit)
+    → next setting scripts (before t history) v.actor ≡ Some v → is_put_for sub v.act ≡ true → v.actor ≡ sub
+put-own setting scripts history sub t v is put = elim (cases_lt v.actor (subs setting)) [
+  | inl low ↦
+      let ws : List Write = writes setting (course_at (start setting v.actor)) (steps_of scripts v.actor) in
+      let place : ℕ = length (own v.actor (before t history)) in
+      let made : (w : Write) × (visit_of v.actor w ≡ v) =
+      mapped-some (visit_of v.actor) (slice_get ws place) v
+      (sym (slice_get-map (visit_of v.actor) ws place) ∙ sym (next-sub setting scripts (before t history) v.actor low) ∙ is) in
+      written v.actor made.0 (ap (λ (x : Visit). is_put_for sub x.act) made.1 ∙ put)
+  | inr high ↦
+      let made : (key : Key) × (look_by v.actor key ≡ v) =
+      mapped-some (look_by v.actor) (next_key (caller_in setting scripts (before t history) v.actor)) v
+      (sym (next-caller setting scripts (before t history) v.actor high) ∙ is) in
+      let bad : false ≡ true = ap (λ (x : Visit). is_put_for sub x.act) made.1 ∙ put in cc
+]
+  where
+    written : (actor : ℕ) (w : Write) → is_put_for sub (visit_of actor w).act ≡ true → actor ≡ sub
+    written actor (mark_at node mark) e = equal-by actor sub e
+    written actor (entry_at level cluster address) e = equal-by actor sub e
+
+move-visit : (sub : ℕ) (seen : History) (o : Option Visit) → moves_by sub seen o ≡ true
+    → (v : Visit) × (o ≡ Some v) × (is_put_for sub v.act ≡ true)
+move-visit sub seen None is = let bad : false ≡ true = is in cc
+move-visit sub seen (Some v) is = (v, refl, and-left (is_put_for sub v.act) _ is)
+
+-- a visit of a move is one of its subscriber
+pub move-own : (setting : Setting) (scripts : Scripts) (history : History) (sub t : ℕ)
+    → IsPlayed setting scripts history → moves_at sub history t ≡ true
+    → slice_get (actors_of history) t ≡ Some sub
+move-own setting scripts history sub t played is =
+    let found = move-visit sub (before t history) (slice_get history t) is in
+    slice_get-map (λ (visit : Visit). visit.actor) history t
+    ∙ ap (option_map (λ (visit : Visit). visit.actor)) found.1
+    ∙ ap (λ k. Some k) (put-own setting scripts history sub t found.0 (played t found.0 found.1) found.2)
+
+-- ---- a find that meets a move
+
+test-move : (sub : ℕ) (b : Bool) → b ≡ false → (eqb sub sub && not b) ≡ true
+test-move sub true e = let bad : true ≡ false = e in cc
+test-move sub false e = grind (arith, nat_tests)
+
+meets : (calls : List Done) (sub last from t d : ℕ) (later : List ℕ) → t ≡ from + d → slice_get later d ≡ Some sub
+    → t < last → list_any (is_switch_at t) calls ≡ false → meets_from calls sub last from later ≡ true
+unfolding meets_from
+meets calls sub last from t d [] e is low none = let bad : None ≡ Some sub = is in cc
+meets calls sub last from t zero (actor ∷ later) e is low none =
+    let here : actor ≡ sub = cc in
+    let at : t ≡ from = omega (arith, e) in
+    let test : is_of_move calls sub from actor ≡ true =
+    ap (λ k. is_of_move calls sub from k) here
+    ∙ test-move sub (list_any (is_switch_at from) calls) (ap (λ k. list_any (is_switch_at k) calls) (sym at) ∙ none) in
+    ap (λ b. cond b (cond (is_of_move calls sub from actor) true (meets_from calls sub last (suc from) later)) false)
+    (lt-true from last (omega (arith, at, low)))
+    ∙ ap (λ b. cond b true (meets_from calls sub last (suc from) later)) test
+meets calls sub last from t (suc d) (actor ∷ later) e is low none =
+    let rest : meets_from calls sub last (suc from) later ≡ true =
+    meets calls sub last (suc from) t d later (omega (arith, e)) is low none in
+    ap (λ b. cond b (cond (is_of_move calls sub from actor) true (meets_from calls sub last (suc from) later)) false)
+    (lt-true from last (omega (arith, e, low)))
+    ∙ either (is_of_move calls sub from actor) _ rest
+  where
+    either : (b x : Bool) → x ≡ true → cond b true x ≡ true
+    either true x e = refl
+    either false x e = e
+
+get-drop : {A : Type 0} (xs : List A) (k t d : ℕ) → t ≡ k + d → slice_get (drop k xs) d ≡ slice_get xs t
+get-drop xs zero t d e = ap (slice_get xs) (let s : d ≡ t = omega (arith, e) in s)
+get-drop [] (suc k) t d e = refl
+get-drop (x ∷ xs) (suc k) zero d e = absurd (omega (arith, e))
+get-drop (x ∷ xs) (suc k) (suc t) d e = get-drop xs k t d (omega (arith, e))
+
+-- a visit of a move within a find is one that the checker sees
+pub meets-move : (setting : Setting) (scripts : Scripts) (history : History) (calls : List Done) (sub first last t : ℕ)
+    → IsPlayed setting scripts history → IsLook history first → IsLook history last → first ≤ t → t ≤ last
+    → moves_at sub history t ≡ true → list_any (is_switch_at t) calls ≡ false
+    → meets_move calls (actors_of history) sub first last ≡ true
+meets-move setting scripts history calls sub first last t played one two low high is none =
+    let begin : first < t = strict (other first one) low in
+    let end : t < last = less (other last two) high in
+    meets calls sub last (suc first) t (t - suc first) (drop (suc first) (actors_of history)) (omega (arith, begin))
+    (get-drop (actors_of history) (suc first) t (t - suc first) (omega (arith, begin))
+    ∙ move-own setting scripts history sub t played is) end none
+  where
+    other : (k : ℕ) → IsLook history k → k ≡ t → ⊥
+    other k look same =
+        let bad : false ≡ true = sym (look-moves-not history sub k look) ∙ ap (moves_at sub history) same ∙ is in cc
+
+    strict : (first ≡ t → ⊥) → first ≤ t → first < t
+    strict differs le = omega (arith, differs, le)
+
+    less : (last ≡ t → ⊥) → t ≤ last → t < last
+    less differs le = omega (arith, differs, le)
