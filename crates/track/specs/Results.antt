@@ -5,7 +5,7 @@
 -- summary of its replay.
 -- Key laws: `bytes_have_one_text`, `runs_are_replayed` (a replay under the order that a run printed
 -- writes the same).
-use Rattle.std.specs.Prelude.{◌≡◌, ℕ, ◌-◌, ◌*◌, Bool, true, false, All, List, Option, Some, None, Result, Ok, Err, ◌<◌, length}
+use Rattle.std.specs.Prelude.{◌≡◌, ◌⊎◌, ℕ, ◌-◌, ◌*◌, ◌++◌, ◌∷◌, [], Bool, true, false, All, List, Option, Some, None, Result, Ok, Err, ◌<◌, codes, length}
 use Rattle.net_graph.specs.Network.{Network}
 use Rattle.net_reader.specs.declared.fault.InputFault.{InputFault}
 use Rattle.net_reader.specs.Input.{Contents, IsInput}
@@ -29,6 +29,10 @@ use Rattle.report_text.specs.SummaryText.{summary_of}
 use Rattle.move_cost.specs.Costs.{cost_lines}
 use Rattle.move_cost.specs.CostText.{costs_text_of}
 use Rattle.move_cost.specs.Plans.{IsWithinRate}
+use Rattle.input_text.specs.Listing.{ListingValue, listing_text}
+use Rattle.json_form.specs.Answers.{IsListed, IsNoJson, IsShapeless}
+use Rattle.json_form.specs.Inputs.{input_json_of}
+use Rattle.json_form.specs.Reports.{report_json_of}
 use Rattle.report_text.specs.PlanText.{plan_text_of}
 use Rattle.report_text.specs.ReportText.{refused_line_of, report_of}
 use Rattle.report_check.specs.declared.verdict.Verdict.{Verdict}
@@ -81,6 +85,12 @@ pub record IsReport (contents : Contents) (text : List ℕ) : Type 0 where
   pub near : All (IsLineWithin (bound_of (plan_for contents)) (setting_for contents)
       (history_for contents)) (outcome_for contents).calls
 
+-- the text tells as JSON what becomes of an input's calls under its order, and what a report tells
+-- of them holds: its answers are right, and near
+pub record IsReportJson (contents : Contents) (text : List ℕ) : Type 0 where
+  pub text_is : text ≡ report_json_of (outcome_for contents)
+  pub report : IsReport contents (report_of (outcome_for contents))
+
 -- an input with this order in place of its own
 abbrev pub in_order : Contents → List ℕ → Contents
 in_order contents order = record contents { order = order }
@@ -120,9 +130,9 @@ is_served threads Replay = true
 is_served threads Census = true
 is_served threads Costs = true
 is_served threads Check = true
-is_served threads ToJson = false
-is_served threads FromJson = false
-is_served threads ReplayJson = false
+is_served threads ToJson = true
+is_served threads FromJson = true
+is_served threads ReplayJson = true
 is_served threads MeanCover = false
 is_served threads MeanReplay = false
 is_served threads Run = threads
@@ -136,9 +146,9 @@ is_made_alike Replay = true
 is_made_alike Census = true
 is_made_alike Costs = true
 is_made_alike Check = false
-is_made_alike ToJson = false
+is_made_alike ToJson = true
 is_made_alike FromJson = false
-is_made_alike ReplayJson = false
+is_made_alike ReplayJson = true
 is_made_alike MeanCover = false
 is_made_alike MeanReplay = false
 is_made_alike Run = false
@@ -185,9 +195,9 @@ IsResult Replay contents text = IsReport contents text
 IsResult Census contents text = IsCensusText contents text
 IsResult Costs contents text = IsCostText contents text
 IsResult Check contents text = ⊥
-IsResult ToJson contents text = ⊥
+IsResult ToJson contents text = text ≡ input_json_of contents
 IsResult FromJson contents text = ⊥
-IsResult ReplayJson contents text = ⊥
+IsResult ReplayJson contents text = IsReportJson contents text
 IsResult MeanCover contents text = ⊥
 IsResult MeanReplay contents text = ⊥
 IsResult Run contents text = IsRunReport contents text
@@ -230,14 +240,54 @@ pub record IsJudged (part report : List ℕ) (status : Status) (text : List ℕ)
   pub says : IsInput part input
   pub answer : IsRightVerdict report input status text
 
+-- the text that answers a made text by what it says, and the status that goes with it
+abbrev pub IsMade : List ℕ → Result Contents InputFault → Status → List ℕ → Type 0
+IsMade made (Ok contents) status text = (status ≡ Done) × (text ≡ made)
+IsMade made (Err fault) status text = (status ≡ Refused) × (text ≡ refused_line_of fault)
+
+-- a made text is the answer where it says an input, else the line that refuses it
+pub record IsMadeBy (made : List ℕ) (status : Status) (text : List ℕ) : Type 0 where
+  pub input : Result Contents InputFault
+  pub says : IsInput made input
+  pub answer : IsMade made input status text
+
+-- the bytes are the JSON of a listing, whose text answers
+pub record IsRemade (bytes : List ℕ) (status : Status) (text : List ℕ) : Type 0 where
+  pub listing : ListingValue
+  pub listed : IsListed bytes listing
+  pub made : IsMadeBy (listing_text listing) status text
+
+-- the line that refuses bytes that are no JSON, or JSON without the shape of an input
+abbrev pub no_json_line : List ℕ
+no_json_line = codes "refused 0 json" ++ 10 ∷ []
+
+-- the same
+abbrev pub no_shape_line : List ℕ
+no_shape_line = codes "refused 0 shape" ++ 10 ∷ []
+
+-- the text that answers bytes that should be JSON, and the status that goes with it
+abbrev pub IsJsonAnswer : List ℕ → Status → List ℕ → Type 0
+IsJsonAnswer bytes status text =
+    IsRemade bytes status text
+    ⊎ ((IsShapeless bytes × (status ≡ Refused) × (text ≡ no_shape_line))
+    ⊎ (IsNoJson bytes × (status ≡ Refused) × (text ≡ no_json_line)))
+
+-- the bytes are the JSON of a listing whose text says this input
+pub record SaysByJson (bytes : List ℕ) (contents : Contents) : Type 0 where
+  pub listing : ListingValue
+  pub listed : IsListed bytes listing
+  pub says : IsInput (listing_text listing) (Ok contents)
+
 -- the text of a command over these bytes, and the status that goes with it
 abbrev pub IsText : Command → List ℕ → Status → List ℕ → Type 0
 IsText Check bytes status text = IsJudged (input_part bytes) (report_part bytes) status text
+IsText FromJson bytes status text = IsJsonAnswer bytes status text
 IsText command bytes status text = IsInputText command bytes status text
 
 -- the bytes say this input to a command
 abbrev pub SaysInput : Command → List ℕ → Contents → Type 0
 SaysInput Check bytes contents = IsInput (input_part bytes) (Ok contents)
+SaysInput FromJson bytes contents = SaysByJson bytes contents
 SaysInput command bytes contents = IsInput bytes (Ok contents)
 
 -- the status that goes with the whole text, where the bytes say an input to a command

@@ -16,6 +16,7 @@ use crate::cost::cost_text;
 use crate::status::Status;
 use directory::{Outcome, all_scripts_done};
 use distances::Distances;
+use json_form::input_json;
 use machine::Machine;
 use net_graph::Graph;
 use net_reader::{Input, InputFault, ReadRefusal, Reader, inputs_are_valid};
@@ -31,6 +32,7 @@ use word_line::Command;
 pub(crate) enum Body {
     Plan(Plan),
     Report(Outcome),
+    Json(Outcome),
     Text(Vec<u8>),
     Refusal(InputFault),
 }
@@ -105,6 +107,8 @@ fn body_of(
         Command::Replay => Ok(Body::Report(replay(alloc, input, graph)?)),
         Command::Census => Ok(Body::Text(census(alloc, input)?)),
         Command::Costs => Ok(Body::Text(cost_text(alloc, input, graph)?)),
+        Command::ToJson => Ok(Body::Text(input_json(alloc, input)?)),
+        Command::ReplayJson => Ok(Body::Json(replay(alloc, input, graph)?)),
         _ => unreachable!(),
     }
 }

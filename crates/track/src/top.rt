@@ -1,6 +1,6 @@
 //! The top calls.
 ghost use Rattle.std.specs.Prelude.{◌≡◌, IfErr, IfSome, IsSome, OnOk, false, true};
-ghost use Rattle.word_line.specs.declared.command.Command.TheVariants.{Check, Run};
+ghost use Rattle.word_line.specs.declared.command.Command.TheVariants.{Check, FromJson, Run};
 ghost use Rattle.word_line.specs.Forms.{bytes_of, command_of};
 ghost use Rattle.track.specs.Results.{HasLoad, is_made_alike, is_served, text_alone};
 ghost use Rattle.track.specs.Ends.{EndsAs, EndsIf, Tells, streams};
@@ -8,6 +8,7 @@ ghost use Rattle.track.specs.Transfer.{IsEndOf, write_status};
 ghost use Rattle.track.specs.declared.status.Status.TheVariants.{BadWords, Done};
 
 use crate::answer::make_answer;
+use crate::json::answer_json;
 use crate::judging::judge_parts;
 use crate::run::answer_by_threads;
 use crate::status::Status;
@@ -83,6 +84,29 @@ fn perform_check<S: Source, K: Sink>(alloc: Global, source: &mut S, sink: &mut K
     }
 }
 
+// Reads JSON, and writes the text of the input that it tells.
+fn perform_json<S: Source, K: Sink>(alloc: Global, source: &mut S, sink: &mut K) -> Status
+    ensures ends { EndsAs FromJson result
+        (streams
+        (S.left source.old) (S.faults source.old) (K.written sink.old) (K.faults sink.old))
+        (streams
+        (S.left source.new) (S.faults source.new) (K.written sink.new) (K.faults sink.new)) }
+    ensures rest { IsEndOf (S.left source.old) (S.left source.new) }
+{
+    let text = match read_text(alloc, source, MAX_BYTES) {
+        Ok(text) => text,
+        Err(stop) => return Status::from(stop),
+    };
+    let answer = match answer_json(alloc, &text) {
+        Ok(answer) => answer,
+        Err(AllocError) => return Status::OutOfMemory,
+    };
+    match write_body(alloc, &answer.body, sink) {
+        Ok(()) => answer.status,
+        Err(stop) => Status::from(stop),
+    }
+}
+
 // Reads the input, and writes the report of what threads make of its calls.
 fn perform_by_threads<R: Threads + Sync, S: Source, K: Sink, G: Gate>(
     rt: &R,
@@ -142,18 +166,17 @@ fn serve<S: Source, K: Sink>(
     ensures rest { IsEndOf (S.left source.old) (S.left source.new) }
 {
     match command {
-        Command::Run
-        | Command::ToJson
-        | Command::FromJson
-        | Command::ReplayJson
-        | Command::MeanCover
-        | Command::MeanReplay => Status::BadWords,
+        Command::Run | Command::MeanCover | Command::MeanReplay => Status::BadWords,
         Command::Check => perform_check(alloc, source, sink),
+        Command::FromJson => perform_json(alloc, source, sink),
         Command::Make(load) => status_of(write_made(alloc, load, sink)),
         Command::Trial(load) => status_of(write_trial(alloc, load, sink)),
-        Command::Cover | Command::Replay | Command::Census | Command::Costs => {
-            perform(alloc, command, source, sink)
-        }
+        Command::Cover
+        | Command::Replay
+        | Command::Census
+        | Command::Costs
+        | Command::ToJson
+        | Command::ReplayJson => perform(alloc, command, source, sink),
     }
 }
 
