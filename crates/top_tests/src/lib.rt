@@ -7,6 +7,8 @@ mod device_tests;
 #[cfg(test)]
 mod grammar_tests;
 #[cfg(test)]
+mod json_tests;
+#[cfg(test)]
 mod load_tests;
 #[cfg(test)]
 mod reader_tests;
