@@ -18,8 +18,8 @@ fn push_calls(calls: &mut Vec<ActorCall>, actor: u32, script: &[Call]) -> Result
     Ok(())
 }
 
-// The calls of all scripts, by actor.
-fn calls_by_actor(alloc: Global, scripts: &[Vec<Call>]) -> Result<Vec<ActorCall>, AllocError>
+/// The calls of all scripts, by actor.
+pub fn calls_by_actor(alloc: Global, scripts: &[Vec<Call>]) -> Result<Vec<ActorCall>, AllocError>
     requires { length scripts.now ≤ 4294967295 }
     ensures { IfOk result (λ calls. calls.items
         ≡ calls_from 0 (map (λ script. script.items) scripts.now)) }

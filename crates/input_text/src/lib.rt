@@ -9,7 +9,7 @@ mod listing;
 mod scripts;
 
 pub use examples::example_texts;
-pub use input::input_text;
+pub use input::{calls_by_actor, input_text};
 pub use laws::{inputs_read, listings_read};
 pub use lines::{InputLines, listing_text};
 pub use listing::{ActorCall, Listing};

@@ -1,7 +1,7 @@
--- Short fields that are kept, and a text that is written over the bytes behind a line.
-use Rattle.std.proofs.Common.{◌≡◌, ℕ, ◌+◌, ◌≤◌, List, [], ◌∷◌, ◌++◌, length, ◌-◌, get_or, take, drop, refl, sym, ◌∙◌, ap, subst, inl, inr, arith}
+-- Short fields that are kept, and what is written over the bytes behind a line.
+use Rattle.std.proofs.Common.{◌≡◌, ℕ, ◌+◌, ◌<◌, ◌≤◌, List, [], ◌∷◌, ◌++◌, length, ◌-◌, get_or, set, take, drop, refl, sym, ◌∙◌, ap, subst, inl, inr, arith}
 use Rattle.std.proofs.lemmas.List.{get_or-append_right, get_or_append_left, length-append, length-take, take-append-le}
-use Rattle.std.proofs.Math.Seq.{take-append-add}
+use Rattle.std.proofs.Math.Seq.{set-append_seam, take-append-add, take-set-lt}
 use Rattle.std.proofs.lemmas.Bool.{cases_lt}
 use borrow.Rule.Slice.PartMut.{put_mid}
 use Rattle.text_line.specs.Shorts.{AreShort, IsShort}
@@ -30,3 +30,12 @@ one_more_short shorts more short so_far is grown = subst AreShort (sym grown) (�
           subst (λ i. IsShort i (get_or (shorts ++ short ∷ []) i [])) (sym last)
           (subst (IsShort (length shorts)) (sym found) is)
     ])
+
+-- the blank of a field that was written, and another byte in its place
+pub other_byte : (line bytes text : List ℕ) (at end byte : ℕ) → length line ≡ at → at < end
+    → take end bytes ≡ line ++ 32 ∷ text → take end (set bytes at byte) ≡ line ++ byte ∷ text
+other_byte line bytes text at end byte is below written =
+    take-set-lt end bytes at byte below
+    ∙ ap (λ xs. set xs at byte) written
+    ∙ ap (λ i. set (line ++ 32 ∷ text) i byte) (sym is)
+    ∙ set-append_seam line 32 text byte

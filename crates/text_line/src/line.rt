@@ -231,6 +231,18 @@ impl Line {
         };
     }
 
+    // A byte, and a number behind it.
+    #[inline(always)]
+    pub fn number_after(&mut self, byte: u8, number: u64)
+        requires { length self.old + 41 ≤ 4096 }
+        ensures text { self.new ≡ self.old ++ byte ∷ decimal number }
+        ensures long { length self.new ≤ length self.old + 41 }
+    {
+        let at = self.end;
+        self.number(number);
+        self.bytes[at] = byte;
+    }
+
     // Numbers, each behind a blank.
     pub fn numbers(&mut self, numbers: &[u32])
         requires { length self.old + 41 * length numbers.now ≤ 4096 }

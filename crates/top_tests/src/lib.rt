@@ -9,6 +9,8 @@ mod foreign_reports;
 #[cfg(test)]
 mod grammar_tests;
 #[cfg(test)]
+mod json_tests;
+#[cfg(test)]
 mod load_tests;
 #[cfg(test)]
 mod reader_tests;

@@ -9,11 +9,12 @@ use Rattle.report_check.specs.declared.verdict.Verdict.{Verdict}
 use Rattle.report_check.specs.declared.verdict.Verdict.TheVariants as verdicts
 use Rattle.report_check.specs.Cuts.{input_part, report_part}
 use Rattle.report_check.specs.Verdicts.{most_bytes as most_text_bytes}
+use Rattle.input_text.specs.Listing.{listing_text}
 use Rattle.word_line.specs.declared.command.Command.{Command}
 use Rattle.word_line.specs.declared.command.Command.TheVariants as commands
 use Rattle.track.specs.declared.status.Status.{Status}
 use Rattle.track.specs.declared.status.Status.TheVariants as statuses
-use Rattle.track.specs.Results.{IsInputText, IsJudged, IsRightAnswer, IsRightVerdict, IsText, is_made_alike, verdict_for, verdict_status}
+use Rattle.track.specs.Results.{IsInputText, IsJsonAnswer, IsJudged, IsMade, IsRightAnswer, IsRightVerdict, IsText, is_made_alike, verdict_for, verdict_status}
 use Rattle.track.specs.Ends.{EndsAs, EndsDone, IsBegun, IsLong, IsShort, IsTextWritten, Streams, streams}
 use Rattle.track.specs.Transfer.{IsAllRead, IsTextRead, StopsReading, StopsWriting, read_status, write_status}
 use Rattle.track.specs.declared.stop.ReadStop.{ReadStop}
@@ -47,10 +48,22 @@ status_of_judged : (report : List ℕ) (input : Result Contents InputFault) (sta
 status_of_judged report (Ok contents) status text h = status_of_verdict (verdict_for contents report) status h.0
 status_of_judged report (Err fault) status text h = inr (inl h.0)
 
+status_of_made : (made : List ℕ) (input : Result Contents InputFault) (status : Status) (text : List ℕ)
+    → IsMade made input status text → IsTold status
+status_of_made made (Ok contents) status text h = inl h.0
+status_of_made made (Err fault) status text h = inr (inl h.0)
+
+status_of_json : (bytes : List ℕ) (status : Status) (text : List ℕ) → IsJsonAnswer bytes status text → IsTold status
+status_of_json bytes status text (inl h) =
+    status_of_made (listing_text h.listing) h.made.input status text h.made.answer
+status_of_json bytes status text (inr (inl h)) = inr (inl h.1)
+status_of_json bytes status text (inr (inr h)) = inr (inl h.1)
+
 -- the status that goes with a text
 status_of_text : (command : Command) (bytes : List ℕ) (status : Status) (text : List ℕ)
     → IsText command bytes status text → IsTold status
 status_of_text commands.Check bytes status text is = status_of_judged (report_part bytes) is.input status text is.answer
+status_of_text commands.FromJson bytes status text is = status_of_json bytes status text is
 status_of_text command bytes status text is =
     status_of_answer command is.input status text is.answer
 
@@ -64,6 +77,7 @@ pub record IsPlain (command : Command) : Type 0 where
 -- they are to those that make always the same of one, and to a run
 pub is_plain : (command : Command) → is_made_alike command ≡ true → IsPlain command
 is_plain commands.Check alike = cc
+is_plain commands.FromJson alike = cc
 is_plain command alike = record { short = λ bytes is. is; long = λ bytes is. is; text = λ bytes status text is. is }
 
 pub is_plain_run : IsPlain commands.Run
@@ -203,3 +217,31 @@ pub begun-check : (bytes part report : List ℕ) (status : Status) (stop : Write
 begun-check bytes part report status stop text left left' rf rf' written written' wf wf' all p r short h w =
     begun-bytes commands.Check status stop text bytes left left' rf rf' written written' wf wf' all.parts all.end
     all.no_fault (part-short bytes part p short all.short) (judged-text bytes part report status text p r h) w
+
+-- ---- JSON
+
+-- reading stopped
+pub stopped-json : (stop : ReadStop) (left left' : Option (List ℕ)) (rf rf' : ℕ) (written : Option (List ℕ)) (wf : ℕ)
+    → StopsReading most_bytes stop left rf rf'
+    → EndsAs commands.FromJson (read_status stop) (streams left rf written wf) (streams left' rf' written wf)
+stopped-json reading.OutOfMemory left left' rf rf' written wf h = ((refl, refl), h)
+stopped-json reading.Failed left left' rf rf' written wf h = ((refl, refl), h)
+stopped-json reading.TooLong left left' rf rf' written wf h = ((refl, refl), h.1, h.0)
+
+pub done-json : (bytes : List ℕ) (status : Status) (text : List ℕ) (left left' : Option (List ℕ))
+    (rf rf' : ℕ) (written written' : Option (List ℕ)) (wf wf' : ℕ)
+    → IsTextRead most_bytes bytes left left' rf rf' → IsJsonAnswer bytes status text
+    → written' ≡ append_known written text → wf' ≡ wf
+    → EndsAs commands.FromJson status (streams left rf written wf) (streams left' rf' written' wf')
+done-json bytes status text left left' rf rf' written written' wf wf' all h w f =
+    done-bytes commands.FromJson status text bytes left left' rf rf' written written' wf wf' all.parts all.end
+    all.no_fault all.short h w f
+
+pub begun-json : (bytes : List ℕ) (status : Status) (stop : WriteStop) (text : List ℕ)
+    (left left' : Option (List ℕ)) (rf rf' : ℕ) (written written' : Option (List ℕ)) (wf wf' : ℕ)
+    → IsTextRead most_bytes bytes left left' rf rf' → IsJsonAnswer bytes status text
+    → StopsWriting stop text written written' wf wf'
+    → EndsAs commands.FromJson (write_status stop) (streams left rf written wf) (streams left' rf' written' wf')
+begun-json bytes status stop text left left' rf rf' written written' wf wf' all h w =
+    begun-bytes commands.FromJson status stop text bytes left left' rf rf' written written' wf wf' all.parts all.end
+    all.no_fault all.short h w

@@ -3,7 +3,9 @@ use Rattle.std.proofs.Common.{◌≡◌, ◌⊎◌, inl, inr, ℕ, true, false, 
 use Rattle.std.specs.Prelude.{IfSome}
 use Rattle.outside.specs.Calls.{HasFaulted}
 use Rattle.net_reader.specs.declared.fault.InputFault.{InputFault}
-use Rattle.net_reader.specs.Input.{Contents}
+use Rattle.input_text.specs.Listing.{ListingValue, listing_text}
+use Rattle.json_form.specs.Laws.{NotRefused, OneCause, OneListing}
+use Rattle.net_reader.specs.Input.{Contents, IsInput}
 use Rattle.net_reader.specs.Laws.{TextSaysOne}
 use Rattle.report_check.specs.Cuts.{input_part, report_part}
 use Rattle.report_text.specs.ReportText.{report_of}
@@ -11,7 +13,7 @@ use Rattle.word_line.specs.declared.command.Command.{Command}
 use Rattle.word_line.specs.declared.command.Command.TheVariants as commands
 use Rattle.track.specs.declared.status.Status.{Status}
 use Rattle.track.specs.declared.status.Status.TheVariants as statuses
-use Rattle.track.specs.Results.{IsInputText, IsJudged, IsRightAnswer, IsRightVerdict, IsResult, IsRunReport, IsText, SaysInput, in_order, is_served, outcome_for, verdict_for, verdict_status, whole_status}
+use Rattle.track.specs.Results.{IsInputText, IsJsonAnswer, IsJudged, IsMade, IsMadeBy, SaysByJson, IsRightAnswer, IsRightVerdict, IsResult, IsRunReport, IsText, SaysInput, in_order, is_served, outcome_for, verdict_for, verdict_status, whole_status}
 use Rattle.track.specs.Ends.{EndsAs, EndsDone, IsLong, IsShort, IsTextWritten, Streams}
 use Rattle.track.specs.Laws.{BytesHaveOneText, IsCompleteAlone, RunsAreReplayed}
 
@@ -22,9 +24,9 @@ same_result commands.Replay contents one other served p q = p.text_is ∙ sym q.
 same_result commands.Census contents one other served p q = p.text_is ∙ sym q.text_is
 same_result commands.Costs contents one other served p q = p.text_is ∙ sym q.text_is
 same_result commands.Check contents one other served p q = absurd p
-same_result commands.ToJson contents one other served p q = absurd p
+same_result commands.ToJson contents one other served p q = p ∙ sym q
 same_result commands.FromJson contents one other served p q = absurd p
-same_result commands.ReplayJson contents one other served p q = absurd p
+same_result commands.ReplayJson contents one other served p q = p.text_is ∙ sym q.text_is
 same_result commands.MeanCover contents one other served p q = p.text_is ∙ sym q.text_is
 same_result commands.MeanReplay contents one other served p q = p.text_is ∙ sym q.text_is
 same_result commands.Run contents one other served p q = cc
@@ -61,10 +63,44 @@ one_verdict says part report s t one other p q =
     (subst (λ (input : Result Contents InputFault). IsRightVerdict report input s one)
     (says part p.input q.input p.says q.says) p.answer) q.answer
 
-pub one_text : TextSaysOne → BytesHaveOneText
-one_text says commands.Check bytes s t one other served p q =
+-- JSON is of one listing, and is refused for one cause, or for none
+pub record JsonIsOne : Type 0 where
+  pub listing : OneListing
+  pub right : NotRefused
+  pub cause : OneCause
+
+same_made : (made : List ℕ) (input : Result Contents InputFault) (s t : Status) (one other : List ℕ)
+    → IsMade made input s one → IsMade made input t other → (s ≡ t) × (one ≡ other)
+same_made made (Ok contents) s t one other p q = (p.0 ∙ sym q.0, p.1 ∙ sym q.1)
+same_made made (Err fault) s t one other p q = (p.0 ∙ sym q.0, p.1 ∙ sym q.1)
+
+one_made : TextSaysOne → (made : List ℕ) (s t : Status) (one other : List ℕ)
+    → IsMadeBy made s one → IsMadeBy made t other → (s ≡ t) × (one ≡ other)
+one_made says made s t one other p q =
+    same_made made q.input s t one other
+    (subst (λ (input : Result Contents InputFault). IsMade made input s one)
+    (says made p.input q.input p.says q.says) p.answer) q.answer
+
+one_json : TextSaysOne → JsonIsOne → (bytes : List ℕ) (s t : Status) (one other : List ℕ)
+    → IsJsonAnswer bytes s one → IsJsonAnswer bytes t other → (s ≡ t) × (one ≡ other)
+one_json says json bytes s t one other (inl p) (inl q) =
+    one_made says (listing_text q.listing) s t one other
+    (subst (λ (l : ListingValue). IsMadeBy (listing_text l) s one)
+    (json.listing bytes p.listing q.listing p.listed q.listed) p.made) q.made
+one_json says json bytes s t one other (inl p) (inr (inl q)) = absurd ((json.right bytes p.listing p.listed).1 q.0)
+one_json says json bytes s t one other (inl p) (inr (inr q)) = absurd ((json.right bytes p.listing p.listed).0 q.0)
+one_json says json bytes s t one other (inr (inl p)) (inl q) = absurd ((json.right bytes q.listing q.listed).1 p.0)
+one_json says json bytes s t one other (inr (inl p)) (inr (inl q)) = (p.1 ∙ sym q.1, p.2 ∙ sym q.2)
+one_json says json bytes s t one other (inr (inl p)) (inr (inr q)) = absurd (json.cause bytes p.0 q.0)
+one_json says json bytes s t one other (inr (inr p)) (inl q) = absurd ((json.right bytes q.listing q.listed).0 p.0)
+one_json says json bytes s t one other (inr (inr p)) (inr (inl q)) = absurd (json.cause bytes q.0 p.0)
+one_json says json bytes s t one other (inr (inr p)) (inr (inr q)) = (p.1 ∙ sym q.1, p.2 ∙ sym q.2)
+
+pub one_text : TextSaysOne → JsonIsOne → BytesHaveOneText
+one_text says json commands.Check bytes s t one other served p q =
     one_verdict says (input_part bytes) (report_part bytes) s t one other p q
-one_text says command bytes s t one other served p q =
+one_text says json commands.FromJson bytes s t one other served p q = one_json says json bytes s t one other p q
+one_text says json command bytes s t one other served p q =
     one_input_text says command bytes s t one other served p q
 
 of_some : (P : List ℕ → Type 0) (o : Option (List ℕ)) (bytes : List ℕ) → o ≡ Some bytes → IfSome o P → P bytes
@@ -83,25 +119,44 @@ judged_input report (Ok other) contents status text e h =
     h.0 ∙ ap (λ (c : Contents). verdict_status (verdict_for c report)) same
 judged_input report (Err fault) contents status text e h = cc
 
+made_input : (made : List ℕ) (input : Result Contents InputFault) (contents : Contents) (status : Status)
+    (text : List ℕ) → input ≡ Ok contents → IsMade made input status text → status ≡ statuses.Done
+made_input made (Ok other) contents status text e h = h.0
+made_input made (Err fault) contents status text e h = cc
+
+remade_input : TextSaysOne → JsonIsOne → (bytes : List ℕ) (status : Status) (text : List ℕ) (contents : Contents)
+    → IsJsonAnswer bytes status text → SaysByJson bytes contents → status ≡ statuses.Done
+remade_input says json bytes status text contents (inl h) input =
+    let same = json.listing bytes input.listing h.listing input.listed h.listed in
+    made_input (listing_text h.listing) h.made.input contents status text
+    (says (listing_text h.listing) h.made.input (Ok contents) h.made.says
+    (subst (λ (l : ListingValue). IsInput (listing_text l) (Ok contents)) same input.says)) h.made.answer
+remade_input says json bytes status text contents (inr (inl h)) input =
+    absurd ((json.right bytes input.listing input.listed).1 h.0)
+remade_input says json bytes status text contents (inr (inr h)) input =
+    absurd ((json.right bytes input.listing input.listed).0 h.0)
+
 -- the status of bytes that say an input to a command
-status_is : TextSaysOne → (command : Command) (bytes : List ℕ) (status : Status) (text : List ℕ) (contents : Contents)
+status_is : TextSaysOne → JsonIsOne → (command : Command) (bytes : List ℕ) (status : Status) (text : List ℕ) (contents : Contents)
     → IsText command bytes status text → SaysInput command bytes contents
     → status ≡ whole_status command bytes contents
-status_is says commands.Check bytes status text contents right input =
+status_is says json commands.Check bytes status text contents right input =
     judged_input (report_part bytes) right.input contents status text
     (says (input_part bytes) right.input (Ok contents) right.says input) right.answer
-status_is says command bytes status text contents right input =
+status_is says json commands.FromJson bytes status text contents right input =
+    remade_input says json bytes status text contents right input
+status_is says json command bytes status text contents right input =
     done_input command right.input contents status text (says bytes right.input (Ok contents) right.says input)
     right.answer
 
 -- what was written whole has that status
-whole_is : TextSaysOne → (command : Command) (status : Status) (before now : Streams) (bytes : List ℕ) (contents
+whole_is : TextSaysOne → JsonIsOne → (command : Command) (status : Status) (before now : Streams) (bytes : List ℕ) (contents
     : Contents) → EndsDone command status before now → before.left ≡ Some bytes → SaysInput command bytes contents
     → status ≡ whole_status command bytes contents
-whole_is says command status before now bytes contents h left input =
+whole_is says json command status before now bytes contents h left input =
     let written = of_some (λ bytes. IsTextWritten command status bytes before.written now.written) before.left bytes
     left h.0 in
-    status_is says command bytes status written.text contents written.right input
+    status_is says json command bytes status written.text contents written.right input
 
 -- the bytes of a command aren't both too many and not too many
 short_or_long : (command : Command) (bytes : List ℕ) → IsShort command bytes → IsLong command bytes → ⊥
@@ -109,23 +164,23 @@ short_or_long commands.Check bytes short (inl long) = omega (arith, short.0, lon
 short_or_long commands.Check bytes short (inr long) = omega (arith, short.1, long)
 short_or_long command bytes short long = omega (arith, short, long)
 
-pub is_complete : TextSaysOne → (command : Command) (status : Status) (before now : Streams) (bytes : List ℕ) (contents
+pub is_complete : TextSaysOne → JsonIsOne → (command : Command) (status : Status) (before now : Streams) (bytes : List ℕ) (contents
     : Contents)
     → EndsAs command status before now → before.left ≡ Some bytes → IsShort command bytes
     → SaysInput command bytes contents
     → (HasFaulted before.read_faults now.read_faults → ⊥) → (HasFaulted before.write_faults now.write_faults → ⊥)
     → (status ≡ whole_status command bytes contents) ⊎ (status ≡ statuses.OutOfMemory)
-is_complete says command statuses.Done before now bytes contents h left short input r w =
-    inl (whole_is says command statuses.Done before now bytes contents h left input)
-is_complete says command statuses.Refused before now bytes contents h left short input r w =
-    inl (whole_is says command statuses.Refused before now bytes contents h left input)
-is_complete says command statuses.Unsound before now bytes contents h left short input r w =
-    inl (whole_is says command statuses.Unsound before now bytes contents h left input)
-is_complete says command statuses.BadWords before now bytes contents h left short input r w = absurd h
-is_complete says command statuses.OutOfMemory before now bytes contents h left short input r w = inr refl
-is_complete says command statuses.ReadFailed before now bytes contents h left short input r w = absurd (r h.1.0)
-is_complete says command statuses.WriteFailed before now bytes contents h left short input r w = absurd (w h.0.0)
-is_complete says command statuses.TooLong before now bytes contents h left short input r w =
+is_complete says json command statuses.Done before now bytes contents h left short input r w =
+    inl (whole_is says json command statuses.Done before now bytes contents h left input)
+is_complete says json command statuses.Refused before now bytes contents h left short input r w =
+    inl (whole_is says json command statuses.Refused before now bytes contents h left input)
+is_complete says json command statuses.Unsound before now bytes contents h left short input r w =
+    inl (whole_is says json command statuses.Unsound before now bytes contents h left input)
+is_complete says json command statuses.BadWords before now bytes contents h left short input r w = absurd h
+is_complete says json command statuses.OutOfMemory before now bytes contents h left short input r w = inr refl
+is_complete says json command statuses.ReadFailed before now bytes contents h left short input r w = absurd (r h.1.0)
+is_complete says json command statuses.WriteFailed before now bytes contents h left short input r w = absurd (w h.0.0)
+is_complete says json command statuses.TooLong before now bytes contents h left short input r w =
     absurd (short_or_long command bytes short (of_some (λ bytes. IsLong command bytes) before.left bytes left h.2))
 
 pub is_complete_alone : IsCompleteAlone

@@ -1,12 +1,14 @@
 //! What holds of every call. Each public function is a law, and does nothing.
 ghost use Rattle.track.specs.Laws.{BytesHaveOneText, IsComplete, IsCompleteAlone, RunsAreReplayed};
 
+use json_form::one_text;
 use net_reader::text_says_one;
 
 /// To a command that is served without threads, bytes have one text and one status only.
 pub fn bytes_have_one_text()
     ensures { BytesHaveOneText }
 {
+    one_text();
     text_says_one();
 }
 
@@ -16,6 +18,7 @@ pub fn complete()
     ensures input { IsComplete }
     ensures alone { IsCompleteAlone }
 {
+    one_text();
     text_says_one();
 }
 

@@ -4,6 +4,7 @@
 mod answer;
 mod census;
 mod cost;
+mod json;
 mod judging;
 mod laws;
 mod outlet;

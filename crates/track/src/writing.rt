@@ -10,6 +10,7 @@ use crate::outlet::Outlet;
 use crate::stop::WriteStop;
 use crate::transfer::write_all;
 use directory::Outcome;
+use json_form::ReportParts;
 use net_reader::InputFault;
 use outside::Sink;
 use region_plan::Plan;
@@ -54,6 +55,25 @@ fn write_parts<K: Sink>(
     outlet.flush(sink)
 }
 
+// The parts of a report's JSON into the sink, through the outlet.
+fn write_json<K: Sink>(
+    parts: &mut ReportParts<'_>,
+    outlet: &mut Outlet,
+    sink: &mut K,
+) -> Result<(), WriteStop>
+    requires { outlet.old ≡ [] }
+    ensures all { OnOk result (K.written sink.new
+        ≡ append_known (K.written sink.old) parts.old.left) }
+    ensures no_fault { OnOk result (K.faults sink.new ≡ K.faults sink.old) }
+    ensures stops { IfErr result (λ stop. StopsWriting stop parts.old.left
+        (K.written sink.old) (K.written sink.new) (K.faults sink.old) (K.faults sink.new)) }
+{
+    'parts: while parts.advance() {
+        outlet.pass_on(sink, parts.part())?;
+    }
+    outlet.flush(sink)
+}
+
 // The text of an answer into the sink. All memory is taken before the first byte is written.
 pub(crate) fn write_body<K: Sink>(alloc: Global, body: &Body, sink: &mut K) -> Result<(), WriteStop>
     ensures all { OnOk result (K.written sink.new
@@ -71,6 +91,10 @@ pub(crate) fn write_body<K: Sink>(alloc: Global, body: &Body, sink: &mut K) -> R
         Body::Report(outcome) => {
             let mut lines = Lines::new(alloc, outcome)?;
             write_lines(&mut lines, &mut outlet, sink)
+        }
+        Body::Json(outcome) => {
+            let mut parts = ReportParts::new(alloc, outcome)?;
+            write_json(&mut parts, &mut outlet, sink)
         }
         Body::Text(text) => write_all(sink, text),
         Body::Refusal(fault) => {

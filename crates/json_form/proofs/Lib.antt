@@ -1,0 +1,11 @@
+mod Each
+mod Fed
+mod Listings
+mod Members
+mod Orders
+mod Pieces
+mod Readable
+mod Refused
+mod Return
+mod Small
+mod Texts

@@ -1,0 +1,15 @@
+use Rattle.std.proofs.Common.{arith, rules}
+use Rattle.json_form.proofs.Members.{all-left}
+use Rattle.json_form.proofs.values.take_all.Goals as goal
+
+pub returns-then-not-is_empty-clause-none : goal.returns-then-not-is_empty-clause-none
+returns-then-not-is_empty-clause-none c = rw (
+  c.in_ok-callers.ensures.some,
+  c.in_ok-calls.ensures.some,
+  c.in_ok-edges.ensures.some,
+  c.in_ok-k.ensures.some,
+  c.in_ok-nodes.ensures.some,
+  c.take_order-order.ensures,
+  c.in_ok-subs.ensures.some,
+  c.in_ok-track.ensures.some,
+) (all-left c.take_member-7.new.members.entries _ (grind (arith, rules, c.is_empty.ensures, c.if-not-is_empty.true)))

@@ -1,0 +1,351 @@
+//! The JSON of a report, part by part.
+ghost use Rattle.std.specs.Prelude.{◌≡◌, ◌≢◌, ◌<◌, ◌≤◌, ◌+◌, ◌++◌, [], length, true, false, IfOk, codes};
+ghost use Rattle.std.specs.List.{concat};
+ghost use Rattle.directory.specs.Outcomes.{result_of};
+ghost use Rattle.json_form.specs.declared.report.Stage.TheVariants as stages;
+ghost use Rattle.json_form.specs.Left.{answer_pieces, calls_left, done_pieces, null_text, off_text, order_left, text_left, why_node_text, why_text};
+ghost use Rattle.json_form.specs.Reports.{report_json_of};
+
+use crate::lists::{write_closing, write_member, write_numbers, write_opening, write_small};
+use directory::{Done, Outcome, Why};
+use std::alloc::{AllocError, Global};
+use std::marker::Model;
+use text_line::Line;
+
+// One field is made beforehand for so many visits, so that making them costs less than it saves.
+const VISITS_A_FIELD: usize = 8;
+
+// What a find answers, and which visits it made.
+#[derive(Clone, Copy, Debug)]
+struct Answer {
+    from: u32,
+    sub: u32,
+    node: u32,
+    number: u32,
+    level: Option<u32>,
+    weight: u64,
+    first: u64,
+    last: u64,
+}
+
+// A find that answers, behind its actor.
+fn write_answer(line: &mut Line, kind: &str, answer: Answer)
+    requires begun { length line.old ≤ 60 }
+    requires kind { length kind.now ≤ 20 }
+    ensures { line.new ≡ line.old ++ concat (answer_pieces kind.now answer.from answer.sub
+        answer.node answer.number answer.level answer.weight answer.first answer.last) }
+{
+    write_member(line, ",\"first\"", answer.first);
+    write_small(line, ",\"from\"", answer.from);
+    line.word(kind);
+    write_member(line, ",\"last\"", answer.last);
+    write_level(line, answer.level);
+    write_small(line, ",\"node\"", answer.node);
+    write_small(line, ",\"number\"", answer.number);
+    write_small(line, ",\"sub\"", answer.sub);
+    write_member(line, ",\"weight\"", answer.weight);
+    line.word("}");
+}
+
+// The level of a find that climbed, or null.
+fn write_level(line: &mut Line, level: Option<u32>)
+    requires { length line.old ≤ 1000 }
+    ensures text { line.new ≡ line.old ++ null_text (codes ",\"level\"") level }
+    ensures long { length line.new ≤ length line.old + 60 }
+{
+    match level {
+        Some(level) => write_small(line, ",\"level\"", level),
+        None => line.word(",\"level\":null"),
+    }
+}
+
+// The node that had no mark, or null.
+fn write_why_node(line: &mut Line, why: Why)
+    requires { length line.old ≤ 1000 }
+    ensures text { line.new ≡ line.old ++ why_node_text why }
+    ensures long { length line.new ≤ length line.old + 60 }
+{
+    match why {
+        Why::Empty { node } => write_small(line, ",\"node\"", node),
+        Why::NoEntry | Why::Chased => line.word(",\"node\":null"),
+    }
+}
+
+// Why a find has to be made again.
+fn write_why(line: &mut Line, why: Why)
+    requires { length line.old ≤ 1000 }
+    ensures { line.new ≡ line.old ++ why_text why }
+{
+    line.word(match why {
+        Why::Empty { .. } => ",\"why\":\"empty\"}",
+        Why::NoEntry => ",\"why\":\"none\"}",
+        Why::Chased => ",\"why\":\"chased\"}",
+    });
+}
+
+// Whether a switch goes off.
+fn write_off(line: &mut Line, off: bool)
+    requires { length line.old ≤ 1000 }
+    ensures text { line.new ≡ line.old ++ off_text off }
+    ensures long { length line.new ≤ length line.old + 60 }
+{
+    line.word(if off {
+        ",\"off\":true"
+    } else {
+        ",\"off\":false"
+    });
+}
+
+// What became of a call, behind what stands before it.
+fn write_done(line: &mut Line, call: &Done)
+    requires { length line.old ≤ 1 }
+    ensures { line.new ≡ line.old ++ concat (done_pieces call.now) }
+{
+    match *call {
+        Done::Moved {
+            actor,
+            number,
+            from,
+            to,
+            weight,
+            first,
+            commit,
+            last,
+        } => {
+            write_small(line, "{\"actor\"", actor);
+            write_member(line, ",\"commit\"", commit);
+            write_member(line, ",\"first\"", first);
+            write_small(line, ",\"from\"", from);
+            line.word(",\"kind\":\"move\"");
+            write_member(line, ",\"last\"", last);
+            write_small(line, ",\"number\"", number);
+            write_small(line, ",\"to\"", to);
+            write_member(line, ",\"weight\"", weight);
+            line.word("}");
+        }
+        Done::Switched {
+            actor,
+            off,
+            node,
+            number,
+            ticket,
+        } => {
+            write_small(line, "{\"actor\"", actor);
+            line.word(",\"kind\":\"switch\"");
+            write_small(line, ",\"node\"", node);
+            write_small(line, ",\"number\"", number);
+            write_off(line, off);
+            write_member(line, ",\"ticket\"", ticket);
+            line.word("}");
+        }
+        Done::Found {
+            actor,
+            from,
+            sub,
+            node,
+            number,
+            level,
+            weight,
+            first,
+            last,
+        } => {
+            write_small(line, "{\"actor\"", actor);
+            let answer = Answer {
+                from,
+                sub,
+                node,
+                number,
+                level,
+                weight,
+                first,
+                last,
+            };
+            write_answer(line, ",\"kind\":\"find\"", answer);
+        }
+        Done::Off {
+            actor,
+            from,
+            sub,
+            node,
+            number,
+            level,
+            weight,
+            first,
+            last,
+        } => {
+            write_small(line, "{\"actor\"", actor);
+            let answer = Answer {
+                from,
+                sub,
+                node,
+                number,
+                level,
+                weight,
+                first,
+                last,
+            };
+            write_answer(line, ",\"kind\":\"off\"", answer);
+        }
+        Done::Again {
+            actor,
+            from,
+            sub,
+            why,
+            weight,
+            first,
+            last,
+        } => {
+            write_small(line, "{\"actor\"", actor);
+            write_member(line, ",\"first\"", first);
+            write_small(line, ",\"from\"", from);
+            line.word(",\"kind\":\"again\"");
+            write_member(line, ",\"last\"", last);
+            write_why_node(line, why);
+            write_small(line, ",\"sub\"", sub);
+            write_member(line, ",\"weight\"", weight);
+            write_why(line, why);
+        }
+    }
+}
+
+// What comes next: the head, a call or the end of their list, some tickets or the end of theirs, or
+// nothing. A list is begun where its bracket was written.
+#[derive(Clone, Copy, Debug, PartialEq, Eq)]
+enum Stage {
+    Open,
+    Calls { begun: bool },
+    Order { begun: bool },
+    Done,
+}
+
+// The calls and the tickets that are left, and how many tickets there were.
+#[derive(Clone, Copy, Debug)]
+struct Left<'a> {
+    calls: &'a [Done],
+    order: &'a [u32],
+    visits: u64,
+}
+
+// The next call, or the end of their list.
+fn write_calls(line: &mut Line, left: &mut Left<'_>, begun: bool) -> Stage
+    requires { line.old ≡ [] }
+    ensures text { calls_left begun left.old.calls.now left.old.order.now left.old.visits
+        ≡ line.new ++ text_left result left.new }
+    ensures some { 0 < length line.new }
+{
+    if let [call, calls @ ..] = left.calls {
+        write_opening(line, begun);
+        write_done(line, call);
+        left.calls = calls;
+        Stage::Calls { begun: true }
+    } else {
+        write_closing(line, begun);
+        line.word(",\"order\":");
+        Stage::Order { begun: false }
+    }
+}
+
+// The next tickets, or the end of their list and of the report.
+fn write_order(line: &mut Line, left: &mut Left<'_>, begun: bool) -> Stage
+    requires { line.old ≡ [] }
+    ensures text { order_left begun left.old.order.now left.old.visits
+        ≡ line.new ++ text_left result left.new }
+    ensures some { 0 < length line.new }
+{
+    if left.order.is_empty() {
+        write_closing(line, begun);
+        write_member(line, ",\"visits\"", left.visits);
+        line.word("}\n");
+        Stage::Done
+    } else {
+        let order = write_numbers(line, begun, left.order);
+        left.order = order;
+        Stage::Order { begun: true }
+    }
+}
+
+// One part more, and what comes next.
+fn write_part(line: &mut Line, left: &mut Left<'_>, stage: Stage) -> Stage
+    requires empty { line.old ≡ [] }
+    requires going { stage ≢ stages.Done }
+    ensures text { text_left stage left.old ≡ line.new ++ text_left result left.new }
+    ensures some { 0 < length line.new }
+{
+    match stage {
+        Stage::Open => {
+            line.word("{\"calls\":");
+            Stage::Calls { begun: false }
+        }
+        Stage::Calls { begun } => write_calls(line, left, begun),
+        Stage::Order { begun } => write_order(line, left, begun),
+        Stage::Done => unreachable!(),
+    }
+}
+
+/// The parts of a report's JSON, one after another. It takes its memory at once, and keeps one part.
+#[derive(Debug, Drop)]
+pub struct ReportParts<'a> {
+    stage: Stage,
+    left: Left<'a>,
+    part: Line,
+}
+
+impl<'a> Model for ReportParts<'a> {
+    ghost use Rattle.json_form.specs.Left.{PartsState, text_left};
+
+    ghost Value = { PartsState };
+
+    ghost view = { λ p. record { part = p.part; left = text_left p.stage p.left } };
+}
+
+impl<'a> ReportParts<'a> {
+    /// All parts of the JSON of an outcome.
+    pub fn new(alloc: Global, outcome: &'a Outcome) -> Result<ReportParts<'a>, AllocError>
+        ensures { IfOk result (λ parts. parts.left ≡ report_json_of (result_of outcome.now)) }
+    {
+        let visits = outcome.order.len();
+        Ok(ReportParts {
+            stage: Stage::Open,
+            left: Left {
+                calls: &outcome.calls,
+                order: &outcome.order,
+                visits: visits as u64,
+            },
+            part: Line::new(alloc, visits / VISITS_A_FIELD)?,
+        })
+    }
+
+    /// Makes the next part, which isn't empty, and answers whether there was one left. It takes no
+    /// memory.
+    pub fn advance(&mut self) -> bool
+        ensures part { result ≡ true → self.old.left ≡ self.new.part ++ self.new.left }
+        ensures some { result ≡ true → 0 < length self.new.part }
+        ensures none { result ≡ false → (self.old.left ≡ []) × (self.new.left ≡ []) }
+    {
+        self.part.clear();
+        if let Stage::Done = self.stage {
+            return false;
+        }
+        self.stage = write_part(&mut self.part, &mut self.left, self.stage);
+        true
+    }
+
+    /// The part that was made last.
+    pub fn part(&self) -> &[u8]
+        ensures { result.now ≡ self.now.part }
+    {
+        self.part.bytes()
+    }
+}
+
+/// The JSON of the report of an outcome: one line, with its keys ascending.
+pub fn report_json(alloc: Global, outcome: &Outcome) -> Result<Vec<u8>, AllocError>
+    ensures { IfOk result (λ text. text.items ≡ report_json_of (result_of outcome.now)) }
+{
+    let mut parts = ReportParts::new(alloc, outcome)?;
+    let mut text = Vec::new(alloc);
+    'parts: while parts.advance() {
+        text.extend_from_slice(parts.part())?;
+    }
+    Ok(text)
+}
