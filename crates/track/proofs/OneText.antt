@@ -20,7 +20,7 @@ use Rattle.track.specs.Laws.{BytesHaveOneText, IsCompleteAlone, RunsAreReplayed}
 same_result : (command : Command) (contents : Contents) (one other : List ℕ) → is_served false command ≡ true
     → IsResult command contents one → IsResult command contents other → one ≡ other
 same_result commands.Cover contents one other served p q = p ∙ sym q
-same_result commands.Replay contents one other served p q = p.text_is ∙ sym q.text_is
+same_result commands.Replay contents one other served p q = p.over.text_is ∙ sym q.over.text_is
 same_result commands.Census contents one other served p q = p.text_is ∙ sym q.text_is
 same_result commands.Costs contents one other served p q = p.text_is ∙ sym q.text_is
 same_result commands.Check contents one other served p q = absurd p
@@ -207,7 +207,7 @@ replay_report : (input : Result Contents InputFault) (contents : Contents) (stat
     → text ≡ report_of (outcome_for contents)
 replay_report (Ok other) contents status text e h =
     let same : other ≡ contents = cc in
-    subst (λ (c : Contents). text ≡ report_of (outcome_for c)) same h.1.text_is
+    subst (λ (c : Contents). text ≡ report_of (outcome_for c)) same h.1.over.text_is
 replay_report (Err fault) contents status text e h = cc
 
 pub replayed : TextSaysOne → RunsAreReplayed
@@ -215,10 +215,10 @@ replayed says bytes contents status text input right =
     let run = run_report right.input contents status text (says bytes right.input (Ok contents) right.says input)
     right.answer in (
       run.order,
-      run.report.text_is,
+      run.report.over.text_is,
       run.printed,
       λ others other again same answer.
           replay_report answer.input (in_order contents run.order) other again
           (says others answer.input (Ok (in_order contents run.order)) answer.says same) answer.answer
-          ∙ sym run.report.text_is,
+          ∙ sym run.report.over.text_is,
     )

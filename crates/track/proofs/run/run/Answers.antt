@@ -34,12 +34,16 @@ returns g c =
     (c.each_visit_is_next.ensures.order (setting_for contents) (scripts_of contents) its.order) in
     record {
       order = its.order;
-      report = report-says (plan_for contents) contents its.order turn c.outcomes_are_right.ensures.lines
-          c.outcomes_are_right.ensures.numbers c.plans_track.ensures c.plan_outcomes_are_near.ensures
-          c.scripts_are_valid.ensures c.own_reports_are_sound.ensures (report_of (result_of made)) c.requires.valid
-          (plan-nodes c.plan_means.ensures contents c.requires.valid) bounds (ap report_of its.is);
+      report = record {
+        over = report-says (plan_for contents) contents its.order turn c.outcomes_are_right.ensures.lines
+            c.outcomes_are_right.ensures.numbers c.plans_track.ensures c.plan_outcomes_are_near.ensures
+            c.scripts_are_valid.ensures (report_of (result_of made)) c.requires.valid
+            (plan-nodes c.plan_means.ensures contents c.requires.valid) bounds (ap report_of its.is);
+        sound = sound-text c.own_reports_are_sound.ensures contents its.order (report_of (result_of made))
+            c.requires.valid (ap report_of its.is);
+      };
       printed = sym (ap (λ (o : Outcome). o.order) its.is) ∙ its.printed;
-      sound = sound-text contents its.order c.own_reports_are_sound.ensures (report_of (result_of made))
+      sound = sound-text c.own_reports_are_sound.ensures contents its.order (report_of (result_of made))
           c.requires.valid (ap report_of its.is);
     })
     c.run_workers.ensures.outcome
