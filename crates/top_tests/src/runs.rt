@@ -15,7 +15,17 @@ pub(crate) const FOUR: &str =
     "track 1\nnodes 4\nk 2\nedge 0 1 1\nedge 1 2 1\nedge 2 3 1\nsub 3\ncallers 1\n";
 
 /// The words that read an input.
-pub(crate) const READING: [&str; 5] = ["cover", "replay", "census", "costs", "run"];
+pub(crate) const READING: [&str; 9] = [
+    "cover",
+    "replay",
+    "census",
+    "costs",
+    "run",
+    "meancover",
+    "meanreplay",
+    "tojson",
+    "replayjson",
+];
 
 /// The room of a sink that is large enough.
 pub(crate) const ROOM: usize = 4096;
