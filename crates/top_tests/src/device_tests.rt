@@ -1,6 +1,6 @@
 //! Sources and sinks that fail at one call and would go on at the next: the first fault ends the
 //! work.
-use crate::runs::{FOUR, Lines, ROOM, Run, ends, text_of};
+use crate::runs::{FOUR, Lines, READING, ROOM, Run, ends, text_of};
 use std::alloc::Global;
 use std::process::Abort;
 use std::test::Fail;
@@ -77,26 +77,16 @@ fn read_fails<R: Threads + Sync + Abort>(
     rt: &R,
     alloc: Global,
     word: &str,
-    text: &str,
     input: &[u8],
 ) -> Result<(), Fail> {
-    for call in 0..14u64 {
-        let (status, wanted) = if call < 13 { (4, "") } else { (0, text) };
+    for call in 0..13u64 {
         let broken = Broken {
             word,
             most: 8,
             reads: &[call],
             writes: &[],
         };
-        breaks(
-            rt,
-            alloc,
-            call as usize,
-            broken,
-            input,
-            status,
-            wanted.as_bytes(),
-        )?;
+        breaks(rt, alloc, call as usize, broken, input, 4, b"")?;
     }
     Ok(())
 }
@@ -104,8 +94,24 @@ fn read_fails<R: Threads + Sync + Abort>(
 #[test]
 fn each_read_fails(rt: HostRuntime) -> Result<(), Fail> {
     let input = text_of(rt.alloc(), CALLS)?;
+    for word in READING {
+        read_fails(&rt, rt.alloc(), word, &input)?;
+    }
+    Ok(())
+}
+
+// No read comes behind the end.
+#[test]
+fn a_later_read_would_fail(rt: HostRuntime) -> Result<(), Fail> {
+    let input = text_of(rt.alloc(), CALLS)?;
     for (word, text) in TEXTS {
-        read_fails(&rt, rt.alloc(), word, text, &input)?;
+        let broken = Broken {
+            word,
+            most: 8,
+            reads: &[13],
+            writes: &[],
+        };
+        breaks(&rt, rt.alloc(), 13, broken, &input, 0, text.as_bytes())?;
     }
     Ok(())
 }

@@ -5,6 +5,7 @@ use crate::runs::{FOUR, Lines, ROOM, Row, Run, ends, play, text_of};
 use std::alloc::Global;
 use std::process::Abort;
 use std::test::Fail;
+use std::thread::Threads;
 
 const CALLS: &str = "track 1\nnodes 4\nk 2\nedge 0 1 1\nedge 1 2 1\nedge 2 3 1\nsub 3\n\
         callers 1\nmove 0 2\nfind 1 3 0\n";
@@ -145,8 +146,8 @@ fn changed(alloc: Global, place: usize, line: &str) -> Result<Vec<u8>, Fail> {
     Ok(text)
 }
 
-fn told(
-    rt: &impl Abort,
+fn told<R: Threads + Sync + Abort>(
+    rt: &R,
     alloc: Global,
     place: usize,
     input: &[u8],
@@ -164,7 +165,11 @@ fn told(
     ends(rt, alloc, place, &run, status, verdict.as_bytes())
 }
 
-fn play_changes(rt: &impl Abort, alloc: Global, changes: &[Change<'_>]) -> Result<(), Fail> {
+fn play_changes<R: Threads + Sync + Abort>(
+    rt: &R,
+    alloc: Global,
+    changes: &[Change<'_>],
+) -> Result<(), Fail> {
     for at in 0..changes.len() {
         let (place, line, verdict) = changes[at];
         let text = changed(alloc, place, line)?;
@@ -210,8 +215,8 @@ fn long_text(alloc: Global, length: usize) -> Result<Vec<u8>, Fail> {
     Ok(text)
 }
 
-fn long_ends(
-    rt: &impl Abort,
+fn long_ends<R: Threads + Sync + Abort>(
+    rt: &R,
     alloc: Global,
     length: usize,
     status: u8,
@@ -237,8 +242,8 @@ fn longest_text(rt: HostRuntime) -> Result<(), Fail> {
 }
 
 // How a run over the worked report ends, some of whose calls fail.
-fn breaks(
-    rt: &impl Abort,
+fn breaks<R: Threads + Sync + Abort>(
+    rt: &R,
     alloc: Global,
     call: u64,
     reads: &[u64],
