@@ -1,8 +1,9 @@
 -- The text that answers bytes, by the command: that of the plan of the input's network, the report
 -- of what becomes of its calls under its order, or under one that threads made, the census at their
--- end, what its moves cost, or the line that refuses the input; the plan and the report are there
--- over mean covers too; to a text that has an input and a report, the verdict on it. And the text of
--- a command that reads nothing: a made input, or the summary of its replay.
+-- end, what its moves cost, the input or its report as JSON, or the line that refuses the input; the
+-- plan and the report are there over mean covers too. To a text that has an input and a report the
+-- verdict on it answers, and to JSON the input that it tells. And the text of a command that reads
+-- nothing: a made input, or the summary of its replay.
 -- Key laws: `bytes_have_one_text`, `runs_are_replayed` (a replay under the order that a run printed
 -- writes the same).
 use Rattle.std.specs.Prelude.{◌≡◌, ◌⊎◌, ℕ, ◌+◌, ◌-◌, ◌*◌, ◌++◌, ◌∷◌, [], Bool, true, false, All, List, Option, Some, None, Result, Ok, Err, ◌<◌, codes, length}
@@ -163,68 +164,30 @@ pub record IsCostText (contents : Contents) (text : List ℕ) : Type 0 where
 
 -- whether a command is served, with threads or without
 abbrev pub is_served : Bool → Command → Bool
-is_served threads Cover = true
-is_served threads Replay = true
-is_served threads Census = true
-is_served threads Costs = true
-is_served threads Check = true
-is_served threads ToJson = true
-is_served threads FromJson = true
-is_served threads ReplayJson = true
-is_served threads MeanCover = true
-is_served threads MeanReplay = true
 is_served threads Run = threads
-is_served threads (Make load) = true
-is_served threads (Trial load) = true
+is_served threads command = true
 
 -- whether a command makes of an input always the same
 abbrev pub is_made_alike : Command → Bool
-is_made_alike Cover = true
-is_made_alike Replay = true
-is_made_alike Census = true
-is_made_alike Costs = true
 is_made_alike Check = false
-is_made_alike ToJson = true
 is_made_alike FromJson = false
-is_made_alike ReplayJson = true
-is_made_alike MeanCover = true
-is_made_alike MeanReplay = true
 is_made_alike Run = false
 is_made_alike (Make load) = false
 is_made_alike (Trial load) = false
+is_made_alike command = true
 
 -- the load of a command, if it has one, is within the limits
 abbrev pub HasLoad : Command → Type 0
-HasLoad Cover = Unit {0}
-HasLoad Replay = Unit {0}
-HasLoad Census = Unit {0}
-HasLoad Costs = Unit {0}
-HasLoad Check = Unit {0}
-HasLoad ToJson = Unit {0}
-HasLoad FromJson = Unit {0}
-HasLoad ReplayJson = Unit {0}
-HasLoad MeanCover = Unit {0}
-HasLoad MeanReplay = Unit {0}
-HasLoad Run = Unit {0}
 HasLoad (Make load) = IsLoad load
 HasLoad (Trial load) = IsLoad load
+HasLoad command = Unit {0}
 
 -- the text of a command that reads nothing: the made input, or the summary of what becomes of its
 -- calls under its order, over the plan of its network
 abbrev pub text_alone : Command → Option (List ℕ)
-text_alone Cover = None
-text_alone Replay = None
-text_alone Census = None
-text_alone Costs = None
-text_alone Check = None
-text_alone ToJson = None
-text_alone FromJson = None
-text_alone ReplayJson = None
-text_alone MeanCover = None
-text_alone MeanReplay = None
-text_alone Run = None
 text_alone (Make load) = Some (load_text_of load)
 text_alone (Trial load) = Some (summary_of (outcome_for (load_contents load)))
+text_alone command = None
 
 -- what a command makes of an input; those that read nothing make nothing of one
 abbrev pub IsResult : Command → Contents → List ℕ → Type 0
