@@ -89,6 +89,20 @@ word == "cover" && $1 == "end" {
     ended++
 }
 
+# JSON is one line: its head and its end, and how many calls it tells.
+word == "tojson" {
+    if (index($0, "{\"callers\":64,\"calls\":[[\"find\",64,0,0],") != 1) wrong("the first call")
+    if (!index($0, "],\"k\":4,\"nodes\":" nodes ",\"order\":[64,65,66],\"subs\":[")) wrong("the network")
+    if (gsub(/"find"/, "") != calls) wrong("the count of calls")
+    ended++
+}
+
+word == "replayjson" {
+    if (index($0, "{\"calls\":[{\"actor\":64,\"first\":0,\"from\":0,\"kind\":\"find\",") != 1) wrong("the first call")
+    if (gsub(/"kind":"find"/, "") != calls || $0 !~ /,"visits":[0-9]+[}]$/) wrong("the count of calls, or the end")
+    ended++
+}
+
 END {
     if (failed) exit 1
     if (word == "census" || word == "costs" ? NR != 65 : ended != 1) wrong("the end")

@@ -1,6 +1,7 @@
-//! Summaries of no call, and of calls of each kind.
+//! Summaries and the JSON of no call, and of calls of each kind.
 use crate::same::same_text;
 use directory::{Done, Outcome, Why};
+use json_form::report_json;
 use report_text::summary;
 use std::alloc::Global;
 use std::process::Abort;
@@ -99,4 +100,29 @@ fn calls_of_each_kind(rt: HostRuntime) -> Result<(), Fail> {
     let wanted = "summary moves 2 moved 18446744073709551616 finds 2 again 1 \
             travelled 18446744073709551920 visits 130\n";
     sums_up(&rt, rt.alloc(), &calls, 130, wanted)
+}
+
+const WHOLE: &str = "{\"calls\":[\
+        {\"actor\":0,\"commit\":3,\"first\":0,\"from\":3,\"kind\":\"move\",\"last\":5,\"number\":1,\"to\":2,\"weight\":1},\
+        {\"actor\":0,\"kind\":\"switch\",\"node\":2,\"number\":1,\"off\":true,\"ticket\":7},\
+        {\"actor\":1,\"first\":0,\"from\":2,\"kind\":\"find\",\"last\":3,\"level\":0,\"node\":3,\"number\":0,\"sub\":0,\
+        \"weight\":5},\
+        {\"actor\":1,\"first\":10,\"from\":2,\"kind\":\"off\",\"last\":10,\"level\":null,\"node\":3,\"number\":0,\
+        \"sub\":0,\"weight\":18446744073709551615},\
+        {\"actor\":1,\"first\":6,\"from\":3,\"kind\":\"again\",\"last\":16,\"node\":null,\"sub\":0,\"weight\":300,\
+        \"why\":\"chased\"}],\"order\":[1],\"visits\":1}\n";
+
+#[test]
+fn report_as_json(rt: HostRuntime) -> Result<(), Fail> {
+    let outcome = Outcome {
+        calls: Vec::from_slice(rt.alloc(), &[moved(1), SWITCHED, FOUND, OFF, AGAIN])?,
+        order: vec![in rt.alloc(); 1; 1]?,
+    };
+    same_text(
+        &rt,
+        0,
+        &report_json(rt.alloc(), &outcome)?,
+        WHOLE.as_bytes(),
+    );
+    Ok(())
 }

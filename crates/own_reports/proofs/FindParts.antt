@@ -37,7 +37,7 @@ use Rattle.trail_laws.specs.Lines.{IsRightLine}
 use Rattle.own_reports.specs.Reports.{KeepsParts}
 use Rattle.own_reports.proofs.Cuts.{IsOver, Laws, all_writes, commits-before, cut-below, cut-past, made_before, off-before, puts-before}
 use Rattle.own_reports.proofs.FindRuns.{caller-runs}
-use Rattle.own_reports.proofs.Looked.{IsLook, ends-look, look-puts-not, meets-move, move-own}
+use Rattle.own_reports.proofs.Looked.{IsLook, ends-look, has-line, look-puts-not, meets-move, move-own}
 use Rattle.own_reports.proofs.Order.{actors_of, tickets-are}
 use Rattle.own_reports.proofs.Plain.{commits_in}
 use Rattle.own_reports.proofs.RowsTold.{rows-none, rows-skip, rows-told}
@@ -237,7 +237,8 @@ module _ (laws : Laws) (count : CallersCount) (plan : PlanData) (homes : List �
       or-true (meets_move calls order sub first last) _ (λ none.
           let quiet : IsQuiet history sub first last = λ t low high. none-where (moves_at sub history t) (λ moves.
           let met : meets_move calls order sub first last ≡ true =
-          meets-move S scripts history calls sub first last t over.played one two low high moves (no-switch sub t known moves) in
+          meets-move S scripts history calls sub first last t over.played one two low high moves (no-switch sub t known moves)
+          (has-line S scripts history sub t known over.played moves) in
           let bad : true ≡ false = sym met ∙ none in cc) in
           let limited : weight ≤ stretch_of plan * S.distance from node + 2 * passage S sub (through last history) =
           subst (λ k. weight ≤ stretch_of plan * S.distance from k + 2 * passage S sub (through last history)) (sym at)
@@ -318,6 +319,6 @@ module _ (laws : Laws) (count : CallersCount) (plan : PlanData) (homes : List �
       let ends = ends-are actor (record { from = from; sub = sub }) (AgainBy actor from sub why weight first last) made in (
         refl,
         meets-move S scripts history calls sub first last t over.played ends.0 ends.1 low high moves
-            (no-switch sub t ends.2.known moves),
+            (no-switch sub t ends.2.known moves) (has-line S scripts history sub t ends.2.known over.played moves),
         refl,
       )

@@ -1,9 +1,10 @@
 -- The looks of a find: its first ticket and its last are looks of its caller, which put nothing.
-use Rattle.std.proofs.Common.{◌≡◌, ℕ, zero, suc, ◌+◌, ◌-◌, ◌<◌, ◌≤◌, ◌&&◌, Bool, true, false, not, eqb, cond, List, [], ◌∷◌, length, drop, Option, Some, None, refl, ap, sym, ◌∙◌, arith, append-nil, inl, inr}
+use Rattle.std.proofs.Common.{◌≡◌, ℕ, zero, suc, ◌+◌, ◌-◌, ◌<◌, ◌≤◌, ◌&&◌, ◌||◌, Bool, true, false, not, eqb, cond, List, [], ◌∷◌, length, take, drop, Option, Some, None, refl, ap, sym, ◌∙◌, arith, append-nil, inl, inr}
 use Rattle.std.specs.Prelude.{slice_get, slice_index, flat_map, option_map}
 use Rattle.std.specs.List.{list_any}
-use Rattle.std.proofs.lemmas.Bool.{cases_lt}
+use Rattle.std.proofs.lemmas.Bool.{cases_eq, cases_lt}
 use Rattle.std.proofs.lemmas.Bool.Decides.{nat_tests}
+use Rattle.std.proofs.lemmas.List.Folds.{list_any-append}
 use Rattle.std.proofs.lemmas.Option.{slice_get-map}
 use Rattle.entry_word.specs.declared.visit.Key.{Key}
 use Rattle.entry_word.specs.declared.visit.Visit.{Visit}
@@ -13,12 +14,13 @@ use Rattle.directory.specs.Histories.{History, before, is_put_for, own, puts_to,
 use Rattle.directory.specs.HistoryLaws.{next-caller, next-sub}
 use Rattle.directory.specs.Looks.{AreLooks, IsFind, first_of, last_of, look_by, moves_at, moves_by}
 use Rattle.directory.specs.Orders.{IsPlayed, Scripts, caller_in, next, next_key, steps_of}
-use Rattle.directory.specs.Courses.{course_at}
+use Rattle.directory.specs.Courses.{Course, Step, after_step, course_at, move_to, switch_off, switch_on}
+use Rattle.directory.specs.Outcomes.{caller_lines, outcome_in, step_line, step_lines, sub_lines}
 use Rattle.directory.specs.StepLaws.{puts-push, take-more}
-use Rattle.directory.specs.Writes.{Write, entry_at, mark_at, visit_of, writes}
+use Rattle.directory.specs.Writes.{Write, entry_at, mark_at, numbers_from, step_writes, visit_of, visits, writes}
 use Rattle.directory.specs.declared.answers.Done.{Done}
 use Rattle.directory.specs.declared.answers.Found.{Found}
-use Rattle.report_check.specs.Parts.{is_of_move, is_switch_at, meets_from, meets_move}
+use Rattle.report_check.specs.Parts.{is_of, is_of_move, is_switch_at, meets_from, meets_move}
 use Rattle.own_reports.proofs.Signs.{equal-by, lt-true}
 use Rattle.own_reports.proofs.Order.{actors_of}
 
@@ -108,6 +110,59 @@ move-own setting scripts history sub t played is =
     ∙ ap (option_map (λ (visit : Visit). visit.actor)) found.1
     ∙ ap (λ k. Some k) (put-own setting scripts history sub t found.0 (played t found.0 found.1) found.2)
 
+-- ---- a subscriber that moves has a line
+
+line-own : (setting : Setting) (sub : ℕ) (course : Course) (step : Step) (seen : List ℕ)
+    → is_of sub (step_line setting sub course step seen) ≡ true
+line-own setting sub course (move_to node) seen = grind (arith, nat_tests)
+line-own setting sub course switch_off seen = grind (arith, nat_tests)
+line-own setting sub course switch_on seen = grind (arith, nat_tests)
+
+lines-own : (setting : Setting) (sub : ℕ) (course : Course) (steps : List Step) (seen : List ℕ) (k : ℕ) (visit : Visit)
+    → slice_get (visits setting sub steps) k ≡ Some visit
+    → list_any (is_of sub) (step_lines setting sub course steps seen) ≡ true
+unfolding step_lines writes
+lines-own setting sub course [] seen k visit is = let bad : None ≡ Some visit = is in cc
+lines-own setting sub course (step ∷ steps) seen k visit is =
+    ap (λ b. b || list_any (is_of sub) (step_lines setting sub (after_step setting course step) steps
+    (drop (length (step_writes setting course step)) seen)))
+    (line-own setting sub course step (take (length (step_writes setting course step)) seen))
+
+rows-any : (test : Done → Bool) (lines : ℕ → List Done) (from count actor : ℕ) → from ≤ actor → actor < from + count
+    → list_any test (lines actor) ≡ true → list_any test (flat_map lines (numbers_from from count)) ≡ true
+rows-any test lines from zero actor low high one = absurd (omega (arith, low, high))
+rows-any test lines from (suc count) actor low high one =
+    list_any-append test (lines from) (flat_map lines (numbers_from (suc from) count))
+    ∙ elim (cases_eq actor from) [
+      | inl same ↦ ap (λ b. b || list_any test (flat_map lines (numbers_from (suc from) count)))
+          (ap (λ k. list_any test (lines k)) (sym same) ∙ one)
+      | inr other ↦ later (list_any test (lines from)) (rows-any test lines (suc from) count actor
+          (strict other low) (omega (arith, high)) one)
+    ]
+  where
+    later : (b : Bool) {x : Bool} → x ≡ true → (b || x) ≡ true
+    later true e = refl
+    later false e = e
+
+    strict : (actor ≡ from → ⊥) → from ≤ actor → suc from ≤ actor
+    strict differs le = omega (arith, differs, le)
+
+pub has-line : (setting : Setting) (scripts : Scripts) (history : History) (sub t : ℕ) → sub < subs setting
+    → IsPlayed setting scripts history → moves_at sub history t ≡ true
+    → list_any (is_of sub) (outcome_in setting scripts history).calls ≡ true
+has-line setting scripts history sub t known played is =
+    let found = move-visit sub (before t history) (slice_get history t) is in
+    let whose = put-own setting scripts history sub t found.0 (played t found.0 found.1) found.2 in
+    let next_is : next setting scripts (before t history) sub ≡ Some found.0 =
+    ap (next setting scripts (before t history)) (sym whose) ∙ played t found.0 found.1 in
+    let at : slice_get (visits setting sub (steps_of scripts sub)) (length (own sub (before t history))) ≡ Some found.0 =
+    sym (next-sub setting scripts (before t history) sub known) ∙ next_is in
+    list_any-append (is_of sub) (flat_map (sub_lines setting scripts history) (numbers_from 0 (subs setting))) _
+    ∙ ap (λ b. b || list_any (is_of sub)
+    (flat_map (caller_lines setting scripts history) (numbers_from (subs setting) (length scripts.finds))))
+    (rows-any (is_of sub) (sub_lines setting scripts history) 0 (subs setting) sub (omega arith) (omega (arith, known))
+    (lines-own setting sub (course_at (start setting sub)) (steps_of scripts sub) _ _ found.0 at))
+
 -- ---- a find that meets a move
 
 test-move : (sub : ℕ) (b : Bool) → b ≡ false → (eqb sub sub && not b) ≡ true
@@ -147,12 +202,13 @@ get-drop (x ∷ xs) (suc k) (suc t) d e = get-drop xs k t d (omega (arith, e))
 -- a visit of a move within a find is one that the checker sees
 pub meets-move : (setting : Setting) (scripts : Scripts) (history : History) (calls : List Done) (sub first last t : ℕ)
     → IsPlayed setting scripts history → IsLook history first → IsLook history last → first ≤ t → t ≤ last
-    → moves_at sub history t ≡ true → list_any (is_switch_at t) calls ≡ false
+    → moves_at sub history t ≡ true → list_any (is_switch_at t) calls ≡ false → list_any (is_of sub) calls ≡ true
     → meets_move calls (actors_of history) sub first last ≡ true
-meets-move setting scripts history calls sub first last t played one two low high is none =
+meets-move setting scripts history calls sub first last t played one two low high is none has =
     let begin : first < t = strict (other first one) low in
     let end : t < last = less (other last two) high in
-    meets calls sub last (suc first) t (t - suc first) (drop (suc first) (actors_of history)) (omega (arith, begin))
+    ap (λ b. b && meets_from calls sub last (suc first) (drop (suc first) (actors_of history))) has
+    ∙ meets calls sub last (suc first) t (t - suc first) (drop (suc first) (actors_of history)) (omega (arith, begin))
     (get-drop (actors_of history) (suc first) t (t - suc first) (omega (arith, begin))
     ∙ move-own setting scripts history sub t played is) end none
   where

@@ -14,7 +14,8 @@ use Rattle.report_check.specs.declared.blocks.Lines.{Lines}
 use Rattle.report_check.specs.declared.calls.Line.{Line}
 use Rattle.report_check.specs.Lines.{done_of}
 use Rattle.report_check.specs.declared.told.Told.{Told}
-use Rattle.report_check.specs.Blocks.{AreBehind, AreBlocks, IsBehind, IsBlock, SwitchesAlike, TellsAlike, grown, is_of, is_switched, no_block}
+use Rattle.report_check.specs.Blocks.{AreBehind, AreBlocks, IsBehind, IsBlock, SwitchesAlike, TellsAlike, grown, is_switched, no_block}
+use Rattle.report_check.specs.Parts.{is_of}
 use Rattle.report_check.specs.Parts.{actor_of, end_of, first_from, is_missing, is_switch_at, none_left, tell}
 
 false-or : (a b : Bool) → (a || b) ≡ false → (a ≡ false) × (b ≡ false)
@@ -181,6 +182,17 @@ switches-alike calls block is ticket =
     ∙ ap (λ t. t || list_any p (b ++ c)) (switch-others ticket a is.before) ∙ list_any-append p b c
     ∙ ap (λ t. list_any p b || t) (switch-others ticket c is.behind) ∙ or-none (list_any p b))
 
+-- one of the lines of a block counts where one of all does
+pub any-alike : (counts : Done → Bool) (calls : List Done) (block : Block) → IsBlock counts calls block
+    → list_any counts (between block.start block.end calls) ≡ list_any counts calls
+any-alike counts calls block is =
+    let a = take block.start calls in
+    let b = between block.start block.end calls in
+    let c = drop block.end calls in
+    sym (ap (list_any counts) (parted calls block.start block.end is.low) ∙ list_any-append counts a (b ++ c)
+    ∙ ap (λ t. t || list_any counts (b ++ c)) is.before ∙ list_any-append counts b c
+    ∙ ap (λ t. list_any counts b || t) is.behind ∙ or-none (list_any counts b))
+
 -- ---- the last tickets
 
 first-never : (actor ticket : ℕ) (later : List ℕ) → list_any (λ other. eqb other actor) later ≡ false
@@ -228,6 +240,16 @@ actor-lines lines actor block are low same ticket told =
     subst (IsBlock (is_of actor) (map done_of lines.calls.now)) same (are.actors actor low) in
     ap (fold (tell actor ticket) told) (between-map lines.calls.now block.start block.end)
     ∙ tells-alike actor (map done_of lines.calls.now) block is ticket told
+
+pub actor-any : (lines : Lines) (actor : ℕ) (block : Block) → AreBlocks lines → actor < length lines.blocks.now
+    → slice_index_or lines.blocks.now actor no_block ≡ block
+    → list_any (is_of actor) (map done_of (take (block.end - block.start) (drop block.start lines.calls.now)))
+    ≡ list_any (is_of actor) (map done_of lines.calls.now)
+actor-any lines actor block are low same =
+    let is : IsBlock (is_of actor) (map done_of lines.calls.now) block =
+    subst (IsBlock (is_of actor) (map done_of lines.calls.now)) same (are.actors actor low) in
+    ap (list_any (is_of actor)) (between-map lines.calls.now block.start block.end)
+    ∙ any-alike (is_of actor) (map done_of lines.calls.now) block is
 
 pub line-other : (counts : Done → Bool) (lines : List Line) (place : ℕ) (block : Block) (d : Line)
     → place < length lines → IsSoFar counts (map done_of lines) place block

@@ -9,11 +9,7 @@ use Rattle.report_check.specs.declared.blocks.Block.{Block}
 use Rattle.report_check.specs.declared.blocks.Lines.{Lines}
 use Rattle.report_check.specs.Lines.{done_of}
 use Rattle.report_check.specs.declared.told.Told.{Told}
-use Rattle.report_check.specs.Parts.{actor_of, is_switch_at, tell}
-
--- whether a line is an actor's
-abbrev pub is_of : ℕ → Done → Bool
-is_of actor call = actor_of call == actor
+use Rattle.report_check.specs.Parts.{is_of, is_switch_at, tell}
 
 -- whether it is a switch's
 abbrev pub is_switched : Done → Bool

@@ -1,6 +1,7 @@
 -- Worked examples: reports of the line of four nodes by several programs, sound and unsound.
 -- Key laws, computed: `worked_reports`, `flaws_of_form`, `flaws_of_tickets`, `flaws_of_place`,
--- `moves_by_tickets`, `switches_by_tickets`.
+-- `moves_by_tickets`, `switches_by_tickets`, `moves_of_nobody`,
+-- `moves_by_commits`.
 use Rattle.std.specs.Prelude.{ℕ, List, [], ◌∷◌, ◌++◌}
 use Rattle.net_reader.specs.declared.said.Call.{Call}
 use Rattle.net_reader.specs.declared.said.Call.TheVariants.{Move, Find, Off, On}
@@ -36,9 +37,21 @@ one_move = contents_with (Move 2 ∷ []) (Find 3 0 ∷ [])
 abbrev pub near_find : Contents
 near_find = contents_with (Move 2 ∷ []) (Find 2 0 ∷ [])
 
+-- moves to node 2 and to node 0, and a find from node 3
+abbrev pub two_moves : Contents
+two_moves = contents_with (Move 2 ∷ Move 0 ∷ []) (Find 3 0 ∷ [])
+
+-- the same moves, and a find from node 0
+abbrev pub two_moves_near : Contents
+two_moves_near = contents_with (Move 2 ∷ Move 0 ∷ []) (Find 0 0 ∷ [])
+
 -- off and on again, and a find from node 3
 abbrev pub switches : Contents
 switches = contents_with (Off ∷ On ∷ []) (Find 3 0 ∷ [])
+
+-- a find from node 3, of a subscriber that makes no call
+abbrev pub lone_find : Contents
+lone_find = contents_with ([]) (Find 3 0 ∷ [])
 
 -- the verdict on a report of these calls
 abbrev pub verdict_for : Contents → List ℕ → Verdict

@@ -24,6 +24,10 @@ actor_of (Found actor from sub node number level weight first last) = actor
 actor_of (Off actor from sub node number level weight first last) = actor
 actor_of (Again actor from sub why weight first last) = actor
 
+-- whether a line is an actor's
+abbrev pub is_of : ℕ → Done → Bool
+is_of actor call = actor_of call == actor
+
 -- the end of a call: its last ticket
 abbrev pub end_of : Done → ℕ
 end_of (Moved actor number from to weight first commit last) = last
@@ -56,8 +60,8 @@ behind (Some ticket) = suc ticket
 abbrev pub next_ticket : List ℕ → ℕ → Option ℕ → Option ℕ
 next_ticket order actor before = first_from actor (behind before) (drop (behind before) order)
 
--- Tickets: a find's first ticket is the actor's first behind the call before, and its last one is
--- no earlier
+-- Tickets: the first ticket of a move or of a find is the actor's first behind the call before, and
+-- the last one is no earlier
 abbrev pub has_tickets : List ℕ → Option ℕ → ℕ → ℕ → ℕ → Bool
 has_tickets order before actor first last =
     is_number first (next_ticket order actor before) && (is_ticket order actor last
@@ -151,10 +155,11 @@ meets_from calls sub last ticket (actor ∷ later) =
     else meets_from calls sub last (suc ticket) later)
     else false
 
--- whether a ticket of a move of a subscriber comes between two tickets
+-- whether a ticket of a move of a subscriber comes between two tickets; one without lines has no
+-- move, whatever tickets the order gives it
 abbrev pub meets_move : List Done → List ℕ → ℕ → ℕ → ℕ → Bool
 meets_move calls order sub first last =
-    meets_from calls sub last (suc first) (drop (suc first) order)
+    list_any (is_of sub) calls && meets_from calls sub last (suc first) (drop (suc first) order)
 
 -- Again: a find that is to be made again met a move
 abbrev pub again_holds : List Done → List ℕ → Done → Bool

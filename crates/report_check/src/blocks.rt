@@ -1,7 +1,9 @@
 //! Where the lines of each actor and those of switches stand, and the last ticket of each actor.
 ghost use Rattle.std.specs.Prelude.{◌≡◌, ◌<◌, ◌^◌, ℕ, IfOk, length, map, slice_index_or};
-ghost use Rattle.report_check.specs.Blocks.{AreBehind, AreBlocks, SwitchesAlike, TellsAlike, IsBlock, grown, is_of, is_switched, no_block};
+ghost use Rattle.report_check.specs.Blocks.{AreBehind, AreBlocks, SwitchesAlike, TellsAlike, IsBlock, grown, is_switched, no_block};
+ghost use Rattle.report_check.specs.Parts.{is_of};
 ghost use Rattle.report_check.specs.Lines.{done_of};
+ghost use Rattle.std.specs.List.{list_any};
 ghost use Rattle.report_check.specs.Parts.{actor_of};
 
 use crate::calls::Line;
@@ -35,6 +37,25 @@ pub(crate) fn actor_of(line: &Line) -> u32
         Line::Answer { actor, .. } => actor,
         Line::Again { actor, .. } => actor,
     }
+}
+
+// Whether a line is an actor's.
+fn is_of(line: &Line, actor: u32) -> bool
+    ensures { result ≡ is_of actor (done_of line.now) }
+{
+    actor_of(line) == actor
+}
+
+// Whether one of some lines is.
+fn has_line(calls: &[Line], actor: u32) -> bool
+    ensures { result ≡ list_any (is_of actor) (map done_of calls.now) }
+{
+    'lines: for line in calls {
+        if is_of(line, actor) {
+            return true;
+        }
+    }
+    false
 }
 
 // Whether it is a switch's.
@@ -117,12 +138,22 @@ impl<'a> Lines<'a> {
     /// The lines of an actor, and some of others; all lines where the actor is unknown.
     pub(crate) fn of_actor(&self, actor: u32) -> &'a [Line]
         requires { AreBlocks self.now }
-        ensures { TellsAlike actor (map done_of self.now.calls.now) (map done_of result.now) }
+        ensures tells { TellsAlike actor (map done_of self.now.calls.now) (map done_of result.now) }
+        ensures some { list_any (is_of actor) (map done_of result.now)
+            ≡ list_any (is_of actor) (map done_of self.now.calls.now) }
     {
         match self.blocks.get(actor as usize) {
             Some(block) => &self.calls[block.start..block.end],
             None => self.calls,
         }
+    }
+
+    /// Whether an actor has a line.
+    pub(crate) fn has_line(&self, actor: u32) -> bool
+        requires { AreBlocks self.now }
+        ensures { result ≡ list_any (is_of actor) (map done_of self.now.calls.now) }
+    {
+        has_line(self.of_actor(actor), actor)
     }
 
     /// The lines of the switches, and some others.

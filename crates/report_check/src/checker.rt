@@ -16,8 +16,8 @@ use region_plan::Plan;
 use std::alloc::{AllocError, Global};
 
 /// Whether a report is sound for an input over its plan and the plan's distances, and else its
-/// first flaw and the line where it stands (docs/FORMATS.md, "The checker"). The only fault is want
-/// of memory.
+/// first flaw and the line where it stands (docs/FORMATS.md, "The checker"). A report has at most
+/// 67,108,864 bytes. The only fault is want of memory.
 pub fn check(
     alloc: Global,
     input: &Input,

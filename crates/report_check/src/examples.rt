@@ -4,7 +4,7 @@ ghost use Rattle.report_check.specs.Cuts.{input_part, report_part};
 ghost use Rattle.report_check.specs.VerdictText.{verdict_line_of};
 ghost use Rattle.report_check.specs.declared.verdict.Flaw.TheVariants.{Form, Tickets, Place, Again, Weight};
 ghost use Rattle.report_check.specs.declared.verdict.Verdict.TheVariants.{Sound, Unsound};
-ghost use Rattle.report_check.specs.Examples.{◌then◌, near_find, one_move, switches, verdict_for};
+ghost use Rattle.report_check.specs.Examples.{◌then◌, lone_find, near_find, one_move, switches, two_moves, two_moves_near, verdict_for};
 
 /// A sound report, and how it is broken.
 pub fn worked_reports()
@@ -215,4 +215,61 @@ pub fn example_cuts()
 pub fn example_verdicts()
     ensures sound { verdict_line_of Sound ≡ codes "yes" ++ 10 ∷ [] }
     ensures unsound { verdict_line_of (Unsound 12 Weight) ≡ codes "no 12 weight" ++ 10 ∷ [] }
+{}
+
+/// Tickets of a subscriber without calls are of no move: the line of a find breaks its own part
+/// before they are found to be left over.
+pub fn moves_of_nobody()
+    ensures again { verdict_for lone_find (
+        codes "again 1 3 0 none weight 5 first 0 last 2" then
+        codes "order 1 0 1" then codes "end 3" then []) ≡ Unsound 1 Again }
+    ensures weight { verdict_for lone_find (
+        codes "find 1 3 0 at 3 number 0 level 0 weight 999 first 0 last 2" then
+        codes "order 1 0 1" then codes "end 3" then []) ≡ Unsound 1 Weight }
+    ensures light { verdict_for lone_find (
+        codes "find 1 3 0 at 3 number 0 level 0 weight 0 first 0 last 2" then
+        codes "order 1 0 1" then codes "end 3" then []) ≡ Unsound 2 Tickets }
+    ensures without { verdict_for lone_find (
+        codes "find 1 3 0 at 3 number 0 level 0 weight 0 first 0 last 1" then
+        codes "order 1 1" then codes "end 2" then []) ≡ Sound }
+{}
+
+/// Commits and last tickets that are none, and two moves of one subscriber.
+pub fn moves_by_commits()
+    ensures sound { verdict_for one_move (
+        codes "move 0 1 3 2 weight 1 first 0 commit 1 last 2" then
+        codes "find 1 3 0 at 2 number 1 level - weight 5 first 3 last 3" then
+        codes "order 0 0 0 1" then codes "end 4" then []) ≡ Sound }
+    ensures commit_first { verdict_for one_move (
+        codes "move 0 1 3 2 weight 1 first 0 commit 0 last 2" then
+        codes "find 1 3 0 at 2 number 1 level - weight 5 first 3 last 3" then
+        codes "order 0 0 0 1" then codes "end 4" then []) ≡ Unsound 1 Tickets }
+    ensures commit_of_another { verdict_for one_move (
+        codes "move 0 1 3 2 weight 1 first 0 commit 1 last 3" then
+        codes "find 1 3 0 at 3 number 0 level - weight 5 first 1 last 1" then
+        codes "order 0 1 0 0" then codes "end 4" then []) ≡ Unsound 1 Tickets }
+    ensures last_of_another { verdict_for one_move (
+        codes "move 0 1 3 2 weight 1 first 0 commit 1 last 3" then
+        codes "find 1 3 0 at 2 number 1 level - weight 5 first 3 last 3" then
+        codes "order 0 0 0 1" then codes "end 4" then []) ≡ Unsound 1 Tickets }
+    ensures between_moves { verdict_for two_moves (
+        codes "move 0 1 3 2 weight 1 first 0 commit 1 last 2" then
+        codes "move 0 2 2 0 weight 2 first 4 commit 5 last 6" then
+        codes "find 1 3 0 at 2 number 1 level - weight 5 first 3 last 3" then
+        codes "order 0 0 0 1 0 0 0" then codes "end 7" then []) ≡ Sound }
+    ensures behind_moves { verdict_for two_moves (
+        codes "move 0 1 3 2 weight 1 first 0 commit 1 last 2" then
+        codes "move 0 2 2 0 weight 2 first 3 commit 4 last 5" then
+        codes "find 1 3 0 at 2 number 1 level - weight 5 first 6 last 6" then
+        codes "order 0 0 0 0 0 0 1" then codes "end 7" then []) ≡ Unsound 3 Place }
+    ensures passage_of_the_last { verdict_for two_moves_near (
+        codes "move 0 1 3 2 weight 1 first 0 commit 1 last 2" then
+        codes "move 0 2 2 0 weight 2 first 3 commit 4 last 6" then
+        codes "find 1 0 0 at 0 number 2 level - weight 4 first 5 last 5" then
+        codes "order 0 0 0 0 0 1 0" then codes "end 7" then []) ≡ Sound }
+    ensures beyond_it { verdict_for two_moves_near (
+        codes "move 0 1 3 2 weight 1 first 0 commit 1 last 2" then
+        codes "move 0 2 2 0 weight 2 first 3 commit 4 last 6" then
+        codes "find 1 0 0 at 0 number 2 level - weight 5 first 5 last 5" then
+        codes "order 0 0 0 0 0 1 0" then codes "end 7" then []) ≡ Unsound 3 Weight }
 {}

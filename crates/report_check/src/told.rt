@@ -1,9 +1,9 @@
 //! What the lines of a report tell of a subscriber before a ticket.
-ghost use Rattle.std.specs.Prelude.{◌≡◌, ◌-◌, ◌<◌, ◌^◌, Some, None, drop, fold, length, map};
+ghost use Rattle.std.specs.Prelude.{◌≡◌, ◌-◌, ◌<◌, ◌^◌, Some, None, drop, fold, length, map, suc};
 ghost use Rattle.std.specs.List.{list_any};
 ghost use Rattle.report_check.specs.Blocks.{AreBlocks};
 ghost use Rattle.report_check.specs.Lines.{done_of};
-ghost use Rattle.report_check.specs.Parts.{at_home, first_from, is_of_move, is_switch_at, meets_move, next_ticket, tell, told_before};
+ghost use Rattle.report_check.specs.Parts.{at_home, first_from, is_of_move, is_switch_at, meets_from, meets_move, next_ticket, tell, told_before};
 
 use crate::blocks::Lines;
 use crate::calls::Line;
@@ -165,6 +165,15 @@ pub(crate) fn next_ticket(order: &[u64], actor: u32, before: Option<u64>) -> Opt
 pub(crate) fn meets_move(lines: &Lines<'_>, order: &[u64], sub: u32, first: u64, last: u64) -> bool
     requires { AreBlocks lines.now }
     ensures { result ≡ meets_move (map done_of lines.now.calls.now) order.now sub first last }
+{
+    lines.has_line(sub) && meets_later(lines, order, sub, first, last)
+}
+
+// The same of a subscriber that has a line.
+fn meets_later(lines: &Lines<'_>, order: &[u64], sub: u32, first: u64, last: u64) -> bool
+    requires { AreBlocks lines.now }
+    ensures { result ≡ meets_from (map done_of lines.now.calls.now) sub last (suc first)
+        (drop (suc first) order.now) }
 {
     if first >= order.len() as u64 {
         return false;

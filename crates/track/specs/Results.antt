@@ -167,7 +167,7 @@ abbrev pub is_served : Bool → Command → Bool
 is_served threads Run = threads
 is_served threads command = true
 
--- whether a command makes of an input always the same
+-- whether a command reads an input and nothing else, and makes of it always the same
 abbrev pub is_made_alike : Command → Bool
 is_made_alike Check = false
 is_made_alike FromJson = false

@@ -17,7 +17,7 @@ pub enum Status {
     ReadFailed = 4,
     /// A write failed; what was written begins the text.
     WriteFailed = 5,
-    /// The input is too long; nothing was written.
+    /// The input, or a text with a report, is too long; nothing was written.
     TooLong = 6,
     /// The line was written that tells why a report is unsound.
     Unsound = 8,

@@ -2,7 +2,8 @@ use Rattle.std.proofs.Common.{◌≡◌, ◌<◌, ◌∙◌, ap, arith, get_or, 
 use Rattle.std.proofs.lemmas.List.{get_or_read}
 use Rattle.report_check.specs.declared.blocks.Block.{Block}
 use Rattle.report_check.specs.declared.calls.Line.TheVariants.{Move}
-use Rattle.report_check.specs.Blocks.{grown, is_of, no_block}
+use Rattle.report_check.specs.Blocks.{grown, no_block}
+use Rattle.report_check.specs.Parts.{is_of}
 use Rattle.report_check.specs.Lines.{done_of}
 use Rattle.report_check.proofs.Blocking.{IsSoFar, blocks-line, blocks-other}
 use Rattle.report_check.proofs.blocks.blocks_of.Goals as goal

@@ -1,7 +1,7 @@
 use Rattle.std.proofs.Common.{◌∙◌, suc, sym, arith, map}
 use Rattle.report_check.specs.Lines.{done_of}
 use Rattle.report_check.proofs.Steps.{meets-here, meets-last, meets-none, meets-step}
-use Rattle.report_check.proofs.told.meets_move.Goals as goal
+use Rattle.report_check.proofs.told.meets_later.Goals as goal
 
 pub returns-then-first-order : goal.returns-then-first-order
 returns-then-first-order c =

@@ -1,0 +1,9 @@
+use Rattle.std.proofs.Common.{◌≡◌, drop, map}
+use Rattle.std.specs.List.{list_any}
+use Rattle.report_check.specs.Lines.{done_of}
+use Rattle.report_check.specs.Parts.{is_of}
+use Rattle.report_check.proofs.blocks.has_line.Given as goal
+
+abbrev pub invariant-lines : goal.invariant-lines
+invariant-lines l = list_any (is_of l.actor) (map done_of (drop l.line-index l.calls))
+    ≡ list_any (is_of l.actor) (map done_of l.calls)
