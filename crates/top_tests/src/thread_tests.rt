@@ -1,6 +1,6 @@
 //! Runs by threads, at the top call: those that can end in one way alone, what fails, the replay of
 //! an order that was printed, and two callers that have to meet.
-ghost use Rattle.std.specs.Prelude.{false};
+ghost use Rattle.std.specs.Prelude.{◌<◌, false};
 
 use crate::runs::{FOUR, Lines, ROOM, Ran, Run, perform, perform_by_threads, text_of};
 use crate::same::{same_numbers, same_text};
@@ -110,7 +110,9 @@ fn read_fails<R: Threads + Sync + Abort>(rt: &R, alloc: Global, call: u64) -> Re
 }
 
 // A run whose write of 10 bytes fails: what was written before stays.
-fn write_fails<R: Threads + Sync + Abort>(rt: &R, alloc: Global, call: u64) -> Result<(), Fail> {
+fn write_fails<R: Threads + Sync + Abort>(rt: &R, alloc: Global, call: u64) -> Result<(), Fail>
+    requires { call < 100 }
+{
     let input = text_of(alloc, Lines(FOUR, "move 0 2\n", b"", 0))?;
     let text = MOVED.as_bytes();
     let written = text.len().min(10 * call as usize);
