@@ -15,3 +15,4 @@ mod Calling
 mod ValidInput
 mod LineEnd
 mod Digits
+mod WholeLine

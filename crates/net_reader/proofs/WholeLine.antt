@@ -1,0 +1,272 @@
+-- Lines that lie whole in a piece.
+use Rattle.std.proofs.Common.{◌≡◌, ℕ, ◌||◌, cond, leb, ltb, append_assoc, length-append, ◌+◌, ◌-◌, ◌*◌, ◌^◌, ◌<◌, ◌≤◌, true, false, fold, take, drop, List, [], ◌∷◌, ◌++◌, length, get_or, None, Some, Ok, refl, ap, sym, ◌∙◌, arith, add-one, drop-cons, length-take, length-drop, subst}
+use Rattle.std.proofs.lemmas.Bool.Decides.{nat_tests}
+use Rattle.std.proofs.lemmas.List.{append-nil, take_all}
+use Rattle.std.specs.Char.{is_ascii_digit}
+use Rattle.std.proofs.lemmas.List.Folds.{list_any-append}
+use Rattle.std.specs.List.{list_all, list_any}
+use Rattle.std.specs.Prelude.{nat_le}
+use Rattle.net_reader.specs.declared.line.Open.TheVariants as opens
+use Rattle.net_reader.specs.declared.word.Word.{Word}
+use Rattle.net_reader.specs.declared.word.Word.TheVariants.{Order}
+use Rattle.net_reader.specs.Said.{Said}
+use Rattle.net_reader.specs.Steps.{IsRun, LineState, ReaderState, after_bytes, close, close_as, end_line, fault_at, fresh, is_inside, is_plain, keep, line_said, more, next, pack, past_line, put, word_in}
+use Rattle.net_reader.specs.Table.{judge_word}
+use Rattle.net_reader.specs.Whole.{IsNumbers, IsNumberTo, IsTaking, Opens, Takes, between}
+use Rattle.net_reader.proofs.Digits.{below-most, plain-more, read-more, still-small}
+use Rattle.net_reader.proofs.Feeding.{ran}
+use Rattle.net_reader.proofs.Running.{run-join, run-length, run-more, run-none, run-number}
+
+-- the five bytes of a word and a blank
+five : (a b c d e : ℕ) (piece : List ℕ) → 5 ≤ length piece → get_or piece 0 0 ≡ a → get_or piece 1 0 ≡ b
+    → get_or piece 2 0 ≡ c → get_or piece 3 0 ≡ d → get_or piece 4 0 ≡ e
+    → piece ≡ (a ∷ b ∷ c ∷ d ∷ e ∷ []) ++ take (length piece - 5) (drop 5 piece)
+five a b c d e [] h p q r s t = absurd (omega arith)
+five a b c d e (v ∷ []) h p q r s t = absurd (omega arith)
+five a b c d e (v ∷ w ∷ []) h p q r s t = absurd (omega arith)
+five a b c d e (v ∷ w ∷ x ∷ []) h p q r s t = absurd (omega arith)
+five a b c d e (v ∷ w ∷ x ∷ y ∷ []) h p q r s t = absurd (omega arith)
+five a b c d e (v ∷ w ∷ x ∷ y ∷ z ∷ zs) h p q r s t =
+    let all : take (length (v ∷ w ∷ x ∷ y ∷ z ∷ zs) - 5) zs ≡ zs = take_all _ zs (omega arith) in cc
+
+pub opened : (word : Word) (packed a b c d e : ℕ) (piece : List ℕ) → 5 ≤ length piece → get_or piece 0 0 ≡ a
+    → get_or piece 1 0 ≡ b → get_or piece 2 0 ≡ c → get_or piece 3 0 ≡ d → get_or piece 4 0 ≡ e
+    → word_in packed ≡ Some word → list_all is_inside (a ∷ b ∷ c ∷ d ∷ e ∷ []) ≡ true
+    → between packed [] ≡ fold put fresh (a ∷ b ∷ c ∷ d ∷ e ∷ [])
+    → Opens word piece (take (length piece - 5) (drop 5 piece))
+opened word packed a b c d e piece h p q r s t named inside read = record {
+  packed = packed;
+  named = named;
+  run = record {
+    front = a ∷ b ∷ c ∷ d ∷ e ∷ [];
+    parts = five a b c d e piece h p q r s t;
+    inside = inside;
+    read = read;
+  };
+  shorter = omega (arith, h, length-take (length piece - 5) (drop 5 piece), length-drop 5 piece);
+}
+
+-- the six of `order` and a blank
+six : (a b c d e f : ℕ) (piece : List ℕ) → 6 ≤ length piece → get_or piece 0 0 ≡ a
+    → get_or piece 1 0 ≡ b → get_or piece 2 0 ≡ c → get_or piece 3 0 ≡ d → get_or piece 4 0 ≡ e
+    → get_or piece 5 0 ≡ f
+    → piece ≡ (a ∷ b ∷ c ∷ d ∷ e ∷ f ∷ []) ++ take (length piece - 6) (drop 6 piece)
+six a b c d e f [] h p q r s t u = absurd (omega arith)
+six a b c d e f (v ∷ vs) h p q r s t u =
+    let rest = five b c d e f vs (omega arith) q r s t u in
+    let same : length (v ∷ vs) - 6 ≡ length vs - 5 = omega arith in
+    ap (λ x. x ∷ vs) p ∙ ap (λ xs. a ∷ xs) rest
+    ∙ ap (λ n. (a ∷ b ∷ c ∷ d ∷ e ∷ f ∷ []) ++ take n (drop 5 vs)) (sym same)
+
+pub opened-order : (piece : List ℕ) → 6 ≤ length piece → get_or piece 0 0 ≡ 111 → get_or piece 1 0 ≡ 114
+    → get_or piece 2 0 ≡ 100 → get_or piece 3 0 ≡ 101 → get_or piece 4 0 ≡ 114 → get_or piece 5 0 ≡ 32
+    → Opens Order piece (take (length piece - 6) (drop 6 piece))
+unfolding put close_as more pack word_in
+opened-order piece h p q r s t u = record {
+  packed = 0x1_6f72_6465_72;
+  named = refl;
+  run = record {
+    front = 111 ∷ 114 ∷ 100 ∷ 101 ∷ 114 ∷ 32 ∷ [];
+    parts = six 111 114 100 101 114 32 piece h p q r s t u;
+    inside = refl;
+    read = refl;
+  };
+  shorter = omega (arith, h, length-take (length piece - 6) (drop 6 piece), length-drop 6 piece);
+}
+
+-- so many digits at the front, and their number
+pub record IsDigits (piece : List ℕ) (taken value : ℕ) : Type 0 where
+  pub plain : list_all is_plain (take taken piece) ≡ true
+  pub read : opens.Number taken value ≡ fold more (opens.Number 0 0) (take taken piece)
+  pub small : value < 10 ^ taken
+
+pub digit-behind : (piece : List ℕ) (taken value digit : ℕ) → IsDigits piece taken value → taken < length piece
+    → taken < 18 → is_ascii_digit (get_or piece taken 0) ≡ true → digit ≡ get_or piece taken 0 - 48
+    → IsDigits piece (taken + 1) (10 * value + digit)
+digit-behind piece taken value digit before within few is same =
+    let small = below-most value taken before.small few in
+    let low : digit < 10 = grind (arith, nat_tests, is, same) in
+    record {
+      plain = plain-more piece taken within is before.plain;
+      read = ap (λ d. opens.Number (taken + 1) (10 * value + d)) same
+          ∙ read-more piece taken value within is few small before.read;
+      small = still-small value taken digit before.small low;
+    }
+
+pub one-digit : (piece : List ℕ) (digit : ℕ) → 0 < length piece → is_ascii_digit (get_or piece 0 0) ≡ true
+    → digit ≡ get_or piece 0 0 - 48 → IsDigits piece 1 digit
+one-digit piece digit within is same =
+    let none : IsDigits piece 0 0 = record { plain = refl; read = refl; small = omega arith } in
+    let sum : 0 + digit ≡ digit = omega arith in
+    subst (λ v. IsDigits piece 1 v) sum (digit-behind piece 0 0 digit none within (omega arith) is same)
+
+-- digits, and the byte behind them
+pub number-before : (piece : List ℕ) (taken value end b : ℕ) (rest : List ℕ) → 0 < taken → taken ≤ length piece
+    → list_all is_plain (take taken piece) ≡ true
+    → opens.Number taken value ≡ fold more (opens.Number 0 0) (take taken piece) → end ≡ b
+    → b ∷ rest ≡ drop taken piece → IsNumberTo end value piece rest
+number-before piece taken value end b rest some within plain read same back = record {
+  count = taken;
+  run = λ line is. run-number line piece (end ∷ rest) taken value taken is some within
+      (ap (λ x. x ∷ rest) same ∙ back) plain read;
+}
+
+pub number-to : (piece : List ℕ) (taken value : ℕ) (rest : List ℕ) → 0 < taken → taken < length piece
+    → IsDigits piece taken value → rest ≡ drop (taken + 1) piece → IsNumberTo (get_or piece taken 0) value piece rest
+number-to piece taken value rest some within digits back =
+    let cut : drop taken piece ≡ get_or piece taken 0 ∷ drop (taken + 1) piece = rw (add-one, drop-cons piece taken 0) in
+    number-before piece taken value (get_or piece taken 0) (get_or piece taken 0) rest some (omega (arith, within))
+    digits.plain digits.read refl (ap (λ xs. get_or piece taken 0 ∷ xs) back ∙ sym cut)
+
+pub number-shorter : (end value : ℕ) (piece rest : List ℕ) → IsNumberTo end value piece rest
+    → length rest < length piece
+number-shorter end value piece rest number =
+    omega (arith, run-length (between 0 []) _ piece (end ∷ rest) (number.run (between 0 []) refl))
+
+-- a number, a blank, and what follows
+pub blank-behind : (word value : ℕ) (numbers piece rest : List ℕ) → IsNumberTo 32 value piece rest
+    → IsRun (between word numbers) (between word (keep numbers value)) piece rest
+unfolding put close_as
+blank-behind word value numbers piece rest number =
+    run-more (between word numbers) (record (between word numbers) { open_field = opens.Number number.count value })
+    (between word (keep numbers value)) piece rest rest 32 (number.run (between word numbers) refl) refl
+    (run-none (between word (keep numbers value)) rest)
+
+-- two numbers
+pub two-read : (a b : ℕ) (piece middle rest : List ℕ) → IsNumberTo 32 a piece middle → IsNumberTo 10 b middle rest
+    → IsNumbers (a ∷ b ∷ []) piece rest
+unfolding close_as
+two-read a b piece middle rest first second = record {
+  last = λ word. record (between word (a ∷ [])) { open_field = opens.Number second.count b };
+  run = λ word. run-join (between word []) (between word (a ∷ [])) _ piece middle (10 ∷ rest)
+      (blank-behind word a [] piece middle first) (second.run (between word (a ∷ [])) refl);
+  closed = λ word. refl;
+}
+
+pub three-read : (a b c : ℕ) (piece middle later rest : List ℕ) → IsNumberTo 32 a piece middle
+    → IsNumberTo 32 b middle later → IsNumberTo 10 c later rest → IsNumbers (a ∷ b ∷ c ∷ []) piece rest
+unfolding close_as
+three-read a b c piece middle later rest first second third = record {
+  last = λ word. record (between word (a ∷ b ∷ [])) { open_field = opens.Number third.count c };
+  run = λ word. run-join (between word []) (between word (a ∷ [])) _ piece middle (10 ∷ rest)
+      (blank-behind word a [] piece middle first)
+      (run-join (between word (a ∷ [])) (between word (a ∷ b ∷ [])) _ middle later (10 ∷ rest)
+      (blank-behind word b (a ∷ []) middle later second) (third.run (between word (a ∷ b ∷ [])) refl));
+  closed = λ word. refl;
+}
+
+-- the end of a line with a word and numbers
+judged : (last : LineState) (said : Said) (packed : ℕ) (word : Word) (numbers : List ℕ)
+    → close last ≡ between packed numbers → word_in packed ≡ Some word
+    → end_line last said ≡ judge_word said (Some word) (Some numbers)
+unfolding end_line
+judged last said packed word numbers closed named =
+    ap (λ (l : LineState). line_said l.open_field l.word l.numbers said) closed
+    ∙ ap (λ w. judge_word said w (Some numbers)) named
+
+-- a line that lies whole at the front
+pub whole-read : (m : ℕ) (said : Said) (word : Word) (numbers piece after rest : List ℕ) → Opens word piece after
+    → IsNumbers numbers after rest
+    → after_bytes (record {
+      said = fault_at (m + 1) (judge_word said (Some word) (Some numbers));
+      lines = m + 1;
+      begun = false;
+      held = false;
+      line = fresh;
+    }) rest
+    ≡ after_bytes (record { said = Ok said; lines = m; begun = false; held = false; line = fresh }) piece
+unfolding after_bytes next past_line
+whole-read m said word numbers piece after rest opening ends =
+    let packed = opening.packed in
+    let last = ends.last packed in
+    let run : IsRun fresh last piece (10 ∷ rest) =
+    run-join fresh (between packed []) last piece after (10 ∷ rest) opening.run (ends.run packed) in
+    let shorter : length (10 ∷ rest) < length piece =
+    omega (arith, opening.shorter, run-length (between packed []) last after (10 ∷ rest) (ends.run packed)) in
+    ap (λ s. after_bytes (record {
+      said = fault_at (m + 1) s;
+      lines = m + 1;
+      begun = false;
+      held = false;
+      line = fresh;
+    }) rest) (sym (judged last said packed word numbers (ends.closed packed) opening.named))
+    ∙ ran None false false m said fresh last piece (10 ∷ rest) refl refl run shorter
+
+abbrev resting : ℕ → Said → ReaderState
+resting m said = record { said = Ok said; lines = m; begun = false; held = false; line = fresh }
+
+pub heard-whole : (old new : ReaderState) (m : ℕ) (said : Said) (word : Word) (numbers piece after rest : List ℕ)
+    → old ≡ resting m said
+    → new ≡ record old { said = fault_at (m + 1) (judge_word said (Some word) (Some numbers)); lines = m + 1 }
+    → Opens word piece after → IsNumbers numbers after rest → after_bytes new rest ≡ after_bytes old piece
+heard-whole old new m said word numbers piece after rest is heard opening ends =
+    ap (λ r. after_bytes r rest) (heard ∙ ap (λ (r : ReaderState). record r {
+      said = fault_at (m + 1) (judge_word said (Some word) (Some numbers));
+      lines = m + 1;
+    }) is)
+    ∙ whole-read m said word numbers piece after rest opening ends
+    ∙ ap (λ r. after_bytes r piece) (sym is)
+
+-- and it is shorter behind
+pub whole-shorter : (word : Word) (numbers piece after rest : List ℕ) → Opens word piece after
+    → IsNumbers numbers after rest → length rest + 1 < length piece
+whole-shorter word numbers piece after rest opening ends =
+    omega (arith, opening.shorter, run-length (between 0 []) (ends.last 0) after (10 ∷ rest) (ends.run 0))
+
+-- one number more of the order
+keep-few : (numbers : List ℕ) (value : ℕ) → length numbers < 64 → keep numbers value ≡ numbers ++ value ∷ []
+keep-few numbers value few =
+    let within : ltb (length numbers) 65 ≡ true = grind (arith, nat_tests) in
+    ap (λ b. cond b (numbers ++ value ∷ []) numbers) within
+
+below-more : (limit value : ℕ) (numbers : List ℕ) → list_any (λ number. nat_le limit number) numbers ≡ false
+    → value < limit → list_any (λ number. nat_le limit number) (numbers ++ value ∷ []) ≡ false
+below-more limit value numbers below less =
+    let no : leb limit value ≡ false = grind (arith, nat_tests) in
+    list_any-append (λ number. nat_le limit number) numbers (value ∷ [])
+    ∙ ap (λ b. b || (leb limit value || false)) below ∙ ap (λ b. b || false) no
+
+pub taking-none : (limit : ℕ) (before piece : List ℕ) → IsTaking limit before before piece piece
+taking-none limit before piece = record {
+  numbers = [];
+  run = λ word. run-none (between word []) piece;
+  added = sym (append-nil before);
+  below = refl;
+}
+
+pub taking-more : (limit value : ℕ) (before now piece rest after : List ℕ) → IsTaking limit before now piece rest
+    → IsNumberTo 32 value rest after → value < limit → length now < length before + 64
+    → IsTaking limit before (now ++ value ∷ []) piece after
+taking-more limit value before now piece rest after taking number less few =
+    let numbers = taking.numbers in
+    let short : length numbers < 64 = omega (arith, few, ap length taking.added, length-append before numbers) in
+    record {
+      numbers = numbers ++ value ∷ [];
+      run = λ word. subst (λ ns. IsRun (between word []) (between word ns) piece after) (keep-few numbers value short)
+          (run-join (between word []) (between word numbers) (between word (keep numbers value)) piece rest after
+          (taking.run word) (blank-behind word value numbers rest after number));
+      added = ap (λ xs. xs ++ value ∷ []) taking.added ∙ append_assoc before numbers (value ∷ []);
+      below = below-more limit value numbers taking.below less;
+    }
+
+pub taking-last : (limit value : ℕ) (before now piece rest after : List ℕ) → IsTaking limit before now piece rest
+    → IsNumberTo 10 value rest after → value < limit → length now < length before + 64
+    → Takes limit before (now ++ value ∷ []) piece after
+unfolding close_as
+taking-last limit value before now piece rest after taking number less few =
+    let numbers = taking.numbers in
+    let short : length numbers < 64 = omega (arith, few, ap length taking.added, length-append before numbers) in
+    let last : ℕ → LineState = λ word. record (between word numbers) { open_field = opens.Number number.count value } in
+    record {
+      numbers = numbers ++ value ∷ [];
+      ends = record {
+        last = last;
+        run = λ word. run-join (between word []) (between word numbers) (last word) piece rest (10 ∷ after)
+            (taking.run word) (number.run (between word numbers) refl);
+        closed = λ word. ap (between word) (keep-few numbers value short);
+      };
+      added = ap (λ xs. xs ++ value ∷ []) taking.added ∙ append_assoc before numbers (value ∷ []);
+      some = omega (arith, length-append numbers (value ∷ []));
+      few = omega (arith, short, length-append numbers (value ∷ []));
+      below = below-more limit value numbers taking.below less;
+    }

@@ -1,0 +1,56 @@
+-- Lines that lie whole in a piece, as the steps from byte to byte see them.
+-- Key law: `Scan::whole_lines` reads them as `Scan::read` does.
+use Rattle.std.specs.Prelude.{◌≡◌, ◌<◌, ◌≤◌, ◌++◌, ℕ, List, [], ◌∷◌, false, length, nat_le, Ok, Some}
+use Rattle.std.specs.List.{list_any}
+use Rattle.net_reader.specs.declared.line.Open.TheVariants as opens
+use Rattle.net_reader.specs.declared.known.Known.{Known}
+use Rattle.net_reader.specs.declared.word.Word.{Word}
+use Rattle.net_reader.specs.declared.word.Word.TheVariants.{Order}
+use Rattle.net_reader.specs.Seen.{seen_known}
+use Rattle.net_reader.specs.Table.{judge_word}
+use Rattle.net_reader.specs.Steps.{IsRun, LineState, close, fresh, word_in}
+
+-- a line behind its word and these numbers, each with a blank behind it
+abbrev pub between : ℕ → List ℕ → LineState
+between word numbers = record { open_field = opens.Between; word = word; numbers = numbers }
+
+-- the word of a line, and a blank
+pub record Opens (word : Word) (piece rest : List ℕ) : Type 0 where
+  pub packed : ℕ
+  pub named : word_in packed ≡ Some word
+  pub run : IsRun fresh (between packed []) piece rest
+  pub shorter : length rest < length piece
+
+-- a number, and the byte behind it, which ends it
+pub record IsNumberTo (end value : ℕ) (piece rest : List ℕ) : Type 0 where
+  pub count : ℕ
+  pub run : (line : LineState) → line.open_field ≡ opens.Between
+      → IsRun line (record line { open_field = opens.Number count value }) piece (end ∷ rest)
+
+-- these numbers, and the end of the line
+pub record IsNumbers (numbers piece rest : List ℕ) : Type 0 where
+  pub last : ℕ → LineState
+  pub run : (word : ℕ) → IsRun (between word []) (last word) piece (10 ∷ rest)
+  pub closed : (word : ℕ) → close (last word) ≡ between word numbers
+
+-- the numbers of a line of the order so far, which are below the limit and few, behind those before
+pub record IsTaking (limit : ℕ) (before now piece rest : List ℕ) : Type 0 where
+  pub numbers : List ℕ
+  pub run : (word : ℕ) → IsRun (between word []) (between word numbers) piece rest
+  pub added : now ≡ before ++ numbers
+  pub below : list_any (λ number. nat_le limit number) numbers ≡ false
+
+-- and all of them, up to the end of the line
+pub record Takes (limit : ℕ) (before now piece rest : List ℕ) : Type 0 where
+  pub numbers : List ℕ
+  pub ends : IsNumbers numbers piece rest
+  pub added : now ≡ before ++ numbers
+  pub some : 0 < length numbers
+  pub few : length numbers ≤ 64
+  pub below : list_any (λ number. nat_le limit number) numbers ≡ false
+
+-- what was read with a line of the order
+pub record HearsOrder (before now : Known) (piece rest : List ℕ) : Type 0 where
+  pub numbers : List ℕ
+  pub ends : IsNumbers numbers piece rest
+  pub heard : judge_word (seen_known before) (Some Order) (Some numbers) ≡ Ok (seen_known now)

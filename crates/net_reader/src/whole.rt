@@ -1,0 +1,144 @@
+//! The parts of a line that lies whole in a piece, as most do.
+ghost use Rattle.std.specs.Prelude.{◌≡◌, ◌≤◌, ◌^◌, IfOk, IfSome, IfNone, [], ◌∷◌};
+ghost use Rattle.net_reader.specs.Whole.{IsNumbers, IsNumberTo, Opens, Takes};
+
+use crate::line::leading_number;
+use crate::word::Word;
+use std::alloc::AllocError;
+
+// The most numbers of a line of the order.
+const MAX_ORDER: usize = 64;
+
+// The word of a line of the order, where a blank stands behind it, and what stands behind that.
+#[inline(always)]
+fn opening_of_order(piece: &[u8]) -> Option<(Word, &[u8])>
+    ensures { IfSome result (λ found. Opens found.0 piece.now found.1.now) }
+{
+    match piece {
+        [b'o', b'r', b'd', b'e', b'r', b' ', after @ ..] => Some((Word::Order, after)),
+        _ => None,
+    }
+}
+
+// The word of a line of a kind of which there are many, where a blank stands behind it, and what
+// stands behind that.
+#[inline(always)]
+pub(crate) fn opening(piece: &[u8]) -> Option<(Word, &[u8])>
+    ensures { IfSome result (λ found. Opens found.0 piece.now found.1.now) }
+{
+    match piece {
+        [b'm', b'o', b'v', b'e', b' ', after @ ..] => Some((Word::Move, after)),
+        [b'f', b'i', b'n', b'd', b' ', after @ ..] => Some((Word::Find, after)),
+        [b'e', b'd', b'g', b'e', b' ', after @ ..] => Some((Word::Edge, after)),
+        _ => opening_of_order(piece),
+    }
+}
+
+// A number of at most three digits at the front, the byte that ends it, and what stands behind.
+#[inline(always)]
+pub(crate) fn short_number(piece: &[u8]) -> Option<(u64, u8, &[u8])>
+    ensures { IfSome result (λ found. IsNumberTo found.1 found.0 piece.now found.2.now) }
+{
+    let [first, second, third, fourth, ..] = piece else {
+        return None;
+    };
+    if !first.is_ascii_digit() {
+        return None;
+    }
+    let ones = u64::from(*first - b'0');
+    if !second.is_ascii_digit() {
+        return Some((ones, *second, piece.split_at(2).1));
+    }
+    let tens = 10 * ones + u64::from(*second - b'0');
+    if !third.is_ascii_digit() {
+        return Some((tens, *third, piece.split_at(3).1));
+    }
+    let hundreds = 10 * tens + u64::from(*third - b'0');
+    Some((hundreds, *fourth, piece.split_at(4).1))
+}
+
+// The number at the front that this byte ends, of any length, and what stands behind the byte.
+fn long_number_to(end: u8, piece: &[u8]) -> Option<(u64, &[u8])>
+    ensures { IfSome result (λ found. IsNumberTo end found.0 piece.now found.1.now) }
+{
+    let (value, taken) = leading_number(piece);
+    if taken == 0 {
+        return None;
+    }
+    if let [byte, after @ ..] = piece.split_at(taken).1 {
+        if *byte == end {
+            return Some((value, after));
+        }
+    }
+    None
+}
+
+// The same; most numbers are short.
+#[inline(always)]
+fn number_to(end: u8, piece: &[u8]) -> Option<(u64, &[u8])>
+    ensures { IfSome result (λ found. IsNumberTo end found.0 piece.now found.1.now) }
+{
+    if let Some((value, byte, after)) = short_number(piece) {
+        if byte == end {
+            return Some((value, after));
+        }
+    }
+    long_number_to(end, piece)
+}
+
+// The two numbers that stand one blank apart before the end of the line, and what stands behind it.
+#[inline(always)]
+pub(crate) fn two_numbers(piece: &[u8]) -> Option<(u64, u64, &[u8])>
+    ensures { IfSome result (λ found. IsNumbers (found.0 ∷ found.1 ∷ []) piece.now found.2.now) }
+{
+    let (first, rest) = number_to(b' ', piece)?;
+    let (second, rest) = number_to(b'\n', rest)?;
+    Some((first, second, rest))
+}
+
+// Three such numbers.
+#[inline(always)]
+pub(crate) fn three_numbers(piece: &[u8]) -> Option<(u64, u64, u64, &[u8])>
+    ensures { IfSome result (λ found. IsNumbers (found.0 ∷ found.1 ∷ found.2 ∷ []) piece.now
+        found.3.now) }
+{
+    let (first, rest) = number_to(b' ', piece)?;
+    let (second, rest) = number_to(b' ', rest)?;
+    let (third, rest) = number_to(b'\n', rest)?;
+    Some((first, second, third, rest))
+}
+
+// Adds to an order the numbers below the limit that stand one blank apart before the end of the
+// line, and gives what stands behind it; where the line isn't so, or has more than an order's line
+// may have, it adds nothing.
+pub(crate) fn push_line<'a>(
+    order: &mut Vec<u32>,
+    limit: u64,
+    piece: &'a [u8],
+) -> Result<Option<&'a [u8]>, AllocError>
+    requires { limit ≤ 2 ^ 32 }
+    ensures taken { IfOk result (λ found. IfSome found (λ rest. Takes limit order.old.items
+        order.new.items piece.now rest.now)) }
+    ensures still { IfOk result (λ found. IfNone found (order.new.items ≡ order.old.items)) }
+{
+    let begun = order.len();
+    let mut rest = piece;
+    'numbers: while order.len() - begun < MAX_ORDER {
+        let Some((number, end, after)) = short_number(rest) else {
+            break;
+        };
+        if number >= limit {
+            break;
+        }
+        order.push(number as u32)?;
+        if end == b'\n' {
+            return Ok(Some(after));
+        }
+        if end != b' ' {
+            break;
+        }
+        rest = after;
+    }
+    order.truncate(begun);
+    Ok(None)
+}
