@@ -1,5 +1,5 @@
 -- Lines that lie whole in a piece.
-use Rattle.std.proofs.Common.{◌≡◌, ℕ, ◌||◌, cond, leb, ltb, append_assoc, length-append, ◌+◌, ◌-◌, ◌*◌, ◌^◌, ◌<◌, ◌≤◌, true, false, fold, take, drop, List, [], ◌∷◌, ◌++◌, length, get_or, None, Some, Ok, refl, ap, sym, ◌∙◌, arith, add-one, drop-cons, length-take, length-drop, subst}
+use Rattle.std.proofs.Common.{◌≡◌, ℕ, ◌||◌, cond, leb, ltb, append_assoc, length-append, ◌+◌, ◌-◌, ◌*◌, ◌<◌, ◌≤◌, true, false, fold, take, drop, List, [], ◌∷◌, ◌++◌, length, get_or, None, Some, Ok, refl, ap, sym, ◌∙◌, arith, add-one, drop-cons, length-take, length-drop, subst}
 use Rattle.std.proofs.lemmas.Bool.Decides.{nat_tests}
 use Rattle.std.proofs.lemmas.List.{append-nil, take_all}
 use Rattle.std.specs.Char.{is_ascii_digit}
@@ -12,7 +12,7 @@ use Rattle.net_reader.specs.declared.word.Word.TheVariants.{Order}
 use Rattle.net_reader.specs.Said.{Said}
 use Rattle.net_reader.specs.Steps.{IsRun, LineState, ReaderState, after_bytes, close, close_as, end_line, fault_at, fresh, is_inside, is_plain, keep, line_said, more, next, pack, past_line, put, word_in}
 use Rattle.net_reader.specs.Table.{judge_word}
-use Rattle.net_reader.specs.Whole.{IsNumbers, IsNumberTo, IsTaking, Opens, Takes, between}
+use Rattle.net_reader.specs.Whole.{IsDigits, IsNumbers, IsNumberTo, IsTaking, Opens, Takes, between}
 use Rattle.net_reader.proofs.Digits.{below-most, plain-more, read-more, still-small}
 use Rattle.net_reader.proofs.Feeding.{ran}
 use Rattle.net_reader.proofs.Running.{run-join, run-length, run-more, run-none, run-number}
@@ -74,12 +74,7 @@ opened-order piece h p q r s t u = record {
   shorter = omega (arith, h, length-take (length piece - 6) (drop 6 piece), length-drop 6 piece);
 }
 
--- so many digits at the front, and their number
-pub record IsDigits (piece : List ℕ) (taken value : ℕ) : Type 0 where
-  pub plain : list_all is_plain (take taken piece) ≡ true
-  pub read : opens.Number taken value ≡ fold more (opens.Number 0 0) (take taken piece)
-  pub small : value < 10 ^ taken
-
+-- one digit more
 pub digit-behind : (piece : List ℕ) (taken value digit : ℕ) → IsDigits piece taken value → taken < length piece
     → taken < 18 → is_ascii_digit (get_or piece taken 0) ≡ true → digit ≡ get_or piece taken 0 - 48
     → IsDigits piece (taken + 1) (10 * value + digit)
@@ -93,12 +88,14 @@ digit-behind piece taken value digit before within few is same =
       small = still-small value taken digit before.small low;
     }
 
+pub no-digits : (piece : List ℕ) → IsDigits piece 0 0
+no-digits piece = record { plain = refl; read = refl; small = omega arith }
+
 pub one-digit : (piece : List ℕ) (digit : ℕ) → 0 < length piece → is_ascii_digit (get_or piece 0 0) ≡ true
     → digit ≡ get_or piece 0 0 - 48 → IsDigits piece 1 digit
 one-digit piece digit within is same =
-    let none : IsDigits piece 0 0 = record { plain = refl; read = refl; small = omega arith } in
     let sum : 0 + digit ≡ digit = omega arith in
-    subst (λ v. IsDigits piece 1 v) sum (digit-behind piece 0 0 digit none within (omega arith) is same)
+    subst (λ v. IsDigits piece 1 v) sum (digit-behind piece 0 0 digit (no-digits piece) within (omega arith) is same)
 
 -- digits, and the byte behind them
 pub number-before : (piece : List ℕ) (taken value end b : ℕ) (rest : List ℕ) → 0 < taken → taken ≤ length piece

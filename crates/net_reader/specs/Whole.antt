@@ -1,14 +1,14 @@
 -- Lines that lie whole in a piece, as the steps from byte to byte see them.
 -- Key law: `Scan::whole_lines` reads them as `Scan::read` does.
-use Rattle.std.specs.Prelude.{◌≡◌, ◌<◌, ◌≤◌, ◌++◌, ℕ, List, [], ◌∷◌, false, length, nat_le, Ok, Some}
-use Rattle.std.specs.List.{list_any}
+use Rattle.std.specs.Prelude.{◌≡◌, ◌<◌, ◌≤◌, ◌^◌, ◌++◌, ℕ, List, [], ◌∷◌, false, true, fold, length, take, nat_le, Ok, Some}
+use Rattle.std.specs.List.{list_all, list_any}
 use Rattle.net_reader.specs.declared.line.Open.TheVariants as opens
 use Rattle.net_reader.specs.declared.known.Known.{Known}
 use Rattle.net_reader.specs.declared.word.Word.{Word}
 use Rattle.net_reader.specs.declared.word.Word.TheVariants.{Order}
 use Rattle.net_reader.specs.Seen.{seen_known}
 use Rattle.net_reader.specs.Table.{judge_word}
-use Rattle.net_reader.specs.Steps.{IsRun, LineState, close, fresh, word_in}
+use Rattle.net_reader.specs.Steps.{IsRun, LineState, close, fresh, is_plain, more, word_in}
 
 -- a line behind its word and these numbers, each with a blank behind it
 abbrev pub between : ℕ → List ℕ → LineState
@@ -20,6 +20,12 @@ pub record Opens (word : Word) (piece rest : List ℕ) : Type 0 where
   pub named : word_in packed ≡ Some word
   pub run : IsRun fresh (between packed []) piece rest
   pub shorter : length rest < length piece
+
+-- so many digits at the front, and their number
+pub record IsDigits (piece : List ℕ) (taken value : ℕ) : Type 0 where
+  pub plain : list_all is_plain (take taken piece) ≡ true
+  pub read : opens.Number taken value ≡ fold more (opens.Number 0 0) (take taken piece)
+  pub small : value < 10 ^ taken
 
 -- a number, and the byte behind it, which ends it
 pub record IsNumberTo (end value : ℕ) (piece rest : List ℕ) : Type 0 where

@@ -122,7 +122,7 @@ fn digit_run(count: u32, value: u64, piece: &[u8]) -> (u32, u64, usize)
 
 // The number that the digits at the front are, up to 18 of them, and how many they are.
 #[tactic(auto, unfolding(crate::specs::Steps::more, crate::specs::Steps::more_digits))]
-pub(crate) fn leading_number(piece: &[u8]) -> (u64, usize)
+fn leading_number(piece: &[u8]) -> (u64, usize)
     ensures within { result.1 ≤ length piece.now }
     ensures plain { list_all is_plain (take result.1 piece.now) ≡ true }
     ensures read { Number result.1 result.0

@@ -11,7 +11,7 @@ use crate::fault::{InputCause, InputFault, ReadRefusal};
 use crate::known::Known;
 use crate::line::{Line, Open};
 use crate::stop::Stop;
-use crate::whole::{opening, three_numbers, two_numbers};
+use crate::whole::{edge_numbers, opening, three_numbers, two_numbers};
 use crate::word::{Place, Word};
 use std::alloc::{AllocError, Global};
 
@@ -268,10 +268,17 @@ impl Scan {
             self.hear(word, &[first, second])?;
             return Ok(rest);
         }
-        let Some((first, second, third, rest)) = three_numbers(after) else {
+        if let Word::Find = word {
+            let Some((first, second, third, rest)) = three_numbers(after) else {
+                return Ok(piece);
+            };
+            self.hear(word, &[first, second, third])?;
+            return Ok(rest);
+        }
+        let Some((first, second, weight, rest)) = edge_numbers(after) else {
             return Ok(piece);
         };
-        self.hear(word, &[first, second, third])?;
+        self.hear(word, &[first, second, weight])?;
         Ok(rest)
     }
 

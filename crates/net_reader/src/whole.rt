@@ -1,8 +1,7 @@
 //! The parts of a line that lies whole in a piece, as most do.
-ghost use Rattle.std.specs.Prelude.{◌≡◌, ◌≤◌, ◌^◌, IfOk, IfSome, IfNone, [], ◌∷◌};
-ghost use Rattle.net_reader.specs.Whole.{IsNumbers, IsNumberTo, Opens, Takes};
+ghost use Rattle.std.specs.Prelude.{◌≡◌, ◌≤◌, ◌^◌, length, IfOk, IfSome, IfNone, [], ◌∷◌};
+ghost use Rattle.net_reader.specs.Whole.{IsDigits, IsNumbers, IsNumberTo, Opens, Takes};
 
-use crate::line::leading_number;
 use crate::word::Word;
 use std::alloc::AllocError;
 
@@ -57,23 +56,46 @@ pub(crate) fn short_number(piece: &[u8]) -> Option<(u64, u8, &[u8])>
     Some((hundreds, *fourth, piece.split_at(4).1))
 }
 
-// The number at the front that this byte ends, of any length, and what stands behind the byte.
+// The number that the digits at the front are, up to seven of them, and how many they are.
+#[inline(always)]
+fn seven_digits(piece: &[u8]) -> (u64, usize)
+    requires { 7 ≤ length piece.now }
+    ensures read { IsDigits piece.now result.1 result.0 }
+    ensures few { result.1 ≤ 7 }
+{
+    let mut number = 0;
+    let mut taken = 0;
+    'digits: while taken < 7 && piece[taken].is_ascii_digit() {
+        number = 10 * number + u64::from(piece[taken] - b'0');
+        taken += 1;
+    }
+    (number, taken)
+}
+
+// The number of at most seven digits at the front that this byte ends, and what stands behind the
+// byte. Weights have so many.
+#[inline(always)]
+fn wide_number_to(end: u8, piece: &[u8]) -> Option<(u64, &[u8])>
+    ensures { IfSome result (λ found. IsNumberTo end found.0 piece.now found.1.now) }
+{
+    if piece.len() < 8 {
+        return None;
+    }
+    let (value, taken) = seven_digits(piece);
+    if taken == 0 || piece[taken] != end {
+        return None;
+    }
+    Some((value, piece.split_at(taken + 1).1))
+}
+
+// The same, where it is rare.
 fn long_number_to(end: u8, piece: &[u8]) -> Option<(u64, &[u8])>
     ensures { IfSome result (λ found. IsNumberTo end found.0 piece.now found.1.now) }
 {
-    let (value, taken) = leading_number(piece);
-    if taken == 0 {
-        return None;
-    }
-    if let [byte, after @ ..] = piece.split_at(taken).1 {
-        if *byte == end {
-            return Some((value, after));
-        }
-    }
-    None
+    wide_number_to(end, piece)
 }
 
-// The same; most numbers are short.
+// The same; most numbers have at most three digits.
 #[inline(always)]
 fn number_to(end: u8, piece: &[u8]) -> Option<(u64, &[u8])>
     ensures { IfSome result (λ found. IsNumberTo end found.0 piece.now found.1.now) }
@@ -106,6 +128,18 @@ pub(crate) fn three_numbers(piece: &[u8]) -> Option<(u64, u64, u64, &[u8])>
     let (second, rest) = number_to(b' ', rest)?;
     let (third, rest) = number_to(b'\n', rest)?;
     Some((first, second, third, rest))
+}
+
+// The numbers of an edge: its nodes and its weight.
+#[inline(always)]
+pub(crate) fn edge_numbers(piece: &[u8]) -> Option<(u64, u64, u64, &[u8])>
+    ensures { IfSome result (λ found. IsNumbers (found.0 ∷ found.1 ∷ found.2 ∷ []) piece.now
+        found.3.now) }
+{
+    let (first, rest) = number_to(b' ', piece)?;
+    let (second, rest) = number_to(b' ', rest)?;
+    let (weight, rest) = wide_number_to(b'\n', rest)?;
+    Some((first, second, weight, rest))
 }
 
 // Adds to an order the numbers below the limit that stand one blank apart before the end of the
