@@ -1,5 +1,5 @@
 -- Lines that lie whole in a piece.
-use Rattle.std.proofs.Common.{◌≡◌, ℕ, ◌||◌, cond, leb, ltb, append_assoc, length-append, ◌+◌, ◌-◌, ◌*◌, ◌<◌, ◌≤◌, true, false, fold, take, drop, List, [], ◌∷◌, ◌++◌, length, get_or, None, Some, Ok, refl, ap, sym, ◌∙◌, arith, add-one, drop-cons, length-take, length-drop, subst}
+use Rattle.std.proofs.Common.{◌≡◌, inl, inr, ℕ, ◌||◌, cond, leb, ltb, append_assoc, length-append, ◌+◌, ◌-◌, ◌*◌, ◌<◌, ◌≤◌, true, false, fold, take, drop, List, [], ◌∷◌, ◌++◌, length, get_or, None, Some, Ok, refl, ap, sym, ◌∙◌, arith, add-one, drop-cons, length-take, length-drop, subst}
 use Rattle.std.proofs.lemmas.Bool.Decides.{nat_tests}
 use Rattle.std.proofs.lemmas.List.{append-nil, take_all}
 use Rattle.std.specs.Char.{is_ascii_digit}
@@ -10,9 +10,9 @@ use Rattle.net_reader.specs.declared.line.Open.TheVariants as opens
 use Rattle.net_reader.specs.declared.word.Word.{Word}
 use Rattle.net_reader.specs.declared.word.Word.TheVariants.{Order}
 use Rattle.net_reader.specs.Said.{Said}
-use Rattle.net_reader.specs.Steps.{IsRun, LineState, ReaderState, after_bytes, close, close_as, end_line, fault_at, fresh, is_inside, is_plain, keep, line_said, more, next, pack, past_line, put, word_in}
+use Rattle.net_reader.specs.Steps.{IsRun, LineState, ReaderState, after_bytes, close, close_as, end_line, fault_at, fresh, is_inside, is_plain, keep, line_said, more, next, pack, past_line, put, release, word_in}
 use Rattle.net_reader.specs.Table.{judge_word}
-use Rattle.net_reader.specs.Whole.{IsDigits, IsNumbers, IsNumberTo, IsTaking, Opens, Takes, between}
+use Rattle.net_reader.specs.Whole.{IsDigits, IsEnd, IsLast, IsNumbers, IsNumberTo, IsUpTo, IsTaking, Opens, Takes, between}
 use Rattle.net_reader.proofs.Digits.{below-most, plain-more, read-more, still-small}
 use Rattle.net_reader.proofs.Feeding.{ran}
 use Rattle.net_reader.proofs.Running.{run-join, run-length, run-more, run-none, run-number}
@@ -129,28 +129,55 @@ blank-behind word value numbers piece rest number =
     (between word (keep numbers value)) piece rest rest 32 (number.run (between word numbers) refl) refl
     (run-none (between word (keep numbers value)) rest)
 
+-- a number before the end of a line
+pub last-read : (end value : ℕ) (piece after rest : List ℕ) → IsNumberTo end value piece after → IsEnd end after rest
+    → IsLast value piece rest
+last-read end value piece after rest number (inl e) =
+    let feed : IsNumberTo 10 value piece after = subst (λ b. IsNumberTo b value piece after) e.0 number in
+    inl (subst (IsNumberTo 10 value piece) (sym e.1) feed)
+last-read end value piece after rest number (inr e) =
+    let return : IsNumberTo 13 value piece after = subst (λ b. IsNumberTo b value piece after) e.0 number in
+    inr (subst (IsNumberTo 13 value piece) e.1 return)
+
 -- two numbers
-pub two-read : (a b : ℕ) (piece middle rest : List ℕ) → IsNumberTo 32 a piece middle → IsNumberTo 10 b middle rest
-    → IsNumbers (a ∷ b ∷ []) piece rest
+two-up-to : (a b end : ℕ) (piece middle rest : List ℕ) → IsNumberTo 32 a piece middle → IsNumberTo end b middle rest
+    → IsUpTo (a ∷ b ∷ []) piece (end ∷ rest)
 unfolding close_as
-two-read a b piece middle rest first second = record {
+two-up-to a b end piece middle rest first second = record {
   last = λ word. record (between word (a ∷ [])) { open_field = opens.Number second.count b };
-  run = λ word. run-join (between word []) (between word (a ∷ [])) _ piece middle (10 ∷ rest)
+  run = λ word. run-join (between word []) (between word (a ∷ [])) _ piece middle (end ∷ rest)
       (blank-behind word a [] piece middle first) (second.run (between word (a ∷ [])) refl);
   closed = λ word. refl;
 }
 
-pub three-read : (a b c : ℕ) (piece middle later rest : List ℕ) → IsNumberTo 32 a piece middle
-    → IsNumberTo 32 b middle later → IsNumberTo 10 c later rest → IsNumbers (a ∷ b ∷ c ∷ []) piece rest
+pub two-read : (a b : ℕ) (piece middle rest : List ℕ) → IsNumberTo 32 a piece middle → IsLast b middle rest
+    → IsNumbers (a ∷ b ∷ []) piece rest
+two-read a b piece middle rest first (inl second) = inl (two-up-to a b 10 piece middle rest first second)
+two-read a b piece middle rest first (inr second) = inr (two-up-to a b 13 piece middle (10 ∷ rest) first second)
+
+-- three
+three-up-to : (a b c end : ℕ) (piece middle later rest : List ℕ) → IsNumberTo 32 a piece middle
+    → IsNumberTo 32 b middle later → IsNumberTo end c later rest → IsUpTo (a ∷ b ∷ c ∷ []) piece (end ∷ rest)
 unfolding close_as
-three-read a b c piece middle later rest first second third = record {
+three-up-to a b c end piece middle later rest first second third = record {
   last = λ word. record (between word (a ∷ b ∷ [])) { open_field = opens.Number third.count c };
-  run = λ word. run-join (between word []) (between word (a ∷ [])) _ piece middle (10 ∷ rest)
+  run = λ word. run-join (between word []) (between word (a ∷ [])) _ piece middle (end ∷ rest)
       (blank-behind word a [] piece middle first)
-      (run-join (between word (a ∷ [])) (between word (a ∷ b ∷ [])) _ middle later (10 ∷ rest)
+      (run-join (between word (a ∷ [])) (between word (a ∷ b ∷ [])) _ middle later (end ∷ rest)
       (blank-behind word b (a ∷ []) middle later second) (third.run (between word (a ∷ b ∷ [])) refl));
   closed = λ word. refl;
 }
+
+pub three-read : (a b c : ℕ) (piece middle later rest : List ℕ) → IsNumberTo 32 a piece middle
+    → IsNumberTo 32 b middle later → IsLast c later rest → IsNumbers (a ∷ b ∷ c ∷ []) piece rest
+three-read a b c piece middle later rest first second (inl third) =
+    inl (three-up-to a b c 10 piece middle later rest first second third)
+three-read a b c piece middle later rest first second (inr third) =
+    inr (three-up-to a b c 13 piece middle later (10 ∷ rest) first second third)
+
+-- a reader before a line
+abbrev resting : ℕ → Said → ReaderState
+resting m said = record { said = Ok said; lines = m; begun = false; held = false; line = fresh }
 
 -- the end of a line with a word and numbers
 judged : (last : LineState) (said : Said) (packed : ℕ) (word : Word) (numbers : List ℕ)
@@ -161,36 +188,68 @@ judged last said packed word numbers closed named =
     ap (λ (l : LineState). line_said l.open_field l.word l.numbers said) closed
     ∙ ap (λ w. judge_word said w (Some numbers)) named
 
--- a line that lies whole at the front
-pub whole-read : (m : ℕ) (said : Said) (word : Word) (numbers piece after rest : List ℕ) → Opens word piece after
-    → IsNumbers numbers after rest
+-- a line that lies whole at the front, up to its end
+abbrev judged_at : ℕ → Said → Word → List ℕ → ReaderState
+judged_at m said word numbers = record {
+  said = fault_at (m + 1) (judge_word said (Some word) (Some numbers));
+  lines = m + 1;
+  begun = false;
+  held = false;
+  line = fresh;
+}
+
+up-to-shorter : (word : Word) (numbers piece after left : List ℕ) → Opens word piece after
+    → IsUpTo numbers after left → length left < length piece
+up-to-shorter word numbers piece after left opening ends =
+    omega (arith, opening.shorter, run-length (between 0 []) (ends.last 0) after left (ends.run 0))
+
+up-to-read : (m : ℕ) (said : Said) (word : Word) (numbers piece after left : List ℕ) (opening : Opens word piece after)
+    (ends : IsUpTo numbers after left)
     → after_bytes (record {
-      said = fault_at (m + 1) (judge_word said (Some word) (Some numbers));
+      said = Ok said;
+      lines = m + 1;
+      begun = true;
+      held = false;
+      line = ends.last opening.packed;
+    }) left
+    ≡ after_bytes (resting m said) piece
+up-to-read m said word numbers piece after left opening ends =
+    let packed = opening.packed in
+    let last = ends.last packed in
+    ran None false false m said fresh last piece left refl refl
+    (run-join fresh (between packed []) last piece after left opening.run (ends.run packed))
+    (up-to-shorter word numbers piece after left opening ends)
+
+judged-line : (m : ℕ) (said : Said) (word : Word) (numbers piece after left rest : List ℕ)
+    (opening : Opens word piece after) (ends : IsUpTo numbers after left)
+    → after_bytes (judged_at m said word numbers) rest
+    ≡ after_bytes (record {
+      said = fault_at (m + 1) (end_line (ends.last opening.packed) said);
       lines = m + 1;
       begun = false;
       held = false;
       line = fresh;
     }) rest
-    ≡ after_bytes (record { said = Ok said; lines = m; begun = false; held = false; line = fresh }) piece
-unfolding after_bytes next past_line
-whole-read m said word numbers piece after rest opening ends =
+judged-line m said word numbers piece after left rest opening ends =
     let packed = opening.packed in
-    let last = ends.last packed in
-    let run : IsRun fresh last piece (10 ∷ rest) =
-    run-join fresh (between packed []) last piece after (10 ∷ rest) opening.run (ends.run packed) in
-    let shorter : length (10 ∷ rest) < length piece =
-    omega (arith, opening.shorter, run-length (between packed []) last after (10 ∷ rest) (ends.run packed)) in
     ap (λ s. after_bytes (record {
       said = fault_at (m + 1) s;
       lines = m + 1;
       begun = false;
       held = false;
       line = fresh;
-    }) rest) (sym (judged last said packed word numbers (ends.closed packed) opening.named))
-    ∙ ran None false false m said fresh last piece (10 ∷ rest) refl refl run shorter
+    }) rest) (sym (judged (ends.last packed) said packed word numbers (ends.closed packed) opening.named))
 
-abbrev resting : ℕ → Said → ReaderState
-resting m said = record { said = Ok said; lines = m; begun = false; held = false; line = fresh }
+pub whole-read : (m : ℕ) (said : Said) (word : Word) (numbers piece after rest : List ℕ) → Opens word piece after
+    → IsNumbers numbers after rest
+    → after_bytes (judged_at m said word numbers) rest ≡ after_bytes (resting m said) piece
+unfolding after_bytes next past_line release
+whole-read m said word numbers piece after rest opening (inl ends) =
+    judged-line m said word numbers piece after (10 ∷ rest) rest opening ends
+    ∙ up-to-read m said word numbers piece after (10 ∷ rest) opening ends
+whole-read m said word numbers piece after rest opening (inr ends) =
+    judged-line m said word numbers piece after (13 ∷ 10 ∷ rest) rest opening ends
+    ∙ up-to-read m said word numbers piece after (13 ∷ 10 ∷ rest) opening ends
 
 pub heard-whole : (old new : ReaderState) (m : ℕ) (said : Said) (word : Word) (numbers piece after rest : List ℕ)
     → old ≡ resting m said
@@ -207,8 +266,10 @@ heard-whole old new m said word numbers piece after rest is heard opening ends =
 -- and it is shorter behind
 pub whole-shorter : (word : Word) (numbers piece after rest : List ℕ) → Opens word piece after
     → IsNumbers numbers after rest → length rest + 1 < length piece
-whole-shorter word numbers piece after rest opening ends =
-    omega (arith, opening.shorter, run-length (between 0 []) (ends.last 0) after (10 ∷ rest) (ends.run 0))
+whole-shorter word numbers piece after rest opening (inl ends) =
+    omega (arith, up-to-shorter word numbers piece after (10 ∷ rest) opening ends)
+whole-shorter word numbers piece after rest opening (inr ends) =
+    omega (arith, up-to-shorter word numbers piece after (13 ∷ 10 ∷ rest) opening ends)
 
 -- one number more of the order
 keep-few : (numbers : List ℕ) (value : ℕ) → length numbers < 64 → keep numbers value ≡ numbers ++ value ∷ []
@@ -246,22 +307,36 @@ taking-more limit value before now piece rest after taking number less few =
       below = below-more limit value numbers taking.below less;
     }
 
-pub taking-last : (limit value : ℕ) (before now piece rest after : List ℕ) → IsTaking limit before now piece rest
-    → IsNumberTo 10 value rest after → value < limit → length now < length before + 64
-    → Takes limit before (now ++ value ∷ []) piece after
+taken-up-to : (limit value end : ℕ) (before now piece rest after : List ℕ)
+    (taking : IsTaking limit before now piece rest) → IsNumberTo end value rest after → length taking.numbers < 64
+    → IsUpTo (taking.numbers ++ value ∷ []) piece (end ∷ after)
 unfolding close_as
+taken-up-to limit value end before now piece rest after taking number short =
+    let numbers = taking.numbers in
+    let last : ℕ → LineState = λ word. record (between word numbers) { open_field = opens.Number number.count value } in
+    record {
+      last = last;
+      run = λ word. run-join (between word []) (between word numbers) (last word) piece rest (end ∷ after)
+          (taking.run word) (number.run (between word numbers) refl);
+      closed = λ word. ap (between word) (keep-few numbers value short);
+    }
+
+taken-ends : (limit value : ℕ) (before now piece rest after : List ℕ) (taking : IsTaking limit before now piece rest)
+    → IsLast value rest after → length taking.numbers < 64 → IsNumbers (taking.numbers ++ value ∷ []) piece after
+taken-ends limit value before now piece rest after taking (inl number) short =
+    inl (taken-up-to limit value 10 before now piece rest after taking number short)
+taken-ends limit value before now piece rest after taking (inr number) short =
+    inr (taken-up-to limit value 13 before now piece rest (10 ∷ after) taking number short)
+
+pub taking-last : (limit value : ℕ) (before now piece rest after : List ℕ) → IsTaking limit before now piece rest
+    → IsLast value rest after → value < limit → length now < length before + 64
+    → Takes limit before (now ++ value ∷ []) piece after
 taking-last limit value before now piece rest after taking number less few =
     let numbers = taking.numbers in
     let short : length numbers < 64 = omega (arith, few, ap length taking.added, length-append before numbers) in
-    let last : ℕ → LineState = λ word. record (between word numbers) { open_field = opens.Number number.count value } in
     record {
       numbers = numbers ++ value ∷ [];
-      ends = record {
-        last = last;
-        run = λ word. run-join (between word []) (between word numbers) (last word) piece rest (10 ∷ after)
-            (taking.run word) (number.run (between word numbers) refl);
-        closed = λ word. ap (between word) (keep-few numbers value short);
-      };
+      ends = taken-ends limit value before now piece rest after taking number short;
       added = ap (λ xs. xs ++ value ∷ []) taking.added ∙ append_assoc before numbers (value ∷ []);
       some = omega (arith, length-append numbers (value ∷ []));
       few = omega (arith, short, length-append numbers (value ∷ []));

@@ -1,6 +1,6 @@
 -- Lines that lie whole in a piece, as the steps from byte to byte see them.
 -- Key law: `Scan::whole_lines` reads them as `Scan::read` does.
-use Rattle.std.specs.Prelude.{◌≡◌, ◌<◌, ◌≤◌, ◌^◌, ◌++◌, ℕ, List, [], ◌∷◌, false, true, fold, length, take, nat_le, Ok, Some}
+use Rattle.std.specs.Prelude.{◌≡◌, ◌⊎◌, ◌<◌, ◌≤◌, ◌^◌, ◌++◌, ℕ, List, [], ◌∷◌, false, true, fold, length, take, nat_le, Ok, Some}
 use Rattle.std.specs.List.{list_all, list_any}
 use Rattle.net_reader.specs.declared.line.Open.TheVariants as opens
 use Rattle.net_reader.specs.declared.known.Known.{Known}
@@ -33,11 +33,24 @@ pub record IsNumberTo (end value : ℕ) (piece rest : List ℕ) : Type 0 where
   pub run : (line : LineState) → line.open_field ≡ opens.Between
       → IsRun line (record line { open_field = opens.Number count value }) piece (end ∷ rest)
 
--- these numbers, and the end of the line
-pub record IsNumbers (numbers piece rest : List ℕ) : Type 0 where
+-- the end of a line that begins with this byte: a line feed, or a carriage return and one
+abbrev pub IsEnd : ℕ → List ℕ → List ℕ → Type 0
+IsEnd end after rest = ((end ≡ 10) × (rest ≡ after)) ⊎ ((end ≡ 13) × (after ≡ 10 ∷ rest))
+
+-- a number, and the end of the line
+abbrev pub IsLast : ℕ → List ℕ → List ℕ → Type 0
+IsLast value piece rest = IsNumberTo 10 value piece rest ⊎ IsNumberTo 13 value piece (10 ∷ rest)
+
+-- these numbers, up to the byte behind the last of them
+pub record IsUpTo (numbers piece left : List ℕ) : Type 0 where
   pub last : ℕ → LineState
-  pub run : (word : ℕ) → IsRun (between word []) (last word) piece (10 ∷ rest)
+  pub run : (word : ℕ) → IsRun (between word []) (last word) piece left
   pub closed : (word : ℕ) → close (last word) ≡ between word numbers
+
+-- these numbers, and the end of the line
+abbrev pub IsNumbers : List ℕ → List ℕ → List ℕ → Type 0
+IsNumbers numbers piece rest =
+    IsUpTo numbers piece (10 ∷ rest) ⊎ IsUpTo numbers piece (13 ∷ 10 ∷ rest)
 
 -- the numbers of a line of the order so far, which are below the limit and few, behind those before
 pub record IsTaking (limit : ℕ) (before now piece rest : List ℕ) : Type 0 where

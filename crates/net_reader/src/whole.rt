@@ -1,6 +1,6 @@
 //! The parts of a line that lies whole in a piece, as most do.
 ghost use Rattle.std.specs.Prelude.{◌≡◌, ◌≤◌, ◌^◌, length, IfOk, IfSome, IfNone, [], ◌∷◌};
-ghost use Rattle.net_reader.specs.Whole.{IsDigits, IsNumbers, IsNumberTo, Opens, Takes};
+ghost use Rattle.net_reader.specs.Whole.{IsDigits, IsEnd, IsLast, IsNumbers, IsNumberTo, Opens, Takes};
 
 use crate::word::Word;
 use std::alloc::AllocError;
@@ -72,40 +72,94 @@ fn seven_digits(piece: &[u8]) -> (u64, usize)
     (number, taken)
 }
 
-// The number of at most seven digits at the front that this byte ends, and what stands behind the
-// byte. Weights have so many.
+// A number of at most seven digits at the front, as weights have, the byte that ends it, and what
+// stands behind.
 #[inline(always)]
-fn wide_number_to(end: u8, piece: &[u8]) -> Option<(u64, &[u8])>
-    ensures { IfSome result (λ found. IsNumberTo end found.0 piece.now found.1.now) }
+fn wide_number(piece: &[u8]) -> Option<(u64, u8, &[u8])>
+    ensures { IfSome result (λ found. IsNumberTo found.1 found.0 piece.now found.2.now) }
 {
     if piece.len() < 8 {
         return None;
     }
     let (value, taken) = seven_digits(piece);
-    if taken == 0 || piece[taken] != end {
+    if taken == 0 {
         return None;
     }
-    Some((value, piece.split_at(taken + 1).1))
+    Some((value, piece[taken], piece.split_at(taken + 1).1))
 }
 
-// The same, where it is rare.
-fn long_number_to(end: u8, piece: &[u8]) -> Option<(u64, &[u8])>
-    ensures { IfSome result (λ found. IsNumberTo end found.0 piece.now found.1.now) }
+// The number at the front that a blank ends, where it has more than three digits.
+fn long_number(piece: &[u8]) -> Option<(u64, &[u8])>
+    ensures { IfSome result (λ found. IsNumberTo 32 found.0 piece.now found.1.now) }
 {
-    wide_number_to(end, piece)
+    let (value, end, after) = wide_number(piece)?;
+    if end == b' ' {
+        Some((value, after))
+    } else {
+        None
+    }
 }
 
-// The same; most numbers have at most three digits.
+// The number at the front that a blank ends, and what stands behind the blank. Most have at most
+// three digits.
 #[inline(always)]
-fn number_to(end: u8, piece: &[u8]) -> Option<(u64, &[u8])>
-    ensures { IfSome result (λ found. IsNumberTo end found.0 piece.now found.1.now) }
+fn number(piece: &[u8]) -> Option<(u64, &[u8])>
+    ensures { IfSome result (λ found. IsNumberTo 32 found.0 piece.now found.1.now) }
 {
-    if let Some((value, byte, after)) = short_number(piece) {
-        if byte == end {
+    if let Some((value, end, after)) = short_number(piece) {
+        if end == b' ' {
             return Some((value, after));
         }
     }
-    long_number_to(end, piece)
+    long_number(piece)
+}
+
+// The number at the front that the end of the line ends, and what stands behind it, where it has
+// more than three digits.
+fn long_last(piece: &[u8]) -> Option<(u64, &[u8])>
+    ensures { IfSome result (λ found. IsLast found.0 piece.now found.1.now) }
+{
+    wide_last(piece)
+}
+
+// The same of any that has at most seven.
+#[inline(always)]
+fn wide_last(piece: &[u8]) -> Option<(u64, &[u8])>
+    ensures { IfSome result (λ found. IsLast found.0 piece.now found.1.now) }
+{
+    let (value, end, after) = wide_number(piece)?;
+    let rest = past_end(end, after)?;
+    Some((value, rest))
+}
+
+// The same, where most have at most three.
+#[inline(always)]
+fn last_number(piece: &[u8]) -> Option<(u64, &[u8])>
+    ensures { IfSome result (λ found. IsLast found.0 piece.now found.1.now) }
+{
+    if let Some((value, end, after)) = short_number(piece) {
+        if let Some(rest) = past_end(end, after) {
+            return Some((value, rest));
+        }
+    }
+    long_last(piece)
+}
+
+// What stands behind the end of a line that begins with this byte, before the bytes after it.
+#[inline(always)]
+fn past_end(end: u8, after: &[u8]) -> Option<&[u8]>
+    ensures { IfSome result (λ rest. IsEnd end after.now rest.now) }
+{
+    if end == b'\n' {
+        return Some(after);
+    }
+    if end != b'\r' {
+        return None;
+    }
+    match after {
+        [b'\n', rest @ ..] => Some(rest),
+        _ => None,
+    }
 }
 
 // The two numbers that stand one blank apart before the end of the line, and what stands behind it.
@@ -113,8 +167,8 @@ fn number_to(end: u8, piece: &[u8]) -> Option<(u64, &[u8])>
 pub(crate) fn two_numbers(piece: &[u8]) -> Option<(u64, u64, &[u8])>
     ensures { IfSome result (λ found. IsNumbers (found.0 ∷ found.1 ∷ []) piece.now found.2.now) }
 {
-    let (first, rest) = number_to(b' ', piece)?;
-    let (second, rest) = number_to(b'\n', rest)?;
+    let (first, rest) = number(piece)?;
+    let (second, rest) = last_number(rest)?;
     Some((first, second, rest))
 }
 
@@ -124,9 +178,9 @@ pub(crate) fn three_numbers(piece: &[u8]) -> Option<(u64, u64, u64, &[u8])>
     ensures { IfSome result (λ found. IsNumbers (found.0 ∷ found.1 ∷ found.2 ∷ []) piece.now
         found.3.now) }
 {
-    let (first, rest) = number_to(b' ', piece)?;
-    let (second, rest) = number_to(b' ', rest)?;
-    let (third, rest) = number_to(b'\n', rest)?;
+    let (first, rest) = number(piece)?;
+    let (second, rest) = number(rest)?;
+    let (third, rest) = last_number(rest)?;
     Some((first, second, third, rest))
 }
 
@@ -136,9 +190,9 @@ pub(crate) fn edge_numbers(piece: &[u8]) -> Option<(u64, u64, u64, &[u8])>
     ensures { IfSome result (λ found. IsNumbers (found.0 ∷ found.1 ∷ found.2 ∷ []) piece.now
         found.3.now) }
 {
-    let (first, rest) = number_to(b' ', piece)?;
-    let (second, rest) = number_to(b' ', rest)?;
-    let (weight, rest) = wide_number_to(b'\n', rest)?;
+    let (first, rest) = number(piece)?;
+    let (second, rest) = number(rest)?;
+    let (weight, rest) = wide_last(rest)?;
     Some((first, second, weight, rest))
 }
 
@@ -165,11 +219,11 @@ pub(crate) fn push_line<'a>(
             break;
         }
         order.push(number as u32)?;
-        if end == b'\n' {
-            return Ok(Some(after));
-        }
         if end != b' ' {
-            break;
+            match past_end(end, after) {
+                Some(behind) => return Ok(Some(behind)),
+                None => break,
+            }
         }
         rest = after;
     }
