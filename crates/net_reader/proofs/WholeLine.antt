@@ -12,10 +12,10 @@ use Rattle.net_reader.specs.declared.word.Word.TheVariants.{Order}
 use Rattle.net_reader.specs.Said.{Said}
 use Rattle.net_reader.specs.Steps.{IsRun, LineState, ReaderState, after_bytes, close, close_as, end_line, fault_at, fresh, is_inside, is_plain, keep, line_said, more, next, pack, past_line, put, release, word_in}
 use Rattle.net_reader.specs.Table.{judge_word}
-use Rattle.net_reader.specs.Whole.{IsDigits, IsEnd, IsLast, IsNumbers, IsNumberTo, IsUpTo, IsTaking, Opens, Takes, between}
+use Rattle.net_reader.specs.Whole.{IsComment, IsCommentTo, IsDigits, IsEnd, IsLast, IsNumbers, IsNumberTo, IsUpTo, IsTaking, Opens, Takes, between}
 use Rattle.net_reader.proofs.Digits.{below-most, plain-more, read-more, still-small}
 use Rattle.net_reader.proofs.Feeding.{ran}
-use Rattle.net_reader.proofs.Running.{run-join, run-length, run-more, run-none, run-number}
+use Rattle.net_reader.proofs.Running.{run-comment, run-join, run-length, run-more, run-none, run-number}
 
 -- the five bytes of a word and a blank
 five : (a b c d e : ℕ) (piece : List ℕ) → 5 ≤ length piece → get_or piece 0 0 ≡ a → get_or piece 1 0 ≡ b
@@ -270,6 +270,49 @@ whole-shorter word numbers piece after rest opening (inl ends) =
     omega (arith, up-to-shorter word numbers piece after (10 ∷ rest) opening ends)
 whole-shorter word numbers piece after rest opening (inr ends) =
     omega (arith, up-to-shorter word numbers piece after (13 ∷ 10 ∷ rest) opening ends)
+
+-- a comment that lies whole at the front
+pub comment-to : (piece after left : List ℕ) (taken : ℕ) → piece ≡ 35 ∷ after → left ≡ drop taken after
+    → list_all is_inside (take taken after) ≡ true → IsCommentTo piece left
+unfolding put more
+comment-to piece after left taken begins back inside =
+    let comment : LineState = record fresh { open_field = opens.Comment } in
+    let first : IsRun fresh fresh piece (35 ∷ after) = subst (IsRun fresh fresh piece) begins (run-none fresh piece) in
+    let run : IsRun comment comment after left =
+    run-comment comment (opens.Comment, taken) taken after left refl refl back inside in
+    record {
+      run = run-more fresh fresh comment piece after left 35 first refl run;
+      shorter = omega (arith, ap length begins, run-length comment comment after left run);
+    }
+
+pub comment-ends : (piece : List ℕ) (end : ℕ) (behind rest : List ℕ) → IsCommentTo piece (end ∷ behind)
+    → IsEnd end behind rest → IsComment piece rest
+comment-ends piece end behind rest comment (inl e) =
+    let feed : IsCommentTo piece (10 ∷ behind) = subst (λ b. IsCommentTo piece (b ∷ behind)) e.0 comment in
+    inl (subst (λ xs. IsCommentTo piece (10 ∷ xs)) (sym e.1) feed)
+comment-ends piece end behind rest comment (inr e) =
+    let return : IsCommentTo piece (13 ∷ behind) = subst (λ b. IsCommentTo piece (b ∷ behind)) e.0 comment in
+    inr (subst (λ xs. IsCommentTo piece (13 ∷ xs)) e.1 return)
+
+comment-read : (m : ℕ) (said : Said) (piece rest : List ℕ) → IsComment piece rest
+    → after_bytes (resting (m + 1) said) rest ≡ after_bytes (resting m said) piece
+unfolding after_bytes next past_line release end_line close_as
+comment-read m said piece rest (inl comment) =
+    ran None false false m said fresh (record fresh { open_field = opens.Comment }) piece (10 ∷ rest) refl refl
+    comment.run comment.shorter
+comment-read m said piece rest (inr comment) =
+    ran None false false m said fresh (record fresh { open_field = opens.Comment }) piece (13 ∷ 10 ∷ rest) refl refl
+    comment.run comment.shorter
+
+pub heard-comment : (old new : ReaderState) (m : ℕ) (said : Said) (piece rest : List ℕ) → old ≡ resting m said
+    → new ≡ record old { lines = m + 1 } → IsComment piece rest → after_bytes new rest ≡ after_bytes old piece
+heard-comment old new m said piece rest is counted comment =
+    ap (λ r. after_bytes r rest) (counted ∙ ap (λ (r : ReaderState). record r { lines = m + 1 }) is)
+    ∙ comment-read m said piece rest comment ∙ ap (λ r. after_bytes r piece) (sym is)
+
+pub comment-shorter : (piece rest : List ℕ) → IsComment piece rest → length rest + 1 < length piece
+comment-shorter piece rest (inl comment) = omega (arith, comment.shorter)
+comment-shorter piece rest (inr comment) = omega (arith, comment.shorter)
 
 -- one number more of the order
 keep-few : (numbers : List ℕ) (value : ℕ) → length numbers < 64 → keep numbers value ≡ numbers ++ value ∷ []

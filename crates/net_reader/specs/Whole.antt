@@ -37,6 +37,15 @@ pub record IsNumberTo (end value : ℕ) (piece rest : List ℕ) : Type 0 where
 abbrev pub IsEnd : ℕ → List ℕ → List ℕ → Type 0
 IsEnd end after rest = ((end ≡ 10) × (rest ≡ after)) ⊎ ((end ≡ 13) × (after ≡ 10 ∷ rest))
 
+-- a comment, up to the byte behind it
+pub record IsCommentTo (piece left : List ℕ) : Type 0 where
+  pub run : IsRun fresh (record fresh { open_field = opens.Comment }) piece left
+  pub shorter : length left < length piece
+
+-- a comment, and the end of its line
+abbrev pub IsComment : List ℕ → List ℕ → Type 0
+IsComment piece rest = IsCommentTo piece (10 ∷ rest) ⊎ IsCommentTo piece (13 ∷ 10 ∷ rest)
+
 -- a number, and the end of the line
 abbrev pub IsLast : ℕ → List ℕ → List ℕ → Type 0
 IsLast value piece rest = IsNumberTo 10 value piece rest ⊎ IsNumberTo 13 value piece (10 ∷ rest)

@@ -11,7 +11,7 @@ use crate::fault::{InputCause, InputFault, ReadRefusal};
 use crate::known::Known;
 use crate::line::{Line, Open};
 use crate::stop::Stop;
-use crate::whole::{edge_numbers, opening, three_numbers, two_numbers};
+use crate::whole::{edge_numbers, opening, past_comment, three_numbers, two_numbers};
 use crate::word::{Place, Word};
 use std::alloc::{AllocError, Global};
 
@@ -255,6 +255,10 @@ impl Scan {
             length piece.now) }
         ensures well { IfOk result (λ rest. IsWell self.new.fault self.new.known) }
     {
+        if let Some(rest) = past_comment(piece) {
+            self.count();
+            return Ok(rest);
+        }
         let Some((word, after)) = opening(piece) else {
             return Ok(piece);
         };

@@ -1,7 +1,8 @@
 //! The parts of a line that lies whole in a piece, as most do.
 ghost use Rattle.std.specs.Prelude.{◌≡◌, ◌≤◌, ◌^◌, length, IfOk, IfSome, IfNone, [], ◌∷◌};
-ghost use Rattle.net_reader.specs.Whole.{IsDigits, IsEnd, IsLast, IsNumbers, IsNumberTo, Opens, Takes};
+ghost use Rattle.net_reader.specs.Whole.{IsComment, IsDigits, IsEnd, IsLast, IsNumbers, IsNumberTo, Opens, Takes};
 
+use crate::line_end::rest_of_line;
 use crate::word::Word;
 use std::alloc::AllocError;
 
@@ -160,6 +161,21 @@ fn past_end(end: u8, after: &[u8]) -> Option<&[u8]>
         [b'\n', rest @ ..] => Some(rest),
         _ => None,
     }
+}
+
+// What stands behind a comment at the front, and the end of its line.
+#[inline(always)]
+pub(crate) fn past_comment(piece: &[u8]) -> Option<&[u8]>
+    ensures { IfSome result (λ rest. IsComment piece.now rest.now) }
+{
+    let [b'#', after @ ..] = piece else {
+        return None;
+    };
+    let [end, behind @ ..] = after.split_at(rest_of_line(after)).1 else {
+        return None;
+    };
+    let rest = past_end(*end, behind)?;
+    Some(rest)
 }
 
 // The two numbers that stand one blank apart before the end of the line, and what stands behind it.
