@@ -16,3 +16,4 @@ mod ValidInput
 mod LineEnd
 mod Digits
 mod WholeLine
+mod OrderLine

@@ -1,18 +1,16 @@
 -- Lines that lie whole in a piece.
-use Rattle.std.proofs.Common.{◌≡◌, inl, inr, ℕ, ◌||◌, cond, leb, ltb, append_assoc, length-append, ◌+◌, ◌-◌, ◌*◌, ◌<◌, ◌≤◌, true, false, fold, take, drop, List, [], ◌∷◌, ◌++◌, length, get_or, None, Some, Ok, refl, ap, sym, ◌∙◌, arith, add-one, drop-cons, length-take, length-drop, subst}
+use Rattle.std.proofs.Common.{◌≡◌, inl, inr, ℕ, ◌+◌, ◌-◌, ◌*◌, ◌<◌, ◌≤◌, true, false, fold, take, drop, List, [], ◌∷◌, ◌++◌, length, get_or, None, Some, Ok, refl, ap, sym, ◌∙◌, arith, add-one, drop-cons, length-take, length-drop, subst}
 use Rattle.std.proofs.lemmas.Bool.Decides.{nat_tests}
-use Rattle.std.proofs.lemmas.List.{append-nil, take_all}
+use Rattle.std.proofs.lemmas.List.{take_all}
 use Rattle.std.specs.Char.{is_ascii_digit}
-use Rattle.std.proofs.lemmas.List.Folds.{list_any-append}
-use Rattle.std.specs.List.{list_all, list_any}
-use Rattle.std.specs.Prelude.{nat_le}
+use Rattle.std.specs.List.{list_all}
 use Rattle.net_reader.specs.declared.line.Open.TheVariants as opens
 use Rattle.net_reader.specs.declared.word.Word.{Word}
 use Rattle.net_reader.specs.declared.word.Word.TheVariants.{Order}
 use Rattle.net_reader.specs.Said.{Said}
 use Rattle.net_reader.specs.Steps.{IsRun, LineState, ReaderState, after_bytes, close, close_as, end_line, fault_at, fresh, is_inside, is_plain, keep, line_said, more, next, pack, past_line, put, release, word_in}
 use Rattle.net_reader.specs.Table.{judge_word}
-use Rattle.net_reader.specs.Whole.{IsComment, IsCommentTo, IsDigits, IsEnd, IsLast, IsNumbers, IsNumberTo, IsUpTo, IsTaking, Opens, Takes, between}
+use Rattle.net_reader.specs.Whole.{IsComment, IsCommentTo, IsDigits, IsEnd, IsLast, IsNumbers, IsNumberTo, IsUpTo, Opens, between}
 use Rattle.net_reader.proofs.Digits.{below-most, plain-more, read-more, still-small}
 use Rattle.net_reader.proofs.Feeding.{ran}
 use Rattle.net_reader.proofs.Running.{run-comment, run-join, run-length, run-more, run-none, run-number}
@@ -313,75 +311,3 @@ heard-comment old new m said piece rest is counted comment =
 pub comment-shorter : (piece rest : List ℕ) → IsComment piece rest → length rest + 1 < length piece
 comment-shorter piece rest (inl comment) = omega (arith, comment.shorter)
 comment-shorter piece rest (inr comment) = omega (arith, comment.shorter)
-
--- one number more of the order
-keep-few : (numbers : List ℕ) (value : ℕ) → length numbers < 64 → keep numbers value ≡ numbers ++ value ∷ []
-keep-few numbers value few =
-    let within : ltb (length numbers) 65 ≡ true = grind (arith, nat_tests) in
-    ap (λ b. cond b (numbers ++ value ∷ []) numbers) within
-
-below-more : (limit value : ℕ) (numbers : List ℕ) → list_any (λ number. nat_le limit number) numbers ≡ false
-    → value < limit → list_any (λ number. nat_le limit number) (numbers ++ value ∷ []) ≡ false
-below-more limit value numbers below less =
-    let no : leb limit value ≡ false = grind (arith, nat_tests) in
-    list_any-append (λ number. nat_le limit number) numbers (value ∷ [])
-    ∙ ap (λ b. b || (leb limit value || false)) below ∙ ap (λ b. b || false) no
-
-pub taking-none : (limit : ℕ) (before piece : List ℕ) → IsTaking limit before before piece piece
-taking-none limit before piece = record {
-  numbers = [];
-  run = λ word. run-none (between word []) piece;
-  added = sym (append-nil before);
-  below = refl;
-}
-
-pub taking-more : (limit value : ℕ) (before now piece rest after : List ℕ) → IsTaking limit before now piece rest
-    → IsNumberTo 32 value rest after → value < limit → length now < length before + 64
-    → IsTaking limit before (now ++ value ∷ []) piece after
-taking-more limit value before now piece rest after taking number less few =
-    let numbers = taking.numbers in
-    let short : length numbers < 64 = omega (arith, few, ap length taking.added, length-append before numbers) in
-    record {
-      numbers = numbers ++ value ∷ [];
-      run = λ word. subst (λ ns. IsRun (between word []) (between word ns) piece after) (keep-few numbers value short)
-          (run-join (between word []) (between word numbers) (between word (keep numbers value)) piece rest after
-          (taking.run word) (blank-behind word value numbers rest after number));
-      added = ap (λ xs. xs ++ value ∷ []) taking.added ∙ append_assoc before numbers (value ∷ []);
-      below = below-more limit value numbers taking.below less;
-    }
-
-taken-up-to : (limit value end : ℕ) (before now piece rest after : List ℕ)
-    (taking : IsTaking limit before now piece rest) → IsNumberTo end value rest after → length taking.numbers < 64
-    → IsUpTo (taking.numbers ++ value ∷ []) piece (end ∷ after)
-unfolding close_as
-taken-up-to limit value end before now piece rest after taking number short =
-    let numbers = taking.numbers in
-    let last : ℕ → LineState = λ word. record (between word numbers) { open_field = opens.Number number.count value } in
-    record {
-      last = last;
-      run = λ word. run-join (between word []) (between word numbers) (last word) piece rest (end ∷ after)
-          (taking.run word) (number.run (between word numbers) refl);
-      closed = λ word. ap (between word) (keep-few numbers value short);
-    }
-
-taken-ends : (limit value : ℕ) (before now piece rest after : List ℕ) (taking : IsTaking limit before now piece rest)
-    → IsLast value rest after → length taking.numbers < 64 → IsNumbers (taking.numbers ++ value ∷ []) piece after
-taken-ends limit value before now piece rest after taking (inl number) short =
-    inl (taken-up-to limit value 10 before now piece rest after taking number short)
-taken-ends limit value before now piece rest after taking (inr number) short =
-    inr (taken-up-to limit value 13 before now piece rest (10 ∷ after) taking number short)
-
-pub taking-last : (limit value : ℕ) (before now piece rest after : List ℕ) → IsTaking limit before now piece rest
-    → IsLast value rest after → value < limit → length now < length before + 64
-    → Takes limit before (now ++ value ∷ []) piece after
-taking-last limit value before now piece rest after taking number less few =
-    let numbers = taking.numbers in
-    let short : length numbers < 64 = omega (arith, few, ap length taking.added, length-append before numbers) in
-    record {
-      numbers = numbers ++ value ∷ [];
-      ends = taken-ends limit value before now piece rest after taking number short;
-      added = ap (λ xs. xs ++ value ∷ []) taking.added ∙ append_assoc before numbers (value ∷ []);
-      some = omega (arith, length-append numbers (value ∷ []));
-      few = omega (arith, short, length-append numbers (value ∷ []));
-      below = below-more limit value numbers taking.below less;
-    }

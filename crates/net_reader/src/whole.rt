@@ -1,5 +1,5 @@
 //! The parts of a line that lies whole in a piece, as most do.
-ghost use Rattle.std.specs.Prelude.{◌≡◌, ◌≤◌, ◌^◌, length, IfOk, IfSome, IfNone, [], ◌∷◌};
+ghost use Rattle.std.specs.Prelude.{◌≡◌, ◌≤◌, ◌^◌, length, take, IfOk, IfSome, IfNone, [], ◌∷◌};
 ghost use Rattle.net_reader.specs.Whole.{IsComment, IsDigits, IsEnd, IsLast, IsNumbers, IsNumberTo, Opens, Takes};
 
 use crate::line_end::rest_of_line;
@@ -212,6 +212,35 @@ pub(crate) fn edge_numbers(piece: &[u8]) -> Option<(u64, u64, u64, &[u8])>
     Some((first, second, weight, rest))
 }
 
+// Writes down the numbers below the limit that stand one blank apart before the end of the line,
+// and gives how many they are and what stands behind the line; none where the line isn't so, or has
+// more numbers than there is room for.
+#[inline(always)]
+fn take_numbers<'a>(numbers: &mut [u32], limit: u64, piece: &'a [u8]) -> Option<(usize, &'a [u8])>
+    requires few { length numbers.old ≤ 64 }
+    requires limit { limit ≤ 2 ^ 32 }
+    ensures within { IfSome result (λ found. found.0 ≤ length numbers.new) }
+    ensures taken { IfSome result (λ found. Takes limit [] (take found.0 numbers.new) piece.now
+        found.1.now) }
+{
+    let mut count = 0;
+    let mut rest = piece;
+    'numbers: while count < numbers.len() {
+        let (number, end, after) = short_number(rest)?;
+        if number >= limit {
+            return None;
+        }
+        numbers[count] = number as u32;
+        count += 1;
+        if end != b' ' {
+            let behind = past_end(end, after)?;
+            return Some((count, behind));
+        }
+        rest = after;
+    }
+    None
+}
+
 // Adds to an order the numbers below the limit that stand one blank apart before the end of the
 // line, and gives what stands behind it; where the line isn't so, or has more than an order's line
 // may have, it adds nothing.
@@ -225,24 +254,10 @@ pub(crate) fn push_line<'a>(
         order.new.items piece.now rest.now)) }
     ensures still { IfOk result (λ found. IfNone found (order.new.items ≡ order.old.items)) }
 {
-    let begun = order.len();
-    let mut rest = piece;
-    'numbers: while order.len() - begun < MAX_ORDER {
-        let Some((number, end, after)) = short_number(rest) else {
-            break;
-        };
-        if number >= limit {
-            break;
-        }
-        order.push(number as u32)?;
-        if end != b' ' {
-            match past_end(end, after) {
-                Some(behind) => return Ok(Some(behind)),
-                None => break,
-            }
-        }
-        rest = after;
-    }
-    order.truncate(begun);
-    Ok(None)
+    let mut numbers = [0; MAX_ORDER];
+    let Some((count, rest)) = take_numbers(&mut numbers, limit, piece) else {
+        return Ok(None);
+    };
+    order.extend_from_slice(&numbers[..count])?;
+    Ok(Some(rest))
 }
