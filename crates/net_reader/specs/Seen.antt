@@ -15,7 +15,7 @@ use Rattle.net_reader.specs.declared.stop.Stop.TheVariants as stops
 use Rattle.net_reader.specs.declared.input.Input.{Input}
 use Rattle.net_reader.specs.Input.{Contents, IsAnswer}
 use Rattle.net_reader.specs.Said.{Said, script_of, place_after, off_after}
-use Rattle.net_reader.specs.Steps.{LineState, ReaderState, fresh, number_of_place}
+use Rattle.net_reader.specs.Steps.{LineState, ReaderState, number_of_place}
 
 -- a line, and what was said, as the steps see them
 abbrev pub seen_line : Line → LineState
@@ -81,17 +81,6 @@ seen_scan scan =
 abbrev pub IsWell : Option InputFault → Known → Type 0
 IsWell None known = KeepsLimits known
 IsWell (Some fault) known = Unit {0}
-
--- a reader that has read whole lines, without a fault
-pub record Rests (scan : Scan) : Type 0 where
-  pub going : scan.fault ≡ None
-  pub seen : seen_scan scan ≡ record {
-    said = Ok (seen_known scan.known);
-    lines = scan.lines;
-    begun = false;
-    held = false;
-    line = fresh;
-  }
 
 -- what the code answers is what was said or the first fault, unless memory ran out
 abbrev pub Finishes : Result (Known × ℕ) ReadRefusal → Result (Said × ℕ) InputFault → Type 0

@@ -1,18 +1,30 @@
 -- Lines that lie whole in a piece, as the steps from byte to byte see them.
 -- Key law: `Scan::whole_lines` reads them as `Scan::read` does.
-use Rattle.std.specs.Prelude.{◌≡◌, ◌⊎◌, ◌<◌, ◌≤◌, ◌^◌, ◌++◌, ℕ, List, [], ◌∷◌, false, true, fold, length, take, nat_le, Ok, Some}
+use Rattle.std.specs.Prelude.{◌≡◌, ◌⊎◌, ◌<◌, ◌≤◌, ◌^◌, ◌++◌, ℕ, List, [], ◌∷◌, false, true, fold, length, take, nat_le, None, Ok, Some}
 use Rattle.std.specs.List.{list_all, list_any}
 use Rattle.net_reader.specs.declared.line.Open.TheVariants as opens
 use Rattle.net_reader.specs.declared.known.Known.{Known}
+use Rattle.net_reader.specs.declared.scan.Scan.{Scan}
 use Rattle.net_reader.specs.declared.word.Word.{Word}
 use Rattle.net_reader.specs.declared.word.Word.TheVariants.{Order}
-use Rattle.net_reader.specs.Seen.{seen_known}
+use Rattle.net_reader.specs.Seen.{seen_known, seen_scan}
 use Rattle.net_reader.specs.Table.{judge_word}
 use Rattle.net_reader.specs.Steps.{IsRun, LineState, close, fresh, is_plain, more, word_in}
 
 -- a line behind its word and these numbers, each with a blank behind it
 abbrev pub between : ℕ → List ℕ → LineState
 between word numbers = record { open_field = opens.Between; word = word; numbers = numbers }
+
+-- a reader that has read whole lines, without a fault
+pub record Rests (scan : Scan) : Type 0 where
+  pub going : scan.fault ≡ None
+  pub seen : seen_scan scan ≡ record {
+    said = Ok (seen_known scan.known);
+    lines = scan.lines;
+    begun = false;
+    held = false;
+    line = fresh;
+  }
 
 -- the word of a line, and a blank
 pub record Opens (word : Word) (piece rest : List ℕ) : Type 0 where

@@ -3,9 +3,9 @@
 ghost use Rattle.std.specs.Prelude.{◌≡◌, ◌<◌, ◌≤◌, ◌+◌, ◌^◌, length, IfOk, OnOk, IsTrue, None, Some, nat_lt, true, if◌then◌else◌};
 ghost use Rattle.net_reader.specs.Steps.{end_line, past_line, release, byte_read, next, after_bytes, end_result, fresh_reader, fault_at, number_of_place};
 ghost use Rattle.net_reader.specs.Table.{judge_word};
-ghost use Rattle.net_reader.specs.Whole.{Opens};
+ghost use Rattle.net_reader.specs.Whole.{Opens, Rests};
 ghost use Rattle.net_reader.specs.declared.word.Word.TheVariants.{Order};
-ghost use Rattle.net_reader.specs.Seen.{seen_line, seen_known, seen_scan, KeepsLimits, Rests, Finishes, IsWell, Judges};
+ghost use Rattle.net_reader.specs.Seen.{seen_line, seen_known, seen_scan, KeepsLimits, Finishes, IsWell, Judges};
 
 use crate::fault::{InputCause, InputFault, ReadRefusal};
 use crate::known::Known;
