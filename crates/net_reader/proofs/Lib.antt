@@ -15,3 +15,5 @@ mod Calling
 mod ValidInput
 mod LineEnd
 mod Digits
+mod WholeLine
+mod OrderLine

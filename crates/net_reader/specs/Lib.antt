@@ -5,6 +5,7 @@ pub mod Input
 pub mod Shown
 pub mod Steps
 pub mod Seen
+pub mod Whole
 pub mod Sound
 pub mod Reading
 pub mod Valid

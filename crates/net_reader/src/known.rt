@@ -1,14 +1,16 @@
 //! What the lines have said so far.
-ghost use Rattle.std.specs.Prelude.{◌≡◌, ◌≤◌, ◌^◌, ◌++◌, length, nat_le, not, Some, IfOk, IsTrue};
+ghost use Rattle.std.specs.Prelude.{◌≡◌, ◌≤◌, ◌^◌, ◌++◌, length, nat_le, not, Some, IfOk, IfSome, IfNone, IsTrue};
 ghost use Rattle.std.specs.List.{list_any};
 ghost use Rattle.net_reader.specs.Table.{judge_word, row_of, verdict, track_row, nodes_row, k_row, edge_row, sub_row, callers_row, move_row, find_row, switch_row, order_row, most_calls, most_nodes};
 ghost use Rattle.net_reader.specs.Said.{nothing};
 ghost use Rattle.net_reader.specs.Steps.{word_in};
 ghost use Rattle.net_reader.specs.Seen.{seen_known, KeepsLimits, Judges};
+ghost use Rattle.net_reader.specs.Whole.{HearsOrder};
 
 use crate::fault::InputCause;
 use crate::said::{Call, Spoken};
 use crate::stop::Stop;
+use crate::whole::push_line;
 use crate::word::{Place, Word, may_follow, word_in};
 use net_graph::{Edge, MAX_WEIGHT};
 use std::alloc::{AllocError, Global};
@@ -305,6 +307,29 @@ impl Known {
         Ok(())
     }
 
+    /// What a line of the order says whose numbers stand here up to its end, and what stands behind;
+    /// none, and nothing is said, where it isn't one that can be taken.
+    pub(crate) fn order_line<'a>(&mut self, piece: &'a [u8]) -> Result<Option<&'a [u8]>, AllocError>
+        requires { KeepsLimits self.old }
+        ensures heard { IfOk result (λ found. IfSome found (λ rest. HearsOrder self.old self.new
+            piece.now rest.now)) }
+        ensures still { IfOk result (λ found. IfNone found
+            (seen_known self.new ≡ seen_known self.old)) }
+        ensures kept { IfOk result (λ found. KeepsLimits self.new) }
+    {
+        if !may_follow(self.place, Word::Order) {
+            return Ok(None);
+        }
+        let actors = self.homes.len() as u64 + u64::from(self.callers);
+        match push_line(&mut self.order, actors, piece)? {
+            Some(rest) => {
+                self.place = Place::Orders;
+                Ok(Some(rest))
+            }
+            None => Ok(None),
+        }
+    }
+
     fn row(&mut self, word: Word, numbers: &[u64]) -> Result<(), Stop>
         requires { KeepsLimits self.old }
         ensures { Judges result self.new (verdict (row_of (seen_known self.old) word numbers.now)) }
@@ -325,17 +350,26 @@ impl Known {
     }
 
     /// What a line with this word and these numbers says.
+    pub(crate) fn hear_word(&mut self, word: Word, numbers: &[u64]) -> Result<(), Stop>
+        requires { KeepsLimits self.old }
+        ensures { Judges result self.new (judge_word (seen_known self.old) (Some word) (Some
+            numbers.now)) }
+    {
+        if !may_follow(self.place, word) {
+            return Err(Stop::Fault(InputCause::Form));
+        }
+        self.row(word, numbers)
+    }
+
+    /// What a line says whose word is packed so, and that has these numbers.
     pub(crate) fn hear(&mut self, packed: u64, numbers: &[u64]) -> Result<(), Stop>
         requires { KeepsLimits self.old }
         ensures { Judges result self.new (judge_word (seen_known self.old) (word_in packed) (Some
             numbers.now)) }
     {
-        let Some(word) = word_in(packed) else {
-            return Err(Stop::Fault(InputCause::Form));
-        };
-        if !may_follow(self.place, word) {
-            return Err(Stop::Fault(InputCause::Form));
+        match word_in(packed) {
+            Some(word) => self.hear_word(word, numbers),
+            None => Err(Stop::Fault(InputCause::Form)),
         }
-        self.row(word, numbers)
     }
 }

@@ -12,6 +12,7 @@ mod reader;
 mod said;
 mod scan;
 mod stop;
+mod whole;
 mod word;
 
 pub use examples::{

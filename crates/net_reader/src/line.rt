@@ -1,5 +1,5 @@
 //! A line that isn't at its end yet: its fields are counted and none of its bytes is kept.
-ghost use Rattle.std.specs.Prelude.{◌≡◌, ◌≢◌, ◌≤◌, IfOk, OnOk, true, false, length, take, fold};
+ghost use Rattle.std.specs.Prelude.{◌≡◌, ◌≢◌, ◌≤◌, IfOk, OnOk, IsTrue, true, false, length, take, fold};
 ghost use Rattle.std.specs.List.{list_all};
 ghost use Rattle.net_reader.specs.Lines.{is_blank};
 ghost use Rattle.net_reader.specs.declared.line.Open.TheVariants.{Number, Word};
@@ -334,6 +334,13 @@ impl Line {
         let (field, behind) = self.go_on(after);
         self.field = field;
         Ok(behind)
+    }
+
+    // Whether no byte of the line was read.
+    pub(crate) fn is_fresh(&self) -> bool
+        ensures { IsTrue result → seen_line self.now ≡ fresh }
+    {
+        self.field == Open::Blank && self.word == 0 && self.numbers.is_empty()
     }
 
     pub(crate) fn clear(&mut self)

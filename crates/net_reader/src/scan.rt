@@ -1,14 +1,18 @@
 //! What is read of an input so far, byte by byte: it keeps what the lines said, and no byte of
 //! them.
-ghost use Rattle.std.specs.Prelude.{◌≡◌, ◌<◌, ◌≤◌, ◌+◌, ◌^◌, length, IfOk, OnOk, None, nat_lt, true, if◌then◌else◌};
-ghost use Rattle.net_reader.specs.Steps.{end_line, past_line, release, byte_read, next, after_bytes, end_result, fresh_reader, number_of_place};
+ghost use Rattle.std.specs.Prelude.{◌≡◌, ◌<◌, ◌≤◌, ◌+◌, ◌^◌, length, IfOk, OnOk, IsTrue, None, Some, nat_lt, true, if◌then◌else◌};
+ghost use Rattle.net_reader.specs.Steps.{end_line, past_line, release, byte_read, next, after_bytes, end_result, fresh_reader, fault_at, number_of_place};
+ghost use Rattle.net_reader.specs.Table.{judge_word};
+ghost use Rattle.net_reader.specs.Whole.{Opens, Rests};
+ghost use Rattle.net_reader.specs.declared.word.Word.TheVariants.{Order};
 ghost use Rattle.net_reader.specs.Seen.{seen_line, seen_known, seen_scan, KeepsLimits, Finishes, IsWell, Judges};
 
 use crate::fault::{InputCause, InputFault, ReadRefusal};
 use crate::known::Known;
 use crate::line::{Line, Open};
 use crate::stop::Stop;
-use crate::word::Place;
+use crate::whole::{edge_numbers, opening, past_comment, three_numbers, two_numbers};
+use crate::word::{Place, Word};
 use std::alloc::{AllocError, Global};
 
 // What was read so far: what the whole lines said or their first fault, how many lines have begun,
@@ -98,6 +102,15 @@ impl Scan {
         Ok(())
     }
 
+    // One line more.
+    #[inline(always)]
+    fn count(&mut self)
+        requires { self.old.lines + 1 < 2 ^ 32 }
+        ensures { self.new ≡ record self.old { lines = self.old.lines + 1 } }
+    {
+        self.lines += 1;
+    }
+
     // One line more has begun where none had.
     fn begin(&mut self)
         requires { self.old.lines + 1 < 2 ^ 32 }
@@ -107,7 +120,7 @@ impl Scan {
         } }
     {
         if !self.begun {
-            self.lines += 1;
+            self.count();
             self.begun = true;
         }
     }
@@ -152,7 +165,7 @@ impl Scan {
     // Reads the bytes at the front that don't end a line, and gives those behind.
     fn skip<'a>(&mut self, piece: &'a [u8]) -> Result<&'a [u8], AllocError>
         requires well { IsWell self.old.fault self.old.known }
-        requires room { self.old.lines + 1 < 2 ^ 32 }
+        requires room { self.old.lines + length piece.now < 2 ^ 32 }
         ensures read { IfOk result (λ rest. after_bytes (seen_scan self.new) rest.now
             ≡ after_bytes (seen_scan self.old) piece.now) }
         ensures shorter { IfOk result (λ rest. length rest.now ≤ length piece.now) }
@@ -171,6 +184,131 @@ impl Scan {
         Ok(rest)
     }
 
+    // Whether a line is to begin.
+    fn is_between_lines(&self) -> bool
+        ensures { IsTrue result → Rests self.now }
+    {
+        self.fault.is_none() && !self.begun && !self.held && self.line.is_fresh()
+    }
+
+    // What a whole line with this word and these numbers says.
+    #[inline(always)]
+    fn hear(&mut self, word: Word, numbers: &[u64]) -> Result<(), AllocError>
+        requires going { self.old.fault ≡ None }
+        requires well { IsWell self.old.fault self.old.known }
+        requires room { self.old.lines + 1 < 2 ^ 32 }
+        ensures read { OnOk result (seen_scan self.new ≡ record (seen_scan self.old) {
+          said = fault_at (self.old.lines + 1)
+              (judge_word (seen_known self.old.known) (Some word) (Some numbers.now));
+          lines = self.old.lines + 1;
+        }) }
+        ensures well { OnOk result (IsWell self.new.fault self.new.known) }
+        ensures lines { self.new.lines ≡ self.old.lines + 1 }
+    {
+        self.count();
+        match self.known.hear_word(word, numbers) {
+            Ok(()) => Ok(()),
+            Err(Stop::Fault(cause)) => {
+                self.fault = Some(InputFault {
+                    line: self.lines,
+                    cause,
+                });
+                Ok(())
+            }
+            Err(Stop::Memory) => Err(AllocError),
+        }
+    }
+
+    // Reads a line of the order at the front that lies whole there, behind its word and a blank,
+    // where it is plain, and gives what stands behind; or reads nothing.
+    fn whole_order<'a>(&mut self, piece: &'a [u8], after: &'a [u8]) -> Result<&'a [u8], AllocError>
+        requires rests { Rests self.old }
+        requires opens { Opens Order piece.now after.now }
+        requires well { IsWell self.old.fault self.old.known }
+        requires room { self.old.lines + length piece.now < 2 ^ 32 }
+        ensures read { IfOk result (λ rest. after_bytes (seen_scan self.new) rest.now
+            ≡ after_bytes (seen_scan self.old) piece.now) }
+        ensures shorter { IfOk result (λ rest. length rest.now ≤ length piece.now) }
+        ensures lines { IfOk result (λ rest. self.new.lines + length rest.now ≤ self.old.lines +
+            length piece.now) }
+        ensures well { IfOk result (λ rest. IsWell self.new.fault self.new.known) }
+    {
+        match self.known.order_line(after)? {
+            Some(rest) => {
+                self.count();
+                Ok(rest)
+            }
+            None => Ok(piece),
+        }
+    }
+
+    // Reads a line at the front that lies whole there, where it is plain, and gives what stands
+    // behind; or reads nothing.
+    fn whole_line<'a>(&mut self, piece: &'a [u8]) -> Result<&'a [u8], AllocError>
+        requires rests { Rests self.old }
+        requires well { IsWell self.old.fault self.old.known }
+        requires room { self.old.lines + length piece.now < 2 ^ 32 }
+        ensures read { IfOk result (λ rest. after_bytes (seen_scan self.new) rest.now
+            ≡ after_bytes (seen_scan self.old) piece.now) }
+        ensures shorter { IfOk result (λ rest. length rest.now ≤ length piece.now) }
+        ensures lines { IfOk result (λ rest. self.new.lines + length rest.now ≤ self.old.lines +
+            length piece.now) }
+        ensures well { IfOk result (λ rest. IsWell self.new.fault self.new.known) }
+    {
+        if let Some(rest) = past_comment(piece) {
+            self.count();
+            return Ok(rest);
+        }
+        let Some((word, after)) = opening(piece) else {
+            return Ok(piece);
+        };
+        if let Word::Order = word {
+            return self.whole_order(piece, after);
+        }
+        if let Word::Move = word {
+            let Some((first, second, rest)) = two_numbers(after) else {
+                return Ok(piece);
+            };
+            self.hear(word, &[first, second])?;
+            return Ok(rest);
+        }
+        if let Word::Find = word {
+            let Some((first, second, third, rest)) = three_numbers(after) else {
+                return Ok(piece);
+            };
+            self.hear(word, &[first, second, third])?;
+            return Ok(rest);
+        }
+        let Some((first, second, weight, rest)) = edge_numbers(after) else {
+            return Ok(piece);
+        };
+        self.hear(word, &[first, second, weight])?;
+        Ok(rest)
+    }
+
+    // Reads the lines at the front that lie whole there, as long as they are plain, and gives what
+    // stands behind.
+    fn whole_lines<'a>(&mut self, piece: &'a [u8]) -> Result<&'a [u8], AllocError>
+        requires well { IsWell self.old.fault self.old.known }
+        requires room { self.old.lines + length piece.now < 2 ^ 32 }
+        ensures read { IfOk result (λ rest. after_bytes (seen_scan self.new) rest.now
+            ≡ after_bytes (seen_scan self.old) piece.now) }
+        ensures lines { IfOk result (λ rest. self.new.lines + length rest.now ≤ self.old.lines +
+            length piece.now) }
+        ensures shorter { IfOk result (λ rest. length rest.now ≤ length piece.now) }
+        ensures well { IfOk result (λ rest. IsWell self.new.fault self.new.known) }
+    {
+        let mut rest = piece;
+        'lines: while self.is_between_lines() {
+            let behind = self.whole_line(rest)?;
+            if behind.len() == rest.len() {
+                return Ok(behind);
+            }
+            rest = behind;
+        }
+        Ok(rest)
+    }
+
     // So many bytes more.
     pub(crate) fn read(&mut self, piece: &[u8]) -> Result<(), AllocError>
         requires well { IsWell self.old.fault self.old.known }
@@ -181,7 +319,8 @@ impl Scan {
     {
         let mut rest = piece;
         'bytes: while !rest.is_empty() && self.fault.is_none() {
-            rest = self.skip(rest)?;
+            let behind = self.whole_lines(rest)?;
+            rest = self.skip(behind)?;
             if let [byte, after @ ..] = rest {
                 self.step(*byte)?;
                 rest = after;

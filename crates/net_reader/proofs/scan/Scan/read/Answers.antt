@@ -17,7 +17,7 @@ bytes-preserved c =
     record {
       rest = ap (λ r. after_bytes r (take (length rest - 1) (drop 1 rest))) step
           ∙ fed-first (seen_scan skipped) rest some
-          ∙ c.in_ok-rest.ensures.read ∙ c.bytes.invariant.rest;
+          ∙ c.in_ok-rest.ensures.read ∙ c.in_ok-behind.ensures.read ∙ c.bytes.invariant.rest;
       well = c.in_ok-step.ensures.well;
       lines = omega (
         arith,
@@ -25,6 +25,7 @@ bytes-preserved c =
         rise,
         fewer,
         ap (λ (r : ReaderState). r.lines) step,
+        c.in_ok-behind.ensures.lines,
         c.in_ok-rest.ensures.lines,
       );
     }

@@ -20,3 +20,13 @@ returns-clause-read c =
       run-length (seen_line self.line) (seen_line c.run.new.self)
           c.args.piece.now rest c.in_ok-rest.ensures,
     ))
+
+pub begin-requires : goal.begin-requires
+begin-requires c =
+    omega (
+      arith,
+      c.requires.room,
+      c.if-rest-piece.false,
+      run-length (seen_line c.args.self.now.line) (seen_line c.run.new.self)
+          c.args.piece.now c.in_ok-rest.rest.now c.in_ok-rest.ensures,
+    )

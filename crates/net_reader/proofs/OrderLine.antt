@@ -1,0 +1,119 @@
+-- The numbers of a line of the order.
+use Rattle.std.proofs.Common.{◌≡◌, inl, inr, ℕ, ◌||◌, cond, leb, ltb, append_assoc, length-append, length-take, get_or, ◌+◌, ◌<◌, ◌≤◌, true, false, set, take, List, [], ◌∷◌, ◌++◌, length, refl, ap, sym, ◌∙◌, arith, subst}
+use Rattle.std.proofs.lemmas.Bool.Decides.{nat_tests}
+use Rattle.std.proofs.lemmas.List.{append-nil, get_or-set_same, length-set, take-set, take_more}
+use Rattle.std.proofs.lemmas.List.Folds.{list_any-append}
+use Rattle.std.specs.List.{list_any}
+use Rattle.std.specs.Prelude.{nat_le}
+use Rattle.net_reader.specs.declared.line.Open.TheVariants as opens
+use Rattle.net_reader.specs.Steps.{IsRun, LineState, close_as, keep}
+use Rattle.net_reader.specs.Whole.{IsLast, IsNumbers, IsNumberTo, IsTaking, IsUpTo, Takes, between}
+use Rattle.net_reader.proofs.Running.{run-join, run-none}
+use Rattle.net_reader.proofs.WholeLine.{blank-behind}
+
+-- one number more of the order
+keep-few : (numbers : List ℕ) (value : ℕ) → length numbers < 64 → keep numbers value ≡ numbers ++ value ∷ []
+keep-few numbers value few =
+    let within : ltb (length numbers) 65 ≡ true = grind (arith, nat_tests) in
+    ap (λ b. cond b (numbers ++ value ∷ []) numbers) within
+
+below-more : (limit value : ℕ) (numbers : List ℕ) → list_any (λ number. nat_le limit number) numbers ≡ false
+    → value < limit → list_any (λ number. nat_le limit number) (numbers ++ value ∷ []) ≡ false
+below-more limit value numbers below less =
+    let no : leb limit value ≡ false = grind (arith, nat_tests) in
+    list_any-append (λ number. nat_le limit number) numbers (value ∷ [])
+    ∙ ap (λ b. b || (leb limit value || false)) below ∙ ap (λ b. b || false) no
+
+pub taking-none : (limit : ℕ) (before piece : List ℕ) → IsTaking limit before before piece piece
+taking-none limit before piece = record {
+  numbers = [];
+  run = λ word. run-none (between word []) piece;
+  added = sym (append-nil before);
+  below = refl;
+}
+
+pub taking-more : (limit value : ℕ) (before now piece rest after : List ℕ) → IsTaking limit before now piece rest
+    → IsNumberTo 32 value rest after → value < limit → length now < length before + 64
+    → IsTaking limit before (now ++ value ∷ []) piece after
+taking-more limit value before now piece rest after taking number less few =
+    let numbers = taking.numbers in
+    let short : length numbers < 64 = omega (arith, few, ap length taking.added, length-append before numbers) in
+    record {
+      numbers = numbers ++ value ∷ [];
+      run = λ word. subst (λ ns. IsRun (between word []) (between word ns) piece after) (keep-few numbers value short)
+          (run-join (between word []) (between word numbers) (between word (keep numbers value)) piece rest after
+          (taking.run word) (blank-behind word value numbers rest after number));
+      added = ap (λ xs. xs ++ value ∷ []) taking.added ∙ append_assoc before numbers (value ∷ []);
+      below = below-more limit value numbers taking.below less;
+    }
+
+taken-up-to : (limit value end : ℕ) (before now piece rest after : List ℕ)
+    (taking : IsTaking limit before now piece rest) → IsNumberTo end value rest after → length taking.numbers < 64
+    → IsUpTo (taking.numbers ++ value ∷ []) piece (end ∷ after)
+unfolding close_as
+taken-up-to limit value end before now piece rest after taking number short =
+    let numbers = taking.numbers in
+    let last : ℕ → LineState = λ word. record (between word numbers) { open_field = opens.Number number.count value } in
+    record {
+      last = last;
+      run = λ word. run-join (between word []) (between word numbers) (last word) piece rest (end ∷ after)
+          (taking.run word) (number.run (between word numbers) refl);
+      closed = λ word. ap (between word) (keep-few numbers value short);
+    }
+
+taken-ends : (limit value : ℕ) (before now piece rest after : List ℕ) (taking : IsTaking limit before now piece rest)
+    → IsLast value rest after → length taking.numbers < 64 → IsNumbers (taking.numbers ++ value ∷ []) piece after
+taken-ends limit value before now piece rest after taking (inl number) short =
+    inl (taken-up-to limit value 10 before now piece rest after taking number short)
+taken-ends limit value before now piece rest after taking (inr number) short =
+    inr (taken-up-to limit value 13 before now piece rest (10 ∷ after) taking number short)
+
+pub taking-last : (limit value : ℕ) (before now piece rest after : List ℕ) → IsTaking limit before now piece rest
+    → IsLast value rest after → value < limit → length now < length before + 64
+    → Takes limit before (now ++ value ∷ []) piece after
+taking-last limit value before now piece rest after taking number less few =
+    let numbers = taking.numbers in
+    let short : length numbers < 64 = omega (arith, few, ap length taking.added, length-append before numbers) in
+    record {
+      numbers = numbers ++ value ∷ [];
+      ends = taken-ends limit value before now piece rest after taking number short;
+      added = ap (λ xs. xs ++ value ∷ []) taking.added ∙ append_assoc before numbers (value ∷ []);
+      some = omega (arith, length-append numbers (value ∷ []));
+      few = omega (arith, short, length-append numbers (value ∷ []));
+      below = below-more limit value numbers taking.below less;
+    }
+
+-- a list's front with one thing more
+take-more-set : (xs : List ℕ) (i x : ℕ) → i < length xs → take (i + 1) (set xs i x) ≡ take i xs ++ x ∷ []
+take-more-set xs i x within =
+    take_more (set xs i x) i 0 (omega (arith, within, length-set xs i x))
+    ∙ ap (λ front. front ++ get_or (set xs i x) i 0 ∷ []) (take-set xs i x)
+    ∙ ap (λ y. take i xs ++ y ∷ []) (get_or-set_same xs i x 0 within)
+
+pub written-more : (limit value count : ℕ) (before xs piece rest after : List ℕ)
+    → IsTaking limit before (take count xs) piece rest → IsNumberTo 32 value rest after → value < limit
+    → count < length xs → length xs ≤ 64 → IsTaking limit before (take (count + 1) (set xs count value)) piece after
+written-more limit value count before xs piece rest after taking number less within few =
+    subst (λ (ys : List ℕ). IsTaking limit before ys piece after) (sym (take-more-set xs count value within))
+    (taking-more limit value before (take count xs) piece rest after taking number less
+    (omega (arith, few, within, length-take count xs)))
+
+pub written-last : (limit value count : ℕ) (before xs piece rest after : List ℕ)
+    → IsTaking limit before (take count xs) piece rest → IsLast value rest after → value < limit
+    → count < length xs → length xs ≤ 64 → Takes limit before (take (count + 1) (set xs count value)) piece after
+written-last limit value count before xs piece rest after taking number less within few =
+    subst (λ (ys : List ℕ). Takes limit before ys piece after) (sym (take-more-set xs count value within))
+    (taking-last limit value before (take count xs) piece rest after taking number less
+    (omega (arith, few, within, length-take count xs)))
+
+-- the same numbers behind others
+pub behind-others : (limit : ℕ) (before now numbers piece rest : List ℕ) → Takes limit [] numbers piece rest
+    → now ≡ before ++ numbers → Takes limit before now piece rest
+behind-others limit before now numbers piece rest takes is = record {
+  numbers = takes.numbers;
+  ends = takes.ends;
+  added = is ∙ ap (λ ns. before ++ ns) takes.added;
+  some = takes.some;
+  few = takes.few;
+  below = takes.below;
+}

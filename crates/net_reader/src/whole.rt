@@ -1,0 +1,263 @@
+//! The parts of a line that lies whole in a piece, as most do.
+ghost use Rattle.std.specs.Prelude.{◌≡◌, ◌≤◌, ◌^◌, length, take, IfOk, IfSome, IfNone, [], ◌∷◌};
+ghost use Rattle.net_reader.specs.Whole.{IsComment, IsDigits, IsEnd, IsLast, IsNumbers, IsNumberTo, Opens, Takes};
+
+use crate::line_end::rest_of_line;
+use crate::word::Word;
+use std::alloc::AllocError;
+
+// The most numbers of a line of the order.
+const MAX_ORDER: usize = 64;
+
+// The word of a line of the order, where a blank stands behind it, and what stands behind that.
+#[inline(always)]
+fn opening_of_order(piece: &[u8]) -> Option<(Word, &[u8])>
+    ensures { IfSome result (λ found. Opens found.0 piece.now found.1.now) }
+{
+    match piece {
+        [b'o', b'r', b'd', b'e', b'r', b' ', after @ ..] => Some((Word::Order, after)),
+        _ => None,
+    }
+}
+
+// The word of a line of a kind of which there are many, where a blank stands behind it, and what
+// stands behind that.
+#[inline(always)]
+pub(crate) fn opening(piece: &[u8]) -> Option<(Word, &[u8])>
+    ensures { IfSome result (λ found. Opens found.0 piece.now found.1.now) }
+{
+    match piece {
+        [b'm', b'o', b'v', b'e', b' ', after @ ..] => Some((Word::Move, after)),
+        [b'f', b'i', b'n', b'd', b' ', after @ ..] => Some((Word::Find, after)),
+        [b'e', b'd', b'g', b'e', b' ', after @ ..] => Some((Word::Edge, after)),
+        _ => opening_of_order(piece),
+    }
+}
+
+// A number of at most three digits at the front, the byte that ends it, and what stands behind.
+#[inline(always)]
+pub(crate) fn short_number(piece: &[u8]) -> Option<(u64, u8, &[u8])>
+    ensures { IfSome result (λ found. IsNumberTo found.1 found.0 piece.now found.2.now) }
+{
+    let [first, second, third, fourth, ..] = piece else {
+        return None;
+    };
+    if !first.is_ascii_digit() {
+        return None;
+    }
+    let ones = u64::from(*first - b'0');
+    if !second.is_ascii_digit() {
+        return Some((ones, *second, piece.split_at(2).1));
+    }
+    let tens = 10 * ones + u64::from(*second - b'0');
+    if !third.is_ascii_digit() {
+        return Some((tens, *third, piece.split_at(3).1));
+    }
+    let hundreds = 10 * tens + u64::from(*third - b'0');
+    Some((hundreds, *fourth, piece.split_at(4).1))
+}
+
+// The number that the digits at the front are, up to seven of them, and how many they are.
+#[inline(always)]
+fn seven_digits(piece: &[u8]) -> (u64, usize)
+    requires { 7 ≤ length piece.now }
+    ensures read { IsDigits piece.now result.1 result.0 }
+    ensures few { result.1 ≤ 7 }
+{
+    let mut number = 0;
+    let mut taken = 0;
+    'digits: while taken < 7 && piece[taken].is_ascii_digit() {
+        number = 10 * number + u64::from(piece[taken] - b'0');
+        taken += 1;
+    }
+    (number, taken)
+}
+
+// A number of at most seven digits at the front, as weights have, the byte that ends it, and what
+// stands behind.
+#[inline(always)]
+fn wide_number(piece: &[u8]) -> Option<(u64, u8, &[u8])>
+    ensures { IfSome result (λ found. IsNumberTo found.1 found.0 piece.now found.2.now) }
+{
+    if piece.len() < 8 {
+        return None;
+    }
+    let (value, taken) = seven_digits(piece);
+    if taken == 0 {
+        return None;
+    }
+    Some((value, piece[taken], piece.split_at(taken + 1).1))
+}
+
+// The number at the front that a blank ends, where it has more than three digits.
+fn long_number(piece: &[u8]) -> Option<(u64, &[u8])>
+    ensures { IfSome result (λ found. IsNumberTo 32 found.0 piece.now found.1.now) }
+{
+    let (value, end, after) = wide_number(piece)?;
+    if end == b' ' {
+        Some((value, after))
+    } else {
+        None
+    }
+}
+
+// The number at the front that a blank ends, and what stands behind the blank. Most have at most
+// three digits.
+#[inline(always)]
+fn number(piece: &[u8]) -> Option<(u64, &[u8])>
+    ensures { IfSome result (λ found. IsNumberTo 32 found.0 piece.now found.1.now) }
+{
+    if let Some((value, end, after)) = short_number(piece) {
+        if end == b' ' {
+            return Some((value, after));
+        }
+    }
+    long_number(piece)
+}
+
+// The number at the front that the end of the line ends, and what stands behind it, where it has
+// more than three digits.
+fn long_last(piece: &[u8]) -> Option<(u64, &[u8])>
+    ensures { IfSome result (λ found. IsLast found.0 piece.now found.1.now) }
+{
+    wide_last(piece)
+}
+
+// The same of any that has at most seven.
+#[inline(always)]
+fn wide_last(piece: &[u8]) -> Option<(u64, &[u8])>
+    ensures { IfSome result (λ found. IsLast found.0 piece.now found.1.now) }
+{
+    let (value, end, after) = wide_number(piece)?;
+    let rest = past_end(end, after)?;
+    Some((value, rest))
+}
+
+// The same, where most have at most three.
+#[inline(always)]
+fn last_number(piece: &[u8]) -> Option<(u64, &[u8])>
+    ensures { IfSome result (λ found. IsLast found.0 piece.now found.1.now) }
+{
+    if let Some((value, end, after)) = short_number(piece) {
+        if let Some(rest) = past_end(end, after) {
+            return Some((value, rest));
+        }
+    }
+    long_last(piece)
+}
+
+// What stands behind the end of a line that begins with this byte, before the bytes after it.
+#[inline(always)]
+fn past_end(end: u8, after: &[u8]) -> Option<&[u8]>
+    ensures { IfSome result (λ rest. IsEnd end after.now rest.now) }
+{
+    if end == b'\n' {
+        return Some(after);
+    }
+    if end != b'\r' {
+        return None;
+    }
+    match after {
+        [b'\n', rest @ ..] => Some(rest),
+        _ => None,
+    }
+}
+
+// What stands behind a comment at the front, and the end of its line.
+#[inline(always)]
+pub(crate) fn past_comment(piece: &[u8]) -> Option<&[u8]>
+    ensures { IfSome result (λ rest. IsComment piece.now rest.now) }
+{
+    let [b'#', after @ ..] = piece else {
+        return None;
+    };
+    let [end, behind @ ..] = after.split_at(rest_of_line(after)).1 else {
+        return None;
+    };
+    let rest = past_end(*end, behind)?;
+    Some(rest)
+}
+
+// The two numbers that stand one blank apart before the end of the line, and what stands behind it.
+#[inline(always)]
+pub(crate) fn two_numbers(piece: &[u8]) -> Option<(u64, u64, &[u8])>
+    ensures { IfSome result (λ found. IsNumbers (found.0 ∷ found.1 ∷ []) piece.now found.2.now) }
+{
+    let (first, rest) = number(piece)?;
+    let (second, rest) = last_number(rest)?;
+    Some((first, second, rest))
+}
+
+// Three such numbers.
+#[inline(always)]
+pub(crate) fn three_numbers(piece: &[u8]) -> Option<(u64, u64, u64, &[u8])>
+    ensures { IfSome result (λ found. IsNumbers (found.0 ∷ found.1 ∷ found.2 ∷ []) piece.now
+        found.3.now) }
+{
+    let (first, rest) = number(piece)?;
+    let (second, rest) = number(rest)?;
+    let (third, rest) = last_number(rest)?;
+    Some((first, second, third, rest))
+}
+
+// The numbers of an edge: its nodes and its weight.
+#[inline(always)]
+pub(crate) fn edge_numbers(piece: &[u8]) -> Option<(u64, u64, u64, &[u8])>
+    ensures { IfSome result (λ found. IsNumbers (found.0 ∷ found.1 ∷ found.2 ∷ []) piece.now
+        found.3.now) }
+{
+    let (first, rest) = number(piece)?;
+    let (second, rest) = number(rest)?;
+    let (weight, rest) = wide_last(rest)?;
+    Some((first, second, weight, rest))
+}
+
+// Writes down the numbers below the limit that stand one blank apart before the end of the line,
+// and gives how many they are and what stands behind the line; none where the line isn't so, or has
+// more numbers than there is room for.
+#[inline(always)]
+fn take_numbers<'a>(numbers: &mut [u32], limit: u64, piece: &'a [u8]) -> Option<(usize, &'a [u8])>
+    requires few { length numbers.old ≤ 64 }
+    requires limit { limit ≤ 2 ^ 32 }
+    ensures within { IfSome result (λ found. found.0 ≤ length numbers.new) }
+    ensures taken { IfSome result (λ found. Takes limit [] (take found.0 numbers.new) piece.now
+        found.1.now) }
+{
+    let mut count = 0;
+    let mut rest = piece;
+    'numbers: while count < numbers.len() {
+        let (number, end, after) = short_number(rest)?;
+        if number >= limit {
+            return None;
+        }
+        numbers[count] = number as u32;
+        count += 1;
+        if end != b' ' {
+            let behind = past_end(end, after)?;
+            return Some((count, behind));
+        }
+        rest = after;
+    }
+    None
+}
+
+// Adds to an order the numbers below the limit that stand one blank apart before the end of the
+// line, and gives what stands behind it; where the line isn't so, or has more than an order's line
+// may have, it adds nothing.
+pub(crate) fn push_line<'a>(
+    order: &mut Vec<u32>,
+    limit: u64,
+    piece: &'a [u8],
+) -> Result<Option<&'a [u8]>, AllocError>
+    requires { limit ≤ 2 ^ 32 }
+    ensures taken { IfOk result (λ found. IfSome found (λ rest. Takes limit order.old.items
+        order.new.items piece.now rest.now)) }
+    ensures still { IfOk result (λ found. IfNone found (order.new.items ≡ order.old.items)) }
+{
+    let mut numbers = [0; MAX_ORDER];
+    let Some((count, rest)) = take_numbers(&mut numbers, limit, piece) else {
+        return Ok(None);
+    };
+    order.extend_from_slice(&numbers[..count])?;
+    Ok(Some(rest))
+}
