@@ -1,3 +1,4 @@
 mod Digits
 mod Fields
 mod Orders
+mod Runs

@@ -4,6 +4,7 @@
 mod examples;
 mod line;
 mod order;
+mod run;
 
 pub use examples::example_orders;
 pub use line::Line;

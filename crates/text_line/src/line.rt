@@ -1,10 +1,11 @@
 //! A line that is written piece by piece into memory that was taken before.
 ghost use Rattle.std.specs.Prelude.{◌≡◌, ◌+◌, ◌*◌, ◌<◌, ◌≤◌, ◌++◌, ◌∷◌, List, ℕ, [], length, take};
-ghost use Rattle.std.specs.Prelude.{◌%◌, IfOk, slice_index};
+ghost use Rattle.std.specs.Prelude.{◌%◌, IfOk, replicate, slice_index};
 ghost use Rattle.std.specs.Fmt.{decimal};
 ghost use Rattle.outside.specs.Texts.{field, fields};
 ghost use Rattle.text_line.specs.Shorts.{AreShort, IsShort};
 
+use crate::run::{Run, lone_actor};
 use itoa::Buffer;
 use std::alloc::{AllocError, Global};
 use std::marker::Model;
@@ -163,16 +164,18 @@ fn short_fields(alloc: Global, count: usize) -> Result<Vec<[u8; 8]>, AllocError>
 }
 
 // A line that isn't at its end, in room for 4,096 bytes, of which those before `end` are written;
-// and the fields of the numbers that are written most.
+// and the fields of the numbers that are written most, and of a full line of one actor.
 #[derive(Debug, Drop)]
 pub struct Line {
     bytes: Vec<u8>,
     end: usize,
     shorts: Vec<[u8; 8]>,
+    run: Run,
 }
 
 impl Model for Line {
     ghost use Rattle.std.specs.Prelude.{◌≡◌, ◌≤◌, List, ℕ, length, take};
+    ghost use Rattle.text_line.specs.Runs.{KeepsRun};
     ghost use Rattle.text_line.specs.Shorts.{AreShort};
 
     ghost Value = { List ℕ };
@@ -180,7 +183,7 @@ impl Model for Line {
     ghost view = { λ l. take l.end l.bytes.items };
 
     ghost invariant = { λ l. (length l.bytes.items ≡ 4104) × (l.end ≤ 4096)
-        × AreShort l.shorts.items };
+        × AreShort l.shorts.items × KeepsRun l.run };
 }
 
 impl Line {
@@ -192,6 +195,7 @@ impl Line {
             bytes: vec![in alloc; 0u8; ROOM + 8]?,
             end: 0,
             shorts: short_fields(alloc, count.min(1_024))?,
+            run: Run::new(alloc)?,
         })
     }
 
@@ -251,6 +255,35 @@ impl Line {
     {
         for &number in numbers {
             self.number(u64::from(number));
+        }
+    }
+
+    // The actors of a line, each behind a blank. What a full line of one actor is made of is kept
+    // for the next line of that actor.
+    pub fn actors(&mut self, actors: &[u32])
+        requires { length self.old + 41 * length actors.now ≤ 4096 }
+        ensures text { self.new ≡ self.old ++ fields actors.now }
+        ensures long { length self.new ≤ length self.old + 41 * length actors.now }
+    {
+        match lone_actor(actors) {
+            Some(actor) => self.run(actors, actor),
+            None => self.numbers(actors),
+        }
+    }
+
+    // A full line of one actor.
+    fn run(&mut self, actors: &[u32], actor: u32)
+        requires room { length self.old + 2624 ≤ 4096 }
+        requires alone { actors.now ≡ replicate 64 actor }
+        ensures text { self.new ≡ self.old ++ fields actors.now }
+        ensures long { length self.new ≤ length self.old + 2624 }
+    {
+        let at = self.end;
+        if self.run.is_of(actor) {
+            self.end = self.run.put(&mut self.bytes, at);
+        } else {
+            self.numbers(actors);
+            self.run.keep(actor, &self.bytes[at..self.end]);
         }
     }
 
