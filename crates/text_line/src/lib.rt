@@ -1,6 +1,7 @@
 //! Lines of text that are written piece by piece, into memory that was taken before.
 #![tactic(auto)]
 
+mod digits;
 mod examples;
 mod line;
 mod order;

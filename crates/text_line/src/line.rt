@@ -5,125 +5,12 @@ ghost use Rattle.std.specs.Fmt.{decimal};
 ghost use Rattle.outside.specs.Texts.{field, fields};
 ghost use Rattle.text_line.specs.Shorts.{AreShort, IsShort};
 
+use crate::digits::{put_field, put_short_field};
 use crate::run::{Run, lone_actor};
-use itoa::Buffer;
 use std::alloc::{AllocError, Global};
 use std::marker::Model;
 
 const ROOM: usize = 4_096;
-
-// The digit of a number below ten.
-fn digit(number: u64) -> u8
-    requires { number < 10 }
-    ensures { result ≡ 48 + number }
-{
-    b'0' + number as u8
-}
-
-// Writes a byte, and tells the place behind it.
-#[inline(always)]
-fn put(bytes: &mut [u8], at: usize, byte: u8) -> usize
-    requires { at < length bytes.old }
-    ensures text { take result bytes.new ≡ take at bytes.old ++ byte ∷ [] }
-    ensures next { result ≡ at + 1 }
-{
-    bytes[at] = byte;
-    at + 1
-}
-
-// Writes the last digit of a number, and tells the place behind it.
-#[inline(always)]
-fn put_last_digit(bytes: &mut [u8], at: usize, number: u64) -> usize
-    requires { at < length bytes.old }
-    ensures text { take result bytes.new ≡ take at bytes.old ++ (48 + number % 10) ∷ [] }
-    ensures next { result ≡ at + 1 }
-{
-    put(bytes, at, digit(number % 10))
-}
-
-// Writes a number of at most two digits, and tells the place behind it.
-#[inline(always)]
-fn put_two(bytes: &mut [u8], at: usize, number: u64) -> usize
-    requires room { at + 2 ≤ length bytes.old }
-    requires short { number < 100 }
-    ensures text { take result bytes.new ≡ take at bytes.old ++ decimal number }
-    ensures next { result ≤ at + 2 }
-{
-    let mut end = at;
-    if number >= 10 {
-        end = put(bytes, end, digit(number / 10));
-    }
-    put_last_digit(bytes, end, number)
-}
-
-// Writes a number of at most three digits, and tells the place behind it.
-#[inline(always)]
-fn put_three(bytes: &mut [u8], at: usize, number: u64) -> usize
-    requires room { at + 3 ≤ length bytes.old }
-    requires short { number < 1000 }
-    ensures text { take result bytes.new ≡ take at bytes.old ++ decimal number }
-    ensures next { result ≤ at + 3 }
-{
-    let mut end = at;
-    if number >= 10 {
-        end = put_two(bytes, end, number / 10);
-    }
-    put_last_digit(bytes, end, number)
-}
-
-// Writes a number of at most four digits, and tells the place behind it.
-#[inline(always)]
-fn put_four(bytes: &mut [u8], at: usize, number: u64) -> usize
-    requires room { at + 4 ≤ length bytes.old }
-    requires short { number < 10000 }
-    ensures text { take result bytes.new ≡ take at bytes.old ++ decimal number }
-    ensures next { result ≤ at + 4 }
-{
-    let mut end = at;
-    if number >= 10 {
-        end = put_three(bytes, end, number / 10);
-    }
-    put_last_digit(bytes, end, number)
-}
-
-// Writes a number of any length, and tells the place behind it.
-fn put_any(bytes: &mut [u8], at: usize, number: u64) -> usize
-    requires room { at + 40 ≤ length bytes.old }
-    ensures text { take result bytes.new ≡ take at bytes.old ++ decimal number }
-    ensures next { result ≤ at + 40 }
-{
-    let mut buffer = Buffer::new();
-    let digits = buffer.format(number).as_bytes();
-    let end = at + digits.len();
-    bytes[at..end].copy_from_slice(digits);
-    end
-}
-
-// Writes a blank and a number of at most four digits, and tells the place behind them.
-#[inline(always)]
-fn put_short_field(bytes: &mut [u8], at: usize, number: u64) -> usize
-    requires room { at + 5 ≤ length bytes.old }
-    requires short { number < 10000 }
-    ensures text { take result bytes.new ≡ take at bytes.old ++ field number }
-    ensures next { result ≤ at + 5 }
-{
-    let from = put(bytes, at, b' ');
-    put_four(bytes, from, number)
-}
-
-// Writes a blank and a number, and tells the place behind them.
-fn put_field(bytes: &mut [u8], at: usize, number: u64) -> usize
-    requires room { at + 41 ≤ length bytes.old }
-    ensures text { take result bytes.new ≡ take at bytes.old ++ field number }
-    ensures next { result ≤ at + 41 }
-{
-    if number < 10_000 {
-        put_short_field(bytes, at, number)
-    } else {
-        let from = put(bytes, at, b' ');
-        put_any(bytes, from, number)
-    }
-}
 
 // Writes a short field, and tells the place behind it. Eight bytes are written at once, of which
 // those of the field count.
@@ -224,6 +111,7 @@ impl Line {
     }
 
     // A blank and a number.
+    #[inline(always)]
     pub fn number(&mut self, number: u64)
         requires { length self.old + 41 ≤ 4096 }
         ensures text { self.new ≡ self.old ++ field number }
