@@ -1,7 +1,7 @@
 -- The write that commits a move is that of the stage Committing.
-use Rattle.std.proofs.Common.{◌≡◌, ℕ, ◌≤◌, ◌^◌, Bool, true, false, List, [], Option, refl, sym, ap, ◌∙◌, arith}
+use Rattle.std.proofs.Common.{◌≡◌, ℕ, ◌≤◌, ◌^◌, Bool, true, false, [], refl, sym, ap, ◌∙◌, arith}
 use Rattle.std.specs.Option.{is_some}
-use Rattle.std.specs.Prelude.{Some, None, option_map}
+use Rattle.std.specs.Prelude.{Some, option_map}
 use Rattle.entry_word.specs.Marks.{IsSmallMark, MarksUnpack}
 use Rattle.entry_word.specs.MarkLaws.{read-mark}
 use Rattle.entry_word.specs.declared.mark.PresenceMark.{PresenceMark}

@@ -1,6 +1,7 @@
 mod Lists
 mod Going
 mod CourseLaws
+mod Trails
 mod Writing
 mod Showing
 mod Keeping

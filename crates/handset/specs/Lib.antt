@@ -2,4 +2,5 @@ pub mod Kept
 pub mod Progress
 pub mod Beginning
 pub mod Stands
+pub mod Trails
 pub mod StageLaws

@@ -16,14 +16,16 @@ ghost use Rattle.handset.specs.Stands.{StandsForSteps, is_commit, switch_to};
 ghost use Rattle.handset.specs.Beginning.{begin_move, gathered_after, handset_at, move_fault, renewal_in, switch_fault};
 
 use crate::fault::{MoveFault, SwitchFault};
-use crate::levels::{clear, first_behind, first_old, gather, readdress, renewal};
+use crate::levels::{first_old, gather, readdress, renewal};
 use crate::stage::{Journey, Stage};
+use crate::trail::{clear, first_behind, mark, trail_at};
 use crate::visits::{
     coming_visit, entry_visit, gone_visit, here_visit, mark_visit, renewal_visit, switch_mark,
 };
 use directory::levels_after_move;
 use distances::Distances;
 use entry_word::{PresenceMark, Visit, mark_words};
+use node_set::NodeSet;
 use region_plan::Plan;
 use std::alloc::{AllocError, Global};
 use std::marker::Model;
@@ -39,11 +41,12 @@ pub struct Handset {
     last: Journey,
     addresses: Vec<u32>,
     gathered: Vec<u64>,
-    trail: Vec<bool>,
+    trail: NodeSet,
 }
 
 impl Model for Handset {
     ghost use Rattle.handset.specs.Kept.{HandsetData, move_of};
+    ghost use Rattle.handset.specs.Trails.{flags};
 
     ghost Value = { HandsetData };
 
@@ -56,7 +59,7 @@ impl Model for Handset {
       last = move_of h.last;
       addresses = h.addresses.items;
       gathered = h.gathered.items;
-      trail = h.trail.items;
+      trail = flags h.trail;
     } };
 }
 
@@ -220,8 +223,7 @@ impl Handset {
     {
         let addresses = vec![in alloc; home; plan.levels() as usize]?;
         let gathered = vec![in alloc; 0u64; plan.levels() as usize]?;
-        let mut trail = vec![in alloc; false; plan.nodes() as usize]?;
-        trail[home as usize] = true;
+        let trail = trail_at(alloc, plan.nodes(), home)?;
         Ok(Handset {
             sub,
             place: home,
@@ -381,6 +383,6 @@ impl Handset {
         if renewed == plan.levels() - 1 {
             clear(&mut self.trail);
         }
-        self.trail[to as usize] = true;
+        mark(&mut self.trail, to);
     }
 }

@@ -1,5 +1,5 @@
-//! What the levels of a handset have gathered, their addresses, and its trail.
-ghost use Rattle.std.specs.Prelude.{◌≡◌, ◌<◌, ◌≤◌, ◌+◌, ◌-◌, ◌^◌, ◌++◌, [], ℕ, suc, false, not, ◌==◌, ◌&&◌, length, drop, replicate, slice_index, slice_index_or};
+//! What the levels of a handset have gathered, and their addresses.
+ghost use Rattle.std.specs.Prelude.{◌≡◌, ◌<◌, ◌≤◌, ◌+◌, ◌-◌, ◌^◌, ◌++◌, [], ℕ, suc, not, ◌==◌, length, drop, replicate, slice_index};
 ghost use Rattle.region_plan.specs.Plan.{home, levels_of, nodes_of};
 ghost use Rattle.region_plan.specs.Settings.{setting_of};
 ghost use Rattle.handset.specs.Progress.{first_with};
@@ -53,15 +53,6 @@ pub fn readdress(addresses: &mut [u32], renewed: u32, to: u32)
     }
 }
 
-// Nobody is on the trail.
-pub fn clear(trail: &mut [bool])
-    ensures { trail.new ≡ replicate (length trail.old) false }
-{
-    for node in 0..trail.len() {
-        trail[node] = false;
-    }
-}
-
 // The first level from one on whose old address has another home than the new one.
 pub fn first_old(plan: &Plan, addresses: &[u32], last: Journey, from: u32) -> Option<u32>
     requires levels { last.renewed < levels_of plan.now }
@@ -78,20 +69,6 @@ pub fn first_old(plan: &Plan, addresses: &[u32], last: Journey, from: u32) -> Op
     for level in from..last.renewed + 1 {
         if plan.home(level, addresses[level as usize]) != plan.home(level, last.to) {
             return Some(level);
-        }
-    }
-    None
-}
-
-// The first node from one on that is on the trail, but isn't the new one.
-pub fn first_behind(trail: &[bool], to: u32, from: u32) -> Option<u32>
-    requires { length trail.now ≤ 1024 }
-    ensures { result ≡ first_with (λ node. slice_index_or trail.now node false && not
-        (node == to)) from (length trail.now - from) }
-{
-    for node in from..trail.len() as u32 {
-        if trail[node as usize] && node != to {
-            return Some(node);
         }
     }
     None

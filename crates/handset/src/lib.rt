@@ -5,6 +5,7 @@ mod fault;
 mod handset;
 mod levels;
 mod stage;
+mod trail;
 mod visits;
 
 pub use fault::{MoveFault, SwitchFault};

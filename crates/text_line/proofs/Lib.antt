@@ -1,3 +1,4 @@
-mod Digits
+mod Pairs
 mod Fields
 mod Orders
+mod Runs

@@ -1,3 +1,4 @@
 pub mod OrderLines
 pub mod OrderLaws
+pub mod Runs
 pub mod Shorts

@@ -1,9 +1,11 @@
 //! Lines of text that are written piece by piece, into memory that was taken before.
 #![tactic(auto)]
 
+mod digits;
 mod examples;
 mod line;
 mod order;
+mod run;
 
 pub use examples::example_orders;
 pub use line::Line;

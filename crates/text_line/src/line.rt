@@ -1,128 +1,16 @@
 //! A line that is written piece by piece into memory that was taken before.
 ghost use Rattle.std.specs.Prelude.{◌≡◌, ◌+◌, ◌*◌, ◌<◌, ◌≤◌, ◌++◌, ◌∷◌, List, ℕ, [], length, take};
-ghost use Rattle.std.specs.Prelude.{◌%◌, IfOk, slice_index};
+ghost use Rattle.std.specs.Prelude.{◌%◌, IfOk, replicate, slice_index};
 ghost use Rattle.std.specs.Fmt.{decimal};
 ghost use Rattle.outside.specs.Texts.{field, fields};
 ghost use Rattle.text_line.specs.Shorts.{AreShort, IsShort};
 
-use itoa::Buffer;
+use crate::digits::{put_field, put_short_field};
+use crate::run::{Run, lone_actor};
 use std::alloc::{AllocError, Global};
 use std::marker::Model;
 
 const ROOM: usize = 4_096;
-
-// The digit of a number below ten.
-fn digit(number: u64) -> u8
-    requires { number < 10 }
-    ensures { result ≡ 48 + number }
-{
-    b'0' + number as u8
-}
-
-// Writes a byte, and tells the place behind it.
-#[inline(always)]
-fn put(bytes: &mut [u8], at: usize, byte: u8) -> usize
-    requires { at < length bytes.old }
-    ensures text { take result bytes.new ≡ take at bytes.old ++ byte ∷ [] }
-    ensures next { result ≡ at + 1 }
-{
-    bytes[at] = byte;
-    at + 1
-}
-
-// Writes the last digit of a number, and tells the place behind it.
-#[inline(always)]
-fn put_last_digit(bytes: &mut [u8], at: usize, number: u64) -> usize
-    requires { at < length bytes.old }
-    ensures text { take result bytes.new ≡ take at bytes.old ++ (48 + number % 10) ∷ [] }
-    ensures next { result ≡ at + 1 }
-{
-    put(bytes, at, digit(number % 10))
-}
-
-// Writes a number of at most two digits, and tells the place behind it.
-#[inline(always)]
-fn put_two(bytes: &mut [u8], at: usize, number: u64) -> usize
-    requires room { at + 2 ≤ length bytes.old }
-    requires short { number < 100 }
-    ensures text { take result bytes.new ≡ take at bytes.old ++ decimal number }
-    ensures next { result ≤ at + 2 }
-{
-    let mut end = at;
-    if number >= 10 {
-        end = put(bytes, end, digit(number / 10));
-    }
-    put_last_digit(bytes, end, number)
-}
-
-// Writes a number of at most three digits, and tells the place behind it.
-#[inline(always)]
-fn put_three(bytes: &mut [u8], at: usize, number: u64) -> usize
-    requires room { at + 3 ≤ length bytes.old }
-    requires short { number < 1000 }
-    ensures text { take result bytes.new ≡ take at bytes.old ++ decimal number }
-    ensures next { result ≤ at + 3 }
-{
-    let mut end = at;
-    if number >= 10 {
-        end = put_two(bytes, end, number / 10);
-    }
-    put_last_digit(bytes, end, number)
-}
-
-// Writes a number of at most four digits, and tells the place behind it.
-#[inline(always)]
-fn put_four(bytes: &mut [u8], at: usize, number: u64) -> usize
-    requires room { at + 4 ≤ length bytes.old }
-    requires short { number < 10000 }
-    ensures text { take result bytes.new ≡ take at bytes.old ++ decimal number }
-    ensures next { result ≤ at + 4 }
-{
-    let mut end = at;
-    if number >= 10 {
-        end = put_three(bytes, end, number / 10);
-    }
-    put_last_digit(bytes, end, number)
-}
-
-// Writes a number of any length, and tells the place behind it.
-fn put_any(bytes: &mut [u8], at: usize, number: u64) -> usize
-    requires room { at + 40 ≤ length bytes.old }
-    ensures text { take result bytes.new ≡ take at bytes.old ++ decimal number }
-    ensures next { result ≤ at + 40 }
-{
-    let mut buffer = Buffer::new();
-    let digits = buffer.format(number).as_bytes();
-    let end = at + digits.len();
-    bytes[at..end].copy_from_slice(digits);
-    end
-}
-
-// Writes a blank and a number of at most four digits, and tells the place behind them.
-#[inline(always)]
-fn put_short_field(bytes: &mut [u8], at: usize, number: u64) -> usize
-    requires room { at + 5 ≤ length bytes.old }
-    requires short { number < 10000 }
-    ensures text { take result bytes.new ≡ take at bytes.old ++ field number }
-    ensures next { result ≤ at + 5 }
-{
-    let from = put(bytes, at, b' ');
-    put_four(bytes, from, number)
-}
-
-// Writes a blank and a number, and tells the place behind them.
-fn put_field(bytes: &mut [u8], at: usize, number: u64) -> usize
-    requires room { at + 41 ≤ length bytes.old }
-    ensures text { take result bytes.new ≡ take at bytes.old ++ field number }
-    ensures next { result ≤ at + 41 }
-{
-    if number < 10_000 {
-        put_short_field(bytes, at, number)
-    } else {
-        let from = put(bytes, at, b' ');
-        put_any(bytes, from, number)
-    }
-}
 
 // Writes a short field, and tells the place behind it. Eight bytes are written at once, of which
 // those of the field count.
@@ -163,16 +51,18 @@ fn short_fields(alloc: Global, count: usize) -> Result<Vec<[u8; 8]>, AllocError>
 }
 
 // A line that isn't at its end, in room for 4,096 bytes, of which those before `end` are written;
-// and the fields of the numbers that are written most.
+// and the fields of the numbers that are written most, and of a full line of one actor.
 #[derive(Debug, Drop)]
 pub struct Line {
     bytes: Vec<u8>,
     end: usize,
     shorts: Vec<[u8; 8]>,
+    run: Run,
 }
 
 impl Model for Line {
     ghost use Rattle.std.specs.Prelude.{◌≡◌, ◌≤◌, List, ℕ, length, take};
+    ghost use Rattle.text_line.specs.Runs.{KeepsRun};
     ghost use Rattle.text_line.specs.Shorts.{AreShort};
 
     ghost Value = { List ℕ };
@@ -180,7 +70,7 @@ impl Model for Line {
     ghost view = { λ l. take l.end l.bytes.items };
 
     ghost invariant = { λ l. (length l.bytes.items ≡ 4104) × (l.end ≤ 4096)
-        × AreShort l.shorts.items };
+        × AreShort l.shorts.items × KeepsRun l.run };
 }
 
 impl Line {
@@ -192,6 +82,7 @@ impl Line {
             bytes: vec![in alloc; 0u8; ROOM + 8]?,
             end: 0,
             shorts: short_fields(alloc, count.min(1_024))?,
+            run: Run::new(alloc)?,
         })
     }
 
@@ -220,6 +111,7 @@ impl Line {
     }
 
     // A blank and a number.
+    #[inline(always)]
     pub fn number(&mut self, number: u64)
         requires { length self.old + 41 ≤ 4096 }
         ensures text { self.new ≡ self.old ++ field number }
@@ -251,6 +143,35 @@ impl Line {
     {
         for &number in numbers {
             self.number(u64::from(number));
+        }
+    }
+
+    // The actors of a line, each behind a blank. What a full line of one actor is made of is kept
+    // for the next line of that actor.
+    pub fn actors(&mut self, actors: &[u32])
+        requires { length self.old + 41 * length actors.now ≤ 4096 }
+        ensures text { self.new ≡ self.old ++ fields actors.now }
+        ensures long { length self.new ≤ length self.old + 41 * length actors.now }
+    {
+        match lone_actor(actors) {
+            Some(actor) => self.run(actors, actor),
+            None => self.numbers(actors),
+        }
+    }
+
+    // A full line of one actor.
+    fn run(&mut self, actors: &[u32], actor: u32)
+        requires room { length self.old + 2624 ≤ 4096 }
+        requires alone { actors.now ≡ replicate 64 actor }
+        ensures text { self.new ≡ self.old ++ fields actors.now }
+        ensures long { length self.new ≤ length self.old + 2624 }
+    {
+        let at = self.end;
+        if self.run.is_of(actor) {
+            self.end = self.run.put(&mut self.bytes, at);
+        } else {
+            self.numbers(actors);
+            self.run.keep(actor, &self.bytes[at..self.end]);
         }
     }
 

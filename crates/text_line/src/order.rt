@@ -13,7 +13,7 @@ fn write_order(line: &mut Line, actors: &[u32])
     ensures { line.new ≡ order_line actors.now }
 {
     line.word("order");
-    line.numbers(actors);
+    line.actors(actors);
     line.word("\n");
 }
 
