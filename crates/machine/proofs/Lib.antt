@@ -9,5 +9,6 @@ mod Sums
 mod Turning
 mod Opening
 mod Finishing
+mod Passing
 mod Ending
 mod RightOutcome

@@ -8,10 +8,10 @@ ghost use Rattle.net_reader.specs.Valid.{IsSearch};
 ghost use Rattle.region_plan.specs.Plan.{nodes_of};
 ghost use Rattle.scripts.specs.Scripts.{find_of};
 ghost use Rattle.machine.specs.Stands.{BelongTogether, IsWalking, Sees};
-ghost use Rattle.machine.specs.Callers.{IsCaller, HasLooked};
+ghost use Rattle.machine.specs.Callers.{IsCaller, HasLooked, HasPassed};
 
 use crate::turn::Turn;
-use directory::{Done, Found, every_order_is_legal, lines_grow, own_after};
+use directory::{Done, Found, each_visit_is_next, every_order_is_legal, lines_grow, own_after};
 use distances::Distances;
 use net_reader::{Call, Input};
 use region_plan::Plan;
@@ -95,6 +95,51 @@ impl Caller {
         self.walk = walk_at(script, self.lines.len(), input.homes.len() as u32, plan);
         self.first = None;
         Turn::Visited
+    }
+
+    // The looks at entries that hold nothing, at most so many, and how many there were. The last
+    // look at a level is no such look.
+    pub fn pass(
+        &mut self,
+        actor: u32,
+        input: &Input,
+        plan: &Plan,
+        distances: &Distances,
+        cells: &PlainCells,
+        ticket: u64,
+        most: usize,
+    ) -> usize
+        requires together { BelongTogether (seen_input input.now) plan.now distances.now }
+        requires high { length input.now.homes.items ≤ actor }
+        requires low { actor < length input.now.scripts.items }
+        requires stands { (history : History)
+            × Sees (seen_input input.now) plan.now cells.now history
+            × (length history ≡ ticket)
+            × IsCaller (seen_input input.now) plan.now history actor self.old }
+        ensures few { result ≤ most }
+        ensures passed { (history : History)
+            → Sees (seen_input input.now) plan.now cells.now history → length history ≡ ticket
+            → IsCaller (seen_input input.now) plan.now history actor self.old
+            → HasPassed (seen_input input.now) plan.now cells.now history actor result self.new }
+    {
+        scripts_are_valid();
+        every_order_is_legal();
+        each_visit_is_next();
+        lines_grow();
+        own_after();
+        let Some(walk) = &mut self.walk else {
+            return 0;
+        };
+        let Some((level, clusters)) = walk.ahead(plan) else {
+            return 0;
+        };
+        let reach = most.min(clusters.len() - 1);
+        let count = cells.count_empty(plan, level, walk.sub(), &clusters[..reach]);
+        if count > 0 {
+            walk.pass(plan, count);
+            self.first = Some(self.first.unwrap_or(ticket));
+        }
+        count
     }
 }
 

@@ -1,5 +1,5 @@
 //! The directory at work in one order of turns.
-ghost use Rattle.std.specs.Prelude.{All, ◌≡◌, ◌∷◌, ◌++◌, ◌+◌, ◌-◌, ◌<◌, ◌≤◌, ◌↔◌, ℕ, List, [], IfOk, None, drop, length, map, replicate, slice_index_or, vec_len, flat_map, vec_capacity};
+ghost use Rattle.std.specs.Prelude.{All, ◌≡◌, ◌∷◌, ◌++◌, ◌+◌, ◌-◌, ◌<◌, ◌≤◌, ◌↔◌, ℕ, List, [], IfOk, None, drop, length, map, replicate, slice_index, slice_index_or, vec_len, flat_map, vec_capacity};
 ghost use Rattle.directory.specs.Histories.{History};
 ghost use Rattle.directory.specs.Orders.{after_turn, after_turns, history_of, last_turns, most_turns, next, IsDone};
 ghost use Rattle.directory.specs.Outcomes.{outcome_in, result_of};
@@ -7,7 +7,7 @@ ghost use Rattle.net_reader.specs.Seen.{seen_input};
 ghost use Rattle.net_reader.specs.Valid.{count_calls};
 ghost use Rattle.trail_laws.specs.Lines.{IsRightLine, TellInTurn, TellRisingNumbers};
 ghost use Rattle.machine.specs.Callers.{IsCaller};
-ghost use Rattle.machine.specs.Machines.{HasTurned, IsSame, HasHistory, scripts_at, setting_at};
+ghost use Rattle.machine.specs.Machines.{HasMade, HasStridden, HasTurned, IsSame, HasHistory, scripts_at, setting_at};
 ghost use Rattle.machine.specs.Stands.{BelongTogether};
 ghost use Rattle.machine.specs.Subscribers.{IsSubscriber};
 ghost use Rattle.machine.specs.declared.caller.Caller.{Caller};
@@ -92,6 +92,45 @@ impl<'a> Machine<'a> {
         self.act(actor)
     }
 
+    /// So many turns of an actor, one after another: what as many calls of `turn` do, but that a
+    /// caller's looks at entries that hold nothing are made at once. How many visits it made.
+    pub fn turns(&mut self, actor: u32, count: usize) -> usize
+        requires stands { (history : History) × HasHistory self.old history }
+        ensures stands { (history : History) → HasHistory self.old history
+            → HasHistory self.new (after_turns (setting_at self.old) (scripts_at self.old) history
+            (replicate count actor)) }
+        ensures made { (history : History) → HasHistory self.old history
+            → length (after_turns (setting_at self.old) (scripts_at self.old) history
+            (replicate count actor)) ≡ length history + result }
+        ensures same { IsSame self.old self.new }
+    {
+        let mut left = count;
+        'turns: while left > 0 {
+            let made = self.stride(actor, left);
+            if made == 0 {
+                return count - left;
+            }
+            left -= made;
+        }
+        count
+    }
+
+    /// The turns of an order, one after another; those of a run of equal numbers at once.
+    pub fn play(&mut self, order: &[u32])
+        requires stands { (history : History) × HasHistory self.old history }
+        ensures stands { (history : History) → HasHistory self.old history
+            → HasHistory self.new (after_turns (setting_at self.old) (scripts_at self.old) history
+            order.now) }
+        ensures same { IsSame self.old self.new }
+    {
+        let mut rest = order;
+        'runs: while !rest.is_empty() {
+            let run = run_length(rest);
+            self.turns(rest[0], run);
+            rest = &rest[run..];
+        }
+    }
+
     /// The visits that are left, actor by actor. It takes no memory.
     pub fn finish(&mut self)
         requires stands { (history : History) × HasHistory self.old history }
@@ -155,8 +194,53 @@ impl<'a> Machine<'a> {
         ensures same { IsSame self.old self.new }
     {
         turns_are_few();
-        next_is_own();
-        'turns: while let Turn::Visited = self.turn(actor) {}
+        visits_are_few();
+        'turns: while self.stride(actor, usize::MAX) > 0 {}
+    }
+
+    // The next visits of an actor that are made at once, at most so many, and how many there were.
+    fn stride(&mut self, actor: u32, most: usize) -> usize
+        requires stands { (history : History) × HasHistory self.old history }
+        requires some { 1 ≤ most }
+        ensures few { result ≤ most }
+        ensures stands { (history : History) → HasHistory self.old history
+            → HasStridden self.old self.new history actor result }
+        ensures same { IsSame self.old self.new }
+    {
+        let passed = self.pass(actor, most - 1);
+        match self.act(actor) {
+            Turn::Visited => passed + 1,
+            Turn::Finished => passed,
+        }
+    }
+
+    // A caller's looks at entries that hold nothing, at most so many, and how many there were.
+    fn pass(&mut self, actor: u32, most: usize) -> usize
+        requires stands { (history : History) × HasHistory self.old history }
+        ensures few { result ≤ most }
+        ensures stands { (history : History) → HasHistory self.old history
+            → HasMade self.old self.new history actor result }
+        ensures same { IsSame self.old self.new }
+    {
+        own_after();
+        lines_grow();
+        visits_are_few();
+        let subs = self.subscribers.len();
+        if most == 0 || (actor as usize) < subs || self.input.scripts.len() <= actor as usize {
+            return 0;
+        }
+        let ticket = self.order.len() as u64;
+        let count = self.callers[actor as usize - subs].pass(
+            actor,
+            self.input,
+            self.plan,
+            self.distances,
+            &self.cells,
+            ticket,
+            most,
+        );
+        log_run(&mut self.order, actor, count);
+        count
     }
 
     // A turn, as the parts make it.
@@ -240,6 +324,21 @@ impl<'a> Machine<'a> {
     }
 }
 
+// How many numbers of an order are equal to its first, up to the first that isn't.
+fn run_length(order: &[u32]) -> usize
+    requires some { 1 ≤ length order.now }
+    ensures some { 1 ≤ result }
+    ensures within { result ≤ length order.now }
+    ensures run { order.now ≡ replicate result (slice_index order.now 0) ++ drop result order.now }
+{
+    for count in 1..order.len() {
+        if order[count] != order[0] {
+            return count;
+        }
+    }
+    order.len()
+}
+
 // Logs whose visit the next ticket is.
 fn log(order: &mut Vec<u32>, actor: u32)
     requires room { length order.old.items < vec_capacity order.old }
@@ -247,6 +346,17 @@ fn log(order: &mut Vec<u32>, actor: u32)
     ensures capacity { vec_capacity order.new ≡ vec_capacity order.old }
 {
     order.push_reserved(actor);
+}
+
+// Logs whose visits the next tickets are.
+fn log_run(order: &mut Vec<u32>, actor: u32, count: usize)
+    requires room { length order.old.items + count ≤ vec_capacity order.old }
+    ensures items { order.new.items ≡ order.old.items ++ replicate count actor }
+    ensures capacity { vec_capacity order.old ≤ vec_capacity order.new }
+{
+    if order.resize(order.len() + count, actor).is_err() {
+        unreachable!()
+    }
 }
 
 // The subscribers, before their first steps.

@@ -112,21 +112,9 @@ fn complete(
 {
     all_scripts_done();
     let mut machine = Machine::new(alloc, input, plan, distances)?;
-    take_turns(&mut machine, order);
+    machine.play(order);
     machine.finish();
     Ok(machine.outcome())
-}
-
-// The turns of an order.
-fn take_turns(machine: &mut Machine<'_>, order: &[u32])
-    requires stands { HasHistory machine.old [] }
-    ensures stands { HasHistory machine.new
-        (after_turns (setting_at machine.old) (scripts_at machine.old) [] order.now) }
-    ensures same { IsSame machine.old machine.new }
-{
-    'turns: for actor in order {
-        machine.turn(*actor);
-    }
 }
 
 // The passes of workers.
