@@ -10,5 +10,6 @@ mod Turning
 mod Opening
 mod Finishing
 mod Passing
+mod Playing
 mod Ending
 mod RightOutcome

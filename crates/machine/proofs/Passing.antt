@@ -1,21 +1,20 @@
 -- A caller's looks at entries that hold nothing, many at once: what as many turns make.
-use Rattle.std.proofs.Common.{◌≡◌, ℕ, zero, suc, ◌+◌, ◌<◌, ◌≤◌, List, [], ◌∷◌, ◌++◌, length, map, refl, sym, ap, ◌∙◌, subst, arith, append_assoc, Option}
-use Rattle.std.specs.Prelude.{All, Some, None, slice_index, option_to_list, replicate, unwrap_or}
+use Rattle.std.proofs.Common.{◌≡◌, ℕ, zero, suc, ◌<◌, ◌≤◌, List, [], ◌∷◌, ◌++◌, length, refl, sym, ap, ◌∙◌, subst, arith, append_assoc}
+use Rattle.std.specs.Prelude.{Some, slice_index, option_to_list, unwrap_or}
 use Rattle.std.proofs.lemmas.List.{append-nil, length-map, length-append, length-replicate, map_push}
 use Rattle.entry_word.specs.declared.visit.Key.{Key}
 use Rattle.entry_word.specs.declared.visit.Key.TheVariants.{Entry}
 use Rattle.entry_word.specs.declared.visit.Visit.{Visit}
 use Rattle.directory.specs.Histories.{History, cell}
-use Rattle.directory.specs.Finds.{answer_of}
 use Rattle.directory.specs.Looks.{look_by}
-use Rattle.directory.specs.Orders.{Scripts, after_turn, after_turns, next}
+use Rattle.directory.specs.Orders.{after_turn}
 use Rattle.directory.specs.Statements.{CallerLinesGrow, CallersCount, CallersRead, MoreIsPlayed, TicketsGrow}
 use Rattle.net_reader.specs.Input.{Contents}
-use Rattle.region_plan.specs.Plan.{PlanData, clusters_of, levels_of}
+use Rattle.region_plan.specs.Plan.{PlanData}
 use Rattle.region_plan.specs.Cells.{IsCell}
 use Rattle.visit_log.specs.Cells.{CellData, word_at}
 use Rattle.walk.specs.Climbs.{IsAhead, PassesEntry, past-none, walk_past}
-use Rattle.walk.specs.Walks.{WalkData, call_of, stage_of}
+use Rattle.walk.specs.Walks.{WalkData}
 use Rattle.machine.specs.declared.caller.Caller.{Caller}
 use Rattle.scripts.specs.Scripts.{scripts_of}
 use Rattle.machine.specs.Stands.{Sees, setting_over}

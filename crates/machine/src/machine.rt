@@ -123,11 +123,11 @@ impl<'a> Machine<'a> {
             order.now) }
         ensures same { IsSame self.old self.new }
     {
-        let mut rest = order;
-        'runs: while !rest.is_empty() {
-            let run = run_length(rest);
-            self.turns(rest[0], run);
-            rest = &rest[run..];
+        let mut start = 0;
+        'runs: while start < order.len() {
+            let end = run_end(order, start);
+            self.turns(order[start], end - start);
+            start = end;
         }
     }
 
@@ -324,16 +324,17 @@ impl<'a> Machine<'a> {
     }
 }
 
-// How many numbers of an order are equal to its first, up to the first that isn't.
-fn run_length(order: &[u32]) -> usize
-    requires some { 1 ≤ length order.now }
-    ensures some { 1 ≤ result }
+// Where the run of equal numbers ends that starts at a place of an order.
+fn run_end(order: &[u32], start: usize) -> usize
+    requires inside { start < length order.now }
+    ensures on { start < result }
     ensures within { result ≤ length order.now }
-    ensures run { order.now ≡ replicate result (slice_index order.now 0) ++ drop result order.now }
+    ensures run { drop start order.now
+        ≡ replicate (result - start) (slice_index order.now start) ++ drop result order.now }
 {
-    for count in 1..order.len() {
-        if order[count] != order[0] {
-            return count;
+    for end in start + 1..order.len() {
+        if order[end] != order[start] {
+            return end;
         }
     }
     order.len()

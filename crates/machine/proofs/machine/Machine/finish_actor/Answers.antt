@@ -1,9 +1,9 @@
-use Rattle.std.proofs.Common.{◌+◌, ◌<◌, arith, subst}
+use Rattle.std.proofs.Common.{◌≡◌, ◌+◌, arith, subst}
 use Rattle.std.specs.Prelude.{replicate}
 use Rattle.directory.specs.Histories.{History}
 use Rattle.directory.specs.Orders.{after_turns}
 use Rattle.machine.specs.Machines.{HasHistory, scripts_at, setting_at}
-use Rattle.machine.proofs.Finishing.{made-joined, made-none, same-through, turns-ended as ended, visits-fewer}
+use Rattle.machine.proofs.Finishing.{made-joined, same-through, turns-ended as ended, visits-fewer}
 use Rattle.machine.proofs.machine.Machine.finish_actor.Goals as goal
 
 pub turns-smaller : goal.turns-smaller
@@ -13,3 +13,28 @@ turns-smaller c =
     (replicate far.0 c.args.actor) in
     visits-fewer c.visits_are_few.ensures c.turns.self c.stride.new.self reached c.args.actor c.stride.result
     c.stride.ensures.same far.1.stands (c.stride.ensures.stands reached far.1.stands).0 (omega (arith, c.turns-test.true))
+
+pub turns-preserved : goal.turns-preserved
+turns-preserved c = record {
+  same = same-through c.args.self.now c.turns.self c.stride.new.self c.turns.invariant.same c.stride.ensures.same;
+  stands = λ history is.
+      let far = c.turns.invariant.stands history is in
+      let reached : History = after_turns (setting_at c.args.self.now) (scripts_at c.args.self.now) history
+      (replicate far.0 c.args.actor) in (
+        far.0 + c.stride.result,
+        made-joined c.args.self.now c.turns.self c.stride.new.self history c.args.actor far.0 c.stride.result
+            c.turns.invariant.same far.1 (c.stride.ensures.stands reached far.1.stands).0,
+      );
+}
+
+pub returns-clause-stands : goal.returns-clause-stands
+returns-clause-stands c history is =
+    let far = c.turns.invariant.stands history is in
+    let reached : History = after_turns (setting_at c.args.self.now) (scripts_at c.args.self.now) history
+    (replicate far.0 c.args.actor) in
+    let none : c.stride.result ≡ 0 = omega (arith, c.turns-test.false) in
+    let made = c.stride.ensures.stands reached far.1.stands in
+    ended c.turns_are_few.ensures.alike c.args.self.now c.turns.self c.stride.new.self history c.args.actor far.0
+    c.turns.invariant.same is (made.1 none)
+    (subst (λ n. HasHistory c.stride.new.self (after_turns (setting_at c.turns.self) (scripts_at c.turns.self) reached
+    (replicate n c.args.actor))) none made.0.stands)

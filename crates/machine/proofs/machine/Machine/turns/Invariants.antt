@@ -10,3 +10,6 @@ invariant-turns l = record {
   stands : (history : History) → HasHistory l.fn.self history
       → HasMade l.fn.self l.self history l.actor (l.count - l.left);
 }
+
+abbrev pub decreases-turns : goal.decreases-turns
+decreases-turns l = l.left
