@@ -15,7 +15,9 @@ ghost use Rattle.machine.specs.declared.subscriber.Subscriber.{Subscriber};
 ghost use Rattle.machine.specs.declared.turn.Turn.TheVariants.{Finished};
 
 use crate::caller::Caller;
-use crate::room::most_visits;
+use crate::lines::{push_finds, push_steps};
+use crate::order::{log, log_run, run_end};
+use crate::room::{count_calls, most_visits};
 use crate::subscriber::Subscriber;
 use crate::turn::Turn;
 use directory::{
@@ -324,42 +326,6 @@ impl<'a> Machine<'a> {
     }
 }
 
-// Where the run of equal numbers ends that starts at a place of an order.
-fn run_end(order: &[u32], start: usize) -> usize
-    requires inside { start < length order.now }
-    ensures on { start < result }
-    ensures within { result ≤ length order.now }
-    ensures run { drop start order.now
-        ≡ replicate (result - start) (slice_index order.now start) ++ drop result order.now }
-{
-    for end in start + 1..order.len() {
-        if order[end] != order[start] {
-            return end;
-        }
-    }
-    order.len()
-}
-
-// Logs whose visit the next ticket is.
-fn log(order: &mut Vec<u32>, actor: u32)
-    requires room { length order.old.items < vec_capacity order.old }
-    ensures items { order.new.items ≡ order.old.items ++ actor ∷ [] }
-    ensures capacity { vec_capacity order.new ≡ vec_capacity order.old }
-{
-    order.push_reserved(actor);
-}
-
-// Logs whose visits the next tickets are.
-fn log_run(order: &mut Vec<u32>, actor: u32, count: usize)
-    requires room { length order.old.items + count ≤ vec_capacity order.old }
-    ensures items { order.new.items ≡ order.old.items ++ replicate count actor }
-    ensures capacity { vec_capacity order.old ≤ vec_capacity order.new }
-{
-    if order.resize(order.len() + count, actor).is_err() {
-        unreachable!()
-    }
-}
-
 // The subscribers, before their first steps.
 fn subscribers_of(
     alloc: Global,
@@ -403,54 +369,4 @@ fn callers_of(
         callers.push(Caller::new(alloc, script, subs as u32, plan)?)?;
     }
     Ok(callers)
-}
-
-// How many calls scripts have.
-fn count_calls(scripts: &[Vec<Call>]) -> Result<usize, AllocError>
-    ensures { IfOk result
-        (λ count. count ≡ count_calls (map (λ script. script.items) scripts.now)) }
-{
-    let mut count = 0usize;
-    for script in scripts {
-        count = count.checked_add(script.len()).ok_or(AllocError)?;
-    }
-    Ok(count)
-}
-
-// The lines of a list behind others.
-fn push_lines(calls: &mut Vec<Done>, lines: &[Done])
-    requires room { length calls.old.items + length lines.now ≤ vec_capacity calls.old }
-    ensures items { calls.new.items ≡ calls.old.items ++ lines.now }
-    ensures capacity { vec_capacity calls.old ≤ vec_capacity calls.new }
-{
-    if calls.extend_from_slice(lines).is_err() {
-        unreachable!()
-    }
-}
-
-// The lines of all subscribers behind others.
-fn push_steps(calls: &mut Vec<Done>, subscribers: &[Subscriber])
-    requires room { length calls.old.items + length
-        (flat_map (λ one. one.lines.items) subscribers.now)
-        ≤ vec_capacity calls.old }
-    ensures items { calls.new.items
-        ≡ calls.old.items ++ flat_map (λ one. one.lines.items) subscribers.now }
-    ensures capacity { vec_capacity calls.old ≤ vec_capacity calls.new }
-{
-    'subscribers: for subscriber in subscribers {
-        push_lines(calls, &subscriber.lines);
-    }
-}
-
-// The lines of all callers behind others.
-fn push_finds(calls: &mut Vec<Done>, callers: &[Caller])
-    requires room { length calls.old.items + length (flat_map (λ one. one.lines.items) callers.now)
-        ≤ vec_capacity calls.old }
-    ensures items { calls.new.items
-        ≡ calls.old.items ++ flat_map (λ one. one.lines.items) callers.now }
-    ensures capacity { vec_capacity calls.old ≤ vec_capacity calls.new }
-{
-    'callers: for caller in callers {
-        push_lines(calls, &caller.lines);
-    }
 }

@@ -1,6 +1,6 @@
 use Rattle.std.proofs.Common.{◌≡◌, ◌-◌, ◌<◌, ◌++◌, drop}
 use Rattle.std.specs.Prelude.{replicate, slice_index}
-use Rattle.machine.proofs.machine.run_end.Given as goal
+use Rattle.machine.proofs.order.run_end.Given as goal
 
 abbrev pub invariant-loop-end : goal.invariant-loop-end
 invariant-loop-end l = record {
