@@ -4,6 +4,9 @@ use Rattle.machine.specs.Machines.{scripts_at, setting_at}
 use Rattle.runner.proofs.Playing.{play-ended, play-outcome}
 use Rattle.runner.proofs.running.complete.Goals as goal
 
+pub finish-requires : goal.finish-requires
+finish-requires c = record { stands = (_, c.play.ensures.stands [] c.in_ok-machine.ensures.stands) }
+
 pub outcome-requires : goal.outcome-requires
 outcome-requires c =
     let last = c.finish.new.self in record {
