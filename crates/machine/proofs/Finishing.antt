@@ -44,7 +44,7 @@ turns-more setting scripts history actor k =
     ∙ fold-append (after_turn setting scripts) history (replicate k actor) (actor ∷ []))
 
 -- turns behind turns
-turns-joined : (setting : Setting) (scripts : Scripts) (history : History) (actor k n : ℕ)
+pub turns-joined : (setting : Setting) (scripts : Scripts) (history : History) (actor k n : ℕ)
     → after_turns setting scripts (after_turns setting scripts history (replicate k actor)) (replicate n actor)
     ≡ after_turns setting scripts history (replicate (k + n) actor)
 turns-joined setting scripts history actor k n =

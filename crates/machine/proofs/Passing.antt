@@ -1,13 +1,14 @@
 -- A caller's looks at entries that hold nothing, many at once: what as many turns make.
-use Rattle.std.proofs.Common.{◌≡◌, ℕ, zero, suc, ◌<◌, ◌≤◌, List, [], ◌∷◌, ◌++◌, length, refl, sym, ap, ◌∙◌, subst, arith, append_assoc}
+use Rattle.std.proofs.Common.{◌≡◌, ℕ, zero, suc, ◌+◌, ◌<◌, ◌≤◌, false, List, [], ◌∷◌, ◌++◌, length, refl, sym, ap, ◌∙◌, subst, arith, append_assoc, None, Option, map, replicate}
 use Rattle.std.specs.Prelude.{Some, slice_index, option_to_list, unwrap_or}
-use Rattle.std.proofs.lemmas.List.{append-nil, length-map, length-append, length-replicate, map_push}
+use Rattle.std.specs.Option.{is_some}
+use Rattle.std.proofs.lemmas.List.{append-nil, length-map, length-append, length-replicate, map-append, map_push, replicate-append-replicate}
 use Rattle.entry_word.specs.declared.visit.Key.{Key}
 use Rattle.entry_word.specs.declared.visit.Key.TheVariants.{Entry}
 use Rattle.entry_word.specs.declared.visit.Visit.{Visit}
 use Rattle.directory.specs.Histories.{History, cell}
 use Rattle.directory.specs.Looks.{look_by}
-use Rattle.directory.specs.Orders.{after_turn}
+use Rattle.directory.specs.Orders.{after_turn, after_turns, next}
 use Rattle.directory.specs.Statements.{CallerLinesGrow, CallersCount, CallersRead, MoreIsPlayed, TicketsGrow}
 use Rattle.net_reader.specs.Input.{Contents}
 use Rattle.region_plan.specs.Plan.{PlanData}
@@ -19,7 +20,7 @@ use Rattle.machine.specs.declared.caller.Caller.{Caller}
 use Rattle.scripts.specs.Scripts.{scripts_of}
 use Rattle.machine.specs.Stands.{Sees, setting_over}
 use Rattle.machine.specs.Callers.{HasPassed, IsCaller}
-use Rattle.machine.proofs.Finishing.{replicate-push, turns-more}
+use Rattle.machine.proofs.Finishing.{replicate-push, turns-joined, turns-more}
 use Rattle.machine.proofs.Looked.{looks, looked-on}
 use Rattle.machine.proofs.Turning.{sees-more}
 
@@ -157,3 +158,56 @@ passed-some grow read lines counts more input plan cells history actor ticket ol
     (record old { walk = Some (walk_past plan walk (suc count)); first = Some f })) (sym kept)
     (passed-all grow read lines counts more input plan cells history actor ticket old walk level clusters (suc count)
     place held at sees its (suc count) (omega arith)))
+
+-- how many looks there were
+pub looks-count : (input : Contents) (plan : PlanData) (cells : CellData) (history : History) (actor count : ℕ)
+    (new : Caller) (passed : HasPassed input plan cells history actor count new)
+    → length (history ++ passed.looks) ≡ length history + count
+looks-count input plan cells history actor count new passed =
+    omega (
+      arith,
+      length-append history passed.looks,
+      length-map passed.looks (λ (v : Visit). v.actor),
+      ap length passed.actors,
+      length-replicate count actor,
+    )
+
+-- looks behind looks
+pub passed-joined : (input : Contents) (plan : PlanData) (cells : CellData) (history : History) (actor count more : ℕ)
+    (mid new : Caller) (first : HasPassed input plan cells history actor count mid)
+    → HasPassed input plan cells (history ++ first.looks) actor more new
+    → HasPassed input plan cells history actor (count + more) new
+passed-joined input plan cells history actor count more mid new first then =
+    let joined : (history ++ first.looks) ++ then.looks ≡ history ++ (first.looks ++ then.looks) =
+    append_assoc history first.looks then.looks in
+    record {
+      looks = first.looks ++ then.looks;
+      turns = sym (turns-joined (setting_over input plan) (scripts_of input) history actor count more)
+          ∙ (ap (λ h. after_turns (setting_over input plan) (scripts_of input) h (replicate more actor)) first.turns
+          ∙ (then.turns ∙ joined));
+      actors = map-append (λ (v : Visit). v.actor) first.looks then.looks
+          ∙ (ap (λ xs. xs ++ map (λ (v : Visit). v.actor) then.looks) first.actors
+          ∙ (ap (λ xs. replicate count actor ++ xs) then.actors ∙ replicate-append-replicate count more actor));
+      sees = subst (Sees input plan cells) joined then.sees;
+      its = subst (λ h. IsCaller input plan h actor new) joined then.its;
+    }
+
+-- no answer
+pub none-of : {A : Type 0} (answer : Option A) → is_some answer ≡ false → None ≡ answer
+none-of None h = refl
+none-of (Some found) h = cc
+
+-- one look, as a turn makes it
+pub passed-one : MoreIsPlayed → (input : Contents) (plan : PlanData) (cells : CellData) (history : History) (actor : ℕ)
+    (new : Caller) → Sees input plan cells history
+    → ((k : Key) × (next (setting_over input plan) (scripts_of input) history actor ≡ Some (look_by actor k))
+    × IsCaller input plan (history ++ look_by actor k ∷ []) actor new)
+    → HasPassed input plan cells history actor 1 new
+passed-one more input plan cells history actor new sees turned =
+    record {
+      looks = look_by actor turned.0 ∷ [];
+      turns = ap (λ o. history ++ option_to_list o) turned.1;
+      actors = refl;
+      sees = sees-more more input plan cells history actor turned.0 sees turned.1;
+      its = turned.2;
+    }

@@ -216,7 +216,8 @@ impl<'a> Machine<'a> {
         }
     }
 
-    // A caller's looks at entries that hold nothing, at most so many, and how many there were.
+    // A caller's looks that read nothing and leave its find open, at most so many, and how many
+    // there were.
     fn pass(&mut self, actor: u32, most: usize) -> usize
         requires stands { (history : History) × HasHistory self.old history }
         ensures few { result ≤ most }
@@ -232,6 +233,7 @@ impl<'a> Machine<'a> {
             return 0;
         }
         let ticket = self.order.len() as u64;
+        let room = self.order.capacity() - self.order.len();
         let count = self.callers[actor as usize - subs].pass(
             actor,
             self.input,
@@ -239,7 +241,7 @@ impl<'a> Machine<'a> {
             self.distances,
             &self.cells,
             ticket,
-            most,
+            most.min(room),
         );
         log_run(&mut self.order, actor, count);
         count
