@@ -20,6 +20,12 @@ use visit_log::{PlainCells, cell_count, cell_number, key_node};
 enum Step {
     Look(Key),
     Put(Key, u64),
+    /// How many entries of a subscriber at a level hold nothing, of these clusters in turn.
+    Empty {
+        level: u32,
+        sub: u32,
+        clusters: [u32; 2],
+    },
     /// The number of a cell.
     Number(Key),
     /// The node of a cell.
@@ -67,6 +73,28 @@ fn word_in(
     Some(cells.look(plan, key))
 }
 
+// How many of two entries of a subscriber hold nothing, up to the first that holds an address.
+fn empty_entries(
+    cells: &PlainCells,
+    plan: &Plan,
+    subs: u32,
+    level: u32,
+    sub: u32,
+    clusters: [u32; 2],
+) -> Option<u64>
+    requires goes { GoWith plan.now cells.now }
+    requires subs { cells.now.subs ≡ subs }
+{
+    if level >= plan.levels() || sub >= subs {
+        return None;
+    }
+    let [one, two] = clusters;
+    if one >= plan.clusters(level) || two >= plan.clusters(level) {
+        return None;
+    }
+    Some(cells.count_empty(plan, level, sub, &[one, two]) as u64)
+}
+
 // The number and the node of a cell.
 fn place_of(plan: &Plan, subs: u32, key: Key) -> Option<(u64, u32)> {
     if !is_cell(plan, subs, key) {
@@ -92,6 +120,11 @@ fn take(cells: &mut PlainCells, plan: &Plan, subs: u32, step: Step) -> Option<u6
     match step {
         Step::Look(key) => word_in(cells, plan, subs, key, None),
         Step::Put(key, word) => word_in(cells, plan, subs, key, Some(word)),
+        Step::Empty {
+            level,
+            sub,
+            clusters,
+        } => empty_entries(cells, plan, subs, level, sub, clusters),
         Step::Number(key) => place_of(plan, subs, key).map(|place| place.0),
         Step::Node(key) => place_of(plan, subs, key).map(|place| u64::from(place.1)),
         Step::Count => Some(cell_count(plan, subs)),
@@ -147,6 +180,15 @@ fn entry(level: u32, cluster: u32, sub: u32) -> Key {
     }
 }
 
+// How many of two entries of subscriber 0 at level 0 hold nothing.
+fn empty(clusters: [u32; 2]) -> Step {
+    Step::Empty {
+        level: 0,
+        sub: 0,
+        clusters,
+    }
+}
+
 // The word of a home's presence cell at the opening.
 fn here() -> u64 {
     pack_mark(PresenceMark::Here { number: 0 })
@@ -165,8 +207,12 @@ fn the_opening(rt: HostRuntime) -> Result<(), Fail> {
         (Step::Look(presence(3, 0)), here()),
         (Step::Look(presence(0, 0)), 0),
         (Step::Look(entry(0, 1, 0)), leads_to(3)),
+        (empty([0, 1]), 1),
+        (empty([1, 0]), 0),
+        (empty([0, 0]), 2),
         (Step::Put(entry(0, 1, 0), 0), 0),
         (Step::Look(entry(0, 1, 0)), 0),
+        (empty([1, 0]), 2),
         (Step::Look(presence(3, 0)), here()),
     ];
     let (plan, _) = line_of_four(rt.alloc())?;

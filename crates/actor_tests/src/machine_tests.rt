@@ -30,6 +30,11 @@ const CROWD: &str = "nodes 2\nk 2\nedge 0 1 1\nsub 0\nsub 1\nsub 1\ncallers 64\n
 // Two nodes, a subscriber without calls at node 1, and a caller with one.
 const PAIR: &str = "nodes 2\nk 2\nedge 0 1 1\nsub 1\ncallers 1\n";
 
+// The path 0 - 1 - .. - 7 of unit weights, whose covers of k 1 have a cluster for each node, with
+// one subscriber at 0 and one caller, actor 1.
+const PATH: &str = "nodes 8\nk 1\nedge 0 1 1\nedge 1 2 1\nedge 2 3 1\nedge 3 4 1\nedge 4 5 1\n\
+                    edge 5 6 1\nedge 6 7 1\nsub 0\ncallers 1\n";
+
 // The input of a text.
 fn input_of(alloc: Global, text: &[u8]) -> Result<Input, Fail>
     ensures { IfOk result (λ input. IsValid (seen_input input)) }
@@ -67,9 +72,7 @@ fn play(machine: &mut Machine<'_>, order: &[u32])
         × ((actor : ℕ) → IsDone (setting_at machine.new) (scripts_at machine.new) history actor) }
 {
     all_scripts_done();
-    'order: for actor in order {
-        machine.turn(*actor);
-    }
+    machine.play(order);
     machine.finish();
 }
 
@@ -310,4 +313,82 @@ fn an_order_of_idle_turns(rt: HostRuntime) -> Result<(), Fail> {
         &wanted,
         &[1, 1, 1],
     )
+}
+
+// What two finds on the path answer, with 16 looks and 6.
+const FAR_FINDS: [Done; 2] = [
+    Done::Found {
+        actor: 1,
+        from: 6,
+        sub: 0,
+        node: 0,
+        number: 0,
+        level: Some(3),
+        weight: 40,
+        first: 0,
+        last: 15,
+    },
+    Done::Found {
+        actor: 1,
+        from: 2,
+        sub: 0,
+        node: 0,
+        number: 0,
+        level: Some(1),
+        weight: 6,
+        first: 16,
+        last: 21,
+    },
+];
+
+// Climbs past many entries that hold nothing, wherever an order cuts them.
+#[test]
+fn climbs_at_once(rt: HostRuntime) -> Result<(), Fail> {
+    let orders = ["", "order 1 1 1 1 1 0 0 1 0 1 1 1\n"];
+    for order in orders {
+        let mut calls = String::from_str(rt.alloc(), "find 1 6 0\nfind 1 2 0\n")?;
+        calls.push_str(order)?;
+        play_calls(
+            &rt,
+            rt.alloc(),
+            "track 1\n",
+            PATH,
+            &calls,
+            0,
+            &FAR_FINDS,
+            &[1; 22],
+        )?;
+    }
+    Ok(())
+}
+
+// So many turns of an actor are to make so many visits.
+fn make_turns(rt: &impl Abort, machine: &mut Machine<'_>, rows: &[(u32, usize, usize)])
+    requires { (history : History) × HasHistory machine.old history }
+{
+    'rows: for at in 0..rows.len() {
+        let (actor, count, wanted) = rows[at];
+        assert_eq!(rt; machine.turns(actor, count), wanted, "at row {at}");
+    }
+}
+
+#[test]
+fn many_turns(rt: HostRuntime) -> Result<(), Fail> {
+    let rows = [
+        (1, 0, 0),
+        (0, 3, 0),
+        (1, 5, 5),
+        (1, 1, 1),
+        (1, 100, 10),
+        (1, 1, 0),
+        (2, 4, 0),
+    ];
+    let mut text = String::from_str(rt.alloc(), "track 1\n")?;
+    text.push_str(PATH)?;
+    text.push_str("find 1 6 0\n")?;
+    let input = input_of(rt.alloc(), text.as_bytes())?;
+    let (plan, distances) = plan_of(rt.alloc(), &input)?;
+    let mut machine = Machine::new(rt.alloc(), &input, &plan, &distances)?;
+    make_turns(&rt, &mut machine, &rows);
+    Ok(())
 }

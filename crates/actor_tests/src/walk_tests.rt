@@ -133,6 +133,9 @@ fn go_to_and_fro(walk: &mut Walk, plan: &Plan, distances: &Distances, times: u32
 enum Step {
     Next,
     Answer,
+    Ahead,
+    /// Passes so many entries that hold nothing.
+    Pass(usize),
     ReadNothing,
     ReadSubscriber,
     ReadComing,
@@ -146,8 +149,38 @@ enum Step {
 enum Seen {
     Next(Option<Key>),
     Answer(Option<Found>),
+    /// The level, and how many entries are left there.
+    Ahead(Option<(u32, usize)>),
+    /// There are too few entries ahead.
+    TooFew,
     Read,
     NoSuchNode,
+}
+
+// What is ahead of a walk: its level, and how many entries are left there.
+fn ahead(walk: &Walk, plan: &Plan) -> Option<(u32, usize)>
+    requires goes { IsWalkOver plan.now walk.now }
+    requires matched { IsMatched plan.now }
+{
+    let (level, clusters) = walk.ahead(plan)?;
+    Some((level, clusters.len()))
+}
+
+// The walk passes so many entries, if more are ahead.
+fn pass(walk: &mut Walk, plan: &Plan, count: usize) -> Seen
+    requires goes { IsWalkOver plan.now walk.old }
+    requires matched { IsMatched plan.now }
+    requires reached { IsWithinReach plan.now }
+    ensures { IsWalkOver plan.now walk.new }
+{
+    let Some((_, clusters)) = walk.ahead(plan) else {
+        return Seen::TooFew;
+    };
+    if count >= clusters.len() {
+        return Seen::TooFew;
+    }
+    walk.pass(plan, count);
+    Seen::Read
 }
 
 fn take(walk: &mut Walk, plan: &Plan, distances: &Distances, step: Step) -> Seen
@@ -160,6 +193,8 @@ fn take(walk: &mut Walk, plan: &Plan, distances: &Distances, step: Step) -> Seen
     match step {
         Step::Next => return Seen::Next(walk.next(plan)),
         Step::Answer => return Seen::Answer(walk.answer()),
+        Step::Ahead => return Seen::Ahead(ahead(walk, plan)),
+        Step::Pass(count) => return pass(walk, plan, count),
         Step::ReadNothing => see_nothing(walk, plan, distances),
         Step::ReadSubscriber => see_subscriber(walk, plan, distances),
         Step::ReadComing => see_coming(walk, plan, distances),
@@ -253,6 +288,30 @@ fn no_entry(rt: HostRuntime) -> Result<(), Fail> {
         (Step::ReadNothing, Seen::Read),
         (Step::ReadNothing, Seen::Read),
         (Step::Next, Seen::Next(None)),
+        (Step::Answer, again(Why::NoEntry, 18)),
+    ];
+    play_on_line(&rt, rt.alloc(), &script)
+}
+
+// Looks at once leave what they leave one after another. The last of a level is no such look.
+#[test]
+fn no_entry_at_once(rt: HostRuntime) -> Result<(), Fail> {
+    let script = [
+        (Step::Ahead, Seen::Ahead(None)),
+        (Step::Pass(0), Seen::TooFew),
+        (Step::ReadNothing, Seen::Read),
+        (Step::Ahead, Seen::Ahead(Some((0, 2)))),
+        (Step::Pass(2), Seen::TooFew),
+        (Step::Pass(0), Seen::Read),
+        (Step::Next, entry(0, 0, 0)),
+        (Step::Pass(1), Seen::Read),
+        (Step::Next, entry(0, 1, 0)),
+        (Step::Ahead, Seen::Ahead(Some((0, 1)))),
+        (Step::Pass(1), Seen::TooFew),
+        (Step::ReadNothing, Seen::Read),
+        (Step::Next, entry(1, 0, 0)),
+        (Step::ReadNothing, Seen::Read),
+        (Step::ReadNothing, Seen::Read),
         (Step::Answer, again(Why::NoEntry, 18)),
     ];
     play_on_line(&rt, rt.alloc(), &script)

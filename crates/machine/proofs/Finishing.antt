@@ -1,25 +1,22 @@
 -- The turns of an actor until it is done, and those of all actors.
-use Rattle.std.proofs.Common.{◌≡◌, ℕ, zero, suc, ◌+◌, ◌-◌, ◌<◌, ◌==◌, Bool, true, false, cond, List, [], ◌∷◌, ◌++◌, length, map, drop, filter, refl, sym, ap, ◌∙◌, subst, arith, append_assoc, Option}
+use Rattle.std.proofs.Common.{◌≡◌, ℕ, zero, suc, ◌+◌, ◌-◌, ◌<◌, ◌≤◌, List, [], ◌∷◌, ◌++◌, length, map, drop, refl, sym, ap, ◌∙◌, subst, arith, append_assoc}
 use Rattle.std.specs.Prelude.{None, Some, flat_map, option_to_list, replicate}
-use Rattle.std.proofs.lemmas.Bool.{eq-eqb}
-use Rattle.std.proofs.lemmas.List.{append-nil, length-map, length-drop, length_push}
+use Rattle.std.proofs.lemmas.List.{append-nil, length-map, length-drop, length_push, replicate-append-replicate}
 use Rattle.std.proofs.lemmas.List.Sums.{fold-append}
 use Rattle.entry_word.specs.declared.visit.Visit.{Visit}
 use Rattle.directory.specs.Settings.{Setting}
-use Rattle.directory.specs.Histories.{History, own}
+use Rattle.directory.specs.Histories.{History}
 use Rattle.directory.specs.Writes.{numbers_from}
 use Rattle.directory.specs.Orders.{Scripts, actors, after_turn, after_turns, last_turns, most_turns, next, IsDone}
-use Rattle.directory.specs.StepLaws.{own-push}
-use Rattle.directory.specs.Statements.{TurnsAreFew, TurnsEndAlike}
+use Rattle.directory.specs.Statements.{TurnsEndAlike}
 use Rattle.net_reader.specs.Input.{Contents}
 use Rattle.net_reader.specs.Seen.{seen_input}
 use Rattle.net_reader.specs.Valid.{IsValid}
 use Rattle.machine.specs.declared.machine.Machine.{Machine}
-use Rattle.machine.specs.declared.turn.Turn.{Turn}
-use Rattle.machine.specs.declared.turn.Turn.TheVariants.{Visited, Finished}
-use Rattle.scripts.specs.Scripts.{find_of, scripts_of}
-use Rattle.machine.specs.Stands.{setting_over}
-use Rattle.machine.specs.Machines.{IsSame, HasHistory, input_at, scripts_at, setting_at}
+use Rattle.scripts.specs.Laws.{VisitsAreFew}
+use Rattle.scripts.specs.Scripts.{find_of, most_visits, scripts_of}
+use Rattle.machine.specs.Stands.{over, setting_over}
+use Rattle.machine.specs.Machines.{IsSame, HasHistory, HasMade, HasStridden, input_at, scripts_at, setting_at}
 use Rattle.directory.specs.HistoryLaws.{turn-none}
 
 -- a machine that keeps its input and its plan keeps its setting and its scripts
@@ -35,7 +32,7 @@ pub same-through : (one two three : Machine) → IsSame one two → IsSame two t
 same-through one two three p q = (q.0 ∙ p.0, q.1 ∙ p.1, q.2 ∙ p.2)
 
 -- a turn more
-replicate-push : (k x : ℕ) → replicate (suc k) x ≡ replicate k x ++ x ∷ []
+pub replicate-push : (k x : ℕ) → replicate (suc k) x ≡ replicate k x ++ x ∷ []
 replicate-push zero x = refl
 replicate-push (suc k) x = ap (λ xs. x ∷ xs) (replicate-push k x)
 
@@ -46,55 +43,117 @@ turns-more setting scripts history actor k =
     sym (ap (after_turns setting scripts history) (replicate-push k actor)
     ∙ fold-append (after_turn setting scripts) history (replicate k actor) (actor ∷ []))
 
--- the tickets of an actor in the log
-counted-own : (actor : ℕ) (history : History)
-    → length (filter (λ a. a == actor) (map (λ (v : Visit). v.actor) history)) ≡ length (own actor history)
-counted-own actor [] = refl
-counted-own actor (visit ∷ history) = at_test (visit.actor == actor) (counted-own actor history)
-  where
-    at_test : (b : Bool)
-        → length (filter (λ a. a == actor) (map (λ (v : Visit). v.actor) history)) ≡ length (own actor history)
-        → length (cond b (visit.actor ∷ filter (λ a. a == actor) (map (λ (v : Visit). v.actor) history))
-        (filter (λ a. a == actor) (map (λ (v : Visit). v.actor) history)))
-        ≡ length (cond b (visit ∷ own actor history) (own actor history))
-    at_test true rest = ap suc rest
-    at_test false rest = rest
+-- turns behind turns
+pub turns-joined : (setting : Setting) (scripts : Scripts) (history : History) (actor k n : ℕ)
+    → after_turns setting scripts (after_turns setting scripts history (replicate k actor)) (replicate n actor)
+    ≡ after_turns setting scripts history (replicate (k + n) actor)
+turns-joined setting scripts history actor k n =
+    sym (fold-append (after_turn setting scripts) history (replicate k actor) (replicate n actor))
+    ∙ ap (after_turns setting scripts history) (replicate-append-replicate k n actor)
 
--- each visit of an actor leaves it fewer
-pub turns-smaller : TurnsAreFew → ((setting : Setting) (scripts : Scripts) (history : History) (actor : ℕ)
-    (visit : Visit) → next setting scripts history actor ≡ Some visit → visit.actor ≡ actor)
-    → (old new : Machine) (history : History) (actor : ℕ) → IsSame old new → HasHistory old history
-    → HasHistory new (after_turn (setting_at old) (scripts_at old) history actor)
-    → (next (setting_at old) (scripts_at old) history actor ≡ None → ⊥)
-    → most_turns (setting_at new) (scripts_at new) actor - length (filter (λ a. a == actor) new.order.items)
-    < most_turns (setting_at old) (scripts_at old) actor - length (filter (λ a. a == actor) old.order.items)
-turns-smaller few its_own old new history actor same is goes some =
+pub made-joined : (entry now new : Machine) (history : History) (actor k n : ℕ) → IsSame entry now
+    → HasMade entry now history actor k
+    → HasMade now new (after_turns (setting_at entry) (scripts_at entry) history (replicate k actor)) actor n
+    → HasMade entry new history actor (k + n)
+made-joined entry now new history actor k n same first then =
+    let joined : after_turns (setting_at now) (scripts_at now)
+    (after_turns (setting_at entry) (scripts_at entry) history (replicate k actor)) (replicate n actor)
+    ≡ after_turns (setting_at entry) (scripts_at entry) history (replicate (k + n) actor) =
+    ap (λ setting. after_turns setting (scripts_at now) (after_turns (setting_at entry) (scripts_at entry) history
+    (replicate k actor)) (replicate n actor)) (same-setting entry now same)
+    ∙ (ap (λ scripts. after_turns (setting_at entry) scripts (after_turns (setting_at entry) (scripts_at entry) history
+    (replicate k actor)) (replicate n actor)) (same-scripts entry now same)
+    ∙ turns-joined (setting_at entry) (scripts_at entry) history actor k n) in
+    record {
+      stands = subst (HasHistory new) joined then.stands;
+      made = sym (ap length joined) ∙ (then.made ∙ omega (arith, first.made));
+    }
+
+-- no turns
+pub made-none : (machine : Machine) (history : History) (actor : ℕ) → HasHistory machine history
+    → HasMade machine machine history actor 0
+made-none machine history actor is = record { stands = is; made = omega arith }
+
+-- a turn that makes a visit
+pub made-one : (old new : Machine) (history : History) (actor : ℕ) (visit : Visit)
+    → next (setting_at old) (scripts_at old) history actor ≡ Some visit → HasHistory new (history ++ visit ∷ [])
+    → HasMade old new history actor 1
+made-one old new history actor visit wants stands =
+    let same : after_turns (setting_at old) (scripts_at old) history (replicate 1 actor) ≡ history ++ visit ∷ [] =
+    ap (λ o. history ++ option_to_list o) wants in
+    record {
+      stands = subst (HasHistory new) (sym same) stands;
+      made = ap length same ∙ omega (arith, length_push history visit);
+    }
+
+-- turns behind which none is left
+pub made-last : (entry now new : Machine) (history : History) (actor count : ℕ) → IsSame entry now
+    → HasMade entry now history actor count
+    → next (setting_at now) (scripts_at now)
+    (after_turns (setting_at entry) (scripts_at entry) history (replicate count actor)) actor ≡ None
+    → HasHistory new (after_turns (setting_at entry) (scripts_at entry) history (replicate count actor))
+    → HasStridden entry new history actor count
+made-last entry now new history actor count same first none stands =
+    let reached : ℕ → History = λ n. after_turns (setting_at entry) (scripts_at entry) history (replicate n actor) in (
+      record { stands = stands; made = first.made },
+      λ zero_made.
+          sym (ap (λ setting. next setting (scripts_at now) history actor) (same-setting entry now same)
+          ∙ ap (λ scripts. next (setting_at entry) scripts history actor) (same-scripts entry now same))
+          ∙ subst (λ n. next (setting_at now) (scripts_at now) (reached n) actor ≡ None) zero_made none,
+    )
+
+-- an actor without a visit has none later
+turns-idle : (setting : Setting) (scripts : Scripts) (history : History) (actor : ℕ)
+    → next setting scripts history actor ≡ None → (k : ℕ)
+    → after_turns setting scripts history (replicate k actor) ≡ history
+turns-idle setting scripts history actor none zero = refl
+turns-idle setting scripts history actor none (suc k) =
+    ap (λ h. after_turns setting scripts h (replicate k actor)) (turn-none setting scripts history actor none)
+    ∙ turns-idle setting scripts history actor none k
+
+-- so where it makes none, all turns that are left change nothing
+pub made-idle : (entry now new : Machine) (history : History) (actor k count made : ℕ) → IsSame entry now
+    → HasMade entry now history actor k
+    → HasStridden now new (after_turns (setting_at entry) (scripts_at entry) history (replicate k actor)) actor made
+    → made ≡ 0 → k ≤ count
+    → HasHistory new (after_turns (setting_at entry) (scripts_at entry) history (replicate count actor))
+    × (length (after_turns (setting_at entry) (scripts_at entry) history (replicate count actor)) ≡ length history + k)
+made-idle entry now new history actor k count made same first then zero_made low =
+    let reached : History = after_turns (setting_at entry) (scripts_at entry) history (replicate k actor) in
+    let none : next (setting_at entry) (scripts_at entry) reached actor ≡ None =
+    sym (ap (λ setting. next setting (scripts_at now) reached actor) (same-setting entry now same)
+    ∙ ap (λ scripts. next (setting_at entry) scripts reached actor) (same-scripts entry now same))
+    ∙ then.1 zero_made in
+    let all : reached ≡ after_turns (setting_at entry) (scripts_at entry) history (replicate count actor) =
+    sym (turns-idle (setting_at entry) (scripts_at entry) reached actor none (count - k))
+    ∙ (turns-joined (setting_at entry) (scripts_at entry) history actor k (count - k)
+    ∙ ap (λ n. after_turns (setting_at entry) (scripts_at entry) history (replicate n actor)) {x = k + (count - k)} {y =
+    count} (omega (arith, low))) in (
+      subst (HasHistory new) all
+          (subst (λ n. HasHistory new (after_turns (setting_at now) (scripts_at now) reached (replicate n actor)))
+          zero_made then.0.stands),
+      sym (ap length all) ∙ first.made,
+    )
+
+-- turns that make visits leave fewer
+pub visits-fewer : VisitsAreFew → (old new : Machine) (history : History) (actor count : ℕ) → IsSame old new
+    → HasHistory old history → HasMade old new history actor count → 0 < count
+    → most_visits (setting_at new) (input_at new).scripts - length new.order.items
+    < most_visits (setting_at old) (input_at old).scripts - length old.order.items
+visits-fewer few old new history actor count same is made some =
+    let after : History = after_turns (setting_at old) (scripts_at old) history (replicate count actor) in
+    let most : most_visits (setting_at new) (input_at new).scripts ≡ most_visits (setting_at old) (input_at old).scripts =
+    ap (λ setting. most_visits setting (input_at new).scripts) (same-setting old new same)
+    ∙ ap (λ input. most_visits (setting_at old) (seen_input input).scripts) same.0 in
     omega (
       arith,
-      same_most,
-      ap (λ actors. length (filter (λ a. a == actor) actors)) is.order ∙ counted-own actor history,
-      ap (λ actors. length (filter (λ a. a == actor) actors)) goes.order
-          ∙ counted-own actor (after_turn (setting_at old) (scripts_at old) history actor),
-      (at_next (next (setting_at old) (scripts_at old) history actor) refl).0,
-      (at_next (next (setting_at old) (scripts_at old) history actor) refl).1,
-    )
-  where
-    same_most : most_turns (setting_at new) (scripts_at new) actor ≡ most_turns (setting_at old) (scripts_at old) actor
-    same_most = ap (λ setting. most_turns setting (scripts_at new) actor) (same-setting old new same)
-        ∙ ap (λ scripts. most_turns (setting_at old) scripts actor) (same-scripts old new same)
-
-    at_next : (o : Option Visit) → next (setting_at old) (scripts_at old) history actor ≡ o
-        → (length (own actor (after_turn (setting_at old) (scripts_at old) history actor))
-        ≡ suc (length (own actor history)))
-        × (length (own actor history) < most_turns (setting_at old) (scripts_at old) actor)
-    at_next None e = absurd (some e)
-    at_next (Some visit) e = (
-      ap (λ n. length (own actor (history ++ option_to_list n))) e
-          ∙ (ap length (own-push actor history visit
-          ∙ ap (λ b. own actor history ++ cond b (visit ∷ []) [])
-          (eq-eqb visit.actor actor (its_own (setting_at old) (scripts_at old) history actor visit e)))
-          ∙ omega (arith, length_push (own actor history) visit)),
-      few (setting_at old) (scripts_at old) history actor visit is.sees.played e,
+      some,
+      most,
+      made.made,
+      ap length is.order ∙ length-map history (λ (v : Visit). v.actor),
+      ap length made.stands.order ∙ length-map after (λ (v : Visit). v.actor),
+      few (input_at new) (setting_at new) after made.stands.together.valid
+          (over (input_at new) new.plan.now new.distances.now made.stands.together) made.stands.sees.played,
     )
 
 -- an actor's turns end where it has no visit left
@@ -102,14 +161,12 @@ pub turns-ended : TurnsEndAlike → (entry now new : Machine) (history : History
     → HasHistory entry history
     → next (setting_at now) (scripts_at now)
     (after_turns (setting_at entry) (scripts_at entry) history (replicate k actor)) actor ≡ None
-    → HasHistory new (after_turn (setting_at now) (scripts_at now)
-    (after_turns (setting_at entry) (scripts_at entry) history (replicate k actor)) actor)
+    → HasHistory new (after_turns (setting_at entry) (scripts_at entry) history (replicate k actor))
     → HasHistory new (after_turns (setting_at entry) (scripts_at entry) history
     (replicate (most_turns (setting_at entry) (scripts_at entry) actor) actor))
 turns-ended alike entry now new history actor k same is none goes =
     subst (HasHistory new)
-    (turn-none (setting_at now) (scripts_at now) reached actor none
-    ∙ alike (setting_at entry) (scripts_at entry) history actor k is.sees.played done) goes
+    (alike (setting_at entry) (scripts_at entry) history actor k is.sees.played done) goes
   where
     reached : History
     reached = after_turns (setting_at entry) (scripts_at entry) history (replicate k actor)
@@ -117,10 +174,6 @@ turns-ended alike entry now new history actor k same is none goes =
     done : IsDone (setting_at entry) (scripts_at entry) reached actor
     done = sym (ap (λ setting. next setting (scripts_at now) reached actor) (same-setting entry now same)
         ∙ ap (λ scripts. next (setting_at entry) scripts reached actor) (same-scripts entry now same)) ∙ none
-
-pub not-visited : (turn : Turn) → (turn ≡ Visited → ⊥) → turn ≡ Finished
-not-visited Visited h = absurd (h refl)
-not-visited Finished h = refl
 
 -- the turns of the actors by number, one actor more
 numbers-push : (x k : ℕ) → numbers_from x (suc k) ≡ numbers_from x k ++ (x + k) ∷ []

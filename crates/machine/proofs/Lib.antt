@@ -9,5 +9,7 @@ mod Sums
 mod Turning
 mod Opening
 mod Finishing
+mod Passing
+mod Playing
 mod Ending
 mod RightOutcome

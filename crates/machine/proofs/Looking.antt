@@ -10,7 +10,7 @@ use Rattle.directory.specs.Statements.{PlayedIsLegal}
 use Rattle.trail_laws.specs.Trail.{EntriesTell, MarksTell}
 use Rattle.region_plan.specs.Plan.{PlanData, nodes_of}
 use Rattle.region_plan.specs.Cells.{IsCell}
-use Rattle.walk.specs.Walks.{IsWordBelow, WalkData, call_of, stage_of}
+use Rattle.walk.specs.Walks.{IsWalkOver, IsWordBelow, WalkData, call_of, stage_of}
 use Rattle.std.specs.Prelude.{Result, Ok, Err}
 use Rattle.std.specs.Result.{is_err, is_ok}
 use Rattle.walk.specs.LookLaws.{cell-wanted, word-wanted}
@@ -53,6 +53,22 @@ call-known input plan actor n call later valid high low left =
     subst (IsFindCall (setting_over input plan)) (at.2 call)
     (valid.finds (actor - length input.homes) [] short n call at.0)
 
+-- the subscriber that a caller looks for
+pub sub-known : ScriptsAreValid → (input : Contents) (plan : PlanData) (distances : DistanceTable) (history : History)
+    (actor : ℕ) (caller : Caller) (walk : WalkData) → BelongTogether input plan distances → length input.homes ≤ actor
+    → actor < length input.scripts → IsCaller input plan history actor caller → caller.walk ≡ Some walk
+    → IsWalkOver plan walk × (walk.sub < length input.homes)
+sub-known scripts input plan distances history actor caller walk together high low its held =
+    let seeker : Seeker = caller_in (setting_over input plan) (scripts_of input) history actor in
+    let at : Walks plan seeker.calls seeker.stage walk =
+    walking plan seeker.calls seeker.stage caller.walk walk held its.walk in
+    let valid : AreValid (setting_over input plan) (scripts_of input) =
+    scripts input (setting_over input plan) together.valid (over input plan distances together) in
+    let known : IsFindCall (setting_over input plan) at.call =
+    call-known input plan actor (length caller.lines.items) at.call at.later valid high low
+    (sym at.calls_are ∙ its.left) in
+    (at.goes, subst (λ (c : FindCall). c.sub < length input.homes) (sym at.its) known.known)
+
 -- what a caller's look leans on
 pub record Wanted (input : Contents) (plan : PlanData) (cells : CellData) (history : History) (walk : WalkData)
     (key : Key) : Type 0 where
@@ -66,22 +82,15 @@ pub wanted : MarksTell → EntriesTell → PlayedIsLegal → ScriptsAreValid →
     → key_of (call_of walk) (stage_of plan walk) ≡ Some key → Wanted input plan cells history walk key
 wanted marks entries legal scripts input plan distances cells history actor caller walk key together high low sees its held
     wants =
-    let seeker : Seeker = caller_in (setting_over input plan) (scripts_of input) history actor in
-    let at : Walks plan seeker.calls seeker.stage walk =
-    walking plan seeker.calls seeker.stage caller.walk walk held its.walk in
     let valid : AreValid (setting_over input plan) (scripts_of input) =
     scripts input (setting_over input plan) together.valid (over input plan distances together) in
-    let known : IsFindCall (setting_over input plan) at.call =
-    call-known input plan actor (length caller.lines.items) at.call at.later valid high low
-    (sym at.calls_are ∙ its.left) in
-    let sub_low : walk.sub < length input.homes =
-    subst (λ (c : FindCall). c.sub < length input.homes) (sym at.its) known.known in
+    let known = sub-known scripts input plan distances history actor caller walk together high low its held in
     let small : nodes_of plan ≤ 2 ^ 16 = omega (arith, together.matched.metric.few) in
     record {
-      is_cell = cell-wanted plan walk cells.subs key together.matched at.goes
-          (omega (arith, sub_low, sees.hold.subs)) wants;
+      is_cell = cell-wanted plan walk cells.subs key together.matched known.0
+          (omega (arith, known.1, sees.hold.subs)) wants;
       is_below = word-wanted marks entries plan input.homes history walk key together.matched small
-          (legal (setting_over input plan) (scripts_of input) history walk.sub small valid sub_low sees.played) at.goes
+          (legal (setting_over input plan) (scripts_of input) history walk.sub small valid known.1 sees.played) known.0
           wants;
     }
 

@@ -1,8 +1,8 @@
 -- What a machine stands for after a visit.
-use Rattle.std.proofs.Common.{◌≡◌, ◌≢◌, inl, inr, ℕ, zero, suc, ◌+◌, ◌<◌, ◌≤◌, ◌==◌, false, cond, List, [], ◌∷◌, ◌++◌, length, map, get_or, refl, sym, ap, ◌∙◌, subst, arith, Vec, Global}
-use Rattle.std.specs.Prelude.{Some, slice_set, vec_capacity}
+use Rattle.std.proofs.Common.{◌≡◌, ◌≢◌, inl, inr, ℕ, zero, suc, ◌+◌, ◌<◌, ◌≤◌, ◌==◌, false, cond, List, [], ◌∷◌, ◌++◌, length, map, get_or, refl, sym, ap, ◌∙◌, subst, arith, append_assoc, Vec, Global}
+use Rattle.std.specs.Prelude.{Some, replicate, slice_set, vec_capacity}
 use Rattle.std.proofs.lemmas.Bool.{cases_eq, ne_eqb}
-use Rattle.std.proofs.lemmas.List.{append-nil, length-map, length_push, map_push}
+use Rattle.std.proofs.lemmas.List.{append-nil, length-map, length-append, length-replicate, length_push, map-append, map_push}
 use Rattle.std.proofs.lemmas.List.Sums.{fold-append}
 use Rattle.entry_word.specs.declared.visit.Key.{Key}
 use Rattle.entry_word.specs.declared.visit.Visit.{Visit}
@@ -160,54 +160,80 @@ hold-look plan starts cells history actor key hold =
           (opening (setting_of plan starts) at) history (look_by actor key ∷ []));
     }
 
+-- each visit was its actor's next one, and cells hold what the history leaves
+pub sees-more : MoreIsPlayed → (input : Contents) (plan : PlanData) (cells : CellData) (history : History) (actor : ℕ)
+    (key : Key) → Sees input plan cells history
+    → next (setting_over input plan) (scripts_of input) history actor ≡ Some (look_by actor key)
+    → Sees input plan cells (history ++ look_by actor key ∷ [])
+sees-more more input plan cells history actor key sees wants =
+    record {
+      played = more (setting_over input plan) (scripts_of input) history actor (look_by actor key) wants sees.played;
+      goes = sees.goes;
+      hold = hold-look plan input.homes cells history actor key sees.hold;
+    }
+
+-- what a visit of an actor keeps, many keep
+kept-all : (P : History → Type 0) (actor : ℕ) (visits : List Visit) (count : ℕ) (history : History)
+    → ((before : History) (visit : Visit) → visit.actor ≡ actor → P before → P (before ++ visit ∷ []))
+    → map (λ (v : Visit). v.actor) visits ≡ replicate count actor → P history → P (history ++ visits)
+kept-all P actor [] count history step same is = subst P (sym (append-nil history)) is
+kept-all P actor (visit ∷ visits) zero history step same is = cc
+kept-all P actor (visit ∷ visits) (suc count) history step same is =
+    let its : visit.actor ≡ actor = cc in
+    let rest : map (λ (v : Visit). v.actor) visits ≡ replicate count actor = cc in
+    subst P (append_assoc history (visit ∷ []) visits)
+    (kept-all P actor visits count (history ++ visit ∷ []) step rest (step history visit its is))
+
+-- after visits of a caller
 pub caller-turned : OwnGrow → TicketsGrow → CallersKept
-    → MoreIsPlayed
-    → (old : Machine) (history : History) (actor place : ℕ) (key : Key) (caller : Caller)
+    → (old : Machine) (history : History) (actor place count : ℕ) (visits : List Visit) (caller : Caller)
     (callers : Vec Caller Global) (order : Vec ℕ Global) → HasHistory old history
     → actor ≡ length (input_at old).homes + place
     → actor < length (input_at old).scripts
-    → next (setting_at old) (scripts_at old) history actor ≡ Some (look_by actor key)
-    → IsCaller (input_at old) old.plan.now (history ++ look_by actor key ∷ []) actor caller
+    → map (λ (v : Visit). v.actor) visits ≡ replicate count actor
+    → Sees (input_at old) old.plan.now old.cells (history ++ visits)
+    → IsCaller (input_at old) old.plan.now (history ++ visits) actor caller
     → callers.items ≡ slice_set old.callers.items place caller
-    → order.items ≡ old.order.items ++ actor ∷ [] → vec_capacity old.order ≤ vec_capacity order
-    → HasHistory (record old { callers = callers; order = order }) (history ++ look_by actor key ∷ [])
-caller-turned own_law ticket_law kept more old history actor place key caller callers order stands at low wants its
-    items pushed room =
-    let visit : Visit = look_by actor key in
+    → order.items ≡ old.order.items ++ replicate count actor → vec_capacity old.order ≤ vec_capacity order
+    → HasHistory (record old { callers = callers; order = order }) (history ++ visits)
+caller-turned own_law ticket_law kept old history actor place count visits caller callers order stands at low actors sees
+    its items pushed room =
     record {
       together = stands.together;
-      sees = record {
-        played = more (setting_at old) (scripts_at old) history actor visit wants stands.sees.played;
-        goes = stands.sees.goes;
-        hold = hold-look old.plan.now (input_at old).homes old.cells history actor key stands.sees.hold;
-      };
+      sees = sees;
       order = pushed
-          ∙ (ap (λ xs. xs ++ actor ∷ []) stands.order ∙ sym (map_push (λ (v : Visit). v.actor) history visit));
+          ∙ (ap (λ xs. xs ++ replicate count actor) stands.order
+          ∙ (ap (λ xs. map (λ (v : Visit). v.actor) history ++ xs) (sym actors)
+          ∙ sym (map-append (λ (v : Visit). v.actor) history visits)));
       room = omega (arith, stands.room, room);
       subscribers_count = stands.subscribers_count;
       callers_count = ap length items ∙ (set-length old.callers.items place caller ∙ stands.callers_count);
       subscribers =
-          λ s d below. sub-kept own_law ticket_law (input_at old) old.plan.now history s
+          λ s d below. kept-all (λ h. IsSubscriber (input_at old) old.plan.now h s
+          (get_or old.subscribers.items s d)) actor visits count history
+          (λ before visit same. sub-kept own_law ticket_law (input_at old) old.plan.now before s
           (get_or old.subscribers.items s d) visit
-          (ne_eqb actor s (λ e. omega (arith, e, at, below))) (stands.subscribers s d below);
+          (ne_eqb visit.actor s (λ e. omega (arith, same, e, at, below)))) actors (stands.subscribers s d below);
       callers = λ c d below.
-          elim (cases_eq c place) as (λ _. IsCaller (input_at old) old.plan.now (history ++ visit ∷ [])
+          elim (cases_eq c place) as (λ _. IsCaller (input_at old) old.plan.now (history ++ visits)
           (length (input_at old).homes + c) (get_or callers.items c d)) [
             | inl same ↦ subst
-                (λ x. IsCaller (input_at old) old.plan.now (history ++ visit ∷ []) (length (input_at old).homes + c) x)
+                (λ x. IsCaller (input_at old) old.plan.now (history ++ visits) (length (input_at old).homes + c) x)
                 (sym (ap (λ xs. get_or xs c d) items
                 ∙ (ap (λ i. get_or (slice_set old.callers.items i caller) c d) (sym same)
                 ∙ set-same old.callers.items c caller d (omega (arith, below, stands.callers_count)))))
-                (subst (λ a. IsCaller (input_at old) old.plan.now (history ++ visit ∷ []) a caller)
+                (subst (λ a. IsCaller (input_at old) old.plan.now (history ++ visits) a caller)
                 (at ∙ ap (λ i. length (input_at old).homes + i) (sym same)) its)
             | inr other ↦ subst
-                (λ x. IsCaller (input_at old) old.plan.now (history ++ visit ∷ []) (length (input_at old).homes + c) x)
+                (λ x. IsCaller (input_at old) old.plan.now (history ++ visits) (length (input_at old).homes + c) x)
                 (sym (ap (λ xs. get_or xs c d) items
                 ∙ set-other old.callers.items place c caller d (λ e. other (sym e))))
-                (caller-kept kept (input_at old) old.plan.now history (length (input_at old).homes + c)
-                (get_or old.callers.items c d) visit
-                (ne_eqb actor (length (input_at old).homes + c) (λ e. other (omega (arith, e, at))))
-                (stands.callers c d below))
+                (kept-all (λ h. IsCaller (input_at old) old.plan.now h (length (input_at old).homes + c)
+                (get_or old.callers.items c d)) actor visits count history
+                (λ before visit same. caller-kept kept (input_at old) old.plan.now before
+                (length (input_at old).homes + c) (get_or old.callers.items c d) visit
+                (ne_eqb visit.actor (length (input_at old).homes + c) (λ e. other (omega (arith, same, e, at)))))
+                actors (stands.callers c d below))
           ];
       calls = stands.calls;
       total = stands.total;
@@ -303,5 +329,22 @@ room-left few more machine history actor visit is wants =
           (over (input_at machine) machine.plan.now machine.distances.now is.together)
           (more (setting_at machine) (scripts_at machine) history actor visit wants is.sees.played),
       length_push history visit,
+      is.room,
+    )
+
+-- and for many, which are those of a played history
+pub rooms-left : VisitsAreFew → (machine : Machine) (history : History) (actor count : ℕ) (visits : List Visit)
+    → HasHistory machine history → map (λ (v : Visit). v.actor) visits ≡ replicate count actor
+    → Sees (input_at machine) machine.plan.now machine.cells (history ++ visits)
+    → length history + count ≤ vec_capacity machine.order
+rooms-left few machine history actor count visits is actors sees =
+    omega (
+      arith,
+      few (input_at machine) (setting_at machine) (history ++ visits) is.together.valid
+          (over (input_at machine) machine.plan.now machine.distances.now is.together) sees.played,
+      length-append history visits,
+      length-map visits (λ (v : Visit). v.actor),
+      ap length actors,
+      length-replicate count actor,
       is.room,
     )

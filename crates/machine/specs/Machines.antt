@@ -1,13 +1,13 @@
 -- What a machine stands for: a history in which each visit was its actor's next one. Its cells hold
 -- what the history leaves; each subscriber and each caller is as far as the history says; and it
 -- keeps the actor of each ticket.
--- Key laws: `Machine::new` (it stands for no visits), `turn` (for a turn more), `finish` (for all
--- visits) and `outcome`, by their clauses.
-use Rattle.std.specs.Prelude.{◌≡◌, ℕ, ◌+◌, ◌<◌, ◌≤◌, [], ◌∷◌, ◌++◌, Some, None, length, map, slice_index_or, vec_capacity}
+-- Key laws: `Machine::new` (it stands for no visits), `turn` (for a turn more), `turns` (for so many
+-- turns more), `finish` (for all visits) and `outcome`, by their clauses.
+use Rattle.std.specs.Prelude.{◌≡◌, ℕ, ◌+◌, ◌<◌, ◌≤◌, [], ◌∷◌, ◌++◌, Some, None, length, map, replicate, slice_index_or, vec_capacity}
 use Rattle.entry_word.specs.declared.visit.Visit.{Visit}
 use Rattle.directory.specs.Settings.{Setting}
 use Rattle.directory.specs.Histories.{History}
-use Rattle.directory.specs.Orders.{Scripts, next}
+use Rattle.directory.specs.Orders.{Scripts, after_turns, next}
 use Rattle.net_reader.specs.Input.{Contents}
 use Rattle.net_reader.specs.Seen.{seen_input}
 use Rattle.net_reader.specs.Valid.{count_calls}
@@ -60,6 +60,19 @@ HasTurned old new history actor Finished =
 HasTurned old new history actor Visited =
     (visit : Visit) × (next (setting_at old) (scripts_at old) history actor ≡ Some visit)
     × HasHistory new (history ++ visit ∷ [])
+
+-- so many turns of an actor made as many visits
+pub record HasMade (old new : Machine) (history : History) (actor count : ℕ) : Type 0 where
+  pub stands : HasHistory new
+      (after_turns (setting_at old) (scripts_at old) history (replicate count actor))
+  pub made : length (after_turns (setting_at old) (scripts_at old) history (replicate count actor))
+      ≡ length history + count
+
+-- and where they made none, none is left
+abbrev pub HasStridden : Machine → Machine → History → ℕ → ℕ → Type 0
+HasStridden old new history actor count =
+    HasMade old new history actor count
+    × (count ≡ 0 → next (setting_at old) (scripts_at old) history actor ≡ None)
 
 -- a machine keeps its input, its plan and its distances
 abbrev pub IsSame : Machine → Machine → Type 0

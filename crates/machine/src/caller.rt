@@ -1,5 +1,5 @@
 //! A caller: its finds, one after another.
-ghost use Rattle.std.specs.Prelude.{◌≡◌, ◌≤◌, ◌<◌, ◌++◌, ◌∷◌, [], ℕ, All, IfOk, drop, length, map, vec_capacity};
+ghost use Rattle.std.specs.Prelude.{◌≡◌, ◌≤◌, ◌<◌, ◌+◌, ◌^◌, ◌++◌, ◌∷◌, [], ℕ, All, IfOk, drop, length, map, vec_capacity};
 ghost use Rattle.directory.specs.Histories.{History};
 ghost use Rattle.directory.specs.Finds.{at_origin};
 ghost use Rattle.directory.specs.Outcomes.{found_line};
@@ -8,10 +8,10 @@ ghost use Rattle.net_reader.specs.Valid.{IsSearch};
 ghost use Rattle.region_plan.specs.Plan.{nodes_of};
 ghost use Rattle.scripts.specs.Scripts.{find_of};
 ghost use Rattle.machine.specs.Stands.{BelongTogether, IsWalking, Sees};
-ghost use Rattle.machine.specs.Callers.{IsCaller, HasLooked};
+ghost use Rattle.machine.specs.Callers.{IsCaller, HasLooked, HasPassed};
 
 use crate::turn::Turn;
-use directory::{Done, Found, every_order_is_legal, lines_grow, own_after};
+use directory::{Done, Found, each_visit_is_next, every_order_is_legal, lines_grow, own_after};
 use distances::Distances;
 use net_reader::{Call, Input};
 use region_plan::Plan;
@@ -19,7 +19,7 @@ use scripts::scripts_are_valid;
 use std::alloc::{AllocError, Global};
 use trail_laws::{entries_tell, marks_tell};
 use visit_log::PlainCells;
-use walk::Walk;
+use walk::{Walk, empty_words};
 
 /// A caller: the walk of the find that it is at, if one is left, the ticket of that find's first
 /// look, and the lines of the finds that are done.
@@ -95,6 +95,170 @@ impl Caller {
         self.walk = walk_at(script, self.lines.len(), input.homes.len() as u32, plan);
         self.first = None;
         Turn::Visited
+    }
+
+    // The looks that read nothing and leave the find open, at most so many: how many there were.
+    pub fn pass(
+        &mut self,
+        actor: u32,
+        input: &Input,
+        plan: &Plan,
+        distances: &Distances,
+        cells: &PlainCells,
+        ticket: u64,
+        most: usize,
+    ) -> usize
+        requires together { BelongTogether (seen_input input.now) plan.now distances.now }
+        requires high { length input.now.homes.items ≤ actor }
+        requires low { actor < length input.now.scripts.items }
+        requires stands { (history : History)
+            × Sees (seen_input input.now) plan.now cells.now history
+            × (length history ≡ ticket)
+            × IsCaller (seen_input input.now) plan.now history actor self.old }
+        requires fits { ticket + most < 2 ^ 64 }
+        ensures few { result ≤ most }
+        ensures passed { (history : History)
+            → Sees (seen_input input.now) plan.now cells.now history → length history ≡ ticket
+            → IsCaller (seen_input input.now) plan.now history actor self.old
+            → HasPassed (seen_input input.now) plan.now cells.now history actor result self.new }
+    {
+        let mut made = 0;
+        'levels: while made < most {
+            let at = ticket + made as u64;
+            let left = most - made;
+            let passed = self.pass_level(actor, input, plan, distances, cells, at, left);
+            if passed == 0 {
+                return made;
+            }
+            made += passed;
+        }
+        made
+    }
+
+    // Those at a level: its entries, and with the last of them the way to the next level.
+    fn pass_level(
+        &mut self,
+        actor: u32,
+        input: &Input,
+        plan: &Plan,
+        distances: &Distances,
+        cells: &PlainCells,
+        ticket: u64,
+        most: usize,
+    ) -> usize
+        requires together { BelongTogether (seen_input input.now) plan.now distances.now }
+        requires high { length input.now.homes.items ≤ actor }
+        requires low { actor < length input.now.scripts.items }
+        requires stands { (history : History)
+            × Sees (seen_input input.now) plan.now cells.now history
+            × (length history ≡ ticket)
+            × IsCaller (seen_input input.now) plan.now history actor self.old }
+        requires fits { ticket + most < 2 ^ 64 }
+        ensures few { result ≤ most }
+        ensures passed { (history : History)
+            → Sees (seen_input input.now) plan.now cells.now history → length history ≡ ticket
+            → IsCaller (seen_input input.now) plan.now history actor self.old
+            → HasPassed (seen_input input.now) plan.now cells.now history actor result self.new }
+    {
+        let passed = self.pass_readers(actor, input, plan, distances, cells, ticket, most);
+        if passed == most {
+            return passed;
+        }
+        let at = ticket + passed as u64;
+        passed + self.pass_one(actor, input, plan, distances, cells, at)
+    }
+
+    // The looks at entries that hold nothing, at most so many, and how many there were. The last
+    // look at a level is no such look.
+    fn pass_readers(
+        &mut self,
+        actor: u32,
+        input: &Input,
+        plan: &Plan,
+        distances: &Distances,
+        cells: &PlainCells,
+        ticket: u64,
+        most: usize,
+    ) -> usize
+        requires together { BelongTogether (seen_input input.now) plan.now distances.now }
+        requires high { length input.now.homes.items ≤ actor }
+        requires low { actor < length input.now.scripts.items }
+        requires stands { (history : History)
+            × Sees (seen_input input.now) plan.now cells.now history
+            × (length history ≡ ticket)
+            × IsCaller (seen_input input.now) plan.now history actor self.old }
+        ensures few { result ≤ most }
+        ensures passed { (history : History)
+            → Sees (seen_input input.now) plan.now cells.now history → length history ≡ ticket
+            → IsCaller (seen_input input.now) plan.now history actor self.old
+            → HasPassed (seen_input input.now) plan.now cells.now history actor result self.new }
+    {
+        scripts_are_valid();
+        each_visit_is_next();
+        lines_grow();
+        own_after();
+        let Some(walk) = &mut self.walk else {
+            return 0;
+        };
+        let Some((level, clusters)) = walk.ahead(plan) else {
+            return 0;
+        };
+        let reach = most.min(clusters.len() - 1);
+        let count = cells.count_empty(plan, level, walk.sub(), &clusters[..reach]);
+        if count > 0 {
+            walk.pass(plan, count);
+            self.first = Some(self.first.unwrap_or(ticket));
+        }
+        count
+    }
+
+    // The next look, if it reads nothing and leaves the find open; else none.
+    fn pass_one(
+        &mut self,
+        actor: u32,
+        input: &Input,
+        plan: &Plan,
+        distances: &Distances,
+        cells: &PlainCells,
+        ticket: u64,
+    ) -> usize
+        requires together { BelongTogether (seen_input input.now) plan.now distances.now }
+        requires high { length input.now.homes.items ≤ actor }
+        requires low { actor < length input.now.scripts.items }
+        requires stands { (history : History)
+            × Sees (seen_input input.now) plan.now cells.now history
+            × (length history ≡ ticket)
+            × IsCaller (seen_input input.now) plan.now history actor self.old }
+        ensures few { result ≤ 1 }
+        ensures passed { (history : History)
+            → Sees (seen_input input.now) plan.now cells.now history → length history ≡ ticket
+            → IsCaller (seen_input input.now) plan.now history actor self.old
+            → HasPassed (seen_input input.now) plan.now cells.now history actor result self.new }
+    {
+        marks_tell();
+        entries_tell();
+        empty_words();
+        every_order_is_legal();
+        each_visit_is_next();
+        scripts_are_valid();
+        lines_grow();
+        own_after();
+        let Some(mut walk) = self.walk else {
+            return 0;
+        };
+        let Some(key) = walk.next(plan) else {
+            unreachable!()
+        };
+        if cells.look(plan, key) != 0 {
+            return 0;
+        }
+        walk.saw(plan, distances, 0);
+        if walk.answer().is_some() {
+            return 0;
+        }
+        self.walk = Some(walk);
+        self.first = Some(self.first.unwrap_or(ticket));
+        1
     }
 }
 

@@ -1,5 +1,5 @@
 //! The directory at work in one order of turns.
-ghost use Rattle.std.specs.Prelude.{All, ◌≡◌, ◌∷◌, ◌++◌, ◌+◌, ◌-◌, ◌<◌, ◌≤◌, ◌↔◌, ℕ, List, [], IfOk, None, drop, length, map, replicate, slice_index_or, vec_len, flat_map, vec_capacity};
+ghost use Rattle.std.specs.Prelude.{All, ◌≡◌, ◌∷◌, ◌++◌, ◌+◌, ◌-◌, ◌<◌, ◌≤◌, ◌↔◌, ℕ, List, [], IfOk, None, drop, length, map, replicate, slice_index, slice_index_or, vec_len, flat_map, vec_capacity};
 ghost use Rattle.directory.specs.Histories.{History};
 ghost use Rattle.directory.specs.Orders.{after_turn, after_turns, history_of, last_turns, most_turns, next, IsDone};
 ghost use Rattle.directory.specs.Outcomes.{outcome_in, result_of};
@@ -7,7 +7,7 @@ ghost use Rattle.net_reader.specs.Seen.{seen_input};
 ghost use Rattle.net_reader.specs.Valid.{count_calls};
 ghost use Rattle.trail_laws.specs.Lines.{IsRightLine, TellInTurn, TellRisingNumbers};
 ghost use Rattle.machine.specs.Callers.{IsCaller};
-ghost use Rattle.machine.specs.Machines.{HasTurned, IsSame, HasHistory, scripts_at, setting_at};
+ghost use Rattle.machine.specs.Machines.{HasMade, HasStridden, HasTurned, IsSame, HasHistory, scripts_at, setting_at};
 ghost use Rattle.machine.specs.Stands.{BelongTogether};
 ghost use Rattle.machine.specs.Subscribers.{IsSubscriber};
 ghost use Rattle.machine.specs.declared.caller.Caller.{Caller};
@@ -15,7 +15,9 @@ ghost use Rattle.machine.specs.declared.subscriber.Subscriber.{Subscriber};
 ghost use Rattle.machine.specs.declared.turn.Turn.TheVariants.{Finished};
 
 use crate::caller::Caller;
-use crate::room::most_visits;
+use crate::lines::{push_finds, push_steps};
+use crate::order::{log, log_run, run_end};
+use crate::room::{count_calls, most_visits};
 use crate::subscriber::Subscriber;
 use crate::turn::Turn;
 use directory::{
@@ -92,6 +94,45 @@ impl<'a> Machine<'a> {
         self.act(actor)
     }
 
+    /// So many turns of an actor, one after another: what as many calls of `turn` do, but that a
+    /// caller's looks at entries that hold nothing are made at once. How many visits it made.
+    pub fn turns(&mut self, actor: u32, count: usize) -> usize
+        requires stands { (history : History) × HasHistory self.old history }
+        ensures stands { (history : History) → HasHistory self.old history
+            → HasHistory self.new (after_turns (setting_at self.old) (scripts_at self.old) history
+            (replicate count actor)) }
+        ensures made { (history : History) → HasHistory self.old history
+            → length (after_turns (setting_at self.old) (scripts_at self.old) history
+            (replicate count actor)) ≡ length history + result }
+        ensures same { IsSame self.old self.new }
+    {
+        let mut left = count;
+        'turns: while left > 0 {
+            let made = self.stride(actor, left);
+            if made == 0 {
+                return count - left;
+            }
+            left -= made;
+        }
+        count
+    }
+
+    /// The turns of an order, one after another; those of a run of equal numbers at once.
+    pub fn play(&mut self, order: &[u32])
+        requires stands { (history : History) × HasHistory self.old history }
+        ensures stands { (history : History) → HasHistory self.old history
+            → HasHistory self.new (after_turns (setting_at self.old) (scripts_at self.old) history
+            order.now) }
+        ensures same { IsSame self.old self.new }
+    {
+        let mut start = 0;
+        'runs: while start < order.len() {
+            let end = run_end(order, start);
+            self.turns(order[start], end - start);
+            start = end;
+        }
+    }
+
     /// The visits that are left, actor by actor. It takes no memory.
     pub fn finish(&mut self)
         requires stands { (history : History) × HasHistory self.old history }
@@ -155,8 +196,55 @@ impl<'a> Machine<'a> {
         ensures same { IsSame self.old self.new }
     {
         turns_are_few();
-        next_is_own();
-        'turns: while let Turn::Visited = self.turn(actor) {}
+        visits_are_few();
+        'turns: while self.stride(actor, usize::MAX) > 0 {}
+    }
+
+    // The next visits of an actor that are made at once, at most so many, and how many there were.
+    fn stride(&mut self, actor: u32, most: usize) -> usize
+        requires stands { (history : History) × HasHistory self.old history }
+        requires some { 1 ≤ most }
+        ensures few { result ≤ most }
+        ensures stands { (history : History) → HasHistory self.old history
+            → HasStridden self.old self.new history actor result }
+        ensures same { IsSame self.old self.new }
+    {
+        let passed = self.pass(actor, most - 1);
+        match self.act(actor) {
+            Turn::Visited => passed + 1,
+            Turn::Finished => passed,
+        }
+    }
+
+    // A caller's looks that read nothing and leave its find open, at most so many, and how many
+    // there were.
+    fn pass(&mut self, actor: u32, most: usize) -> usize
+        requires stands { (history : History) × HasHistory self.old history }
+        ensures few { result ≤ most }
+        ensures stands { (history : History) → HasHistory self.old history
+            → HasMade self.old self.new history actor result }
+        ensures same { IsSame self.old self.new }
+    {
+        own_after();
+        lines_grow();
+        visits_are_few();
+        let subs = self.subscribers.len();
+        if most == 0 || (actor as usize) < subs || self.input.scripts.len() <= actor as usize {
+            return 0;
+        }
+        let ticket = self.order.len() as u64;
+        let room = self.order.capacity() - self.order.len();
+        let count = self.callers[actor as usize - subs].pass(
+            actor,
+            self.input,
+            self.plan,
+            self.distances,
+            &self.cells,
+            ticket,
+            most.min(room),
+        );
+        log_run(&mut self.order, actor, count);
+        count
     }
 
     // A turn, as the parts make it.
@@ -240,15 +328,6 @@ impl<'a> Machine<'a> {
     }
 }
 
-// Logs whose visit the next ticket is.
-fn log(order: &mut Vec<u32>, actor: u32)
-    requires room { length order.old.items < vec_capacity order.old }
-    ensures items { order.new.items ≡ order.old.items ++ actor ∷ [] }
-    ensures capacity { vec_capacity order.new ≡ vec_capacity order.old }
-{
-    order.push_reserved(actor);
-}
-
 // The subscribers, before their first steps.
 fn subscribers_of(
     alloc: Global,
@@ -292,54 +371,4 @@ fn callers_of(
         callers.push(Caller::new(alloc, script, subs as u32, plan)?)?;
     }
     Ok(callers)
-}
-
-// How many calls scripts have.
-fn count_calls(scripts: &[Vec<Call>]) -> Result<usize, AllocError>
-    ensures { IfOk result
-        (λ count. count ≡ count_calls (map (λ script. script.items) scripts.now)) }
-{
-    let mut count = 0usize;
-    for script in scripts {
-        count = count.checked_add(script.len()).ok_or(AllocError)?;
-    }
-    Ok(count)
-}
-
-// The lines of a list behind others.
-fn push_lines(calls: &mut Vec<Done>, lines: &[Done])
-    requires room { length calls.old.items + length lines.now ≤ vec_capacity calls.old }
-    ensures items { calls.new.items ≡ calls.old.items ++ lines.now }
-    ensures capacity { vec_capacity calls.old ≤ vec_capacity calls.new }
-{
-    if calls.extend_from_slice(lines).is_err() {
-        unreachable!()
-    }
-}
-
-// The lines of all subscribers behind others.
-fn push_steps(calls: &mut Vec<Done>, subscribers: &[Subscriber])
-    requires room { length calls.old.items + length
-        (flat_map (λ one. one.lines.items) subscribers.now)
-        ≤ vec_capacity calls.old }
-    ensures items { calls.new.items
-        ≡ calls.old.items ++ flat_map (λ one. one.lines.items) subscribers.now }
-    ensures capacity { vec_capacity calls.old ≤ vec_capacity calls.new }
-{
-    'subscribers: for subscriber in subscribers {
-        push_lines(calls, &subscriber.lines);
-    }
-}
-
-// The lines of all callers behind others.
-fn push_finds(calls: &mut Vec<Done>, callers: &[Caller])
-    requires room { length calls.old.items + length (flat_map (λ one. one.lines.items) callers.now)
-        ≤ vec_capacity calls.old }
-    ensures items { calls.new.items
-        ≡ calls.old.items ++ flat_map (λ one. one.lines.items) callers.now }
-    ensures capacity { vec_capacity calls.old ≤ vec_capacity calls.new }
-{
-    'callers: for caller in callers {
-        push_lines(calls, &caller.lines);
-    }
 }

@@ -1,5 +1,6 @@
-//! How many visits scripts have at most.
+//! How many calls scripts have, and visits at most.
 ghost use Rattle.std.specs.Prelude.{◌≡◌, ◌<◌, All, IfOk, List, ℕ, map};
+ghost use Rattle.net_reader.specs.Valid.{count_calls};
 ghost use Rattle.scripts.specs.Scripts.{most_in, most_of, most_visits};
 ghost use Rattle.machine.specs.Stands.{BeginInside, BeginsInside};
 ghost use Rattle.region_plan.specs.Settings.{setting_of};
@@ -46,4 +47,16 @@ pub fn most_visits(plan: &Plan, scripts: &[Vec<Call>]) -> Result<u64, AllocError
         most = most.checked_add(more).ok_or(AllocError)?;
     }
     Ok(most)
+}
+
+// How many calls scripts have.
+pub fn count_calls(scripts: &[Vec<Call>]) -> Result<usize, AllocError>
+    ensures { IfOk result
+        (λ count. count ≡ count_calls (map (λ script. script.items) scripts.now)) }
+{
+    let mut count = 0usize;
+    for script in scripts {
+        count = count.checked_add(script.len()).ok_or(AllocError)?;
+    }
+    Ok(count)
 }

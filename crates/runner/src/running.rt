@@ -1,9 +1,7 @@
 //! A run: all workers play, and what is left is made in the end.
-ghost use Rattle.std.specs.Prelude.{◌≡◌, ◌<◌, [], ℕ, IfOk, length, map};
+ghost use Rattle.std.specs.Prelude.{◌≡◌, ◌<◌, IfOk, length, map};
 ghost use Rattle.directory.specs.Outcomes.{outcome_of, result_of};
 ghost use Rattle.machine.specs.Stands.{BelongTogether, setting_over};
-ghost use Rattle.machine.specs.Machines.{HasHistory, IsSame, scripts_at, setting_at};
-ghost use Rattle.directory.specs.Orders.{after_turns};
 ghost use Rattle.net_reader.specs.Input.{Contents};
 ghost use Rattle.net_reader.specs.Seen.{seen_input};
 ghost use Rattle.scripts.specs.Scripts.{scripts_of};
@@ -112,21 +110,9 @@ fn complete(
 {
     all_scripts_done();
     let mut machine = Machine::new(alloc, input, plan, distances)?;
-    take_turns(&mut machine, order);
+    machine.play(order);
     machine.finish();
     Ok(machine.outcome())
-}
-
-// The turns of an order.
-fn take_turns(machine: &mut Machine<'_>, order: &[u32])
-    requires stands { HasHistory machine.old [] }
-    ensures stands { HasHistory machine.new
-        (after_turns (setting_at machine.old) (scripts_at machine.old) [] order.now) }
-    ensures same { IsSame machine.old machine.new }
-{
-    'turns: for actor in order {
-        machine.turn(*actor);
-    }
 }
 
 // The passes of workers.

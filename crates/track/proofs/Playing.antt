@@ -1,9 +1,7 @@
--- A machine that plays an order: after each turn it stands for the turns so far.
-use Rattle.std.proofs.Common.{◌≡◌, ℕ, ◌+◌, ◌<◌, List, [], ◌∷◌, ◌++◌, length, take, get_or, sym, ap, ◌∙◌, subst}
-use Rattle.std.proofs.lemmas.List.{take_more}
-use Rattle.std.proofs.lemmas.List.Sums.{fold-append}
+-- A machine that has played an order: it stands for the history of its turns.
+use Rattle.std.proofs.Common.{◌≡◌, ℕ, List, [], sym, ap, ◌∙◌, subst}
 use Rattle.directory.specs.Settings.{Setting}
-use Rattle.directory.specs.Orders.{Scripts, after_turn, after_turns, history_of}
+use Rattle.directory.specs.Orders.{Scripts, after_turns, history_of}
 use Rattle.directory.specs.Outcomes.{outcome_of}
 use Rattle.net_reader.specs.declared.input.Input.{Input}
 use Rattle.net_reader.specs.Seen.{seen_input}
@@ -22,18 +20,12 @@ of_same P old new same p =
     (subst (λ plan. P (setting_of plan (seen_input old.input.now).homes) (scripts_of (seen_input old.input.now)))
     (sym same.1) p)
 
--- one turn more of an order
-pub play-more : (old new : Machine) (order : List ℕ) (i actor : ℕ) → IsSame old new → i < length order
-    → get_or order i 0 ≡ actor
-    → HasHistory new (after_turn (setting_at old) (scripts_at old)
-    (after_turns (setting_at old) (scripts_at old) [] (take i order)) actor)
-    → HasHistory new (after_turns (setting_at new) (scripts_at new) [] (take (i + 1) order))
-play-more old new order i actor same within is goes =
-    of_same (λ setting scripts. HasHistory new (after_turns setting scripts [] (take (i + 1) order))) old new same
-    (subst (HasHistory new)
-    (sym (ap (after_turns (setting_at old) (scripts_at old) []) (take_more order i 0 within
-    ∙ ap (λ a. take i order ++ a ∷ []) is)
-    ∙ fold-append (after_turn (setting_at old) (scripts_at old)) [] (take i order) (actor ∷ []))) goes)
+-- the same of the machine behind its turns
+pub play-over : (old new : Machine) (order : List ℕ) → IsSame old new
+    → HasHistory new (after_turns (setting_at old) (scripts_at old) [] order)
+    → HasHistory new (after_turns (setting_at new) (scripts_at new) [] order)
+play-over old new order same goes =
+    of_same (λ setting scripts. HasHistory new (after_turns setting scripts [] order)) old new same goes
 
 -- the end of an order
 pub play-ended : (old new : Machine) (order : List ℕ) → IsSame old new

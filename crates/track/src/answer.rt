@@ -133,9 +133,7 @@ fn play(machine: &mut Machine<'_>, order: &[u32])
         (history_of (setting_at machine.old) (scripts_at machine.old) order.now) }
     ensures same { IsSame machine.old machine.new }
 {
-    'turns: for actor in order {
-        machine.turn(*actor);
-    }
+    machine.play(order);
     machine.finish();
 }
 

@@ -1,3 +1,4 @@
 mod Apart
 mod Holding
 mod Opening
+mod Scanning

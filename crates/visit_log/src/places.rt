@@ -1,5 +1,5 @@
 //! The places of nodes and clusters in one row.
-ghost use Rattle.std.specs.Prelude.{◌≡◌, IfOk};
+ghost use Rattle.std.specs.Prelude.{◌≡◌, ◌<◌, IfOk, length, slice_index};
 ghost use Rattle.region_plan.specs.Cells.{IsPlace};
 ghost use Rattle.region_plan.specs.Plan.{PlanData};
 ghost use Rattle.visit_log.specs.Numbers.{ArePlaces, key_place};
@@ -59,5 +59,13 @@ impl Places {
             Key::Presence { node, .. } => node,
             Key::Entry { level, cluster, .. } => self.firsts[level as usize] + cluster,
         }
+    }
+
+    /// The place of a level's first cluster.
+    pub fn first(&self, level: u32) -> u32
+        requires { level < length self.now.firsts }
+        ensures { result ≡ slice_index self.now.firsts level }
+    {
+        self.firsts[level as usize]
     }
 }

@@ -1,1 +1,2 @@
 mod Readers
+mod Climbing

@@ -1,3 +1,4 @@
 pub mod Walks
+pub mod Climbs
 pub mod ReaderLaws
 pub mod LookLaws

@@ -8,6 +8,7 @@ ghost use Rattle.region_plan.specs.Kept.{IsKept};
 ghost use Rattle.region_plan.specs.Matched.{IsMatched, IsWithinReach};
 ghost use Rattle.region_plan.specs.Plan.{clusters_of, inside, leader, levels_of, members_of, nodes_of, readers};
 ghost use Rattle.region_plan.specs.Settings.{setting_of};
+ghost use Rattle.walk.specs.Climbs.{weight_past};
 ghost use Rattle.walk.specs.Walks.{IsAddressBelow, IsMarkBelow, IsProgressWithin, IsWordBelow, chase_of, reader_in, readers_above, readers_at, stage_at};
 
 use crate::progress::{Chase, Progress};
@@ -206,6 +207,27 @@ fn way_in(plan: &Plan, from: u32, level: u32, index: u32) -> u64
     // The call tells the proof that there are few readers, whose weights are light.
     let _nodes = plan.nodes();
     plan.reader_weight(level, from, index)
+}
+
+// The weight of a climb past so many readers of a level, from one on.
+pub fn weight_past(plan: &Plan, from: u32, level: u32, index: u32, weight: u64, count: usize) -> u64
+    requires from { from < nodes_of plan.now }
+    requires level { level < levels_of plan.now }
+    requires inside { index + count < length (readers plan.now level from) }
+    requires light { weight ≤ (level * 1024 + index) * 2 ^ 36 }
+    requires matched { IsMatched plan.now }
+    requires reached { IsWithinReach plan.now }
+    ensures weight { result ≡ weight_past plan.now from level index weight count }
+    ensures few { length (readers plan.now level from) ≤ 1024 }
+    ensures kept { IsKept plan.now }
+{
+    // The call tells the proof that there are few readers, whose weights are light.
+    let _first = reader_at(plan, from, level, index);
+    let mut sum = weight;
+    for passed in 0..count as u32 {
+        sum += 2 * way_in(plan, from, level, index + passed);
+    }
+    sum
 }
 
 // The weight from the origin to the leader of a reader, and on to the address that it has.

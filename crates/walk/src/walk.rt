@@ -1,13 +1,15 @@
 //! A find under way.
-ghost use Rattle.std.specs.Prelude.{◌≡◌, ◌++◌, ◌∷◌, [], ℕ, List, IfOk};
+ghost use Rattle.std.specs.Prelude.{◌≡◌, ◌++◌, ◌∷◌, ◌<◌, [], ℕ, List, IfOk, IfSome, length, replicate};
+ghost use Rattle.std.specs.Option.{is_some};
 ghost use Rattle.directory.specs.Finds.{after_word, answer_of, key_of};
 ghost use Rattle.region_plan.specs.Matched.{IsMatched, IsWithinReach};
 ghost use Rattle.region_plan.specs.Plan.{PlanData, nodes_of};
 ghost use Rattle.region_plan.specs.Settings.{setting_of};
+ghost use Rattle.walk.specs.Climbs.{IsAhead, PassesEntry, is_climbing, walk_past};
 ghost use Rattle.walk.specs.Walks.{IsWalkOver, IsWordBelow, StandsForWords, call_of, stage_of, walk_or_fault};
 
 use crate::progress::Progress;
-use crate::steps::progress_after;
+use crate::steps::{progress_after, weight_past};
 use directory::Found;
 use distances::Distances;
 use entry_word::Key;
@@ -95,6 +97,64 @@ impl Walk {
             Progress::AtOrigin => None,
             Progress::Climbing { .. } => None,
             Progress::Chasing { .. } => None,
+        }
+    }
+
+    /// Its subscriber.
+    pub fn sub(&self) -> u32
+        ensures { result ≡ self.now.sub }
+    {
+        self.sub
+    }
+
+    /// The level of a climb, and its readers that are left there: the entries that the walk looks
+    /// at as long as they hold nothing. None when it isn't at an entry.
+    pub fn ahead<'a>(&self, plan: &'a Plan) -> Option<(u32, &'a [u32])>
+        requires goes { IsWalkOver plan.now self.now }
+        requires matched { IsMatched plan.now }
+        ensures some { is_some result ≡ is_climbing self.now.progress }
+        ensures ahead { IfSome result
+            (λ ahead. IsAhead plan.now self.now ahead.0 ahead.1.now) }
+    {
+        match self.progress {
+            Progress::Climbing { level, index, .. } => {
+                Some((level, &plan.readers(level, self.from)[index as usize..]))
+            }
+            Progress::AtOrigin => None,
+            Progress::Chasing { .. } => None,
+            Progress::Ended { .. } => None,
+        }
+    }
+
+    /// So many looks at once, at entries ahead that hold nothing; not at the last of its level.
+    pub fn pass(&mut self, plan: &Plan, count: usize)
+        requires goes { IsWalkOver plan.now self.old }
+        requires matched { IsMatched plan.now }
+        requires reached { IsWithinReach plan.now }
+        requires ahead { (level : ℕ) × (clusters : List ℕ)
+            × IsAhead plan.now self.old level clusters × (count < length clusters) }
+        ensures exact { self.new ≡ walk_past plan.now self.old count }
+        ensures goes { IsWalkOver plan.now self.new }
+        ensures each { (level : ℕ) (clusters : List ℕ) → IsAhead plan.now self.old level clusters
+            → count < length clusters → (i : ℕ) → i < count
+            → PassesEntry plan.now self.old level clusters i }
+        ensures stands { (words : List ℕ) → StandsForWords plan.now self.old words
+            → StandsForWords plan.now self.new (words ++ replicate count 0) }
+    {
+        if let Progress::Climbing {
+            known,
+            weight,
+            level,
+            index,
+        } = self.progress
+        {
+            let weight = weight_past(plan, self.from, level, index, weight, count);
+            self.progress = Progress::Climbing {
+                known,
+                weight,
+                level,
+                index: index + count as u32,
+            };
         }
     }
 

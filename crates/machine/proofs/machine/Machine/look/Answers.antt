@@ -1,8 +1,9 @@
-use Rattle.std.proofs.Common.{◌≡◌, ◌+◌, ◌-◌, arith, refl, length}
+use Rattle.std.proofs.Common.{◌≡◌, ◌+◌, ◌-◌, [], ◌∷◌, arith, refl, length}
 use Rattle.directory.specs.Looks.{look_by}
 use Rattle.net_reader.specs.Seen.{seen_input}
 use Rattle.machine.proofs.Looking.{scripts-low}
-use Rattle.machine.proofs.Turning.{at-caller, room-left, caller-kept-machine, caller-turned, ticket-is}
+use Rattle.machine.proofs.Turning.{at-caller, room-left, caller-kept-machine, caller-turned, sees-more, ticket-is}
+use Rattle.machine.specs.Machines.{input_at}
 use Rattle.machine.proofs.machine.Machine.look.Goals as goal
 
 pub look-turn-requires-clause-stands : goal.look-turn-requires-clause-stands
@@ -69,8 +70,9 @@ returns-in-Visited-clause-turned c = λ history stands.
       look_by c.args.actor done.0,
       done.1,
       caller-turned c.own_after.ensures.visits c.own_after.ensures.tickets c.lines_grow.ensures.kept
-          c.each_visit_is_next.ensures.more
           c.args.self.now history c.args.actor
-          (c.args.actor - c.len.result) done.0 c.look-turn.new.self _ _ stands at low
-          done.1 done.2 refl c.log.ensures.items (omega (arith, c.log.ensures.capacity)),
+          (c.args.actor - c.len.result) 1 (look_by c.args.actor done.0 ∷ []) c.look-turn.new.self _ _ stands at low refl
+          (sees-more c.each_visit_is_next.ensures.more (input_at c.args.self.now) c.args.self.now.plan.now
+          c.args.self.now.cells history c.args.actor done.0 stands.sees done.1)
+          done.2 refl c.log.ensures.items (omega (arith, c.log.ensures.capacity)),
     )

@@ -1,7 +1,7 @@
 use Rattle.std.proofs.Common.{◌≡◌, ◌++◌, ◌+◌, ◌≤◌, take, drop, length}
 use Rattle.std.specs.Prelude.{flat_map, vec_capacity}
 use Rattle.machine.specs.declared.caller.Caller.{Caller}
-use Rattle.machine.proofs.machine.push_finds.Given as goal
+use Rattle.machine.proofs.lines.push_finds.Given as goal
 
 abbrev pub invariant-callers : goal.invariant-callers
 invariant-callers l = record {

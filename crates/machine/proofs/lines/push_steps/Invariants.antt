@@ -1,7 +1,7 @@
 use Rattle.std.proofs.Common.{◌≡◌, ◌++◌, ◌+◌, ◌≤◌, take, drop, length}
 use Rattle.std.specs.Prelude.{flat_map, vec_capacity}
 use Rattle.machine.specs.declared.subscriber.Subscriber.{Subscriber}
-use Rattle.machine.proofs.machine.push_steps.Given as goal
+use Rattle.machine.proofs.lines.push_steps.Given as goal
 
 abbrev pub invariant-subscribers : goal.invariant-subscribers
 invariant-subscribers l = record {
