@@ -2,16 +2,26 @@
 //! four nodes. A definition that says something else is refused here.
 #![tactic(auto)]
 
+mod cells;
+mod costs;
 mod finds;
 mod orders;
 mod others;
+mod plans;
 mod puts;
 mod scripts;
+mod trails;
+mod words;
 mod wrong;
 
+pub use cells::worked_cells;
+pub use costs::{worked_climbs, worked_costs, wrong_costs};
 pub use finds::worked_finds;
 pub use orders::worked_orders;
 pub use others::worked_others;
+pub use plans::{worked_levels, worked_measures};
 pub use puts::worked_puts;
 pub use scripts::worked_scripts;
+pub use trails::{worked_phases, worked_trails, wrong_numbers};
+pub use words::{worked_loads, worked_names, worked_numbers};
 pub use wrong::wrong_lines;
