@@ -5,6 +5,7 @@
 mod cells;
 mod costs;
 mod finds;
+mod grammar;
 mod orders;
 mod others;
 mod plans;
@@ -17,6 +18,7 @@ mod wrong;
 pub use cells::worked_cells;
 pub use costs::{worked_climbs, worked_costs, wrong_costs};
 pub use finds::worked_finds;
+pub use grammar::{worked_apart, worked_limits, worked_lines};
 pub use orders::worked_orders;
 pub use others::worked_others;
 pub use plans::{worked_levels, worked_measures};
