@@ -3,11 +3,13 @@
 #![tactic(auto)]
 
 mod cells;
+mod closing;
 mod costs;
 mod finds;
 mod grammar;
 mod orders;
 mod others;
+mod passes;
 mod plans;
 mod puts;
 mod scripts;
@@ -15,12 +17,14 @@ mod trails;
 mod words;
 mod wrong;
 
-pub use cells::worked_cells;
+pub use cells::{worked_cells, worked_words};
+pub use closing::{wrong_causes, wrong_orders};
 pub use costs::{worked_climbs, worked_costs, wrong_costs};
 pub use finds::worked_finds;
 pub use grammar::{worked_apart, worked_limits, worked_lines};
 pub use orders::worked_orders;
 pub use others::worked_others;
+pub use passes::{wrong_censuses, wrong_notes, wrong_turns};
 pub use plans::{worked_levels, worked_measures};
 pub use puts::worked_puts;
 pub use scripts::worked_scripts;
