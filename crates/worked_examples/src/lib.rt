@@ -2,11 +2,13 @@
 //! four nodes. A definition that says something else is refused here.
 #![tactic(auto)]
 
+mod calls;
 mod cells;
 mod closing;
 mod costs;
 mod finds;
 mod grammar;
+mod moves;
 mod orders;
 mod others;
 mod passes;
@@ -17,11 +19,13 @@ mod trails;
 mod words;
 mod wrong;
 
+pub use calls::{wrong_additions, wrong_answers, wrong_stops};
 pub use cells::{worked_cells, worked_words};
 pub use closing::{wrong_causes, wrong_orders};
 pub use costs::{worked_climbs, worked_costs, wrong_costs};
 pub use finds::worked_finds;
 pub use grammar::{worked_apart, worked_limits, worked_lines};
+pub use moves::{worked_moves, wrong_moves};
 pub use orders::worked_orders;
 pub use others::worked_others;
 pub use passes::{wrong_censuses, wrong_notes, wrong_turns};
