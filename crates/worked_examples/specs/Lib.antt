@@ -1,4 +1,5 @@
 pub mod Examples
+pub mod Faults
 pub mod Grammar
 pub mod Passes
 pub mod Trails
