@@ -4,6 +4,7 @@
 
 mod calls;
 mod cells;
+mod censuses;
 mod closing;
 mod costs;
 mod faults;
@@ -22,6 +23,7 @@ mod wrong;
 
 pub use calls::{wrong_additions, wrong_answers, wrong_stops};
 pub use cells::{worked_cells, worked_words};
+pub use censuses::worked_censuses;
 pub use closing::{wrong_causes, wrong_orders};
 pub use costs::{worked_climbs, worked_costs, wrong_costs};
 pub use faults::{worked_move_faults, worked_switch_faults, wrong_find_faults, wrong_move_faults};
