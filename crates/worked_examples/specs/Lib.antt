@@ -1,1 +1,6 @@
 pub mod Examples
+pub mod Faults
+pub mod Grammar
+pub mod Passes
+pub mod Trails
+pub mod Words

@@ -2,16 +2,40 @@
 //! four nodes. A definition that says something else is refused here.
 #![tactic(auto)]
 
+mod calls;
+mod cells;
+mod censuses;
+mod closing;
+mod costs;
+mod faults;
 mod finds;
+mod grammar;
+mod moves;
 mod orders;
 mod others;
+mod passes;
+mod plans;
 mod puts;
 mod scripts;
+mod trails;
+mod words;
 mod wrong;
 
+pub use calls::{wrong_additions, wrong_answers, wrong_stops};
+pub use cells::{worked_cells, worked_words};
+pub use censuses::worked_censuses;
+pub use closing::{wrong_causes, wrong_orders};
+pub use costs::{worked_climbs, worked_costs, wrong_costs};
+pub use faults::{worked_move_faults, worked_switch_faults, wrong_find_faults, wrong_move_faults};
 pub use finds::worked_finds;
+pub use grammar::{worked_apart, worked_limits, worked_lines};
+pub use moves::{worked_moves, wrong_moves};
 pub use orders::worked_orders;
 pub use others::worked_others;
+pub use passes::{wrong_censuses, wrong_notes, wrong_turns};
+pub use plans::{worked_levels, worked_measures};
 pub use puts::worked_puts;
 pub use scripts::worked_scripts;
+pub use trails::{worked_phases, worked_trails, wrong_numbers};
+pub use words::{worked_loads, worked_names, worked_numbers};
 pub use wrong::wrong_lines;

@@ -1,0 +1,23 @@
+use Rattle.std.proofs.Common.{◌≡◌, length, ◌++◌, subst}
+use Rattle.directory.specs.Courses.{highest}
+use Rattle.directory.specs.Histories.{own}
+use Rattle.directory.specs.Writes.{writes}
+use Rattle.region_plan.specs.Examples.{line_setting}
+use Rattle.tracker_calls.specs.WholeMoves.{puts_of_move}
+use Rattle.worked_examples.proofs.moves.worked_moves.Goals as goal
+
+pub returns-clause-count : goal.returns-clause-count
+unfolding writes highest
+returns-clause-count c = λ old new handset after moved made is first.
+    let own_steps = subst (λ n. length made.made
+    ≡ length (puts_of_move line_setting n made.steps 2)) is.low made.count in
+    subst (λ s. length made.made ≡ length (puts_of_move line_setting 0 s 2)) first own_steps
+
+pub returns-clause-visits : goal.returns-clause-visits
+unfolding writes highest
+returns-clause-visits c = λ old new handset after moved made is first.
+    let by = subst (λ n. own n new.view.seen
+    ≡ own n old.view.seen ++ puts_of_move line_setting n made.steps 2) is.low made.visits in
+    let alone = subst (λ s. own 0 new.view.seen
+    ≡ own 0 s ++ puts_of_move line_setting 0 made.steps 2) is.seen_is by in
+    subst (λ s. own 0 new.view.seen ≡ puts_of_move line_setting 0 s 2) first alone

@@ -1,0 +1,77 @@
+//! What whole finds over a tracker don't do, whether they answer or stop: each is wrong in one
+//! part.
+ghost use Rattle.std.specs.Prelude.{◌≡◌, ◌++◌, [], ◌∷◌, ℕ, List, Some, None, suc, slice_get};
+ghost use Rattle.directory.specs.Finds.{FindCall};
+ghost use Rattle.directory.specs.Histories.{History};
+ghost use Rattle.directory.specs.Standing.{number};
+ghost use Rattle.directory.specs.declared.answers.Found.TheVariants.{At, Off as OffAt, Again};
+ghost use Rattle.directory.specs.declared.answers.Why.TheVariants.{NoEntry};
+ghost use Rattle.region_plan.specs.Examples.{line_of_four};
+ghost use Rattle.region_plan.specs.Matched.{BoundsFinds};
+ghost use Rattle.station.specs.Passes.{PassData};
+ghost use Rattle.station.specs.Setup.{Setup};
+ghost use Rattle.station.specs.Views.{turn_at};
+ghost use Rattle.station.specs.declared.turns.Held.{Held};
+ghost use Rattle.tracker_calls.specs.Added.{HasAdded, KeepsHandsets};
+ghost use Rattle.tracker_calls.specs.Answers.{TellsRightly};
+ghost use Rattle.tracker_calls.specs.Finds.{HasStopped};
+ghost use Rattle.worked_examples.specs.Examples.{find_from};
+ghost use Rattle.worked_examples.specs.Passes.{HasPass, count_by, line_setup};
+
+/// Answers of a find from node 2 whose subscriber rests at node 3: of another node, number or
+/// state; none at all; beyond the bound; or older than what the pass had seen.
+pub fn wrong_answers()
+    ensures node { (old : PassData) → TellsRightly line_setup old (find_from 2)
+        (At 2 0 (Some 0) 5) (0 ∷ []) [] → ⊥ }
+    ensures number { (old : PassData) → TellsRightly line_setup old (find_from 2)
+        (At 3 1 (Some 0) 5) (0 ∷ []) [] → ⊥ }
+    ensures off { (old : PassData) → TellsRightly line_setup old (find_from 2)
+        (OffAt 3 0 (Some 0) 5) (0 ∷ []) [] → ⊥ }
+    ensures again { (setup : Setup) (old : PassData) (call : FindCall)
+        → TellsRightly setup old call (Again NoEntry 4) (0 ∷ []) [] → ⊥ }
+    ensures far { BoundsFinds line_of_four → (old : PassData)
+        → TellsRightly line_setup old (find_from 2) (At 3 0 (Some 0) 145) (0 ∷ []) [] → ⊥ }
+    ensures older { (setup : Setup) (old : PassData) (call : FindCall) (made : List ℕ)
+        (seen : History) → number call.sub old.view.seen ≡ 1
+        → TellsRightly setup old call (At 3 0 None 0) made seen → ⊥ }
+    ensures older_off { (setup : Setup) (old : PassData) (call : FindCall) (made : List ℕ)
+        (seen : History) → number call.sub old.view.seen ≡ 1
+        → TellsRightly setup old call (OffAt 3 0 None 0) made seen → ⊥ }
+{}
+
+/// A call that made a visit with ticket 4: it has used one of its spare, and is in no node.
+pub fn wrong_additions()
+    ensures spare { (setup : Setup) (old new : PassData) → HasAdded setup old (4 ∷ []) new
+        → new.spare ≡ old.spare → ⊥ }
+    ensures inside { (setup : Setup) (old new : PassData) → HasAdded setup old (4 ∷ []) new
+        → new.view.inside ≡ Some 1 → ⊥ }
+    ensures unseen { (setup : Setup) (old new : PassData) → HasPass old 1 [] → HasPass new 1 []
+        → HasAdded setup old (4 ∷ []) new → ⊥ }
+    ensures forgotten { (setup : Setup) (old new : PassData) → HasPass old 1 (count_by 0 0 ∷ [])
+        → HasPass new 1 [] → HasAdded setup old [] new → ⊥ }
+    ensures won_back { (setup : Setup) (old new : PassData) → HasAdded setup old (4 ∷ []) new
+        → old.view.lost ≡ turn_at 2 6 ∷ [] → new.view.lost ≡ [] → ⊥ }
+    ensures actor { (setup : Setup) (old new : PassData) → HasAdded setup old [] new
+        → HasPass old 0 [] → HasPass new 1 [] → ⊥ }
+{}
+
+/// A find that lost a turn has it as its last lost turn, at the node of its next look and to
+/// another actor; what it did before were its looks.
+pub fn wrong_stops()
+    ensures told { (setup : Setup) (old new : PassData) (call : FindCall)
+        → HasStopped setup old call (record { node = 2; by = 5 }) new
+        → new.view.lost ≡ old.view.lost ++ turn_at 2 6 ∷ [] }
+    ensures elsewhere { (old new : PassData)
+        (stopped : HasStopped line_setup old (find_from 2) (record { node = 1; by = 0 }) new)
+        → stopped.made ≡ [] → ⊥ }
+    ensures own { (setup : Setup) (old new : PassData) (call : FindCall) → HasPass old 5 []
+        → HasStopped setup old call (record { node = 2; by = 5 }) new → ⊥ }
+    ensures spare { (setup : Setup) (old new : PassData) (call : FindCall) (held : Held)
+        → HasStopped setup old call held new → new.spare ≡ suc old.spare → ⊥ }
+    ensures no_look { (setup : Setup) (old new : PassData) (call : FindCall) (held : Held)
+        (stopped : HasStopped setup old call held new) → stopped.made ≡ 4 ∷ []
+        → slice_get stopped.between.view.seen 4 ≡ Some (count_by 1 0) → ⊥ }
+    ensures keeps { (setup : Setup) (old new : PassData) (call : FindCall) (held : Held)
+        (stopped : HasStopped setup old call held new)
+        → KeepsHandsets setup old stopped.between }
+{}

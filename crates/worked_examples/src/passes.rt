@@ -1,0 +1,77 @@
+//! What a pass doesn't do when it loses a turn, takes a census or hears a note: each is wrong in
+//! one part.
+ghost use Rattle.std.specs.Prelude.{◌≡◌, ◌++◌, ◌<◌, [], ◌∷◌, ℕ, Some, None, suc, length};
+ghost use Rattle.directory.specs.Legal.{IsLegal};
+ghost use Rattle.station.specs.Passes.{NoteData, PassData};
+ghost use Rattle.station.specs.Setup.{setting_in, subs_in};
+ghost use Rattle.station.specs.Views.{turn_at};
+ghost use Rattle.station.specs.Visits.{HasHeard, HasLost, IsCensus};
+ghost use Rattle.worked_examples.specs.Passes.{HasNote, HasPass, count_by, line_setup};
+
+/// A turn that is lost is one at the node that was asked for, to another actor, and the pass has it
+/// as its last lost turn; nothing else changes.
+pub fn wrong_turns()
+    ensures elsewhere { (old new : PassData)
+        → HasLost old 2 (record { node = 1; by = 5 }) new → ⊥ }
+    ensures own { (old new : PassData) → HasPass old 5 []
+        → HasLost old 2 (record { node = 2; by = 5 }) new → ⊥ }
+    ensures untold { (old : PassData) → HasLost old 2 (record { node = 2; by = 5 }) old → ⊥ }
+    ensures told { (old new : PassData) → HasLost old 2 (record { node = 2; by = 5 }) new
+        → new.view.lost ≡ old.view.lost ++ turn_at 2 6 ∷ [] }
+    ensures spare { (old new : PassData) → HasLost old 2 (record { node = 2; by = 5 }) new
+        → suc new.spare ≡ old.spare → ⊥ }
+    ensures inside { (old new : PassData) → HasLost old 2 (record { node = 2; by = 5 }) new
+        → old.view.inside ≡ None → new.view.inside ≡ Some 2 → ⊥ }
+    ensures seen { (old new : PassData) → HasPass old 1 [] → HasPass new 1 (count_by 0 0 ∷ [])
+        → HasLost old 2 (record { node = 2; by = 5 }) new → ⊥ }
+{}
+
+/// The bits of a census are those of its subscribers, 0 and 2 here, and no others; and there are
+/// two.
+pub fn wrong_censuses()
+    ensures missing { IsCensus (0 ∷ 2 ∷ []) 4 2 → ⊥ }
+    ensures more { IsCensus (0 ∷ 2 ∷ []) 7 2 → ⊥ }
+    ensures higher { IsCensus (0 ∷ 2 ∷ []) 13 2 → ⊥ }
+    ensures few { IsCensus (0 ∷ 2 ∷ []) 5 1 → ⊥ }
+    ensures many { IsCensus (0 ∷ 2 ∷ []) 5 3 → ⊥ }
+{}
+
+/// A pass that hears a note has seen the longer of what it had seen and what was noted, and that
+/// goes on from both; its own visits, its spare, its node and its lost turns stay, and all that it
+/// has seen is legal and of known actors.
+pub fn wrong_notes()
+    ensures unheard { (old new : PassData) (note : NoteData) → HasPass old 0 []
+        → HasNote note (count_by 1 0 ∷ []) → HasPass new 0 [] → HasHeard old note new → ⊥ }
+    ensures forgotten { (old new : PassData) (note : NoteData)
+        → HasPass old 0 (count_by 1 0 ∷ []) → HasNote note [] → HasPass new 0 []
+        → HasHeard old note new → ⊥ }
+    ensures beyond { (old new : PassData) (note : NoteData) → HasPass old 0 []
+        → HasNote note (count_by 1 0 ∷ [])
+        → HasPass new 0 (count_by 1 0 ∷ count_by 1 1 ∷ []) → HasHeard old note new → ⊥ }
+    ensures other_note { (old new : PassData) (note : NoteData)
+        → HasPass old 0 (count_by 0 0 ∷ []) → HasNote note (count_by 1 0 ∷ [])
+        → HasHeard old note new → ⊥ }
+    ensures other_past { (old new : PassData) (note : NoteData)
+        → HasPass old 0 (count_by 1 0 ∷ [])
+        → HasNote note (count_by 1 1 ∷ count_by 1 0 ∷ []) → HasHeard old note new → ⊥ }
+    ensures own { (old new : PassData) (note : NoteData) → HasPass old 0 []
+        → HasNote note (count_by 0 0 ∷ []) → HasHeard old note new → ⊥ }
+    ensures unknown { (old new : PassData) (note : NoteData) → HasPass old 0 []
+        → HasNote note (count_by 2 0 ∷ []) → HasHeard old note new → ⊥ }
+    ensures spare { (old new : PassData) (note : NoteData) → HasHeard old note new
+        → suc new.spare ≡ old.spare → ⊥ }
+    ensures inside { (old new : PassData) (note : NoteData) → HasHeard old note new
+        → old.view.inside ≡ None → new.view.inside ≡ Some 2 → ⊥ }
+    ensures lost { (old new : PassData) (note : NoteData) → HasHeard old note new
+        → old.view.lost ≡ [] → new.view.lost ≡ turn_at 2 6 ∷ [] → ⊥ }
+    ensures seat { (old new : PassData) (note : NoteData) → HasHeard old note new
+        → new.seat ≡ suc old.seat → ⊥ }
+    ensures actor { (old new : PassData) (note : NoteData) → HasHeard old note new
+        → HasPass old 0 [] → HasPass new 1 [] → ⊥ }
+    ensures table { (old new : PassData) (note : NoteData) → HasHeard old note new
+        → new.table ≡ old.table }
+    ensures setup { (old new : PassData) (note : NoteData) → HasHeard old note new
+        → new.view.setup ≡ old.view.setup }
+    ensures legal { (old new : PassData) (note : NoteData) → HasPass old 0 []
+        → HasHeard old note new → IsLegal (setting_in line_setup) 0 new.view.seen }
+{}

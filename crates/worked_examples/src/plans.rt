@@ -1,0 +1,33 @@
+//! The measures of plans, computed.
+ghost use Rattle.std.specs.Prelude.{◌≡◌, [], ◌∷◌, map};
+ghost use Rattle.region_plan.specs.Examples.{line_level, line_level_0, line_of_four, mean_line_of_four};
+ghost use Rattle.region_plan.specs.Measures.{degree_in, degree_of, most, stretch_of};
+ghost use Rattle.region_plan.specs.Regions.{threshold_of, top_for};
+ghost use Rattle.stretch_laws.specs.Plans.{bound_of};
+ghost use Rattle.stretch_laws.specs.Tracking.{radius, resting_stretch, stretch};
+
+/// Thresholds and radii double from level to level, and the top level is the least whose radius
+/// reaches the diameter.
+pub fn worked_levels()
+    ensures thresholds { map threshold_of (0 ∷ 1 ∷ 2 ∷ 3 ∷ 4 ∷ 5 ∷ [])
+        ≡ 1 ∷ 1 ∷ 2 ∷ 4 ∷ 8 ∷ 16 ∷ [] }
+    ensures radii { map radius (0 ∷ 1 ∷ 2 ∷ 5 ∷ []) ≡ 1 ∷ 2 ∷ 4 ∷ 32 ∷ [] }
+    ensures tops { map top_for (0 ∷ 1 ∷ 2 ∷ 3 ∷ 4 ∷ 5 ∷ 8 ∷ 9 ∷ [])
+        ≡ 0 ∷ 0 ∷ 1 ∷ 2 ∷ 2 ∷ 3 ∷ 3 ∷ 4 ∷ [] }
+{}
+
+/// How many clusters nodes read, and how many times its distance a find may travel: at the lowest
+/// level two nodes are in both clusters.
+pub fn worked_measures()
+    ensures greatest { most (3 ∷ 5 ∷ 4 ∷ []) ≡ 5 }
+    ensures none { most [] ≡ 0 }
+    ensures lowest { degree_in line_level_0 ≡ 2 }
+    ensures higher { degree_in (line_level 1 1) ≡ 1 }
+    ensures degree { degree_of line_of_four ≡ 2 }
+    ensures stretch { stretch_of line_of_four ≡ 144 }
+    ensures mean_stretch { stretch_of mean_line_of_four ≡ 232 }
+    ensures bound { bound_of line_of_four 3 5 ≡ 442 }
+    ensures tracking { stretch 3 2 ≡ 137 }
+    ensures resting { resting_stretch 3 2 ≡ 112 }
+    ensures resting_other { resting_stretch 5 7 ≡ 584 }
+{}

@@ -1,0 +1,67 @@
+//! What the laws of marks and of phases say of the line of four, and the phases of its move from
+//! node 3 to node 2.
+ghost use Rattle.std.specs.Prelude.{◌≡◌, ◌<◌, ◌≤◌, [], ◌∷◌, ℕ};
+ghost use Rattle.entry_word.specs.declared.mark.PresenceMark.TheVariants.{Coming, Gone, Here, Off};
+ghost use Rattle.directory.specs.Courses.{move_to};
+ghost use Rattle.directory.specs.Histories.{History, before};
+ghost use Rattle.directory.specs.Legal.{IsLegal};
+ghost use Rattle.directory.specs.Writes.{visits};
+ghost use Rattle.region_plan.specs.Examples.{line_setting};
+ghost use Rattle.trail_laws.specs.Phases.{IsAtRest, IsBeforeCommit, IsPassingFrom, IsSettled, PhasesCover};
+ghost use Rattle.trail_laws.specs.Trail.{GoesUp, NumbersGoUp, OneComing};
+ghost use Rattle.worked_examples.specs.Trails.{line_mark};
+
+/// After a legal history of the subscriber: where a Coming is at node 2, none is elsewhere; behind
+/// a Gone with number 4 that leads to node 2, the mark there has no lower number, and a Gone a
+/// higher one; and where no move waits for its commit and no passage is open, the subscriber is
+/// settled.
+pub fn worked_trails()
+    ensures one { OneComing → (history : History) → IsLegal line_setting 0 history
+        → (other p q u v : ℕ) → other < 4 → line_mark history 2 ≡ Coming p u
+        → line_mark history other ≡ Coming q v → 2 ≡ other }
+    ensures there { NumbersGoUp → (history : History) → IsLegal line_setting 0 history
+        → (number : ℕ) → line_mark history 3 ≡ Gone 4 2 → line_mark history 2 ≡ Here number
+        → 4 ≤ number }
+    ensures on { NumbersGoUp → (history : History) → IsLegal line_setting 0 history
+        → (number : ℕ) → line_mark history 3 ≡ Gone 4 2 → line_mark history 2 ≡ Gone number 1
+        → 4 < number }
+    ensures cover { PhasesCover → (history : History) → IsLegal line_setting 0 history
+        → (IsBeforeCommit line_setting 0 history → ⊥)
+        → ((from : ℕ) → IsPassingFrom line_setting 0 history from → ⊥)
+        → IsSettled line_setting 0 history }
+{}
+
+/// The phases of the move, of whose six puts the fourth is the commit and the fifth the confirm:
+/// each holds where it is said, and not a put earlier or later.
+pub fn worked_phases()
+    ensures begun { IsBeforeCommit line_setting 0
+        (before 3 (visits line_setting 0 (move_to 2 ∷ []))) }
+    ensures unbegun { IsBeforeCommit line_setting 0 [] → ⊥ }
+    ensures committed { IsBeforeCommit line_setting 0
+        (before 4 (visits line_setting 0 (move_to 2 ∷ []))) → ⊥ }
+    ensures passing { IsPassingFrom line_setting 0
+        (before 4 (visits line_setting 0 (move_to 2 ∷ []))) 3 }
+    ensures passing_elsewhere { IsPassingFrom line_setting 0
+        (before 4 (visits line_setting 0 (move_to 2 ∷ []))) 1 → ⊥ }
+    ensures early { IsPassingFrom line_setting 0
+        (before 3 (visits line_setting 0 (move_to 2 ∷ []))) 3 → ⊥ }
+    ensures confirmed { IsPassingFrom line_setting 0
+        (before 5 (visits line_setting 0 (move_to 2 ∷ []))) 3 → ⊥ }
+    ensures settled { IsSettled line_setting 0
+        (before 5 (visits line_setting 0 (move_to 2 ∷ []))) }
+    ensures unsettled { IsSettled line_setting 0
+        (before 4 (visits line_setting 0 (move_to 2 ∷ []))) → ⊥ }
+    ensures waiting { IsSettled line_setting 0
+        (before 1 (visits line_setting 0 (move_to 2 ∷ []))) → ⊥ }
+    ensures rest { IsAtRest line_setting 0 (visits line_setting 0 (move_to 2 ∷ [])) }
+    ensures unrested { IsAtRest line_setting 0
+        (before 5 (visits line_setting 0 (move_to 2 ∷ []))) → ⊥ }
+{}
+
+/// What no mark behind a Gone with number 4 may be.
+pub fn wrong_numbers()
+    ensures same { GoesUp 4 (Gone 4 1) → ⊥ }
+    ensures here { GoesUp 4 (Here 3) → ⊥ }
+    ensures coming { GoesUp 4 (Coming 3 0) → ⊥ }
+    ensures off { GoesUp 4 (Off 3) → ⊥ }
+{}
