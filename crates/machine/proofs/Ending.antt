@@ -24,7 +24,7 @@ use Rattle.machine.specs.Stands.{setting_over}
 use Rattle.machine.specs.Subscribers.{IsSubscriber, begun_steps}
 use Rattle.machine.specs.Machines.{HasHistory, input_at, scripts_at, setting_at}
 use Rattle.scripts.specs.ScriptLaws.{finds-are, steps-are}
-use Rattle.machine.proofs.Steps.{some-write}
+use Rattle.machine.specs.ScriptVisits.{some-write}
 use Rattle.directory.specs.HistoryLaws.{next-sub}
 
 take-drop : {A : Type 0} (n : ℕ) (xs : List A) → take n xs ++ drop n xs ≡ xs

@@ -1,8 +1,8 @@
 -- A subscriber at rest: that nothing is left, or how far it is after the first visit of its next step.
-use Rattle.std.proofs.Common.{◌≡◌, ℕ, suc, ◌<◌, ◌≤◌, true, false, List, [], ◌∷◌, ◌++◌, length, map, take, get_or, sym, ap, ◌∙◌, subst, arith, length-append}
-use Rattle.std.specs.Prelude.{Some, None, slice_get, vec_capacity, unwrap_or}
-use Rattle.std.proofs.lemmas.Option.{slice_get_past, unwrap_or-slice_get}
-use Rattle.std.proofs.lemmas.List.{append-nil, take_all, length_push, length-map, get_or-map, same_from_push}
+use Rattle.std.proofs.Common.{◌≡◌, ℕ, suc, ◌<◌, ◌≤◌, true, false, List, [], ◌∷◌, ◌++◌, length, take, get_or, sym, ap, ◌∙◌, subst, arith, length-append}
+use Rattle.std.specs.Prelude.{Some, None, slice_get, vec_capacity}
+use Rattle.std.proofs.lemmas.Option.{slice_get_past}
+use Rattle.std.proofs.lemmas.List.{append-nil, take_all, length_push, length-map, same_from_push}
 use Rattle.entry_word.specs.declared.visit.Visit.{Visit}
 use Rattle.directory.specs.Settings.{Setting, start}
 use Rattle.directory.specs.Courses.{Course, MayStep, Step, after_steps, course_at, move_to, switch_off, switch_on}
@@ -31,24 +31,12 @@ use Rattle.machine.specs.RestLaws.{IsStep, course-steps, may-begin, rests}
 use Rattle.machine.specs.Stands.{BelongTogether, setting_over}
 use Rattle.machine.specs.Subscribers.{IsSubscriber, MayBegin, begun_line, begun_steps}
 use Rattle.scripts.specs.ScriptLaws.{steps-are}
-use Rattle.machine.proofs.Steps.{lines-partial, some-write}
+use Rattle.machine.specs.ScriptVisits.{some-write, step-at}
+use Rattle.machine.proofs.Steps.{lines-partial}
 use Rattle.machine.proofs.Seen.{Seen, seen-after, step-allowed}
 use Rattle.directory.specs.HistoryLaws.{next-sub, tickets-count}
 use Rattle.directory.specs.Statements.{TicketsGrow, OwnGrow, TicketsAreOwn}
 use Rattle.handset.specs.StageLaws.{IsRestAfter}
-
--- the step of the call at a place of a script
-step-at : (input : Contents) (sub k : ℕ) (call : Call) → IsValid input → sub < length input.homes
-    → k < length (get_or input.scripts sub []) → call ≡ get_or (get_or input.scripts sub []) k call
-    → slice_get (steps_of (scripts_of input) sub) k ≡ Some (step_of call)
-step-at input sub k call valid low short same =
-    let script : List Call = get_or input.scripts sub [] in
-    let found = slice_get-within (map step_of script) k (omega (arith, short, length-map script step_of)) in
-    let is : found.0 ≡ step_of call =
-    ap (λ o. unwrap_or o (step_of call)) (sym found.1)
-    ∙ (unwrap_or-slice_get (map step_of script) k (step_of call)
-    ∙ (get_or-map step_of script k call (step_of call) short ∙ ap step_of (sym same))) in
-    ap (λ ss. slice_get ss k) (steps-are input sub valid low) ∙ (found.1 ∙ ap Some is)
 
 -- the call that a subscriber at rest begins
 pub record Begins (input : Contents) (plan : PlanData) (history : History) (sub : ℕ) (old : Subscriber)
@@ -127,7 +115,7 @@ begins scripts input plan distances history sub old call together low its none s
     let more : take (suc (length old.lines.items)) (steps_of (scripts_of input) sub)
     ≡ begun_steps input sub old ++ step_of call ∷ [] =
     take-more (steps_of (scripts_of input) sub) (length old.lines.items) (step_of call)
-    (step-at input sub (length old.lines.items) call together.valid low short same) in
+    (step-at input sub (length old.lines.items) call together.valid low short ∙ ap (λ c. Some (step_of c)) (sym same)) in
     let allowed =
     step-allowed scripts input plan distances sub (suc (length old.lines.items)) (begun_steps input sub old)
     (step_of call) together low more in

@@ -17,16 +17,12 @@ use Rattle.distances.specs.Table.{DistanceTable}
 use Rattle.scripts.specs.Scripts.{scripts_of}
 use Rattle.machine.specs.Stands.{BelongTogether, over, setting_over}
 use Rattle.scripts.specs.Laws.{ScriptsAreValid}
+use Rattle.machine.specs.ScriptVisits.{in-script}
 use Rattle.machine.proofs.Steps.{may-at}
 use Rattle.directory.specs.HistoryLaws.{next-sub}
 use Rattle.directory.specs.Statements.{TicketsGrow, OwnGrow}
 
 -- elements of joined lists
-get-left : {A : Type 0} (xs ys : List A) (i : ℕ) (x : A) → slice_get xs i ≡ Some x → slice_get (xs ++ ys) i ≡ Some x
-get-left [] ys i x h = cc
-get-left (y ∷ xs) ys zero x h = h
-get-left (y ∷ xs) ys (suc i) x h = get-left xs ys i x h
-
 get-right : {A : Type 0} (xs ys : List A) (i j : ℕ) → i ≡ length xs + j → slice_get (xs ++ ys) i ≡ slice_get ys j
 get-right [] ys i j h = let e : i ≡ j = omega (arith, h) in ap (slice_get ys) e
 get-right (x ∷ xs) ys zero j h = absurd (omega (arith, h))
@@ -54,15 +50,6 @@ pub steps-last : (setting : Setting) (sub n : ℕ) (steps : List Step) (visit : 
 unfolding writes
 steps-last setting sub n [] visit h = cc
 steps-last setting sub n (step ∷ steps) visit h = has-last step steps
-
--- the visits of the first steps of a script are its first visits
-in-script : (setting : Setting) (sub k n : ℕ) (steps : List Step) (visit : Visit)
-    → slice_get (visits setting sub (take k steps)) n ≡ Some visit → slice_get (visits setting sub steps) n ≡ Some visit
-in-script setting sub k n steps visit h =
-    ap (λ ss. slice_get (visits setting sub ss) n) (sym (take-append-drop k steps))
-    ∙ (ap (λ vs. slice_get vs n)
-    (visits-append setting sub (course_at (start setting sub)) (take k steps) (drop k steps))
-    ∙ get-left (visits setting sub (take k steps)) _ n visit h)
 
 -- the visits of the last of some steps
 pub last-visit : (setting : Setting) (sub n : ℕ) (before : List Step) (step : Step) (visit : Visit)

@@ -60,12 +60,6 @@ lines-count setting sub course [] seen = refl
 lines-count setting sub course (one ∷ done) seen =
     ap suc (lines-count setting sub (after_step setting course one) done _)
 
--- each step writes something
-pub some-write : (setting : Setting) (course : Course) (step : Step) → 1 ≤ length (step_writes setting course step)
-some-write setting course (move_to node) = omega arith
-some-write setting course switch_off = omega arith
-some-write setting course switch_on = omega arith
-
 -- of the visits of a move the one behind the new addresses commits it, and no other
 AllQuiet : ℕ → List Write → Type 0
 AllQuiet sub [] = Unit {0}

@@ -4,3 +4,4 @@ pub mod Subscribers
 pub mod Machines
 pub mod WalkingLaws
 pub mod RestLaws
+pub mod ScriptVisits

@@ -2,7 +2,7 @@
 use Rattle.std.proofs.Common.{◌≡◌, inl, inr, length-append, ℕ, suc, ◌+◌, ◌*◌, ◌^◌, ◌<◌, ◌≤◌, cond, List, [], ◌∷◌, ◌++◌, length, map, drop, get_or, refl, sym, ap, ◌∙◌, subst, arith, Vec, Global}
 use Rattle.std.specs.Prelude.{◌&&◌, All, None, count_by, nat_lt, sum_by}
 use Rattle.std.proofs.lemmas.Bool.{lt-ltb}
-use Rattle.std.proofs.lemmas.List.{append-nil, get_or-map, length-map, length_push}
+use Rattle.std.proofs.lemmas.List.{append-nil, get_or-map, length-map, length_push, map-append}
 use Rattle.std.proofs.lemmas.List.Sums.{count_by-le-length, fold-append, sum_by_push}
 use Rattle.directory.specs.Amid.{course_of}
 use Rattle.directory.specs.Settings.{Setting, start}
@@ -45,17 +45,13 @@ drop-front : {A : Type 0} (xs ys : List A) → drop (length xs) (xs ++ ys) ≡ y
 drop-front [] ys = refl
 drop-front (x ∷ xs) ys = drop-front xs ys
 
-map-joined : {A B : Type 0} (f : A → B) (xs ys : List A) → map f (xs ++ ys) ≡ map f xs ++ map f ys
-map-joined f [] ys = refl
-map-joined f (x ∷ xs) ys = ap (λ zs. f x ∷ zs) (map-joined f xs ys)
-
 -- the visits of one step more
 pub visits-more : (setting : Setting) (sub : ℕ) (steps : List Step) (step : Step)
     → visits setting sub (steps ++ step ∷ []) ≡ visits setting sub steps
     ++ map (visit_of sub) (step_writes setting (course_of setting sub steps) step)
 visits-more setting sub steps step =
     ap (map (visit_of sub)) (writes-more setting (course_at (start setting sub)) steps step)
-    ∙ map-joined (visit_of sub) (writes setting (course_at (start setting sub)) steps)
+    ∙ map-append (visit_of sub) (writes setting (course_at (start setting sub)) steps)
     (step_writes setting (course_of setting sub steps) step)
 
 -- two lines that say the same are the same

@@ -1,28 +1,28 @@
 -- A subscriber's part of a worker: the next step of its script begins, and its next put is made.
-use Rattle.std.proofs.Common.{◌≡◌, ◌≢◌, ℕ, zero, suc, ◌-◌, ◌<◌, ◌≤◌, true, false, List, [], ◌∷◌, ◌++◌, Option, length, map, take, drop, get_or, refl, sym, ap, ◌∙◌, subst, arith, length-append}
-use Rattle.std.specs.Prelude.{Some, None, slice_get, option_map, unwrap_or, IfSome, IsSome}
+use Rattle.std.proofs.Common.{◌≡◌, ◌≢◌, ℕ, suc, ◌-◌, ◌<◌, ◌≤◌, true, false, List, [], ◌∷◌, ◌++◌, Option, length, take, get_or, refl, sym, ap, ◌∙◌, subst, arith}
+use Rattle.std.specs.Prelude.{Some, None, slice_get, option_map, IfSome, IsSome}
 use Rattle.std.specs.Option.{is_some}
-use Rattle.std.proofs.lemmas.Option.{slice_get_within, unwrap_or-slice_get}
-use Rattle.std.proofs.lemmas.List.{append-nil, take_all, take-append-drop, length_push, length-map, get_or-map}
+use Rattle.std.proofs.lemmas.Option.{slice_get_within}
+use Rattle.std.proofs.lemmas.List.{append-nil, take_all, length_push, length-map}
 use Rattle.entry_word.specs.declared.visit.Visit.{Visit}
 use Rattle.directory.specs.Settings.{Setting, start}
-use Rattle.directory.specs.Courses.{Course, MayStep, MaySteps, Step, after_step, after_steps, course_at, move_to, switch_off, switch_on}
+use Rattle.directory.specs.Courses.{MayStep, MaySteps, Step, course_at}
 use Rattle.directory.specs.Amid.{course_of}
 use Rattle.directory.specs.Histories.{own, puts_to}
 use Rattle.directory.specs.HistoryLaws.{next-sub}
 use Rattle.directory.specs.Legal.{IsScript}
 use Rattle.directory.specs.Orders.{AreValid, next, script_visits, steps_of}
-use Rattle.directory.specs.StepLaws.{past-end, slice_get-within, take-append, take-more, visits-append, visits_in, writes-append}
-use Rattle.directory.specs.Writes.{step_writes, visit_of, visits, writes}
+use Rattle.directory.specs.StepLaws.{past-end, take-append, take-more, visits-append, visits_in}
+use Rattle.directory.specs.Writes.{visit_of, visits}
 use Rattle.handset.specs.Kept.{GoesWith, HandsetData}
 use Rattle.handset.specs.Progress.{due, due_at}
 use Rattle.handset.specs.StageLaws.{IsRestAfter}
 use Rattle.handset.specs.Stands.{StandsForSteps}
 use Rattle.machine.specs.RestLaws.{IsStep, course-steps, may-begin, rests}
+use Rattle.machine.specs.ScriptVisits.{in-script, may-at, may-take, step-at, visits-longer}
 use Rattle.machine.specs.Subscribers.{MayBegin}
 use Rattle.net_reader.specs.declared.said.Call.{Call}
 use Rattle.net_reader.specs.Input.{Contents}
-use Rattle.net_reader.specs.Valid.{IsValid}
 use Rattle.distances.specs.Table.{DistanceTable}
 use Rattle.region_plan.specs.Plan.{PlanData}
 use Rattle.region_plan.specs.Settings.{setting_of}
@@ -59,75 +59,6 @@ due-actor : (setting : Setting) (handset : HandsetData) (visit : Visit) → due 
 due-actor setting handset visit is =
     let found = some-of (visit_of handset.sub) (due_at setting handset handset.stage) visit is in
     subst (λ (v : Visit). v ≡ record { actor = handset.sub; act = v.act }) found.1 refl
-
--- the step of the call at a place of a script
-step-at : (input : Contents) (sub k : ℕ) (d : Call) → IsValid input → sub < length input.homes
-    → k < length (get_or input.scripts sub [])
-    → slice_get (steps_of (scripts_of input) sub) k ≡ Some (step_of (get_or (get_or input.scripts sub []) k d))
-step-at input sub k d valid low short =
-    let script : List Call = get_or input.scripts sub [] in
-    let found = slice_get-within (map step_of script) k (omega (arith, short, length-map script step_of)) in
-    let is : found.0 ≡ step_of (get_or script k d) =
-    ap (λ o. unwrap_or o (step_of d)) (sym found.1)
-    ∙ (unwrap_or-slice_get (map step_of script) k (step_of d)
-    ∙ get_or-map step_of script k d (step_of d) short) in
-    ap (λ ss. slice_get ss k) (steps-are input sub valid low) ∙ (found.1 ∙ ap Some is)
-
--- the first steps of steps that may be made, and the one after them
-may-take : (setting : Setting) (course : Course) (steps : List Step) (k : ℕ) → MaySteps setting course steps
-    → MaySteps setting course (take k steps)
-unfolding MaySteps
-may-take setting course steps zero h = tt
-may-take setting course [] (suc k) h = tt
-may-take setting course (step ∷ steps) (suc k) h =
-    (h.0, may-take setting (after_step setting course step) steps k h.1)
-
-may-at : (setting : Setting) (course : Course) (steps : List Step) (k : ℕ) (step : Step)
-    → MaySteps setting course steps → slice_get steps k ≡ Some step
-    → MayStep setting (after_steps setting course (take k steps)) step
-unfolding MaySteps
-may-at setting course [] k step h at = cc
-may-at setting course (one ∷ steps) zero step h at =
-    let e : one ≡ step = cc in subst (MayStep setting course) e h.0
-may-at setting course (one ∷ steps) (suc k) step h at =
-    may-at setting (after_step setting course one) steps k step h.1 at
-
--- each step writes something
-some-write : (setting : Setting) (course : Course) (step : Step) → 1 ≤ length (step_writes setting course step)
-some-write setting course (move_to node) = omega arith
-some-write setting course switch_off = omega arith
-some-write setting course switch_on = omega arith
-
--- one step more adds a visit at least
-visits-longer : (setting : Setting) (sub : ℕ) (steps : List Step) (step : Step)
-    → length (visits setting sub steps) < length (visits setting sub (steps ++ step ∷ []))
-unfolding writes
-visits-longer setting sub steps step =
-    let course : Course = course_at (start setting sub) in
-    let last : Course = after_steps setting course steps in
-    omega (
-      arith,
-      some-write setting last step,
-      ap length (append-nil (step_writes setting last step)),
-      length-map (writes setting course (steps ++ step ∷ [])) (visit_of sub),
-      length-map (writes setting course steps) (visit_of sub),
-      ap length (writes-append setting course steps (step ∷ [])),
-      length-append (writes setting course steps) (writes setting last (step ∷ [])),
-    )
-
--- the visits of the first steps of a script are its first visits
-get-left : {A : Type 0} (xs ys : List A) (i : ℕ) (x : A) → slice_get xs i ≡ Some x → slice_get (xs ++ ys) i ≡ Some x
-get-left [] ys i x h = cc
-get-left (y ∷ xs) ys zero x h = h
-get-left (y ∷ xs) ys (suc i) x h = get-left xs ys i x h
-
-in-script : (setting : Setting) (sub k n : ℕ) (steps : List Step) (visit : Visit)
-    → slice_get (visits setting sub (take k steps)) n ≡ Some visit → slice_get (visits setting sub steps) n ≡ Some visit
-in-script setting sub k n steps visit h =
-    ap (λ ss. slice_get (visits setting sub ss) n) (sym (take-append-drop k steps))
-    ∙ (ap (λ vs. slice_get vs n)
-    (visits-append setting sub (course_at (start setting sub)) (take k steps) (drop k steps))
-    ∙ get-left (visits setting sub (take k steps)) _ n visit h)
 
 -- the next visit of a subscriber is what its handset writes next, once a step is begun where one is left
 next-due : (input : Contents) (setup : Setup) (view : View) (spare : ℕ) (mover : Mover) (result : Option Visit)
