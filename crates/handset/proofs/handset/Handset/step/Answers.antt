@@ -3,7 +3,7 @@ use Rattle.region_plan.specs.Plan.{nodes_of}
 use Rattle.handset.specs.declared.stage.Stage.TheVariants.{Confirming, Erasing, Purging}
 use Rattle.handset.specs.Kept.{HandsetData}
 use Rattle.handset.proofs.Going.{IsLate, goes-next, erasing-is-late, purging-by-count}
-use Rattle.handset.proofs.handset.Handset.advance.Goals as goal
+use Rattle.handset.proofs.handset.Handset.step.Goals as goal
 
 pub returns-in-Confirming-clause-goes : goal.returns-in-Confirming-clause-goes
 returns-in-Confirming-clause-goes c =
