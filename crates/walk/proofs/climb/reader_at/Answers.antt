@@ -3,7 +3,7 @@ use Rattle.node_set.specs.Ascending.{has}
 use Rattle.region_plan.specs.Plan.{clusters_of, members_of}
 use Rattle.walk.specs.ReaderLaws.{reader-held}
 use Rattle.walk.proofs.Readers.{readers-few}
-use Rattle.walk.proofs.steps.reader_at.Goals as goal
+use Rattle.walk.proofs.climb.reader_at.Goals as goal
 
 pub returns-clause-few : goal.returns-clause-few
 returns-clause-few c = readers-few c.args.plan.now c.args.level c.args.from c.requires.matched

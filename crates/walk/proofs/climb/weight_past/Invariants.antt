@@ -1,6 +1,6 @@
 use Rattle.std.proofs.Common.{◌≡◌, ◌≤◌, ◌+◌, ◌*◌, ◌^◌}
 use Rattle.walk.specs.Climbs.{weight_past}
-use Rattle.walk.proofs.steps.weight_past.Given as goal
+use Rattle.walk.proofs.climb.weight_past.Given as goal
 
 abbrev pub invariant-loop-passed : goal.invariant-loop-passed
 invariant-loop-passed l = record {

@@ -4,7 +4,7 @@ use Rattle.directory.specs.Settings.{levels}
 use Rattle.region_plan.specs.Plan.{readers}
 use Rattle.region_plan.specs.Settings.{setting_of}
 use Rattle.walk.proofs.Readers.{above-more, above-empty, empty-means}
-use Rattle.walk.proofs.steps.climb_from.Goals as goal
+use Rattle.walk.proofs.climb.climb_from.Goals as goal
 
 pub returns-then-not-is_empty-clause-stage : goal.returns-then-not-is_empty-clause-stage
 returns-then-not-is_empty-clause-stage c =

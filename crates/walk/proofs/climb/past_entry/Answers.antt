@@ -5,7 +5,7 @@ use Rattle.std.specs.Prelude.{get_or}
 use Rattle.region_plan.specs.Settings.{setting_of}
 use Rattle.walk.specs.Walks.{readers_above}
 use Rattle.walk.proofs.Readers.{readers-spent}
-use Rattle.walk.proofs.steps.past_entry.Goals as goal
+use Rattle.walk.proofs.climb.past_entry.Goals as goal
 
 pub returns-else-index-readers-clause-stage : goal.returns-else-index-readers-clause-stage
 returns-else-index-readers-clause-stage c = λ sub.
