@@ -4,21 +4,44 @@ ghost use Rattle.handset.specs.Kept.{GoesWith};
 
 use distances::Distances;
 use entry_word::{Act, Address, Key, PresenceMark, Visit, pack_address, pack_mark};
-use handset::{Handset, MoveFault, SwitchFault};
+use handset::{EntryWrite, Handset, MoveFault, SwitchFault};
 use region_plan::Plan;
 use std::alloc::Global;
 use std::process::Abort;
 use std::test::Fail;
 use test_networks::{line_of_four, plan_of_most_nodes, plan_past_two_words};
 
-// Makes the write that comes next.
+// Makes the write that comes next: an entry of every other move in its short way, a write that
+// commits in two calls, all others in one.
 fn write(handset: &mut Handset, plan: &Plan) -> Option<Visit>
     requires { GoesWith plan.now handset.old }
     ensures { GoesWith plan.now handset.new }
 {
+    if handset.number() % 2 == 0 {
+        if let Some(write) = handset.write_entry(plan) {
+            return put_entry(write);
+        }
+    }
+    if !handset.commits() {
+        return handset.write(plan);
+    }
     let visit = handset.next(plan)?;
     handset.made(plan);
     Some(visit)
+}
+
+fn put_entry(write: EntryWrite) -> Option<Visit> {
+    let EntryWrite {
+        level,
+        cluster,
+        word,
+    } = write;
+    let key = Key::Entry {
+        level,
+        cluster,
+        sub: 0,
+    };
+    put(key, word)
 }
 
 // Begins a switch.

@@ -137,6 +137,8 @@ enum Step {
     /// Passes so many entries that hold nothing.
     Pass(usize),
     ReadNothing,
+    /// Reads nothing, at an entry.
+    ReadEmptyEntry,
     ReadSubscriber,
     ReadComing,
     ReadGoneToLast,
@@ -153,6 +155,8 @@ enum Seen {
     Ahead(Option<(u32, usize)>),
     /// There are too few entries ahead.
     TooFew,
+    /// It isn't at an entry.
+    NoEntry,
     Read,
     NoSuchNode,
 }
@@ -183,6 +187,20 @@ fn pass(walk: &mut Walk, plan: &Plan, count: usize) -> Seen
     Seen::Read
 }
 
+// The walk reads nothing, if it is at an entry.
+fn read_empty_entry(walk: &mut Walk, plan: &Plan) -> Seen
+    requires goes { IsWalkOver plan.now walk.old }
+    requires matched { IsMatched plan.now }
+    requires reached { IsWithinReach plan.now }
+    ensures { IsWalkOver plan.now walk.new }
+{
+    if !walk.is_climbing() {
+        return Seen::NoEntry;
+    }
+    walk.saw_nothing(plan);
+    Seen::Read
+}
+
 fn take(walk: &mut Walk, plan: &Plan, distances: &Distances, step: Step) -> Seen
     requires goes { IsWalkOver plan.now walk.old }
     requires belongs { plan.now.distances ≡ distances.now }
@@ -195,6 +213,7 @@ fn take(walk: &mut Walk, plan: &Plan, distances: &Distances, step: Step) -> Seen
         Step::Answer => return Seen::Answer(walk.answer()),
         Step::Ahead => return Seen::Ahead(ahead(walk, plan)),
         Step::Pass(count) => return pass(walk, plan, count),
+        Step::ReadEmptyEntry => return read_empty_entry(walk, plan),
         Step::ReadNothing => see_nothing(walk, plan, distances),
         Step::ReadSubscriber => see_subscriber(walk, plan, distances),
         Step::ReadComing => see_coming(walk, plan, distances),
@@ -299,6 +318,7 @@ fn no_entry_at_once(rt: HostRuntime) -> Result<(), Fail> {
     let script = [
         (Step::Ahead, Seen::Ahead(None)),
         (Step::Pass(0), Seen::TooFew),
+        (Step::ReadEmptyEntry, Seen::NoEntry),
         (Step::ReadNothing, Seen::Read),
         (Step::Ahead, Seen::Ahead(Some((0, 2)))),
         (Step::Pass(2), Seen::TooFew),
@@ -308,10 +328,11 @@ fn no_entry_at_once(rt: HostRuntime) -> Result<(), Fail> {
         (Step::Next, entry(0, 1, 0)),
         (Step::Ahead, Seen::Ahead(Some((0, 1)))),
         (Step::Pass(1), Seen::TooFew),
-        (Step::ReadNothing, Seen::Read),
+        (Step::ReadEmptyEntry, Seen::Read),
         (Step::Next, entry(1, 0, 0)),
-        (Step::ReadNothing, Seen::Read),
-        (Step::ReadNothing, Seen::Read),
+        (Step::ReadEmptyEntry, Seen::Read),
+        (Step::ReadEmptyEntry, Seen::Read),
+        (Step::ReadEmptyEntry, Seen::NoEntry),
         (Step::Answer, again(Why::NoEntry, 18)),
     ];
     play_on_line(&rt, rt.alloc(), &script)

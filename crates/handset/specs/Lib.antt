@@ -4,3 +4,4 @@ pub mod Beginning
 pub mod Stands
 pub mod Trails
 pub mod StageLaws
+pub mod Entries

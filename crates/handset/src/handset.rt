@@ -1,30 +1,23 @@
 //! A subscriber's handset.
-ghost use Rattle.std.specs.Prelude.{◌≡◌, ◌<◌, ◌≤◌, ◌+◌, ◌-◌, ◌^◌, ◌++◌, ◌∷◌, [], ℕ, List, slice_get, suc, true, false, not, ◌==◌, ◌&&◌, if◌then◌else◌, length, drop, replicate, IfOk, IsSome, OnOk, OnErr, None, Some, MatchResult, slice_index, slice_index_or, take};
-ghost use Rattle.entry_word.specs.declared.visit.Visit.{Visit};
-ghost use Rattle.entry_word.specs.declared.mark.PresenceMark.TheVariants.{Off, Here};
+ghost use Rattle.std.specs.Prelude.{◌≡◌, ◌<◌, ◌≤◌, ◌+◌, ◌-◌, ◌^◌, ◌++◌, ◌∷◌, [], ℕ, List, false, ◌==◌, if◌then◌else◌, IfOk, OnOk, OnErr, None, Some, MatchResult, slice_index, take};
 ghost use Rattle.directory.specs.Settings.{Setting};
 ghost use Rattle.directory.specs.Courses.{Step, move_to};
 ghost use Rattle.directory.specs.Histories.{History, puts_to};
 ghost use Rattle.directory.specs.Standing.{number, off, standing};
-ghost use Rattle.directory.specs.Writes.{entry_at, mark_at, visit_of, visits};
-ghost use Rattle.region_plan.specs.Plan.{PlanData, home, levels_of, nodes_of};
+ghost use Rattle.directory.specs.Writes.{visits};
+ghost use Rattle.region_plan.specs.Plan.{PlanData, home, nodes_of};
 ghost use Rattle.region_plan.specs.Kept.{IsKept};
 ghost use Rattle.region_plan.specs.Settings.{setting_of};
 ghost use Rattle.handset.specs.Kept.{GoesWith};
-ghost use Rattle.handset.specs.Progress.{after_write, due, erasing_from, first_with, go_on, is_behind, purging_at, settle};
-ghost use Rattle.handset.specs.Stands.{StandsForSteps, is_commit, switch_to};
-ghost use Rattle.handset.specs.Beginning.{begin_move, gathered_after, handset_at, move_fault, renewal_in, switch_fault};
+ghost use Rattle.handset.specs.Stands.{StandsForSteps, switch_to};
+ghost use Rattle.handset.specs.Beginning.{begin_move, handset_at, move_fault, switch_fault};
 
 use crate::fault::{MoveFault, SwitchFault};
-use crate::levels::{first_old, gather, readdress, renewal};
+use crate::levels::{gather, renewal};
 use crate::stage::{Journey, Stage};
-use crate::trail::{clear, first_behind, mark, trail_at};
-use crate::visits::{
-    coming_visit, entry_visit, gone_visit, here_visit, mark_visit, renewal_visit, switch_mark,
-};
+use crate::trail::trail_at;
 use directory::levels_after_move;
 use distances::Distances;
-use entry_word::{PresenceMark, Visit, mark_words};
 use node_set::NodeSet;
 use region_plan::Plan;
 use std::alloc::{AllocError, Global};
@@ -33,15 +26,15 @@ use std::marker::Model;
 /// One subscriber's own state. It goes with the plan that it was made for.
 #[derive(Drop)]
 pub struct Handset {
-    sub: u32,
-    place: u32,
-    number: u32,
-    off: bool,
-    stage: Stage,
-    last: Journey,
-    addresses: Vec<u32>,
-    gathered: Vec<u64>,
-    trail: NodeSet,
+    pub(crate) sub: u32,
+    pub(crate) place: u32,
+    pub(crate) number: u32,
+    pub(crate) off: bool,
+    pub(crate) stage: Stage,
+    pub(crate) last: Journey,
+    pub(crate) addresses: Vec<u32>,
+    pub(crate) gathered: Vec<u64>,
+    pub(crate) trail: NodeSet,
 }
 
 impl Model for Handset {
@@ -131,42 +124,6 @@ impl Handset {
         Ok(())
     }
 
-    /// The write that comes next, if one is left.
-    pub fn next(&self, plan: &Plan) -> Option<Visit>
-        requires goes { GoesWith plan.now self.now }
-        ensures exact { result ≡ due (setting_of plan.now []) self.now }
-        ensures stands { (starts : List ℕ) (steps : List Step) (made : ℕ)
-            → StandsForSteps (setting_of plan.now starts) self.now steps made
-            → result ≡ slice_get (visits (setting_of plan.now starts) self.now.sub steps) made }
-    {
-        self.due(plan)
-    }
-
-    /// Whether the write that comes next commits a move.
-    pub fn commits(&self) -> bool
-        ensures { (plan : PlanData) (visit : Visit) → nodes_of plan ≤ 2 ^ 16
-            → GoesWith plan self.now → due (setting_of plan []) self.now ≡ Some visit
-            → result ≡ is_commit visit.act }
-    {
-        mark_words();
-        self.stage.is_committing()
-    }
-
-    /// The write that came next counts as made.
-    pub fn made(&mut self, plan: &Plan)
-        requires goes { GoesWith plan.now self.old }
-        requires left { IsSome (due (setting_of plan.now []) self.old) }
-        ensures exact { self.new ≡ after_write (setting_of plan.now []) self.old self.old.stage }
-        ensures goes { GoesWith plan.now self.new }
-        ensures stands { (starts : List ℕ) (steps : List Step) (made : ℕ)
-            → StandsForSteps (setting_of plan.now starts) self.old steps made
-            → StandsForSteps (setting_of plan.now starts) self.new steps (suc made) }
-    {
-        levels_after_move();
-        mark_words();
-        self.advance(plan);
-    }
-
     /// Where the subscriber stands, by the commits made.
     pub fn place(&self) -> u32
         ensures kept { result ≡ self.now.place }
@@ -243,73 +200,6 @@ impl Handset {
         })
     }
 
-    // The write that the stage tells.
-    fn due(&self, plan: &Plan) -> Option<Visit>
-        requires goes { GoesWith plan.now self.now }
-        ensures { result ≡ due (setting_of plan.now []) self.now }
-    {
-        let (sub, last) = (self.sub, self.last);
-        // The call tells the proof that nodes are few.
-        let _nodes = plan.nodes();
-        match self.stage {
-            Stage::Resting => None,
-            Stage::Coming => Some(coming_visit(sub, last)),
-            Stage::Renewing { level } => {
-                Some(renewal_visit(sub, level, plan.home(level, last.to), last))
-            }
-            Stage::Committing => Some(gone_visit(sub, last)),
-            Stage::Confirming => Some(here_visit(sub, last)),
-            Stage::Erasing { level } => {
-                let old = plan.home(level, self.addresses[level as usize]);
-                Some(entry_visit(sub, level, old, None))
-            }
-            Stage::Purging { node } => Some(mark_visit(sub, node, PresenceMark::Empty)),
-            Stage::Switching { off } => {
-                let mark = switch_mark(off, self.number);
-                Some(mark_visit(sub, self.place, mark))
-            }
-        }
-    }
-
-    // Goes on to the write after the one that came next.
-    fn advance(&mut self, plan: &Plan)
-        requires goes { GoesWith plan.now self.old }
-        ensures exact { self.new ≡ after_write (setting_of plan.now []) self.old self.old.stage }
-        ensures goes { GoesWith plan.now self.new }
-        ensures kept { IsKept plan.now }
-    {
-        let _nodes = plan.nodes();
-        match self.stage {
-            Stage::Resting => {}
-            Stage::Coming => self.stage = Stage::Renewing { level: 0 },
-            Stage::Renewing { level } if level < self.last.renewed => {
-                self.stage = Stage::Renewing { level: level + 1 };
-            }
-            Stage::Renewing { .. } => self.stage = Stage::Committing,
-            Stage::Committing => {
-                self.place = self.last.to;
-                self.number = self.last.number;
-                self.stage = Stage::Confirming;
-            }
-            Stage::Confirming => {
-                let next = self.erasing_from(plan, 0);
-                self.go_on(plan, next);
-            }
-            Stage::Erasing { level } => {
-                let next = self.erasing_from(plan, level + 1);
-                self.go_on(plan, next);
-            }
-            Stage::Purging { node } => {
-                let next = self.purging_from(node + 1);
-                self.go_on(plan, next);
-            }
-            Stage::Switching { off } => {
-                self.off = off;
-                self.stage = Stage::Resting;
-            }
-        }
-    }
-
     // Begins a move that may come next.
     fn start(&mut self, plan: &Plan, distances: &Distances, to: u32)
         requires goes { GoesWith plan.now self.old }
@@ -332,57 +222,5 @@ impl Handset {
             renewed,
         };
         self.stage = Stage::Coming;
-    }
-
-    // The stage at which old addresses are erased from a level on.
-    fn erasing_from(&self, plan: &Plan, level: u32) -> Stage
-        requires goes { GoesWith plan.now self.now }
-        ensures { result ≡ erasing_from (setting_of plan.now []) self.now level }
-    {
-        // The call tells the proof that nodes are few.
-        let _nodes = plan.nodes();
-        match first_old(plan, &self.addresses, self.last, level) {
-            Some(level) => Stage::Erasing { level },
-            None if self.last.renewed == plan.levels() - 1 => self.purging_from(0),
-            None => Stage::Resting,
-        }
-    }
-
-    // The stage at which the trail is purged from a node on.
-    fn purging_from(&self, node: u32) -> Stage
-        requires { length self.now.trail ≤ 1024 }
-        ensures { result ≡ purging_at (first_with (is_behind self.now) node
-            (length self.now.trail - node)) }
-    {
-        match first_behind(&self.trail, self.last.to, node) {
-            Some(node) => Stage::Purging { node },
-            None => Stage::Resting,
-        }
-    }
-
-    // Goes on to a stage behind the confirm.
-    fn go_on(&mut self, plan: &Plan, next: Stage)
-        requires goes { GoesWith plan.now self.old }
-        ensures { self.new ≡ go_on (setting_of plan.now []) self.old next }
-    {
-        if next.is_rest() {
-            self.settle(plan);
-        }
-        self.stage = next;
-    }
-
-    // The move is over.
-    fn settle(&mut self, plan: &Plan)
-        requires goes { GoesWith plan.now self.old }
-        ensures { self.new ≡ record (settle (setting_of plan.now []) self.old) {
-          stage = self.old.stage;
-        } }
-    {
-        let Journey { to, renewed, .. } = self.last;
-        readdress(&mut self.addresses, renewed, to);
-        if renewed == plan.levels() - 1 {
-            clear(&mut self.trail);
-        }
-        mark(&mut self.trail, to);
     }
 }

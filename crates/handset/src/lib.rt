@@ -7,6 +7,8 @@ mod levels;
 mod stage;
 mod trail;
 mod visits;
+mod writes;
 
 pub use fault::{MoveFault, SwitchFault};
 pub use handset::Handset;
+pub use visits::EntryWrite;

@@ -2,9 +2,50 @@
 ghost use Rattle.std.specs.Prelude.{◌≡◌, ◌<◌, ◌^◌, Some, if◌then◌else◌};
 ghost use Rattle.entry_word.specs.declared.mark.PresenceMark.TheVariants.{Coming, Gone, Here, Off};
 ghost use Rattle.directory.specs.Writes.{entry_at, mark_at, visit_of};
+ghost use Rattle.entry_word.specs.Addresses.{address_word};
+ghost use Rattle.handset.specs.Entries.{entry_put};
 
 use crate::stage::Journey;
 use entry_word::{Act, Address, Key, PresenceMark, Visit, pack_address, pack_mark};
+
+/// A write of an entry: the level and the cluster of its cell, and the word.
+#[derive(Clone, Copy, PartialEq, Eq, Debug)]
+pub struct EntryWrite {
+    pub level: u32,
+    pub cluster: u32,
+    pub word: u64,
+}
+
+// A write of an entry, as a subscriber's visit.
+pub fn visit_entry(sub: u32, write: EntryWrite) -> Visit
+    ensures { result ≡ entry_put sub write }
+{
+    let EntryWrite {
+        level,
+        cluster,
+        word,
+    } = write;
+    Visit {
+        actor: sub,
+        act: Act::Put(
+            Key::Entry {
+                level,
+                cluster,
+                sub,
+            },
+            word,
+        ),
+    }
+}
+
+// The word of a new address.
+pub fn new_word(number: u32, to: u32) -> u64
+    requires { to < 2 ^ 16 }
+    ensures { result ≡ address_word (Some (record { number = number; node = to })) }
+{
+    let node = to as u16;
+    pack_address(Some(Address { number, node }))
+}
 
 // A write of a mark.
 pub fn mark_visit(sub: u32, node: u32, mark: PresenceMark) -> Visit

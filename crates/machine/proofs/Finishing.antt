@@ -1,7 +1,7 @@
 -- The turns of an actor until it is done, and those of all actors.
-use Rattle.std.proofs.Common.{◌≡◌, ℕ, zero, suc, ◌+◌, ◌-◌, ◌<◌, ◌≤◌, List, [], ◌∷◌, ◌++◌, length, map, drop, refl, sym, ap, ◌∙◌, subst, arith, append_assoc}
-use Rattle.std.specs.Prelude.{None, Some, flat_map, option_to_list, replicate}
-use Rattle.std.proofs.lemmas.List.{append-nil, length-map, length-drop, length_push, replicate-append-replicate}
+use Rattle.std.proofs.Common.{◌≡◌, ◌↔◌, ℕ, zero, suc, ◌+◌, ◌-◌, ◌<◌, ◌≤◌, List, [], ◌∷◌, ◌++◌, length, map, drop, refl, sym, ap, ◌∙◌, subst, arith, append_assoc}
+use Rattle.std.specs.Prelude.{None, flat_map, replicate}
+use Rattle.std.proofs.lemmas.List.{append-nil, length-map, length-drop, replicate-append-replicate}
 use Rattle.std.proofs.lemmas.List.Sums.{fold-append}
 use Rattle.entry_word.specs.declared.visit.Visit.{Visit}
 use Rattle.directory.specs.Settings.{Setting}
@@ -74,34 +74,6 @@ pub made-none : (machine : Machine) (history : History) (actor : ℕ) → HasHis
     → HasMade machine machine history actor 0
 made-none machine history actor is = record { stands = is; made = omega arith }
 
--- a turn that makes a visit
-pub made-one : (old new : Machine) (history : History) (actor : ℕ) (visit : Visit)
-    → next (setting_at old) (scripts_at old) history actor ≡ Some visit → HasHistory new (history ++ visit ∷ [])
-    → HasMade old new history actor 1
-made-one old new history actor visit wants stands =
-    let same : after_turns (setting_at old) (scripts_at old) history (replicate 1 actor) ≡ history ++ visit ∷ [] =
-    ap (λ o. history ++ option_to_list o) wants in
-    record {
-      stands = subst (HasHistory new) (sym same) stands;
-      made = ap length same ∙ omega (arith, length_push history visit);
-    }
-
--- turns behind which none is left
-pub made-last : (entry now new : Machine) (history : History) (actor count : ℕ) → IsSame entry now
-    → HasMade entry now history actor count
-    → next (setting_at now) (scripts_at now)
-    (after_turns (setting_at entry) (scripts_at entry) history (replicate count actor)) actor ≡ None
-    → HasHistory new (after_turns (setting_at entry) (scripts_at entry) history (replicate count actor))
-    → HasStridden entry new history actor count
-made-last entry now new history actor count same first none stands =
-    let reached : ℕ → History = λ n. after_turns (setting_at entry) (scripts_at entry) history (replicate n actor) in (
-      record { stands = stands; made = first.made },
-      λ zero_made.
-          sym (ap (λ setting. next setting (scripts_at now) history actor) (same-setting entry now same)
-          ∙ ap (λ scripts. next (setting_at entry) scripts history actor) (same-scripts entry now same))
-          ∙ subst (λ n. next (setting_at now) (scripts_at now) (reached n) actor ≡ None) zero_made none,
-    )
-
 -- an actor without a visit has none later
 turns-idle : (setting : Setting) (scripts : Scripts) (history : History) (actor : ℕ)
     → next setting scripts history actor ≡ None → (k : ℕ)
@@ -123,7 +95,7 @@ made-idle entry now new history actor k count made same first then zero_made low
     let none : next (setting_at entry) (scripts_at entry) reached actor ≡ None =
     sym (ap (λ setting. next setting (scripts_at now) reached actor) (same-setting entry now same)
     ∙ ap (λ scripts. next (setting_at entry) scripts reached actor) (same-scripts entry now same))
-    ∙ then.1 zero_made in
+    ∙ (then.1 zero_made).0 in
     let all : reached ≡ after_turns (setting_at entry) (scripts_at entry) history (replicate count actor) =
     sym (turns-idle (setting_at entry) (scripts_at entry) reached actor none (count - k))
     ∙ (turns-joined (setting_at entry) (scripts_at entry) history actor k (count - k)
@@ -134,6 +106,29 @@ made-idle entry now new history actor k count made same first then zero_made low
           zero_made then.0.stands),
       sym (ap length all) ∙ first.made,
     )
+
+-- one turn: it makes a visit where one is left
+pub turned-once : (old new : Machine) (history : History) (actor count : ℕ) → count ≤ 1
+    → HasStridden old new history actor count
+    → HasHistory new (after_turn (setting_at old) (scripts_at old) history actor)
+    × ((count ≡ 0) ↔ (next (setting_at old) (scripts_at old) history actor ≡ None))
+turned-once old new history actor zero few made =
+    let none : next (setting_at old) (scripts_at old) history actor ≡ None = (made.1 refl).0 in (
+      subst (HasHistory new) (sym (turn-none (setting_at old) (scripts_at old) history actor none)) made.0.stands,
+      (λ same. none, λ same. refl),
+    )
+turned-once old new history actor (suc zero) few made = (
+  made.0.stands,
+  (
+    λ same. absurd (omega (arith, same)),
+    λ none. absurd (omega (
+      arith,
+      made.0.made,
+      ap length (turn-none (setting_at old) (scripts_at old) history actor none),
+    )),
+  ),
+)
+turned-once old new history actor (suc (suc count)) few made = absurd (omega (arith, few))
 
 -- turns that make visits leave fewer
 pub visits-fewer : VisitsAreFew → (old new : Machine) (history : History) (actor count : ℕ) → IsSame old new

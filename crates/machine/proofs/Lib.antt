@@ -2,13 +2,14 @@ mod Looking
 mod Looked
 mod Steps
 mod Seen
+mod Finishing
+mod Making
 mod Written
 mod Rests
 mod Beginning
 mod Sums
 mod Turning
 mod Opening
-mod Finishing
 mod Passing
 mod Playing
 mod Ending

@@ -1,17 +1,17 @@
 -- What a machine stands for after a visit.
 use Rattle.std.proofs.Common.{◌≡◌, ◌≢◌, inl, inr, ℕ, zero, suc, ◌+◌, ◌<◌, ◌≤◌, ◌==◌, false, cond, List, [], ◌∷◌, ◌++◌, length, map, get_or, refl, sym, ap, ◌∙◌, subst, arith, append_assoc, Vec, Global}
-use Rattle.std.specs.Prelude.{Some, replicate, slice_set, vec_capacity}
+use Rattle.std.specs.Prelude.{None, Option, Some, replicate, slice_set, vec_capacity}
 use Rattle.std.proofs.lemmas.Bool.{cases_eq, ne_eqb}
-use Rattle.std.proofs.lemmas.List.{append-nil, length-map, length-append, length-replicate, length_push, map-append, map_push}
+use Rattle.std.proofs.lemmas.List.{append-nil, length-map, length-append, length-replicate, length_push, map-append}
 use Rattle.std.proofs.lemmas.List.Sums.{fold-append}
 use Rattle.entry_word.specs.declared.visit.Key.{Key}
 use Rattle.entry_word.specs.declared.visit.Visit.{Visit}
-use Rattle.directory.specs.Settings.{Setting, start}
+use Rattle.directory.specs.Settings.{start}
 use Rattle.directory.specs.Courses.{course_at}
 use Rattle.directory.specs.Histories.{History, own, tickets, word_after}
 use Rattle.directory.specs.Keys.{opening}
 use Rattle.directory.specs.Looks.{look_by}
-use Rattle.directory.specs.Orders.{Caller as Seeker, Scripts, caller_in, next}
+use Rattle.directory.specs.Orders.{Caller as Seeker, caller_in, next}
 use Rattle.directory.specs.Outcomes.{answer_line, step_lines}
 use Rattle.directory.specs.Statements.{CallersKept, TicketsGrow, OwnGrow, MoreIsPlayed}
 use Rattle.directory.specs.Writes.{writes}
@@ -19,7 +19,7 @@ use Rattle.net_reader.specs.Input.{Contents}
 use Rattle.region_plan.specs.Plan.{PlanData}
 use Rattle.region_plan.specs.Settings.{setting_of}
 use Rattle.handset.specs.Stands.{StandsForSteps}
-use Rattle.visit_log.specs.Cells.{CellData, GoWith, Hold}
+use Rattle.visit_log.specs.Cells.{CellData, Hold}
 use Rattle.machine.specs.declared.caller.Caller.{Caller}
 use Rattle.machine.specs.declared.machine.Machine.{Machine}
 use Rattle.machine.specs.declared.subscriber.Subscriber.{Subscriber}
@@ -93,63 +93,6 @@ set-length [] i x = refl
 set-length (y ∷ xs) zero x = refl
 set-length (y ∷ xs) (suc i) x = ap suc (set-length xs i x)
 
--- after a subscriber's visit
-pub sub-turned : OwnGrow → TicketsGrow → CallersKept
-    → MoreIsPlayed
-    → ((setting : Setting) (scripts : Scripts) (history : History) (actor : ℕ) (visit : Visit)
-    → next setting scripts history actor ≡ Some visit → visit.actor ≡ actor)
-    → (old : Machine) (history : History) (actor : ℕ) (visit : Visit) (subscriber : Subscriber) (cells : CellData)
-    (subscribers : Vec Subscriber Global) (order : Vec ℕ Global) → HasHistory old history
-    → actor < length (input_at old).homes
-    → next (setting_at old) (scripts_at old) history actor ≡ Some visit
-    → IsSubscriber (input_at old) old.plan.now (history ++ visit ∷ []) actor subscriber → GoWith old.plan.now cells
-    → Hold old.plan.now (input_at old).homes cells (history ++ visit ∷ [])
-    → subscribers.items ≡ slice_set old.subscribers.items actor subscriber
-    → order.items ≡ old.order.items ++ actor ∷ [] → vec_capacity old.order ≤ vec_capacity order
-    → HasHistory (record old { cells = cells; subscribers = subscribers; order = order }) (history ++ visit ∷ [])
-sub-turned own_law ticket_law kept more mine old history actor visit subscriber cells subscribers order stands low wants
-    its goes hold items pushed room =
-    let is_own : visit.actor ≡ actor = mine (setting_at old) (scripts_at old) history actor visit wants in
-    record {
-      together = stands.together;
-      sees = record {
-        played = more (setting_at old) (scripts_at old) history actor visit wants stands.sees.played;
-        goes = goes;
-        hold = hold;
-      };
-      order = pushed
-          ∙ (ap (λ xs. xs ++ actor ∷ []) stands.order
-          ∙ (ap (λ a. map (λ (v : Visit). v.actor) history ++ a ∷ []) (sym is_own)
-          ∙ sym (map_push (λ (v : Visit). v.actor) history visit)));
-      room = omega (arith, stands.room, room);
-      subscribers_count = ap length items
-          ∙ (set-length old.subscribers.items actor subscriber ∙ stands.subscribers_count);
-      callers_count = stands.callers_count;
-      subscribers =
-          λ s d below.
-          elim (cases_eq s actor) as (λ _. IsSubscriber (input_at old) old.plan.now (history ++ visit ∷ []) s
-          (get_or subscribers.items s d)) [
-            | inl same ↦ subst (λ x. IsSubscriber (input_at old) old.plan.now (history ++ visit ∷ []) s x)
-                (sym (ap (λ xs. get_or xs s d) items
-                ∙ (ap (λ i. get_or (slice_set old.subscribers.items i subscriber) s d) (sym same)
-                ∙ set-same old.subscribers.items s subscriber d (omega (arith, below, stands.subscribers_count)))))
-                (subst (λ a. IsSubscriber (input_at old) old.plan.now (history ++ visit ∷ []) a subscriber)
-                (sym same) its)
-            | inr other ↦ subst (λ x. IsSubscriber (input_at old) old.plan.now (history ++ visit ∷ []) s x)
-                (sym (ap (λ xs. get_or xs s d) items
-                ∙ set-other old.subscribers.items actor s subscriber d (λ e. other (sym e))))
-                (sub-kept own_law ticket_law (input_at old) old.plan.now history s
-                (get_or old.subscribers.items s d) visit
-                (ne_eqb visit.actor s (λ e. other (sym e ∙ is_own))) (stands.subscribers s d below))
-          ];
-      callers = λ c d below. caller-kept kept (input_at old) old.plan.now history (length (input_at old).homes + c)
-          (get_or old.callers.items c d) visit
-          (ne_eqb visit.actor (length (input_at old).homes + c) (λ e. omega (arith, e, is_own, low)))
-          (stands.callers c d below);
-      calls = stands.calls;
-      total = stands.total;
-    }
-
 hold-look : (plan : PlanData) (starts : List ℕ) (cells : CellData) (history : History) (actor : ℕ) (key : Key)
     → Hold plan starts cells history → Hold plan starts cells (history ++ look_by actor key ∷ [])
 hold-look plan starts cells history actor key hold =
@@ -183,6 +126,60 @@ kept-all P actor (visit ∷ visits) (suc count) history step same is =
     let rest : map (λ (v : Visit). v.actor) visits ≡ replicate count actor = cc in
     subst P (append_assoc history (visit ∷ []) visits)
     (kept-all P actor visits count (history ++ visit ∷ []) step rest (step history visit its is))
+
+-- after visits of a subscriber
+pub sub-turned : OwnGrow → TicketsGrow → CallersKept
+    → (old : Machine) (history : History) (actor count : ℕ) (visits : List Visit) (subscriber : Subscriber)
+    (cells : CellData) (subscribers : Vec Subscriber Global) (order : Vec ℕ Global) → HasHistory old history
+    → actor < length (input_at old).homes
+    → map (λ (v : Visit). v.actor) visits ≡ replicate count actor
+    → Sees (input_at old) old.plan.now cells (history ++ visits)
+    → IsSubscriber (input_at old) old.plan.now (history ++ visits) actor subscriber
+    → subscribers.items ≡ slice_set old.subscribers.items actor subscriber
+    → order.items ≡ old.order.items ++ replicate count actor → vec_capacity old.order ≤ vec_capacity order
+    → HasHistory (record old { cells = cells; subscribers = subscribers; order = order }) (history ++ visits)
+sub-turned own_law ticket_law kept old history actor count visits subscriber cells subscribers order stands low actors
+    sees its items pushed room =
+    record {
+      together = stands.together;
+      sees = sees;
+      order = pushed
+          ∙ (ap (λ xs. xs ++ replicate count actor) stands.order
+          ∙ (ap (λ xs. map (λ (v : Visit). v.actor) history ++ xs) (sym actors)
+          ∙ sym (map-append (λ (v : Visit). v.actor) history visits)));
+      room = omega (arith, stands.room, room);
+      subscribers_count = ap length items
+          ∙ (set-length old.subscribers.items actor subscriber ∙ stands.subscribers_count);
+      callers_count = stands.callers_count;
+      subscribers =
+          λ s d below.
+          elim (cases_eq s actor) as (λ _. IsSubscriber (input_at old) old.plan.now (history ++ visits) s
+          (get_or subscribers.items s d)) [
+            | inl same ↦ subst (λ x. IsSubscriber (input_at old) old.plan.now (history ++ visits) s x)
+                (sym (ap (λ xs. get_or xs s d) items
+                ∙ (ap (λ i. get_or (slice_set old.subscribers.items i subscriber) s d) (sym same)
+                ∙ set-same old.subscribers.items s subscriber d (omega (arith, below, stands.subscribers_count)))))
+                (subst (λ a. IsSubscriber (input_at old) old.plan.now (history ++ visits) a subscriber)
+                (sym same) its)
+            | inr other ↦ subst (λ x. IsSubscriber (input_at old) old.plan.now (history ++ visits) s x)
+                (sym (ap (λ xs. get_or xs s d) items
+                ∙ set-other old.subscribers.items actor s subscriber d (λ e. other (sym e))))
+                (kept-all (λ h. IsSubscriber (input_at old) old.plan.now h s (get_or old.subscribers.items s d)) actor
+                visits count history
+                (λ before visit same. sub-kept own_law ticket_law (input_at old) old.plan.now before s
+                (get_or old.subscribers.items s d) visit
+                (ne_eqb visit.actor s (λ e. other (sym e ∙ same)))) actors (stands.subscribers s d below))
+          ];
+      callers = λ c d below.
+          kept-all (λ h. IsCaller (input_at old) old.plan.now h (length (input_at old).homes + c)
+          (get_or old.callers.items c d)) actor visits count history
+          (λ before visit same. caller-kept kept (input_at old) old.plan.now before (length (input_at old).homes + c)
+          (get_or old.callers.items c d) visit
+          (ne_eqb visit.actor (length (input_at old).homes + c) (λ e. omega (arith, e, same, low)))) actors
+          (stands.callers c d below);
+      calls = stands.calls;
+      total = stands.total;
+    }
 
 -- after visits of a caller
 pub caller-turned : OwnGrow → TicketsGrow → CallersKept
@@ -263,61 +260,6 @@ pub ticket-is : (machine : Machine) (history : History) (ticket : ℕ) → HasHi
 ticket-is machine history ticket stands same =
     sym (same ∙ (ap length stands.order ∙ length-map history (λ (v : Visit). v.actor)))
 
--- a turn of an actor that has no visit left
-set-itself : {A : Type 0} (xs : List A) (i : ℕ) (x : A) → x ≡ get_or xs i x → i < length xs → slice_set xs i x ≡ xs
-set-itself [] i x e h = refl
-set-itself (y ∷ xs) zero x e h = ap (λ z. z ∷ xs) e
-set-itself (y ∷ xs) (suc i) x e h = ap (λ zs. y ∷ zs) (set-itself xs i x e (omega (arith, h)))
-
-pub sub-kept-machine : (old : Machine) (history : History) (actor : ℕ) (x y : Subscriber) (cells : CellData)
-    (subscribers : Vec Subscriber Global)
-    → HasHistory old history → actor < length (input_at old).homes → x ≡ get_or old.subscribers.items actor x
-    → y ≡ x
-    → cells ≡ old.cells
-    → subscribers.items ≡ slice_set old.subscribers.items actor y
-    → HasHistory (record old { cells = cells; subscribers = subscribers }) history
-sub-kept-machine old history actor x y cells subscribers stands low at same kept items =
-    let its : subscribers.items ≡ old.subscribers.items =
-    items ∙ (ap (λ z. slice_set old.subscribers.items actor z) same
-    ∙ set-itself old.subscribers.items actor x at (omega (arith, low, stands.subscribers_count))) in
-    record {
-      together = stands.together;
-      sees = subst (λ k. Sees (input_at old) old.plan.now k history) (sym kept) stands.sees;
-      order = stands.order;
-      room = stands.room;
-      subscribers_count = ap length its ∙ stands.subscribers_count;
-      callers_count = stands.callers_count;
-      subscribers =
-          λ s d below. subst (λ xs. IsSubscriber (input_at old) old.plan.now history s (get_or xs s d)) (sym its)
-          (stands.subscribers s d below);
-      callers = stands.callers;
-      calls = stands.calls;
-      total = stands.total;
-    }
-
-pub caller-kept-machine : (old : Machine) (history : History) (place : ℕ) (x y : Caller) (callers : Vec Caller Global)
-    → HasHistory old history → place < (input_at old).callers → x ≡ get_or old.callers.items place x → y ≡ x
-    → callers.items ≡ slice_set old.callers.items place y
-    → HasHistory (record old { callers = callers }) history
-caller-kept-machine old history place x y callers stands low at same items =
-    let its : callers.items ≡ old.callers.items =
-    items ∙ (ap (λ z. slice_set old.callers.items place z) same
-    ∙ set-itself old.callers.items place x at (omega (arith, low, stands.callers_count))) in
-    record {
-      together = stands.together;
-      sees = stands.sees;
-      order = stands.order;
-      room = stands.room;
-      subscribers_count = stands.subscribers_count;
-      callers_count = ap length its ∙ stands.callers_count;
-      subscribers = stands.subscribers;
-      callers = λ c d below. subst
-          (λ xs. IsCaller (input_at old) old.plan.now history (length (input_at old).homes + c) (get_or xs c d))
-          (sym its) (stands.callers c d below);
-      calls = stands.calls;
-      total = stands.total;
-    }
-
 -- the order has room for one visit more
 pub room-left : VisitsAreFew → MoreIsPlayed → (machine : Machine) (history : History) (actor : ℕ) (visit : Visit)
     → HasHistory machine history → next (setting_at machine) (scripts_at machine) history actor ≡ Some visit
@@ -333,11 +275,12 @@ room-left few more machine history actor visit is wants =
     )
 
 -- and for many, which are those of a played history
-pub rooms-left : VisitsAreFew → (machine : Machine) (history : History) (actor count : ℕ) (visits : List Visit)
+pub rooms-left : VisitsAreFew → (machine : Machine) (cells : CellData) (history : History) (actor count : ℕ)
+    (visits : List Visit)
     → HasHistory machine history → map (λ (v : Visit). v.actor) visits ≡ replicate count actor
-    → Sees (input_at machine) machine.plan.now machine.cells (history ++ visits)
+    → Sees (input_at machine) machine.plan.now cells (history ++ visits)
     → length history + count ≤ vec_capacity machine.order
-rooms-left few machine history actor count visits is actors sees =
+rooms-left few machine cells history actor count visits is actors sees =
     omega (
       arith,
       few (input_at machine) (setting_at machine) (history ++ visits) is.together.valid
@@ -348,3 +291,15 @@ rooms-left few machine history actor count visits is actors sees =
       length-replicate count actor,
       is.room,
     )
+
+-- an actor that makes none of the visits that the order has room for has none left
+pub none-left : VisitsAreFew → MoreIsPlayed → (machine : Machine) (history : History) (actor reach : ℕ)
+    (wants : Option Visit) → HasHistory machine history
+    → (reach ≡ 0 → vec_capacity machine.order ≤ length history)
+    → next (setting_at machine) (scripts_at machine) history actor ≡ wants
+    → (0 < reach → next (setting_at machine) (scripts_at machine) history actor ≡ None)
+    → next (setting_at machine) (scripts_at machine) history actor ≡ None
+none-left few more machine history actor reach None is full same law = same
+none-left few more machine history actor zero (Some visit) is full same law =
+    absurd (omega (arith, full refl, room-left few more machine history actor visit is same))
+none-left few more machine history actor (suc reach) (Some visit) is full same law = law (omega arith)

@@ -1,6 +1,6 @@
 -- How far a subscriber is after a visit that goes on with a step.
-use Rattle.std.proofs.Common.{◌≡◌, ℕ, suc, ◌-◌, ◌<◌, ◌≤◌, List, [], ◌∷◌, ◌++◌, length, map, take, drop, get_or, refl, sym, ap, ◌∙◌, subst, arith}
-use Rattle.std.specs.Prelude.{Some, slice_get, slice_set, vec_capacity}
+use Rattle.std.proofs.Common.{◌≡◌, ℕ, suc, ◌+◌, ◌-◌, ◌<◌, ◌≤◌, List, [], ◌∷◌, ◌++◌, length, map, take, drop, get_or, refl, sym, ap, ◌∙◌, subst, arith}
+use Rattle.std.specs.Prelude.{None, Some, slice_get, slice_set, vec_capacity}
 use Rattle.std.proofs.lemmas.Option.{slice_get_within}
 use Rattle.std.proofs.lemmas.List.{take_all, take-append-drop, length-take-le, length-drop, length_push, length-map, get_or_push}
 use Rattle.std.proofs.Math.Seq.{set-append_seam}
@@ -9,7 +9,7 @@ use Rattle.entry_word.specs.declared.visit.Visit.{Visit}
 use Rattle.directory.specs.Settings.{Setting, start}
 use Rattle.directory.specs.Courses.{Course, after_steps, course_at}
 use Rattle.directory.specs.Histories.{History, own, tickets}
-use Rattle.directory.specs.Orders.{next, steps_of}
+use Rattle.directory.specs.Orders.{Scripts, next, steps_of}
 use Rattle.directory.specs.Outcomes.{step_line, step_lines}
 use Rattle.directory.specs.Writes.{step_writes, visit_of, visits, writes}
 use Rattle.directory.specs.declared.answers.Done.{Done}
@@ -20,15 +20,17 @@ use Rattle.handset.specs.Kept.{GoesWith}
 use Rattle.handset.specs.Stands.{StandsForSteps}
 use Rattle.visit_log.specs.Cells.{CellData, GoWith, Hold}
 use Rattle.machine.specs.declared.subscriber.Subscriber.{Subscriber}
+use Rattle.machine.specs.declared.turn.Turn.TheVariants.{Finished, Visited}
 use Rattle.scripts.specs.Scripts.{scripts_of}
 use Rattle.scripts.specs.Laws.{ScriptsAreValid}
-use Rattle.machine.specs.Stands.{BelongTogether, setting_over}
-use Rattle.machine.specs.Subscribers.{IsSubscriber, begun_steps, line_after}
+use Rattle.machine.specs.Stands.{AreMade, BelongTogether, Sees, setting_over}
+use Rattle.machine.specs.Subscribers.{IsSubscriber, TakesTurn, begun_steps, line_after}
 use Rattle.handset.specs.Stands.{is_commit}
 use Rattle.machine.proofs.Steps.{line-grows, lines-partial}
+use Rattle.machine.proofs.Making.{made-count, made-joined, made-one}
 use Rattle.machine.proofs.Seen.{HasLast, Seen, last-visit, seen-after, step-allowed, steps-last}
 use Rattle.directory.specs.HistoryLaws.{tickets-count}
-use Rattle.directory.specs.Statements.{TicketsGrow, OwnGrow, TicketsAreOwn}
+use Rattle.directory.specs.Statements.{MoreIsPlayed, TicketsGrow, OwnGrow, TicketsAreOwn}
 
 -- the lines of a subscriber with a step under way, now and a visit later
 pub record Under (input : Contents) (plan : PlanData) (history : History) (sub : ℕ) (old : Subscriber)
@@ -160,4 +162,49 @@ written-on unpack own_law ticket_law tell scripts input plan distances after his
       },
       go,
       hold,
+    )
+
+-- a write more
+pub written-more : MoreIsPlayed
+    → ((setting : Setting) (scripts : Scripts) (history : History) (actor : ℕ) (visit : Visit)
+    → next setting scripts history actor ≡ Some visit → visit.actor ≡ actor)
+    → (input : Contents) (plan : PlanData) (cells after : CellData) (history : History) (ticket sub count : ℕ)
+    (mid new : Subscriber) → length history ≡ ticket
+    → AreMade input plan cells history sub count (λ later. IsSubscriber input plan later sub mid)
+    → TakesTurn input plan (ticket + count) sub mid new cells after Visited
+    → AreMade input plan after history sub (count + 1) (λ later. IsSubscriber input plan later sub new)
+written-more more mine input plan cells after history ticket sub count mid new place made then =
+    let Mid : History → Type 0 = λ later. IsSubscriber input plan later sub mid in
+    let New : History → Type 0 = λ later. IsSubscriber input plan later sub new in
+    let now : History = history ++ made.visits in
+    let done = then now made.sees (made-count input plan cells history sub count Mid made
+    ∙ ap (λ n. n + count) place) made.its in
+    made-joined input plan cells after history sub count 1 Mid New made
+    (made-one input plan after now sub done.0 New
+    (mine (setting_over input plan) (scripts_of input) now sub done.0 done.1) done.1
+    (record {
+      played = more (setting_over input plan) (scripts_of input) now sub done.0 done.1 made.sees.played;
+      goes = done.3;
+      hold = done.4;
+    }) done.2)
+
+-- a write that isn't left
+pub ended : (input : Contents) (plan : PlanData) (cells after : CellData) (history : History) (ticket sub count : ℕ)
+    (most : ℕ) (mid new : Subscriber) → length history ≡ ticket
+    → AreMade input plan cells history sub count (λ later. IsSubscriber input plan later sub mid)
+    → TakesTurn input plan (ticket + count) sub mid new cells after Finished
+    → (made : AreMade input plan after history sub count (λ later. IsSubscriber input plan later sub new))
+    × (count < most → next (setting_over input plan) (scripts_of input) (history ++ made.visits) sub ≡ None)
+ended input plan cells after history ticket sub count most mid new place made then =
+    let Mid : History → Type 0 = λ later. IsSubscriber input plan later sub mid in
+    let done = then (history ++ made.visits) made.sees (made-count input plan cells history sub count Mid made
+    ∙ ap (λ n. n + count) place) made.its in (
+      record {
+        visits = made.visits;
+        turns = made.turns;
+        actors = made.actors;
+        sees = subst (λ k. Sees input plan k (history ++ made.visits)) (sym done.2) made.sees;
+        its = subst (λ s. IsSubscriber input plan (history ++ made.visits) sub s) (sym done.1) made.its;
+      },
+      λ fewer. done.0,
     )

@@ -3,8 +3,7 @@
 -- keeps the actor of each ticket.
 -- Key laws: `Machine::new` (it stands for no visits), `turn` (for a turn more), `turns` (for so many
 -- turns more), `finish` (for all visits) and `outcome`, by their clauses.
-use Rattle.std.specs.Prelude.{◌≡◌, ℕ, ◌+◌, ◌<◌, ◌≤◌, [], ◌∷◌, ◌++◌, Some, None, length, map, replicate, slice_index_or, vec_capacity}
-use Rattle.entry_word.specs.declared.visit.Visit.{Visit}
+use Rattle.std.specs.Prelude.{◌≡◌, ℕ, ◌+◌, ◌<◌, ◌≤◌, [], None, length, map, replicate, slice_index_or, vec_capacity}
 use Rattle.directory.specs.Settings.{Setting}
 use Rattle.directory.specs.Histories.{History}
 use Rattle.directory.specs.Orders.{Scripts, after_turns, next}
@@ -14,8 +13,6 @@ use Rattle.net_reader.specs.Valid.{count_calls}
 use Rattle.machine.specs.declared.caller.Caller.{Caller}
 use Rattle.machine.specs.declared.machine.Machine.{Machine}
 use Rattle.machine.specs.declared.subscriber.Subscriber.{Subscriber}
-use Rattle.machine.specs.declared.turn.Turn.{Turn}
-use Rattle.machine.specs.declared.turn.Turn.TheVariants.{Visited, Finished}
 use Rattle.scripts.specs.Scripts.{most_visits, scripts_of}
 use Rattle.machine.specs.Stands.{BelongTogether, Sees, setting_over}
 use Rattle.machine.specs.Callers.{IsCaller}
@@ -51,16 +48,6 @@ pub record HasHistory (machine : Machine) (history : History) : Type 0 where
   pub calls : machine.calls.items ≡ []
   pub total : count_calls (input_at machine).scripts ≤ vec_capacity machine.calls
 
--- a turn makes the actor's next visit, or none is left, and the machine stands for what it stood
--- for
-abbrev pub HasTurned : Machine → Machine → History → ℕ → Turn → Type 0
-HasTurned old new history actor Finished =
-    (next (setting_at old) (scripts_at old) history actor ≡ None) × HasHistory new history
-    × (new.cells ≡ old.cells) × (new.order ≡ old.order)
-HasTurned old new history actor Visited =
-    (visit : Visit) × (next (setting_at old) (scripts_at old) history actor ≡ Some visit)
-    × HasHistory new (history ++ visit ∷ [])
-
 -- so many turns of an actor made as many visits
 pub record HasMade (old new : Machine) (history : History) (actor count : ℕ) : Type 0 where
   pub stands : HasHistory new
@@ -68,11 +55,16 @@ pub record HasMade (old new : Machine) (history : History) (actor count : ℕ) :
   pub made : length (after_turns (setting_at old) (scripts_at old) history (replicate count actor))
       ≡ length history + count
 
--- and where they made none, none is left
+-- a machine's cells and its order stay as they are
+abbrev pub IsStill : Machine → Machine → Type 0
+IsStill old new = (new.cells ≡ old.cells) × (new.order ≡ old.order)
+
+-- and where they made none, none is left, and cells and order stay
 abbrev pub HasStridden : Machine → Machine → History → ℕ → ℕ → Type 0
 HasStridden old new history actor count =
     HasMade old new history actor count
-    × (count ≡ 0 → next (setting_at old) (scripts_at old) history actor ≡ None)
+    × (count ≡ 0
+    → (next (setting_at old) (scripts_at old) history actor ≡ None) × IsStill old new)
 
 -- a machine keeps its input, its plan and its distances
 abbrev pub IsSame : Machine → Machine → Type 0

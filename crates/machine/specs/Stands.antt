@@ -1,12 +1,12 @@
 -- What the parts of a machine lean on: an input with its plan and its distances, cells that hold
--- what a history leaves, and a walk for the find that a caller is at.
+-- what a history leaves, many turns at once, and a walk for the find that a caller is at.
 -- Key laws: `Machine::new`, `turn`, `finish` and `outcome`, by their clauses.
-use Rattle.std.specs.Prelude.{◌≡◌, refl, ℕ, ◌<◌, List, [], ◌∷◌, All, Option, Some, None}
+use Rattle.std.specs.Prelude.{◌≡◌, refl, ℕ, ◌<◌, List, [], ◌∷◌, ◌++◌, All, Option, Some, None, map, replicate}
 use Rattle.distances.specs.Table.{DistanceTable}
 use Rattle.directory.specs.Settings.{Setting}
 use Rattle.directory.specs.Histories.{History}
 use Rattle.directory.specs.Finds.{FindCall, Stage, answer_of}
-use Rattle.directory.specs.Orders.{IsPlayed}
+use Rattle.directory.specs.Orders.{IsPlayed, after_turns}
 use Rattle.net_reader.specs.Input.{Contents}
 use Rattle.net_reader.specs.Valid.{IsValid}
 use Rattle.net_reader.specs.declared.said.Call.{Call}
@@ -53,6 +53,17 @@ pub record Sees (input : Contents) (plan : PlanData) (cells : CellData)
   pub played : IsPlayed (setting_over input plan) (scripts_of input) history
   pub goes : GoWith plan cells
   pub hold : Hold plan input.homes cells history
+
+-- so many turns of an actor make as many visits: the cells hold what they leave, and this holds of
+-- the history with them
+pub record AreMade (input : Contents) (plan : PlanData) (cells : CellData) (history : History)
+    (actor count : ℕ) (Holds : History → Type 0) : Type 0 where
+  pub visits : History
+  pub turns : after_turns (setting_over input plan) (scripts_of input) history
+      (replicate count actor) ≡ history ++ visits
+  pub actors : map (λ visit. visit.actor) visits ≡ replicate count actor
+  pub sees : Sees input plan cells (history ++ visits)
+  pub its : Holds (history ++ visits)
 
 -- a walk is that of the first of the finds that are left, at this stage, and none where none is
 abbrev pub IsWalking : PlanData → List FindCall → Stage → Option WalkData → Type 0

@@ -1,14 +1,14 @@
 -- A subscriber in a history: its handset has made its visits, and its lines are those of the steps
 -- that it has begun, told by the tickets so far. A step that isn't done has the ticket of its last
 -- visit so far as its last, and 0 as its commit before that comes.
--- Key law: `Subscriber::write`, by its clause (a turn makes the subscriber's next visit, or none is
--- left).
-use Rattle.std.specs.Prelude.{◌≡◌, ℕ, suc, ◌-◌, ◌<◌, ◌≤◌, ◌^◌, ◌≢◌, Bool, true, false, if◌then◌else◌, List, [], ◌∷◌, ◌++◌, Some, None, length, take, vec_capacity}
+-- Key law: `Subscriber::write`, by its clause (so many turns make the subscriber's next visits, or
+-- none is left).
+use Rattle.std.specs.Prelude.{◌≡◌, ℕ, suc, ◌-◌, ◌<◌, ◌≤◌, ◌^◌, ◌≢◌, Bool, true, false, if◌then◌else◌, List, [], ◌∷◌, ◌++◌, Some, None, length, slice_get, take, vec_capacity}
 use Rattle.entry_word.specs.declared.visit.Visit.{Visit}
 use Rattle.directory.specs.Settings.{start}
 use Rattle.directory.specs.Courses.{Step, course_at}
 use Rattle.directory.specs.Histories.{History, own, tickets}
-use Rattle.directory.specs.Writes.{writes}
+use Rattle.directory.specs.Writes.{visits, writes}
 use Rattle.directory.specs.Orders.{next, steps_of}
 use Rattle.directory.specs.Outcomes.{step_lines}
 use Rattle.directory.specs.declared.answers.Done.{Done}
@@ -19,13 +19,14 @@ use Rattle.net_reader.specs.Input.{Contents}
 use Rattle.region_plan.specs.Plan.{PlanData, nodes_of}
 use Rattle.region_plan.specs.Settings.{setting_of}
 use Rattle.handset.specs.Kept.{GoesWith, HandsetData}
+use Rattle.handset.specs.Progress.{due}
 use Rattle.handset.specs.Stands.{StandsForSteps}
 use Rattle.visit_log.specs.Cells.{CellData, GoWith, Hold}
 use Rattle.machine.specs.declared.subscriber.Subscriber.{Subscriber}
 use Rattle.machine.specs.declared.turn.Turn.{Turn}
 use Rattle.machine.specs.declared.turn.Turn.TheVariants.{Visited, Finished}
 use Rattle.scripts.specs.Scripts.{scripts_of}
-use Rattle.machine.specs.Stands.{setting_over, Sees}
+use Rattle.machine.specs.Stands.{AreMade, setting_over, Sees}
 
 -- the line of a step after one more of its visits, which commits or doesn't
 abbrev pub line_after : Done → Bool → ℕ → Done
@@ -85,6 +86,19 @@ pub record IsSubscriber (input : Contents) (plan : PlanData) (history : History)
       < length (own sub history)
   pub room : length (steps_of (scripts_of input) sub) ≤ vec_capacity subscriber.lines
 
+-- a handset has made its next write, and cells hold it
+pub record HasPut (plan : PlanData) (old new : HandsetData) (cells after : CellData) : Type 0 where
+  pub visit : Visit
+  pub due : due (setting_of plan []) old ≡ Some visit
+  pub next : (starts : List ℕ) (steps : List Step) (made : ℕ)
+      → StandsForSteps (setting_of plan starts) old steps made
+      → slice_get (visits (setting_of plan starts) old.sub steps) made ≡ Some visit
+  pub stands : (starts : List ℕ) (steps : List Step) (made : ℕ)
+      → StandsForSteps (setting_of plan starts) old steps made
+      → StandsForSteps (setting_of plan starts) new steps (suc made)
+  pub hold : (starts : List ℕ) (history : History) → Hold plan starts cells history
+      → Hold plan starts after (history ++ visit ∷ [])
+
 -- a turn makes its next visit, or none is left and nothing changes
 abbrev pub HasWritten : Contents → PlanData → History → ℕ → Subscriber → Subscriber → CellData
     → CellData → Turn → Type 0
@@ -110,3 +124,15 @@ TakesTurn input plan ticket sub old new cells after turn =
     (history : History) → Sees input plan cells history → length history ≡ ticket
     → IsSubscriber input plan history sub old
     → HasWritten input plan history sub old new cells after turn
+
+-- it takes so many turns of those that it may, whichever history that is, and where these are fewer
+-- it has none left
+abbrev pub TakesTurns : Contents → PlanData → ℕ → ℕ → ℕ → Subscriber → Subscriber → CellData
+    → CellData → ℕ → Type 0
+TakesTurns input plan ticket sub most old new cells after count =
+    (history : History) → Sees input plan cells history → length history ≡ ticket
+    → IsSubscriber input plan history sub old
+    → (made : AreMade input plan after history sub count
+    (λ later. IsSubscriber input plan later sub new))
+    × (count < most → next (setting_over input plan) (scripts_of input) (history ++ made.visits) sub
+    ≡ None)

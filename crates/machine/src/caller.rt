@@ -8,7 +8,11 @@ ghost use Rattle.net_reader.specs.Valid.{IsSearch};
 ghost use Rattle.region_plan.specs.Plan.{nodes_of};
 ghost use Rattle.scripts.specs.Scripts.{find_of};
 ghost use Rattle.machine.specs.Stands.{BelongTogether, IsWalking, Sees};
-ghost use Rattle.machine.specs.Callers.{IsCaller, HasLooked, HasPassed};
+ghost use Rattle.machine.specs.Callers.{HasLooked, IsCaller, Looks, MakesLooks, MayLook, TakesLooks};
+ghost use Rattle.directory.specs.Finds.{after_word};
+ghost use Rattle.region_plan.specs.Matched.{IsMatched, IsWithinReach};
+ghost use Rattle.region_plan.specs.Settings.{setting_of};
+ghost use Rattle.walk.specs.Walks.{IsWalkOver, IsWordBelow, call_of, stage_of};
 
 use crate::turn::Turn;
 use directory::{Done, Found, each_visit_is_next, every_order_is_legal, lines_grow, own_after};
@@ -19,7 +23,7 @@ use scripts::scripts_are_valid;
 use std::alloc::{AllocError, Global};
 use trail_laws::{entries_tell, marks_tell};
 use visit_log::PlainCells;
-use walk::{Walk, empty_words};
+use walk::Walk;
 
 /// A caller: the walk of the find that it is at, if one is left, the ticket of that find's first
 /// look, and the lines of the finds that are done.
@@ -47,8 +51,44 @@ impl Caller {
         })
     }
 
-    // The next look, if a find is left.
+    // The next looks, at most so many, and how many there were.
     pub fn look(
+        &mut self,
+        actor: u32,
+        input: &Input,
+        plan: &Plan,
+        distances: &Distances,
+        cells: &PlainCells,
+        ticket: u64,
+        most: usize,
+    ) -> usize
+        requires together { BelongTogether (seen_input input.now) plan.now distances.now }
+        requires high { length input.now.homes.items ≤ actor }
+        requires low { actor < length input.now.scripts.items }
+        requires stands { MayLook (seen_input input.now) plan.now cells.now ticket actor
+            self.old }
+        requires fits { ticket + most < 2 ^ 64 }
+        ensures few { result ≤ most }
+        ensures taken { TakesLooks (seen_input input.now) plan.now cells.now ticket actor most
+            self.old self.new result }
+    {
+        each_visit_is_next();
+        let mut made = 0;
+        'looks: while made < most {
+            let at = ticket + made as u64;
+            let passed = self.pass(actor, input, plan, distances, cells, at, most - made - 1);
+            made += passed;
+            let at = at + passed as u64;
+            match self.look_one(actor, input, plan, distances, cells, at) {
+                Turn::Visited => made += 1,
+                Turn::Finished => return made,
+            }
+        }
+        made
+    }
+
+    // The next look, if a find is left.
+    fn look_one(
         &mut self,
         actor: u32,
         input: &Input,
@@ -60,14 +100,10 @@ impl Caller {
         requires together { BelongTogether (seen_input input.now) plan.now distances.now }
         requires high { length input.now.homes.items ≤ actor }
         requires low { actor < length input.now.scripts.items }
-        requires stands { (history : History)
-            × Sees (seen_input input.now) plan.now cells.now history
-            × (length history ≡ ticket)
-            × IsCaller (seen_input input.now) plan.now history actor self.old }
-        ensures { (history : History) → Sees (seen_input input.now) plan.now cells.now history
-            → length history ≡ ticket
-            → IsCaller (seen_input input.now) plan.now history actor self.old
-            → HasLooked (seen_input input.now) plan.now history actor self.old self.new result }
+        requires stands { MayLook (seen_input input.now) plan.now cells.now ticket actor
+            self.old }
+        ensures { Looks (seen_input input.now) plan.now cells.now ticket actor self.old self.new
+            result }
     {
         marks_tell();
         entries_tell();
@@ -81,7 +117,7 @@ impl Caller {
         let Some(key) = walk.next(plan) else {
             unreachable!()
         };
-        walk.saw(plan, distances, cells.look(plan, key));
+        see(walk, plan, distances, cells.look(plan, key));
         let first = self.first.unwrap_or(ticket);
         let Some(found) = walk.answer() else {
             self.first = Some(first);
@@ -97,80 +133,9 @@ impl Caller {
         Turn::Visited
     }
 
-    // The looks that read nothing and leave the find open, at most so many: how many there were.
-    pub fn pass(
-        &mut self,
-        actor: u32,
-        input: &Input,
-        plan: &Plan,
-        distances: &Distances,
-        cells: &PlainCells,
-        ticket: u64,
-        most: usize,
-    ) -> usize
-        requires together { BelongTogether (seen_input input.now) plan.now distances.now }
-        requires high { length input.now.homes.items ≤ actor }
-        requires low { actor < length input.now.scripts.items }
-        requires stands { (history : History)
-            × Sees (seen_input input.now) plan.now cells.now history
-            × (length history ≡ ticket)
-            × IsCaller (seen_input input.now) plan.now history actor self.old }
-        requires fits { ticket + most < 2 ^ 64 }
-        ensures few { result ≤ most }
-        ensures passed { (history : History)
-            → Sees (seen_input input.now) plan.now cells.now history → length history ≡ ticket
-            → IsCaller (seen_input input.now) plan.now history actor self.old
-            → HasPassed (seen_input input.now) plan.now cells.now history actor result self.new }
-    {
-        let mut made = 0;
-        'levels: while made < most {
-            let at = ticket + made as u64;
-            let left = most - made;
-            let passed = self.pass_level(actor, input, plan, distances, cells, at, left);
-            if passed == 0 {
-                return made;
-            }
-            made += passed;
-        }
-        made
-    }
-
-    // Those at a level: its entries, and with the last of them the way to the next level.
-    fn pass_level(
-        &mut self,
-        actor: u32,
-        input: &Input,
-        plan: &Plan,
-        distances: &Distances,
-        cells: &PlainCells,
-        ticket: u64,
-        most: usize,
-    ) -> usize
-        requires together { BelongTogether (seen_input input.now) plan.now distances.now }
-        requires high { length input.now.homes.items ≤ actor }
-        requires low { actor < length input.now.scripts.items }
-        requires stands { (history : History)
-            × Sees (seen_input input.now) plan.now cells.now history
-            × (length history ≡ ticket)
-            × IsCaller (seen_input input.now) plan.now history actor self.old }
-        requires fits { ticket + most < 2 ^ 64 }
-        ensures few { result ≤ most }
-        ensures passed { (history : History)
-            → Sees (seen_input input.now) plan.now cells.now history → length history ≡ ticket
-            → IsCaller (seen_input input.now) plan.now history actor self.old
-            → HasPassed (seen_input input.now) plan.now cells.now history actor result self.new }
-    {
-        let passed = self.pass_readers(actor, input, plan, distances, cells, ticket, most);
-        if passed == most {
-            return passed;
-        }
-        let at = ticket + passed as u64;
-        passed + self.pass_one(actor, input, plan, distances, cells, at)
-    }
-
     // The looks at entries that hold nothing, at most so many, and how many there were. The last
     // look at a level is no such look.
-    fn pass_readers(
+    fn pass(
         &mut self,
         actor: u32,
         input: &Input,
@@ -183,20 +148,19 @@ impl Caller {
         requires together { BelongTogether (seen_input input.now) plan.now distances.now }
         requires high { length input.now.homes.items ≤ actor }
         requires low { actor < length input.now.scripts.items }
-        requires stands { (history : History)
-            × Sees (seen_input input.now) plan.now cells.now history
-            × (length history ≡ ticket)
-            × IsCaller (seen_input input.now) plan.now history actor self.old }
+        requires stands { MayLook (seen_input input.now) plan.now cells.now ticket actor
+            self.old }
         ensures few { result ≤ most }
-        ensures passed { (history : History)
-            → Sees (seen_input input.now) plan.now cells.now history → length history ≡ ticket
-            → IsCaller (seen_input input.now) plan.now history actor self.old
-            → HasPassed (seen_input input.now) plan.now cells.now history actor result self.new }
+        ensures passed { MakesLooks (seen_input input.now) plan.now cells.now ticket actor result
+            self.old self.new }
     {
         scripts_are_valid();
         each_visit_is_next();
         lines_grow();
         own_after();
+        if most == 0 {
+            return 0;
+        }
         let Some(walk) = &mut self.walk else {
             return 0;
         };
@@ -211,54 +175,24 @@ impl Caller {
         }
         count
     }
+}
 
-    // The next look, if it reads nothing and leaves the find open; else none.
-    fn pass_one(
-        &mut self,
-        actor: u32,
-        input: &Input,
-        plan: &Plan,
-        distances: &Distances,
-        cells: &PlainCells,
-        ticket: u64,
-    ) -> usize
-        requires together { BelongTogether (seen_input input.now) plan.now distances.now }
-        requires high { length input.now.homes.items ≤ actor }
-        requires low { actor < length input.now.scripts.items }
-        requires stands { (history : History)
-            × Sees (seen_input input.now) plan.now cells.now history
-            × (length history ≡ ticket)
-            × IsCaller (seen_input input.now) plan.now history actor self.old }
-        ensures few { result ≤ 1 }
-        ensures passed { (history : History)
-            → Sees (seen_input input.now) plan.now cells.now history → length history ≡ ticket
-            → IsCaller (seen_input input.now) plan.now history actor self.old
-            → HasPassed (seen_input input.now) plan.now cells.now history actor result self.new }
-    {
-        marks_tell();
-        entries_tell();
-        empty_words();
-        every_order_is_legal();
-        each_visit_is_next();
-        scripts_are_valid();
-        lines_grow();
-        own_after();
-        let Some(mut walk) = self.walk else {
-            return 0;
-        };
-        let Some(key) = walk.next(plan) else {
-            unreachable!()
-        };
-        if cells.look(plan, key) != 0 {
-            return 0;
-        }
-        walk.saw(plan, distances, 0);
-        if walk.answer().is_some() {
-            return 0;
-        }
-        self.walk = Some(walk);
-        self.first = Some(self.first.unwrap_or(ticket));
-        1
+// A walk goes on by the word that it has looked at.
+fn see(walk: &mut Walk, plan: &Plan, distances: &Distances, word: u64)
+    requires goes { IsWalkOver plan.now walk.old }
+    requires belongs { plan.now.distances ≡ distances.now }
+    requires matched { IsMatched plan.now }
+    requires reached { IsWithinReach plan.now }
+    requires word { IsWordBelow (nodes_of plan.now) walk.old.progress word }
+    ensures stage { stage_of plan.now walk.new ≡ after_word (setting_of plan.now [])
+        (call_of walk.old) (stage_of plan.now walk.old) word }
+    ensures call { call_of walk.new ≡ call_of walk.old }
+    ensures goes { IsWalkOver plan.now walk.new }
+{
+    if word == 0 && walk.is_climbing() {
+        walk.saw_nothing(plan);
+    } else {
+        walk.saw(plan, distances, word);
     }
 }
 

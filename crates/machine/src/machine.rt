@@ -7,7 +7,7 @@ ghost use Rattle.net_reader.specs.Seen.{seen_input};
 ghost use Rattle.net_reader.specs.Valid.{count_calls};
 ghost use Rattle.trail_laws.specs.Lines.{IsRightLine, TellInTurn, TellRisingNumbers};
 ghost use Rattle.machine.specs.Callers.{IsCaller};
-ghost use Rattle.machine.specs.Machines.{HasMade, HasStridden, HasTurned, IsSame, HasHistory, scripts_at, setting_at};
+ghost use Rattle.machine.specs.Machines.{HasStridden, IsSame, HasHistory, scripts_at, setting_at};
 ghost use Rattle.machine.specs.Stands.{BelongTogether};
 ghost use Rattle.machine.specs.Subscribers.{IsSubscriber};
 ghost use Rattle.machine.specs.declared.caller.Caller.{Caller};
@@ -16,7 +16,7 @@ ghost use Rattle.machine.specs.declared.turn.Turn.TheVariants.{Finished};
 
 use crate::caller::Caller;
 use crate::lines::{push_finds, push_steps};
-use crate::order::{log, log_run, run_end};
+use crate::order::{log_run, room_for, run_end};
 use crate::room::{count_calls, most_visits};
 use crate::subscriber::Subscriber;
 use crate::turn::Turn;
@@ -91,11 +91,15 @@ impl<'a> Machine<'a> {
             (after_turn (setting_at self.old) (scripts_at self.old) history actor) }
         ensures same { IsSame self.old self.new }
     {
-        self.act(actor)
+        if self.stride(actor, 1) == 0 {
+            Turn::Finished
+        } else {
+            Turn::Visited
+        }
     }
 
-    /// So many turns of an actor, one after another: what as many calls of `turn` do, but that a
-    /// caller's looks at entries that hold nothing are made at once. How many visits it made.
+    /// So many turns of an actor, one after another: what as many calls of `turn` do, in fewer
+    /// steps. How many visits it made.
     pub fn turns(&mut self, actor: u32, count: usize) -> usize
         requires stands { (history : History) × HasHistory self.old history }
         ensures stands { (history : History) → HasHistory self.old history
@@ -209,122 +213,73 @@ impl<'a> Machine<'a> {
             → HasStridden self.old self.new history actor result }
         ensures same { IsSame self.old self.new }
     {
-        let passed = self.pass(actor, most - 1);
-        match self.act(actor) {
-            Turn::Visited => passed + 1,
-            Turn::Finished => passed,
+        if (actor as usize) < self.subscribers.len() {
+            return self.write(actor, most);
         }
-    }
-
-    // A caller's looks that read nothing and leave its find open, at most so many, and how many
-    // there were.
-    fn pass(&mut self, actor: u32, most: usize) -> usize
-        requires stands { (history : History) × HasHistory self.old history }
-        ensures few { result ≤ most }
-        ensures stands { (history : History) → HasHistory self.old history
-            → HasMade self.old self.new history actor result }
-        ensures same { IsSame self.old self.new }
-    {
-        own_after();
-        lines_grow();
-        visits_are_few();
-        let subs = self.subscribers.len();
-        if most == 0 || (actor as usize) < subs || self.input.scripts.len() <= actor as usize {
+        if self.input.scripts.len() <= actor as usize {
             return 0;
         }
-        let ticket = self.order.len() as u64;
-        let room = self.order.capacity() - self.order.len();
-        let count = self.callers[actor as usize - subs].pass(
-            actor,
-            self.input,
-            self.plan,
-            self.distances,
-            &self.cells,
-            ticket,
-            most.min(room),
-        );
-        log_run(&mut self.order, actor, count);
-        count
+        self.look(actor, most)
     }
 
-    // A turn, as the parts make it.
-    fn act(&mut self, actor: u32) -> Turn
-        requires stands { (history : History) × HasHistory self.old history }
-        ensures turned { (history : History) → HasHistory self.old history
-            → HasTurned self.old self.new history actor result }
-        ensures same { IsSame self.old self.new }
-    {
-        if (actor as usize) < self.subscribers.len() {
-            self.write(actor)
-        } else if (actor as usize) < self.input.scripts.len() {
-            self.look(actor)
-        } else {
-            Turn::Finished
-        }
-    }
-
-    // A subscriber's turn.
-    fn write(&mut self, actor: u32) -> Turn
+    // A subscriber's next visits, at most so many, and how many there were.
+    fn write(&mut self, actor: u32, most: usize) -> usize
         requires stands { (history : History) × HasHistory self.old history }
         requires known { actor < length self.old.input.now.homes.items }
-        ensures turned { (history : History) → HasHistory self.old history
-            → HasTurned self.old self.new history actor result }
+        requires some { 1 ≤ most }
+        ensures few { result ≤ most }
+        ensures stands { (history : History) → HasHistory self.old history
+            → HasStridden self.old self.new history actor result }
         ensures same { IsSame self.old self.new }
     {
         each_visit_is_next();
-        next_is_own();
         own_after();
         lines_grow();
         visits_are_few();
         let ticket = self.order.len() as u64;
-        let turn = self.subscribers[actor as usize].write(
+        let reach = room_for(&self.order, most);
+        let count = self.subscribers[actor as usize].write(
             actor,
             self.input,
             self.plan,
             self.distances,
             &mut self.cells,
             ticket,
+            reach,
         );
-        match turn {
-            Turn::Finished => Turn::Finished,
-            Turn::Visited => {
-                log(&mut self.order, actor);
-                Turn::Visited
-            }
-        }
+        log_run(&mut self.order, actor, count);
+        count
     }
 
-    // A caller's turn.
-    fn look(&mut self, actor: u32) -> Turn
+    // A caller's next looks, at most so many, and how many there were.
+    fn look(&mut self, actor: u32, most: usize) -> usize
         requires stands { (history : History) × HasHistory self.old history }
         requires high { length self.old.input.now.homes.items ≤ actor }
         requires known { actor < length self.old.input.now.scripts.items }
-        ensures turned { (history : History) → HasHistory self.old history
-            → HasTurned self.old self.new history actor result }
+        requires some { 1 ≤ most }
+        ensures few { result ≤ most }
+        ensures stands { (history : History) → HasHistory self.old history
+            → HasStridden self.old self.new history actor result }
         ensures same { IsSame self.old self.new }
     {
         each_visit_is_next();
-        next_is_own();
         own_after();
         lines_grow();
         visits_are_few();
         let ticket = self.order.len() as u64;
+        let reach = room_for(&self.order, most);
         let place = actor as usize - self.subscribers.len();
-        let turn = self.callers[place].look(
+        let count = self.callers[place].look(
             actor,
             self.input,
             self.plan,
             self.distances,
             &self.cells,
             ticket,
+            reach,
         );
-        match turn {
-            Turn::Finished => Turn::Finished,
-            Turn::Visited => {
-                log(&mut self.order, actor);
-                Turn::Visited
-            }
-        }
+        log_run(&mut self.order, actor, count);
+        count
     }
 }
 

@@ -1,5 +1,5 @@
 //! The actors of all tickets, and the runs of an order.
-ghost use Rattle.std.specs.Prelude.{◌≡◌, ◌∷◌, ◌++◌, ◌+◌, ◌-◌, ◌<◌, ◌≤◌, [], drop, length, replicate, slice_index, vec_capacity};
+ghost use Rattle.std.specs.Prelude.{◌≡◌, ◌∷◌, ◌++◌, ◌+◌, ◌-◌, ◌^◌, ◌<◌, ◌≤◌, [], drop, length, replicate, slice_index, vec_capacity};
 
 // Where the run of equal numbers ends that starts at a place of an order.
 pub fn run_end(order: &[u32], start: usize) -> usize
@@ -17,22 +17,30 @@ pub fn run_end(order: &[u32], start: usize) -> usize
     order.len()
 }
 
-// Logs whose visit the next ticket is.
-pub fn log(order: &mut Vec<u32>, actor: u32)
-    requires room { length order.old.items < vec_capacity order.old }
-    ensures items { order.new.items ≡ order.old.items ++ actor ∷ [] }
-    ensures capacity { vec_capacity order.new ≡ vec_capacity order.old }
-{
-    order.push_reserved(actor);
-}
-
 // Logs whose visits the next tickets are.
 pub fn log_run(order: &mut Vec<u32>, actor: u32, count: usize)
     requires room { length order.old.items + count ≤ vec_capacity order.old }
     ensures items { order.new.items ≡ order.old.items ++ replicate count actor }
     ensures capacity { vec_capacity order.old ≤ vec_capacity order.new }
+    ensures still { count ≡ 0 → order.new ≡ order.old }
 {
-    if order.resize(order.len() + count, actor).is_err() {
-        unreachable!()
+    match count {
+        0 => {}
+        // Most runs of an order that changes the actor at each turn.
+        1 => order.push_reserved(actor),
+        _ => {
+            if order.resize(order.len() + count, actor).is_err() {
+                unreachable!()
+            }
+        }
     }
+}
+
+// How many of so many visits an order has room for.
+pub fn room_for(order: &Vec<u32>, most: usize) -> usize
+    ensures few { result ≤ most }
+    ensures fits { length order.now.items + result < 2 ^ 64 }
+    ensures full { result ≡ 0 → 1 ≤ most → vec_capacity order.now ≤ length order.now.items }
+{
+    most.min(order.capacity() - order.len())
 }

@@ -1,5 +1,5 @@
 //! A subscriber: its moves and switches, one after another.
-ghost use Rattle.std.specs.Prelude.{◌≡◌, ◌≤◌, ◌<◌, ◌++◌, ◌∷◌, [], ℕ, List, IfOk, None, OnSome, not, length, suc, slice_get, slice_index, vec_capacity};
+ghost use Rattle.std.specs.Prelude.{◌≡◌, ◌≤◌, ◌<◌, ◌+◌, ◌-◌, ◌^◌, ◌++◌, ◌∷◌, [], ℕ, List, IfOk, None, OnSome, true, false, not, length, suc, slice_get, slice_index, vec_capacity};
 ghost use Rattle.directory.specs.Courses.{Step};
 ghost use Rattle.directory.specs.Settings.{Setting};
 ghost use Rattle.directory.specs.declared.answers.Done.TheVariants.{Switched};
@@ -14,13 +14,13 @@ ghost use Rattle.handset.specs.Stands.{StandsForSteps, switch_to};
 ghost use Rattle.visit_log.specs.Cells.{HasHomes, GoWith, Hold};
 ghost use Rattle.scripts.specs.Scripts.{step_of};
 ghost use Rattle.machine.specs.Stands.{BelongTogether};
-ghost use Rattle.machine.specs.Subscribers.{MayBegin, begun_line, line_after, MayTakeTurn, TakesTurn};
+ghost use Rattle.machine.specs.Subscribers.{HasPut, MayBegin, begun_line, line_after, MayTakeTurn, TakesTurn, TakesTurns};
 
 use crate::turn::Turn;
-use directory::{Done, own_after, scripts_in_order, tickets_tell};
+use directory::{Done, each_visit_is_next, next_is_own, own_after, tickets_tell};
 use distances::Distances;
-use entry_word::{Act, Visit, mark_words};
-use handset::Handset;
+use entry_word::{Act, Key, Visit, mark_words};
+use handset::{EntryWrite, Handset};
 use net_reader::{Call, Input};
 use region_plan::Plan;
 use scripts::scripts_are_valid;
@@ -58,8 +58,42 @@ impl Subscriber {
         })
     }
 
-    // The next visit, if one is left.
+    // The next visits, at most so many, and how many there were.
     pub fn write(
+        &mut self,
+        sub: u32,
+        input: &Input,
+        plan: &Plan,
+        distances: &Distances,
+        cells: &mut PlainCells,
+        ticket: u64,
+        most: usize,
+    ) -> usize
+        requires together { BelongTogether (seen_input input.now) plan.now distances.now }
+        requires low { sub < length input.now.homes.items }
+        requires stands { MayTakeTurn (seen_input input.now) plan.now cells.old ticket sub
+            self.old }
+        requires fits { ticket + most < 2 ^ 64 }
+        ensures few { result ≤ most }
+        ensures taken { TakesTurns (seen_input input.now) plan.now ticket sub most self.old self.new
+            cells.old cells.new result }
+        ensures still { result ≡ 0 → cells.new ≡ cells.old }
+    {
+        each_visit_is_next();
+        next_is_own();
+        let mut made = 0;
+        'writes: while made < most {
+            let at = ticket + made as u64;
+            match self.write_one(sub, input, plan, distances, cells, at) {
+                Turn::Visited => made += 1,
+                Turn::Finished => return made,
+            }
+        }
+        made
+    }
+
+    // The next visit, if one is left.
+    fn write_one(
         &mut self,
         sub: u32,
         input: &Input,
@@ -80,11 +114,16 @@ impl Subscriber {
         mark_words();
         scripts_are_valid();
         let commits = self.handset.commits();
+        if make_entry(&mut self.handset, plan, cells) {
+            let last = self.lines.len() - 1;
+            go_on(&mut self.lines[last], commits, ticket);
+            return Turn::Visited;
+        }
         let Some(_visit) = make(&mut self.handset, plan, cells) else {
             return self.begin(sub, input, plan, distances, cells, ticket);
         };
         let last = self.lines.len() - 1;
-        self.lines[last] = line_after(self.lines[last], commits, ticket);
+        go_on(&mut self.lines[last], commits, ticket);
         Turn::Visited
     }
 
@@ -125,6 +164,37 @@ impl Subscriber {
     }
 }
 
+// Makes the write that comes next, if it is one of an entry that has a short way.
+fn make_entry(handset: &mut Handset, plan: &Plan, cells: &mut PlainCells) -> bool
+    requires goes { GoesWith plan.now handset.old }
+    requires cells { GoWith plan.now cells.old }
+    requires homes { HasHomes plan.now }
+    requires known { handset.old.sub < cells.old.subs }
+    ensures made { result ≡ true
+        → HasPut plan.now handset.old handset.new cells.old cells.new }
+    ensures rests { result ≡ false → (handset.new ≡ handset.old) × (cells.new ≡ cells.old) }
+    ensures goes { GoesWith plan.now handset.new }
+    ensures its { handset.new.sub ≡ handset.old.sub }
+    ensures cells { GoWith plan.now cells.new }
+{
+    let sub = handset.sub();
+    let Some(write) = handset.write_entry(plan) else {
+        return false;
+    };
+    let EntryWrite {
+        level,
+        cluster,
+        word,
+    } = write;
+    let key = Key::Entry {
+        level,
+        cluster,
+        sub,
+    };
+    cells.put(plan, key, word);
+    true
+}
+
 // Makes the write that comes next, if one is left.
 fn make(handset: &mut Handset, plan: &Plan, cells: &mut PlainCells) -> Option<Visit>
     requires goes { GoesWith plan.now handset.old }
@@ -147,8 +217,7 @@ fn make(handset: &mut Handset, plan: &Plan, cells: &mut PlainCells) -> Option<Vi
         → (visit : Visit) → result ≡ Some visit
         → Hold plan.now starts cells.new (history ++ visit ∷ [])) }
 {
-    let visit = handset.next(plan)?;
-    handset.made(plan);
+    let visit = handset.write(plan)?;
     if let Act::Put(key, word) = visit.act {
         cells.put(plan, key, word);
     }
@@ -222,30 +291,14 @@ fn switch(handset: &mut Handset, off: bool, ticket: u64) -> Done
     }
 }
 
-// The line of a step after one more of its visits.
-fn line_after(line: Done, commits: bool, ticket: u64) -> Done
-    ensures { result ≡ line_after line commits ticket }
+// Brings the line of a step to one more of its visits.
+fn go_on(line: &mut Done, commits: bool, ticket: u64)
+    ensures { line.new ≡ line_after line.old commits ticket }
 {
-    match line {
-        Done::Moved {
-            actor,
-            number,
-            from,
-            to,
-            weight,
-            first,
-            commit,
-            ..
-        } => Done::Moved {
-            actor,
-            number,
-            from,
-            to,
-            weight,
-            first,
-            commit: if commits { ticket } else { commit },
-            last: ticket,
-        },
-        other => other,
+    if let Done::Moved { commit, last, .. } = line {
+        if commits {
+            *commit = ticket;
+        }
+        *last = ticket;
     }
 }

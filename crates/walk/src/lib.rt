@@ -1,6 +1,7 @@
 //! A find under way: which cell it looks at next, and its answer.
 #![tactic(auto)]
 
+mod climb;
 mod laws;
 mod progress;
 mod steps;

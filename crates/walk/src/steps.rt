@@ -1,16 +1,16 @@
 //! How a find goes on by the word that it reads.
-ghost use Rattle.std.specs.Prelude.{◌≡◌, ◌+◌, ◌-◌, ◌*◌, ◌^◌, ◌<◌, ◌≤◌, ◌++◌, [], ℕ, None, true, suc, length, drop, slice_index};
+ghost use Rattle.std.specs.Prelude.{◌≡◌, ◌+◌, ◌-◌, ◌^◌, ◌<◌, ◌≤◌, [], ℕ, None, length, slice_index};
 ghost use Rattle.node_set.specs.Ascending.{has};
 ghost use Rattle.entry_word.specs.Marks.{mark_in};
 ghost use Rattle.entry_word.specs.Addresses.{address_in};
-ghost use Rattle.directory.specs.Finds.{FindCall, after_entry, after_mark, after_origin, after_word, begin_chase, climb, hop};
+ghost use Rattle.directory.specs.Finds.{FindCall, after_mark, after_origin, after_word, begin_chase, climb, hop};
 ghost use Rattle.region_plan.specs.Kept.{IsKept};
 ghost use Rattle.region_plan.specs.Matched.{IsMatched, IsWithinReach};
-ghost use Rattle.region_plan.specs.Plan.{clusters_of, inside, leader, levels_of, members_of, nodes_of, readers};
+ghost use Rattle.region_plan.specs.Plan.{inside, leader, levels_of, nodes_of, readers};
 ghost use Rattle.region_plan.specs.Settings.{setting_of};
-ghost use Rattle.walk.specs.Climbs.{weight_past};
-ghost use Rattle.walk.specs.Walks.{IsAddressBelow, IsMarkBelow, IsProgressWithin, IsWordBelow, chase_of, reader_in, readers_above, readers_at, stage_at};
+ghost use Rattle.walk.specs.Walks.{IsMarkBelow, IsProgressWithin, IsWordBelow, chase_of, stage_at};
 
+use crate::climb::{climb_from, past_entry, reader_at, way_in};
 use crate::progress::{Chase, Progress};
 use directory::{Found, Why};
 use distances::Distances;
@@ -109,125 +109,6 @@ fn from_origin(plan: &Plan, distances: &Distances, from: u32, mark: PresenceMark
             },
         },
     }
-}
-
-// The climb goes on to the first reader of a level or above.
-fn climb_from(plan: &Plan, from: u32, known: Option<u32>, weight: u64, level: u32) -> Progress
-    requires from { from < nodes_of plan.now }
-    requires level { level ≤ levels_of plan.now }
-    requires light { weight ≤ level * 1024 * 2 ^ 36 }
-    ensures stage { stage_at (setting_of plan.now []) from result ≡ climb known weight
-        (readers_above (setting_of plan.now []) from level) }
-    ensures within { IsProgressWithin plan.now from result }
-{
-    // The call tells the proof that there is a level.
-    let _nodes = plan.nodes();
-    for level in level..plan.levels() {
-        if !plan.readers(level, from).is_empty() {
-            return Progress::Climbing {
-                known,
-                weight,
-                level,
-                index: 0,
-            };
-        }
-    }
-    Progress::Ended {
-        found: Found::Again {
-            why: Why::NoEntry,
-            weight,
-        },
-    }
-}
-
-// The climb goes on past a reader whose entry is empty.
-fn past_entry(
-    plan: &Plan,
-    from: u32,
-    known: Option<u32>,
-    weight: u64,
-    level: u32,
-    index: u32,
-) -> Progress
-    requires from { from < nodes_of plan.now }
-    requires within { IsProgressWithin plan.now from (Progress.Climbing known weight level index) }
-    requires matched { IsMatched plan.now }
-    requires reached { IsWithinReach plan.now }
-    ensures stage { (sub : ℕ) → let call : FindCall = record { from = from; sub = sub } in
-        stage_at (setting_of plan.now []) from result
-        ≡ after_entry (setting_of plan.now []) call known weight
-        (reader_in plan.now from level index)
-        (drop (suc index) (readers_at (setting_of plan.now []) from level) ++ readers_above
-        (setting_of plan.now []) from (suc level)) None }
-    ensures within { IsProgressWithin plan.now from result }
-{
-    let weight = weight + 2 * way_in(plan, from, level, index);
-    if (index as usize) + 1 < plan.readers(level, from).len() {
-        Progress::Climbing {
-            known,
-            weight,
-            level,
-            index: index + 1,
-        }
-    } else {
-        climb_from(plan, from, known, weight, level + 1)
-    }
-}
-
-// The cluster that a node reads at a level, by its place.
-fn reader_at(plan: &Plan, from: u32, level: u32, index: u32) -> u32
-    requires from { from < nodes_of plan.now }
-    requires level { level < levels_of plan.now }
-    requires index { index < length (readers plan.now level from) }
-    requires matched { IsMatched plan.now }
-    ensures value { result ≡ slice_index (readers plan.now level from) index }
-    ensures cluster { result < clusters_of plan.now level }
-    ensures member { has from (members_of plan.now level result) ≡ true }
-    ensures few { length (readers plan.now level from) ≤ 1024 }
-    ensures kept { IsKept plan.now }
-{
-    // The call tells the proof that there are few clusters.
-    let _nodes = plan.nodes();
-    plan.readers(level, from)[index as usize]
-}
-
-// The weight from the leader of a reader to the origin.
-fn way_in(plan: &Plan, from: u32, level: u32, index: u32) -> u64
-    requires from { from < nodes_of plan.now }
-    requires level { level < levels_of plan.now }
-    requires index { index < length (readers plan.now level from) }
-    requires matched { IsMatched plan.now }
-    requires reached { IsWithinReach plan.now }
-    ensures way { result ≡ inside plan.now level (slice_index
-        (readers plan.now level from) index) from }
-    ensures light { result ≤ 2 ^ 35 }
-    ensures few { length (readers plan.now level from) ≤ 1024 }
-    ensures kept { IsKept plan.now }
-{
-    // The call tells the proof that there are few readers, whose weights are light.
-    let _nodes = plan.nodes();
-    plan.reader_weight(level, from, index)
-}
-
-// The weight of a climb past so many readers of a level, from one on.
-pub fn weight_past(plan: &Plan, from: u32, level: u32, index: u32, weight: u64, count: usize) -> u64
-    requires from { from < nodes_of plan.now }
-    requires level { level < levels_of plan.now }
-    requires inside { index + count < length (readers plan.now level from) }
-    requires light { weight ≤ (level * 1024 + index) * 2 ^ 36 }
-    requires matched { IsMatched plan.now }
-    requires reached { IsWithinReach plan.now }
-    ensures weight { result ≡ weight_past plan.now from level index weight count }
-    ensures few { length (readers plan.now level from) ≤ 1024 }
-    ensures kept { IsKept plan.now }
-{
-    // The call tells the proof that there are few readers, whose weights are light.
-    let _first = reader_at(plan, from, level, index);
-    let mut sum = weight;
-    for passed in 0..count as u32 {
-        sum += 2 * way_in(plan, from, level, index + passed);
-    }
-    sum
 }
 
 // The weight from the origin to the leader of a reader, and on to the address that it has.

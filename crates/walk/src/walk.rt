@@ -1,5 +1,5 @@
 //! A find under way.
-ghost use Rattle.std.specs.Prelude.{◌≡◌, ◌++◌, ◌∷◌, ◌<◌, [], ℕ, List, IfOk, IfSome, length, replicate};
+ghost use Rattle.std.specs.Prelude.{◌≡◌, ◌++◌, ◌∷◌, ◌<◌, [], ℕ, true, List, IfOk, IfSome, length, replicate};
 ghost use Rattle.std.specs.Option.{is_some};
 ghost use Rattle.directory.specs.Finds.{after_word, answer_of, key_of};
 ghost use Rattle.region_plan.specs.Matched.{IsMatched, IsWithinReach};
@@ -8,8 +8,9 @@ ghost use Rattle.region_plan.specs.Settings.{setting_of};
 ghost use Rattle.walk.specs.Climbs.{IsAhead, PassesEntry, is_climbing, walk_past};
 ghost use Rattle.walk.specs.Walks.{IsWalkOver, IsWordBelow, StandsForWords, call_of, stage_of, walk_or_fault};
 
+use crate::climb::{progress_past, weight_past};
 use crate::progress::Progress;
-use crate::steps::{progress_after, weight_past};
+use crate::steps::progress_after;
 use directory::Found;
 use distances::Distances;
 use entry_word::Key;
@@ -158,6 +159,29 @@ impl Walk {
         }
     }
 
+    /// The look that came next, at an entry, read nothing: what `saw` does with a word of 0.
+    pub fn saw_nothing(&mut self, plan: &Plan)
+        requires goes { IsWalkOver plan.now self.old }
+        requires climbs { is_climbing self.old.progress ≡ true }
+        requires matched { IsMatched plan.now }
+        requires reached { IsWithinReach plan.now }
+        ensures stage { stage_of plan.now self.new ≡ after_word (setting_of plan.now [])
+            (call_of self.old) (stage_of plan.now self.old) 0 }
+        ensures call { call_of self.new ≡ call_of self.old }
+        ensures goes { IsWalkOver plan.now self.new }
+        ensures stands { (words : List ℕ) → StandsForWords plan.now self.old words
+            → StandsForWords plan.now self.new (words ++ 0 ∷ []) }
+    {
+        self.rise(plan);
+    }
+
+    /// Whether it is at the entry of a reader.
+    pub fn is_climbing(&self) -> bool
+        ensures { result ≡ is_climbing self.now.progress }
+    {
+        matches!(self.progress, Progress::Climbing { .. })
+    }
+
     /// The look that came next read this word.
     pub fn saw(&mut self, plan: &Plan, distances: &Distances, word: u64)
         requires goes { IsWalkOver plan.now self.old }
@@ -188,5 +212,19 @@ impl Walk {
         ensures goes { IsWalkOver plan.now self.new }
     {
         self.progress = progress_after(plan, distances, self.from, self.progress, word);
+    }
+
+    // One more word, which holds nothing.
+    fn rise(&mut self, plan: &Plan)
+        requires goes { IsWalkOver plan.now self.old }
+        requires climbs { is_climbing self.old.progress ≡ true }
+        requires matched { IsMatched plan.now }
+        requires reached { IsWithinReach plan.now }
+        ensures stage { stage_of plan.now self.new ≡ after_word (setting_of plan.now [])
+            (call_of self.old) (stage_of plan.now self.old) 0 }
+        ensures call { call_of self.new ≡ call_of self.old }
+        ensures goes { IsWalkOver plan.now self.new }
+    {
+        self.progress = progress_past(plan, self.from, self.progress);
     }
 }

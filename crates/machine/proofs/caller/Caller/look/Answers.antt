@@ -1,120 +1,45 @@
-use Rattle.std.proofs.Common.{◌≡◌, ◌<◌, ◌∙◌, [], ◌∷◌, ◌++◌, drop, ap, subst, sym, refl, arith, length, get_or, map}
-use Rattle.std.specs.Prelude.{Some, if◌then◌else◌}
-use Rattle.std.proofs.lemmas.List.{length_push}
-use Rattle.directory.specs.Orders.{finds_of}
-use Rattle.scripts.specs.Scripts.{scripts_of}
-use Rattle.machine.specs.Stands.{setting_over}
-use Rattle.machine.proofs.Looking.{ok-of}
-use Rattle.directory.specs.Outcomes.{found_line}
+use Rattle.std.proofs.Common.{◌+◌, arith}
 use Rattle.net_reader.specs.Seen.{seen_input}
-use Rattle.region_plan.specs.Plan.{nodes_of}
-use Rattle.walk.specs.Walks.{IsWordBelow}
-use Rattle.machine.specs.Stands.{IsWalking}
-use Rattle.directory.specs.Finds.{at_origin}
-use Rattle.scripts.specs.Scripts.{find_of}
-use Rattle.machine.proofs.Looking.{wanted, script-is, scripts-low, script-searches, place-low, call-at}
-use Rattle.machine.proofs.Looked.{looks, looked-on, looked-up}
-use Rattle.scripts.specs.ScriptLaws.{calls-few, finds-are}
+use Rattle.machine.proofs.Passing.{looked-through, looks-ended, may-look, passed-none}
 use Rattle.machine.proofs.caller.Caller.look.Goals as goal
-use Rattle.machine.proofs.caller.Caller.look.Goals.{After-len}
 
-pub look-requires-clause-cell : goal.look-requires-clause-cell
-look-requires-clause-cell c =
-    (wanted c.marks_tell.ensures.marks c.entries_tell.ensures.entries c.every_order_is_legal.ensures
-    c.scripts_are_valid.ensures (seen_input c.args.input.now) c.args.plan.now c.args.distances.now c.args.cells.now c.requires.stands.0 c.args.actor
-    c.args.self.now c.in-Some.walk c.in-Some-next.key c.requires.together c.requires.high
-    (scripts-low c.args.input.now.scripts.items c.args.actor c.requires.low) c.requires.stands.1
-    c.requires.stands.3 c.in-Some.is (sym c.next.ensures ∙ c.in-Some-next.is)).is_cell
-
-pub saw-requires-clause-word : goal.saw-requires-clause-word
-saw-requires-clause-word c =
-    subst (IsWordBelow (nodes_of c.args.plan.now) c.in-Some.walk.progress)
-    (sym (c.look.ensures.history c.args.input.now.homes.items c.requires.stands.0 c.requires.stands.1.hold))
-    (wanted c.marks_tell.ensures.marks c.entries_tell.ensures.entries c.every_order_is_legal.ensures
-    c.scripts_are_valid.ensures (seen_input c.args.input.now) c.args.plan.now c.args.distances.now c.args.cells.now c.requires.stands.0 c.args.actor
-    c.args.self.now c.in-Some.walk c.in-Some-next.key c.requires.together c.requires.high
-    (scripts-low c.args.input.now.scripts.items c.args.actor c.requires.low) c.requires.stands.1
-    c.requires.stands.3 c.in-Some.is (sym c.next.ensures ∙ c.in-Some-next.is)).is_below
-
-pub returns-in_default-answer : goal.returns-in_default-answer
-returns-in_default-answer c = λ history sees place its.
-    looked-on c.lines_grow.ensures.read c.lines_grow.ensures.finds c.lines_grow.ensures.count
-    (seen_input c.args.input.now) c.args.plan.now c.args.cells.now history c.args.actor c.args.ticket c.args.self.now _
-    c.in-Some-next.key c.saw.new.self c.requires.high sees place its
-    (looks c.own_after.ensures.tickets (seen_input c.args.input.now) c.args.plan.now history c.args.actor
-    c.args.self.now c.in-Some.walk c.saw.new.self c.in-Some-next.key c.look.result c.requires.high its c.in-Some.is
-    (sym c.next.ensures ∙ c.in-Some-next.is) (c.look.ensures.history c.args.input.now.homes.items history sees.hold)
-    c.saw.ensures.call c.saw.ensures.stage) c.saw.ensures.goes
-    (sym c.in_default-answer.is ∙ c.answer.ensures c.args.plan.now c.saw.ensures.goes)
-    (ap (λ f. record c.args.self.now { walk = Some c.saw.new.self; first = Some f }) c.unwrap_or-first.ensures)
-
-script-here : (c : After-len)
-    → c.as_slice-script.result.now ≡ get_or (seen_input c.args.input.now).scripts c.args.actor []
-script-here c = script-is c.args.input.now.scripts.items c.args.actor c.index.result.now c.as_slice-script.result.now
-    c.requires.low c.index.ensures c.as_slice-script.ensures.value
-
-low-here : (c : After-len) → c.len.result < length c.as_slice-script.result.now
-low-here c =
-    let few = place-low (seen_input c.args.input.now) c.args.plan.now c.requires.stands.0 c.args.actor c.args.self.now
-    c.in-Some.walk c.requires.high (scripts-low c.args.input.now.scripts.items c.args.actor c.requires.low)
-    c.requires.stands.3 c.in-Some.is in
-    omega (arith, few, ap length (script-here c), c.len.ensures)
-
-pub offset_bounds-script-len : goal.offset_bounds-script-len
-offset_bounds-script-len c =
-    let few = calls-few (seen_input c.args.input.now) c.args.actor c.requires.together.valid in
-    omega (arith, low-here c, few, ap length (script-here c))
-
-pub bounds-script-len : goal.bounds-script-len
-bounds-script-len c = low-here c
-
-pub walk_at-self-requires : goal.walk_at-self-requires
-walk_at-self-requires c = record {
-  searches = script-searches (seen_input c.args.input.now) c.args.plan.now c.args.actor c.as_slice-script.result.now
-      c.len-3.result c.requires.together.valid c.requires.together.nodes c.requires.high
-      (scripts-low c.args.input.now.scripts.items c.args.actor c.requires.low)
-      (script-is c.args.input.now.scripts.items c.args.actor c.index.result.now c.as_slice-script.result.now
-      c.requires.low c.index.ensures c.as_slice-script.ensures.value) (omega (arith, c.len-3.ensures));
+pub looks-init : goal.looks-init
+looks-init c = record {
+  few = omega arith;
+  passed = λ history sees place its.
+      passed-none (seen_input c.args.input.now) c.args.plan.now c.args.cells.now history c.args.actor c.args.self.now
+      sees its;
 }
 
-pub returns : goal.returns
-returns c = λ history sees place its.
-    let low = scripts-low c.args.input.now.scripts.items c.args.actor c.requires.low in
-    let script = script-is c.args.input.now.scripts.items c.args.actor c.index.result.now c.as_slice-script.result.now
-    c.requires.low c.index.ensures c.as_slice-script.ensures.value in
-    let count : length c.args.self.now.lines.items ≡ c.len.result = omega (arith, c.len.ensures) in
-    let lines : c.push.new.self.items ≡ c.args.self.now.lines.items ++ c.line_of-line.result ∷ [] =
-    c.push.ensures.items ∙ ap (λ b. if b then c.args.self.now.lines.items ++ c.line_of-line.result ∷ []
-    else c.args.self.now.lines.items) (ok-of c.push.result (sym c.is_err.ensures.value ∙ c.if-is_err.false)) in
-    looked-up c.lines_grow.ensures.read c.lines_grow.ensures.finds c.lines_grow.ensures.count
-    (seen_input c.args.input.now) c.args.plan.now c.args.cells.now history c.args.actor c.args.ticket c.args.self.now _
-    c.in-Some-next.key c.saw.new.self c.in-Some-answer.found c.line_of-line.result c.len-2.result
-    c.requires.high sees place its
-    (looks c.own_after.ensures.tickets (seen_input c.args.input.now) c.args.plan.now history c.args.actor
-    c.args.self.now c.in-Some.walk c.saw.new.self c.in-Some-next.key c.look.result c.requires.high its c.in-Some.is
-    (sym c.next.ensures ∙ c.in-Some-next.is) (c.look.ensures.history c.args.input.now.homes.items history sees.hold)
-    c.saw.ensures.call c.saw.ensures.stage)
-    (sym c.in-Some-answer.is ∙ c.answer.ensures c.args.plan.now c.saw.ensures.goes)
-    (λ call later left. c.line_of-line.ensures
-    ∙ (ap (λ f. found_line c.args.actor f c.in-Some-answer.found c.unwrap_or-first.result c.args.ticket)
-    (call-at (seen_input c.args.input.now) c.args.plan.now c.args.actor c.len.result c.as_slice-script.result.now call
-    later _
-    c.requires.high low script (omega (
-      arith,
-      c.len.ensures,
-      ap length script,
-      place-low (seen_input c.args.input.now) c.args.plan.now history c.args.actor c.args.self.now
-          c.in-Some.walk c.requires.high low its c.in-Some.is,
-    )) (left ∙ ap
-    (λ n. drop n
-    (finds_of (setting_over (seen_input c.args.input.now) c.args.plan.now)
-    (scripts_of (seen_input c.args.input.now)) c.args.actor)) count))
-    ∙ ap (λ f. found_line c.args.actor call c.in-Some-answer.found f c.args.ticket) c.unwrap_or-first.ensures))
-    lines (omega
-    (arith, c.len-2.ensures, ap length lines, length_push c.args.self.now.lines.items c.line_of-line.result))
-    (omega (arith, c.push.ensures.capacity)) refl
-    (subst (λ fs. IsWalking c.args.plan.now (drop c.len-2.result fs) at_origin c.walk_at-self.result)
-    (ap (map find_of) script
-    ∙ sym (finds-are (seen_input c.args.input.now) (setting_over (seen_input c.args.input.now) c.args.plan.now)
-    c.args.actor refl c.requires.high low))
-    c.walk_at-self.ensures)
+pub pass-passed-requires-clause-stands : goal.pass-passed-requires-clause-stands
+pass-passed-requires-clause-stands c =
+    may-look (seen_input c.args.input.now) c.args.plan.now c.args.cells.now c.args.ticket c.args.actor c.looks.made
+    c.args.self.now c.looks.self c.requires.stands c.looks.invariant.passed
+
+pub look_one-requires-clause-stands : goal.look_one-requires-clause-stands
+look_one-requires-clause-stands c =
+    may-look (seen_input c.args.input.now) c.args.plan.now c.args.cells.now (c.args.ticket + c.looks.made) c.args.actor
+    c.pass-passed.result c.looks.self c.pass-passed.new.self
+    (may-look (seen_input c.args.input.now) c.args.plan.now c.args.cells.now c.args.ticket c.args.actor c.looks.made
+    c.args.self.now c.looks.self c.requires.stands c.looks.invariant.passed) c.pass-passed.ensures.passed
+
+pub looks-preserved : goal.looks-preserved
+looks-preserved c = record {
+  few = omega (arith, c.looks-test.true, c.pass-passed.ensures.few);
+  passed = λ history sees place its.
+      looked-through c.each_visit_is_next.ensures.more (seen_input c.args.input.now) c.args.plan.now c.args.cells.now
+      history c.args.ticket c.args.actor c.looks.made c.pass-passed.result c.looks.self c.pass-passed.new.self
+      c.look_one.new.self place (c.looks.invariant.passed history sees place its) c.pass-passed.ensures.passed
+      c.in-Visited.ensures;
+}
+
+pub returns-in-Finished-clause-taken : goal.returns-in-Finished-clause-taken
+returns-in-Finished-clause-taken c = λ history sees place its.
+    looks-ended (seen_input c.args.input.now) c.args.plan.now c.args.cells.now
+    history c.args.ticket c.args.actor c.looks.made c.pass-passed.result c.args.most c.looks.self c.pass-passed.new.self
+    c.look_one.new.self place (c.looks.invariant.passed history sees place its) c.pass-passed.ensures.passed
+    c.in-Finished.ensures
+
+pub returns-clause-taken : goal.returns-clause-taken
+returns-clause-taken c = λ history sees place its.
+    (c.looks.invariant.passed history sees place its, λ fewer. absurd (omega (arith, fewer, c.looks-test.false)))

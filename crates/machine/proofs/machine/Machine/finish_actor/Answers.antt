@@ -35,6 +35,6 @@ returns-clause-stands c history is =
     let none : c.stride.result ≡ 0 = omega (arith, c.turns-test.false) in
     let made = c.stride.ensures.stands reached far.1.stands in
     ended c.turns_are_few.ensures.alike c.args.self.now c.turns.self c.stride.new.self history c.args.actor far.0
-    c.turns.invariant.same is (made.1 none)
+    c.turns.invariant.same is (made.1 none).0
     (subst (λ n. HasHistory c.stride.new.self (after_turns (setting_at c.turns.self) (scripts_at c.turns.self) reached
     (replicate n c.args.actor))) none made.0.stands)

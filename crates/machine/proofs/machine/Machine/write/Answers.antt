@@ -1,50 +1,72 @@
-use Rattle.std.proofs.Common.{arith, refl}
-use Rattle.machine.proofs.Turning.{at-sub, room-left, sub-kept-machine, sub-turned, ticket-is}
+use Rattle.std.proofs.Common.{◌≡◌, ◌++◌, ap, arith, length, refl, subst, sym, ◌∙◌}
+use Rattle.std.specs.Prelude.{None}
+use Rattle.std.proofs.lemmas.List.{append-nil}
+use Rattle.directory.specs.Orders.{next}
+use Rattle.machine.specs.Machines.{HasHistory, input_at, scripts_at, setting_at}
+use Rattle.machine.specs.Subscribers.{IsSubscriber}
+use Rattle.machine.proofs.Making.{made-count, no-visits}
+use Rattle.machine.proofs.Turning.{at-sub, none-left, rooms-left, sub-turned, ticket-is}
 use Rattle.machine.proofs.machine.Machine.write.Goals as goal
 
-pub log-requires : goal.log-requires
-log-requires c =
+pub write-count-requires-clause-stands : goal.write-count-requires-clause-stands
+write-count-requires-clause-stands c =
+    let history = c.requires.stands.0 in
+    let stands = c.requires.stands.1 in (
+      history,
+      stands.sees,
+      ticket-is c.args.self.now history c.len-ticket.result stands (omega (arith, c.len-ticket.ensures)),
+      at-sub c.args.self.now history c.args.actor c.index_mut.result.now stands c.requires.known
+          c.index_mut.ensures.value,
+    )
+
+pub log_run-requires : goal.log_run-requires
+log_run-requires c =
     let history = c.requires.stands.0 in
     let stands = c.requires.stands.1 in
     let tick = ticket-is c.args.self.now history c.len-ticket.result stands (omega (arith, c.len-ticket.ensures)) in
-    let its = at-sub c.args.self.now history c.args.actor c.index_mut.result.now stands c.requires.known
-    c.index_mut.ensures.value in
-    let done = c.in-Visited.ensures history stands.sees tick its in
+    let done = (c.write-count.ensures.taken history stands.sees tick (at-sub c.args.self.now history c.args.actor
+    c.index_mut.result.now stands c.requires.known c.index_mut.ensures.value)).0 in
     record {
       room = omega (
         arith,
-        room-left c.visits_are_few.ensures c.each_visit_is_next.ensures.more c.args.self.now history c.args.actor
-            done.0 stands done.1,
+        rooms-left c.visits_are_few.ensures c.args.self.now c.write-count.new.cells history c.args.actor
+            c.write-count.result done.visits stands done.actors done.sees,
         tick,
         c.len-ticket.ensures,
       );
     }
 
-pub returns-in-Finished-clause-turned : goal.returns-in-Finished-clause-turned
-returns-in-Finished-clause-turned c = λ history stands.
+pub returns-clause-stands : goal.returns-clause-stands
+returns-clause-stands c = λ history stands.
     let tick = ticket-is c.args.self.now history c.len-ticket.result stands (omega (arith, c.len-ticket.ensures)) in
-    let its = at-sub c.args.self.now history c.args.actor c.index_mut.result.now stands c.requires.known
-    c.index_mut.ensures.value in
-    let done = c.in-Finished.ensures history stands.sees tick its in (
-      done.0,
-      sub-kept-machine c.args.self.now history c.args.actor c.index_mut.result.now c.write-turn.new.self
-          c.write-turn.new.cells _ stands c.requires.known
-          c.index_mut.ensures.value done.1 done.2 refl,
-      done.2,
-      refl,
-    )
-
-pub returns-in-Visited-clause-turned : goal.returns-in-Visited-clause-turned
-returns-in-Visited-clause-turned c = λ history stands.
-    let tick = ticket-is c.args.self.now history c.len-ticket.result stands (omega (arith, c.len-ticket.ensures)) in
-    let its = at-sub c.args.self.now history c.args.actor c.index_mut.result.now stands c.requires.known
-    c.index_mut.ensures.value in
-    let done = c.in-Visited.ensures history stands.sees tick its in (
-      done.0,
-      done.1,
-      sub-turned c.own_after.ensures.visits c.own_after.ensures.tickets c.lines_grow.ensures.kept
-          c.each_visit_is_next.ensures.more
-          c.next_is_own.ensures c.args.self.now history c.args.actor done.0 c.write-turn.new.self c.write-turn.new.cells
-          _ _ stands c.requires.known
-          done.1 done.2 done.3 done.4 refl c.log.ensures.items (omega (arith, c.log.ensures.capacity)),
+    let taken = c.write-count.ensures.taken history stands.sees tick (at-sub c.args.self.now history c.args.actor
+    c.index_mut.result.now stands c.requires.known c.index_mut.ensures.value) in
+    let done = taken.0 in (
+      record {
+        stands = subst (HasHistory _) (sym done.turns)
+            (sub-turned c.own_after.ensures.visits c.own_after.ensures.tickets c.lines_grow.ensures.kept
+            c.args.self.now history c.args.actor c.write-count.result done.visits
+            c.write-count.new.self c.write-count.new.cells _ _ stands c.requires.known done.actors done.sees done.its
+            refl
+            c.log_run.ensures.items c.log_run.ensures.capacity);
+        made = ap length done.turns ∙ made-count (input_at c.args.self.now) c.args.self.now.plan.now
+            c.write-count.new.cells history c.args.actor c.write-count.result
+            (λ later. IsSubscriber (input_at c.args.self.now) c.args.self.now.plan.now later c.args.actor
+            c.write-count.new.self) done;
+      },
+      λ none. (
+        none-left c.visits_are_few.ensures c.each_visit_is_next.ensures.more c.args.self.now history c.args.actor
+            c.room_for-reach.result
+            (next (setting_at c.args.self.now) (scripts_at c.args.self.now) history c.args.actor) stands
+            (λ empty. omega (arith, c.room_for-reach.ensures.full empty c.requires.some, tick, c.len-ticket.ensures))
+            refl
+            (λ some.
+            subst (λ h. next (setting_at c.args.self.now) (scripts_at c.args.self.now) h c.args.actor ≡ None)
+            (ap (λ visits. history ++ visits) (no-visits (input_at c.args.self.now) c.args.self.now.plan.now
+            c.write-count.new.cells history c.args.actor c.write-count.result
+            (λ later. IsSubscriber (input_at c.args.self.now) c.args.self.now.plan.now later c.args.actor
+            c.write-count.new.self) done none) ∙ append-nil history)
+            (taken.1 (omega (arith, some, none)))),
+        (c.write-count.ensures.still none, c.log_run.ensures.still none),
+      ),
     )

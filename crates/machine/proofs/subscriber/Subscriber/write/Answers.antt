@@ -1,41 +1,56 @@
-use Rattle.std.proofs.Common.{◌-◌, sym, ap, ◌∙◌, arith, length, refl, get_or}
-use Rattle.std.specs.Prelude.{slice_get}
-use Rattle.std.proofs.lemmas.List.{length_push}
-use Rattle.directory.specs.Histories.{own}
-use Rattle.directory.specs.Writes.{visits}
+use Rattle.std.proofs.Common.{◌+◌, ◌++◌, ap, arith, refl, ◌∙◌}
 use Rattle.net_reader.specs.Seen.{seen_input}
-use Rattle.machine.specs.Stands.{setting_over}
-use Rattle.machine.specs.Subscribers.{begun_steps, line_after}
-use Rattle.machine.proofs.Beginning.{on-some}
-use Rattle.machine.proofs.Written.{under-way, written-on}
+use Rattle.machine.specs.Subscribers.{IsSubscriber}
+use Rattle.machine.proofs.Making.{made-count, made-none}
+use Rattle.machine.proofs.Written.{ended, written-more}
 use Rattle.machine.proofs.subscriber.Subscriber.write.Goals as goal
 
-pub returns : goal.returns
-returns c = λ history sees place its.
-    let visit = c.make.ensures.visit c.args.input.now.homes.items _ _ its.handset in
-    let at = sym visit ∙ c.in-Some.is in
-    let here = ap (λ s. slice_get (visits (setting_over (seen_input c.args.input.now) c.args.plan.now) s
-    (begun_steps (seen_input c.args.input.now) c.args.sub c.args.self.now)) (length (own c.args.sub history)))
-    (sym its.its) ∙ at in
-    let way = under-way c.mark_words.ensures.unpacked c.tickets_tell.ensures.visits c.scripts_are_valid.ensures
-    (seen_input c.args.input.now) c.args.plan.now
-    c.args.distances.now history c.args.sub c.args.self.now c.in-Some._visit c.requires.together c.requires.low its
-    here in
-    written-on c.mark_words.ensures.unpacked c.own_after.ensures.visits c.own_after.ensures.tickets
-    c.tickets_tell.ensures.visits c.scripts_are_valid.ensures
-    (seen_input c.args.input.now) c.args.plan.now c.args.distances.now c.make.new.cells history c.args.sub c.args.ticket
-    (c.len-last.result - 1)
-    c.args.self.now _ c.in-Some._visit c.line_after.result c.index.result.now c.requires.together c.requires.low place
-    its at
-    (on-some _ c.make.result c.in-Some._visit c.in-Some.is c.make.ensures.stands c.args.input.now.homes.items _ _
-    its.handset)
-    c.make.ensures.goes c.make.ensures.its refl (omega arith)
-    (omega (arith, ap length way.are, length_push way.rows way.row, c.len-last.ensures))
-    (c.line_after.ensures ∙ (ap (λ l. line_after l c.commits-commits.result c.args.ticket) c.index.ensures
-    ∙ ap (λ b. line_after
-    (get_or c.args.self.now.lines.items (c.len-last.result - 1) c.index.result.now) b c.args.ticket)
-    (c.commits-commits.ensures c.args.plan.now c.in-Some._visit
-    (omega (arith, c.requires.together.matched.metric.few)) its.goes (sym c.make.ensures.exact ∙ c.in-Some.is))))
-    c.make.ensures.cells
-    (on-some _ c.make.result c.in-Some._visit c.in-Some.is c.make.ensures.hold c.args.input.now.homes.items history
-    sees.hold c.in-Some._visit c.in-Some.is)
+pub writes-init : goal.writes-init
+writes-init c = record {
+  few = omega arith;
+  still = λ none. refl;
+  written = λ history sees place its.
+      made-none (seen_input c.args.input.now) c.args.plan.now c.args.cells.now history c.args.sub
+      (λ later. IsSubscriber (seen_input c.args.input.now) c.args.plan.now later c.args.sub c.args.self.now) sees its;
+}
+
+pub write_one-requires-clause-stands : goal.write_one-requires-clause-stands
+write_one-requires-clause-stands c =
+    let stands = c.requires.stands in
+    let made = c.writes.invariant.written stands.0 stands.1 stands.2 stands.3 in (
+      stands.0 ++ made.visits,
+      made.sees,
+      made-count (seen_input c.args.input.now) c.args.plan.now c.writes.cells stands.0 c.args.sub c.writes.made
+          (λ later. IsSubscriber (seen_input c.args.input.now) c.args.plan.now later c.args.sub c.writes.self) made
+          ∙ ap (λ n. n + c.writes.made) stands.2,
+      made.its,
+    )
+
+pub writes-preserved : goal.writes-preserved
+writes-preserved c = record {
+  few = omega (arith, c.writes-test.true);
+  still = λ none. absurd (omega (arith, none));
+  written = λ history sees place its.
+      written-more c.each_visit_is_next.ensures.more c.next_is_own.ensures (seen_input c.args.input.now)
+      c.args.plan.now c.writes.cells c.write_one.new.cells history c.args.ticket c.args.sub c.writes.made c.writes.self
+      c.write_one.new.self place (c.writes.invariant.written history sees place its) c.in-Visited.ensures;
+}
+
+pub returns-in-Finished-clause-taken : goal.returns-in-Finished-clause-taken
+returns-in-Finished-clause-taken c = λ history sees place its.
+    ended (seen_input c.args.input.now) c.args.plan.now c.writes.cells c.write_one.new.cells history c.args.ticket
+    c.args.sub c.writes.made c.args.most c.writes.self c.write_one.new.self place
+    (c.writes.invariant.written history sees place its) c.in-Finished.ensures
+
+pub returns-in-Finished-clause-still : goal.returns-in-Finished-clause-still
+returns-in-Finished-clause-still c = λ none.
+    let stands = c.requires.stands in
+    let made = c.writes.invariant.written stands.0 stands.1 stands.2 stands.3 in
+    (c.in-Finished.ensures (stands.0 ++ made.visits) made.sees
+    (made-count (seen_input c.args.input.now) c.args.plan.now c.writes.cells stands.0 c.args.sub c.writes.made
+    (λ later. IsSubscriber (seen_input c.args.input.now) c.args.plan.now later c.args.sub c.writes.self) made
+    ∙ ap (λ n. n + c.writes.made) stands.2) made.its).2 ∙ c.writes.invariant.still none
+
+pub returns-clause-taken : goal.returns-clause-taken
+returns-clause-taken c = λ history sees place its.
+    (c.writes.invariant.written history sees place its, λ fewer. absurd (omega (arith, fewer, c.writes-test.false)))

@@ -1,0 +1,92 @@
+-- Many turns of an actor: none, one, and turns behind turns.
+use Rattle.std.proofs.Common.{◌≡◌, ℕ, ◌+◌, List, [], ◌∷◌, ◌++◌, length, map, replicate, refl, sym, ap, ◌∙◌, subst, arith, append_assoc}
+use Rattle.std.specs.Prelude.{Some, option_to_list}
+use Rattle.std.proofs.lemmas.List.{append-nil, length-append, length-map, length-replicate, map-append, replicate-append-replicate}
+use Rattle.entry_word.specs.declared.visit.Visit.{Visit}
+use Rattle.directory.specs.Histories.{History}
+use Rattle.directory.specs.Orders.{after_turns, next}
+use Rattle.net_reader.specs.Input.{Contents}
+use Rattle.region_plan.specs.Plan.{PlanData}
+use Rattle.visit_log.specs.Cells.{CellData}
+use Rattle.scripts.specs.Scripts.{scripts_of}
+use Rattle.machine.specs.Stands.{AreMade, Sees, setting_over}
+use Rattle.machine.proofs.Finishing.{turns-joined}
+
+-- no turns
+pub made-none : (input : Contents) (plan : PlanData) (cells : CellData) (history : History) (actor : ℕ)
+    (Holds : History → Type 0) → Sees input plan cells history → Holds history
+    → AreMade input plan cells history actor 0 Holds
+made-none input plan cells history actor Holds sees its =
+    let same : history ≡ history ++ [] = sym (append-nil history) in
+    record {
+      visits = [];
+      turns = same;
+      actors = refl;
+      sees = subst (Sees input plan cells) same sees;
+      its = subst Holds same its;
+    }
+
+-- a turn that makes a visit
+pub made-one : (input : Contents) (plan : PlanData) (cells : CellData) (history : History) (actor : ℕ)
+    (visit : Visit) (Holds : History → Type 0) → visit.actor ≡ actor
+    → next (setting_over input plan) (scripts_of input) history actor ≡ Some visit
+    → Sees input plan cells (history ++ visit ∷ []) → Holds (history ++ visit ∷ [])
+    → AreMade input plan cells history actor 1 Holds
+made-one input plan cells history actor visit Holds mine wants sees its =
+    record {
+      visits = visit ∷ [];
+      turns = ap (λ o. history ++ option_to_list o) wants;
+      actors = ap (λ a. a ∷ []) mine;
+      sees = sees;
+      its = its;
+    }
+
+-- turns behind turns
+pub made-joined : (input : Contents) (plan : PlanData) (before after : CellData) (history : History)
+    (actor count more : ℕ) (First Then : History → Type 0) (first : AreMade input plan before history actor count First)
+    → AreMade input plan after (history ++ first.visits) actor more Then
+    → AreMade input plan after history actor (count + more) Then
+made-joined input plan before after history actor count more First Then first then =
+    let joined : (history ++ first.visits) ++ then.visits ≡ history ++ (first.visits ++ then.visits) =
+    append_assoc history first.visits then.visits in
+    record {
+      visits = first.visits ++ then.visits;
+      turns = sym (turns-joined (setting_over input plan) (scripts_of input) history actor count more)
+          ∙ (ap (λ h. after_turns (setting_over input plan) (scripts_of input) h (replicate more actor)) first.turns
+          ∙ (then.turns ∙ joined));
+      actors = map-append (λ (v : Visit). v.actor) first.visits then.visits
+          ∙ (ap (λ xs. xs ++ map (λ (v : Visit). v.actor) then.visits) first.actors
+          ∙ (ap (λ xs. replicate count actor ++ xs) then.actors ∙ replicate-append-replicate count more actor));
+      sees = subst (Sees input plan after) joined then.sees;
+      its = subst Then joined then.its;
+    }
+
+-- how many visits there were
+pub made-count : (input : Contents) (plan : PlanData) (cells : CellData) (history : History) (actor count : ℕ)
+    (Holds : History → Type 0) (made : AreMade input plan cells history actor count Holds)
+    → length (history ++ made.visits) ≡ length history + count
+made-count input plan cells history actor count Holds made =
+    omega (
+      arith,
+      length-append history made.visits,
+      length-map made.visits (λ (v : Visit). v.actor),
+      ap length made.actors,
+      length-replicate count actor,
+    )
+
+-- and where there were none, there are none
+pub no-visits : (input : Contents) (plan : PlanData) (cells : CellData) (history : History) (actor count : ℕ)
+    (Holds : History → Type 0) (made : AreMade input plan cells history actor count Holds) → count ≡ 0
+    → made.visits ≡ []
+no-visits input plan cells history actor count Holds made none = empty made.visits
+    (omega (
+      arith,
+      none,
+      length-map made.visits (λ (v : Visit). v.actor),
+      ap length made.actors,
+      length-replicate count actor,
+    ))
+  where
+    empty : (visits : List Visit) → length visits ≡ 0 → visits ≡ []
+    empty [] h = refl
+    empty (v ∷ vs) h = absurd (omega (arith, h))

@@ -1,0 +1,17 @@
+use Rattle.std.proofs.Common.{◌≤◌, ◌^◌, subst, sym, get_or}
+use Rattle.region_plan.specs.Plan.{readers}
+use Rattle.walk.specs.ReaderLaws.{reader-held}
+use Rattle.walk.proofs.Readers.{readers-few, way-light}
+use Rattle.walk.proofs.climb.way_in.Goals as goal
+
+pub returns-clause-light : goal.returns-clause-light
+returns-clause-light c =
+    let held = reader-held c.args.plan.now c.args.level c.args.from c.args.index c.requires.matched c.requires.level
+    c.requires.from c.requires.index in
+    subst (λ n. n ≤ 2 ^ 35) (sym c.reader_weight.ensures)
+    (way-light c.args.plan.now c.args.level (get_or (readers c.args.plan.now c.args.level c.args.from) c.args.index 0)
+    c.args.from c.nodes-nodes.ensures.sound c.requires.reached c.requires.level held.1 held.0)
+
+pub returns-clause-few : goal.returns-clause-few
+returns-clause-few c = readers-few c.args.plan.now c.args.level c.args.from c.requires.matched
+    c.nodes-nodes.ensures.sound c.requires.level c.requires.from

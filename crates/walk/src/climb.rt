@@ -1,0 +1,156 @@
+//! How a find climbs past entries that hold nothing.
+ghost use Rattle.std.specs.Prelude.{◌≡◌, ◌+◌, ◌-◌, ◌*◌, ◌^◌, ◌<◌, ◌≤◌, ◌++◌, [], ℕ, None, true, suc, length, drop, slice_index};
+ghost use Rattle.node_set.specs.Ascending.{has};
+ghost use Rattle.directory.specs.Finds.{FindCall, after_entry, after_word, climb};
+ghost use Rattle.region_plan.specs.Kept.{IsKept};
+ghost use Rattle.region_plan.specs.Matched.{IsMatched, IsWithinReach};
+ghost use Rattle.region_plan.specs.Plan.{clusters_of, inside, leader, levels_of, members_of, nodes_of, readers};
+ghost use Rattle.region_plan.specs.Settings.{setting_of};
+ghost use Rattle.walk.specs.Climbs.{is_climbing, weight_past};
+ghost use Rattle.walk.specs.Walks.{IsProgressWithin, reader_in, readers_above, readers_at, stage_at};
+
+use crate::progress::Progress;
+use directory::{Found, Why};
+use region_plan::Plan;
+
+// The progress of a find at an entry that holds nothing.
+pub fn progress_past(plan: &Plan, from: u32, progress: Progress) -> Progress
+    requires from { from < nodes_of plan.now }
+    requires within { IsProgressWithin plan.now from progress }
+    requires climbs { is_climbing progress ≡ true }
+    requires matched { IsMatched plan.now }
+    requires reached { IsWithinReach plan.now }
+    ensures stage { (sub : ℕ) → let call : FindCall = record { from = from; sub = sub } in
+        stage_at (setting_of plan.now []) from result ≡ after_word (setting_of plan.now []) call
+        (stage_at (setting_of plan.now []) from progress) 0 }
+    ensures within { IsProgressWithin plan.now from result }
+{
+    match progress {
+        Progress::Climbing {
+            known,
+            weight,
+            level,
+            index,
+        } => past_entry(plan, from, known, weight, level, index),
+        other => other,
+    }
+}
+
+// The climb goes on to the first reader of a level or above.
+pub fn climb_from(plan: &Plan, from: u32, known: Option<u32>, weight: u64, level: u32) -> Progress
+    requires from { from < nodes_of plan.now }
+    requires level { level ≤ levels_of plan.now }
+    requires light { weight ≤ level * 1024 * 2 ^ 36 }
+    ensures stage { stage_at (setting_of plan.now []) from result ≡ climb known weight
+        (readers_above (setting_of plan.now []) from level) }
+    ensures within { IsProgressWithin plan.now from result }
+{
+    // The call tells the proof that there is a level.
+    let _nodes = plan.nodes();
+    for level in level..plan.levels() {
+        if !plan.readers(level, from).is_empty() {
+            return Progress::Climbing {
+                known,
+                weight,
+                level,
+                index: 0,
+            };
+        }
+    }
+    Progress::Ended {
+        found: Found::Again {
+            why: Why::NoEntry,
+            weight,
+        },
+    }
+}
+
+// The climb goes on past a reader whose entry is empty.
+pub fn past_entry(
+    plan: &Plan,
+    from: u32,
+    known: Option<u32>,
+    weight: u64,
+    level: u32,
+    index: u32,
+) -> Progress
+    requires from { from < nodes_of plan.now }
+    requires within { IsProgressWithin plan.now from (Progress.Climbing known weight level index) }
+    requires matched { IsMatched plan.now }
+    requires reached { IsWithinReach plan.now }
+    ensures stage { (sub : ℕ) → let call : FindCall = record { from = from; sub = sub } in
+        stage_at (setting_of plan.now []) from result
+        ≡ after_entry (setting_of plan.now []) call known weight
+        (reader_in plan.now from level index)
+        (drop (suc index) (readers_at (setting_of plan.now []) from level) ++ readers_above
+        (setting_of plan.now []) from (suc level)) None }
+    ensures within { IsProgressWithin plan.now from result }
+{
+    let weight = weight + 2 * way_in(plan, from, level, index);
+    if (index as usize) + 1 < plan.readers(level, from).len() {
+        Progress::Climbing {
+            known,
+            weight,
+            level,
+            index: index + 1,
+        }
+    } else {
+        climb_from(plan, from, known, weight, level + 1)
+    }
+}
+
+// The cluster that a node reads at a level, by its place.
+pub fn reader_at(plan: &Plan, from: u32, level: u32, index: u32) -> u32
+    requires from { from < nodes_of plan.now }
+    requires level { level < levels_of plan.now }
+    requires index { index < length (readers plan.now level from) }
+    requires matched { IsMatched plan.now }
+    ensures value { result ≡ slice_index (readers plan.now level from) index }
+    ensures cluster { result < clusters_of plan.now level }
+    ensures member { has from (members_of plan.now level result) ≡ true }
+    ensures few { length (readers plan.now level from) ≤ 1024 }
+    ensures kept { IsKept plan.now }
+{
+    // The call tells the proof that there are few clusters.
+    let _nodes = plan.nodes();
+    plan.readers(level, from)[index as usize]
+}
+
+// The weight from the leader of a reader to the origin.
+pub fn way_in(plan: &Plan, from: u32, level: u32, index: u32) -> u64
+    requires from { from < nodes_of plan.now }
+    requires level { level < levels_of plan.now }
+    requires index { index < length (readers plan.now level from) }
+    requires matched { IsMatched plan.now }
+    requires reached { IsWithinReach plan.now }
+    ensures way { result ≡ inside plan.now level (slice_index
+        (readers plan.now level from) index) from }
+    ensures light { result ≤ 2 ^ 35 }
+    ensures few { length (readers plan.now level from) ≤ 1024 }
+    ensures kept { IsKept plan.now }
+{
+    // The call tells the proof that there are few readers, whose weights are light.
+    let _nodes = plan.nodes();
+    plan.reader_weight(level, from, index)
+}
+
+// The weight of a climb past so many readers of a level, from one on.
+pub fn weight_past(plan: &Plan, from: u32, level: u32, index: u32, weight: u64, count: usize) -> u64
+    requires from { from < nodes_of plan.now }
+    requires level { level < levels_of plan.now }
+    requires inside { index + count < length (readers plan.now level from) }
+    requires light { weight ≤ (level * 1024 + index) * 2 ^ 36 }
+    requires matched { IsMatched plan.now }
+    requires reached { IsWithinReach plan.now }
+    ensures weight { result ≡ weight_past plan.now from level index weight count }
+    ensures few { length (readers plan.now level from) ≤ 1024 }
+    ensures kept { IsKept plan.now }
+{
+    // The call tells the proof that there are few readers, whose weights are light.
+    let _first = reader_at(plan, from, level, index);
+    let mut sum = weight;
+    for passed in 0..count as u32 {
+        sum += 2 * way_in(plan, from, level, index + passed);
+    }
+    sum
+}
