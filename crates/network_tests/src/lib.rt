@@ -3,6 +3,8 @@
 #![tactic(auto)]
 
 #[cfg(test)]
+mod asking;
+#[cfg(test)]
 mod cover_tests;
 #[cfg(test)]
 mod distance_tests;
