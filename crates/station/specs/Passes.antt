@@ -6,6 +6,7 @@ use Rattle.atomic_table.specs.Table.{Me}
 use Rattle.entry_word.specs.declared.visit.Act.{Act}
 use Rattle.directory.specs.Histories.{tickets}
 use Rattle.visit_log.specs.Cells.{HasHomes}
+use Rattle.visit_log.specs.Numbers.{ArePlaces, PlaceData}
 use Rattle.station.specs.Setup.{Setup, CellsLie, nodes_in, subs_in, word_count}
 use Rattle.station.specs.Plays.{first_view}
 use Rattle.station.specs.declared.turns.Stay.{Stay}
@@ -23,8 +24,9 @@ pub record PassData : Type 0 where
   pub view : View
   pub spare : ℕ
 
--- the numbers that a tracker keeps
-pub record IsTracker (table : TableId) (setup : Setup) (nodes subs actors : ℕ) : Type 0 where
+-- the numbers and the places that a tracker keeps
+pub record IsTracker (table : TableId) (setup : Setup) (nodes subs actors : ℕ)
+    (places : PlaceData) : Type 0 where
   pub words : table.words ≡ word_count setup
   pub slots : table.slots ≡ 0
   pub nodes_are : nodes ≡ nodes_in setup
@@ -37,6 +39,7 @@ pub record IsTracker (table : TableId) (setup : Setup) (nodes subs actors : ℕ)
   pub few_actors : actors ≤ 128
   pub lies : CellsLie setup
   pub homes : HasHomes setup.plan
+  pub places_are : ArePlaces setup.plan places
 
 -- a pass stands for its actor; between two calls it has nothing to write; and it keeps the tickets
 -- of its own visits, with room for more

@@ -5,7 +5,7 @@ ghost use Rattle.node_set.specs.Ascending.{has};
 ghost use Rattle.entry_word.specs.declared.visit.Key.TheVariants.{Presence};
 ghost use Rattle.directory.specs.Census.{census};
 ghost use Rattle.directory.specs.Histories.{cell};
-ghost use Rattle.directory.specs.Keys.{key_node};
+ghost use Rattle.directory.specs.Keys.{key_node, key_sub};
 ghost use Rattle.entry_word.specs.Marks.{mark_in, says_here as here};
 ghost use Rattle.station.specs.Handsets.{Moves, moves_here as moves};
 ghost use Rattle.station.specs.Plays.{Draws, view_after_put, view_after_tally};
@@ -19,7 +19,7 @@ use atomic_table::Seat;
 use directory::same_key_means;
 use entry_word::{Act, Key, PresenceMark, unpack_mark};
 use region_plan::Plan;
-use visit_log::{cell_number, cell_numbers, key_node};
+use visit_log::{cell_numbers, key_node};
 
 impl Tracker {
     // Draws the ticket of an act at a node.
@@ -49,22 +49,21 @@ impl Tracker {
     }
 
     // The place of the word of a cell.
-    fn cell_place(&self, plan: &Plan, key: Key) -> usize
-        requires plan { plan.now ≡ self.now.setup.plan }
+    fn cell_place(&self, key: Key) -> usize
         requires cell { IsCellOf self.now.setup key }
         ensures place { result ≡ cell_word self.now.setup key }
         ensures inside { result < self.now.table.words }
     {
         cell_numbers();
-        let number = cell_number(plan, self.subs, key) as usize;
+        let place = self.places.place(key) as usize;
+        let number = place * self.subs as usize + key_sub(key) as usize;
         2 * self.nodes as usize + 1 + number
     }
 
     // Reads a cell.
-    pub(crate) fn read_cell(&self, seat: &mut Seat<Act, View>, plan: &Plan, key: Key) -> u64
+    pub(crate) fn read_cell(&self, seat: &mut Seat<Act, View>, key: Key) -> u64
         requires table { seat.old.table_id ≡ self.now.table }
         requires setup { seat.old.me.0.setup ≡ self.now.setup }
-        requires plan { plan.now ≡ self.now.setup.plan }
         requires cell { IsCellOf self.now.setup key }
         requires turn { HasTurn seat.old.me.0 (key_node (setting_in self.now.setup) key) }
         ensures table { seat.new.table_id ≡ seat.old.table_id }
@@ -76,15 +75,14 @@ impl Tracker {
     {
         cell_numbers();
         same_key_means();
-        let place = self.cell_place(plan, key);
+        let place = self.cell_place(key);
         self.table.shared.load::<ReadCell>(seat, place)
     }
 
     // Writes the put that isn't written.
-    pub(crate) fn write_cell(&self, seat: &mut Seat<Act, View>, plan: &Plan, key: Key, word: u64)
+    pub(crate) fn write_cell(&self, seat: &mut Seat<Act, View>, key: Key, word: u64)
         requires table { seat.old.table_id ≡ self.now.table }
         requires setup { seat.old.me.0.setup ≡ self.now.setup }
-        requires plan { plan.now ≡ self.now.setup.plan }
         requires cell { IsCellOf self.now.setup key }
         requires turn { HasTurn seat.old.me.0 (key_node (setting_in self.now.setup) key) }
         requires put { seat.old.me.0.unwritten ≡ Some key }
@@ -95,7 +93,7 @@ impl Tracker {
     {
         cell_numbers();
         same_key_means();
-        let place = self.cell_place(plan, key);
+        let place = self.cell_place(key);
         self.table.shared.store::<WriteCell>(seat, place, word);
     }
 
@@ -198,17 +196,9 @@ impl Tracker {
     }
 
     // Writes a put whose ticket is drawn, and the tally where it is owed.
-    pub(crate) fn put_there(
-        &self,
-        seat: &mut Seat<Act, View>,
-        plan: &Plan,
-        node: u32,
-        key: Key,
-        word: u64,
-    )
+    pub(crate) fn put_there(&self, seat: &mut Seat<Act, View>, node: u32, key: Key, word: u64)
         requires table { seat.old.table_id ≡ self.now.table }
         requires setup { seat.old.me.0.setup ≡ self.now.setup }
-        requires plan { plan.now ≡ self.now.setup.plan }
         requires cell { IsCellOf self.now.setup key }
         requires node { node ≡ key_node (setting_in self.now.setup) key }
         requires turn { HasTurn seat.old.me.0 node }
@@ -220,8 +210,8 @@ impl Tracker {
         ensures done { seat.new.me
             ≡ (view_after_tally (view_after_put seat.old.me.0), seat.old.me.1) }
     {
-        let before = self.read_cell(seat, plan, key);
-        self.write_cell(seat, plan, key, word);
+        let before = self.read_cell(seat, key);
+        self.write_cell(seat, key, word);
         if moves_here(key, before, word) {
             self.move_tally(seat, node, says_here(word));
         }
@@ -266,5 +256,14 @@ fn moves_here(key: Key, old: u64, new: u64) -> bool
     match key {
         Key::Presence { .. } => says_here(old) != says_here(new),
         Key::Entry { .. } => false,
+    }
+}
+
+// The subscriber of a cell.
+fn key_sub(key: Key) -> u32
+    ensures { result ≡ key_sub key }
+{
+    match key {
+        Key::Presence { sub, .. } | Key::Entry { sub, .. } => sub,
     }
 }

@@ -17,7 +17,7 @@ use net_graph::OutOfMemory;
 use region_plan::Plan;
 use std::alloc::Global;
 use std::marker::Model;
-use visit_log::cell_numbers;
+use visit_log::{Places, cell_numbers};
 
 /// The directory that threads share. It is lent to all of them; what an actor may do, its pass may.
 ///
@@ -31,6 +31,8 @@ pub struct Tracker {
     pub(crate) nodes: u32,
     pub(crate) subs: u32,
     pub(crate) actors: u32,
+    // Where cells lie is kept, so that no visit adds up the clusters below a level.
+    pub(crate) places: Places,
 }
 
 impl Model for Tracker {
@@ -41,7 +43,7 @@ impl Model for Tracker {
     ghost view = { λ t. record { table = t.table.shared.table_id; setup = t.table.shared.key } };
 
     ghost invariant = { λ t. IsTracker t.table.shared.table_id t.table.shared.key t.nodes t.subs
-        t.actors };
+        t.actors t.places };
 }
 
 impl Tracker {
@@ -67,6 +69,7 @@ impl Tracker {
     {
         cell_numbers();
         let words = opening_words(alloc, plan, homes)?;
+        let places = Places::new(alloc, plan)?;
         // The call tells the proof that words can be numbered.
         let _count = words.len();
         let starts = Vec::from_slice(alloc, homes)?;
@@ -80,6 +83,7 @@ impl Tracker {
             nodes: plan.nodes(),
             subs,
             actors,
+            places,
         };
         tracker.deal(alloc, seat, &mut passes);
         Ok((tracker, passes))

@@ -61,7 +61,7 @@ impl Tracker {
         let actor = pass.actor;
         self.turn(&mut pass.seat, actor, node, &act)?;
         let ticket = self.draw(&mut pass.seat, node, &act);
-        let word = self.read_cell(&mut pass.seat, plan, key);
+        let word = self.read_cell(&mut pass.seat, key);
         self.give_back(&mut pass.seat, node);
         keep_ticket(&mut pass.tickets, &mut pass.seen, &mut pass.spare, ticket);
         Ok(Looked { ticket, word })
@@ -100,7 +100,7 @@ impl Tracker {
         let act = Act::Put(key, word);
         let actor = pass.actor;
         self.turn(&mut pass.seat, actor, node, &act)?;
-        let ticket = self.make_put(&mut pass.seat, plan, node, key, word);
+        let ticket = self.make_put(&mut pass.seat, node, key, word);
         keep_ticket(&mut pass.tickets, &mut pass.seen, &mut pass.spare, ticket);
         handset.made(plan);
         Ok(ticket)
@@ -161,17 +161,9 @@ impl Tracker {
     }
 
     // Makes a put inside its node, and leaves the node.
-    fn make_put(
-        &self,
-        seat: &mut Seat<Act, View>,
-        plan: &Plan,
-        node: u32,
-        key: Key,
-        word: u64,
-    ) -> u64
+    fn make_put(&self, seat: &mut Seat<Act, View>, node: u32, key: Key, word: u64) -> u64
         requires table { seat.old.table_id ≡ self.now.table }
         requires setup { seat.old.me.0.setup ≡ self.now.setup }
-        requires plan { plan.now ≡ self.now.setup.plan }
         requires cell { IsCellOf self.now.setup key }
         requires node { node ≡ key_node (setting_in self.now.setup) key }
         requires inside { node < nodes_in self.now.setup }
@@ -183,7 +175,7 @@ impl Tracker {
     {
         same_key_means();
         let ticket = self.draw(seat, node, &Act::Put(key, word));
-        self.put_there(seat, plan, node, key, word);
+        self.put_there(seat, node, key, word);
         self.give_back(seat, node);
         ticket
     }
