@@ -1,20 +1,25 @@
-//! What whole finds over a tracker don't do, whether they answer or stop: each is wrong in one
-//! part.
+//! What whole finds over a tracker, and steps of moves, don't do, whether they end well or not:
+//! each is wrong in one part.
 ghost use Rattle.std.specs.Prelude.{◌≡◌, ◌++◌, [], ◌∷◌, ℕ, List, Some, None, suc, slice_get};
 ghost use Rattle.directory.specs.Finds.{FindCall};
 ghost use Rattle.directory.specs.Histories.{History};
 ghost use Rattle.directory.specs.Standing.{number};
+ghost use Rattle.directory.specs.declared.answers.Found.{Found};
 ghost use Rattle.directory.specs.declared.answers.Found.TheVariants.{At, Off as OffAt, Again};
 ghost use Rattle.directory.specs.declared.answers.Why.TheVariants.{NoEntry};
+ghost use Rattle.handset.specs.Kept.{HandsetData};
+ghost use Rattle.handset.specs.Progress.{due};
+ghost use Rattle.handset.specs.declared.stage.Stage.TheVariants.{Coming};
 ghost use Rattle.region_plan.specs.Examples.{line_of_four};
 ghost use Rattle.region_plan.specs.Matched.{BoundsFinds};
 ghost use Rattle.station.specs.Passes.{PassData};
-ghost use Rattle.station.specs.Setup.{Setup};
+ghost use Rattle.station.specs.Setup.{Setup, setting_in};
 ghost use Rattle.station.specs.Views.{turn_at};
 ghost use Rattle.station.specs.declared.turns.Held.{Held};
 ghost use Rattle.tracker_calls.specs.Added.{HasAdded, KeepsHandsets};
 ghost use Rattle.tracker_calls.specs.Answers.{TellsRightly};
-ghost use Rattle.tracker_calls.specs.Finds.{HasStopped};
+ghost use Rattle.tracker_calls.specs.Finds.{HasFound, HasStopped};
+ghost use Rattle.tracker_calls.specs.Moves.{HasStepped};
 ghost use Rattle.worked_examples.specs.Examples.{find_from};
 ghost use Rattle.worked_examples.specs.Passes.{HasPass, count_by, line_setup};
 
@@ -74,4 +79,39 @@ pub fn wrong_stops()
     ensures keeps { (setup : Setup) (old new : PassData) (call : FindCall) (held : Held)
         (stopped : HasStopped setup old call held new)
         → KeepsHandsets setup old stopped.between }
+{}
+
+/// A find that has its answer has used as many visits as it made looks, is in no node, and each of
+/// its tickets is that of a look; it tells of them rightly, and keeps what handsets stand for.
+pub fn wrong_finds()
+    ensures spare { (setup : Setup) (old new : PassData) (call : FindCall) (found : Found)
+        → HasFound setup old call found new → new.spare ≡ suc old.spare → ⊥ }
+    ensures inside { (setup : Setup) (old new : PassData) (call : FindCall) (found : Found)
+        → HasFound setup old call found new → new.view.inside ≡ Some 1 → ⊥ }
+    ensures answer { (old new : PassData)
+        (has : HasFound line_setup old (find_from 2) (At 2 0 (Some 0) 5) new)
+        → has.made ≡ 0 ∷ [] → new.view.seen ≡ [] → ⊥ }
+    ensures no_look { (setup : Setup) (old new : PassData) (call : FindCall) (found : Found)
+        (has : HasFound setup old call found new) → has.made ≡ 4 ∷ []
+        → slice_get new.view.seen 4 ≡ Some (count_by 1 0) → ⊥ }
+    ensures keeps { (setup : Setup) (old new : PassData) (call : FindCall) (found : Found)
+        → HasFound setup old call found new → KeepsHandsets setup old new }
+{}
+
+/// A step of a move that was made is the handset's next visit, has used one of the pass's spare, is
+/// in no node, and the handset goes on.
+pub fn wrong_steps()
+    ensures at_rest { (setup : Setup) (old new : PassData) (handset moved : HandsetData)
+        (ticket : ℕ) → HasStepped setup old handset ticket new moved
+        → due (setting_in setup) handset ≡ None → ⊥ }
+    ensures no_room { (setup : Setup) (old new : PassData) (handset moved : HandsetData)
+        (ticket : ℕ) → HasStepped setup old handset ticket new moved → old.spare ≡ 0 → ⊥ }
+    ensures unspent { (setup : Setup) (old new : PassData) (handset moved : HandsetData)
+        (ticket : ℕ) → HasStepped setup old handset ticket new moved → new.spare ≡ old.spare → ⊥ }
+    ensures inside { (setup : Setup) (old new : PassData) (handset moved : HandsetData)
+        (ticket : ℕ) → HasStepped setup old handset ticket new moved
+        → new.view.inside ≡ Some 1 → ⊥ }
+    ensures stays { (setup : Setup) (old new : PassData) (handset moved : HandsetData)
+        (ticket : ℕ) → HasStepped setup old handset ticket new moved → handset.stage ≡ Coming
+        → moved.stage ≡ Coming → ⊥ }
 {}

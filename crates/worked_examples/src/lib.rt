@@ -21,7 +21,7 @@ mod trails;
 mod words;
 mod wrong;
 
-pub use calls::{wrong_additions, wrong_answers, wrong_stops};
+pub use calls::{wrong_additions, wrong_answers, wrong_finds, wrong_steps, wrong_stops};
 pub use cells::{worked_cells, worked_words};
 pub use censuses::worked_censuses;
 pub use closing::{wrong_causes, wrong_orders};
@@ -32,7 +32,7 @@ pub use grammar::{worked_apart, worked_limits, worked_lines};
 pub use moves::{worked_moves, wrong_moves};
 pub use orders::worked_orders;
 pub use others::worked_others;
-pub use passes::{wrong_censuses, wrong_notes, wrong_turns};
+pub use passes::{worked_bits, wrong_censuses, wrong_notes, wrong_turns};
 pub use plans::{worked_levels, worked_measures};
 pub use puts::worked_puts;
 pub use scripts::worked_scripts;

@@ -28,6 +28,11 @@ pub fn wrong_turns()
 
 /// The bits of a census are those of its subscribers, 0 and 2 here, and no others; and there are
 /// two.
+pub fn worked_bits()
+    ensures { IsCensus (0 ∷ 2 ∷ []) 5 2 }
+{}
+
+/// With a bit too few or too many, or another count, it isn't so.
 pub fn wrong_censuses()
     ensures missing { IsCensus (0 ∷ 2 ∷ []) 4 2 → ⊥ }
     ensures more { IsCensus (0 ∷ 2 ∷ []) 7 2 → ⊥ }

@@ -1,23 +1,10 @@
-use Rattle.std.proofs.Common.{◌≡◌, ℕ, Option, Some, ap, subst, sym, ◌∙◌}
-use Rattle.std.specs.Option.{option_map}
-use Rattle.entry_word.specs.declared.visit.Act.{Act}
-use Rattle.entry_word.specs.declared.visit.Act.TheVariants.{Census, Look}
-use Rattle.entry_word.specs.declared.visit.Key.{Key}
-use Rattle.entry_word.specs.declared.visit.Visit.{Visit}
+use Rattle.std.proofs.Common.{subst, sym, ◌∙◌}
 use Rattle.directory.specs.Finds.{at_origin}
-use Rattle.directory.specs.Looks.{AreLooks, look_by}
+use Rattle.directory.specs.Looks.{AreLooks}
 use Rattle.station.specs.Passes.{actor_of}
 use Rattle.station.specs.Setup.{setting_in}
-use Rattle.worked_examples.specs.Passes.{count_by}
+use Rattle.worked_examples.proofs.Looks.{look-no}
 use Rattle.worked_examples.proofs.calls.wrong_stops.Goals as goal
-
-act-no : (key : Key) → ◌≡◌ {A = Option Act} (Some (Look key)) (Some (Census 0)) → ⊥
-act-no key e = cc
-
--- a look is no census
-look-no : (actor : ℕ) (key : Key)
-    → ◌≡◌ {A = Option Visit} (Some (look_by actor key)) (Some (count_by 1 0)) → ⊥
-look-no actor key e = act-no key (ap (λ o. option_map (λ (visit : Visit). visit.act) o) e)
 
 pub returns-clause-no_look : goal.returns-clause-no_look
 unfolding AreLooks

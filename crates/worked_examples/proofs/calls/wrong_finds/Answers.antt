@@ -1,0 +1,14 @@
+use Rattle.std.proofs.Common.{subst, sym, ◌∙◌}
+use Rattle.directory.specs.Finds.{at_origin}
+use Rattle.directory.specs.Looks.{AreLooks}
+use Rattle.station.specs.Passes.{actor_of}
+use Rattle.station.specs.Setup.{setting_in}
+use Rattle.worked_examples.proofs.Looks.{look-no}
+use Rattle.worked_examples.proofs.calls.wrong_finds.Goals as goal
+
+pub returns-clause-no_look : goal.returns-clause-no_look
+unfolding AreLooks
+returns-clause-no_look c = λ setup old new call found has one there.
+    let looks = subst (λ t. AreLooks (setting_in setup) new.view.seen (actor_of old) call 0 at_origin t) one
+    has.find.looks in
+    look-no (actor_of old) looks.1.0 (sym looks.1.2 ∙ there)
