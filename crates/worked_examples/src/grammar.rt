@@ -63,6 +63,21 @@ pub fn worked_limits()
     ensures call_past { (calls : List Spoken) → length calls ≡ 8192
         → judge (record (said_up_to 7 1) { calls = calls })
         (codes "find" ∷ codes "1" ∷ codes "2" ∷ codes "0" ∷ []) ≡ Err TooMany }
+    ensures last_call_of_2 { (calls : List Spoken) → length calls ≡ 16383
+        → judge (record (said_up_to 7 2) { calls = calls })
+        (codes "find" ∷ codes "1" ∷ codes "2" ∷ codes "0" ∷ [])
+        ≡ Ok (record (said_up_to 7 2) {
+          calls = calls ++ record { actor = 1; call = Find 2 0 } ∷ [];
+        }) }
+    ensures call_past_2 { (calls : List Spoken) → length calls ≡ 16384
+        → judge (record (said_up_to 7 2) { calls = calls })
+        (codes "find" ∷ codes "1" ∷ codes "2" ∷ codes "0" ∷ []) ≡ Err TooMany }
+    ensures last_edge { (edges : List Edge) → length edges ≡ 32767
+        → judge (record (said_up_to 4 1) { edges = edges })
+        (codes "edge" ∷ codes "0" ∷ codes "1" ∷ codes "5" ∷ [])
+        ≡ Ok (record (said_up_to 4 1) {
+          edges = edges ++ record { a = 0; b = 1; weight = 5 } ∷ [];
+        }) }
     ensures edge_past { (edges : List Edge) → length edges ≡ 32768
         → judge (record (said_up_to 4 1) { edges = edges })
         (codes "edge" ∷ codes "0" ∷ codes "1" ∷ codes "5" ∷ []) ≡ Err TooMany }
