@@ -8,5 +8,7 @@ mod Judging
 mod Texts
 mod CallTexts
 mod Cutting
+mod Searching
 mod Blocking
+mod LastTickets
 mod Shorts

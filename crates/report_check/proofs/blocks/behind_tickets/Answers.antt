@@ -1,5 +1,5 @@
 use Rattle.std.proofs.Common.{◌<◌, ap, arith, get_or, length, refl, subst, sym, List, Vec, Global, ℕ, ◌+◌}
-use Rattle.report_check.proofs.Blocking.{IsBehindSoFar, behind-more, behind-past}
+use Rattle.report_check.proofs.LastTickets.{IsBehindSoFar, behind-more, behind-past}
 use Rattle.report_check.proofs.blocks.behind_tickets.Goals as goal
 use Rattle.report_check.proofs.blocks.behind_tickets.Goals.{then-actor-len, else-actor-len}
 

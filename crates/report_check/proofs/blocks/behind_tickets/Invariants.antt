@@ -1,5 +1,5 @@
 use Rattle.std.proofs.Common.{◌<◌, ℕ, length, get_or}
-use Rattle.report_check.proofs.Blocking.{IsBehindSoFar}
+use Rattle.report_check.proofs.LastTickets.{IsBehindSoFar}
 use Rattle.report_check.proofs.blocks.behind_tickets.Given as goal
 
 abbrev pub invariant-tickets : goal.invariant-tickets

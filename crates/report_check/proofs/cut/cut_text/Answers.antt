@@ -1,7 +1,7 @@
 use Rattle.std.proofs.Common.{◌∙◌, sym, ap, subst, ℕ, ◌+◌}
 use Rattle.std.proofs.lemmas.List.{take_rest}
 use Rattle.report_check.specs.Cuts.{is_cut}
-use Rattle.report_check.proofs.Cutting.{IsPlace, input-end, input-found, input-whole, last-line, place-line, place-plain, report-end, report-found}
+use Rattle.report_check.proofs.Searching.{IsPlace, input-end, input-found, input-whole, last-line, place-line, place-plain, report-end, report-found}
 use Rattle.report_check.proofs.cut.cut_text.Goals as goal
 use Rattle.report_check.proofs.cut.cut_text.Goals.{then-text-at-eq10+else-is_cut, else-text-at-eq10}
 

@@ -1,4 +1,4 @@
-use Rattle.report_check.proofs.Cutting.{IsPlace}
+use Rattle.report_check.proofs.Searching.{IsPlace}
 use Rattle.report_check.proofs.cut.cut_text.Given as goal
 
 abbrev pub invariant-bytes : goal.invariant-bytes

@@ -1,6 +1,6 @@
 use Rattle.std.proofs.Common.{rules}
 use Rattle.report_check.specs.Lines.{done_of}
-use Rattle.report_check.proofs.Blocking.{none-line}
+use Rattle.report_check.proofs.LastTickets.{none-line}
 use Rattle.report_check.proofs.judge.none_left.Goals as goal
 
 pub returns-in-Some : goal.returns-in-Some
