@@ -1,6 +1,6 @@
 //! The levels' exponents, and the balls of a level.
 
-ghost use Rattle.std.specs.Prelude.{◌≡◌, ℕ, ◌<◌, ◌≤◌, ◌^◌, All, length};
+ghost use Rattle.std.specs.Prelude.{◌≡◌, ℕ, ◌<◌, ◌≤◌, ◌^◌, All, IfOk, length};
 ghost use Rattle.node_set.specs.Nodes.{Nodes};
 ghost use Rattle.distances.specs.Table.{IsMetric};
 ghost use Rattle.node_set.specs.Balls.{sets};
@@ -9,7 +9,9 @@ ghost use Rattle.region_plan.specs.Meanings.{IsTop};
 ghost use Rattle.region_plan.specs.Spread.{AreExponents};
 
 use distances::Distances;
+use net_graph::OutOfMemory;
 use node_set::NodeSet;
+use std::alloc::Global;
 
 // The least exponent whose power of two reaches the diameter.
 pub fn top_for(distances: &Distances) -> u32
@@ -34,6 +36,19 @@ fn least_exponent(number: u64) -> u32
         }
     }
     30
+}
+
+// As many empty sets.
+pub fn empty_sets(alloc: Global, count: usize, room: u32) -> Result<Vec<NodeSet>, OutOfMemory>
+    requires { room ≤ 1024 }
+    ensures count { IfOk result (λ sets. length sets.items ≡ count) }
+    ensures rooms { IfOk result (λ sets. All (λ (s : Nodes). s.room ≡ room) sets.items) }
+{
+    let mut sets = Vec::with_capacity(alloc, count)?;
+    for _place in 0..count {
+        sets.push(NodeSet::empty(alloc, room)?)?;
+    }
+    Ok(sets)
 }
 
 // Makes the sets the balls of level `i` round all nodes.

@@ -1,9 +1,10 @@
 //! The clusters of a level in flat lists: their members ascending, and a weight beside each.
 
-ghost use Rattle.std.specs.Prelude.{◌≡◌, ◌<◌, ◌≤◌, ◌^◌, All, IfOk, IsTrue, OnOk, length, suc, true};
+ghost use Rattle.std.specs.Prelude.{◌≡◌, ◌++◌, ◌<◌, ◌≤◌, ◌^◌, All, IfOk, IsTrue, OnOk, length, suc, true};
 ghost use Rattle.node_set.specs.Ascending.{IsAscending, has};
 ghost use Rattle.net_graph.specs.Trees.{AreDistancesFrom};
 ghost use Rattle.cluster_tree.specs.Inside.{AreWeightsWritten};
+ghost use Rattle.node_set.specs.Nodes.{AreNodes};
 ghost use Rattle.node_set.specs.Workspaces.{IsWorkspace};
 ghost use Rattle.distances.specs.Table.{AreDistancesOf};
 ghost use Rattle.region_plan.specs.Kept.{IsSpanned};
@@ -13,7 +14,6 @@ ghost use Rattle.region_plan.specs.Readers.{place_in};
 ghost use Rattle.region_plan.specs.Meanings.{AreClustersOf};
 ghost use Rattle.region_plan.specs.Flat.{IsWholeAlone};
 
-use crate::readers::push_members;
 use cluster_tree::{TreeFault, inside_weights};
 use coarse_cover::Cluster;
 use distances::Distances;
@@ -267,4 +267,19 @@ fn weigh_members(
         Err(TreeFault::OutOfMemory) => Err(AllocError),
         Err(TreeFault::Outside { .. }) => unreachable!(),
     }
+}
+
+// Appends the numbers of a set.
+pub fn push_members(set: &NodeSet, list: &mut Vec<u32>) -> Result<(), OutOfMemory>
+    ensures sound { AreNodes set.now }
+    ensures pushed { OnOk result (list.new.items ≡ list.old.items ++ set.now.members) }
+{
+    // The call tells the proof that the numbers ascend.
+    let _room = set.room();
+    let mut from = 0;
+    'member: while let Some(v) = set.next_from(from) {
+        list.push(v)?;
+        from = v + 1;
+    }
+    Ok(())
 }

@@ -5,10 +5,9 @@ ghost use Rattle.region_plan.specs.Plan.{level_in};
 ghost use Rattle.region_plan.specs.Flat.{IsFlatLevel};
 ghost use Rattle.region_plan.specs.Kept.{IsSized};
 
-use crate::balls::top_for;
+use crate::balls::{empty_sets, top_for};
 use crate::clusters::Clusters;
 use crate::level::LevelTable;
-use crate::readers::empty_sets;
 use crate::sharing::Levels;
 use distances::Distances;
 use net_graph::OutOfMemory;

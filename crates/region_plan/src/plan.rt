@@ -19,12 +19,11 @@ ghost use Rattle.directory.specs.Finds.{most_looks};
 ghost use Rattle.directory.specs.Writes.{most_writes};
 ghost use Rattle.region_plan.specs.Kept.{IsKept};
 
-use crate::balls::top_for;
+use crate::balls::{empty_sets, top_for};
 use crate::building::push_level;
 use crate::covering::{Covering, covering_home_means, covering_shape};
 use crate::flat::flat_levels;
 use crate::laws::{covered_plan_means, mean_plan_is_small, plan_is_sparse};
-use crate::readers::empty_sets;
 use crate::sharing::Levels;
 use crate::spread::Spread;
 use distances::{Distances, distances_are_one};

@@ -4,13 +4,13 @@ ghost use Rattle.std.specs.Prelude.{◌≡◌, ◌<◌, ◌≤◌, ◌++◌, ◌
 ghost use Rattle.std.specs.Prelude.{false, length, map, nat_lt, suc};
 ghost use Rattle.node_set.specs.Ascending.{has};
 ghost use Rattle.node_set.specs.Balls.{ball, sets as lists_of};
-ghost use Rattle.node_set.specs.Nodes.{AreNodes, Nodes};
+ghost use Rattle.node_set.specs.Nodes.{Nodes};
 ghost use Rattle.region_plan.specs.Kept.{IsTable};
 ghost use Rattle.region_plan.specs.Plan.{weight_in};
 ghost use Rattle.region_plan.specs.Readers.{ArePlaces, IsReadBelow};
 ghost use Rattle.region_plan.specs.Regions.{clusters_with};
 
-use crate::clusters::Clusters;
+use crate::clusters::{Clusters, push_members};
 use net_graph::OutOfMemory;
 use node_set::NodeSet;
 use std::alloc::Global;
@@ -67,19 +67,6 @@ impl ReaderLists {
     }
 }
 
-// As many empty sets.
-pub fn empty_sets(alloc: Global, count: usize, room: u32) -> Result<Vec<NodeSet>, OutOfMemory>
-    requires { room ≤ 1024 }
-    ensures count { IfOk result (λ sets. length sets.items ≡ count) }
-    ensures rooms { IfOk result (λ sets. All (λ (s : Nodes). s.room ≡ room) sets.items) }
-{
-    let mut sets = Vec::with_capacity(alloc, count)?;
-    for _place in 0..count {
-        sets.push(NodeSet::empty(alloc, room)?)?;
-    }
-    Ok(sets)
-}
-
 // Puts the number of a cluster into the sets of its members.
 fn add_reader(sets: &mut [NodeSet], number: u32, members: &[u32])
     requires { All (λ (s : Nodes). number < s.room) sets.old }
@@ -119,21 +106,6 @@ pub fn gather_readers(sets: &mut [NodeSet], clusters: &Clusters, room: u32)
     for number in 0..clusters.count() as u32 {
         add_reader(sets, number, clusters.nodes(number));
     }
-}
-
-// Appends the numbers of a set.
-pub fn push_members(set: &NodeSet, list: &mut Vec<u32>) -> Result<(), OutOfMemory>
-    ensures sound { AreNodes set.now }
-    ensures pushed { OnOk result (list.new.items ≡ list.old.items ++ set.now.members) }
-{
-    // The call tells the proof that the numbers ascend.
-    let _room = set.room();
-    let mut from = 0;
-    'member: while let Some(v) = set.next_from(from) {
-        list.push(v)?;
-        from = v + 1;
-    }
-    Ok(())
 }
 
 // Appends the weights of `v` inside the clusters that contain it. The places say how many members

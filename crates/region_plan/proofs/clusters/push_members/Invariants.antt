@@ -1,6 +1,6 @@
 use Rattle.std.proofs.Common.{◌≡◌, ◌-◌, ◌++◌}
 use Rattle.node_set.specs.Ascending.{has, sift}
-use Rattle.region_plan.proofs.readers.push_members.Given as goal
+use Rattle.region_plan.proofs.clusters.push_members.Given as goal
 
 abbrev pub invariant-member : goal.invariant-member
 invariant-member l = l.list.items ≡ l.fn.list.items ++ sift (λ x. has x l.set.members) 0 l.from

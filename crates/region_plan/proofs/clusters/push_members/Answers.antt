@@ -2,7 +2,7 @@ use Rattle.std.proofs.Common.{◌∙◌, ◌++◌, ◌∷◌, [], ℕ, List, ap,
 use Rattle.std.proofs.lemmas.List.{append_assoc}
 use Rattle.node_set.specs.Ascending.{has, sift}
 use Rattle.node_set.specs.ScanLaws.{next_taken, none_left}
-use Rattle.region_plan.proofs.readers.push_members.Goals as goal
+use Rattle.region_plan.proofs.clusters.push_members.Goals as goal
 
 pub member-preserved : goal.member-preserved
 member-preserved c =

@@ -1,7 +1,7 @@
 use Rattle.std.proofs.Common.{◌≡◌, length}
 use Rattle.std.specs.Prelude.{All}
 use Rattle.node_set.specs.Nodes.{Nodes}
-use Rattle.region_plan.proofs.readers.empty_sets.Given as goal
+use Rattle.region_plan.proofs.balls.empty_sets.Given as goal
 
 abbrev pub invariant-loop-place : goal.invariant-loop-place
 invariant-loop-place l = record {
