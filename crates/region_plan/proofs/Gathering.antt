@@ -1,32 +1,19 @@
--- Balls read from rows of distances, and the clusters that contain each node.
-use Rattle.std.proofs.Common.{◌≡◌, inl, inr, ℕ, ◌+◌, ◌<◌, ◌≤◌, Bool, true, false, ◌&&◌, ◌||◌, List, [], ◌∷◌, ◌++◌}
-use Rattle.std.proofs.Common.{length, set, get_or, refl, sym, ◌∙◌, ap, arith}
-use Rattle.std.specs.Prelude.{◌==◌, nat_le, nat_lt, slice_index, take}
-use Rattle.std.proofs.lemmas.Bool.Decides.{nat_tests}
-use Rattle.std.proofs.lemmas.Bool.{cases_eq, cases_lt, eq-eqb, ne_eqb, lt-ltb, le-ltb}
-use Rattle.std.proofs.lemmas.List.{get_or-set_same, get_or-set_other, get_or_default, length-set, take_more}
-use Rattle.node_set.specs.Ascending.{has, IsAscending, with_number, sift}
-use Rattle.node_set.specs.Balls.{ball, sets}
-use Rattle.node_set.specs.BallLaws.{ball_at}
-use Rattle.node_set.specs.Nodes.{AreNodes, Nodes}
-use Rattle.node_set.specs.SetLaws.{ascending-passing, has-inserted, has-passing, passing_over, passing_same}
-use Rattle.node_set.specs.SetLaws.{same_members}
-use Rattle.distances.specs.Table.{DistanceTable, IsRowOf, ball_of, dist}
+-- The clusters of each node, while they are counted.
+use Rattle.std.proofs.Common.{◌≡◌, inl, inr, ℕ, zero, suc, ◌+◌, ◌<◌, ◌≤◌, Bool, true, false, cond, ◌||◌, List, []}
+use Rattle.std.proofs.Common.{◌∷◌, ◌++◌, length, take, set, get_or, refl, sym, ◌∙◌, ap, subst, arith, add-zero, zero-add}
+use Rattle.std.specs.Prelude.{◌==◌, All}
+use Rattle.std.proofs.lemmas.Bool.{cases_eq, cases_lt, eq-eqb, ne_eqb}
+use Rattle.std.proofs.lemmas.Grind.{get_or_default_zero}
+use Rattle.std.proofs.lemmas.List.{get_or-set_same, get_or-set_other, get_or-take, get_or_append_left, get_or_push}
+use Rattle.std.proofs.lemmas.List.{length-set, length-take-le, length_push, take_more}
+use Rattle.node_set.specs.Ascending.{has, IsAscending, sift}
+use Rattle.node_set.specs.SetLaws.{below_each, length-cond, length-passing-add, length-passing-le}
 use Rattle.region_plan.specs.Plan.{PlanCluster, cluster_in}
-use Rattle.region_plan.specs.Readers.{IsReadBelow}
-use Rattle.region_plan.specs.Regions.{clusters_with}
+use Rattle.region_plan.specs.Readers.{AreCounts, AreStarts, HaveRoom, IsCounted, readers_below}
 
--- the numbers of a row within a radius are the ball's nodes
-pub row_within : (table : DistanceTable) (v radius : ℕ) (row : List ℕ) → IsRowOf table v row
-    → sift (λ x. nat_le (slice_index row x) radius) 0 (length row) ≡ ball_of table v radius
-row_within table v radius row is =
-    ap (sift (λ x. nat_le (slice_index row x) radius) 0) is.count
-    ∙ passing_same (λ x. nat_le (slice_index row x) radius) (λ w. nat_le (dist table v w) radius) 0 table.nodes
-    (λ x low high. ap (λ d. nat_le d radius) (is.each x (omega arith)))
+-- ---- one member more
 
--- ---- one reader more
-
-pub has_push : (x y : ℕ) (xs : List ℕ) → has x (xs ++ y ∷ []) ≡ (has x xs || x == y)
+has_push : (x y : ℕ) (xs : List ℕ) → has x (xs ++ y ∷ []) ≡ (has x xs || x == y)
 has_push x y [] = at (x == y)
   where
     at : (b : Bool) → (b || false) ≡ b
@@ -38,169 +25,159 @@ has_push x y (z ∷ zs) = ap (λ b. x == z || b) (has_push x y zs) ∙ at (x == 
     at true b c = refl
     at false b c = refl
 
-module _ (all : List Nodes) (m number : ℕ) (s new : Nodes) (below : m < length all) (at : s ≡ get_or all m s)
-    (is : new.members ≡ with_number number s.members) where
-  set_here : (v x : ℕ) → v ≡ m → has x (ball (sets (set all m new)) v) ≡ (has x (ball (sets all) v) || x == number)
-  set_here v x same =
-      ap (λ w. has x (ball (sets (set all m new)) w)) same
-      ∙ ap (has x) (ball_at (set all m new) m new (omega (arith, length-set all m new))
-      (sym (get_or-set_same all m new new below)) ∙ is)
-      ∙ has-inserted x number s.members
-      ∙ swap (x == number) (has x s.members)
-      ∙ sym (ap (λ w. has x (ball (sets all) w) || x == number) same
-      ∙ ap (λ l. has x l || x == number) (ball_at all m s below at))
+-- a number of an ascending list isn't among those before it
+fresh : (xs : List ℕ) (i : ℕ) → IsAscending xs → i < length xs → has (get_or xs i 0) (take i xs) ≡ false
+fresh [] i ascending short = absurd (omega arith)
+fresh (x ∷ xs) zero ascending short = refl
+fresh (x ∷ xs) (suc i) ascending short =
+    ap (λ b. b || has (get_or xs i 0) (take i xs))
+    (ne_eqb (get_or xs i 0) x (λ same. omega (arith, same, below_each x xs i ascending.0 (omega arith))))
+    ∙ fresh xs i ascending.1 (omega arith)
+
+pub none_counted : (old : List ℕ) → IsCounted [] old old
+none_counted old = record { count = refl; each = λ v below. omega arith }
+
+module _ (members old counts : List ℕ) (i : ℕ) (short : i < length members)
+    (before : IsCounted (take i members) old counts) where
+  m : ℕ
+  m = get_or members i 0
+
+  more : (v : ℕ) → has v (take (i + 1) members) ≡ (has v (take i members) || v == m)
+  unfolding m
+  more v = ap (has v) (take_more members i 0 short) ∙ has_push v (get_or members i 0) (take i members)
+
+  other_node : (v : ℕ) → (v ≡ m → ⊥) → has v (take (i + 1) members) ≡ has v (take i members)
+  other_node v other = more v ∙ ap (λ b. has v (take i members) || b) (ne_eqb v m other) ∙ none (has v (take i members))
     where
-      swap : (a b : Bool) → (a || b) ≡ (b || a)
-      swap true true = refl
-      swap true false = refl
-      swap false true = refl
-      swap false false = refl
+      none : (b : Bool) → (b || false) ≡ b
+      none true = refl
+      none false = refl
 
-  set_there : (v x : ℕ) → v < length all → (v ≡ m → ⊥) → ball (sets (set all m new)) v ≡ ball (sets all) v
-  set_there v x short other =
-      ball_at (set all m new) v (get_or all v s) (omega (arith, length-set all m new))
-      (get_or_default all v s (get_or all v s) short ∙ sym (get_or-set_other all m v new (get_or all v s) other))
-      ∙ sym (ball_at all v (get_or all v s) short (get_or_default all v s (get_or all v s) short))
+  this_node : has m (take (i + 1) members) ≡ true
+  this_node = more m ∙ ap (λ b. has m (take i members) || b) (eq-eqb m m refl) ∙ one (has m (take i members))
+    where
+      one : (b : Bool) → (b || true) ≡ true
+      one true = refl
+      one false = refl
 
-pub reader_added : (all old : List Nodes) (m number i : ℕ) (members : List ℕ) (s new : Nodes) → m < length all → s
-    ≡ get_or all m s
-    → new.members ≡ with_number number s.members → i < length members → m ≡ get_or members i 0
-    → ((v x : ℕ) → v < length all
-    → has x (ball (sets all) v) ≡ (has x (ball (sets old) v) || (x == number && has v (take i members))))
-    → (v x : ℕ) → v < length all
-    → has x (ball (sets (set all m new)) v)
-    ≡ (has x (ball (sets old) v) || (x == number && has v (take (i + 1) members)))
-reader_added all old m number i members s new below at is short here before v x v_below =
-    elim (cases_eq v m) [
+  -- it isn't counted yet
+  pub uncounted : IsAscending members → get_or members i 0 < length old
+      → get_or counts (get_or members i 0) 0 ≡ get_or old (get_or members i 0) 0
+  uncounted ascending below = before.each (get_or members i 0) below
+      ∙ ap (λ b. get_or old (get_or members i 0) 0 + cond b 1 0) (fresh members i ascending short)
+      ∙ add-zero (get_or old (get_or members i 0) 0)
+
+  pub one_counted : IsAscending members → get_or members i 0 < length old → IsCounted (take (i + 1) members) old
+      (set counts (get_or members i 0) (get_or counts (get_or members i 0) 0 + 1))
+  unfolding m
+  one_counted ascending below = record {
+    count = length-set counts m (get_or counts m 0 + 1) ∙ before.count;
+    each = λ v v_below. elim (cases_eq v m) [
       | inl same ↦
-          set_here all m number s new below at is v x same
-          ∙ ap (λ b. b || x == number) (before v x v_below)
-          ∙ both (has x (ball (sets old) v)) (x == number) (has v (take i members))
-          ∙ sym (ap (λ b. has x (ball (sets old) v) || (x == number && b))
-          (more ∙ ap (λ b. has v (take i members) || b) (eq-eqb v m same)))
+          subst (λ u. get_or (set counts m (get_or counts m 0 + 1)) u 0
+          ≡ get_or old u 0 + cond (has u (take (i + 1) members)) 1 0) (sym same)
+          (get_or-set_same counts m (get_or counts m 0 + 1) 0 (omega (arith, below, before.count))
+          ∙ ap (λ n. n + 1) (uncounted ascending below)
+          ∙ sym (ap (λ b. get_or old m 0 + cond b 1 0) this_node))
       | inr other ↦
-          ap (has x) (set_there all m number s new below at is v x v_below other)
-          ∙ before v x v_below
-          ∙ sym (ap (λ b. has x (ball (sets old) v) || (x == number && b))
-          (more ∙ ap (λ b. has v (take i members) || b) (ne_eqb v m other) ∙ none (has v (take i members))))
-    ]
-  where
-    more : has v (take (i + 1) members) ≡ (has v (take i members) || v == m)
-    more = ap (has v) (take_more members i 0 short) ∙ has_push v (get_or members i 0) (take i members)
-        ∙ ap (λ y. has v (take i members) || v == y) (sym here)
+          get_or-set_other counts m v (get_or counts m 0 + 1) 0 other
+          ∙ before.each v v_below
+          ∙ sym (ap (λ b. get_or old v 0 + cond b 1 0) (other_node v other))
+    ];
+  }
 
-    none : (b : Bool) → (b || false) ≡ b
-    none true = refl
-    none false = refl
+  -- the member is none of the nodes
+  pub one_skipped : length old ≤ get_or members i 0 → IsCounted (take (i + 1) members) old counts
+  unfolding m
+  one_skipped over = record {
+    count = before.count;
+    each = λ v below. before.each v below
+        ∙ sym (ap (λ b. get_or old v 0 + cond b 1 0) (other_node v (λ same. omega (arith, same, below, over))));
+  }
 
-    both : (a b c : Bool) → ((a || (b && c)) || b) ≡ (a || (b && (c || true)))
-    both true b c = refl
-    both false true true = refl
-    both false true false = refl
-    both false false c = refl
+-- ---- one cluster more
 
--- the member is none of the nodes
-pub reader_skipped : (all old : List Nodes) (m number i : ℕ) (members : List ℕ) → length all ≤ m → i < length members
-    → m ≡ get_or members i 0
-    → ((v x : ℕ) → v < length all
-    → has x (ball (sets all) v) ≡ (has x (ball (sets old) v) || (x == number && has v (take i members))))
-    → (v x : ℕ) → v < length all
-    → has x (ball (sets all) v) ≡ (has x (ball (sets old) v) || (x == number && has v (take (i + 1) members)))
-reader_skipped all old m number i members over short here before v x v_below =
-    before v x v_below
-    ∙ sym (ap (λ b. has x (ball (sets old) v) || (x == number && b))
-    (ap (has v) (take_more members i 0 short) ∙ has_push v (get_or members i 0) (take i members)
-    ∙ ap (λ b. has v (take i members) || b) (ne_eqb v (get_or members i 0) (λ same. omega (arith, here, same)))
-    ∙ none (has v (take i members))))
-  where
-    none : (b : Bool) → (b || false) ≡ b
-    none true = refl
-    none false = refl
+length_more : (test : ℕ → Bool) (c : ℕ) → length (sift test 0 (c + 1)) ≡ length (sift test 0 c) + cond (test c) 1 0
+length_more test c = length-passing-add test 0 c 1
+    ∙ ap (λ i. length (sift test 0 c) + length (sift test i 1)) (zero-add c)
+    ∙ ap (λ n. length (sift test 0 c) + n) (length-cond (test c) c [] ∙ add-zero (cond (test c) 1 0))
 
--- one set more is empty
-pub cleared_more : (all : List Nodes) (place : ℕ) (new : Nodes) → place < length all → new.members ≡ []
-    → ((v x : ℕ) → v < place → has x (ball (sets all) v) ≡ false)
-    → (v x : ℕ) → v < place + 1 → has x (ball (sets (set all place new)) v) ≡ false
-cleared_more all place new below none before v x short = elim (cases_eq v place) [
-  | inl same ↦
-      ap (λ w. has x (ball (sets (set all place new)) w)) same
-      ∙ ap (has x) (ball_at (set all place new) place new (omega (arith, length-set all place new))
-      (sym (get_or-set_same all place new new below)) ∙ none)
-  | inr other ↦
-      ap (has x) (there all place new v (omega (arith, below, short, other)) other)
-      ∙ before v x (omega (arith, short, other))
-]
-  where
-    there : (all : List Nodes) (place : ℕ) (new : Nodes) (v : ℕ) → v < length all → (v ≡ place → ⊥)
-        → ball (sets (set all place new)) v ≡ ball (sets all) v
-    there all place new v short other =
-        ball_at (set all place new) v (get_or all v new) (omega (arith, length-set all place new))
-        (get_or_default all v new (get_or all v new) short
-        ∙ sym (get_or-set_other all place v new (get_or all v new) other))
-        ∙ sym (ball_at all v (get_or all v new) short (get_or_default all v new (get_or all v new) short))
+pub cluster_counted : (clusters : List PlanCluster) (number : ℕ) (members old new : List ℕ)
+    → members ≡ (cluster_in clusters number).members → AreCounts clusters number old → IsCounted members old new
+    → AreCounts clusters (number + 1) new
+cluster_counted clusters number members old new is before counted v below =
+    let short : v < length old = omega (arith, below, counted.count) in
+    counted.each v short ∙ ap (λ n. n + cond (has v members) 1 0) (before v short)
+    ∙ ap (λ xs. length (readers_below clusters number v) + cond (has v xs) 1 0) is
+    ∙ sym (length_more (λ c. has v (cluster_in clusters c).members) number)
 
--- no cluster yet
-pub read_none : (n : ℕ) (clusters : List PlanCluster) (lists : List (List ℕ))
-    → ((v x : ℕ) → v < n → has x (ball lists v) ≡ false)
-    → IsReadBelow n clusters 0 lists
-read_none n clusters lists none v x below =
-    none v x below ∙ sym (ap (λ b. b && has v (cluster_in clusters x).members) (le-ltb x 0 (omega arith)))
+pub counts_few : (clusters : List PlanCluster) (number top : ℕ) (counts : List ℕ) → AreCounts clusters number counts
+    → number ≤ top → All (λ count. count ≤ top) counts
+counts_few clusters number top counts are few v d below =
+    omega (
+      arith,
+      get_or_default_zero counts v d below,
+      are v below,
+      length-passing-le (λ c. has v (cluster_in clusters c).members) 0 number,
+      few,
+    )
 
--- one cluster more
-pub read_more : (n number : ℕ) (clusters : List PlanCluster) (members : List ℕ) (old new : List (List ℕ))
-    → IsReadBelow n clusters number old
-    → members ≡ (cluster_in clusters number).members
-    → ((v x : ℕ) → v < n → has x (ball new v) ≡ (has x (ball old v) || (x == number && has v members)))
-    → IsReadBelow n clusters (number + 1) new
-read_more n number clusters members old new before is each v x below =
-    each v x below ∙ ap (λ b. b || (x == number && has v members)) (before v x below)
-    ∙ elim (cases_eq x number) [
-      | inl same ↦
-          ap (λ b. (b && has v (cluster_in clusters x).members) || (x == number && has v members))
-          (le-ltb x number (omega arith))
-          ∙ ap (λ b. b && has v members) (eq-eqb x number same)
-          ∙ ap (has v) is ∙ ap (λ y. has v (cluster_in clusters y).members) (sym same)
-          ∙ sym (ap (λ b. b && has v (cluster_in clusters x).members) (lt-ltb x (number + 1) (omega arith)))
-      | inr other ↦
-          ap (λ b. (nat_lt x number && has v (cluster_in clusters x).members) || (b && has v members))
-          (ne_eqb x number other)
-          ∙ none (nat_lt x number && has v (cluster_in clusters x).members)
-          ∙ ap (λ b. b && has v (cluster_in clusters x).members) (step other)
-    ]
-  where
-    none : (b : Bool) → (b || false) ≡ b
-    none true = refl
-    none false = refl
+-- ---- the sums
 
-    step : (x ≡ number → ⊥) → nat_lt x number ≡ nat_lt x (number + 1)
-    step other = grind (arith, nat_tests)
+pub count_few : (counts : List ℕ) (i : ℕ) → i < length counts → All (λ count. count ≤ 1024) counts
+    → get_or counts i 0 ≤ 1024
+count_few counts i short few = few i 0 short
 
--- the clusters that contain a node
-pub readers_are : (n v : ℕ) (clusters : List PlanCluster) (all : List (List ℕ)) (numbers : List ℕ)
-    → IsReadBelow n clusters (length clusters) all
-    → v < n → numbers ≡ ball all v → IsAscending numbers → numbers ≡ clusters_with clusters v
-readers_are n v clusters all numbers read below is ascending =
-    same_members numbers (clusters_with clusters v) ascending
-    (ascending-passing (λ c. has v (cluster_in clusters c).members) 0 (length clusters))
-    (λ x. ap (has x) is ∙ read v x below ∙ elim (cases_lt x (length clusters)) [
-      | inl short ↦
-          ap (λ b. b && has v (cluster_in clusters x).members) (lt-ltb x (length clusters) short)
-          ∙ sym (has-passing (λ c. has v (cluster_in clusters c).members) x 0 (length clusters) (omega arith)
-          (omega arith))
-      | inr over ↦
-          ap (λ b. b && has v (cluster_in clusters x).members) (le-ltb x (length clusters) over)
-          ∙ sym (passing_over (λ c. has v (cluster_in clusters c).members) x 0 (length clusters) (omega arith))
-    ])
+pub no_starts : (starts : List ℕ) → starts ≡ 0 ∷ [] → AreStarts [] starts
+no_starts starts are = record {
+  count = ap (length {A = ℕ}) are;
+  each = λ v below. absurd (omega arith);
+}
 
--- what is pushed for a node, from sets that were written over
-pub pushed_readers : (v : ℕ) (clusters now : List PlanCluster) (before all : List Nodes) (d : Nodes)
-    (old new : List ℕ) → IsReadBelow (length before) now (length now) (sets all) → now ≡ clusters
-    → length all ≡ length before → v < length before
-    → AreNodes (get_or all v d) → new ≡ old ++ (get_or all v d).members
-    → new ≡ old ++ clusters_with clusters v
-pushed_readers v clusters now before all d old new read value kept below sound pushed =
-    pushed ∙ ap (λ (l : List ℕ). old ++ l)
-    (readers_are (length before) v now (sets all) (get_or all v d).members read below
-    (sym (ball_at all v (get_or all v d) (omega (arith, below, kept))
-    (get_or_default all v d (get_or all v d) (omega (arith, below, kept))))) sound.ascending
-    ∙ ap (λ (cs : List PlanCluster). clusters_with cs v) value)
+module _ (counts starts new : List ℕ) (i sum : ℕ) (short : i < length counts)
+    (before : AreStarts (take i counts) starts) (now : new ≡ starts ++ (sum + get_or counts i 0) ∷ []) where
+  long : length starts ≡ i + 1
+  long = before.count ∙ ap (λ k. k + 1) (length-take-le i counts (omega arith))
+
+  old_start : (v : ℕ) → v ≤ i → get_or new v 0 ≡ get_or starts v 0
+  old_start v low = ap (λ (xs : List ℕ). get_or xs v 0) now
+      ∙ get_or_append_left starts ((sum + get_or counts i 0) ∷ []) 0 v (omega (arith, long))
+
+  pub last_start : get_or new (i + 1) 0 ≡ sum + get_or counts i 0
+  last_start = ap (λ (xs : List ℕ). get_or xs (i + 1) 0) now
+      ∙ get_or_push starts (sum + get_or counts i 0) 0 (i + 1) long
+
+  pub one_start : get_or starts i 0 ≡ sum → AreStarts (take (i + 1) counts) new
+  one_start last = record {
+    count = omega (
+      arith,
+      ap (length {A = ℕ}) now,
+      length_push starts (sum + get_or counts i 0),
+      long,
+      length-take-le (i + 1) counts (omega (arith, short)),
+    );
+    each = λ v below.
+        let low : v < i + 1 = omega (arith, below, length-take-le (i + 1) counts (omega (arith, short))) in
+        elim (cases_lt v i) [
+          | inl less ↦
+              old_start (v + 1) (omega (arith, less))
+              ∙ before.each v (omega (arith, less, short, length-take-le i counts (omega (arith, short))))
+              ∙ ap (λ k. get_or starts v 0 + k) (get_or-take i counts v 0 less
+              ∙ sym (get_or-take (i + 1) counts v 0 low))
+              ∙ ap (λ k. k + get_or (take (i + 1) counts) v 0) (sym (old_start v (omega (arith, less))))
+          | inr more ↦
+              let same : i ≡ v = omega (arith, more, low) in
+              subst (λ u. get_or new (u + 1) 0 ≡ get_or new u 0 + get_or (take (i + 1) counts) u 0) same
+              (last_start ∙ ap (λ k. k + get_or counts i 0) (sym (old_start i (omega arith) ∙ last))
+              ∙ ap (λ k. get_or new i 0 + k) (sym (get_or-take (i + 1) counts i 0 (omega arith))))
+        ];
+  }
+
+pub room_made : (clusters : List PlanCluster) (n : ℕ) (counts starts : List ℕ) → length counts ≡ n
+    → AreCounts clusters (length clusters) counts → AreStarts counts starts → HaveRoom n clusters starts
+room_made clusters n counts starts long are sums = record {
+  count = sums.count ∙ ap (λ k. k + 1) long;
+  each = λ v below.
+      let short : v < length counts = omega (arith, below, long) in
+      sums.each v short ∙ ap (λ k. get_or starts v 0 + k) (are v short);
+}

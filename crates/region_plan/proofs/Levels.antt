@@ -87,14 +87,6 @@ module _ (network : Network) (table : DistanceTable) (metric : IsMetric table) (
     homes_count = ap length cover_is.homes
         ∙ length-map_centres (home_of (all_clusters (regions_of table covering i))) table.nodes
 
-    -- the balls' sets are as many as the homes, and have room for as many
-    pub sets_fit : length now ≡ length cover.home.items
-    sets_fit = count ∙ sym homes_count
-
-    pub rooms_fit : All (λ (b : Nodes). b.room ≡ table.nodes) now
-        → All (λ (b : Nodes). b.room ≡ length cover.home.items) now
-    rooms_fit = subst (λ (n : ℕ). All (λ (b : Nodes). b.room ≡ n) now) (sym homes_count)
-
     module _ (rows : List PlanCluster) (rows_are : AreClustersOf network cover.clusters.items rows)
         (few : length cover.clusters.items ≤ length now) where
       pub rows_few : length rows ≤ table.nodes

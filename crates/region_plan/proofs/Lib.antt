@@ -8,7 +8,7 @@ mod Covered
 mod Spanning
 mod Gathering
 mod Laying
-mod Places
+mod Filling
 mod Levels
 mod Shapes
 mod Matching

@@ -1,72 +1,34 @@
 -- The parts of a level, step by step.
-use Rattle.std.proofs.Common.{◌≡◌, ℕ, zero, suc, ◌+◌, ◌-◌, ◌<◌, ◌≤◌, Bool, true, false, cond, List, [], ◌∷◌, ◌++◌}
-use Rattle.std.proofs.Common.{length, map, take, drop, replicate, get_or, refl, sym, ◌∙◌, ap, subst, inl, inr, arith}
+use Rattle.std.proofs.Common.{◌≡◌, ℕ, zero, suc, ◌+◌, ◌-◌, ◌<◌, ◌≤◌, true, cond, List, [], ◌∷◌, ◌++◌}
+use Rattle.std.proofs.Common.{length, map, take, drop, replicate, get_or, refl, sym, ◌∙◌, ap, subst, arith}
 use Rattle.std.specs.Prelude.{All, Contains, nat_le, slice_range}
-use Rattle.std.proofs.lemmas.Bool.{cases_lt, le-leb}
-use Rattle.std.proofs.lemmas.List.{append_assoc, map_push, length-append, length-drop, length-replicate, length_push}
-use Rattle.std.proofs.lemmas.List.{get_or_append_left, get_or-append_right, get_or-map, get_or_push, get_or_default}
-use Rattle.std.proofs.lemmas.List.{length-map, take_all, take-append-le}
+use Rattle.std.proofs.lemmas.Bool.{le-leb}
+use Rattle.std.proofs.lemmas.List.{map_push, length-append, length-drop, length-replicate}
+use Rattle.std.proofs.lemmas.List.{get_or_default}
+use Rattle.std.proofs.lemmas.List.{take_all, take-append-le}
 use Rattle.std.proofs.lemmas.List.{drop-append-le, drop_all}
 use Rattle.net_graph.specs.Network.{Network}
 use Rattle.node_set.specs.Ascending.{has, sift}
 use Rattle.node_set.specs.Nodes.{Nodes}
-use Rattle.node_set.specs.SetLaws.{passing_takes, passing_skips, passing_same}
+use Rattle.node_set.specs.SetLaws.{passing_same}
 use Rattle.distances.specs.Table.{DistanceTable, IsRowOf, dist, ball_of, IsMetric, IsDiameter}
 use Rattle.distances.specs.TableLaws.{ball_members}
 use Rattle.coarse_cover.specs.declared.cover.Cluster.{Cluster}
 use Rattle.std.proofs.lemmas.Grind.{same_number_lists}
 use Rattle.cluster_tree.specs.Inside.{AreWeightsWritten, make_cluster}
 use Rattle.cluster_tree.specs.Tree.{weight_beside, IsTreeOf}
-use Rattle.region_plan.specs.Plan.{PlanCluster, Level, cluster_in, weight_in}
+use Rattle.region_plan.specs.Plan.{PlanCluster, Level}
 use Rattle.region_plan.specs.Regions.{clusters_with, readers_of}
 use Rattle.region_plan.specs.Meanings.{IsTop, IsClusterOf}
 use Rattle.region_plan.specs.Flat.{IsWhole, IsWholeAlone, IsFlatLevel}
 use Rattle.region_plan.specs.Meanings.{AreClustersOf}
-use Rattle.region_plan.specs.Kept.{AreBeside, AreRows, IsSized, level_of, shape_with}
-use Rattle.region_plan.proofs.Rows.{length-containing}
+use Rattle.region_plan.specs.Kept.{IsSized, level_of, shape_with}
 use Rattle.node_set.specs.Balls.{centres, sets}
 use Rattle.node_set.specs.BallLaws.{has_centre, length-centres, length-map_centres, get_or-map_centres}
 use Rattle.cluster_tree.specs.PlaceLaws.{beside_map}
 use Rattle.region_plan.proofs.Lists.{made_more, map_same}
 
--- ---- the clusters that contain a node
-
-module _ (clusters : List PlanCluster) (v c : ℕ) (b : Bool) (cluster : PlanCluster) (base old : List ℕ)
-    (below : c < length clusters)
-    (is : cluster ≡ get_or clusters c cluster) (tested : b ≡ has v cluster.members)
-    (before : old ≡ base ++ sift (λ c. has v (cluster_in clusters c).members) 0 c) where
-  test : ℕ → Bool
-  test c = has v (cluster_in clusters c).members
-
-  tests : test c ≡ b
-  unfolding test
-  tests = ap (λ (x : PlanCluster). has v x.members)
-      (sym (is ∙ get_or_default clusters c cluster (cluster_in [] 0) below)) ∙ sym tested
-
-  pub containing_takes : (new : List ℕ) → b ≡ true → new ≡ old ++ c ∷ [] → new
-      ≡ base ++ sift (λ c. has v (cluster_in clusters c).members) 0 (c + 1)
-  unfolding test
-  containing_takes new passes now =
-      now ∙ ap (λ xs. xs ++ c ∷ []) before ∙ append_assoc base (sift test 0 c) (c ∷ [])
-      ∙ ap (λ xs. base ++ xs) (sym (passing_takes test c (tests ∙ passes)))
-
-  pub containing_skips : (new : List ℕ) → b ≡ false → new ≡ old → new
-      ≡ base ++ sift (λ c. has v (cluster_in clusters c).members) 0 (c + 1)
-  unfolding test
-  containing_skips new fails now = now ∙ before ∙ ap (λ xs. base ++ xs) (sym (passing_skips test c (tests ∙ fails)))
-
--- ---- the rows of readers
-
-pub no_rows : (clusters : List PlanCluster) (starts readers : List ℕ) → starts ≡ [] ++ 0 ∷ [] → readers ≡ []
-    → AreRows 0 clusters starts readers
-no_rows clusters starts readers starts_are readers_are = record {
-  count = ap length starts_are;
-  order = λ v h. absurd (omega arith);
-  within = λ v h. let zero_is : 0 ≡ v = omega arith
-      in subst (λ i. get_or starts i 0 ≤ length readers) zero_is
-      (subst (λ (xs : List ℕ). get_or xs 0 0 ≤ length readers) (sym starts_are) (omega arith));
-  each = λ v h. absurd (omega arith);
-}
+-- ---- part of a list that grew
 
 pub range_old : (xs ys : List ℕ) (a b : ℕ) → a ≤ b → b ≤ length xs → slice_range (xs ++ ys) a b ≡ slice_range xs a b
 range_old xs ys a b order short =
@@ -78,142 +40,6 @@ range_new xs ys a b from to =
     ap (λ l. take (b - a) l) (drop-append-le a xs ys (omega arith))
     ∙ ap (λ l. take (b - a) (l ++ ys)) (drop_all a xs (omega arith))
     ∙ take_all (b - a) ys (omega (arith, length-append xs ys))
-
-module _ (n : ℕ) (clusters : List PlanCluster) (starts readers starts_new readers_new : List ℕ) (end : ℕ)
-    (rows : AreRows n clusters starts readers)
-    (ends : get_or starts n 0 ≡ length readers) (growth : readers_new ≡ readers ++ clusters_with clusters n)
-    (end_is : end ≡ length readers_new)
-    (pushed : starts_new ≡ starts ++ end ∷ []) where
-  old_start : (v : ℕ) → v ≤ n → get_or starts_new v 0 ≡ get_or starts v 0
-  old_start v h = ap (λ (xs : List ℕ). get_or xs v 0) pushed
-      ∙ get_or_append_left starts (end ∷ []) 0 v (omega (arith, rows.count))
-
-  pub new_start : get_or starts_new (n + 1) 0 ≡ length readers_new
-  new_start = ap (λ (xs : List ℕ). get_or xs (n + 1) 0) pushed ∙ get_or_push starts end 0 (n + 1) rows.count ∙ end_is
-
-  longer : length readers_new ≡ length readers + length (clusters_with clusters n)
-  longer = ap length growth ∙ length-append readers (clusters_with clusters n)
-
-  pub more_rows : AreRows (n + 1) clusters starts_new readers_new
-  more_rows = record {
-    count = omega (arith, ap length pushed, length_push starts end, rows.count);
-    order = λ v h. elim (cases_lt v n) [
-      | inl less ↦ rw (old_start v (omega arith), old_start (v + 1) (omega arith)) (rows.order v less)
-      | inr more ↦ let same : n ≡ v = omega arith
-          in subst (λ i. get_or starts_new i 0 ≤ get_or starts_new (i + 1) 0) same
-          (omega (arith, old_start n (omega arith), new_start, longer, ends))
-    ];
-    within = λ v h. elim (cases_lt v (n + 1)) [
-      | inl less ↦ omega (arith, old_start v (omega arith), rows.within v (omega arith), longer)
-      | inr more ↦ let same : n + 1 ≡ v = omega arith
-          in subst (λ i. get_or starts_new i 0 ≤ length readers_new) same (omega (arith, new_start))
-    ];
-    each = λ v h. elim (cases_lt v n) [
-      | inl less ↦ rw (old_start v (omega arith), old_start (v + 1) (omega arith), growth)
-          (range_old readers (clusters_with clusters n) (get_or starts v 0) (get_or starts (v + 1) 0)
-          (rows.order v less)
-          (rows.within (v + 1) (omega arith)) ∙ rows.each v less)
-      | inr more ↦ let same : n ≡ v = omega arith
-          in subst (λ i. slice_range readers_new (get_or starts_new i 0) (get_or starts_new (i + 1) 0)
-          ≡ clusters_with clusters i) same
-          (rw (old_start n (omega arith), new_start)
-          (ap (λ (xs : List ℕ). slice_range xs (get_or starts n 0) (length readers_new)) growth
-          ∙ range_new readers (clusters_with clusters n) (get_or starts n 0) (length readers_new) ends
-          (ap length growth)))
-    ];
-  }
-
-pub none_beside : (clusters : List PlanCluster) (starts readers weights : List ℕ) → readers ≡ [] → weights ≡ []
-    → AreBeside 0 clusters starts readers weights
-none_beside clusters starts readers weights readers_are weights_are = record {
-  count = ap (length {A = ℕ}) (weights_are ∙ sym readers_are);
-  each = λ v place h low high. absurd (omega arith);
-}
-
-module _ (n : ℕ) (clusters : List PlanCluster) (starts readers weights starts_new readers_new weights_new : List ℕ)
-    (end : ℕ) (rows : AreRows n clusters starts readers) (beside : AreBeside n clusters starts readers weights)
-    (ends : get_or starts n 0 ≡ length readers) (growth : readers_new ≡ readers ++ clusters_with clusters n)
-    (end_is : end ≡ length readers_new) (pushed : starts_new ≡ starts ++ end ∷ [])
-    (added : weights_new ≡ weights ++ map (λ c. weight_in clusters c n) (clusters_with clusters n)) where
-  kept_start : (v : ℕ) → v ≤ n → get_or starts_new v 0 ≡ get_or starts v 0
-  kept_start v h = ap (λ (xs : List ℕ). get_or xs v 0) pushed
-      ∙ get_or_append_left starts (end ∷ []) 0 v (omega (arith, rows.count))
-
-  added_count : length weights_new ≡ length readers_new
-  added_count =
-      omega (
-        arith,
-        ap (length {A = ℕ}) added,
-        ap (length {A = ℕ}) growth,
-        length-append weights (map (λ c. weight_in clusters c n) (clusters_with clusters n)),
-        length-append readers (clusters_with clusters n),
-        length-map (clusters_with clusters n) (λ c. weight_in clusters c n),
-        beside.count,
-      )
-
-  last_beside : (place : ℕ) → length readers ≤ place → place < length readers_new
-      → get_or weights_new place 0 ≡ weight_in clusters (get_or readers_new place 0) n
-  last_beside place low high =
-      ap (λ (xs : List ℕ). get_or xs place 0) added
-      ∙ get_or-append_right weights (map (λ c. weight_in clusters c n) (clusters_with clusters n)) (length readers)
-      place 0 beside.count low
-      ∙ get_or-map (λ c. weight_in clusters c n) (clusters_with clusters n) (place - length readers) 0 0
-      (omega (arith, low, high, ap (length {A = ℕ}) growth, length-append readers (clusters_with clusters n)))
-      ∙ ap (λ c. weight_in clusters c n)
-      (sym (ap (λ (xs : List ℕ). get_or xs place 0) growth
-      ∙ get_or-append_right readers (clusters_with clusters n) (length readers) place 0 refl low))
-
-  pub more_beside : AreBeside (n + 1) clusters starts_new readers_new weights_new
-  more_beside = record {
-    count = added_count;
-    each = λ v place h low high. elim (cases_lt v n) [
-      | inl less ↦
-          let from : get_or starts v 0 ≤ place = omega (arith, low, kept_start v (omega arith)) in
-          let to : place < get_or starts (v + 1) 0 = omega (arith, high, kept_start (v + 1) (omega arith)) in
-          let short : place < length readers = omega (arith, to, rows.within (v + 1) (omega arith)) in
-          ap (λ (xs : List ℕ). get_or xs place 0) added
-          ∙ get_or_append_left weights (map (λ c. weight_in clusters c n) (clusters_with clusters n)) 0 place
-          (omega (arith, short, beside.count))
-          ∙ beside.each v place less from to
-          ∙ ap (λ c. weight_in clusters c v)
-          (sym (ap (λ (xs : List ℕ). get_or xs place 0) growth
-          ∙ get_or_append_left readers (clusters_with clusters n) 0 place short))
-      | inr more ↦
-          let same : n ≡ v = omega arith in
-          let from : length readers ≤ place =
-          omega (
-            arith,
-            low,
-            subst (λ i. get_or starts_new i 0 ≡ length readers) same
-                (kept_start n (omega arith) ∙ ends),
-          ) in
-          let last : get_or starts_new (n + 1) 0 ≡ length readers_new =
-          ap (λ (xs : List ℕ). get_or xs (n + 1) 0) pushed ∙ get_or_push starts end 0 (n + 1) rows.count ∙ end_is in
-          let to : place < length readers_new =
-          omega (arith, high, subst (λ i. get_or starts_new (i + 1) 0 ≡ length readers_new) same last) in
-          subst (λ i. get_or weights_new place 0 ≡ weight_in clusters (get_or readers_new place 0) i) same
-          (last_beside place from to)
-    ];
-  }
-
--- ---- a node's readers, as the slice of those that were pushed last
-
-module _ (v : ℕ) (clusters now : List PlanCluster) (all readers readers_new : List ℕ) where
-  pub row_slice : (first : ℕ) → now ≡ clusters → all ≡ readers_new → readers_new ≡ readers ++ clusters_with clusters v
-      → first ≡ length readers → take (length all - first) (drop first all) ≡ clusters_with now v
-  row_slice first value whole growth from =
-      ap (λ (xs : List ℕ). take (length xs - first) (drop first xs)) (whole ∙ growth)
-      ∙ range_new readers (clusters_with clusters v) first (length (readers ++ clusters_with clusters v)) from refl
-      ∙ ap (λ (cs : List PlanCluster). clusters_with cs v) (sym value)
-
-  pub pushed_weights : (weights weights_new : List ℕ) (first : ℕ) → now ≡ clusters → all ≡ readers_new
-      → readers_new ≡ readers ++ clusters_with clusters v → first ≡ length readers
-      → weights_new ≡ weights ++ map (λ c. weight_in now c v) (take (length all - first) (drop first all))
-      → weights_new ≡ weights ++ map (λ c. weight_in clusters c v) (clusters_with clusters v)
-  pushed_weights weights weights_new first value whole growth from pushed =
-      pushed
-      ∙ ap (λ (xs : List ℕ). weights ++ map (λ c. weight_in now c v) xs) (row_slice first value whole growth from)
-      ∙ ap (λ (cs : List PlanCluster). weights ++ map (λ c. weight_in cs c v) (clusters_with cs v)) value
 
 -- ---- the balls, and the cluster of all nodes
 
@@ -303,11 +129,6 @@ flat_level_is table top clusters homes level top_is alone zeros is =
 
     replicated : (n : ℕ) → replicate {A = ℕ} n 0 ≡ map (λ v. 0) (centres n)
     replicated n = replicated_from 0 n
-
-pub longer_by : (clusters : List PlanCluster) (v : ℕ) (old new : List ℕ) → new ≡ old ++ clusters_with clusters v
-    → length new ≤ length old + length clusters
-longer_by clusters v old new growth =
-    omega (arith, ap length growth, length-append old (clusters_with clusters v), length-containing clusters v)
 
 pub level_sized : (n exponent threshold phases : ℕ) (clusters : List PlanCluster) (homes : List ℕ) (level : Level)
     → level ≡ level_of exponent threshold (shape_with phases clusters homes)

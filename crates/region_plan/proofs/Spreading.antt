@@ -1,6 +1,6 @@
 -- The exponents of distances, as they are written and read.
 use Rattle.std.proofs.Common.{◌≡◌, inl, inr, ℕ, zero, suc, ◌+◌, ◌*◌, ◌^◌, ◌<◌, ◌≤◌, Bool, true, false, List}
-use Rattle.std.proofs.Common.{get_or, length, map, set, subst, sym, take, ◌∙◌, arith}
+use Rattle.std.proofs.Common.{ap, get_or, length, map, set, subst, sym, take, ◌∙◌, arith}
 use Rattle.std.specs.Prelude.{nat_le, slice_index, slice_range}
 use Rattle.std.proofs.Math.Nat.{pow-le-pow_right, pow-suc}
 use Rattle.std.proofs.lemmas.Bool.{cases_lt, false≢true, le-leb, leb-true, lt-leb}
@@ -13,7 +13,6 @@ use Rattle.node_set.specs.Ascending.{sift}
 use Rattle.distances.specs.Table.{DistanceTable, IsRowOf, ball_of, dist}
 use Rattle.distances.specs.TableLaws.{part_is_row}
 use Rattle.region_plan.specs.Spread.{AreExponents, AreExponentsTo, AreMarked, HasExponent, IsExponent}
-use Rattle.region_plan.proofs.Gathering.{row_within}
 use Rattle.region_plan.proofs.Making.{more_balls}
 
 two : 1 ≤ 2
@@ -80,6 +79,14 @@ row_written table u at row old new begins is before kept here w v w_below v_belo
       (subst (λ d. IsExponent d (slice_index new (at + v))) (is.each v v_below)
       (here v (omega (arith, is.count)))))
 ]
+
+-- the numbers of a row within a radius are the ball's nodes
+row_within : (table : DistanceTable) (v radius : ℕ) (row : List ℕ) → IsRowOf table v row
+    → sift (λ x. nat_le (slice_index row x) radius) 0 (length row) ≡ ball_of table v radius
+row_within table v radius row is =
+    ap (sift (λ x. nat_le (slice_index row x) radius) 0) is.count
+    ∙ passing_same (λ x. nat_le (slice_index row x) radius) (λ w. nat_le (dist table v w) radius) 0 table.nodes
+    (λ x low high. ap (λ d. nat_le d radius) (is.each x (omega arith)))
 
 -- the nodes whose exponents are within a level's are those of the ball
 pub ball_within : (table : DistanceTable) (exponents row : List ℕ) (v i : ℕ) → AreExponents table exponents

@@ -1,23 +1,46 @@
--- The clusters that contain each node, while they are gathered, and the weights inside them.
+-- The clusters that contain each node, while they are counted and written, and the weights inside
+-- them. Only the private functions of this crate speak of them.
 -- Key law: `ReaderLists::new` lays them as the plan has them (`IsTable`).
-use Rattle.std.specs.Prelude.{◌≡◌, ℕ, suc, ◌<◌, ◌&&◌, List, [], ◌∷◌, cond, length, nat_lt}
-use Rattle.std.specs.Prelude.{slice_index}
-use Rattle.node_set.specs.Ascending.{has}
-use Rattle.node_set.specs.Balls.{ball}
-use Rattle.region_plan.specs.Plan.{PlanCluster, cluster_in}
+use Rattle.std.specs.Prelude.{◌≡◌, ℕ, ◌+◌, ◌≤◌, ◌<◌, List, cond, length, slice_index}
+use Rattle.node_set.specs.Ascending.{has, sift}
+use Rattle.region_plan.specs.Plan.{PlanCluster, cluster_in, weight_in}
+use Rattle.region_plan.specs.Regions.{clusters_with}
 
--- for each of n nodes the list has those of the first so many clusters that contain it
-abbrev pub IsReadBelow : ℕ → List PlanCluster → ℕ → List (List ℕ) → Type 0
-IsReadBelow n clusters count lists = (v x : ℕ) → v < n
-    → has x (ball lists v) ≡ (nat_lt x count && has v (cluster_in clusters x).members)
+-- the ascending numbers of those of the first so many clusters that contain v
+abbrev pub readers_below : List PlanCluster → ℕ → ℕ → List ℕ
+readers_below clusters count v = sift (λ c. has v (cluster_in clusters c).members) 0 count
 
--- how many of the ascending numbers are below v
-abbrev pub place_in : ℕ → List ℕ → ℕ
-place_in v [] = 0
-place_in v (x ∷ xs) = cond (nat_lt x v) (suc (place_in v xs)) 0
+-- how many of the first so many clusters contain each node
+abbrev pub AreCounts : List PlanCluster → ℕ → List ℕ → Type 0
+AreCounts clusters count counts = (v : ℕ) → v < length counts
+    → slice_index counts v ≡ length (readers_below clusters count v)
 
--- for each cluster how many of its members are below v
-pub record ArePlaces (clusters : List PlanCluster) (v : ℕ) (places : List ℕ) : Type 0 where
-  pub count : length places ≡ length clusters
-  pub each : (c : ℕ) → c < length clusters
-      → slice_index places c ≡ place_in v (cluster_in clusters c).members
+-- each of these nodes is counted once more
+pub record IsCounted (members old new : List ℕ) : Type 0 where
+  pub count : length new ≡ length old
+  pub each : (v : ℕ) → v < length old
+      → slice_index new v ≡ slice_index old v + cond (has v members) 1 0
+
+-- the sums of the counts before each node, and of all
+pub record AreStarts (counts starts : List ℕ) : Type 0 where
+  pub count : length starts ≡ length counts + 1
+  pub each : (v : ℕ) → v < length counts
+      → slice_index starts (v + 1) ≡ slice_index starts v + slice_index counts v
+
+-- from its start on each of n nodes has as many places as clusters contain it
+pub record HaveRoom (n : ℕ) (clusters : List PlanCluster) (starts : List ℕ) : Type 0 where
+  pub count : length starts ≡ n + 1
+  pub each : (v : ℕ) → v < n
+      → slice_index starts (v + 1) ≡ slice_index starts v + length (clusters_with clusters v)
+
+-- the first so many readers of each node are written, and the weights beside them
+pub record AreFilled (clusters : List PlanCluster) (starts taken readers weights : List ℕ) :
+    Type 0 where
+  pub within : (v : ℕ) → v < length taken
+      → slice_index taken v ≤ length (clusters_with clusters v)
+  pub written : (v place : ℕ) → v < length taken → place < slice_index taken v
+      → slice_index readers (slice_index starts v + place)
+      ≡ slice_index (clusters_with clusters v) place
+  pub weighed : (v place : ℕ) → v < length taken → place < slice_index taken v
+      → slice_index weights (slice_index starts v + place)
+      ≡ weight_in clusters (slice_index (clusters_with clusters v) place) v

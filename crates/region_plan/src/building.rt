@@ -61,7 +61,7 @@ fn build_table(
     } = covering.cover(alloc, sets, work)?;
     covering_shape();
     let clusters = Clusters::of_cover(alloc, graph, distances, made, work)?;
-    Ok(LevelTable::new(alloc, phases, clusters, home, sets)?)
+    Ok(LevelTable::new(alloc, phases, clusters, home)?)
 }
 
 // Adds level `i` of the plan to the levels below it: where no distance lies between its radius and

@@ -1,6 +1,6 @@
 //! The clusters of a level in flat lists: their members ascending, and a weight beside each.
 
-ghost use Rattle.std.specs.Prelude.{◌≡◌, ◌++◌, ◌<◌, ◌≤◌, ◌^◌, All, IfOk, IsTrue, OnOk, length, suc, true};
+ghost use Rattle.std.specs.Prelude.{◌≡◌, ◌++◌, ◌<◌, ◌≤◌, All, IfOk, IsTrue, OnOk, length};
 ghost use Rattle.node_set.specs.Ascending.{IsAscending, has};
 ghost use Rattle.net_graph.specs.Trees.{AreDistancesFrom};
 ghost use Rattle.cluster_tree.specs.Inside.{AreWeightsWritten};
@@ -10,7 +10,6 @@ ghost use Rattle.distances.specs.Table.{AreDistancesOf};
 ghost use Rattle.region_plan.specs.Kept.{IsSpanned};
 ghost use Rattle.region_plan.specs.Laid.{AreLaid, IsPushed};
 ghost use Rattle.region_plan.specs.Plan.{cluster_in, weight_in};
-ghost use Rattle.region_plan.specs.Readers.{place_in};
 ghost use Rattle.region_plan.specs.Meanings.{AreClustersOf};
 ghost use Rattle.region_plan.specs.Flat.{IsWholeAlone};
 
@@ -200,7 +199,7 @@ impl Clusters {
     }
 
     // The weights beside the members of a cluster.
-    fn weights(&self, c: u32) -> &[u32]
+    pub fn weights(&self, c: u32) -> &[u32]
         requires { c < length self.now }
         ensures weights { result.now ≡ (cluster_in self.now c).weights }
         ensures count { length result.now ≡ length (cluster_in self.now c).members }
@@ -217,19 +216,6 @@ impl Clusters {
             Ok(_) => true,
             Err(_) => false,
         }
-    }
-
-    // The weight of the member `v` at its place, which so many members below it give.
-    pub fn weight_at(&self, c: u32, v: u32, place: usize) -> u32
-        requires cluster { c < length self.now }
-        requires member { has v (cluster_in self.now c).members ≡ true }
-        requires place { place ≡ place_in v (cluster_in self.now c).members }
-        ensures weight { result ≡ weight_in self.now c v }
-        ensures next { place_in (suc v) (cluster_in self.now c).members ≡ suc place }
-        ensures small { place < 2 ^ 63 }
-    {
-        prove!(self.nodes(c)[place] == v);
-        self.weights(c)[place]
     }
 
     pub fn weight(&self, c: u32, v: u32) -> u64
@@ -270,7 +256,7 @@ fn weigh_members(
 }
 
 // Appends the numbers of a set.
-pub fn push_members(set: &NodeSet, list: &mut Vec<u32>) -> Result<(), OutOfMemory>
+fn push_members(set: &NodeSet, list: &mut Vec<u32>) -> Result<(), OutOfMemory>
     ensures sound { AreNodes set.now }
     ensures pushed { OnOk result (list.new.items ≡ list.old.items ++ set.now.members) }
 {

@@ -5,7 +5,7 @@ ghost use Rattle.region_plan.specs.Plan.{level_in};
 ghost use Rattle.region_plan.specs.Flat.{IsFlatLevel};
 ghost use Rattle.region_plan.specs.Kept.{IsSized};
 
-use crate::balls::{empty_sets, top_for};
+use crate::balls::top_for;
 use crate::clusters::Clusters;
 use crate::level::LevelTable;
 use crate::sharing::Levels;
@@ -23,12 +23,7 @@ pub fn flat_levels(alloc: Global, distances: &Distances) -> Result<Levels, OutOf
     let top = top_for(distances);
     let clusters = Clusters::whole(alloc, distances)?;
     let homes = vec![in alloc; 0u32; distances.nodes() as usize]?;
-    let mut sets = empty_sets(alloc, homes.len(), distances.nodes())?;
     let mut levels = Levels::with_capacity(alloc, 1)?;
-    levels.push_table(
-        top,
-        1,
-        LevelTable::new(alloc, 1, clusters, homes, &mut sets)?,
-    )?;
+    levels.push_table(top, 1, LevelTable::new(alloc, 1, clusters, homes)?)?;
     Ok(levels)
 }

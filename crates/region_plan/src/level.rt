@@ -1,8 +1,7 @@
 //! The clusters of a level in flat arrays, with each node's home and readers.
 
-ghost use Rattle.std.specs.Prelude.{◌≡◌, ◌+◌, ◌*◌, ◌<◌, ◌≤◌, All, IfOk, OnOk, length};
+ghost use Rattle.std.specs.Prelude.{◌≡◌, ◌+◌, ◌*◌, ◌<◌, ◌≤◌, IfOk, length};
 ghost use Rattle.std.specs.Prelude.{map, slice_index};
-ghost use Rattle.node_set.specs.Nodes.{Nodes};
 ghost use Rattle.region_plan.specs.Plan.{weight_in};
 ghost use Rattle.region_plan.specs.Regions.{clusters_with};
 ghost use Rattle.region_plan.specs.Measures.{most};
@@ -11,7 +10,6 @@ ghost use Rattle.region_plan.specs.Kept.{readers_for, shape_with};
 use crate::clusters::Clusters;
 use crate::readers::ReaderLists;
 use net_graph::OutOfMemory;
-use node_set::NodeSet;
 use std::alloc::Global;
 use std::marker::Model;
 
@@ -44,24 +42,18 @@ impl Model for LevelTable {
 }
 
 impl LevelTable {
-    // The table of these clusters and homes. The sets, one for each node, are written
-    // over.
+    // The table of these clusters and homes.
     pub fn new(
         alloc: Global,
         phases: u32,
         clusters: Clusters,
         homes: Vec<u32>,
-        sets: &mut [NodeSet],
     ) -> Result<LevelTable, OutOfMemory>
         requires nodes { length homes.items ≤ 1024 }
         requires clusters { length clusters ≤ length homes.items }
-        requires sets { length sets.old ≡ length homes.items }
-        requires rooms { All (λ (s : Nodes). s.room ≡ length homes.items) sets.old }
-        ensures rooms { OnOk result (All (λ (s : Nodes). s.room ≡ length homes.items) sets.new) }
-        ensures table { IfOk result
-            (λ table. table ≡ shape_with phases clusters homes.items) }
+        ensures { IfOk result (λ table. table ≡ shape_with phases clusters homes.items) }
     {
-        let lists = ReaderLists::new(alloc, &clusters, homes.len(), sets)?;
+        let lists = ReaderLists::new(alloc, &clusters, homes.len())?;
         Ok(LevelTable {
             phases,
             clusters,

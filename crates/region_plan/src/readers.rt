@@ -1,18 +1,12 @@
-//! The clusters that contain each node, as sets of numbers of clusters.
+//! The clusters that contain each node, gathered by counting.
 
-ghost use Rattle.std.specs.Prelude.{◌≡◌, ◌<◌, ◌≤◌, ◌++◌, ◌&&◌, ◌||◌, ◌==◌, ℕ, All, IfOk, OnOk};
-ghost use Rattle.std.specs.Prelude.{false, length, map, nat_lt, suc};
-ghost use Rattle.node_set.specs.Ascending.{has};
-ghost use Rattle.node_set.specs.Balls.{ball, sets as lists_of};
-ghost use Rattle.node_set.specs.Nodes.{Nodes};
+ghost use Rattle.std.specs.Prelude.{◌≡◌, ◌+◌, ◌<◌, ◌≤◌, All, IfOk, length, slice_index};
+ghost use Rattle.node_set.specs.Ascending.{IsAscending};
 ghost use Rattle.region_plan.specs.Kept.{IsTable};
-ghost use Rattle.region_plan.specs.Plan.{weight_in};
-ghost use Rattle.region_plan.specs.Readers.{ArePlaces, IsReadBelow};
-ghost use Rattle.region_plan.specs.Regions.{clusters_with};
+ghost use Rattle.region_plan.specs.Readers.{AreCounts, AreFilled, AreStarts, HaveRoom, IsCounted};
 
-use crate::clusters::{Clusters, push_members};
+use crate::clusters::Clusters;
 use net_graph::OutOfMemory;
-use node_set::NodeSet;
 use std::alloc::Global;
 
 // The numbers of the clusters of each node, one node after another, with the weight inside each of
@@ -25,40 +19,21 @@ pub struct ReaderLists {
 }
 
 impl ReaderLists {
-    // The clusters of so many nodes. The sets, one for each node, are written over.
-    pub fn new(
-        alloc: Global,
-        clusters: &Clusters,
-        nodes: usize,
-        sets: &mut [NodeSet],
-    ) -> Result<ReaderLists, OutOfMemory>
+    // The clusters of so many nodes. They are counted first, so that each node's have their place.
+    pub fn new(alloc: Global, clusters: &Clusters, nodes: usize) -> Result<ReaderLists, OutOfMemory>
         requires nodes { nodes ≤ 1024 }
         requires clusters { length clusters.now ≤ nodes }
-        requires sets { length sets.old ≡ nodes }
-        requires rooms { All (λ (s : Nodes). s.room ≡ nodes) sets.old }
-        ensures rooms { OnOk result (All (λ (s : Nodes). s.room ≡ nodes) sets.new) }
-        ensures table { IfOk result (λ lists. IsTable nodes clusters.now lists.starts.items
+        ensures { IfOk result (λ lists. IsTable nodes clusters.now lists.starts.items
             lists.readers.items lists.weights.items) }
     {
-        gather_readers(sets, clusters, nodes as u32);
-        let mut starts = Vec::with_capacity(alloc, nodes + 1)?;
-        // In most levels a node has four clusters at most.
-        let mut readers = Vec::with_capacity(alloc, 4 * nodes)?;
-        let mut weights = Vec::with_capacity(alloc, 4 * nodes)?;
-        let mut places = vec![in alloc; 0usize; clusters.count()]?;
-        starts.push(0u32)?;
-        for v in 0..nodes {
-            let first = readers.len();
-            push_members(&sets[v], &mut readers)?;
-            push_weights(
-                clusters,
-                v as u32,
-                &readers[first..],
-                &mut places,
-                &mut weights,
-            )?;
-            starts.push(readers.len() as u32)?;
-        }
+        let mut counts = vec![in alloc; 0u32; nodes]?;
+        count_readers(clusters, &mut counts);
+        let starts = sum_counts(alloc, &counts)?;
+        let total = starts[nodes] as usize;
+        let mut taken = vec![in alloc; 0u32; nodes]?;
+        let mut readers = vec![in alloc; 0u32; total]?;
+        let mut weights = vec![in alloc; 0u32; total]?;
+        fill_readers(clusters, &starts, &mut taken, &mut readers, &mut weights);
         Ok(ReaderLists {
             starts,
             readers,
@@ -67,66 +42,96 @@ impl ReaderLists {
     }
 }
 
-// Puts the number of a cluster into the sets of its members.
-fn add_reader(sets: &mut [NodeSet], number: u32, members: &[u32])
-    requires { All (λ (s : Nodes). number < s.room) sets.old }
-    ensures rooms { (room : ℕ) → All (λ (s : Nodes). s.room ≡ room) sets.old
-        → All (λ (s : Nodes). s.room ≡ room) sets.new }
-    ensures each { (v x : ℕ) → v < length sets.old → has x (ball (lists_of sets.new) v)
-        ≡ (has x (ball (lists_of sets.old) v) || (x == number && has v members.now)) }
+// Counts the clusters of each node.
+fn count_readers(clusters: &Clusters, counts: &mut [u32])
+    requires few { length clusters.now ≤ 1024 }
+    requires none { AreCounts clusters.now 0 counts.old }
+    ensures { AreCounts clusters.now (length clusters.now) counts.new }
+{
+    for number in 0..clusters.count() as u32 {
+        count_members(clusters.nodes(number), counts);
+    }
+}
+
+// Adds one to the count of each of these nodes. No clause says that members are nodes, so that each
+// is tested.
+fn count_members(members: &[u32], counts: &mut [u32])
+    requires ascending { IsAscending members.now }
+    requires small { All (λ count. count ≤ 1024) counts.old }
+    ensures { IsCounted members.now counts.old counts.new }
 {
     for member in members {
-        if (*member as usize) < sets.len() {
-            sets[*member as usize].insert(number);
+        if (*member as usize) < counts.len() {
+            counts[*member as usize] += 1;
         }
     }
 }
 
-// Takes all numbers out of the sets.
-fn clear_sets(sets: &mut [NodeSet])
-    ensures rooms { (room : ℕ) → All (λ (s : Nodes). s.room ≡ room) sets.old
-        → All (λ (s : Nodes). s.room ≡ room) sets.new }
-    ensures empty { (v x : ℕ) → v < length sets.old → has x (ball (lists_of sets.new) v) ≡ false }
+// Where the readers of each node begin, and where the last ones end.
+fn sum_counts(alloc: Global, counts: &[u32]) -> Result<Vec<u32>, OutOfMemory>
+    requires few { length counts.now ≤ 1024 }
+    requires small { All (λ count. count ≤ 1024) counts.now }
+    ensures { IfOk result (λ starts. AreStarts counts.now starts.items) }
 {
-    for place in 0..sets.len() {
-        sets[place].clear();
+    let mut starts = Vec::with_capacity(alloc, counts.len() + 1)?;
+    let mut sum = 0;
+    starts.push(sum)?;
+    for count in counts {
+        sum += *count;
+        starts.push(sum)?;
     }
+    Ok(starts)
 }
 
-// Makes the set of each node that of the numbers of the clusters that contain it.
-pub fn gather_readers(sets: &mut [NodeSet], clusters: &Clusters, room: u32)
-    requires rooms { All (λ (s : Nodes). s.room ≡ room) sets.old }
-    requires few { length clusters.now ≤ room }
-    requires small { room ≤ 1024 }
-    ensures rooms { All (λ (s : Nodes). s.room ≡ room) sets.new }
-    ensures read { IsReadBelow (length sets.old) clusters.now (length clusters.now)
-        (lists_of sets.new) }
-{
-    clear_sets(sets);
-    for number in 0..clusters.count() as u32 {
-        add_reader(sets, number, clusters.nodes(number));
-    }
-}
-
-// Appends the weights of `v` inside the clusters that contain it. The places say how many members
-// of each cluster are below `v`, and then how many are below the next node.
-pub fn push_weights(
+// Writes the numbers of the clusters of each node, and the weights beside them.
+fn fill_readers(
     clusters: &Clusters,
-    v: u32,
-    numbers: &[u32],
-    places: &mut [usize],
-    weights: &mut Vec<u32>,
-) -> Result<(), OutOfMemory>
-    requires numbers { numbers.now ≡ clusters_with clusters.now v }
-    requires places { ArePlaces clusters.now v places.old }
-    ensures pushed { OnOk result (weights.new.items
-        ≡ weights.old.items ++ map (λ c. weight_in clusters.now c v) numbers.now) }
-    ensures places { OnOk result (ArePlaces clusters.now (suc v) places.new) }
+    starts: &[u32],
+    taken: &mut [u32],
+    readers: &mut [u32],
+    weights: &mut [u32],
+)
+    requires few { length clusters.now ≤ 1024 }
+    requires room { HaveRoom (length taken.old) clusters.now starts.now }
+    requires readers { length readers.old ≡ slice_index starts.now (length taken.old) }
+    requires weights { length weights.old ≡ slice_index starts.now (length taken.old) }
+    requires none { AreCounts clusters.now 0 taken.old }
+    ensures { IsTable (length taken.old) clusters.now starts.now readers.new weights.new }
 {
-    for number in numbers {
-        let place = places[*number as usize];
-        weights.push(clusters.weight_at(*number, v, place))?;
-        places[*number as usize] = place + 1;
+    for number in 0..clusters.count() as u32 {
+        fill_cluster(clusters, number, starts, taken, readers, weights);
     }
-    Ok(())
+}
+
+// Writes a cluster's number, and the weight inside it, at the next free place of each of its
+// members.
+fn fill_cluster(
+    clusters: &Clusters,
+    number: u32,
+    starts: &[u32],
+    taken: &mut [u32],
+    readers: &mut [u32],
+    weights: &mut [u32],
+)
+    requires number { number < length clusters.now }
+    requires few { length clusters.now ≤ 1024 }
+    requires room { HaveRoom (length taken.old) clusters.now starts.now }
+    requires readers { length readers.old ≡ slice_index starts.now (length taken.old) }
+    requires weights { length weights.old ≡ slice_index starts.now (length taken.old) }
+    requires counts { AreCounts clusters.now number taken.old }
+    requires filled { AreFilled clusters.now starts.now taken.old readers.old weights.old }
+    ensures counts { AreCounts clusters.now (number + 1) taken.new }
+    ensures filled { AreFilled clusters.now starts.now taken.new readers.new weights.new }
+{
+    let members = clusters.nodes(number);
+    let inside = clusters.weights(number);
+    for place in 0..members.len() {
+        let v = members[place] as usize;
+        if v < taken.len() {
+            let next = starts[v] as usize + taken[v] as usize;
+            readers[next] = number;
+            weights[next] = inside[place];
+            taken[v] += 1;
+        }
+    }
 }

@@ -1,9 +1,7 @@
-use Rattle.std.proofs.Common.{◌≡◌, ℕ, arith, subst, sym}
-use Rattle.std.specs.Prelude.{All}
-use Rattle.node_set.specs.Nodes.{Nodes}
+use Rattle.std.proofs.Common.{ℕ, arith, subst, sym}
 use Rattle.node_set.specs.Workspaces.{IsWorkspace}
 use Rattle.region_plan.proofs.Levels.{balls_few, balls_rooms, balls_centred, balls_inside, balls_turned, balls_work, cover_spanned, nodes_work}
-use Rattle.region_plan.proofs.Levels.{homes_count, sets_fit, rooms_fit, rows_few, level_built, level_fits}
+use Rattle.region_plan.proofs.Levels.{homes_count, rows_few, level_built, level_fits}
 use Rattle.region_plan.proofs.building.build_table.Goals as goal
 
 pub cover-requires-clause-small : goal.cover-requires-clause-small
@@ -60,32 +58,13 @@ new-requires-clause-clusters c =
           c.in_ok-clusters.clusters c.in_ok-clusters.ensures.clusters c.in_ok-made.ensures.few,
     )
 
-pub new-requires-clause-sets : goal.new-requires-clause-sets
-new-requires-clause-sets c =
-    sets_fit c.args.graph.now c.args.distances.now c.requires.metric c.requires.belongs c.requires.network c.args.covering
-    c.args.i c.requires.low c.fill_balls.new.balls c.fill_balls.ensures.balls
-    c.in_ok-made.field-0 c.in_ok-made.ensures.exact
-
-pub new-requires-clause-rooms : goal.new-requires-clause-rooms
-new-requires-clause-rooms c =
-    rooms_fit c.args.graph.now c.args.distances.now c.requires.metric c.requires.belongs c.requires.network c.args.covering
-    c.args.i c.requires.low c.fill_balls.new.balls c.fill_balls.ensures.balls
-    c.in_ok-made.field-0 c.in_ok-made.ensures.exact c.fill_balls.ensures.rooms
-
-pub returns-clause-rooms : goal.returns-clause-rooms
-returns-clause-rooms c =
-    subst (λ (n : ℕ). All (λ (b : Nodes). b.room ≡ n) c.new.new.sets)
-    (homes_count c.args.graph.now c.args.distances.now c.requires.metric c.requires.belongs c.requires.network c.args.covering
-    c.args.i c.requires.low c.fill_balls.new.balls c.fill_balls.ensures.balls
-    c.in_ok-made.field-0 c.in_ok-made.ensures.exact) c.in_ok-new.ensures.rooms
-
 pub returns-clause-level : goal.returns-clause-level
 returns-clause-level c =
     level_built c.args.graph.now c.args.distances.now c.requires.metric c.requires.belongs c.requires.network c.args.covering
     c.args.i c.requires.low c.fill_balls.new.balls c.fill_balls.ensures.balls
     c.in_ok-made.field-0 c.in_ok-made.ensures.exact
     c.in_ok-clusters.clusters c.in_ok-clusters.ensures.clusters c.in_ok-made.ensures.few c.in_ok-new.field-0
-    c.in_ok-new.ensures.table
+    c.in_ok-new.ensures
 
 pub returns-clause-sized : goal.returns-clause-sized
 returns-clause-sized c =
@@ -94,7 +73,7 @@ returns-clause-sized c =
     c.in_ok-made.field-0 c.in_ok-made.ensures.exact
     c.in_ok-clusters.clusters c.in_ok-clusters.ensures.clusters c.in_ok-made.ensures.few c.in_ok-new.field-0
     c.requires.few
-    c.in_ok-new.ensures.table
+    c.in_ok-new.ensures
 
 pub cover-requires-clause-work : goal.cover-requires-clause-work
 cover-requires-clause-work c =

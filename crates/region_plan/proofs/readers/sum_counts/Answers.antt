@@ -1,0 +1,41 @@
+use Rattle.std.proofs.Common.{rules, ℕ, List, subst, arith}
+use Rattle.std.proofs.lemmas.List.{take_all}
+use Rattle.region_plan.specs.Readers.{AreStarts}
+use Rattle.region_plan.proofs.Gathering.{count_few, no_starts, one_start, last_start}
+use Rattle.region_plan.proofs.readers.sum_counts.Goals as goal
+
+pub loop-count-init : goal.loop-count-init
+loop-count-init c = record {
+  starts = no_starts c.push.new.self.items (search rules);
+  last = search rules;
+  few = omega arith;
+}
+
+pub overflow_add-sum : goal.overflow_add-sum
+overflow_add-sum c = omega (
+  arith,
+  c.loop-count.invariant.few,
+  c.requires.few,
+  c.loop-count-test.true,
+  count_few c.args.counts.now c.loop-count.count-index c.loop-count-test.true c.requires.small,
+)
+
+pub loop-count-preserved : goal.loop-count-preserved
+loop-count-preserved c = record {
+  starts = one_start c.args.counts.now c.loop-count.starts.items c.push-in-loop-count.new.self.items
+      c.loop-count.count-index c.loop-count.sum c.loop-count-test.true c.loop-count.invariant.starts
+      c.in_ok-push-2.ensures.items c.loop-count.invariant.last;
+  last = last_start c.args.counts.now c.loop-count.starts.items c.push-in-loop-count.new.self.items
+      c.loop-count.count-index c.loop-count.sum c.loop-count-test.true c.loop-count.invariant.starts
+      c.in_ok-push-2.ensures.items;
+  few = omega (
+    arith,
+    c.loop-count.invariant.few,
+    count_few c.args.counts.now c.loop-count.count-index c.loop-count-test.true c.requires.small,
+  );
+}
+
+pub returns : goal.returns
+returns c = subst (λ (xs : List ℕ). AreStarts xs c.loop-count.starts.items)
+    (take_all c.loop-count.count-index c.args.counts.now (omega (arith, c.loop-count-test.false)))
+    c.loop-count.invariant.starts
