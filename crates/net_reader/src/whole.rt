@@ -56,6 +56,18 @@ fn digit_more(piece: &[u8], taken: usize, value: u64) -> Option<u64>
     Some(10 * value + digit)
 }
 
+// The number of so many digits at the front, the byte that ends it, and how many bytes these are.
+#[inline(always)]
+fn number_of(piece: &[u8], taken: usize, value: u64) -> (u64, u8, usize)
+    requires some { 0 < taken }
+    requires within { taken < length piece.now }
+    requires read { IsDigits piece.now taken value }
+    ensures number { IsNumberTo result.1 result.0 piece.now (drop result.2 piece.now) }
+    ensures bytes { result.2 ≡ taken + 1 }
+{
+    (value, piece[taken], taken + 1)
+}
+
 // A number of at most three digits at the front, the byte that ends it, and how many bytes these
 // are.
 #[inline(always)]
@@ -67,47 +79,15 @@ fn short_number(piece: &[u8]) -> Option<(u64, u8, usize)>
 {
     let ones = digit_more(piece, 0, 0)?;
     let Some(tens) = digit_more(piece, 1, ones) else {
-        return Some((ones, piece[1], 2));
+        return Some(number_of(piece, 1, ones));
     };
     let Some(hundreds) = digit_more(piece, 2, tens) else {
-        return Some((tens, piece[2], 3));
+        return Some(number_of(piece, 2, tens));
     };
-    Some((hundreds, piece[3], 4))
+    Some(number_of(piece, 3, hundreds))
 }
 
-// The number that the digits at the front are, up to seven of them, and how many they are.
-#[inline(always)]
-fn seven_digits(piece: &[u8]) -> (u64, usize)
-    requires { 7 ≤ length piece.now }
-    ensures read { IsDigits piece.now result.1 result.0 }
-    ensures few { result.1 ≤ 7 }
-{
-    let Some(one) = digit_more(piece, 0, 0) else {
-        return (0, 0);
-    };
-    let Some(two) = digit_more(piece, 1, one) else {
-        return (one, 1);
-    };
-    let Some(three) = digit_more(piece, 2, two) else {
-        return (two, 2);
-    };
-    let Some(four) = digit_more(piece, 3, three) else {
-        return (three, 3);
-    };
-    let Some(five) = digit_more(piece, 4, four) else {
-        return (four, 4);
-    };
-    let Some(six) = digit_more(piece, 5, five) else {
-        return (five, 5);
-    };
-    match digit_more(piece, 6, six) {
-        Some(seven) => (seven, 7),
-        None => (six, 6),
-    }
-}
-
-// A number of at most seven digits at the front, as weights have, the byte that ends it, and how
-// many bytes these are.
+// The same of a number of at most seven digits, as weights have.
 #[inline(always)]
 fn wide_number(piece: &[u8]) -> Option<(u64, u8, usize)>
     requires { 8 ≤ length piece.now }
@@ -115,11 +95,26 @@ fn wide_number(piece: &[u8]) -> Option<(u64, u8, usize)>
         piece.now)) }
     ensures few { IfSome result (λ found. found.2 ≤ 8) }
 {
-    let (value, taken) = seven_digits(piece);
-    if taken == 0 {
-        return None;
-    }
-    Some((value, piece[taken], taken + 1))
+    let one = digit_more(piece, 0, 0)?;
+    let Some(two) = digit_more(piece, 1, one) else {
+        return Some(number_of(piece, 1, one));
+    };
+    let Some(three) = digit_more(piece, 2, two) else {
+        return Some(number_of(piece, 2, two));
+    };
+    let Some(four) = digit_more(piece, 3, three) else {
+        return Some(number_of(piece, 3, three));
+    };
+    let Some(five) = digit_more(piece, 4, four) else {
+        return Some(number_of(piece, 4, four));
+    };
+    let Some(six) = digit_more(piece, 5, five) else {
+        return Some(number_of(piece, 5, five));
+    };
+    let Some(seven) = digit_more(piece, 6, six) else {
+        return Some(number_of(piece, 6, six));
+    };
+    Some(number_of(piece, 7, seven))
 }
 
 // The number at the front that a blank ends, where it has more than three digits.
