@@ -1,5 +1,5 @@
 -- Numbers that are read digit by digit, of 18 digits at most.
-use Rattle.std.proofs.Common.{◌≡◌, ℕ, ◌+◌, ◌-◌, ◌*◌, ◌^◌, ◌<◌, ◌≤◌, true, fold, take, List, [], ◌∷◌, length, get_or, refl, ap, sym, ◌∙◌, subst, arith}
+use Rattle.std.proofs.Common.{◌≡◌, ℕ, ◌+◌, ◌-◌, ◌*◌, ◌^◌, ◌%◌, ◌<◌, ◌≤◌, true, fold, take, List, [], ◌∷◌, length, get_or, refl, ap, sym, ◌∙◌, subst, arith}
 use Rattle.std.proofs.Math.Nat.{pow-le-pow_right}
 use Rattle.std.proofs.lemmas.Bool.Decides.{nat_tests}
 use Rattle.std.proofs.lemmas.Grind.{pow_more}
@@ -17,6 +17,16 @@ below-most value taken small few =
     let most : 10 ^ taken ≤ 100000000000000000 =
     pow-le-pow_right {n = 10} (omega arith) {i = taken} {j = 17} (omega (arith, few)) in
     omega (arith, small, most)
+
+-- a byte from which 48 are taken without a test for less is a digit where at most 9 are left
+pub wrapped : (b base : ℕ) → b < 18446744073709551616 → base ≡ 48
+    → (b + (18446744073709551616 - base)) % 18446744073709551616 ≤ 9
+    → (is_ascii_digit b ≡ true)
+    × ((b + (18446744073709551616 - base)) % 18446744073709551616 ≡ b - 48)
+wrapped b base fits is few =
+    let low : 48 ≤ b = omega (arith, fits, is, few) in
+    let high : b ≤ 57 = omega (arith, fits, is, few) in
+    (grind (arith, nat_tests, low, high), omega (arith, fits, is, low))
 
 pub still-small : (value taken digit : ℕ) → value < 10 ^ taken → digit < 10
     → 10 * value + digit < 10 ^ (taken + 1)

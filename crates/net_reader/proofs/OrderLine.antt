@@ -1,7 +1,7 @@
 -- The numbers of a line of the order.
-use Rattle.std.proofs.Common.{◌≡◌, inl, inr, ℕ, ◌||◌, cond, leb, ltb, append_assoc, length-append, length-take, get_or, ◌+◌, ◌<◌, ◌≤◌, true, false, set, take, List, [], ◌∷◌, ◌++◌, length, refl, ap, sym, ◌∙◌, arith, subst}
+use Rattle.std.proofs.Common.{◌≡◌, inl, inr, ℕ, ◌||◌, cond, leb, ltb, append_assoc, length-append, length-take, get_or, drop, ◌+◌, ◌<◌, ◌≤◌, true, false, set, take, List, [], ◌∷◌, ◌++◌, length, refl, ap, sym, ◌∙◌, arith, subst}
 use Rattle.std.proofs.lemmas.Bool.Decides.{nat_tests}
-use Rattle.std.proofs.lemmas.List.{append-nil, get_or-set_same, length-set, take-set, take_more}
+use Rattle.std.proofs.lemmas.List.{append-nil, drop-drop, get_or-set_same, length-set, take-set, take_more}
 use Rattle.std.proofs.lemmas.List.Folds.{list_any-append}
 use Rattle.std.specs.List.{list_any}
 use Rattle.std.specs.Prelude.{nat_le}
@@ -105,6 +105,16 @@ written-last limit value count before xs piece rest after taking number less wit
     subst (λ (ys : List ℕ). Takes limit before ys piece after) (sym (take-more-set xs count value within))
     (taking-last limit value before (take count xs) piece rest after taking number less
     (omega (arith, few, within, length-take count xs)))
+
+-- a number from a place on
+pub number-at : (end value at taken : ℕ) (piece rest after : List ℕ) → rest ≡ drop at piece
+    → after ≡ drop (at + taken) piece → IsNumberTo end value rest (drop taken rest)
+    → IsNumberTo end value (drop at piece) after
+number-at end value at taken piece rest after front back number =
+    let joined : drop taken (drop at piece) ≡ drop (at + taken) piece = drop-drop taken at piece in
+    let here : IsNumberTo end value (drop at piece) (drop taken (drop at piece)) =
+    subst (λ (xs : List ℕ). IsNumberTo end value xs (drop taken xs)) front number in
+    subst (λ (xs : List ℕ). IsNumberTo end value (drop at piece) xs) (joined ∙ sym back) here
 
 -- the same numbers behind others
 pub behind-others : (limit : ℕ) (before now numbers piece rest : List ℕ) → Takes limit [] numbers piece rest

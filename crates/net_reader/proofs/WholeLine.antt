@@ -1,5 +1,5 @@
 -- Lines that lie whole in a piece.
-use Rattle.std.proofs.Common.{◌≡◌, inl, inr, ℕ, ◌+◌, ◌-◌, ◌*◌, ◌<◌, ◌≤◌, true, false, fold, take, drop, List, [], ◌∷◌, ◌++◌, length, get_or, None, Some, Ok, refl, ap, sym, ◌∙◌, arith, add-one, drop-cons, length-take, length-drop, subst}
+use Rattle.std.proofs.Common.{◌≡◌, inl, inr, ℕ, ◌+◌, ◌-◌, ◌*◌, ◌<◌, ◌≤◌, true, false, fold, take, drop, List, [], ◌∷◌, ◌++◌, length, get_or, Bool, None, Result, Some, Ok, refl, ap, sym, ◌∙◌, arith, add-one, drop-cons, length-take, length-drop, subst}
 use Rattle.std.proofs.lemmas.Bool.Decides.{nat_tests}
 use Rattle.std.proofs.lemmas.List.{take_all}
 use Rattle.std.specs.Char.{is_ascii_digit}
@@ -7,10 +7,13 @@ use Rattle.std.specs.List.{list_all}
 use Rattle.net_reader.specs.declared.line.Open.TheVariants as opens
 use Rattle.net_reader.specs.declared.word.Word.{Word}
 use Rattle.net_reader.specs.declared.word.Word.TheVariants.{Order}
+use Rattle.net_reader.specs.declared.fault.InputFault.{InputFault}
+use Rattle.net_reader.specs.declared.scan.Scan.{Scan}
 use Rattle.net_reader.specs.Said.{Said}
+use Rattle.net_reader.specs.Seen.{said_or_fault, seen_known, seen_line, seen_scan}
 use Rattle.net_reader.specs.Steps.{IsRun, LineState, ReaderState, after_bytes, close, close_as, end_line, fault_at, fresh, is_inside, is_plain, keep, line_said, more, next, pack, past_line, put, release, word_in}
 use Rattle.net_reader.specs.Table.{judge_word}
-use Rattle.net_reader.specs.Whole.{IsComment, IsCommentTo, IsDigits, IsEnd, IsLast, IsNumbers, IsNumberTo, IsUpTo, Opens, between}
+use Rattle.net_reader.specs.Whole.{IsComment, IsCommentTo, IsDigits, IsEnd, IsLast, IsNumbers, IsNumberTo, IsUpTo, Opens, Rests, between}
 use Rattle.net_reader.proofs.Digits.{below-most, plain-more, read-more, still-small}
 use Rattle.net_reader.proofs.Feeding.{ran}
 use Rattle.net_reader.proofs.Running.{run-comment, run-join, run-length, run-more, run-none, run-number}
@@ -311,3 +314,23 @@ heard-comment old new m said piece rest is counted comment =
 pub comment-shorter : (piece rest : List ℕ) → IsComment piece rest → length rest + 1 < length piece
 comment-shorter piece rest (inl comment) = omega (arith, comment.shorter)
 comment-shorter piece rest (inr comment) = omega (arith, comment.shorter)
+
+-- a reader that has read one line more without a fault rests again
+pub still-rests : (old new : Scan) (said : Result Said InputFault) (m : ℕ) → Rests old
+    → seen_scan new ≡ record (seen_scan old) { said = said; lines = m } → new.fault ≡ None → Rests new
+still-rests old new said m rests same going =
+    let begun : new.begun ≡ false =
+    ap (λ (r : ReaderState). r.begun) same ∙ ap (λ (r : ReaderState). r.begun) rests.seen in
+    let held : new.held ≡ false =
+    ap (λ (r : ReaderState). r.held) same ∙ ap (λ (r : ReaderState). r.held) rests.seen in
+    let line : seen_line new.line ≡ fresh =
+    ap (λ (r : ReaderState). r.line) same ∙ ap (λ (r : ReaderState). r.line) rests.seen in
+    let known = seen_known new.known in
+    let state : Result Said InputFault → Bool → Bool → LineState → ReaderState = λ said begun held line.
+    record { said = said; lines = new.lines; begun = begun; held = held; line = line } in
+    record {
+      going = going;
+      seen = ap (λ f. state (said_or_fault f known) new.begun new.held (seen_line new.line)) going
+          ∙ ap (λ b. state (Ok known) b new.held (seen_line new.line)) begun
+          ∙ ap (λ h. state (Ok known) false h (seen_line new.line)) held ∙ ap (state (Ok known) false false) line;
+    }

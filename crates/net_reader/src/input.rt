@@ -24,16 +24,24 @@ pub struct Input {
     pub order: Vec<u32>,
 }
 
-// So many scripts without a call.
-fn empty_scripts(alloc: Global, actors: u32) -> Result<Vec<Vec<Call>>, AllocError>
+// So many scripts without a call, each with room for so many calls.
+fn empty_scripts(alloc: Global, actors: u32, room: usize) -> Result<Vec<Vec<Call>>, AllocError>
     ensures { IfOk result (λ scripts. map (λ script. script.items) scripts.items
         ≡ map (λ actor. script_of actor []) (numbers_from 0 actors)) }
 {
     let mut scripts = Vec::with_capacity(alloc, actors as usize)?;
     for _ in 0..actors {
-        scripts.push(Vec::new(alloc))?;
+        let script = Vec::with_capacity(alloc, room)?;
+        scripts.push(script)?;
     }
     Ok(scripts)
+}
+
+// Room for somewhat more calls than an actor makes where each makes as many as the next, so that
+// few scripts grow.
+fn room_of_script(actors: u32, calls: usize) -> usize {
+    let mean = calls / actors.max(1) as usize;
+    mean.saturating_add(mean / 4)
 }
 
 // The script of each actor: its calls, in the order of the text.
@@ -41,7 +49,8 @@ fn scripts_of(alloc: Global, actors: u32, calls: &[Spoken]) -> Result<Vec<Vec<Ca
     ensures { IfOk result (λ scripts. map (λ script. script.items) scripts.items
         ≡ map (λ actor. script_of actor calls.now) (numbers_from 0 actors)) }
 {
-    let mut scripts = empty_scripts(alloc, actors)?;
+    let room = room_of_script(actors, calls.len());
+    let mut scripts = empty_scripts(alloc, actors, room)?;
     for spoken in calls {
         let actor = spoken.actor as usize;
         if actor < scripts.len() {

@@ -232,6 +232,7 @@ impl Scan {
         ensures lines { IfOk result (λ rest. self.new.lines + length rest.now ≤ self.old.lines +
             length piece.now) }
         ensures well { IfOk result (λ rest. IsWell self.new.fault self.new.known) }
+        ensures rests { IfOk result (λ rest. self.new.fault ≡ None → Rests self.new) }
     {
         match self.known.order_line(after)? {
             Some(rest) => {
@@ -254,6 +255,7 @@ impl Scan {
         ensures lines { IfOk result (λ rest. self.new.lines + length rest.now ≤ self.old.lines +
             length piece.now) }
         ensures well { IfOk result (λ rest. IsWell self.new.fault self.new.known) }
+        ensures rests { IfOk result (λ rest. self.new.fault ≡ None → Rests self.new) }
     {
         if let Some(rest) = past_comment(piece) {
             self.count();
@@ -298,8 +300,11 @@ impl Scan {
         ensures shorter { IfOk result (λ rest. length rest.now ≤ length piece.now) }
         ensures well { IfOk result (λ rest. IsWell self.new.fault self.new.known) }
     {
+        if !self.is_between_lines() {
+            return Ok(piece);
+        }
         let mut rest = piece;
-        'lines: while self.is_between_lines() {
+        'lines: while self.fault.is_none() {
             let behind = self.whole_line(rest)?;
             if behind.len() == rest.len() {
                 return Ok(behind);

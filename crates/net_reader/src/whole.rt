@@ -1,5 +1,5 @@
 //! The parts of a line that lies whole in a piece, as most do.
-ghost use Rattle.std.specs.Prelude.{◌≡◌, ◌≤◌, ◌^◌, length, take, IfOk, IfSome, IfNone, [], ◌∷◌};
+ghost use Rattle.std.specs.Prelude.{◌≡◌, ◌<◌, ◌≤◌, ◌+◌, ◌^◌, length, take, drop, IfOk, IfSome, IfNone, [], ◌∷◌};
 ghost use Rattle.net_reader.specs.Whole.{IsComment, IsDigits, IsEnd, IsLast, IsNumbers, IsNumberTo, Opens, Takes};
 
 use crate::line_end::rest_of_line;
@@ -8,6 +8,12 @@ use std::alloc::AllocError;
 
 // The most numbers of a line of the order.
 const MAX_ORDER: usize = 64;
+
+// The most bytes of a number of seven digits and what ends it.
+const ROOM: usize = 8;
+
+// The most bytes of a number of three digits and what ends it.
+const SHORT_ROOM: usize = 4;
 
 // The word of a line of the order, where a blank stands behind it, and what stands behind that.
 #[inline(always)]
@@ -34,68 +40,92 @@ pub(crate) fn opening(piece: &[u8]) -> Option<(Word, &[u8])>
     }
 }
 
-// A number of at most three digits at the front, the byte that ends it, and what stands behind.
+// The number of so many digits at the front with the byte behind them as one digit more, where it
+// is one.
 #[inline(always)]
-pub(crate) fn short_number(piece: &[u8]) -> Option<(u64, u8, &[u8])>
-    ensures { IfSome result (λ found. IsNumberTo found.1 found.0 piece.now found.2.now) }
+fn digit_more(piece: &[u8], taken: usize, value: u64) -> Option<u64>
+    requires within { taken < length piece.now }
+    requires few { taken < 18 }
+    requires read { IsDigits piece.now taken value }
+    ensures { IfSome result (λ more. IsDigits piece.now (taken + 1) more) }
 {
-    let [first, second, third, fourth, ..] = piece else {
+    let digit = u64::from(piece[taken]).wrapping_sub(u64::from(b'0'));
+    if digit > 9 {
         return None;
+    }
+    Some(10 * value + digit)
+}
+
+// The number of so many digits at the front, the byte that ends it, and how many bytes these are.
+#[inline(always)]
+fn number_of(piece: &[u8], taken: usize, value: u64) -> (u64, u8, usize)
+    requires some { 0 < taken }
+    requires within { taken < length piece.now }
+    requires read { IsDigits piece.now taken value }
+    ensures number { IsNumberTo result.1 result.0 piece.now (drop result.2 piece.now) }
+    ensures bytes { result.2 ≡ taken + 1 }
+{
+    (value, piece[taken], taken + 1)
+}
+
+// A number of at most three digits at the front, the byte that ends it, and how many bytes these
+// are.
+#[inline(always)]
+fn short_number(piece: &[u8]) -> Option<(u64, u8, usize)>
+    requires { 4 ≤ length piece.now }
+    ensures number { IfSome result (λ found. IsNumberTo found.1 found.0 piece.now (drop found.2
+        piece.now)) }
+    ensures few { IfSome result (λ found. found.2 ≤ 4) }
+{
+    let ones = digit_more(piece, 0, 0)?;
+    let Some(tens) = digit_more(piece, 1, ones) else {
+        return Some(number_of(piece, 1, ones));
     };
-    if !first.is_ascii_digit() {
-        return None;
-    }
-    let ones = u64::from(*first - b'0');
-    if !second.is_ascii_digit() {
-        return Some((ones, *second, piece.split_at(2).1));
-    }
-    let tens = 10 * ones + u64::from(*second - b'0');
-    if !third.is_ascii_digit() {
-        return Some((tens, *third, piece.split_at(3).1));
-    }
-    let hundreds = 10 * tens + u64::from(*third - b'0');
-    Some((hundreds, *fourth, piece.split_at(4).1))
+    let Some(hundreds) = digit_more(piece, 2, tens) else {
+        return Some(number_of(piece, 2, tens));
+    };
+    Some(number_of(piece, 3, hundreds))
 }
 
-// The number that the digits at the front are, up to seven of them, and how many they are.
+// The same of a number of at most seven digits, as weights have.
 #[inline(always)]
-fn seven_digits(piece: &[u8]) -> (u64, usize)
-    requires { 7 ≤ length piece.now }
-    ensures read { IsDigits piece.now result.1 result.0 }
-    ensures few { result.1 ≤ 7 }
+fn wide_number(piece: &[u8]) -> Option<(u64, u8, usize)>
+    requires { 8 ≤ length piece.now }
+    ensures number { IfSome result (λ found. IsNumberTo found.1 found.0 piece.now (drop found.2
+        piece.now)) }
+    ensures few { IfSome result (λ found. found.2 ≤ 8) }
 {
-    let mut number = 0;
-    let mut taken = 0;
-    'digits: while taken < 7 && piece[taken].is_ascii_digit() {
-        number = 10 * number + u64::from(piece[taken] - b'0');
-        taken += 1;
-    }
-    (number, taken)
-}
-
-// A number of at most seven digits at the front, as weights have, the byte that ends it, and what
-// stands behind.
-#[inline(always)]
-fn wide_number(piece: &[u8]) -> Option<(u64, u8, &[u8])>
-    ensures { IfSome result (λ found. IsNumberTo found.1 found.0 piece.now found.2.now) }
-{
-    if piece.len() < 8 {
-        return None;
-    }
-    let (value, taken) = seven_digits(piece);
-    if taken == 0 {
-        return None;
-    }
-    Some((value, piece[taken], piece.split_at(taken + 1).1))
+    let one = digit_more(piece, 0, 0)?;
+    let Some(two) = digit_more(piece, 1, one) else {
+        return Some(number_of(piece, 1, one));
+    };
+    let Some(three) = digit_more(piece, 2, two) else {
+        return Some(number_of(piece, 2, two));
+    };
+    let Some(four) = digit_more(piece, 3, three) else {
+        return Some(number_of(piece, 3, three));
+    };
+    let Some(five) = digit_more(piece, 4, four) else {
+        return Some(number_of(piece, 4, four));
+    };
+    let Some(six) = digit_more(piece, 5, five) else {
+        return Some(number_of(piece, 5, five));
+    };
+    let Some(seven) = digit_more(piece, 6, six) else {
+        return Some(number_of(piece, 6, six));
+    };
+    Some(number_of(piece, 7, seven))
 }
 
 // The number at the front that a blank ends, where it has more than three digits.
 fn long_number(piece: &[u8]) -> Option<(u64, &[u8])>
-    ensures { IfSome result (λ found. IsNumberTo 32 found.0 piece.now found.1.now) }
+    requires { 8 ≤ length piece.now }
+    ensures number { IfSome result (λ found. IsNumberTo 32 found.0 piece.now found.1.now) }
+    ensures near { IfSome result (λ found. length piece.now ≤ length found.1.now + 8) }
 {
-    let (value, end, after) = wide_number(piece)?;
+    let (value, end, taken) = wide_number(piece)?;
     if end == b' ' {
-        Some((value, after))
+        Some((value, piece.split_at(taken).1))
     } else {
         None
     }
@@ -105,11 +135,13 @@ fn long_number(piece: &[u8]) -> Option<(u64, &[u8])>
 // three digits.
 #[inline(always)]
 fn number(piece: &[u8]) -> Option<(u64, &[u8])>
-    ensures { IfSome result (λ found. IsNumberTo 32 found.0 piece.now found.1.now) }
+    requires { 8 ≤ length piece.now }
+    ensures number { IfSome result (λ found. IsNumberTo 32 found.0 piece.now found.1.now) }
+    ensures near { IfSome result (λ found. length piece.now ≤ length found.1.now + 8) }
 {
-    if let Some((value, end, after)) = short_number(piece) {
+    if let Some((value, end, taken)) = short_number(piece) {
         if end == b' ' {
-            return Some((value, after));
+            return Some((value, piece.split_at(taken).1));
         }
     }
     long_number(piece)
@@ -118,6 +150,7 @@ fn number(piece: &[u8]) -> Option<(u64, &[u8])>
 // The number at the front that the end of the line ends, and what stands behind it, where it has
 // more than three digits.
 fn long_last(piece: &[u8]) -> Option<(u64, &[u8])>
+    requires { 8 ≤ length piece.now }
     ensures { IfSome result (λ found. IsLast found.0 piece.now found.1.now) }
 {
     wide_last(piece)
@@ -126,20 +159,22 @@ fn long_last(piece: &[u8]) -> Option<(u64, &[u8])>
 // The same of any that has at most seven.
 #[inline(always)]
 fn wide_last(piece: &[u8]) -> Option<(u64, &[u8])>
+    requires { 8 ≤ length piece.now }
     ensures { IfSome result (λ found. IsLast found.0 piece.now found.1.now) }
 {
-    let (value, end, after) = wide_number(piece)?;
-    let rest = past_end(end, after)?;
+    let (value, end, taken) = wide_number(piece)?;
+    let rest = past_end(end, piece.split_at(taken).1)?;
     Some((value, rest))
 }
 
 // The same, where most have at most three.
 #[inline(always)]
 fn last_number(piece: &[u8]) -> Option<(u64, &[u8])>
+    requires { 8 ≤ length piece.now }
     ensures { IfSome result (λ found. IsLast found.0 piece.now found.1.now) }
 {
-    if let Some((value, end, after)) = short_number(piece) {
-        if let Some(rest) = past_end(end, after) {
+    if let Some((value, end, taken)) = short_number(piece) {
+        if let Some(rest) = past_end(end, piece.split_at(taken).1) {
             return Some((value, rest));
         }
     }
@@ -183,6 +218,9 @@ pub(crate) fn past_comment(piece: &[u8]) -> Option<&[u8]>
 pub(crate) fn two_numbers(piece: &[u8]) -> Option<(u64, u64, &[u8])>
     ensures { IfSome result (λ found. IsNumbers (found.0 ∷ found.1 ∷ []) piece.now found.2.now) }
 {
+    if piece.len() < 2 * ROOM {
+        return None;
+    }
     let (first, rest) = number(piece)?;
     let (second, rest) = last_number(rest)?;
     Some((first, second, rest))
@@ -194,6 +232,9 @@ pub(crate) fn three_numbers(piece: &[u8]) -> Option<(u64, u64, u64, &[u8])>
     ensures { IfSome result (λ found. IsNumbers (found.0 ∷ found.1 ∷ found.2 ∷ []) piece.now
         found.3.now) }
 {
+    if piece.len() < 3 * ROOM {
+        return None;
+    }
     let (first, rest) = number(piece)?;
     let (second, rest) = number(rest)?;
     let (third, rest) = last_number(rest)?;
@@ -206,6 +247,9 @@ pub(crate) fn edge_numbers(piece: &[u8]) -> Option<(u64, u64, u64, &[u8])>
     ensures { IfSome result (λ found. IsNumbers (found.0 ∷ found.1 ∷ found.2 ∷ []) piece.now
         found.3.now) }
 {
+    if piece.len() < 3 * ROOM {
+        return None;
+    }
     let (first, rest) = number(piece)?;
     let (second, rest) = number(rest)?;
     let (weight, rest) = wide_last(rest)?;
@@ -213,8 +257,8 @@ pub(crate) fn edge_numbers(piece: &[u8]) -> Option<(u64, u64, u64, &[u8])>
 }
 
 // Writes down the numbers below the limit that stand one blank apart before the end of the line,
-// and gives how many they are and what stands behind the line; none where the line isn't so, or has
-// more numbers than there is room for.
+// and gives how many they are and what stands behind the line; none where the line isn't so, has
+// more numbers than there is room for, or stands so near the end of the piece that it might be cut.
 #[inline(always)]
 fn take_numbers<'a>(numbers: &mut [u32], limit: u64, piece: &'a [u8]) -> Option<(usize, &'a [u8])>
     requires few { length numbers.old ≤ 64 }
@@ -223,20 +267,21 @@ fn take_numbers<'a>(numbers: &mut [u32], limit: u64, piece: &'a [u8]) -> Option<
     ensures taken { IfSome result (λ found. Takes limit [] (take found.0 numbers.new) piece.now
         found.1.now) }
 {
+    let most = numbers.len().min(piece.len() / SHORT_ROOM);
     let mut count = 0;
-    let mut rest = piece;
-    'numbers: while count < numbers.len() {
-        let (number, end, after) = short_number(rest)?;
+    let mut at = 0;
+    'numbers: while count < most {
+        let (number, end, taken) = short_number(piece.split_at(at).1)?;
         if number >= limit {
             return None;
         }
         numbers[count] = number as u32;
         count += 1;
+        at += taken;
         if end != b' ' {
-            let behind = past_end(end, after)?;
+            let behind = past_end(end, piece.split_at(at).1)?;
             return Some((count, behind));
         }
-        rest = after;
     }
     None
 }

@@ -13,7 +13,7 @@ loop-preserved c =
     let f = λ (actor : ℕ). script_of actor [] in
     ap (λ (l : List (List Call)). l ++ map f (numbers_from (n + 1) (m - (n + 1))))
     (ap (map (λ script. script.items)) c.in_ok-push.ensures.items
-    ∙ map-append (λ script. script.items) c.loop.scripts.items (c.new.result ∷ [])
-    ∙ ap (λ (s : List Call). map (λ script. script.items) c.loop.scripts.items ++ s ∷ []) c.new.ensures.items)
+    ∙ map-append (λ script. script.items) c.loop.scripts.items (c.in_ok-script.script ∷ [])
+    ∙ ap (λ (s : List Call). map (λ script. script.items) c.loop.scripts.items ++ s ∷ []) c.in_ok-script.ensures.items)
     ∙ scripts-step (map (λ script. script.items) c.loop.scripts.items) [] f n m (map f (numbers_from 0 m))
     c.loop-test.true refl c.loop.invariant

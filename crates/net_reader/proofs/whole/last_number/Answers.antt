@@ -1,8 +1,12 @@
+use Rattle.std.proofs.Common.{List, ℕ, sym, subst}
+use Rattle.net_reader.specs.Whole.{IsNumberTo}
 use Rattle.net_reader.proofs.WholeLine.{last-read}
 use Rattle.net_reader.proofs.whole.last_number.Goals as goal
 
 pub returns-in-Some-past_end : goal.returns-in-Some-past_end
 returns-in-Some-past_end c =
     let found = c.in-Some in
-    last-read found.end found.value c.args.piece.now found.after.now c.in-Some-past_end.rest.now found.ensures
-    c.in-Some-past_end.ensures
+    let piece = c.args.piece.now in
+    last-read found.end found.value piece c.split_at.result.1.now c.in-Some-past_end.rest.now
+    (subst (λ (rest : List ℕ). IsNumberTo found.end found.value piece rest) (sym c.split_at.ensures.back)
+    found.ensures.number) c.in-Some-past_end.ensures

@@ -1,4 +1,4 @@
-use Rattle.std.proofs.Common.{◌≡◌, subst, arith}
+use Rattle.std.proofs.Common.{◌≡◌, drop, List, ℕ, sym, subst, arith, length-drop, ap, length}
 use Rattle.std.proofs.lemmas.Bool.Decides.{nat_tests}
 use Rattle.net_reader.specs.Whole.{IsNumberTo}
 use Rattle.net_reader.proofs.whole.long_number.Goals as goal
@@ -6,5 +6,10 @@ use Rattle.net_reader.proofs.whole.long_number.Goals as goal
 pub returns-then-end-eq32 : goal.returns-then-end-eq32
 returns-then-end-eq32 c =
     let found = c.in_ok-value in
+    let piece = c.args.piece.now in
     let ends : found.end ≡ 32 = grind (arith, nat_tests, c.if-end-eq32.true) in
-    subst (λ e. IsNumberTo e found.value c.args.piece.now found.after.now) ends found.ensures
+    record {
+      number = subst (λ (rest : List ℕ). IsNumberTo 32 found.value piece rest) (sym c.split_at.ensures.back)
+          (subst (λ e. IsNumberTo e found.value piece (drop found.taken piece)) ends found.ensures.number);
+      near = omega (arith, found.ensures.few, ap length c.split_at.ensures.back, length-drop found.taken piece);
+    }

@@ -1,7 +1,7 @@
-use Rattle.std.proofs.Common.{[], ◌∷◌, ap, subst, sym, arith}
+use Rattle.std.proofs.Common.{◌+◌, [], ◌∷◌, ap, subst, sym, arith}
 use Rattle.net_reader.specs.declared.scan.Scan.{Scan}
 use Rattle.net_reader.specs.Seen.{IsWell, seen_known, seen_scan}
-use Rattle.net_reader.proofs.WholeLine.{comment-shorter, heard-comment, heard-whole, whole-shorter}
+use Rattle.net_reader.proofs.WholeLine.{comment-shorter, heard-comment, heard-whole, still-rests, whole-shorter}
 use Rattle.net_reader.proofs.scan.Scan.whole_line.Goals as goal
 
 pub returns-in-Some : goal.returns-in-Some
@@ -16,6 +16,8 @@ returns-in-Some c =
       shorter = omega (arith, shorter);
       lines = omega (arith, shorter, ap (λ (s : Scan). s.lines) c.count.ensures);
       well = subst (λ (s : Scan). IsWell s.fault s.known) (sym c.count.ensures) c.requires.well;
+      rests = still-rests self c.count.new.self _ (self.lines + 1) c.requires.rests
+          (ap (λ (s : Scan). seen_scan s) c.count.ensures);
     }
 
 pub returns-in-Move : goal.returns-in-Move
@@ -32,6 +34,7 @@ returns-in-Move c =
       shorter = omega (arith, shorter);
       lines = omega (arith, c.in_ok-hear.ensures.lines, shorter);
       well = c.in_ok-hear.ensures.well;
+      rests = still-rests self c.hear.new.self _ _ c.requires.rests c.in_ok-hear.ensures.read;
     }
 
 pub returns-in-Find : goal.returns-in-Find
@@ -48,6 +51,7 @@ returns-in-Find c =
       shorter = omega (arith, shorter);
       lines = omega (arith, c.in_ok-hear-2.ensures.lines, shorter);
       well = c.in_ok-hear-2.ensures.well;
+      rests = still-rests self c.hear-in-Find.new.self _ _ c.requires.rests c.in_ok-hear-2.ensures.read;
     }
 
 pub returns : goal.returns
@@ -64,4 +68,5 @@ returns c =
       shorter = omega (arith, shorter);
       lines = omega (arith, c.in_ok-hear-3.ensures.lines, shorter);
       well = c.in_ok-hear-3.ensures.well;
+      rests = still-rests self c.hear-2.new.self _ _ c.requires.rests c.in_ok-hear-3.ensures.read;
     }

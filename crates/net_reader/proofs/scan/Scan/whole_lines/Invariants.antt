@@ -1,5 +1,6 @@
-use Rattle.std.proofs.Common.{◌≡◌, ◌+◌, ◌≤◌, length}
+use Rattle.std.proofs.Common.{◌≡◌, ◌+◌, ◌≤◌, None, length}
 use Rattle.net_reader.specs.Steps.{after_bytes}
+use Rattle.net_reader.specs.Whole.{Rests}
 use Rattle.net_reader.specs.Seen.{seen_scan, IsWell}
 use Rattle.net_reader.proofs.scan.Scan.whole_lines.Given as goal
 
@@ -9,6 +10,7 @@ invariant-lines l = record {
   well : IsWell l.self.fault l.self.known;
   lines : l.self.lines + length l.rest ≤ l.fn.self.lines + length l.fn.piece;
   shorter : length l.rest ≤ length l.fn.piece;
+  rests : l.self.fault ≡ None → Rests l.self;
 }
 
 abbrev pub decreases-lines : goal.decreases-lines

@@ -6,7 +6,7 @@ use Rattle.net_reader.specs.Said.{Said}
 use Rattle.net_reader.specs.Seen.{IsWell, said_or_fault, seen_known, seen_line, seen_scan}
 use Rattle.net_reader.specs.Steps.{fault_at}
 use Rattle.net_reader.specs.Whole.{HearsOrder}
-use Rattle.net_reader.proofs.WholeLine.{heard-whole, whole-shorter}
+use Rattle.net_reader.proofs.WholeLine.{heard-whole, still-rests, whole-shorter}
 use Rattle.net_reader.proofs.scan.Scan.whole_order.Goals as goal
 
 pub returns-in-Some : goal.returns-in-Some
@@ -37,4 +37,6 @@ returns-in-Some c =
       lines = omega (arith, shorter, one_more);
       well = subst (λ (s : Scan). IsWell s.fault s.known) (sym c.count.ensures)
           (subst (λ f. IsWell f known) (sym going) c.in_ok-rest.ensures.kept);
+      rests = still-rests self c.count.new.self (said_or_fault self.fault (seen_known known)) (self.lines + 1)
+          c.requires.rests (ap (λ (s : Scan). seen_scan s) c.count.ensures);
     }
