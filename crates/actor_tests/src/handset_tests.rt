@@ -18,8 +18,9 @@ fn write(handset: &mut Handset, plan: &Plan) -> Option<Visit>
     ensures { GoesWith plan.now handset.new }
 {
     if handset.number() % 2 == 0 {
-        if let Some(write) = handset.write_entry(plan) {
-            return put_entry(write);
+        let entry = write_entry(handset, plan);
+        if entry.is_some() {
+            return entry;
         }
     }
     if !handset.commits() {
@@ -30,12 +31,19 @@ fn write(handset: &mut Handset, plan: &Plan) -> Option<Visit>
     Some(visit)
 }
 
-fn put_entry(write: EntryWrite) -> Option<Visit> {
+// Makes the write of an entry that has another of its kind behind it.
+fn write_entry(handset: &mut Handset, plan: &Plan) -> Option<Visit>
+    requires { GoesWith plan.now handset.old }
+    ensures { GoesWith plan.now handset.new }
+{
+    let at = handset.entry_stage()?;
     let EntryWrite {
         level,
         cluster,
         word,
-    } = write;
+        next,
+    } = handset.entry_write(plan, at)?;
+    handset.go_to(next);
     let key = Key::Entry {
         level,
         cluster,

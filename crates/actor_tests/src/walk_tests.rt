@@ -137,8 +137,6 @@ enum Step {
     /// Passes so many entries that hold nothing.
     Pass(usize),
     ReadNothing,
-    /// Reads nothing, at an entry.
-    ReadEmptyEntry,
     ReadSubscriber,
     ReadComing,
     ReadGoneToLast,
@@ -155,8 +153,6 @@ enum Seen {
     Ahead(Option<(u32, usize)>),
     /// There are too few entries ahead.
     TooFew,
-    /// It isn't at an entry.
-    NoEntry,
     Read,
     NoSuchNode,
 }
@@ -166,38 +162,26 @@ fn ahead(walk: &Walk, plan: &Plan) -> Option<(u32, usize)>
     requires goes { IsWalkOver plan.now walk.now }
     requires matched { IsMatched plan.now }
 {
-    let (level, clusters) = walk.ahead(plan)?;
-    Some((level, clusters.len()))
+    let climb = walk.climb()?;
+    Some((climb.level, climb.readers(plan).len()))
 }
 
-// The walk passes so many entries, if more are ahead.
+// The walk passes so many entries, if so many are ahead, and a level above them if these are all.
 fn pass(walk: &mut Walk, plan: &Plan, count: usize) -> Seen
     requires goes { IsWalkOver plan.now walk.old }
     requires matched { IsMatched plan.now }
     requires reached { IsWithinReach plan.now }
     ensures { IsWalkOver plan.now walk.new }
 {
-    let Some((_, clusters)) = walk.ahead(plan) else {
+    let Some(climb) = walk.climb() else {
         return Seen::TooFew;
     };
-    if count >= clusters.len() {
+    let left = climb.readers(plan).len();
+    let top = plan.levels() - 1;
+    if count > left || (count == left && climb.level >= top) {
         return Seen::TooFew;
     }
-    walk.pass(plan, count);
-    Seen::Read
-}
-
-// The walk reads nothing, if it is at an entry.
-fn read_empty_entry(walk: &mut Walk, plan: &Plan) -> Seen
-    requires goes { IsWalkOver plan.now walk.old }
-    requires matched { IsMatched plan.now }
-    requires reached { IsWithinReach plan.now }
-    ensures { IsWalkOver plan.now walk.new }
-{
-    if !walk.is_climbing() {
-        return Seen::NoEntry;
-    }
-    walk.saw_nothing(plan);
+    walk.resume(climb.past(plan, count));
     Seen::Read
 }
 
@@ -213,7 +197,6 @@ fn take(walk: &mut Walk, plan: &Plan, distances: &Distances, step: Step) -> Seen
         Step::Answer => return Seen::Answer(walk.answer()),
         Step::Ahead => return Seen::Ahead(ahead(walk, plan)),
         Step::Pass(count) => return pass(walk, plan, count),
-        Step::ReadEmptyEntry => return read_empty_entry(walk, plan),
         Step::ReadNothing => see_nothing(walk, plan, distances),
         Step::ReadSubscriber => see_subscriber(walk, plan, distances),
         Step::ReadComing => see_coming(walk, plan, distances),
@@ -312,27 +295,42 @@ fn no_entry(rt: HostRuntime) -> Result<(), Fail> {
     play_on_line(&rt, rt.alloc(), &script)
 }
 
-// Looks at once leave what they leave one after another. The last of a level is no such look.
+// Looks at once leave what they leave one after another.
 #[test]
 fn no_entry_at_once(rt: HostRuntime) -> Result<(), Fail> {
     let script = [
         (Step::Ahead, Seen::Ahead(None)),
         (Step::Pass(0), Seen::TooFew),
-        (Step::ReadEmptyEntry, Seen::NoEntry),
         (Step::ReadNothing, Seen::Read),
         (Step::Ahead, Seen::Ahead(Some((0, 2)))),
-        (Step::Pass(2), Seen::TooFew),
+        (Step::Pass(3), Seen::TooFew),
         (Step::Pass(0), Seen::Read),
         (Step::Next, entry(0, 0, 0)),
         (Step::Pass(1), Seen::Read),
         (Step::Next, entry(0, 1, 0)),
         (Step::Ahead, Seen::Ahead(Some((0, 1)))),
-        (Step::Pass(1), Seen::TooFew),
-        (Step::ReadEmptyEntry, Seen::Read),
+        (Step::ReadNothing, Seen::Read),
         (Step::Next, entry(1, 0, 0)),
-        (Step::ReadEmptyEntry, Seen::Read),
-        (Step::ReadEmptyEntry, Seen::Read),
-        (Step::ReadEmptyEntry, Seen::NoEntry),
+        (Step::ReadNothing, Seen::Read),
+        (Step::ReadNothing, Seen::Read),
+        (Step::Answer, again(Why::NoEntry, 18)),
+    ];
+    play_on_line(&rt, rt.alloc(), &script)
+}
+
+// Whole levels are passed at once, but for the top level.
+#[test]
+fn no_entry_by_levels(rt: HostRuntime) -> Result<(), Fail> {
+    let script = [
+        (Step::ReadNothing, Seen::Read),
+        (Step::Pass(2), Seen::Read),
+        (Step::Next, entry(1, 0, 0)),
+        (Step::Ahead, Seen::Ahead(Some((1, 1)))),
+        (Step::Pass(1), Seen::Read),
+        (Step::Next, entry(2, 0, 0)),
+        (Step::Ahead, Seen::Ahead(Some((2, 1)))),
+        (Step::Pass(1), Seen::TooFew),
+        (Step::ReadNothing, Seen::Read),
         (Step::Answer, again(Why::NoEntry, 18)),
     ];
     play_on_line(&rt, rt.alloc(), &script)

@@ -112,7 +112,7 @@ goes-settled plan handset goes done = record {
     at_test level h true = goes.inside level h
     at_test level h false = goes.to
 
-goes-late : (plan : PlanData) (handset : HandsetData) (next : Stage) → GoesWith plan handset
+pub goes-late : (plan : PlanData) (handset : HandsetData) (next : Stage) → GoesWith plan handset
     → handset.last.number ≡ begun_at next handset.number → IsMoveStage (nodes_of plan) handset.last next
     → GoesWith plan (record handset { stage = next })
 goes-late plan handset next goes counted within = record {

@@ -3,6 +3,7 @@ mod Going
 mod CourseLaws
 mod Trails
 mod Writing
+mod Following
 mod Showing
 mod Keeping
 mod Settling

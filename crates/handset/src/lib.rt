@@ -1,6 +1,7 @@
 //! A subscriber's own state: where it stands, and what it writes next.
 #![tactic(auto)]
 
+mod entries;
 mod fault;
 mod handset;
 mod levels;
@@ -9,6 +10,6 @@ mod trail;
 mod visits;
 mod writes;
 
+pub use entries::{EntryStage, EntryWrite};
 pub use fault::{MoveFault, SwitchFault};
 pub use handset::Handset;
-pub use visits::EntryWrite;

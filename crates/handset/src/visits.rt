@@ -1,42 +1,13 @@
 //! The visits that a handset makes.
-ghost use Rattle.std.specs.Prelude.{◌≡◌, ◌<◌, ◌^◌, Some, if◌then◌else◌};
+ghost use Rattle.std.specs.Prelude.{◌≡◌, ◌<◌, ◌^◌, None, Some, if◌then◌else◌};
 ghost use Rattle.entry_word.specs.declared.mark.PresenceMark.TheVariants.{Coming, Gone, Here, Off};
+ghost use Rattle.entry_word.specs.declared.visit.Act.TheVariants.{Put};
+ghost use Rattle.entry_word.specs.declared.visit.Key.TheVariants.{Entry};
 ghost use Rattle.directory.specs.Writes.{entry_at, mark_at, visit_of};
 ghost use Rattle.entry_word.specs.Addresses.{address_word};
-ghost use Rattle.handset.specs.Entries.{entry_put};
 
 use crate::stage::Journey;
 use entry_word::{Act, Address, Key, PresenceMark, Visit, pack_address, pack_mark};
-
-/// A write of an entry: the level and the cluster of its cell, and the word.
-#[derive(Clone, Copy, PartialEq, Eq, Debug)]
-pub struct EntryWrite {
-    pub level: u32,
-    pub cluster: u32,
-    pub word: u64,
-}
-
-// A write of an entry, as a subscriber's visit.
-pub fn visit_entry(sub: u32, write: EntryWrite) -> Visit
-    ensures { result ≡ entry_put sub write }
-{
-    let EntryWrite {
-        level,
-        cluster,
-        word,
-    } = write;
-    Visit {
-        actor: sub,
-        act: Act::Put(
-            Key::Entry {
-                level,
-                cluster,
-                sub,
-            },
-            word,
-        ),
-    }
-}
 
 // The word of a new address.
 pub fn new_word(number: u32, to: u32) -> u64
@@ -58,8 +29,8 @@ pub fn mark_visit(sub: u32, node: u32, mark: PresenceMark) -> Visit
 }
 
 // A write of an entry.
-pub fn entry_visit(sub: u32, level: u32, cluster: u32, address: Option<Address>) -> Visit
-    ensures { result ≡ visit_of sub (entry_at level cluster address) }
+pub fn entry_visit(sub: u32, level: u32, cluster: u32, word: u64) -> Visit
+    ensures { result ≡ record { actor = sub; act = Put (Entry level cluster sub) word } }
 {
     Visit {
         actor: sub,
@@ -69,7 +40,7 @@ pub fn entry_visit(sub: u32, level: u32, cluster: u32, address: Option<Address>)
                 cluster,
                 sub,
             },
-            pack_address(address),
+            word,
         ),
     }
 }
@@ -131,7 +102,12 @@ pub fn renewal_visit(sub: u32, level: u32, home: u32, last: Journey) -> Visit
       node = last.to;
     }))) }
 {
-    let node = last.to as u16;
-    let number = last.number;
-    entry_visit(sub, level, home, Some(Address { number, node }))
+    entry_visit(sub, level, home, new_word(last.number, last.to))
+}
+
+// The erasure of the old address of a level, whose home this is.
+pub fn erasure_visit(sub: u32, level: u32, home: u32) -> Visit
+    ensures { result ≡ visit_of sub (entry_at level home None) }
+{
+    entry_visit(sub, level, home, pack_address(None))
 }

@@ -1,5 +1,5 @@
 //! The writes of a handset, one after another.
-ghost use Rattle.std.specs.Prelude.{◌≡◌, ◌<◌, ◌≤◌, ◌+◌, ◌-◌, ◌^◌, [], ℕ, List, slice_get, suc, ◌==◌, length, IfSome, IsSome, OnSome, None, Some};
+ghost use Rattle.std.specs.Prelude.{◌≡◌, ◌<◌, ◌≤◌, ◌+◌, ◌-◌, ◌^◌, [], ℕ, List, slice_get, suc, ◌==◌, length, if◌then◌else◌, nat_lt, IsSome, OnSome, None, Some};
 ghost use Rattle.entry_word.specs.declared.visit.Visit.{Visit};
 ghost use Rattle.directory.specs.Courses.{Step};
 ghost use Rattle.directory.specs.Standing.{number, off};
@@ -9,7 +9,6 @@ ghost use Rattle.region_plan.specs.Kept.{IsKept};
 ghost use Rattle.region_plan.specs.Settings.{setting_of};
 ghost use Rattle.handset.specs.Kept.{GoesWith};
 ghost use Rattle.handset.specs.Progress.{after_write, due, erasing_from, first_with, go_on, is_behind, purging_at, settle};
-ghost use Rattle.handset.specs.Entries.{entry_put};
 ghost use Rattle.handset.specs.Stands.{StandsForSteps, is_commit};
 ghost use Rattle.handset.specs.declared.stage.Stage.{Stage};
 
@@ -18,11 +17,10 @@ use crate::levels::{first_old, readdress};
 use crate::stage::{Journey, Stage};
 use crate::trail::{clear, first_behind, mark};
 use crate::visits::{
-    EntryWrite, coming_visit, entry_visit, gone_visit, here_visit, mark_visit, new_word,
-    renewal_visit, switch_mark, visit_entry,
+    coming_visit, erasure_visit, gone_visit, here_visit, mark_visit, renewal_visit, switch_mark,
 };
 use directory::levels_after_move;
-use entry_word::{PresenceMark, Visit, mark_words, pack_address};
+use entry_word::{PresenceMark, Visit, mark_words};
 use region_plan::Plan;
 
 impl Handset {
@@ -81,29 +79,6 @@ impl Handset {
         self.step(plan)
     }
 
-    /// Makes the write that comes next, if it is a new address, or the erasure of an old one with
-    /// another behind it; else nothing changes, and `write` makes it. Most writes are such.
-    pub fn write_entry(&mut self, plan: &Plan) -> Option<EntryWrite>
-        requires goes { GoesWith plan.now self.old }
-        ensures exact { IfSome result
-            (λ write. due (setting_of plan.now []) self.old ≡ Some (entry_put self.old.sub write)) }
-        ensures after { OnSome result (self.new
-            ≡ after_write (setting_of plan.now []) self.old self.old.stage) }
-        ensures rests { result ≡ None → self.new ≡ self.old }
-        ensures goes { GoesWith plan.now self.new }
-        ensures visit { (starts : List ℕ) (steps : List Step) (made : ℕ)
-            → StandsForSteps (setting_of plan.now starts) self.old steps made
-            → due (setting_of plan.now []) self.old
-            ≡ slice_get (visits (setting_of plan.now starts) self.old.sub steps) made }
-        ensures stands { OnSome result ((starts : List ℕ) (steps : List Step) (made : ℕ)
-            → StandsForSteps (setting_of plan.now starts) self.old steps made
-            → StandsForSteps (setting_of plan.now starts) self.new steps (suc made)) }
-    {
-        levels_after_move();
-        mark_words();
-        self.step_entry(plan)
-    }
-
     // The write that the stage tells.
     fn due(&self, plan: &Plan) -> Option<Visit>
         requires goes { GoesWith plan.now self.now }
@@ -122,32 +97,13 @@ impl Handset {
             Stage::Confirming => Some(here_visit(sub, last)),
             Stage::Erasing { level } => {
                 let old = plan.home(level, self.addresses[level as usize]);
-                Some(entry_visit(sub, level, old, None))
+                Some(erasure_visit(sub, level, old))
             }
             Stage::Purging { node } => Some(mark_visit(sub, node, PresenceMark::Empty)),
             Stage::Switching { off } => {
                 let mark = switch_mark(off, self.number);
                 Some(mark_visit(sub, self.place, mark))
             }
-        }
-    }
-
-    // Makes the write of an entry that the stage tells, where it goes on to the next one at once.
-    fn step_entry(&mut self, plan: &Plan) -> Option<EntryWrite>
-        requires goes { GoesWith plan.now self.old }
-        ensures exact { IfSome result
-            (λ write. due (setting_of plan.now []) self.old ≡ Some (entry_put self.old.sub write)) }
-        ensures after { OnSome result (self.new
-            ≡ after_write (setting_of plan.now []) self.old self.old.stage) }
-        ensures rests { result ≡ None → self.new ≡ self.old }
-        ensures goes { GoesWith plan.now self.new }
-        ensures kept { IsKept plan.now }
-    {
-        let _nodes = plan.nodes();
-        match self.stage {
-            Stage::Renewing { level } => Some(self.renew(plan, level)),
-            Stage::Erasing { level } => self.erase(plan, level),
-            _ => None,
         }
     }
 
@@ -169,13 +125,11 @@ impl Handset {
                 Some(coming_visit(sub, last))
             }
             Stage::Renewing { level } => {
-                let write = self.renew(plan, level);
-                Some(visit_entry(sub, write))
+                self.stage = stage_behind(last, level);
+                Some(renewal_visit(sub, level, plan.home(level, last.to), last))
             }
             Stage::Committing => {
-                self.place = last.to;
-                self.number = last.number;
-                self.stage = Stage::Confirming;
+                self.commit();
                 Some(gone_visit(sub, last))
             }
             Stage::Confirming => {
@@ -187,7 +141,7 @@ impl Handset {
                 let old = plan.home(level, self.addresses[level as usize]);
                 let next = self.erasing_from(plan, level + 1);
                 self.go_on(plan, next);
-                Some(entry_visit(sub, level, old, None))
+                Some(erasure_visit(sub, level, old))
             }
             Stage::Purging { node } => {
                 let next = self.purging_from(node + 1);
@@ -195,75 +149,32 @@ impl Handset {
                 Some(mark_visit(sub, node, PresenceMark::Empty))
             }
             Stage::Switching { off } => {
-                let (place, mark) = (self.place, switch_mark(off, self.number));
-                self.off = off;
-                self.stage = Stage::Resting;
-                Some(mark_visit(sub, place, mark))
+                let mark = switch_mark(off, self.number);
+                self.change(off);
+                Some(mark_visit(sub, self.place, mark))
             }
         }
     }
 
-    // Renews the address of a level.
-    fn renew(&mut self, plan: &Plan, level: u32) -> EntryWrite
-        requires goes { GoesWith plan.now self.old }
-        requires stage { self.old.stage ≡ Stage.Renewing level }
-        ensures exact { due (setting_of plan.now []) self.old
-            ≡ Some (entry_put self.old.sub result) }
-        ensures after { self.new ≡ after_write (setting_of plan.now []) self.old self.old.stage }
-        ensures goes { GoesWith plan.now self.new }
+    // The move commits.
+    fn commit(&mut self)
+        ensures { self.new ≡ record self.old {
+          place = self.old.last.to;
+          number = self.old.last.number;
+          stage = Stage.Confirming;
+        } }
     {
-        let _nodes = plan.nodes();
-        let Journey {
-            number,
-            to,
-            renewed,
-            ..
-        } = self.last;
-        self.stage = if level < renewed {
-            Stage::Renewing { level: level + 1 }
-        } else {
-            Stage::Committing
-        };
-        EntryWrite {
-            level,
-            cluster: plan.home(level, to),
-            word: new_word(number, to),
-        }
+        self.place = self.last.to;
+        self.number = self.last.number;
+        self.stage = Stage::Confirming;
     }
 
-    // The first level from one on whose old address is erased, if there is one.
-    fn next_old(&self, plan: &Plan, level: u32) -> Option<u32>
-        requires goes { GoesWith plan.now self.now }
-        ensures { IfSome result (λ next. erasing_from (setting_of plan.now []) self.now level
-            ≡ Stage.Erasing next) }
+    // The switch is made.
+    fn change(&mut self, off: bool)
+        ensures { self.new ≡ record self.old { is_off = off; stage = Stage.Resting } }
     {
-        // The call tells the proof that nodes are few.
-        let _nodes = plan.nodes();
-        first_old(plan, &self.addresses, self.last, level)
-    }
-
-    // Erases the old address of a level, if one of a level above is left to erase.
-    fn erase(&mut self, plan: &Plan, level: u32) -> Option<EntryWrite>
-        requires goes { GoesWith plan.now self.old }
-        requires stage { self.old.stage ≡ Stage.Erasing level }
-        ensures exact { IfSome result
-            (λ write. due (setting_of plan.now []) self.old ≡ Some (entry_put self.old.sub write)) }
-        ensures after { OnSome result (self.new
-            ≡ after_write (setting_of plan.now []) self.old self.old.stage) }
-        ensures rests { result ≡ None → self.new ≡ self.old }
-        ensures goes { GoesWith plan.now self.new }
-    {
-        let _nodes = plan.nodes();
-        let Some(next) = self.next_old(plan, level + 1) else {
-            return None;
-        };
-        let cluster = plan.home(level, self.addresses[level as usize]);
-        self.go_on(plan, Stage::Erasing { level: next });
-        Some(EntryWrite {
-            level,
-            cluster,
-            word: pack_address(None),
-        })
+        self.off = off;
+        self.stage = Stage::Resting;
     }
 
     // The stage at which old addresses are erased from a level on.
@@ -316,5 +227,18 @@ impl Handset {
             clear(&mut self.trail);
         }
         mark(&mut self.trail, to);
+    }
+}
+
+// The stage behind the new address of a level.
+fn stage_behind(last: Journey, level: u32) -> Stage
+    requires { level ≤ last.renewed }
+    ensures { result ≡ (if nat_lt level last.renewed then Stage.Renewing (suc level)
+        else Stage.Committing) }
+{
+    if level < last.renewed {
+        Stage::Renewing { level: level + 1 }
+    } else {
+        Stage::Committing
     }
 }

@@ -5,6 +5,7 @@ mod Seen
 mod Finishing
 mod Making
 mod Written
+mod Many
 mod Rests
 mod Beginning
 mod Sums

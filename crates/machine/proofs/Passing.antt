@@ -1,6 +1,6 @@
 -- A caller's looks at entries that hold nothing, many at once: what as many turns make.
-use Rattle.std.proofs.Common.{◌≡◌, ℕ, zero, suc, ◌+◌, ◌<◌, ◌≤◌, false, List, [], ◌∷◌, ◌++◌, length, refl, sym, ap, ◌∙◌, subst, arith, None, Option}
-use Rattle.std.specs.Prelude.{Some, slice_index, unwrap_or}
+use Rattle.std.proofs.Common.{◌≡◌, ℕ, zero, suc, ◌+◌, ◌<◌, ◌≤◌, false, [], ◌∷◌, ◌++◌, length, refl, sym, ap, ◌∙◌, subst, arith, None, Option}
+use Rattle.std.specs.Prelude.{All, Some, slice_index, unwrap_or}
 use Rattle.std.specs.Option.{is_some}
 use Rattle.std.proofs.lemmas.List.{length-map, length-append, length-replicate}
 use Rattle.entry_word.specs.declared.visit.Key.{Key}
@@ -14,7 +14,9 @@ use Rattle.net_reader.specs.Input.{Contents}
 use Rattle.region_plan.specs.Plan.{PlanData}
 use Rattle.region_plan.specs.Cells.{IsCell}
 use Rattle.visit_log.specs.Cells.{CellData, word_at}
-use Rattle.walk.specs.Climbs.{IsAhead, PassesEntry, past-none, walk_past}
+use Rattle.region_plan.specs.Plan.{clusters_of}
+use Rattle.walk.specs.declared.progress.Climb.{Climb}
+use Rattle.walk.specs.Climbs.{IsClimbOf, IsClimbOver, PassesEntry, climb_past, past-none, readers_left, walk_at}
 use Rattle.walk.specs.Walks.{WalkData}
 use Rattle.machine.specs.declared.caller.Caller.{Caller}
 use Rattle.scripts.specs.Scripts.{scripts_of}
@@ -25,44 +27,50 @@ use Rattle.machine.proofs.Making.{made-count, made-joined, made-none, made-one}
 use Rattle.machine.proofs.Looked.{looks, looked-on}
 use Rattle.machine.proofs.Turning.{sees-more}
 
--- a caller behind so many of them
-abbrev pub behind : PlanData → WalkData → Caller → ℕ → ℕ → Caller
-behind plan walk old ticket zero = old
-behind plan walk old ticket (suc count) =
-    record old { walk = Some (walk_past plan walk (suc count)); first = Some (unwrap_or old.first ticket) }
+-- a caller at a climb, behind so many of them
+abbrev pub behind : WalkData → Caller → ℕ → Climb → ℕ → Caller
+behind walk old ticket climb zero = record old { walk = Some (walk_at walk climb) }
+behind walk old ticket climb (suc count) =
+    record old { walk = Some (walk_at walk climb); first = Some (unwrap_or old.first ticket) }
 
--- what the looks lean on
+-- what the looks at a level lean on
 pub record Passes (input : Contents) (plan : PlanData) (cells : CellData) (actor : ℕ) (walk : WalkData)
-    (level : ℕ) (clusters : List ℕ) (limit : ℕ) : Type 0 where
+    (climb : Climb) (limit : ℕ) : Type 0 where
   pub high : length input.homes ≤ actor
-  pub ahead : IsAhead plan walk level clusters
-  pub short : limit < length clusters
+  pub over : IsClimbOver plan climb
+  pub left : limit ≤ length (readers_left plan climb)
+  pub inside : All (λ cluster. cluster < clusters_of plan climb.level) (readers_left plan climb)
   pub known : walk.sub < cells.subs
-  pub each : (i : ℕ) → i < limit → PassesEntry plan walk level clusters i
-  pub empty : (i : ℕ) → i < limit → word_at plan cells (Entry level (slice_index clusters i) walk.sub) ≡ 0
+  pub each : (i : ℕ) → i < limit → PassesEntry plan walk climb i
+  pub empty : (i : ℕ) → i < limit
+      → word_at plan cells (Entry climb.level (slice_index (readers_left plan climb) i) walk.sub) ≡ 0
 
 -- the first ticket that a caller keeps
-first-kept : (plan : PlanData) (walk : WalkData) (old : Caller) (ticket count later : ℕ) → (count ≡ 0 → later ≡ ticket)
-    → unwrap_or (behind plan walk old ticket count).first later ≡ unwrap_or old.first ticket
-first-kept plan walk old ticket zero later same = ap (unwrap_or old.first) (same refl)
-first-kept plan walk old ticket (suc count) later same = refl
+first-kept : (walk : WalkData) (old : Caller) (ticket : ℕ) (climb : Climb) (count later : ℕ)
+    → (count ≡ 0 → later ≡ ticket)
+    → unwrap_or (behind walk old ticket climb count).first later ≡ unwrap_or old.first ticket
+first-kept walk old ticket climb zero later same = ap (unwrap_or old.first) (same refl)
+first-kept walk old ticket climb (suc count) later same = refl
 
-behind-more : (plan : PlanData) (walk : WalkData) (old : Caller) (ticket count : ℕ) (first : ℕ)
+behind-more : (walk : WalkData) (old : Caller) (ticket : ℕ) (climb next_climb : Climb) (count first : ℕ)
     → first ≡ unwrap_or old.first ticket
-    → behind plan walk old ticket (suc count)
-    ≡ record (behind plan walk old ticket count) {
-      walk = Some (walk_past plan walk (suc count));
-      first = Some first;
-    }
-behind-more plan walk old ticket zero first same =
-    ap (λ f. record old { walk = Some (walk_past plan walk 1); first = Some f }) (sym same)
-behind-more plan walk old ticket (suc count) first same =
-    ap (λ f. record old { walk = Some (walk_past plan walk (suc (suc count))); first = Some f }) (sym same)
+    → behind walk old ticket next_climb (suc count)
+    ≡ record (behind walk old ticket climb count) { walk = Some (walk_at walk next_climb); first = Some first }
+behind-more walk old ticket climb next_climb zero first same =
+    ap (λ f. record old { walk = Some (walk_at walk next_climb); first = Some f }) (sym same)
+behind-more walk old ticket climb next_climb (suc count) first same =
+    ap (λ f. record old { walk = Some (walk_at walk next_climb); first = Some f }) (sym same)
 
-behind-walk : (plan : PlanData) (walk : WalkData) (old : Caller) (ticket count : ℕ) → old.walk ≡ Some walk
-    → (behind plan walk old ticket count).walk ≡ Some (walk_past plan walk count)
-behind-walk plan walk old ticket zero held = held ∙ ap Some (sym (past-none plan walk))
-behind-walk plan walk old ticket (suc count) held = refl
+behind-walk : (walk : WalkData) (old : Caller) (ticket : ℕ) (climb : Climb) (count : ℕ)
+    → (behind walk old ticket climb count).walk ≡ Some (walk_at walk climb)
+behind-walk walk old ticket climb zero = refl
+behind-walk walk old ticket climb (suc count) = refl
+
+-- with no looks it is where it was
+pub behind-none : (walk : WalkData) (old : Caller) (ticket : ℕ) (climb : Climb) → old.walk ≡ Some walk
+    → IsClimbOf walk climb → behind walk old ticket climb 0 ≡ old
+behind-none walk old ticket climb held at =
+    ap (λ w. record old { walk = w }) (ap Some at.same ∙ sym held)
 
 -- no looks
 pub passed-none : (input : Contents) (plan : PlanData) (cells : CellData) (history : History) (actor : ℕ)
@@ -95,77 +103,82 @@ passed-one more input plan cells history actor new sees turned =
 
 -- a look more
 passed-more : TicketsGrow → CallersRead → CallerLinesGrow → CallersCount → MoreIsPlayed → (input : Contents)
-    (plan : PlanData) (cells : CellData) (history : History) (actor ticket : ℕ) (old : Caller) (walk : WalkData)
-    (level : ℕ) (clusters : List ℕ) (limit : ℕ) → length history ≡ ticket → old.walk ≡ Some walk
-    → Passes input plan cells actor walk level clusters limit → (count : ℕ) → count < limit
-    → HasPassed input plan cells history actor count (behind plan walk old ticket count)
-    → HasPassed input plan cells history actor (suc count) (behind plan walk old ticket (suc count))
-passed-more grow read lines counts more input plan cells history actor ticket old walk level clusters limit place held at
+    (plan : PlanData) (cells : CellData) (history : History) (actor ticket made : ℕ) (old : Caller) (walk : WalkData)
+    (climb : Climb) (limit : ℕ) → length history ≡ ticket
+    → Passes input plan cells actor walk climb limit → (count : ℕ) → count < limit
+    → HasPassed input plan cells history actor (made + count)
+    (behind walk old ticket (climb_past plan climb count) (made + count))
+    → HasPassed input plan cells history actor (suc (made + count))
+    (behind walk old ticket (climb_past plan climb (suc count)) (suc (made + count)))
+passed-more grow read lines counts more input plan cells history actor ticket made old walk climb limit place at
     count low passed =
+    let n : ℕ = made + count in
+    let here : Climb = climb_past plan climb count in
+    let there : Climb = climb_past plan climb (suc count) in
     let now : History = history ++ passed.visits in
-    let key : Key = Entry level (slice_index clusters count) walk.sub in
-    let entry : PassesEntry plan walk level clusters count = at.each count low in
+    let key : Key = Entry climb.level (slice_index (readers_left plan climb) count) walk.sub in
+    let entry : PassesEntry plan walk climb count = at.each count low in
     let is_cell : IsCell plan cells.subs key =
     record {
-      place = (at.ahead.low, at.ahead.inside count 0 (omega (arith, low, at.short)));
+      place = (at.over.progress.0, at.inside count 0 (omega (arith, low, at.left)));
       known = at.known;
     } in
     let reads : 0 ≡ cell (setting_over input plan) now key =
     sym (sym (passed.sees.hold.words key (subst (λ n. IsCell plan n key) passed.sees.hold.subs is_cell))
     ∙ at.empty count low) in
-    let seen = looks grow input plan now actor (behind plan walk old ticket count) (walk_past plan walk count)
-    (walk_past plan walk (suc count)) key 0 at.high passed.its (behind-walk plan walk old ticket count held) entry.key
+    let seen = looks grow input plan now actor (behind walk old ticket here n) (walk_at walk here)
+    (walk_at walk there) key 0 at.high passed.its (behind-walk walk old ticket here n) entry.key
     reads refl entry.stage in
-    let made : length passed.visits ≡ count =
-    sym (length-map passed.visits (λ (v : Visit). v.actor)) ∙ (ap length passed.actors ∙ length-replicate count actor) in
-    let tickets_at : count ≡ 0 → length now ≡ ticket =
-    λ none. omega (arith, none, made, place, length-append history passed.visits) in
+    let size : length passed.visits ≡ n =
+    sym (length-map passed.visits (λ (v : Visit). v.actor)) ∙ (ap length passed.actors ∙ length-replicate n actor) in
+    let tickets_at : n ≡ 0 → length now ≡ ticket =
+    λ none. omega (arith, none, size, place, length-append history passed.visits) in
     let turned = looked-on read lines counts input plan cells now actor (length now)
-    (behind plan walk old ticket count) (behind plan walk old ticket (suc count)) key (walk_past plan walk (suc count))
+    (behind walk old ticket here n) (behind walk old ticket there (suc n)) key (walk_at walk there)
     at.high passed.sees refl passed.its seen entry.over (sym entry.on)
-    (behind-more plan walk old ticket count (unwrap_or (behind plan walk old ticket count).first (length now))
-    (first-kept plan walk old ticket count (length now) tickets_at)) in
-    let caller : Caller = behind plan walk old ticket (suc count) in
-    let one : count + 1 ≡ suc count = omega arith in
-    subst (λ n. HasPassed input plan cells history actor n caller) one
-    (made-joined input plan cells cells history actor count 1 (λ later. IsCaller input plan later actor
-    (behind plan walk old ticket count)) (λ later. IsCaller input plan later actor caller) passed
+    (behind-more walk old ticket here there n (unwrap_or (behind walk old ticket here n).first (length now))
+    (first-kept walk old ticket here n (length now) tickets_at)) in
+    let caller : Caller = behind walk old ticket there (suc n) in
+    let one : n + 1 ≡ suc n = omega arith in
+    subst (λ m. HasPassed input plan cells history actor m caller) one
+    (made-joined input plan cells cells history actor n 1 (λ later. IsCaller input plan later actor
+    (behind walk old ticket here n)) (λ later. IsCaller input plan later actor caller) passed
     (passed-one more input plan cells now actor caller passed.sees turned))
 
 -- all of them
-passed-all : TicketsGrow → CallersRead → CallerLinesGrow → CallersCount → MoreIsPlayed → (input : Contents)
-    (plan : PlanData) (cells : CellData) (history : History) (actor ticket : ℕ) (old : Caller) (walk : WalkData)
-    (level : ℕ) (clusters : List ℕ) (limit : ℕ) → length history ≡ ticket → old.walk ≡ Some walk
-    → Passes input plan cells actor walk level clusters limit → Sees input plan cells history
-    → IsCaller input plan history actor old → (count : ℕ) → count ≤ limit
-    → HasPassed input plan cells history actor count (behind plan walk old ticket count)
-passed-all grow read lines counts more input plan cells history actor ticket old walk level clusters limit place held at
-    sees its zero low = passed-none input plan cells history actor old sees its
-passed-all grow read lines counts more input plan cells history actor ticket old walk level clusters limit place held at
-    sees its (suc count) low =
-    passed-more grow read lines counts more input plan cells history actor ticket old walk level clusters limit place
-    held at count (omega (arith, low))
-    (passed-all grow read lines counts more input plan cells history actor ticket old walk level clusters limit place
-    held at sees its count (omega (arith, low)))
+pub passed-level : TicketsGrow → CallersRead → CallerLinesGrow → CallersCount → MoreIsPlayed → (input : Contents)
+    (plan : PlanData) (cells : CellData) (history : History) (actor ticket made : ℕ) (old : Caller) (walk : WalkData)
+    (climb : Climb) (limit : ℕ) → length history ≡ ticket
+    → Passes input plan cells actor walk climb limit
+    → HasPassed input plan cells history actor made (behind walk old ticket climb made)
+    → (count : ℕ) → count ≤ limit
+    → HasPassed input plan cells history actor (made + count)
+    (behind walk old ticket (climb_past plan climb count) (made + count))
+passed-level grow read lines counts more input plan cells history actor ticket made old walk climb limit place at
+    passed zero low =
+    let none : made ≡ made + 0 = omega arith in
+    subst (λ n. HasPassed input plan cells history actor n
+    (behind walk old ticket (climb_past plan climb 0) n)) none
+    (subst (λ c. HasPassed input plan cells history actor made (behind walk old ticket c made))
+    (sym (past-none plan climb at.over)) passed)
+passed-level grow read lines counts more input plan cells history actor ticket made old walk climb limit place at
+    passed (suc count) low =
+    let one : suc (made + count) ≡ made + suc count = omega arith in
+    subst (λ n. HasPassed input plan cells history actor n
+    (behind walk old ticket (climb_past plan climb (suc count)) n)) one
+    (passed-more grow read lines counts more input plan cells history actor ticket made old walk climb limit place at
+    count (omega (arith, low))
+    (passed-level grow read lines counts more input plan cells history actor ticket made old walk climb limit place at
+    passed count (omega (arith, low))))
 
 -- and where there are some, the caller keeps a walk and a first ticket
-pub passed-some : TicketsGrow → CallersRead → CallerLinesGrow → CallersCount → MoreIsPlayed → (input : Contents)
-    (plan : PlanData) (cells : CellData) (history : History) (actor ticket : ℕ) (old : Caller) (walk after : WalkData)
-    (level : ℕ) (clusters : List ℕ) (count first : ℕ) → length history ≡ ticket → old.walk ≡ Some walk
-    → Passes input plan cells actor walk level clusters count → Sees input plan cells history
-    → IsCaller input plan history actor old → 0 < count → after ≡ walk_past plan walk count
-    → first ≡ unwrap_or old.first ticket
-    → HasPassed input plan cells history actor count (record old { walk = Some after; first = Some first })
-passed-some grow read lines counts more input plan cells history actor ticket old walk after level clusters zero first
-    place held at sees its some same kept = absurd (omega (arith, some))
-passed-some grow read lines counts more input plan cells history actor ticket old walk after level clusters (suc count)
-    first place held at sees its some same kept =
-    subst (λ w. HasPassed input plan cells history actor (suc count) (record old { walk = Some w; first = Some first }))
-    (sym same)
-    (subst (λ f. HasPassed input plan cells history actor (suc count)
-    (record old { walk = Some (walk_past plan walk (suc count)); first = Some f })) (sym kept)
-    (passed-all grow read lines counts more input plan cells history actor ticket old walk level clusters (suc count)
-    place held at sees its (suc count) (omega arith)))
+pub behind-some : (walk after : WalkData) (old : Caller) (ticket : ℕ) (climb : Climb) (count first : ℕ) → 0 < count
+    → after ≡ walk_at walk climb → first ≡ unwrap_or old.first ticket
+    → behind walk old ticket climb count ≡ record old { walk = Some after; first = Some first }
+behind-some walk after old ticket climb zero first some same kept = absurd (omega (arith, some))
+behind-some walk after old ticket climb (suc count) first some same kept =
+    ap (λ w. record old { walk = Some w; first = Some (unwrap_or old.first ticket) }) (sym same)
+    ∙ ap (λ f. record old { walk = Some after; first = Some f }) (sym kept)
 
 -- no answer
 pub none-of : {A : Type 0} (answer : Option A) → is_some answer ≡ false → None ≡ answer
@@ -185,36 +198,32 @@ may-look input plan cells ticket actor count old mid may then =
       made.its,
     )
 
--- looks at once, and one more
+-- looks, and one more
 pub looked-through : MoreIsPlayed → (input : Contents) (plan : PlanData) (cells : CellData) (history : History)
-    (ticket actor count passed : ℕ) (mid far new : Caller) → length history ≡ ticket
-    → HasPassed input plan cells history actor count mid
-    → MakesLooks input plan cells (ticket + count) actor passed mid far
-    → Looks input plan cells (ticket + count + passed) actor far new Visited
-    → HasPassed input plan cells history actor (count + passed + 1) new
-looked-through more input plan cells history ticket actor count passed mid far new place first then last =
+    (ticket actor count : ℕ) (far new : Caller) → length history ≡ ticket
+    → HasPassed input plan cells history actor count far
+    → Looks input plan cells (ticket + count) actor far new Visited
+    → HasPassed input plan cells history actor (count + 1) new
+looked-through more input plan cells history ticket actor count far new place all last =
     let Far : History → Type 0 = λ later. IsCaller input plan later actor far in
-    let all = passed-behind input plan cells history ticket actor count passed mid far place first then in
-    made-joined input plan cells cells history actor (count + passed) 1 Far
+    made-joined input plan cells cells history actor count 1 Far
     (λ later. IsCaller input plan later actor new) all
     (passed-one more input plan cells (history ++ all.visits) actor new all.sees
-    (last (history ++ all.visits) all.sees (made-count input plan cells history actor (count + passed) Far all
-    ∙ omega (arith, place)) all.its))
+    (last (history ++ all.visits) all.sees (made-count input plan cells history actor count Far all
+    ∙ ap (λ n. n + count) place) all.its))
 
--- looks at once, behind which none is left
+-- looks behind which none is left
 pub looks-ended : (input : Contents) (plan : PlanData) (cells : CellData) (history : History)
-    (ticket actor count passed most : ℕ) (mid far new : Caller) → length history ≡ ticket
-    → HasPassed input plan cells history actor count mid
-    → MakesLooks input plan cells (ticket + count) actor passed mid far
-    → Looks input plan cells (ticket + count + passed) actor far new Finished
-    → (made : HasPassed input plan cells history actor (count + passed) new)
-    × (count + passed < most
+    (ticket actor count most : ℕ) (far new : Caller) → length history ≡ ticket
+    → HasPassed input plan cells history actor count far
+    → Looks input plan cells (ticket + count) actor far new Finished
+    → (made : HasPassed input plan cells history actor count new)
+    × (count < most
     → next (setting_over input plan) (scripts_of input) (history ++ made.visits) actor ≡ None)
-looks-ended input plan cells history ticket actor count passed most mid far new place first then last =
+looks-ended input plan cells history ticket actor count most far new place all last =
     let Far : History → Type 0 = λ later. IsCaller input plan later actor far in
-    let all = passed-behind input plan cells history ticket actor count passed mid far place first then in
-    let done = last (history ++ all.visits) all.sees (made-count input plan cells history actor (count + passed) Far all
-    ∙ omega (arith, place)) all.its in (
+    let done = last (history ++ all.visits) all.sees (made-count input plan cells history actor count Far all
+    ∙ ap (λ n. n + count) place) all.its in (
       record {
         visits = all.visits;
         turns = all.turns;
@@ -224,3 +233,11 @@ looks-ended input plan cells history ticket actor count passed most mid far new 
       },
       λ fewer. done.0,
     )
+
+-- looks behind looks
+pub looks-more : (input : Contents) (plan : PlanData) (cells : CellData) (ticket actor count more : ℕ)
+    (old mid new : Caller) → MakesLooks input plan cells ticket actor count old mid
+    → MakesLooks input plan cells (ticket + count) actor more mid new
+    → MakesLooks input plan cells ticket actor (count + more) old new
+looks-more input plan cells ticket actor count more old mid new first then = λ history sees place its.
+    passed-behind input plan cells history ticket actor count more mid new place (first history sees place its) then

@@ -3,7 +3,7 @@
 -- visit so far as its last, and 0 as its commit before that comes.
 -- Key law: `Subscriber::write`, by its clause (so many turns make the subscriber's next visits, or
 -- none is left).
-use Rattle.std.specs.Prelude.{◌≡◌, ℕ, suc, ◌-◌, ◌<◌, ◌≤◌, ◌^◌, ◌≢◌, Bool, true, false, if◌then◌else◌, List, [], ◌∷◌, ◌++◌, Some, None, length, slice_get, take, vec_capacity}
+use Rattle.std.specs.Prelude.{◌≡◌, ℕ, zero, suc, ◌-◌, ◌<◌, ◌≤◌, ◌^◌, ◌≢◌, Bool, true, false, if◌then◌else◌, List, [], ◌∷◌, ◌++◌, Some, None, length, slice_get, take, vec_capacity}
 use Rattle.entry_word.specs.declared.visit.Visit.{Visit}
 use Rattle.directory.specs.Settings.{start}
 use Rattle.directory.specs.Courses.{Step, course_at}
@@ -20,7 +20,7 @@ use Rattle.region_plan.specs.Plan.{PlanData, nodes_of}
 use Rattle.region_plan.specs.Settings.{setting_of}
 use Rattle.handset.specs.Kept.{GoesWith, HandsetData}
 use Rattle.handset.specs.Progress.{due}
-use Rattle.handset.specs.Stands.{StandsForSteps}
+use Rattle.handset.specs.Stands.{StandsForSteps, is_commit}
 use Rattle.visit_log.specs.Cells.{CellData, GoWith, Hold}
 use Rattle.machine.specs.declared.subscriber.Subscriber.{Subscriber}
 use Rattle.machine.specs.declared.turn.Turn.{Turn}
@@ -99,6 +99,22 @@ pub record HasPut (plan : PlanData) (old new : HandsetData) (cells after : CellD
   pub hold : (starts : List ℕ) (history : History) → Hold plan starts cells history
       → Hold plan starts after (history ++ visit ∷ [])
 
+-- and the write doesn't commit a move
+pub record HasPutEntry (plan : PlanData) (old new : HandsetData) (cells after : CellData) : Type 0
+  where
+    pub put : HasPut plan old new cells after
+    pub plain : is_commit put.visit.act ≡ false
+    pub goes : GoesWith plan new
+    pub its : new.sub ≡ old.sub
+    pub over : GoWith plan after
+
+-- a handset has made so many such writes, one behind the other, and cells hold them
+abbrev pub HavePut : PlanData → HandsetData → CellData → ℕ → HandsetData → CellData → Type 0
+HavePut plan old cells zero new after = (new ≡ old) × (after ≡ cells)
+HavePut plan old cells (suc count) new after =
+    (handset : HandsetData) × (between : CellData) × HavePut plan old cells count handset between
+    × HasPutEntry plan handset new between after
+
 -- a turn makes its next visit, or none is left and nothing changes
 abbrev pub HasWritten : Contents → PlanData → History → ℕ → Subscriber → Subscriber → CellData
     → CellData → Turn → Type 0
@@ -124,6 +140,14 @@ TakesTurn input plan ticket sub old new cells after turn =
     (history : History) → Sees input plan cells history → length history ≡ ticket
     → IsSubscriber input plan history sub old
     → HasWritten input plan history sub old new cells after turn
+
+-- it makes the visits of so many turns, whichever history that is
+abbrev pub MakesTurns : Contents → PlanData → ℕ → ℕ → Subscriber → Subscriber → CellData → CellData
+    → ℕ → Type 0
+MakesTurns input plan ticket sub old new cells after count =
+    (history : History) → Sees input plan cells history → length history ≡ ticket
+    → IsSubscriber input plan history sub old
+    → AreMade input plan after history sub count (λ later. IsSubscriber input plan later sub new)
 
 -- it takes so many turns of those that it may, whichever history that is, and where these are fewer
 -- it has none left

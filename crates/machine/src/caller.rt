@@ -1,18 +1,18 @@
 //! A caller: its finds, one after another.
-ghost use Rattle.std.specs.Prelude.{◌≡◌, ◌≤◌, ◌<◌, ◌+◌, ◌^◌, ◌++◌, ◌∷◌, [], ℕ, All, IfOk, drop, length, map, vec_capacity};
+ghost use Rattle.std.specs.Prelude.{◌≡◌, ◌≤◌, ◌<◌, ◌+◌, ◌^◌, ◌++◌, ◌∷◌, [], ℕ, All, IfOk, drop, length, map, slice_index, vec_capacity};
+ghost use Rattle.entry_word.specs.declared.visit.Key.TheVariants.{Entry};
 ghost use Rattle.directory.specs.Histories.{History};
 ghost use Rattle.directory.specs.Finds.{at_origin};
 ghost use Rattle.directory.specs.Outcomes.{found_line};
 ghost use Rattle.net_reader.specs.Seen.{seen_input};
 ghost use Rattle.net_reader.specs.Valid.{IsSearch};
-ghost use Rattle.region_plan.specs.Plan.{nodes_of};
+ghost use Rattle.region_plan.specs.Plan.{clusters_of, levels_of, nodes_of};
 ghost use Rattle.scripts.specs.Scripts.{find_of};
 ghost use Rattle.machine.specs.Stands.{BelongTogether, IsWalking, Sees};
 ghost use Rattle.machine.specs.Callers.{HasLooked, IsCaller, Looks, MakesLooks, MayLook, TakesLooks};
-ghost use Rattle.directory.specs.Finds.{after_word};
-ghost use Rattle.region_plan.specs.Matched.{IsMatched, IsWithinReach};
-ghost use Rattle.region_plan.specs.Settings.{setting_of};
-ghost use Rattle.walk.specs.Walks.{IsWalkOver, IsWordBelow, call_of, stage_of};
+ghost use Rattle.region_plan.specs.Matched.{IsMatched};
+ghost use Rattle.visit_log.specs.Cells.{GoWith, word_at};
+ghost use Rattle.walk.specs.Climbs.{IsClimbOver, readers_left};
 
 use crate::turn::Turn;
 use directory::{Done, Found, each_visit_is_next, every_order_is_legal, lines_grow, own_after};
@@ -23,7 +23,7 @@ use scripts::scripts_are_valid;
 use std::alloc::{AllocError, Global};
 use trail_laws::{entries_tell, marks_tell};
 use visit_log::PlainCells;
-use walk::Walk;
+use walk::{Climb, Walk};
 
 /// A caller: the walk of the find that it is at, if one is left, the ticket of that find's first
 /// look, and the lines of the finds that are done.
@@ -51,8 +51,9 @@ impl Caller {
         })
     }
 
-    // The next looks, at most so many, and how many there were.
-    pub fn look(
+    // The next looks, at most so many, and how many there were. A turn alone has its own copy of
+    // the code, which has no loops.
+    pub fn look<const ALONE: bool>(
         &mut self,
         actor: u32,
         input: &Input,
@@ -76,9 +77,11 @@ impl Caller {
         let mut made = 0;
         'looks: while made < most {
             let at = ticket + made as u64;
-            let passed = self.pass(actor, input, plan, distances, cells, at, most - made - 1);
-            made += passed;
-            let at = at + passed as u64;
+            made += self.pass::<ALONE>(actor, input, plan, distances, cells, at, most - made);
+            if made == most {
+                return made;
+            }
+            let at = ticket + made as u64;
             match self.look_one(actor, input, plan, distances, cells, at) {
                 Turn::Visited => made += 1,
                 Turn::Finished => return made,
@@ -117,7 +120,7 @@ impl Caller {
         let Some(key) = walk.next(plan) else {
             unreachable!()
         };
-        see(walk, plan, distances, cells.look(plan, key));
+        walk.saw(plan, distances, cells.look(plan, key));
         let first = self.first.unwrap_or(ticket);
         let Some(found) = walk.answer() else {
             self.first = Some(first);
@@ -134,8 +137,8 @@ impl Caller {
     }
 
     // The looks at entries that hold nothing, at most so many, and how many there were. The last
-    // look at a level is no such look.
-    fn pass(
+    // look at the top level is no such look.
+    fn pass<const ALONE: bool>(
         &mut self,
         actor: u32,
         input: &Input,
@@ -158,42 +161,61 @@ impl Caller {
         each_visit_is_next();
         lines_grow();
         own_after();
-        if most == 0 {
-            return 0;
-        }
         let Some(walk) = &mut self.walk else {
             return 0;
         };
-        let Some((level, clusters)) = walk.ahead(plan) else {
+        let Some(mut climb) = walk.climb() else {
             return 0;
         };
-        let reach = most.min(clusters.len() - 1);
-        let count = cells.count_empty(plan, level, walk.sub(), &clusters[..reach]);
-        if count > 0 {
-            walk.pass(plan, count);
+        let mut made = 0;
+        'levels: while made < most {
+            let count = count_ahead::<ALONE>(plan, cells, walk.sub(), climb, most - made);
+            if count == 0 {
+                break;
+            }
+            climb = climb.past(plan, count);
+            made += count;
+        }
+        if made > 0 {
+            walk.resume(climb);
             self.first = Some(self.first.unwrap_or(ticket));
         }
-        count
+        made
     }
 }
 
-// A walk goes on by the word that it has looked at.
-fn see(walk: &mut Walk, plan: &Plan, distances: &Distances, word: u64)
-    requires goes { IsWalkOver plan.now walk.old }
-    requires belongs { plan.now.distances ≡ distances.now }
+// How many entries ahead of a climb at its level hold nothing, at most so many. The last one at the
+// top level isn't counted.
+fn count_ahead<const ALONE: bool>(
+    plan: &Plan,
+    cells: &PlainCells,
+    sub: u32,
+    climb: Climb,
+    most: usize,
+) -> usize
+    requires goes { GoWith plan.now cells.now }
+    requires over { IsClimbOver plan.now climb }
     requires matched { IsMatched plan.now }
-    requires reached { IsWithinReach plan.now }
-    requires word { IsWordBelow (nodes_of plan.now) walk.old.progress word }
-    ensures stage { stage_of plan.now walk.new ≡ after_word (setting_of plan.now [])
-        (call_of walk.old) (stage_of plan.now walk.old) word }
-    ensures call { call_of walk.new ≡ call_of walk.old }
-    ensures goes { IsWalkOver plan.now walk.new }
+    requires known { sub < cells.now.subs }
+    ensures few { result ≤ most }
+    ensures left { result ≤ length (readers_left plan.now climb) }
+    ensures above { result ≡ length (readers_left plan.now climb)
+        → climb.level + 1 < levels_of plan.now }
+    ensures clusters { All (λ cluster. cluster < clusters_of plan.now climb.level)
+        (readers_left plan.now climb) }
+    ensures empty { (i : ℕ) → i < result → word_at plan.now cells.now
+        (Entry climb.level (slice_index (readers_left plan.now climb) i) sub) ≡ 0 }
 {
-    if word == 0 && walk.is_climbing() {
-        walk.saw_nothing(plan);
+    // The call tells the proof that there is a level.
+    let _nodes = plan.nodes();
+    let top = plan.levels() - 1;
+    let clusters = climb.readers(plan);
+    let left = if climb.level < top {
+        clusters.len()
     } else {
-        walk.saw(plan, distances, word);
-    }
+        clusters.len() - 1
+    };
+    cells.count_empty(plan, climb.level, sub, &clusters[..left.min(most)])
 }
 
 // The walk of the find at a place of a script, if there is one.

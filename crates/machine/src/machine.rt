@@ -91,7 +91,7 @@ impl<'a> Machine<'a> {
             (after_turn (setting_at self.old) (scripts_at self.old) history actor) }
         ensures same { IsSame self.old self.new }
     {
-        if self.stride(actor, 1) == 0 {
+        if self.stride::<true>(actor, 1) == 0 {
             Turn::Finished
         } else {
             Turn::Visited
@@ -110,9 +110,12 @@ impl<'a> Machine<'a> {
             (replicate count actor)) ≡ length history + result }
         ensures same { IsSame self.old self.new }
     {
+        if count == 1 {
+            return self.stride::<true>(actor, 1);
+        }
         let mut left = count;
         'turns: while left > 0 {
-            let made = self.stride(actor, left);
+            let made = self.stride::<false>(actor, left);
             if made == 0 {
                 return count - left;
             }
@@ -201,11 +204,11 @@ impl<'a> Machine<'a> {
     {
         turns_are_few();
         visits_are_few();
-        'turns: while self.stride(actor, usize::MAX) > 0 {}
+        'turns: while self.stride::<false>(actor, usize::MAX) > 0 {}
     }
 
     // The next visits of an actor that are made at once, at most so many, and how many there were.
-    fn stride(&mut self, actor: u32, most: usize) -> usize
+    fn stride<const ALONE: bool>(&mut self, actor: u32, most: usize) -> usize
         requires stands { (history : History) × HasHistory self.old history }
         requires some { 1 ≤ most }
         ensures few { result ≤ most }
@@ -214,16 +217,16 @@ impl<'a> Machine<'a> {
         ensures same { IsSame self.old self.new }
     {
         if (actor as usize) < self.subscribers.len() {
-            return self.write(actor, most);
+            return self.write::<ALONE>(actor, most);
         }
         if self.input.scripts.len() <= actor as usize {
             return 0;
         }
-        self.look(actor, most)
+        self.look::<ALONE>(actor, most)
     }
 
     // A subscriber's next visits, at most so many, and how many there were.
-    fn write(&mut self, actor: u32, most: usize) -> usize
+    fn write<const ALONE: bool>(&mut self, actor: u32, most: usize) -> usize
         requires stands { (history : History) × HasHistory self.old history }
         requires known { actor < length self.old.input.now.homes.items }
         requires some { 1 ≤ most }
@@ -238,7 +241,7 @@ impl<'a> Machine<'a> {
         visits_are_few();
         let ticket = self.order.len() as u64;
         let reach = room_for(&self.order, most);
-        let count = self.subscribers[actor as usize].write(
+        let count = self.subscribers[actor as usize].write::<ALONE>(
             actor,
             self.input,
             self.plan,
@@ -252,7 +255,7 @@ impl<'a> Machine<'a> {
     }
 
     // A caller's next looks, at most so many, and how many there were.
-    fn look(&mut self, actor: u32, most: usize) -> usize
+    fn look<const ALONE: bool>(&mut self, actor: u32, most: usize) -> usize
         requires stands { (history : History) × HasHistory self.old history }
         requires high { length self.old.input.now.homes.items ≤ actor }
         requires known { actor < length self.old.input.now.scripts.items }
@@ -269,7 +272,7 @@ impl<'a> Machine<'a> {
         let ticket = self.order.len() as u64;
         let reach = room_for(&self.order, most);
         let place = actor as usize - self.subscribers.len();
-        let count = self.callers[place].look(
+        let count = self.callers[place].look::<ALONE>(
             actor,
             self.input,
             self.plan,

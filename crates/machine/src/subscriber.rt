@@ -14,7 +14,7 @@ ghost use Rattle.handset.specs.Stands.{StandsForSteps, switch_to};
 ghost use Rattle.visit_log.specs.Cells.{HasHomes, GoWith, Hold};
 ghost use Rattle.scripts.specs.Scripts.{step_of};
 ghost use Rattle.machine.specs.Stands.{BelongTogether};
-ghost use Rattle.machine.specs.Subscribers.{HasPut, MayBegin, begun_line, line_after, MayTakeTurn, TakesTurn, TakesTurns};
+ghost use Rattle.machine.specs.Subscribers.{HavePut, MakesTurns, MayBegin, begun_line, line_after, MayTakeTurn, TakesTurn, TakesTurns};
 
 use crate::turn::Turn;
 use directory::{Done, each_visit_is_next, next_is_own, own_after, tickets_tell};
@@ -58,8 +58,9 @@ impl Subscriber {
         })
     }
 
-    // The next visits, at most so many, and how many there were.
-    pub fn write(
+    // The next visits, at most so many, and how many there were. A turn alone has its own copy of
+    // the code, which has no loops.
+    pub fn write<const ALONE: bool>(
         &mut self,
         sub: u32,
         input: &Input,
@@ -84,10 +85,59 @@ impl Subscriber {
         let mut made = 0;
         'writes: while made < most {
             let at = ticket + made as u64;
+            made += self.write_entries::<ALONE>(
+                sub,
+                input,
+                plan,
+                distances,
+                cells,
+                at,
+                most - made,
+            );
+            if made == most {
+                return made;
+            }
+            let at = ticket + made as u64;
             match self.write_one(sub, input, plan, distances, cells, at) {
                 Turn::Visited => made += 1,
                 Turn::Finished => return made,
             }
+        }
+        made
+    }
+
+    // The writes of entries that come next, at most so many, and how many there were. One that has
+    // no other of its kind behind it is none of them.
+    fn write_entries<const ALONE: bool>(
+        &mut self,
+        sub: u32,
+        input: &Input,
+        plan: &Plan,
+        distances: &Distances,
+        cells: &mut PlainCells,
+        ticket: u64,
+        most: usize,
+    ) -> usize
+        requires together { BelongTogether (seen_input input.now) plan.now distances.now }
+        requires low { sub < length input.now.homes.items }
+        requires stands { MayTakeTurn (seen_input input.now) plan.now cells.old ticket sub
+            self.old }
+        requires fits { ticket + most < 2 ^ 64 }
+        ensures few { result ≤ most }
+        ensures made { MakesTurns (seen_input input.now) plan.now ticket sub self.old self.new
+            cells.old cells.new result }
+        ensures still { result ≡ 0 → cells.new ≡ cells.old }
+    {
+        own_after();
+        tickets_tell();
+        mark_words();
+        scripts_are_valid();
+        each_visit_is_next();
+        next_is_own();
+        let made = make_entries::<ALONE>(&mut self.handset, plan, cells, most);
+        if made > 0 {
+            let last = self.lines.len() - 1;
+            go_on(&mut self.lines[last], false, ticket + made as u64 - 1);
         }
         made
     }
@@ -114,11 +164,6 @@ impl Subscriber {
         mark_words();
         scripts_are_valid();
         let commits = self.handset.commits();
-        if make_entry(&mut self.handset, plan, cells) {
-            let last = self.lines.len() - 1;
-            go_on(&mut self.lines[last], commits, ticket);
-            return Turn::Visited;
-        }
         let Some(_visit) = make(&mut self.handset, plan, cells) else {
             return self.begin(sub, input, plan, distances, cells, ticket);
         };
@@ -164,35 +209,47 @@ impl Subscriber {
     }
 }
 
-// Makes the write that comes next, if it is one of an entry that has a short way.
-fn make_entry(handset: &mut Handset, plan: &Plan, cells: &mut PlainCells) -> bool
+// Makes the writes of entries that come next, at most so many, while each has another of its kind
+// behind it.
+fn make_entries<const ALONE: bool>(
+    handset: &mut Handset,
+    plan: &Plan,
+    cells: &mut PlainCells,
+    most: usize,
+) -> usize
     requires goes { GoesWith plan.now handset.old }
     requires cells { GoWith plan.now cells.old }
     requires homes { HasHomes plan.now }
     requires known { handset.old.sub < cells.old.subs }
-    ensures made { result ≡ true
-        → HasPut plan.now handset.old handset.new cells.old cells.new }
-    ensures rests { result ≡ false → (handset.new ≡ handset.old) × (cells.new ≡ cells.old) }
-    ensures goes { GoesWith plan.now handset.new }
-    ensures its { handset.new.sub ≡ handset.old.sub }
-    ensures cells { GoWith plan.now cells.new }
+    ensures few { result ≤ most }
+    ensures made { HavePut plan.now handset.old cells.old result handset.new cells.new }
 {
+    let Some(mut at) = handset.entry_stage() else {
+        return 0;
+    };
     let sub = handset.sub();
-    let Some(write) = handset.write_entry(plan) else {
-        return false;
-    };
-    let EntryWrite {
-        level,
-        cluster,
-        word,
-    } = write;
-    let key = Key::Entry {
-        level,
-        cluster,
-        sub,
-    };
-    cells.put(plan, key, word);
-    true
+    let mut made = 0;
+    'entries: while made < most {
+        let Some(write) = handset.entry_write(plan, at) else {
+            break;
+        };
+        let EntryWrite {
+            level,
+            cluster,
+            word,
+            next,
+        } = write;
+        let key = Key::Entry {
+            level,
+            cluster,
+            sub,
+        };
+        cells.put(plan, key, word);
+        at = next;
+        made += 1;
+    }
+    handset.go_to(at);
+    made
 }
 
 // Makes the write that comes next, if one is left.

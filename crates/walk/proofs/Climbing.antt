@@ -1,18 +1,20 @@
 -- The climb past entries that hold nothing: how heavy it is, which entries it passes, and what it leaves.
-use Rattle.std.proofs.Common.{◌≡◌, ℕ, zero, suc, ◌+◌, ◌-◌, ◌*◌, ◌^◌, ◌<◌, ◌≤◌, List, [], ◌∷◌, ◌++◌, length, drop, refl, sym, ap, ◌∙◌, subst, arith, append_assoc, Option}
+use Rattle.std.proofs.Common.{◌≡◌, ℕ, zero, suc, ◌+◌, ◌-◌, ◌*◌, ◌^◌, ◌<◌, ◌≤◌, List, [], ◌∷◌, ◌++◌, length, drop, refl, sym, ap, ◌∙◌, subst, arith, append_assoc, All, inl, inr}
 use Rattle.std.specs.Prelude.{Some, None, get_or, replicate}
+use Rattle.std.proofs.lemmas.Bool.{cases_lt, le-ltb, lt-ltb}
 use Rattle.std.proofs.lemmas.List.{append-nil, length-drop, get_or-drop, get_or_default}
 use Rattle.entry_word.specs.declared.visit.Key.TheVariants.{Entry}
-use Rattle.directory.specs.Finds.{after_word, answer_of, key_of}
+use Rattle.directory.specs.Finds.{FindCall, after_word, climb as climb_stage, key_of}
 use Rattle.region_plan.specs.Plan.{PlanData, clusters_of, levels_of, nodes_of, readers}
 use Rattle.region_plan.specs.Kept.{IsKept}
 use Rattle.region_plan.specs.Matched.{IsMatched, IsWithinReach}
 use Rattle.region_plan.specs.Settings.{setting_of}
+use Rattle.walk.specs.declared.progress.Climb.{Climb}
 use Rattle.walk.specs.declared.progress.Progress.TheVariants.{Climbing}
-use Rattle.walk.specs.Climbs.{IsAhead, PassesEntry, past-none, progress_past, walk_past, weight_past}
-use Rattle.walk.specs.ReaderLaws.{climb-here, reader-held}
-use Rattle.walk.specs.Walks.{IsProgressWithin, IsWalkOver, StandsForWords, WalkData, call_of, readers_above, stage_at, stage_of}
-use Rattle.walk.proofs.Readers.{find-more, way-light, word-climbing}
+use Rattle.walk.specs.Climbs.{IsClimbOver, PassesEntry, climb_past, climb_weight, past-none, progress_of, readers_left, walk-over, walk_at, weight_past}
+use Rattle.walk.specs.ReaderLaws.{reader-held}
+use Rattle.walk.specs.Walks.{IsWalkOver, StandsForWords, WalkData, call_of, readers_above, readers_at, stage_at, stage_of}
+use Rattle.walk.proofs.Readers.{above-more, answer-climbing, find-more, next-climbing, readers-few, readers-some, readers-spent, way-light, word-climbing}
 
 -- a climb is as light as its place says
 pub past-light : (plan : PlanData) (from level index weight : ℕ) → IsKept plan → IsMatched plan → IsWithinReach plan
@@ -28,119 +30,194 @@ past-light plan from level index weight kept matched reached low known light (su
       way-light plan level (get_or (readers plan level from) (index + count) 0) from kept reached low held.1 held.0,
     )
 
--- the readers that are left
-left-count : (plan : PlanData) (walk : WalkData) (level : ℕ) (clusters : List ℕ) (count : ℕ)
-    (ahead : IsAhead plan walk level clusters) → count < length clusters
-    → ahead.index + count < length (readers plan level walk.from)
-left-count plan walk level clusters count ahead short =
-    omega (arith, short, ap length ahead.are, length-drop ahead.index (readers plan level walk.from))
+-- it may pass so many entries
+pub record MayPass (plan : PlanData) (climb : Climb) (count : ℕ) : Type 0 where
+  pub left : climb.index + count ≤ length (readers plan climb.level climb.from)
+  pub above : climb.index + count ≡ length (readers plan climb.level climb.from) → suc climb.level < levels_of plan
 
--- a walk past some entries goes with its plan
-pub past-over : (plan : PlanData) (walk : WalkData) (level : ℕ) (clusters : List ℕ) (count : ℕ) → IsKept plan
-    → IsMatched plan → IsWithinReach plan → IsWalkOver plan walk → IsAhead plan walk level clusters
-    → count < length clusters → IsWalkOver plan (walk_past plan walk count)
-past-over plan walk level clusters count kept matched reached over ahead short =
-    let within = subst (IsProgressWithin plan walk.from) ahead.climbs over.progress in
-    let inside_it = left-count plan walk level clusters count ahead short in
-    subst (λ p. IsWalkOver plan (record walk { progress = progress_past plan walk.from p count })) (sym ahead.climbs)
-    (record {
-      from = over.from;
-      progress = (
-        within.0,
-        inside_it,
-        past-light plan walk.from level ahead.index ahead.weight kept matched reached within.0 over.from within.2 count
-            (omega (arith, inside_it)),
-      );
-    })
-
--- where it looks next
-past-key : (plan : PlanData) (walk : WalkData) (level : ℕ) (clusters : List ℕ) (count : ℕ)
-    → IsAhead plan walk level clusters → count < length clusters
-    → key_of (call_of walk) (stage_of plan (walk_past plan walk count))
-    ≡ Some (Entry level (get_or clusters count 0) walk.sub)
-past-key plan walk level clusters count ahead short =
-    ap (λ p. key_of (call_of walk) (stage_at (setting_of plan []) walk.from (progress_past plan walk.from p count)))
-    ahead.climbs
-    ∙ (ap (key_of (call_of walk)) (climb-here (setting_of plan []) walk.from ahead.known
-    (weight_past plan walk.from level ahead.index ahead.weight count) level (ahead.index + count)
-    (readers_above (setting_of plan []) walk.from (suc level)) (left-count plan walk level clusters count ahead short))
-    ∙ ap (λ c. Some (Entry level c walk.sub)) (sym (get_or-drop ahead.index (readers plan level walk.from) count 0)
-    ∙ ap (λ cs. get_or cs count 0) (sym ahead.are)))
-
--- what a word there leaves that holds nothing
-past-stage : (plan : PlanData) (walk : WalkData) (level : ℕ) (clusters : List ℕ) (count : ℕ)
-    → IsAhead plan walk level clusters → count < length clusters
-    → stage_of plan (walk_past plan walk (suc count))
-    ≡ after_word (setting_of plan []) (call_of walk) (stage_of plan (walk_past plan walk count)) 0
-past-stage plan walk level clusters count ahead short =
-    let weight = weight_past plan walk.from level ahead.index ahead.weight in
-    let next : ahead.index + suc count ≡ suc (ahead.index + count) = omega arith in
-    ap (λ p. stage_at (setting_of plan []) walk.from (progress_past plan walk.from p (suc count))) ahead.climbs
-    ∙ (ap (λ i. stage_at (setting_of plan []) walk.from (Climbing ahead.known (weight (suc count)) level i)) next
-    ∙ sym (ap (λ p. after_word (setting_of plan []) (call_of walk)
-    (stage_at (setting_of plan []) walk.from (progress_past plan walk.from p count)) 0) ahead.climbs
-    ∙ word-climbing plan walk.from walk.sub ahead.known (weight count) level (ahead.index + count) 0 None
-    (left-count plan walk level clusters count ahead short) refl))
-
--- it has no answer as long as a reader is left
-past-on : (plan : PlanData) (walk : WalkData) (level : ℕ) (clusters : List ℕ) (count : ℕ)
-    → IsAhead plan walk level clusters → count < length clusters
-    → answer_of (stage_of plan (walk_past plan walk count)) ≡ None
-past-on plan walk level clusters count ahead short =
-    ap (λ p. answer_of (stage_at (setting_of plan []) walk.from (progress_past plan walk.from p count))) ahead.climbs
-    ∙ ap answer_of (climb-here (setting_of plan []) walk.from ahead.known
-    (weight_past plan walk.from level ahead.index ahead.weight count) level (ahead.index + count)
-    (readers_above (setting_of plan []) walk.from (suc level)) (left-count plan walk level clusters count ahead short))
-
--- each entry that is passed
-pub past-each : (plan : PlanData) (walk : WalkData) (level : ℕ) (clusters : List ℕ) (limit : ℕ) → IsKept plan
-    → IsMatched plan → IsWithinReach plan → IsWalkOver plan walk → IsAhead plan walk level clusters
-    → limit < length clusters → (count : ℕ) → count < limit → PassesEntry plan walk level clusters count
-past-each plan walk level clusters limit kept matched reached over ahead short count low =
+pub may-pass : (plan : PlanData) (climb : Climb) (count : ℕ) → IsClimbOver plan climb
+    → count ≤ length (readers_left plan climb)
+    → (count ≡ length (readers_left plan climb) → climb.level + 1 < levels_of plan) → MayPass plan climb count
+may-pass plan climb count over left above =
+    let all : length (readers_left plan climb) ≡ length (readers plan climb.level climb.from) - climb.index =
+    length-drop climb.index (readers plan climb.level climb.from) in
     record {
-      key = past-key plan walk level clusters count ahead (omega (arith, short, low));
-      stage = past-stage plan walk level clusters count ahead (omega (arith, short, low));
-      on = past-on plan walk level clusters (suc count) ahead (omega (arith, short, low));
-      over = past-over plan walk level clusters (suc count) kept matched reached over ahead (omega (arith, short, low));
+      left = omega (arith, left, all, over.progress.1);
+      above = λ e. omega (arith, above (omega (arith, e, all)));
     }
+
+may-fewer : (plan : PlanData) (climb : Climb) (count i : ℕ) → MayPass plan climb count → i ≤ count
+    → MayPass plan climb i
+may-fewer plan climb count i may fewer =
+    record {
+      left = omega (arith, may.left, fewer);
+      above = λ e. may.above (omega (arith, may.left, fewer, e));
+    }
+
+-- it stays at its level, or comes to the one above
+past-within : (plan : PlanData) (climb : Climb) (count : ℕ)
+    → climb.index + count < length (readers plan climb.level climb.from)
+    → climb_past plan climb count
+    ≡ record climb { weight = climb_weight plan climb count; index = climb.index + count }
+past-within plan climb count low =
+    rw (lt-ltb (climb.index + count) (length (readers plan climb.level climb.from)) low) refl
+
+past-above : (plan : PlanData) (climb : Climb) (count : ℕ)
+    → length (readers plan climb.level climb.from) ≤ climb.index + count
+    → climb_past plan climb count
+    ≡ record climb { weight = climb_weight plan climb count; level = suc climb.level; index = 0 }
+past-above plan climb count high =
+    rw (le-ltb (climb.index + count) (length (readers plan climb.level climb.from)) high) refl
+
+-- and goes with its plan
+pub past-over : (plan : PlanData) (climb : Climb) (count : ℕ) → IsKept plan → IsMatched plan → IsWithinReach plan
+    → IsClimbOver plan climb → MayPass plan climb count → IsClimbOver plan (climb_past plan climb count)
+past-over plan climb count kept matched reached over may =
+    let light = past-light plan climb.from climb.level climb.index climb.weight kept matched reached over.progress.0
+    over.from over.progress.2 count may.left in
+    elim (cases_lt (climb.index + count) (length (readers plan climb.level climb.from))) [
+      | inl low ↦ subst (IsClimbOver plan) (sym (past-within plan climb count low))
+          (record { from = over.from; progress = (over.progress.0, low, light) })
+      | inr high ↦
+          let up : suc climb.level < levels_of plan = may.above (omega (arith, high, may.left)) in
+          subst (IsClimbOver plan) (sym (past-above plan climb count high))
+          (record {
+            from = over.from;
+            progress = (
+              up,
+              readers-some plan (suc climb.level) climb.from matched up over.from,
+              omega (
+                arith,
+                light,
+                may.left,
+                readers-few plan climb.level climb.from matched kept over.progress.0 over.from,
+              ),
+            );
+          })
+    ]
+
+-- from the same node
+pub past-from : (plan : PlanData) (climb : Climb) (count : ℕ) → (climb_past plan climb count).from ≡ climb.from
+past-from plan climb count =
+    elim (cases_lt (climb.index + count) (length (readers plan climb.level climb.from))) [
+      | inl low ↦ ap (λ (c : Climb). c.from) (past-within plan climb count low)
+      | inr high ↦ ap (λ (c : Climb). c.from) (past-above plan climb count high)
+    ]
+
+-- what is left behind one more entry
+stage-past : (plan : PlanData) (climb : Climb) (sub count : ℕ) → IsMatched plan → IsClimbOver plan climb
+    → MayPass plan climb (suc count)
+    → (let call : FindCall = record { from = climb.from; sub = sub } in
+    stage_at (setting_of plan []) climb.from (progress_of (climb_past plan climb (suc count)))
+    ≡ after_word (setting_of plan []) call
+    (stage_at (setting_of plan []) climb.from (progress_of (climb_past plan climb count))) 0)
+stage-past plan climb sub count matched over may =
+    let low : climb.index + count < length (readers plan climb.level climb.from) = omega (arith, may.left) in
+    let next : climb.index + suc count ≡ suc (climb.index + count) = omega arith in
+    let call : FindCall = record { from = climb.from; sub = sub } in
+    let left = drop (suc (climb.index + count)) (readers_at (setting_of plan []) climb.from climb.level) in
+    let later = readers_above (setting_of plan []) climb.from (suc climb.level) in
+    let read : climb_stage climb.known (climb_weight plan climb (suc count)) (left ++ later)
+    ≡ after_word (setting_of plan []) call
+    (stage_at (setting_of plan []) climb.from (progress_of (climb_past plan climb count))) 0 =
+    sym (ap (λ c. after_word (setting_of plan []) call (stage_at (setting_of plan []) climb.from (progress_of c)) 0)
+    (past-within plan climb count low)
+    ∙ word-climbing plan climb.from sub climb.known (climb_weight plan climb count) climb.level (climb.index + count) 0
+    None low refl) in
+    elim (cases_lt (climb.index + suc count) (length (readers plan climb.level climb.from))) [
+      | inl more ↦
+          ap (λ c. stage_at (setting_of plan []) climb.from (progress_of c)) (past-within plan climb (suc count) more)
+          ∙ (ap (λ i. stage_at (setting_of plan []) climb.from
+          (Climbing climb.known (climb_weight plan climb (suc count)) climb.level i)) next
+          ∙ read)
+      | inr high ↦
+          let up : suc climb.level < levels_of plan = may.above (omega (arith, high, may.left)) in
+          ap (λ c. stage_at (setting_of plan []) climb.from (progress_of c)) (past-above plan climb (suc count) high)
+          ∙ (ap (climb_stage climb.known (climb_weight plan climb (suc count)))
+          (sym (above-more (setting_of plan []) climb.from (suc climb.level) (omega (arith, up, matched.some))))
+          ∙ (ap (λ rs. climb_stage climb.known (climb_weight plan climb (suc count)) (rs ++ later))
+          (sym (readers-spent (setting_of plan []) climb.from climb.level (suc (climb.index + count))
+          (omega (arith, high))))
+          ∙ read))
+    ]
+
+-- each entry that is passed, by a walk from the same node
+passes-own : (plan : PlanData) (walk : WalkData) (climb : Climb) (count : ℕ) → IsKept plan → IsMatched plan
+    → IsWithinReach plan → IsClimbOver plan climb → MayPass plan climb (suc count)
+    → PassesEntry plan (record walk { from = climb.from }) climb count
+passes-own plan walk climb count kept matched reached over may =
+    let own : WalkData = record walk { from = climb.from } in
+    let low : climb.index + count < length (readers plan climb.level climb.from) = omega (arith, may.left) in
+    let here : IsClimbOver plan (climb_past plan climb count) =
+    past-over plan climb count kept matched reached over (may-fewer plan climb (suc count) count may (omega arith)) in
+    let mid : Climb = record climb { weight = climb_weight plan climb count; index = climb.index + count } in
+    let same : climb_past plan climb count ≡ mid = past-within plan climb count low in
+    let next : Climb = climb_past plan climb (suc count) in
+    let there : IsWalkOver plan (walk_at own next) =
+    walk-over plan own next (past-from plan climb (suc count))
+    (past-over plan climb (suc count) kept matched reached over may) in
+    record {
+      key = ap (λ c. key_of (call_of own) (stage_of plan (walk_at own c))) same
+          ∙ (sym (next-climbing plan (walk_at own mid) mid.known mid.weight mid.level mid.index
+          (get_or (readers plan climb.level climb.from) (climb.index + count) 0) refl
+          (walk-over plan own mid refl (subst (IsClimbOver plan) same here)) refl)
+          ∙ ap (λ c. Some (Entry climb.level c walk.sub))
+          (sym (get_or-drop climb.index (readers plan climb.level climb.from) count 0)));
+      stage = stage-past plan climb walk.sub count matched over may;
+      on = sym (answer-climbing plan climb.from (progress_of next) next.known next.weight next.level next.index refl
+          there.progress);
+      over = there;
+    }
+
+pub passes-each : (plan : PlanData) (walk : WalkData) (climb : Climb) (count : ℕ) → IsKept plan → IsMatched plan
+    → IsWithinReach plan → IsClimbOver plan climb → MayPass plan climb count → climb.from ≡ walk.from → (i : ℕ)
+    → i < count → PassesEntry plan walk climb i
+passes-each plan walk climb count kept matched reached over may same i below =
+    subst (λ from. PassesEntry plan (record walk { from = from }) climb i) same
+    (passes-own plan walk climb i kept matched reached over (may-fewer plan climb count (suc i) may
+    (omega (arith, below))))
 
 replicate-push : (k x : ℕ) → replicate (suc k) x ≡ replicate k x ++ x ∷ []
 replicate-push zero x = refl
 replicate-push (suc k) x = ap (λ xs. x ∷ xs) (replicate-push k x)
 
 -- the words that it stands for
-pub past-stands : (plan : PlanData) (walk : WalkData) (level : ℕ) (clusters words : List ℕ)
-    → IsAhead plan walk level clusters → StandsForWords plan walk words → (count : ℕ) → count < length clusters
-    → StandsForWords plan (walk_past plan walk count) (words ++ replicate count 0)
-past-stands plan walk level clusters words ahead stands zero short =
-    subst (StandsForWords plan (walk_past plan walk 0)) (sym (append-nil words))
-    (ap (stage_of plan) (past-none plan walk) ∙ stands)
-past-stands plan walk level clusters words ahead stands (suc count) short =
-    subst (StandsForWords plan (walk_past plan walk (suc count)))
+pub past-stands : (plan : PlanData) (walk : WalkData) (climb : Climb) (words : List ℕ) → IsClimbOver plan climb
+    → StandsForWords plan (walk_at walk climb) words → (count : ℕ)
+    → ((i : ℕ) → i < count → PassesEntry plan walk climb i)
+    → StandsForWords plan (walk_at walk (climb_past plan climb count)) (words ++ replicate count 0)
+past-stands plan walk climb words over stands zero each =
+    subst (StandsForWords plan (walk_at walk (climb_past plan climb 0))) (sym (append-nil words))
+    (ap (λ c. stage_of plan (walk_at walk c)) (past-none plan climb over) ∙ stands)
+past-stands plan walk climb words over stands (suc count) each =
+    subst (StandsForWords plan (walk_at walk (climb_past plan climb (suc count))))
     (append_assoc words (replicate count 0) (0 ∷ []) ∙ ap (λ zs. words ++ zs) (sym (replicate-push count 0)))
-    (find-more plan (walk_past plan walk count) (walk_past plan walk (suc count)) (words ++ replicate count 0) 0 refl
-    (past-stage plan walk level clusters count ahead (omega (arith, short)))
-    (past-stands plan walk level clusters words ahead stands count (omega (arith, short))))
+    (find-more plan (walk_at walk (climb_past plan climb count)) (walk_at walk (climb_past plan climb (suc count)))
+    (words ++ replicate count 0) 0 refl (each count (omega arith)).stage
+    (past-stands plan walk climb words over stands count (λ i below. each i (omega (arith, below)))))
 
--- what is ahead of a walk
-pub ahead-of : (plan : PlanData) (walk : WalkData) (known : Option ℕ) (weight level index : ℕ) (clusters : List ℕ)
-    → IsMatched plan → IsWalkOver plan walk → walk.progress ≡ Climbing known weight level index
-    → clusters ≡ drop index (readers plan level walk.from) → IsAhead plan walk level clusters
-ahead-of plan walk known weight level index clusters matched over climbs are =
-    let within = subst (IsProgressWithin plan walk.from) climbs over.progress in
-    let count : length clusters ≡ length (readers plan level walk.from) - index =
-    ap length are ∙ length-drop index (readers plan level walk.from) in
-    record {
-      known = known;
-      weight = weight;
-      index = index;
-      climbs = climbs;
-      are = are;
-      some = omega (arith, count, within.1);
-      low = within.0;
-      inside = λ i d short.
-          subst (λ c. c < clusters_of plan level)
-          (sym (ap (λ cs. get_or cs i d) are ∙ (get_or-drop index (readers plan level walk.from) i d
-          ∙ get_or_default (readers plan level walk.from) (index + i) d 0 (omega (arith, short, count)))))
-          (reader-held plan level walk.from (index + i) matched within.0 over.from (omega (arith, short, count))).1;
-    }
+-- the readers that are left are clusters of the level
+pub left-inside : (plan : PlanData) (climb : Climb) → IsMatched plan → IsClimbOver plan climb
+    → All (λ cluster. cluster < clusters_of plan climb.level) (readers_left plan climb)
+left-inside plan climb matched over i d short =
+    let count : length (readers_left plan climb) ≡ length (readers plan climb.level climb.from) - climb.index =
+    length-drop climb.index (readers plan climb.level climb.from) in
+    subst (λ c. c < clusters_of plan climb.level)
+    (sym (get_or-drop climb.index (readers plan climb.level climb.from) i d
+    ∙ get_or_default (readers plan climb.level climb.from) (climb.index + i) d 0 (omega (arith, short, count))))
+    (reader-held plan climb.level climb.from (climb.index + i) matched over.progress.0 over.from
+    (omega (arith, short, count))).1
+
+-- at least one, and few
+pub left-some : (plan : PlanData) (climb : Climb) → IsClimbOver plan climb → 1 ≤ length (readers_left plan climb)
+left-some plan climb over =
+    omega (arith, over.progress.1, length-drop climb.index (readers plan climb.level climb.from))
+
+pub left-few : (plan : PlanData) (climb : Climb) → IsMatched plan → IsKept plan → IsClimbOver plan climb
+    → length (readers_left plan climb) ≤ 1024
+left-few plan climb matched kept over =
+    omega (
+      arith,
+      readers-few plan climb.level climb.from matched kept over.progress.0 over.from,
+      length-drop climb.index (readers plan climb.level climb.from),
+    )

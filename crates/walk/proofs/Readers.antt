@@ -12,7 +12,7 @@ use Rattle.entry_word.specs.Addresses.{address_in}
 use Rattle.entry_word.specs.declared.address.Address.{Address}
 use Rattle.entry_word.specs.declared.visit.Key.TheVariants.{Entry}
 use Rattle.directory.specs.Finds.{FindCall, Reader, after_entry, after_word, answer_of, at_origin, find, key_of}
-use Rattle.region_plan.specs.Plan.{PlanData, no_level, level_at, cluster_in, clusters_of, inside, levels_of, members_of, nodes_of, readers}
+use Rattle.region_plan.specs.Plan.{PlanData, no_level, level_at, cluster_in, clusters_of, home, inside, levels_of, members_of, nodes_of, readers}
 use Rattle.region_plan.specs.Kept.{IsKept, IsSized}
 use Rattle.region_plan.specs.Matched.{IsMatched, IsWithinReach}
 use Rattle.region_plan.specs.Settings.{setting_of}
@@ -20,7 +20,7 @@ use Rattle.walk.specs.declared.progress.Progress.{Progress}
 use Rattle.walk.specs.declared.progress.Progress.TheVariants.{AtOrigin, Chasing, Climbing, Ended}
 use Rattle.walk.specs.Walks.{IsWalkOver, IsProgressWithin, IsWordBelow, StandsForWords, WalkData, call_of, reader_in, readers_at, readers_above, stage_at, stage_of}
 use Rattle.walk.specs.ReaderLaws.{climb-here}
-use Rattle.node_set.specs.SetLaws.{length-passing-le}
+use Rattle.node_set.specs.SetLaws.{has-passing, length-passing-le}
 
 -- so there are few readers
 pub readers-few : (plan : PlanData) (level node : ℕ) → IsMatched plan → IsKept plan → level < levels_of plan
@@ -35,6 +35,23 @@ readers-few plan level node matched kept h l =
       sized.clusters,
       kept.metric.few,
     ))
+
+has-some : (x : ℕ) (xs : List ℕ) → has x xs ≡ true → 1 ≤ length xs
+has-some x [] held = cc
+has-some x (y ∷ ys) held = omega arith
+
+-- and there is one at each level: the home of the node
+pub readers-some : (plan : PlanData) (level node : ℕ) → IsMatched plan → level < levels_of plan
+    → node < nodes_of plan → 1 ≤ length (readers plan level node)
+readers-some plan level node matched h l =
+    let home_read : has (home plan level node) (readers plan level node) ≡ true =
+    rw (
+      matched.read level node h l,
+      has-passing (λ c. has node (cluster_in (level_at plan level).clusters c).members) (home plan level node) 0
+          (clusters_of plan level) (omega arith) (omega (arith, matched.homes level node h l)),
+    )
+    (matched.held level node h l) in
+    has-some (home plan level node) (readers plan level node) home_read
 
 -- the readers of a level and those above
 pub readers-spent : (setting : Setting) (node level index : ℕ) → length (setting.readers level node) ≤ index

@@ -8,4 +8,5 @@ mod steps;
 mod walk;
 
 pub use laws::empty_words;
+pub use progress::Climb;
 pub use walk::{Walk, WalkFault};

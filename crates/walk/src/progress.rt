@@ -12,6 +12,18 @@ pub struct Chase {
     pub hops_left: u32,
 }
 
+/// A climb of a find, apart from its walk: at the entry of a reader of its origin, by level and
+/// place among the readers; the greatest number of a Gone that the find read, and its weight so
+/// far.
+#[derive(Clone, Copy, PartialEq, Eq, Debug)]
+pub struct Climb {
+    pub from: u32,
+    pub known: Option<u32>,
+    pub weight: u64,
+    pub level: u32,
+    pub index: u32,
+}
+
 /// At its origin; at the entry of a reader, by level and place among the readers; chasing at a
 /// node; or ended.
 #[derive(Clone, Copy, PartialEq, Eq, Debug)]

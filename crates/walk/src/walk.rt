@@ -1,15 +1,14 @@
 //! A find under way.
-ghost use Rattle.std.specs.Prelude.{◌≡◌, ◌++◌, ◌∷◌, ◌<◌, [], ℕ, true, List, IfOk, IfSome, length, replicate};
+ghost use Rattle.std.specs.Prelude.{◌≡◌, ◌++◌, ◌∷◌, [], ℕ, true, List, IfOk, IfSome};
 ghost use Rattle.std.specs.Option.{is_some};
 ghost use Rattle.directory.specs.Finds.{after_word, answer_of, key_of};
 ghost use Rattle.region_plan.specs.Matched.{IsMatched, IsWithinReach};
 ghost use Rattle.region_plan.specs.Plan.{PlanData, nodes_of};
 ghost use Rattle.region_plan.specs.Settings.{setting_of};
-ghost use Rattle.walk.specs.Climbs.{IsAhead, PassesEntry, is_climbing, walk_past};
+ghost use Rattle.walk.specs.Climbs.{IsClimbOf, IsClimbOver, is_climbing, walk_at};
 ghost use Rattle.walk.specs.Walks.{IsWalkOver, IsWordBelow, StandsForWords, call_of, stage_of, walk_or_fault};
 
-use crate::climb::{progress_past, weight_past};
-use crate::progress::Progress;
+use crate::progress::{Climb, Progress};
 use crate::steps::progress_after;
 use directory::Found;
 use distances::Distances;
@@ -108,78 +107,44 @@ impl Walk {
         self.sub
     }
 
-    /// The level of a climb, and its readers that are left there: the entries that the walk looks
-    /// at as long as they hold nothing. None when it isn't at an entry.
-    pub fn ahead<'a>(&self, plan: &'a Plan) -> Option<(u32, &'a [u32])>
-        requires goes { IsWalkOver plan.now self.now }
-        requires matched { IsMatched plan.now }
+    /// Its climb, if it is at an entry.
+    pub fn climb(&self) -> Option<Climb>
         ensures some { is_some result ≡ is_climbing self.now.progress }
-        ensures ahead { IfSome result
-            (λ ahead. IsAhead plan.now self.now ahead.0 ahead.1.now) }
+        ensures is { IfSome result (IsClimbOf self.now) }
+        ensures over { (plan : PlanData) → IsWalkOver plan self.now
+            → IfSome result (IsClimbOver plan) }
     {
         match self.progress {
-            Progress::Climbing { level, index, .. } => {
-                Some((level, &plan.readers(level, self.from)[index as usize..]))
-            }
+            Progress::Climbing {
+                known,
+                weight,
+                level,
+                index,
+            } => Some(Climb {
+                from: self.from,
+                known,
+                weight,
+                level,
+                index,
+            }),
             Progress::AtOrigin => None,
             Progress::Chasing { .. } => None,
             Progress::Ended { .. } => None,
         }
     }
 
-    /// So many looks at once, at entries ahead that hold nothing; not at the last of its level.
-    pub fn pass(&mut self, plan: &Plan, count: usize)
-        requires goes { IsWalkOver plan.now self.old }
-        requires matched { IsMatched plan.now }
-        requires reached { IsWithinReach plan.now }
-        requires ahead { (level : ℕ) × (clusters : List ℕ)
-            × IsAhead plan.now self.old level clusters × (count < length clusters) }
-        ensures exact { self.new ≡ walk_past plan.now self.old count }
-        ensures goes { IsWalkOver plan.now self.new }
-        ensures each { (level : ℕ) (clusters : List ℕ) → IsAhead plan.now self.old level clusters
-            → count < length clusters → (i : ℕ) → i < count
-            → PassesEntry plan.now self.old level clusters i }
-        ensures stands { (words : List ℕ) → StandsForWords plan.now self.old words
-            → StandsForWords plan.now self.new (words ++ replicate count 0) }
+    /// Goes on where a climb of its own is: all looks that the climb passed count as made.
+    pub fn resume(&mut self, climb: Climb)
+        requires own { climb.from ≡ self.old.from }
+        ensures exact { self.new ≡ walk_at self.old climb }
+        ensures goes { (plan : PlanData) → IsClimbOver plan climb → IsWalkOver plan self.new }
     {
-        if let Progress::Climbing {
-            known,
-            weight,
-            level,
-            index,
-        } = self.progress
-        {
-            let weight = weight_past(plan, self.from, level, index, weight, count);
-            self.progress = Progress::Climbing {
-                known,
-                weight,
-                level,
-                index: index + count as u32,
-            };
-        }
-    }
-
-    /// The look that came next, at an entry, read nothing: what `saw` does with a word of 0.
-    pub fn saw_nothing(&mut self, plan: &Plan)
-        requires goes { IsWalkOver plan.now self.old }
-        requires climbs { is_climbing self.old.progress ≡ true }
-        requires matched { IsMatched plan.now }
-        requires reached { IsWithinReach plan.now }
-        ensures stage { stage_of plan.now self.new ≡ after_word (setting_of plan.now [])
-            (call_of self.old) (stage_of plan.now self.old) 0 }
-        ensures call { call_of self.new ≡ call_of self.old }
-        ensures goes { IsWalkOver plan.now self.new }
-        ensures stands { (words : List ℕ) → StandsForWords plan.now self.old words
-            → StandsForWords plan.now self.new (words ++ 0 ∷ []) }
-    {
-        self.rise(plan);
-    }
-
-    /// Whether it is at the entry of a reader.
-    pub fn is_climbing(&self) -> bool
-        ensures { result ≡ is_climbing self.now.progress }
-    {
-        matches!(self.progress, Progress::Climbing { .. })
+        self.progress = Progress::Climbing {
+            known: climb.known,
+            weight: climb.weight,
+            level: climb.level,
+            index: climb.index,
+        };
     }
 
     /// The look that came next read this word.
@@ -212,19 +177,5 @@ impl Walk {
         ensures goes { IsWalkOver plan.now self.new }
     {
         self.progress = progress_after(plan, distances, self.from, self.progress, word);
-    }
-
-    // One more word, which holds nothing.
-    fn rise(&mut self, plan: &Plan)
-        requires goes { IsWalkOver plan.now self.old }
-        requires climbs { is_climbing self.old.progress ≡ true }
-        requires matched { IsMatched plan.now }
-        requires reached { IsWithinReach plan.now }
-        ensures stage { stage_of plan.now self.new ≡ after_word (setting_of plan.now [])
-            (call_of self.old) (stage_of plan.now self.old) 0 }
-        ensures call { call_of self.new ≡ call_of self.old }
-        ensures goes { IsWalkOver plan.now self.new }
-    {
-        self.progress = progress_past(plan, self.from, self.progress);
     }
 }

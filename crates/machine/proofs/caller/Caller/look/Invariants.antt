@@ -4,10 +4,10 @@ use Rattle.machine.specs.Callers.{MakesLooks}
 use Rattle.machine.proofs.caller.Caller.look.Given as goal
 
 abbrev pub invariant-looks : goal.invariant-looks
-invariant-looks l = record {
+invariant-looks g l = record {
   few : l.made ≤ l.most;
   passed : MakesLooks (seen_input l.input) l.plan l.cells l.ticket l.actor l.made l.fn.self l.self;
 }
 
 abbrev pub decreases-looks : goal.decreases-looks
-decreases-looks l = l.most - l.made
+decreases-looks g l = l.most - l.made

@@ -26,8 +26,8 @@ look-requires-clause-cell c =
     (scripts-low c.args.input.now.scripts.items c.args.actor c.requires.low) c.requires.stands.1
     c.requires.stands.3 c.in-Some.is (sym c.next.ensures ∙ c.in-Some-next.is)).is_cell
 
-pub see-requires-clause-word : goal.see-requires-clause-word
-see-requires-clause-word c =
+pub saw-requires-clause-word : goal.saw-requires-clause-word
+saw-requires-clause-word c =
     subst (IsWordBelow (nodes_of c.args.plan.now) c.in-Some.walk.progress)
     (sym (c.look.ensures.history c.args.input.now.homes.items c.requires.stands.0 c.requires.stands.1.hold))
     (wanted c.marks_tell.ensures.marks c.entries_tell.ensures.entries c.every_order_is_legal.ensures
@@ -40,13 +40,13 @@ pub returns-in_default-answer : goal.returns-in_default-answer
 returns-in_default-answer c = λ history sees place its.
     looked-on c.lines_grow.ensures.read c.lines_grow.ensures.finds c.lines_grow.ensures.count
     (seen_input c.args.input.now) c.args.plan.now c.args.cells.now history c.args.actor c.args.ticket c.args.self.now _
-    c.in-Some-next.key c.see.new.walk c.requires.high sees place its
+    c.in-Some-next.key c.saw.new.self c.requires.high sees place its
     (looks c.own_after.ensures.tickets (seen_input c.args.input.now) c.args.plan.now history c.args.actor
-    c.args.self.now c.in-Some.walk c.see.new.walk c.in-Some-next.key c.look.result c.requires.high its c.in-Some.is
+    c.args.self.now c.in-Some.walk c.saw.new.self c.in-Some-next.key c.look.result c.requires.high its c.in-Some.is
     (sym c.next.ensures ∙ c.in-Some-next.is) (c.look.ensures.history c.args.input.now.homes.items history sees.hold)
-    c.see.ensures.call c.see.ensures.stage) c.see.ensures.goes
-    (sym c.in_default-answer.is ∙ c.answer.ensures c.args.plan.now c.see.ensures.goes)
-    (ap (λ f. record c.args.self.now { walk = Some c.see.new.walk; first = Some f }) c.unwrap_or-first.ensures)
+    c.saw.ensures.call c.saw.ensures.stage) c.saw.ensures.goes
+    (sym c.in_default-answer.is ∙ c.answer.ensures c.args.plan.now c.saw.ensures.goes)
+    (ap (λ f. record c.args.self.now { walk = Some c.saw.new.self; first = Some f }) c.unwrap_or-first.ensures)
 
 script-here : (c : After-len)
     → c.as_slice-script.result.now ≡ get_or (seen_input c.args.input.now).scripts c.args.actor []
@@ -88,13 +88,13 @@ returns c = λ history sees place its.
     else c.args.self.now.lines.items) (ok-of c.push.result (sym c.is_err.ensures.value ∙ c.if-is_err.false)) in
     looked-up c.lines_grow.ensures.read c.lines_grow.ensures.finds c.lines_grow.ensures.count
     (seen_input c.args.input.now) c.args.plan.now c.args.cells.now history c.args.actor c.args.ticket c.args.self.now _
-    c.in-Some-next.key c.see.new.walk c.in-Some-answer.found c.line_of-line.result c.len-2.result
+    c.in-Some-next.key c.saw.new.self c.in-Some-answer.found c.line_of-line.result c.len-2.result
     c.requires.high sees place its
     (looks c.own_after.ensures.tickets (seen_input c.args.input.now) c.args.plan.now history c.args.actor
-    c.args.self.now c.in-Some.walk c.see.new.walk c.in-Some-next.key c.look.result c.requires.high its c.in-Some.is
+    c.args.self.now c.in-Some.walk c.saw.new.self c.in-Some-next.key c.look.result c.requires.high its c.in-Some.is
     (sym c.next.ensures ∙ c.in-Some-next.is) (c.look.ensures.history c.args.input.now.homes.items history sees.hold)
-    c.see.ensures.call c.see.ensures.stage)
-    (sym c.in-Some-answer.is ∙ c.answer.ensures c.args.plan.now c.see.ensures.goes)
+    c.saw.ensures.call c.saw.ensures.stage)
+    (sym c.in-Some-answer.is ∙ c.answer.ensures c.args.plan.now c.saw.ensures.goes)
     (λ call later left. c.line_of-line.ensures
     ∙ (ap (λ f. found_line c.args.actor f c.in-Some-answer.found c.unwrap_or-first.result c.args.ticket)
     (call-at (seen_input c.args.input.now) c.args.plan.now c.args.actor c.len.result c.as_slice-script.result.now call

@@ -10,7 +10,7 @@ use Rattle.machine.proofs.Turning.{at-caller, caller-turned, none-left, rooms-le
 use Rattle.machine.proofs.machine.Machine.look.Goals as goal
 
 pub look-count-requires-clause-stands : goal.look-count-requires-clause-stands
-look-count-requires-clause-stands c =
+look-count-requires-clause-stands g c =
     let history = c.requires.stands.0 in
     let stands = c.requires.stands.1 in
     let low = scripts-low c.args.self.now.input.now.scripts.items c.args.actor c.requires.known in
@@ -24,7 +24,7 @@ look-count-requires-clause-stands c =
     )
 
 pub log_run-requires : goal.log_run-requires
-log_run-requires c =
+log_run-requires g c =
     let history = c.requires.stands.0 in
     let stands = c.requires.stands.1 in
     let low = scripts-low c.args.self.now.input.now.scripts.items c.args.actor c.requires.known in
@@ -44,7 +44,7 @@ log_run-requires c =
     }
 
 pub returns-clause-stands : goal.returns-clause-stands
-returns-clause-stands c = λ history stands.
+returns-clause-stands g c = λ history stands.
     let low = scripts-low c.args.self.now.input.now.scripts.items c.args.actor c.requires.known in
     let at : c.args.actor ≡ length (input_at c.args.self.now).homes + (c.args.actor - c.len.result) =
     omega (arith, c.requires.high, c.len.ensures, stands.subscribers_count) in

@@ -9,7 +9,7 @@ use Rattle.machine.proofs.Turning.{at-sub, none-left, rooms-left, sub-turned, ti
 use Rattle.machine.proofs.machine.Machine.write.Goals as goal
 
 pub write-count-requires-clause-stands : goal.write-count-requires-clause-stands
-write-count-requires-clause-stands c =
+write-count-requires-clause-stands g c =
     let history = c.requires.stands.0 in
     let stands = c.requires.stands.1 in (
       history,
@@ -20,7 +20,7 @@ write-count-requires-clause-stands c =
     )
 
 pub log_run-requires : goal.log_run-requires
-log_run-requires c =
+log_run-requires g c =
     let history = c.requires.stands.0 in
     let stands = c.requires.stands.1 in
     let tick = ticket-is c.args.self.now history c.len-ticket.result stands (omega (arith, c.len-ticket.ensures)) in
@@ -37,7 +37,7 @@ log_run-requires c =
     }
 
 pub returns-clause-stands : goal.returns-clause-stands
-returns-clause-stands c = λ history stands.
+returns-clause-stands g c = λ history stands.
     let tick = ticket-is c.args.self.now history c.len-ticket.result stands (omega (arith, c.len-ticket.ensures)) in
     let taken = c.write-count.ensures.taken history stands.sees tick (at-sub c.args.self.now history c.args.actor
     c.index_mut.result.now stands c.requires.known c.index_mut.ensures.value) in

@@ -1,19 +1,14 @@
-use Rattle.std.proofs.Common.{◌≡◌, ◌-◌, ◌≤◌, length}
-use Rattle.directory.specs.Histories.{History}
+use Rattle.std.proofs.Common.{◌≡◌, ◌-◌, ◌≤◌}
 use Rattle.net_reader.specs.Seen.{seen_input}
-use Rattle.machine.specs.Stands.{AreMade, Sees}
-use Rattle.machine.specs.Subscribers.{IsSubscriber}
+use Rattle.machine.specs.Subscribers.{MakesTurns}
 use Rattle.machine.proofs.subscriber.Subscriber.write.Given as goal
 
 abbrev pub invariant-writes : goal.invariant-writes
-invariant-writes l = record {
+invariant-writes g l = record {
   few : l.made ≤ l.most;
   still : l.made ≡ 0 → l.cells ≡ l.fn.cells;
-  written : (history : History) → Sees (seen_input l.input) l.plan l.fn.cells history → length history ≡ l.ticket
-      → IsSubscriber (seen_input l.input) l.plan history l.sub l.fn.self
-      → AreMade (seen_input l.input) l.plan l.cells history l.sub l.made
-      (λ later. IsSubscriber (seen_input l.input) l.plan later l.sub l.self);
+  written : MakesTurns (seen_input l.input) l.plan l.ticket l.sub l.fn.self l.self l.fn.cells l.cells l.made;
 }
 
 abbrev pub decreases-writes : goal.decreases-writes
-decreases-writes l = l.most - l.made
+decreases-writes g l = l.most - l.made

@@ -1,81 +1,42 @@
-use Rattle.std.proofs.Common.{◌≡◌, Some, [], ◌-◌, subst, sym, ap, ◌∙◌, arith, length, refl, get_or}
+use Rattle.std.proofs.Common.{◌-◌, sym, ap, ◌∙◌, arith, length, refl, get_or}
 use Rattle.std.specs.Prelude.{slice_get}
 use Rattle.std.proofs.lemmas.List.{length_push}
 use Rattle.directory.specs.Histories.{own}
 use Rattle.directory.specs.Writes.{visits}
 use Rattle.net_reader.specs.Seen.{seen_input}
-use Rattle.handset.specs.Progress.{due}
-use Rattle.region_plan.specs.Settings.{setting_of}
-use Rattle.visit_log.specs.Cells.{CellData}
-use Rattle.machine.specs.Stands.{Sees, setting_over}
-use Rattle.machine.specs.Subscribers.{IsSubscriber, begun_steps, line_after}
+use Rattle.machine.specs.Stands.{setting_over}
+use Rattle.machine.specs.Subscribers.{begun_steps, line_after}
 use Rattle.machine.proofs.Beginning.{on-some}
 use Rattle.machine.proofs.Written.{under-way, written-on}
 use Rattle.machine.proofs.subscriber.Subscriber.write_one.Goals as goal
 
-pub returns-then-make_entry : goal.returns-then-make_entry
-returns-then-make_entry c = λ history sees place its.
-    let made = c.make_entry.ensures.made c.if-make_entry.true in
-    let at = made.next c.args.input.now.homes.items _ _ its.handset in
+pub returns : goal.returns
+returns c = λ history sees place its.
+    let visit = c.make.ensures.visit c.args.input.now.homes.items _ _ its.handset in
+    let at = sym visit ∙ c.in-Some.is in
     let here = ap (λ s. slice_get (visits (setting_over (seen_input c.args.input.now) c.args.plan.now) s
     (begun_steps (seen_input c.args.input.now) c.args.sub c.args.self.now)) (length (own c.args.sub history)))
     (sym its.its) ∙ at in
     let way = under-way c.mark_words.ensures.unpacked c.tickets_tell.ensures.visits c.scripts_are_valid.ensures
     (seen_input c.args.input.now) c.args.plan.now
-    c.args.distances.now history c.args.sub c.args.self.now made.visit c.requires.together c.requires.low its
-    here in
-    written-on c.mark_words.ensures.unpacked c.own_after.ensures.visits c.own_after.ensures.tickets
-    c.tickets_tell.ensures.visits c.scripts_are_valid.ensures
-    (seen_input c.args.input.now) c.args.plan.now c.args.distances.now c.make_entry.new.cells history c.args.sub
-    c.args.ticket (c.len-last.result - 1)
-    c.args.self.now _ made.visit c.go_on.new.line c.index_mut.result.now c.requires.together c.requires.low place
-    its at
-    (made.stands c.args.input.now.homes.items _ _ its.handset)
-    c.make_entry.ensures.goes c.make_entry.ensures.its refl (omega arith)
-    (omega (arith, ap length way.are, length_push way.rows way.row, c.len-last.ensures))
-    (c.go_on.ensures ∙ (ap (λ l. line_after l c.commits-commits.result c.args.ticket) c.index_mut.ensures.value
-    ∙ ap (λ b. line_after
-    (get_or c.args.self.now.lines.items (c.len-last.result - 1) c.index_mut.result.now) b c.args.ticket)
-    (c.commits-commits.ensures c.args.plan.now made.visit
-    (omega (arith, c.requires.together.matched.metric.few)) its.goes made.due)))
-    c.make_entry.ensures.cells
-    (made.hold c.args.input.now.homes.items history sees.hold)
-
-pub returns : goal.returns
-returns c = λ history sees place its.
-    let kept = c.make_entry.ensures.rests c.if-make_entry.false in
-    let now = record c.args.self.now { handset = c.make_entry.new.handset } in
-    let mine : IsSubscriber (seen_input c.args.input.now) c.args.plan.now history c.args.sub now =
-    subst (λ h. IsSubscriber (seen_input c.args.input.now) c.args.plan.now history c.args.sub
-    (record c.args.self.now { handset = h })) (sym kept.0) its in
-    let held = subst (λ (k : CellData). Sees (seen_input c.args.input.now) c.args.plan.now k history) (sym kept.1)
-    sees in
-    let visit = c.make.ensures.visit c.args.input.now.homes.items _ _ mine.handset in
-    let at = sym visit ∙ c.in-Some.is in
-    let here = ap (λ s. slice_get (visits (setting_over (seen_input c.args.input.now) c.args.plan.now) s
-    (begun_steps (seen_input c.args.input.now) c.args.sub now)) (length (own c.args.sub history)))
-    (sym mine.its) ∙ at in
-    let way = under-way c.mark_words.ensures.unpacked c.tickets_tell.ensures.visits c.scripts_are_valid.ensures
-    (seen_input c.args.input.now) c.args.plan.now
-    c.args.distances.now history c.args.sub now c.in-Some._visit c.requires.together c.requires.low mine
+    c.args.distances.now history c.args.sub c.args.self.now c.in-Some._visit c.requires.together c.requires.low its
     here in
     written-on c.mark_words.ensures.unpacked c.own_after.ensures.visits c.own_after.ensures.tickets
     c.tickets_tell.ensures.visits c.scripts_are_valid.ensures
     (seen_input c.args.input.now) c.args.plan.now c.args.distances.now c.make.new.cells history c.args.sub c.args.ticket
-    (c.len-last-2.result - 1)
-    now _ c.in-Some._visit c.go_on-2.new.line c.index_mut-2.result.now c.requires.together c.requires.low place
-    mine at
+    (c.len-last.result - 1)
+    c.args.self.now _ c.in-Some._visit c.go_on.new.line c.index_mut.result.now c.requires.together c.requires.low place
+    its at
     (on-some _ c.make.result c.in-Some._visit c.in-Some.is c.make.ensures.stands c.args.input.now.homes.items _ _
-    mine.handset)
+    its.handset)
     c.make.ensures.goes c.make.ensures.its refl (omega arith)
-    (omega (arith, ap length way.are, length_push way.rows way.row, c.len-last-2.ensures))
-    (c.go_on-2.ensures ∙ (ap (λ l. line_after l c.commits-commits.result c.args.ticket) c.index_mut-2.ensures.value
+    (omega (arith, ap length way.are, length_push way.rows way.row, c.len-last.ensures))
+    (c.go_on.ensures ∙ (ap (λ l. line_after l c.commits-commits.result c.args.ticket) c.index_mut.ensures.value
     ∙ ap (λ b. line_after
-    (get_or c.args.self.now.lines.items (c.len-last-2.result - 1) c.index_mut-2.result.now) b c.args.ticket)
+    (get_or c.args.self.now.lines.items (c.len-last.result - 1) c.index_mut.result.now) b c.args.ticket)
     (c.commits-commits.ensures c.args.plan.now c.in-Some._visit
     (omega (arith, c.requires.together.matched.metric.few)) its.goes
-    (subst (λ h. due (setting_of c.args.plan.now []) h ≡ Some c.in-Some._visit) kept.0
-    (sym c.make.ensures.exact ∙ c.in-Some.is)))))
+    (sym c.make.ensures.exact ∙ c.in-Some.is))))
     c.make.ensures.cells
     (on-some _ c.make.result c.in-Some._visit c.in-Some.is c.make.ensures.hold c.args.input.now.homes.items history
-    held.hold c.in-Some._visit c.in-Some.is)
+    sees.hold c.in-Some._visit c.in-Some.is)

@@ -1,0 +1,255 @@
+-- Many writes of entries at once: what as many turns make.
+use Rattle.std.proofs.Common.{◌≡◌, ℕ, zero, suc, ◌+◌, ◌-◌, ◌<◌, ◌≤◌, false, List, [], ◌∷◌, ◌++◌, length, set, take, get_or, refl, sym, ap, ◌∙◌, subst, arith}
+use Rattle.std.specs.Prelude.{Some, slice_get, vec_capacity}
+use Rattle.std.proofs.lemmas.List.{get_or-set_same, length-set, length_push}
+use Rattle.entry_word.specs.Marks.{MarksUnpack}
+use Rattle.entry_word.specs.declared.visit.Visit.{Visit}
+use Rattle.directory.specs.Histories.{History, own, tickets}
+use Rattle.directory.specs.Courses.{Step, course_at}
+use Rattle.directory.specs.Orders.{Scripts, next, steps_of}
+use Rattle.directory.specs.Outcomes.{step_lines}
+use Rattle.directory.specs.Settings.{Setting, start}
+use Rattle.directory.specs.Statements.{MoreIsPlayed, TicketsGrow, OwnGrow, TicketsAreOwn}
+use Rattle.directory.specs.Writes.{visits}
+use Rattle.directory.specs.declared.answers.Done.{Done}
+use Rattle.directory.specs.declared.answers.Done.TheVariants.{Moved, Switched, Found as FoundBy, Off as OffBy, Again as AgainBy}
+use Rattle.distances.specs.Table.{DistanceTable}
+use Rattle.handset.specs.Kept.{GoesWith, HandsetData}
+use Rattle.handset.specs.Stands.{StandsForSteps}
+use Rattle.net_reader.specs.Input.{Contents}
+use Rattle.region_plan.specs.Plan.{PlanData}
+use Rattle.region_plan.specs.Settings.{setting_of}
+use Rattle.scripts.specs.Laws.{ScriptsAreValid}
+use Rattle.scripts.specs.Scripts.{scripts_of}
+use Rattle.visit_log.specs.Cells.{CellData}
+use Rattle.machine.specs.declared.subscriber.Subscriber.{Subscriber}
+use Rattle.machine.specs.declared.turn.Turn.TheVariants.{Visited}
+use Rattle.machine.specs.Stands.{AreMade, BelongTogether, Sees, setting_over}
+use Rattle.machine.specs.Subscribers.{HavePut, IsSubscriber, MakesTurns, MayTakeTurn, TakesTurn, begun_steps, line_after}
+use Rattle.machine.proofs.Making.{made-count, made-joined, made-none}
+use Rattle.machine.proofs.Written.{under-way, written-more, written-on}
+
+-- the lines of a subscriber behind so many of them
+abbrev pub lines_behind : List Done → Done → ℕ → ℕ → List Done
+lines_behind lines line ticket zero = lines
+lines_behind lines line ticket (suc count) =
+    set lines (length lines - 1) (line_after (get_or lines (length lines - 1) line) false (ticket + count))
+
+pub lines-count : (lines : List Done) (line : Done) (ticket count : ℕ) → length (lines_behind lines line ticket count)
+    ≡ length lines
+lines-count lines line ticket zero = refl
+lines-count lines line ticket (suc count) = length-set lines (length lines - 1)
+    (line_after (get_or lines (length lines - 1) line) false (ticket + count))
+
+-- and the subscriber
+abbrev pub behind : Subscriber → HandsetData → Done → ℕ → ℕ → Subscriber
+behind old handset line ticket count =
+    record old {
+      handset = handset;
+      lines = record old.lines {
+        items = lines_behind old.lines.items line ticket count;
+        ok = (old.lines.ok.0 ∙ sym (lines-count old.lines.items line ticket count), old.lines.ok.1);
+      };
+    }
+
+-- a subscriber by its handset, its lines and the room for them
+its-same : (input : Contents) (plan : PlanData) (history : History) (sub : ℕ) (one other : Subscriber)
+    → IsSubscriber input plan history sub one → other.handset ≡ one.handset → other.lines.items ≡ one.lines.items
+    → vec_capacity one.lines ≤ vec_capacity other.lines → IsSubscriber input plan history sub other
+its-same input plan history sub one other its handset lines room =
+    let begun : begun_steps input sub one ≡ begun_steps input sub other =
+    ap (λ (ls : List Done). take (length ls) (steps_of (scripts_of input) sub)) (sym lines) in
+    record {
+      handset = subst (λ h. StandsForSteps (setting_over input plan) h (begun_steps input sub other)
+          (length (own sub history))) (sym handset)
+          (subst (λ ss. StandsForSteps (setting_over input plan) one.handset ss (length (own sub history))) begun
+          its.handset);
+      goes = subst (GoesWith plan) (sym handset) its.goes;
+      its = ap (λ (h : HandsetData). h.sub) handset ∙ its.its;
+      lines = lines ∙ (its.lines ∙ ap (λ ss. step_lines (setting_over input plan) sub
+          (course_at (start (setting_over input plan) sub)) ss (tickets sub history)) begun);
+      few = omega (arith, its.few, ap length lines);
+      under = λ before step split. its.under before step (begun ∙ split);
+      room = omega (arith, its.room, room);
+    }
+
+-- and so are many turns of it
+pub made-same : (input : Contents) (plan : PlanData) (cells : CellData) (history : History) (sub count : ℕ)
+    (one other : Subscriber)
+    → AreMade input plan cells history sub count (λ later. IsSubscriber input plan later sub one)
+    → other.handset ≡ one.handset → other.lines.items ≡ one.lines.items
+    → vec_capacity one.lines ≤ vec_capacity other.lines
+    → AreMade input plan cells history sub count (λ later. IsSubscriber input plan later sub other)
+made-same input plan cells history sub count one other made handset lines room =
+    record {
+      visits = made.visits;
+      turns = made.turns;
+      actors = made.actors;
+      sees = made.sees;
+      its = its-same input plan (history ++ made.visits) sub one other made.its handset lines room;
+    }
+
+-- of two visits that don't commit a line keeps the later ticket
+later-line : (line : Done) (first last : ℕ) → line_after (line_after line false first) false last
+    ≡ line_after line false last
+later-line (Moved actor number from to weight begun commit end) first last = refl
+later-line (Switched actor off node number end) first last = refl
+later-line (FoundBy actor from sub node number level weight begun end) first last = refl
+later-line (OffBy actor from sub node number level weight begun end) first last = refl
+later-line (AgainBy actor from sub why weight begun end) first last = refl
+
+-- an element that is set twice
+set-twice : {A : Type 0} (xs : List A) (i : ℕ) (a b : A) → set (set xs i a) i b ≡ set xs i b
+set-twice [] i a b = refl
+set-twice (x ∷ xs) zero a b = refl
+set-twice (x ∷ xs) (suc i) a b = ap (λ ys. x ∷ ys) (set-twice xs i a b)
+
+-- one write more
+lines-more : (lines : List Done) (line : Done) (ticket count : ℕ) → 0 < length lines
+    → lines_behind lines line ticket (suc count)
+    ≡ set (lines_behind lines line ticket count) (length (lines_behind lines line ticket count) - 1)
+    (line_after (get_or (lines_behind lines line ticket count)
+    (length (lines_behind lines line ticket count) - 1) line) false (ticket + count))
+lines-more lines line ticket zero some = refl
+lines-more lines line ticket (suc count) some =
+    let last : ℕ = length lines - 1 in
+    let before : Done = line_after (get_or lines last line) false (ticket + count) in
+    let size : length (set lines last before) ≡ length lines = length-set lines last before in
+    let here : get_or (set lines last before) last line ≡ before =
+    get_or-set_same lines last before line (omega (arith, some)) in
+    sym (ap (λ n. set (set lines last before) (n - 1) (line_after (get_or (set lines last before) (n - 1) line) false
+    (ticket + suc count))) size
+    ∙ (ap (λ l. set (set lines last before) last (line_after l false (ticket + suc count))) here
+    ∙ (ap (set (set lines last before) last) (later-line (get_or lines last line) (ticket + count) (ticket + suc count))
+    ∙ set-twice lines last before (line_after (get_or lines last line) false (ticket + suc count)))))
+
+-- the visit of the first of them
+first-put : (plan : PlanData) (old : HandsetData) (cells : CellData) (count : ℕ) (new : HandsetData)
+    (after : CellData) → 0 < count → HavePut plan old cells count new after
+    → (visit : Visit) × ((starts : List ℕ) (steps : List Step) (made : ℕ)
+    → StandsForSteps (setting_of plan starts) old steps made
+    → slice_get (visits (setting_of plan starts) old.sub steps) made ≡ Some visit)
+first-put plan old cells zero new after some puts = absurd (omega (arith, some))
+first-put plan old cells (suc zero) new after some (handset, between, rest, entry) = (
+  entry.put.visit,
+  λ starts steps made stands.
+      ap (λ s. slice_get (visits (setting_of plan starts) s steps) made) (ap (λ (h : HandsetData). h.sub) (sym rest.0))
+      ∙ entry.put.next starts steps made
+      (subst (λ h. StandsForSteps (setting_of plan starts) h steps made) (sym rest.0) stands),
+)
+first-put plan old cells (suc (suc count)) new after some (handset, between, rest, entry) =
+    first-put plan old cells (suc count) handset between (omega arith) rest
+
+-- a subscriber that makes some of them has a step under way
+pub some-line : MarksUnpack → TicketsAreOwn → ScriptsAreValid → (input : Contents) (plan : PlanData)
+    (distances : DistanceTable) (history : History) (sub : ℕ) (old : Subscriber) → BelongTogether input plan distances
+    → sub < length input.homes → IsSubscriber input plan history sub old → (cells : CellData) (count : ℕ)
+    (handset : HandsetData) (after : CellData) → 0 < count → HavePut plan old.handset cells count handset after
+    → 0 < length old.lines.items
+some-line unpack tell scripts input plan distances history sub old together low its cells count handset after some puts =
+    let put = first-put plan old.handset cells count handset after some puts in
+    let way = under-way unpack tell scripts input plan distances history sub old put.0 together low its
+    (ap (λ s. slice_get (visits (setting_over input plan) s (begun_steps input sub old)) (length (own sub history)))
+    (sym its.its) ∙ put.1 input.homes (begun_steps input sub old) (length (own sub history)) its.handset) in
+    omega (arith, ap length way.are, length_push way.rows way.row)
+
+-- as many turns make them
+pub written-many : MarksUnpack → OwnGrow → TicketsGrow → TicketsAreOwn → ScriptsAreValid → MoreIsPlayed
+    → ((setting : Setting) (scripts : Scripts) (history : History) (actor : ℕ) (visit : Visit)
+    → next setting scripts history actor ≡ Some visit → visit.actor ≡ actor)
+    → (input : Contents) (plan : PlanData) (distances : DistanceTable) (cells : CellData) (history : History)
+    (ticket sub : ℕ) (old : Subscriber) (line : Done)
+    → BelongTogether input plan distances → sub < length input.homes → length history ≡ ticket
+    → Sees input plan cells history → IsSubscriber input plan history sub old
+    → (count : ℕ) (handset : HandsetData) (after : CellData) → HavePut plan old.handset cells count handset after
+    → AreMade input plan after history sub count
+    (λ later. IsSubscriber input plan later sub (behind old handset line ticket count))
+written-many unpack own_law ticket_law tell scripts more mine input plan distances cells history ticket sub old line
+    together low place sees its zero handset after puts =
+    made-same input plan after history sub 0 old (behind old handset line ticket 0)
+    (subst (λ k. AreMade input plan k history sub 0 (λ later. IsSubscriber input plan later sub old)) (sym puts.1)
+    (made-none input plan cells history sub (λ later. IsSubscriber input plan later sub old) sees its))
+    puts.0 refl (omega arith)
+written-many unpack own_law ticket_law tell scripts more mine input plan distances cells history ticket sub old line
+    together low place sees its (suc count) handset after (before, between, rest, entry) =
+    let one : count + 1 ≡ suc count = omega arith in
+    let mid : Subscriber = behind old before line ticket count in
+    let new : Subscriber = behind old handset line ticket (suc count) in
+    let turn : TakesTurn input plan (ticket + count) sub mid new between after Visited =
+    λ later sight at stands.
+    let here = entry.put.next input.homes (begun_steps input sub mid) (length (own sub later)) stands.handset in
+    let way = under-way unpack tell scripts input plan distances later sub mid entry.put.visit together low stands
+    (ap (λ s. slice_get (visits (setting_over input plan) s (begun_steps input sub mid)) (length (own sub later)))
+    (sym stands.its) ∙ here) in
+    let size : length (lines_behind old.lines.items line ticket count) ≡ suc (length way.rows) =
+    ap length way.are ∙ omega (arith, length_push way.rows way.row) in
+    written-on unpack own_law ticket_law tell scripts input plan distances after later sub (ticket + count)
+    (length (lines_behind old.lines.items line ticket count) - 1) mid new entry.put.visit _ line together low at
+    stands here (entry.put.stands input.homes (begun_steps input sub mid) (length (own sub later)) stands.handset)
+    entry.goes entry.its
+    (lines-more old.lines.items line ticket count (some-lines count size)) (omega arith) (omega (arith, size))
+    (ap (λ b. line_after (get_or (lines_behind old.lines.items line ticket count)
+    (length (lines_behind old.lines.items line ticket count) - 1) line) b (ticket + count)) (sym entry.plain))
+    entry.over (entry.put.hold input.homes later sight.hold) in
+    subst (λ n. AreMade input plan after history sub n (λ later. IsSubscriber input plan later sub new)) one
+    (written-more more mine input plan between after history ticket sub count mid new place
+    (written-many unpack own_law ticket_law tell scripts more mine input plan distances cells history ticket sub old
+    line together low place sees its count before between rest) turn)
+  where
+    some-lines : (n : ℕ) {k : ℕ} → length (lines_behind old.lines.items line ticket n) ≡ suc k
+        → 0 < length old.lines.items
+    some-lines zero size = omega (arith, size)
+    some-lines (suc n) size = omega (
+      arith,
+      size,
+      length-set old.lines.items (length old.lines.items - 1)
+          (line_after (get_or old.lines.items (length old.lines.items - 1) line) false (ticket + n)),
+    )
+
+-- what they leave of the lines
+pub lines-are : (lines : List Done) (line : Done) (ticket count : ℕ) → 0 < count
+    → lines_behind lines line ticket count
+    ≡ set lines (length lines - 1) (line_after (get_or lines (length lines - 1) line) false (ticket + count - 1))
+lines-are lines line ticket zero some = absurd (omega (arith, some))
+lines-are lines line ticket (suc count) some =
+    let e : ticket + count ≡ ticket + suc count - 1 = omega arith in
+    ap (λ n. set lines (length lines - 1) (line_after (get_or lines (length lines - 1) line) false n)) e
+
+-- turns behind turns
+pub makes-more : (input : Contents) (plan : PlanData) (cells between after : CellData) (ticket sub count more : ℕ)
+    (old mid new : Subscriber) → MakesTurns input plan ticket sub old mid cells between count
+    → MakesTurns input plan (ticket + count) sub mid new between after more
+    → MakesTurns input plan ticket sub old new cells after (count + more)
+makes-more input plan cells between after ticket sub count more old mid new first then = λ history sees place its.
+    let Mid : History → Type 0 = λ later. IsSubscriber input plan later sub mid in
+    let made = first history sees place its in
+    made-joined input plan between after history sub count more Mid (λ later. IsSubscriber input plan later sub new)
+    made (then (history ++ made.visits) made.sees
+    (made-count input plan between history sub count Mid made ∙ ap (λ n. n + count) place) made.its)
+
+-- a subscriber behind turns has its turn
+pub may-turn : (input : Contents) (plan : PlanData) (cells after : CellData) (ticket sub count : ℕ)
+    (old mid : Subscriber) → MayTakeTurn input plan cells ticket sub old
+    → MakesTurns input plan ticket sub old mid cells after count
+    → MayTakeTurn input plan after (ticket + count) sub mid
+may-turn input plan cells after ticket sub count old mid may then =
+    let made = then may.0 may.1 may.2 may.3 in (
+      may.0 ++ made.visits,
+      made.sees,
+      made-count input plan after may.0 sub count (λ later. IsSubscriber input plan later sub mid) made
+          ∙ ap (λ n. n + count) may.2,
+      made.its,
+    )
+
+-- no writes
+pub none-written : (input : Contents) (plan : PlanData) (cells after : CellData) (history : History) (sub : ℕ)
+    (old : Subscriber) (handset : HandsetData) (count : ℕ) → count ≡ 0 → Sees input plan cells history
+    → IsSubscriber input plan history sub old → HavePut plan old.handset cells count handset after
+    → AreMade input plan after history sub count (λ later. IsSubscriber input plan later sub
+    (record old { handset = handset }))
+none-written input plan cells after history sub old handset zero none sees its puts =
+    made-same input plan after history sub 0 old (record old { handset = handset })
+    (subst (λ k. AreMade input plan k history sub 0 (λ later. IsSubscriber input plan later sub old)) (sym puts.1)
+    (made-none input plan cells history sub (λ later. IsSubscriber input plan later sub old) sees its))
+    puts.0 refl (omega arith)
+none-written input plan cells after history sub old handset (suc count) none sees its puts = absurd (omega (arith, none))
