@@ -17,6 +17,6 @@ mod trial;
 mod writing;
 mod wrong;
 
-pub use laws::{bytes_have_one_text, complete, runs_are_replayed};
+pub use laws::{bytes_have_one_text, complete, reports_tell, runs_are_replayed};
 pub use top::{command, command_with_threads};
 pub use wrong::wrong_ends;
