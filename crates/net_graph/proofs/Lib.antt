@@ -1,7 +1,8 @@
 mod Replacing
 mod Rows
 mod Lowering
-mod Chaining
+mod Noting
+mod Placing
 mod LayingOut
 mod Relaxing
 mod Searching
