@@ -11,8 +11,7 @@ use Rattle.net_reader.specs.Valid.{IsValid, count_calls}
 use Rattle.input_text.specs.declared.listing.ActorCall.{ActorCall}
 use Rattle.input_text.specs.Listing.{calls_from, calls_of, contents_in, input_text_of, listing_of, spoken_of}
 use Rattle.input_text.specs.Laws.{IsListing}
-use Rattle.input_text.specs.ListingLaws.{script-cons}
-use Rattle.input_text.proofs.Calls.{script-append}
+use Rattle.net_reader.specs.CallLaws.{script-append, script-cons}
 use Rattle.input_text.proofs.Whole.{listings_read}
 
 -- the calls of one actor, as the reader keeps them

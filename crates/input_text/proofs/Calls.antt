@@ -12,19 +12,11 @@ use Rattle.net_reader.specs.Table.{find_row, may_stand, most_calls, move_row, of
 use Rattle.net_reader.specs.Valid.{IsCourse, IsSearch}
 use Rattle.input_text.specs.declared.listing.ActorCall.{ActorCall}
 use Rattle.input_text.specs.Listing.{call_line, line_of_call, spoken_of}
-use Rattle.input_text.specs.ListingLaws.{script-cons}
+use Rattle.net_reader.specs.CallLaws.{script-append, script-cons}
 use Rattle.input_text.proofs.LineRead.{IsWord}
 use Rattle.input_text.proofs.Leading.{Leads, behind, behind-same, leads-line, leads-none, leads-word, small-one, small-two, small-three}
 
 -- ---- the script of an actor, with one call more
-
-pub script-append : (s : ℕ) (xs ys : List Spoken) → script_of s (xs ++ ys) ≡ script_of s xs ++ script_of s ys
-script-append s [] ys = refl
-script-append s (x ∷ xs) ys =
-    script-cons s x (xs ++ ys)
-    ∙ ap (λ l. cond (eqb x.actor s) (x.call ∷ []) [] ++ l) (script-append s xs ys)
-    ∙ sym (append_assoc (cond (eqb x.actor s) (x.call ∷ []) []) (script_of s xs) (script_of s ys))
-    ∙ ap (λ l. l ++ script_of s ys) (sym (script-cons s x xs))
 
 place-append : (here : ℕ) (xs ys : List Call) → place_after here (xs ++ ys) ≡ place_after (place_after here xs) ys
 place-append here [] ys = refl

@@ -15,7 +15,7 @@ use Rattle.net_reader.specs.Valid.{IsCourse, IsSearch}
 use Rattle.text_line.specs.OrderLines.{order_lines, pieces_within, pieces}
 use Rattle.input_text.specs.declared.listing.ActorCall.{ActorCall}
 use Rattle.input_text.specs.Listing.{ListingValue, actor_lines, call_line, call_lines, contents_in, edge_line, home_line, line_of, lines_from_k, lines_from_nodes, listing_text, network_lines, spoken_of}
-use Rattle.input_text.specs.ListingLaws.{script-at, scripts_count}
+use Rattle.net_reader.specs.CallLaws.{script-at, scripts_count}
 use Rattle.input_text.specs.Laws.{IsListing}
 use Rattle.input_text.proofs.Calls.{AreNext, calls-lead}
 use Rattle.input_text.proofs.Leading.{IsPiece, Leads, behind, callers-good, edges-lead, homes-lead, is_callers, is_k, is_nodes, is_track, k-good, leads-both, leads-line, leads-word, nodes-good, orders-lead, small-one, track-good}

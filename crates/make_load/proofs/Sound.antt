@@ -16,7 +16,7 @@ use Rattle.net_reader.specs.Valid.{IsCourse, IsSearch}
 use Rattle.word_line.specs.declared.load.Load.{Load}
 use Rattle.input_text.specs.declared.listing.ActorCall.{ActorCall}
 use Rattle.input_text.specs.Listing.{spoken_of}
-use Rattle.input_text.specs.ListingLaws.{script-cons}
+use Rattle.net_reader.specs.CallLaws.{script-cons}
 use Rattle.make_load.specs.Draws.{draw}
 use Rattle.make_load.specs.Load.{DrawnCall, drawn_calls, drawn_find, drawn_move, is_move, target_of}
 

@@ -18,7 +18,7 @@ use Rattle.word_line.specs.declared.load.Load.{Load}
 use Rattle.input_text.specs.declared.listing.ActorCall.{ActorCall}
 use Rattle.input_text.specs.Laws.{IsListing}
 use Rattle.input_text.specs.Listing.{contents_in, spoken_of}
-use Rattle.input_text.specs.ListingLaws.{script-at, scripts-few, scripts_count}
+use Rattle.net_reader.specs.CallLaws.{script-at, scripts-few, scripts_count}
 use Rattle.make_load.specs.Draws.{draw, draw_list, generator_of}
 use Rattle.make_load.specs.Load.{IsLoad, calls_of, drawn_call, drawn_calls, format_of, homes_of, listing_of, order_of, other_edge, others_of, tree_edge, tree_of}
 use Rattle.make_load.proofs.Lists.{all-drawn, count-drawn}

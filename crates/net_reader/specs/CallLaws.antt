@@ -1,13 +1,109 @@
--- One script after another, and one call more in one of them.
-use Rattle.std.proofs.Common.{◌≡◌, ◌≢◌, ℕ, zero, suc, ◌+◌, ◌-◌, ◌<◌, ◌≤◌, Bool, true, false, cond, append-nil, eqb, List, [], ◌∷◌, ◌++◌, length, map, get_or, set, ap, refl, sym, ◌∙◌, arith, append_assoc}
+-- What a list of calls says of one actor: its script, call by call, and with one call more at the end;
+-- and how many calls all scripts have.
+-- Key laws: `script-cons`, `script-append`, `script-at`, `scripts-few`, `call-taken`.
+use Rattle.std.proofs.Common.{◌≡◌, ◌≢◌, ℕ, zero, suc, ◌+◌, ◌-◌, ◌<◌, ◌≤◌, Bool, true, false, cond, eqb, List, [], ◌∷◌, ◌++◌}
+use Rattle.std.proofs.Common.{append-nil, append_assoc, filter, length, map, get_or, set, refl, ap, sym, ◌∙◌, arith}
 use Rattle.std.proofs.lemmas.Bool.Decides.{nat_tests}
 use Rattle.std.proofs.lemmas.List.{map-set, length-map}
 use Rattle.net_reader.specs.declared.said.Call.{Call}
 use Rattle.net_reader.specs.declared.said.Spoken.{Spoken}
-use Rattle.net_reader.specs.Said.{script_of}
 use Rattle.net_reader.specs.Input.{numbers_from}
-use Rattle.input_text.specs.ListingLaws.{script-cons}
-use Rattle.input_text.proofs.Calls.{script-append}
+use Rattle.net_reader.specs.Said.{script_of}
+use Rattle.net_reader.specs.Valid.{count_calls}
+
+cons-go : (mine : Bool) (d : Spoken) (rest : List Spoken)
+    → map (λ (x : Spoken). x.call) (cond mine (d ∷ rest) rest)
+    ≡ cond mine (d.call ∷ []) [] ++ map (λ (x : Spoken). x.call) rest
+cons-go true d rest = refl
+cons-go false d rest = refl
+
+-- a script begins with a call that is its actor's
+pub script-cons : (s : ℕ) (d : Spoken) (rest : List Spoken)
+    → script_of s (d ∷ rest) ≡ cond (eqb d.actor s) (d.call ∷ []) [] ++ script_of s rest
+script-cons s d rest =
+    cons-go (eqb d.actor s) d (filter (λ (x : Spoken). eqb x.actor s) rest)
+
+-- the script of a longer list goes on with what the rest says
+pub script-append : (s : ℕ) (xs ys : List Spoken) → script_of s (xs ++ ys) ≡ script_of s xs ++ script_of s ys
+script-append s [] ys = refl
+script-append s (x ∷ xs) ys =
+    script-cons s x (xs ++ ys)
+    ∙ ap (λ l. cond (eqb x.actor s) (x.call ∷ []) [] ++ l) (script-append s xs ys)
+    ∙ sym (append_assoc (cond (eqb x.actor s) (x.call ∷ []) []) (script_of s xs) (script_of s ys))
+    ∙ ap (λ l. l ++ script_of s ys) (sym (script-cons s x xs))
+
+-- one script for each actor
+pub scripts_count : (f : ℕ → List Call) (from m : ℕ) → length (map f (numbers_from from m)) ≡ m
+scripts_count f from zero = refl
+scripts_count f from (suc m) = ap suc (scripts_count f (from + 1) m)
+
+script-from : (f : ℕ → List Call) (from m i : ℕ) → i < m
+    → get_or (map f (numbers_from from m)) i [] ≡ f (from + i)
+script-from f from zero i lt = absurd (omega arith)
+script-from f from (suc m) zero lt = ap f (omega arith)
+script-from f from (suc m) (suc i) lt =
+    let next : from + 1 + i ≡ from + suc i = omega arith in
+    script-from f (from + 1) m i (omega arith) ∙ ap f next
+
+-- and it is that actor's
+pub script-at : (f : ℕ → List Call) (m i : ℕ) → i < m
+    → get_or (map f (numbers_from 0 m)) i [] ≡ f i
+script-at f m i lt =
+    let none : 0 + i ≡ i = omega arith in script-from f 0 m i lt ∙ ap f none
+
+-- how many calls the scripts of so many actors have
+abbrev pub total : ℕ → ℕ → List Spoken → ℕ
+total from m calls = count_calls (map (λ actor. script_of actor calls) (numbers_from from m))
+
+-- whether an actor is among them, as a number
+abbrev hits : ℕ → ℕ → ℕ → ℕ
+hits actor from zero = 0
+hits actor from (suc m) = cond (eqb actor from) 1 0 + hits actor (from + 1) m
+
+hits-none : (actor from m : ℕ) → actor < from → hits actor from m ≡ 0
+hits-none actor from zero lt = refl
+hits-none actor from (suc m) lt =
+    let rest = hits-none actor (from + 1) m (omega arith) in
+    grind (arith, nat_tests, rest)
+
+hits-go : (mine : Bool) (actor from m : ℕ) → eqb actor from ≡ mine → hits actor (from + 1) m ≤ 1
+    → cond mine 1 0 + hits actor (from + 1) m ≤ 1
+hits-go true actor from m e h =
+    let less : actor < from + 1 = grind (arith, nat_tests) in
+    omega (arith, hits-none actor (from + 1) m less)
+hits-go false actor from m e h = omega (arith, h)
+
+hits-few : (actor from m : ℕ) → hits actor from m ≤ 1
+hits-few actor from zero = omega arith
+hits-few actor from (suc m) =
+    hits-go (eqb actor from) actor from m refl (hits-few actor (from + 1) m)
+
+one-go : (mine : Bool) (call : Call) (script : List Call)
+    → length (cond mine (call ∷ []) [] ++ script) ≡ cond mine 1 0 + length script
+one-go true call script = omega arith
+one-go false call script = omega arith
+
+total-none : (from m : ℕ) → total from m [] ≡ 0
+total-none from zero = refl
+total-none from (suc m) = omega (arith, total-none (from + 1) m)
+
+total-cons : (from m : ℕ) (d : Spoken) (calls : List Spoken)
+    → total from m (d ∷ calls) ≡ hits d.actor from m + total from m calls
+total-cons from zero d calls = refl
+total-cons from (suc m) d calls = omega (
+  arith,
+  total-cons (from + 1) m d calls,
+  ap length (script-cons from d calls),
+  one-go (eqb d.actor from) d.call (script_of from calls),
+)
+
+-- the scripts of so many actors have no more calls than are listed
+pub scripts-few : (from m : ℕ) (calls : List Spoken) → total from m calls ≤ length calls
+scripts-few from m [] = omega (arith, total-none from m)
+scripts-few from m (d ∷ calls) =
+    omega (arith, total-cons from m d calls, hits-few d.actor from m, scripts-few from m calls)
+
+-- ---- one call more
 
 numbers-step : (n m : ℕ) → n < m → numbers_from n (m - n) ≡ n ∷ numbers_from (n + 1) (m - (n + 1))
 numbers-step n m lt =
@@ -28,15 +124,15 @@ abbrev pub scripts : List Spoken → ℕ → ℕ → List (List Call)
 scripts calls from n = map (λ actor. script_of actor calls) (numbers_from from n)
 
 -- another actor's script stays as it was, and this one's has the call at its end
-one-go : (mine : Bool) (script : List Call) (call : Call) → mine ≡ true
+push-go : (mine : Bool) (script : List Call) (call : Call) → mine ≡ true
     → script ++ (cond mine (call ∷ []) [] ++ []) ≡ script ++ call ∷ []
-one-go true script call e = refl
-one-go false script call e = cc
+push-go true script call e = refl
+push-go false script call e = cc
 
-none-go : (mine : Bool) (script : List Call) (call : Call) → mine ≡ false
+npush-go : (mine : Bool) (script : List Call) (call : Call) → mine ≡ false
     → script ++ (cond mine (call ∷ []) [] ++ []) ≡ script
-none-go true script call e = cc
-none-go false script call e = append-nil script
+npush-go true script call e = cc
+npush-go false script call e = append-nil script
 
 script-push : (s : ℕ) (calls : List Spoken) (d : Spoken)
     → script_of s (calls ++ d ∷ []) ≡ script_of s calls ++ (cond (eqb d.actor s) (d.call ∷ []) [] ++ [])
@@ -47,13 +143,13 @@ other-script : (s : ℕ) (calls : List Spoken) (d : Spoken) → d.actor ≢ s
     → script_of s (calls ++ d ∷ []) ≡ script_of s calls
 other-script s calls d differs =
     let e : eqb d.actor s ≡ false = grind (arith, nat_tests) in
-    script-push s calls d ∙ none-go (eqb d.actor s) (script_of s calls) d.call e
+    script-push s calls d ∙ npush-go (eqb d.actor s) (script_of s calls) d.call e
 
 own-script : (s : ℕ) (calls : List Spoken) (d : Spoken) → d.actor ≡ s
     → script_of s (calls ++ d ∷ []) ≡ script_of s calls ++ d.call ∷ []
 own-script s calls d same =
     let e : eqb d.actor s ≡ true = grind (arith, nat_tests) in
-    script-push s calls d ∙ one-go (eqb d.actor s) (script_of s calls) d.call e
+    script-push s calls d ∙ push-go (eqb d.actor s) (script_of s calls) d.call e
 
 -- a call of an actor below these, or of one above
 scripts-below : (from n : ℕ) (calls : List Spoken) (d : Spoken) → d.actor < from
@@ -84,11 +180,6 @@ scripts-at from (suc n) (suc at) calls d below is =
     ∙ ap (λ ss. script_of from (calls ++ d ∷ []) ∷ ss)
     (scripts-at (from + 1) n at calls d (omega (arith, below)) (omega (arith, is)))
 
--- so many scripts there are
-scripts-count : (from n : ℕ) (calls : List Spoken) → length (scripts calls from n) ≡ n
-scripts-count from zero calls = refl
-scripts-count from (suc n) calls = ap suc (scripts-count (from + 1) n calls)
-
 get-map : {V : Type 0} (f : V → List Call) (xs : List V) (i : ℕ) (d : V) → i < length xs
     → get_or (map f xs) i [] ≡ f (get_or xs i d)
 get-map f [] i d below = absurd (omega (arith, below))
@@ -106,10 +197,10 @@ call-taken items made was now n calls d are below found is =
     map-set items made d.actor now
     ∙ ap (set (map items made) d.actor) (is ∙ ap (λ s. s ++ d.call ∷ []) script)
     ∙ ap (λ ss. set ss d.actor (get_or ss d.actor [] ++ d.call ∷ [])) are
-    ∙ scripts-at 0 n d.actor calls d (omega (arith, below, count, ap length are, scripts-count 0 n calls)) (omega arith)
+    ∙ scripts-at 0 n d.actor calls d (omega (arith, below, count, ap length are, scripts_count (λ actor. script_of actor calls) 0 n)) (omega arith)
 
 pub call-left_out : {V : Type 0} (items : V → List Call) (made : List V) (n : ℕ) (calls : List Spoken) (d : Spoken)
     → map items made ≡ scripts calls 0 n → length made ≤ d.actor → map items made ≡ scripts (calls ++ d ∷ []) 0 n
 call-left_out items made n calls d are above =
     are ∙ scripts-above 0 n calls d
-    (omega (arith, above, length-map made items, ap length are, scripts-count 0 n calls))
+    (omega (arith, above, length-map made items, ap length are, scripts_count (λ actor. script_of actor calls) 0 n))
