@@ -1,3 +1,4 @@
+mod Elements
 mod Replacing
 mod Rows
 mod Lowering

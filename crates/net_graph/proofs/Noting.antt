@@ -1,5 +1,5 @@
 -- The arcs that lead from a node, among those that a list of edges notes.
-use Rattle.std.proofs.Common.{◌≡◌, ◌≢◌, ◌⊎◌, ℕ, zero, suc, ◌+◌, ◌<◌, ◌≤◌, List, [], ◌∷◌, ◌++◌}
+use Rattle.std.proofs.Common.{◌≡◌, ◌≢◌, ◌⊎◌, ℕ, ◌+◌, ◌<◌, ◌≤◌, List, [], ◌∷◌, ◌++◌}
 use Rattle.std.proofs.Common.{length, get_or, take, refl, sym, ◌∙◌, ap, subst, inl, inr, arith}
 use Rattle.std.specs.Prelude.{Contains, ◌==◌}
 use Rattle.std.proofs.lemmas.Bool.{cases_Bool, cases_eq, eq-eqb, ne_eqb}
@@ -11,6 +11,7 @@ use Rattle.net_graph.specs.declared.edge.Edge.{Edge}
 use Rattle.net_graph.specs.declared.neighbours.Arc.{Arc}
 use Rattle.net_graph.specs.Walks.{Joins, make_edge}
 use Rattle.net_graph.specs.Layout.{make_arc}
+use Rattle.net_graph.proofs.Elements.{first, first_or_later, later}
 use Rattle.net_graph.specs.Notes.{Note, note_of, notes_by, notes_of, row_of, JoinsOther, AreArcsBy}
 
 -- ---- rows
@@ -87,10 +88,6 @@ notes-push edges i d below =
 IsBetween : Edge → ℕ → ℕ → ℕ → Type 0
 IsBetween edge u v w = (edge ≡ make_edge u v w) ⊎ (edge ≡ make_edge v u w)
 
-first_or_later : (x y : Arc) (xs : List Arc) → Contains (y ∷ xs) x → (y ≡ x) ⊎ Contains xs x
-first_or_later x y xs (zero, below, here) = inl here
-first_or_later x y xs (suc k, below, here) = inr (k, omega arith, here)
-
 nothing_there : {R : Type 0} (x : Arc) → Contains [] x → R
 nothing_there x (k, below, here) = absurd (omega arith)
 
@@ -122,8 +119,8 @@ row_has edge u v w has = elim (cases_eq edge.a edge.b) [
                     (λ same. apart (sym here ∙ same ∙ sym target_is)),
                     inl (edge_parts edge u v w (sym here) target_is (ap (λ (x : Arc). x.weight) is)),
                   )
-              | inr later ↦ nothing_there (make_arc v w) (subst (λ xs. Contains xs (make_arc v w))
-                  (row-other u (note_of edge.b edge.a edge.weight) [] (λ same. apart (sym here ∙ same))) later)
+              | inr behind ↦ nothing_there (make_arc v w) (subst (λ xs. Contains xs (make_arc v w))
+                  (row-other u (note_of edge.b edge.a edge.weight) [] (λ same. apart (sym here ∙ same))) behind)
             ]
         | inr away ↦
             let there : Contains (row_of u (note_of edge.b edge.a edge.weight ∷ [])) (make_arc v w) =
@@ -140,16 +137,13 @@ row_has edge u v w has = elim (cases_eq edge.a edge.b) [
                           (λ same. away (same ∙ sym target_is)),
                           inr (edge_parts edge v u w target_is (sym here) (ap (λ (x : Arc). x.weight) is)),
                         )
-                    | inr later ↦ nothing_there (make_arc v w) later
+                    | inr behind ↦ nothing_there (make_arc v w) behind
                   ]
               | inr off ↦ nothing_there (make_arc v w) (subst (λ xs. Contains xs (make_arc v w))
                   (row-other u (note_of edge.b edge.a edge.weight) [] off) there)
             ]
       ]
 ]
-
-has_first : (x : Arc) (xs : List Arc) → Contains (x ∷ xs) x
-has_first x xs = (0, omega arith, refl)
 
 -- an edge that joins two nodes stands in the row of each
 has_row : (edge : Edge) (u v w : ℕ) → u ≢ v → IsBetween edge u v w
@@ -159,14 +153,14 @@ has_row edge u v w apart (inl is) =
     subst (λ e. Contains (row_of u (notes_by e)) (make_arc v w)) (sym is)
     (subst (λ xs. Contains (row_of u xs) (make_arc v w)) (sym (edge-notes (make_edge u v w) apart))
     (subst (λ xs. Contains xs (make_arc v w)) (sym (row-own (note_of u v w) (note_of v u w ∷ [])))
-    (has_first (make_arc v w) (row_of u (note_of v u w ∷ [])))))
+    (first (make_arc v w) (row_of u (note_of v u w ∷ [])))))
 has_row edge u v w apart (inr is) =
     subst (λ e. Contains (row_of u (notes_by e)) (make_arc v w)) (sym is)
     (subst (λ xs. Contains (row_of u xs) (make_arc v w))
     (sym (edge-notes (make_edge v u w) (λ same. apart (sym same))))
     (subst (λ xs. Contains xs (make_arc v w))
     (sym (row-other u (note_of v u w) (note_of u v w ∷ []) apart ∙ row-own (note_of u v w) []))
-    (has_first (make_arc v w) [])))
+    (first (make_arc v w) [])))
 
 -- ---- the row of a node has the arcs by which it is joined
 
@@ -174,13 +168,6 @@ row-cons : (u : ℕ) (edge : Edge) (edges : List Edge) → row_of u (notes_of (e
     ≡ row_of u (notes_by edge) ++ row_of u (notes_of edges)
 row-cons u edge edges =
     ap (row_of u) (flat_map-cons notes_by edge edges) ∙ row-append u (notes_by edge) (notes_of edges)
-
-head_or_tail : (x y : Edge) (xs : List Edge) → Contains (y ∷ xs) x → (y ≡ x) ⊎ Contains xs x
-head_or_tail x y xs (zero, below, here) = inl here
-head_or_tail x y xs (suc k, below, here) = inr (k, omega arith, here)
-
-in_tail : (x y : Edge) (xs : List Edge) → Contains xs x → Contains (y ∷ xs) x
-in_tail x y xs (k, below, here) = (suc k, omega arith, here)
 
 at_head : (edge x : Edge) (edges : List Edge) → edge ≡ x → Contains (edge ∷ edges) x
 at_head edge x edges is = (0, omega arith, is)
@@ -197,8 +184,8 @@ joined (edge ∷ edges) u v w has =
         | inr way ↦ (is.0, inr (at_head edge (make_edge v u w) edges way))
       ]
       | inr there ↦ let is = joined edges u v w there in elim is.1 [
-        | inl way ↦ (is.0, inl (in_tail (make_edge u v w) edge edges way))
-        | inr way ↦ (is.0, inr (in_tail (make_edge v u w) edge edges way))
+        | inl way ↦ (is.0, inl (later (make_edge u v w) edge edges way))
+        | inr way ↦ (is.0, inr (later (make_edge v u w) edge edges way))
       ]
     ]
 
@@ -206,13 +193,13 @@ one_more : (edge : Edge) (edges : List Edge) (u v w : ℕ) → u ≢ v
     → (Joins edges u v w → Contains (row_of u (notes_of edges)) (make_arc v w)) → Joins (edge ∷ edges) u v w
     → Contains (row_of u (notes_of (edge ∷ edges))) (make_arc v w)
 unfolding IsBetween
-one_more edge edges u v w apart later way =
+one_more edge edges u v w apart rest_has way =
     subst (λ xs. Contains xs (make_arc v w)) (sym (row-cons u edge edges)) (elim way [
-      | inl one ↦ elim (head_or_tail (make_edge u v w) edge edges one) [
+      | inl one ↦ elim (first_or_later (make_edge u v w) edge edges one) [
         | inl is ↦ here (inl is)
         | inr behind ↦ there (inl behind)
       ]
-      | inr other ↦ elim (head_or_tail (make_edge v u w) edge edges other) [
+      | inr other ↦ elim (first_or_later (make_edge v u w) edge edges other) [
         | inl is ↦ here (inr is)
         | inr behind ↦ there (inr behind)
       ]
@@ -226,7 +213,7 @@ one_more edge edges u v w apart later way =
     there : Joins edges u v w
         → Contains (row_of u (notes_by edge) ++ row_of u (notes_of edges)) (make_arc v w)
     there behind = Contains-append_right (row_of u (notes_by edge)) (row_of u (notes_of edges)) (make_arc v w)
-        (later behind)
+        (rest_has behind)
 
 in_row : (edges : List Edge) (u v w : ℕ) → u ≢ v → Joins edges u v w
     → Contains (row_of u (notes_of edges)) (make_arc v w)
