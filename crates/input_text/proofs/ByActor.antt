@@ -61,7 +61,8 @@ none-below a actor (script ∷ scripts) below =
 -- one script more is listed
 pub calls-step : (scripts : List (List Call)) (done now all : List ActorCall) (actor : ℕ) (script : List Call)
     → actor < length scripts → get_or scripts actor [] ≡ script → now ≡ done ++ calls_of actor script
-    → done ++ calls_from actor (drop actor scripts) ≡ all → now ++ calls_from (actor + 1) (drop (actor + 1) scripts) ≡ all
+    → done ++ calls_from actor (drop actor scripts) ≡ all → now ++ calls_from (actor + 1) (drop (actor + 1) scripts)
+    ≡ all
 calls-step scripts done now all actor script below is grown so_far =
     let rest : List ActorCall = calls_from (actor + 1) (drop (actor + 1) scripts) in
     let here : drop actor scripts ≡ get_or scripts actor [] ∷ drop (actor + 1) scripts =

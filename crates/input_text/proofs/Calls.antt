@@ -46,7 +46,8 @@ search-past : (n subs : ℕ) (mine : Bool) (call : Call) (script : List Call)
 search-past n subs true call script h = All-tail (IsSearch n subs) call script h
 search-past n subs false call script h = h
 
-own-go : (mine : Bool) (call : Call) (script : List Call) → mine ≡ true → cond mine (call ∷ []) [] ++ script ≡ call ∷ script
+own-go : (mine : Bool) (call : Call) (script : List Call) → mine ≡ true
+    → cond mine (call ∷ []) [] ++ script ≡ call ∷ script
 own-go true call script e = refl
 own-go false call script e = cc
 
@@ -188,7 +189,8 @@ search-line : (said : Said) (actor : ℕ) (call : Call) → may_stand said.place
     → Leads said (line_of_call actor call) (heard said (record { actor = actor; call = call }))
 search-line said actor (calls.Move to) stands room nodes subs callers above below h = absurd h
 search-line said actor (calls.Find from sub) stands room nodes subs callers above below h =
-    leads-word said (heard said (record { actor = actor; call = calls.Find from sub })) (codes "find") (actor ∷ from ∷ sub
+    leads-word said (heard said (record { actor = actor; call = calls.Find from sub })) (codes "find")
+    (actor ∷ from ∷ sub
     ∷ []) 7 find_row is_find (small-three actor from sub (omega (arith, below, subs, callers)) (omega (
       arith,
       h.0,

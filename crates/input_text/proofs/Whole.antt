@@ -141,7 +141,8 @@ calls-part l is =
     let orders = orders-lead (after_calls l) (pieces l.order) (order-stands l.calls) few parts.sound in
     leads-both (after_callers l) (after_calls l) (after_order l) (map call_line l.calls) (order_lines l.order)
     (calls-lead (after_callers l) l.calls refl (listed-next l is))
-    (subst (λ (ns : List ℕ). Leads (after_calls l) (concat (order_lines l.order)) (record (after_order l) { order = ns }))
+    (subst (λ (ns : List ℕ). Leads (after_calls l) (concat (order_lines l.order))
+    (record (after_order l) { order = ns }))
     parts.joined orders)
 
 actors-part : (l : ListingValue) → IsListing l → Leads (after_network l) (concat (actor_lines l)) (after_order l)
@@ -163,7 +164,8 @@ network-part : (l : ListingValue) → IsListing l → Leads (after_k l) (concat 
 network-part l is =
     let valid = is.valid in
     leads-both (after_k l) (after_network l) (after_order l) (map edge_line l.edges) (actor_lines l)
-    (edges-lead (after_k l) l.edges refl (most-few l.format l.nodes valid.format valid.few) valid.edges (omega (arith, valid.few_edges)))
+    (edges-lead (after_k l) l.edges refl (most-few l.format l.nodes valid.format valid.few) valid.edges
+    (omega (arith, valid.few_edges)))
     (actors-part l is)
 
 format-small : (format : ℕ) → (format ≡ 1) ⊎ (format ≡ 2) → format < 10000000

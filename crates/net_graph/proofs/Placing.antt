@@ -220,7 +220,8 @@ module _ (n : ℕ) (all : List Note) (starts : List ℕ) (room : HaveRoom n all 
               (here (subst (λ u. place < get_or (set taken note.from (get_or taken note.from 0 + 1)) u 0) same short))
           | inr other ↦
               let low : place < get_or taken v 0 =
-              subst (λ k. place < k) (get_or-set_other taken note.from v (get_or taken note.from 0 + 1) 0 other) short in
+              subst (λ k. place < k) (get_or-set_other taken note.from v (get_or taken note.from 0 + 1) 0 other) short
+              in
               get_or-set_other arcs (get_or starts note.from 0 + get_or taken note.from 0) (get_or starts v 0 + place)
               note.arc d
               (apart v note.from place (get_or taken note.from 0) (omega (arith, old, long)) below other

@@ -1,5 +1,5 @@
--- What a list of calls says of one actor: its script, call by call, and with one call more at the end;
--- and how many calls all scripts have.
+-- What a list of calls says of one actor: its script, call by call, and with one call more at the
+-- end; and how many calls all scripts have.
 -- Key laws: `script-cons`, `script-append`, `script-at`, `scripts-few`, `call-taken`.
 use Rattle.std.proofs.Common.{◌≡◌, ◌≢◌, ℕ, zero, suc, ◌+◌, ◌-◌, ◌<◌, ◌≤◌, Bool, true, false, cond, eqb, List, [], ◌∷◌, ◌++◌}
 use Rattle.std.proofs.Common.{append-nil, append_assoc, filter, length, map, get_or, set, refl, ap, sym, ◌∙◌, arith}
@@ -24,7 +24,8 @@ script-cons s d rest =
     cons-go (eqb d.actor s) d (filter (λ (x : Spoken). eqb x.actor s) rest)
 
 -- the script of a longer list goes on with what the rest says
-pub script-append : (s : ℕ) (xs ys : List Spoken) → script_of s (xs ++ ys) ≡ script_of s xs ++ script_of s ys
+pub script-append : (s : ℕ) (xs ys : List Spoken) → script_of s (xs ++ ys) ≡ script_of s xs
+    ++ script_of s ys
 script-append s [] ys = refl
 script-append s (x ∷ xs) ys =
     script-cons s x (xs ++ ys)
@@ -135,7 +136,8 @@ npush-go true script call e = cc
 npush-go false script call e = append-nil script
 
 script-push : (s : ℕ) (calls : List Spoken) (d : Spoken)
-    → script_of s (calls ++ d ∷ []) ≡ script_of s calls ++ (cond (eqb d.actor s) (d.call ∷ []) [] ++ [])
+    → script_of s (calls ++ d ∷ []) ≡ script_of s calls
+    ++ (cond (eqb d.actor s) (d.call ∷ []) [] ++ [])
 script-push s calls d =
     script-append s calls (d ∷ []) ∙ ap (λ l. script_of s calls ++ l) (script-cons s d [])
 
@@ -156,15 +158,19 @@ scripts-below : (from n : ℕ) (calls : List Spoken) (d : Spoken) → d.actor < 
     → scripts calls from n ≡ scripts (calls ++ d ∷ []) from n
 scripts-below from zero calls d below = refl
 scripts-below from (suc n) calls d below =
-    ap (λ s. s ∷ scripts calls (from + 1) n) (sym (other-script from calls d (omega (arith, below))))
-    ∙ ap (λ ss. script_of from (calls ++ d ∷ []) ∷ ss) (scripts-below (from + 1) n calls d (omega (arith, below)))
+    ap (λ s. s ∷ scripts calls (from + 1) n) (sym (other-script from calls d
+    (omega (arith, below))))
+    ∙ ap (λ ss. script_of from (calls ++ d ∷ []) ∷ ss)
+    (scripts-below (from + 1) n calls d (omega (arith, below)))
 
 scripts-above : (from n : ℕ) (calls : List Spoken) (d : Spoken) → from + n ≤ d.actor
     → scripts calls from n ≡ scripts (calls ++ d ∷ []) from n
 scripts-above from zero calls d above = refl
 scripts-above from (suc n) calls d above =
-    ap (λ s. s ∷ scripts calls (from + 1) n) (sym (other-script from calls d (omega (arith, above))))
-    ∙ ap (λ ss. script_of from (calls ++ d ∷ []) ∷ ss) (scripts-above (from + 1) n calls d (omega (arith, above)))
+    ap (λ s. s ∷ scripts calls (from + 1) n) (sym (other-script from calls d
+    (omega (arith, above))))
+    ∙ ap (λ ss. script_of from (calls ++ d ∷ []) ∷ ss)
+    (scripts-above (from + 1) n calls d (omega (arith, above)))
 
 -- a call of the actor at this place among them
 scripts-at : (from n at : ℕ) (calls : List Spoken) (d : Spoken) → at < n → d.actor ≡ from + at
@@ -173,9 +179,11 @@ scripts-at : (from n at : ℕ) (calls : List Spoken) (d : Spoken) → at < n →
 scripts-at from zero at calls d below is = absurd (omega (arith, below))
 scripts-at from (suc n) zero calls d below is =
     ap (λ s. s ∷ scripts calls (from + 1) n) (sym (own-script from calls d (omega (arith, is))))
-    ∙ ap (λ ss. script_of from (calls ++ d ∷ []) ∷ ss) (scripts-below (from + 1) n calls d (omega (arith, is)))
+    ∙ ap (λ ss. script_of from (calls ++ d ∷ []) ∷ ss)
+    (scripts-below (from + 1) n calls d (omega (arith, is)))
 scripts-at from (suc n) (suc at) calls d below is =
-    ap (λ s. s ∷ set (scripts calls (from + 1) n) at (get_or (scripts calls (from + 1) n) at [] ++ d.call ∷ []))
+    ap (λ s. s ∷ set (scripts calls (from + 1) n) at
+    (get_or (scripts calls (from + 1) n) at [] ++ d.call ∷ []))
     (sym (other-script from calls d (omega (arith, is))))
     ∙ ap (λ ss. script_of from (calls ++ d ∷ []) ∷ ss)
     (scripts-at (from + 1) n at calls d (omega (arith, below)) (omega (arith, is)))
@@ -187,9 +195,12 @@ get-map f (x ∷ xs) zero d below = refl
 get-map f (x ∷ xs) (suc i) d below = get-map f xs i d (omega (arith, below))
 
 -- the same over what the scripts are kept in
-pub call-taken : {V : Type 0} (items : V → List Call) (made : List V) (was now : V) (n : ℕ) (calls : List Spoken)
-    (d : Spoken) → map items made ≡ scripts calls 0 n → d.actor < length made → was ≡ get_or made d.actor was
-    → items now ≡ items was ++ d.call ∷ [] → map items (set made d.actor now) ≡ scripts (calls ++ d ∷ []) 0 n
+pub call-taken : {V : Type 0} (items : V → List Call) (made : List V) (was now : V) (n : ℕ)
+    (calls : List Spoken)
+    (d : Spoken) → map items made ≡ scripts calls 0 n → d.actor < length made
+    → was ≡ get_or made d.actor was
+    → items now ≡ items was ++ d.call ∷ [] → map items (set made d.actor now)
+    ≡ scripts (calls ++ d ∷ []) 0 n
 call-taken items made was now n calls d are below found is =
     let count = length-map made items in
     let script : items was ≡ get_or (map items made) d.actor [] =
@@ -197,10 +208,26 @@ call-taken items made was now n calls d are below found is =
     map-set items made d.actor now
     ∙ ap (set (map items made) d.actor) (is ∙ ap (λ s. s ++ d.call ∷ []) script)
     ∙ ap (λ ss. set ss d.actor (get_or ss d.actor [] ++ d.call ∷ [])) are
-    ∙ scripts-at 0 n d.actor calls d (omega (arith, below, count, ap length are, scripts_count (λ actor. script_of actor calls) 0 n)) (omega arith)
+    ∙ scripts-at 0 n d.actor calls d (omega (
+      arith,
+      below,
+      count,
+      ap length are,
+      scripts_count
+          (λ actor. script_of actor calls) 0 n,
+    )) (omega arith)
 
-pub call-left_out : {V : Type 0} (items : V → List Call) (made : List V) (n : ℕ) (calls : List Spoken) (d : Spoken)
-    → map items made ≡ scripts calls 0 n → length made ≤ d.actor → map items made ≡ scripts (calls ++ d ∷ []) 0 n
+pub call-left_out : {V : Type 0} (items : V → List Call) (made : List V) (n : ℕ)
+    (calls : List Spoken) (d : Spoken)
+    → map items made ≡ scripts calls 0 n → length made ≤ d.actor
+    → map items made ≡ scripts (calls ++ d ∷ []) 0 n
 call-left_out items made n calls d are above =
     are ∙ scripts-above 0 n calls d
-    (omega (arith, above, length-map made items, ap length are, scripts_count (λ actor. script_of actor calls) 0 n))
+    (omega (
+      arith,
+      above,
+      length-map made items,
+      ap length are,
+      scripts_count
+          (λ actor. script_of actor calls) 0 n,
+    ))
