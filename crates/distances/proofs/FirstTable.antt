@@ -132,7 +132,8 @@ pub rows_made : LeastWeightsAreFound → LeastWeightsAreBounded → (network : N
     → IsFirstTable network width first → seen ≡ first → length seen ≡ k → AreAllStages n width seen stages
     → IsFilled n width stages filled → wide ≡ take k (filled ++ more) → AreClosed n width wide closed
     → AreRowsOf network network.nodes closed
-rows_made least_of bounds network sound n is_n width n_wide first seen stages filled more wide closed k is_first seen_is count
+rows_made least_of bounds network sound n is_n width n_wide first seen stages filled more wide closed k is_first seen_is
+    count
     left_out_all is_filled wide_is is_closed =
     let stages_here : AreAllStages network.nodes width first stages =
     subst (λ i. AreAllStages i width first stages) is_n (subst (λ xs. AreAllStages n width xs stages) seen_is

@@ -11,8 +11,7 @@ use Rattle.net_reader.specs.Valid.{IsValid, count_calls}
 use Rattle.input_text.specs.declared.listing.ActorCall.{ActorCall}
 use Rattle.input_text.specs.Listing.{calls_from, calls_of, contents_in, input_text_of, listing_of, spoken_of}
 use Rattle.input_text.specs.Laws.{IsListing}
-use Rattle.input_text.specs.ListingLaws.{script-cons}
-use Rattle.input_text.proofs.Calls.{script-append}
+use Rattle.net_reader.specs.CallLaws.{script-append, script-cons}
 use Rattle.input_text.proofs.Whole.{listings_read}
 
 -- the calls of one actor, as the reader keeps them
@@ -62,7 +61,8 @@ none-below a actor (script ∷ scripts) below =
 -- one script more is listed
 pub calls-step : (scripts : List (List Call)) (done now all : List ActorCall) (actor : ℕ) (script : List Call)
     → actor < length scripts → get_or scripts actor [] ≡ script → now ≡ done ++ calls_of actor script
-    → done ++ calls_from actor (drop actor scripts) ≡ all → now ++ calls_from (actor + 1) (drop (actor + 1) scripts) ≡ all
+    → done ++ calls_from actor (drop actor scripts) ≡ all → now ++ calls_from (actor + 1) (drop (actor + 1) scripts)
+    ≡ all
 calls-step scripts done now all actor script below is grown so_far =
     let rest : List ActorCall = calls_from (actor + 1) (drop (actor + 1) scripts) in
     let here : drop actor scripts ≡ get_or scripts actor [] ∷ drop (actor + 1) scripts =

@@ -12,19 +12,11 @@ use Rattle.net_reader.specs.Table.{find_row, may_stand, most_calls, move_row, of
 use Rattle.net_reader.specs.Valid.{IsCourse, IsSearch}
 use Rattle.input_text.specs.declared.listing.ActorCall.{ActorCall}
 use Rattle.input_text.specs.Listing.{call_line, line_of_call, spoken_of}
-use Rattle.input_text.specs.ListingLaws.{script-cons}
+use Rattle.net_reader.specs.CallLaws.{script-append, script-cons}
 use Rattle.input_text.proofs.LineRead.{IsWord}
 use Rattle.input_text.proofs.Leading.{Leads, behind, behind-same, leads-line, leads-none, leads-word, small-one, small-two, small-three}
 
 -- ---- the script of an actor, with one call more
-
-pub script-append : (s : ℕ) (xs ys : List Spoken) → script_of s (xs ++ ys) ≡ script_of s xs ++ script_of s ys
-script-append s [] ys = refl
-script-append s (x ∷ xs) ys =
-    script-cons s x (xs ++ ys)
-    ∙ ap (λ l. cond (eqb x.actor s) (x.call ∷ []) [] ++ l) (script-append s xs ys)
-    ∙ sym (append_assoc (cond (eqb x.actor s) (x.call ∷ []) []) (script_of s xs) (script_of s ys))
-    ∙ ap (λ l. l ++ script_of s ys) (sym (script-cons s x xs))
 
 place-append : (here : ℕ) (xs ys : List Call) → place_after here (xs ++ ys) ≡ place_after (place_after here xs) ys
 place-append here [] ys = refl
@@ -54,7 +46,8 @@ search-past : (n subs : ℕ) (mine : Bool) (call : Call) (script : List Call)
 search-past n subs true call script h = All-tail (IsSearch n subs) call script h
 search-past n subs false call script h = h
 
-own-go : (mine : Bool) (call : Call) (script : List Call) → mine ≡ true → cond mine (call ∷ []) [] ++ script ≡ call ∷ script
+own-go : (mine : Bool) (call : Call) (script : List Call) → mine ≡ true
+    → cond mine (call ∷ []) [] ++ script ≡ call ∷ script
 own-go true call script e = refl
 own-go false call script e = cc
 
@@ -196,7 +189,8 @@ search-line : (said : Said) (actor : ℕ) (call : Call) → may_stand said.place
     → Leads said (line_of_call actor call) (heard said (record { actor = actor; call = call }))
 search-line said actor (calls.Move to) stands room nodes subs callers above below h = absurd h
 search-line said actor (calls.Find from sub) stands room nodes subs callers above below h =
-    leads-word said (heard said (record { actor = actor; call = calls.Find from sub })) (codes "find") (actor ∷ from ∷ sub
+    leads-word said (heard said (record { actor = actor; call = calls.Find from sub })) (codes "find")
+    (actor ∷ from ∷ sub
     ∷ []) 7 find_row is_find (small-three actor from sub (omega (arith, below, subs, callers)) (omega (
       arith,
       h.0,

@@ -163,7 +163,8 @@ pub edges-lead : (said : Said) (edges : List Edge) → may_stand said.place 4 �
     → Leads said (concat (map edge_line edges))
     (record said { place = behind said.place 4 edges; edges = said.edges ++ edges })
 edges-lead said [] stands nodes are few =
-    subst (λ (es : List Edge). Leads said [] (record said { edges = es })) (sym (append-nil said.edges)) (leads-none said)
+    subst (λ (es : List Edge). Leads said [] (record said { edges = es })) (sym (append-nil said.edges))
+    (leads-none said)
 edges-lead said (edge ∷ edges) stands nodes are few =
     let is = All-head (IsEdge said.nodes) edge edges are in
     let next : Said = record said { place = 4; edges = said.edges ++ edge ∷ [] } in
@@ -174,7 +175,8 @@ edges-lead said (edge ∷ edges) stands nodes are few =
     subst (Leads said (concat (map edge_line (edge ∷ edges)))) same
     (leads-line said next last (edge_line edge) (map edge_line edges)
     (leads-word said next (codes "edge") (edge.a ∷ edge.b ∷ edge.weight ∷ []) 4 edge_row is_edge
-    (small-three edge.a edge.b edge.weight (omega (arith, is.a_below, nodes)) (omega (arith, is.b_below, nodes)) (omega (
+    (small-three edge.a edge.b edge.weight (omega (arith, is.a_below, nodes)) (omega (arith, is.b_below, nodes))
+    (omega (
       arith,
       is.light,
     ))) stands (edge-good said edge is (omega (arith, few))))
@@ -224,7 +226,8 @@ pub record IsPiece (n : ℕ) (piece : List ℕ) : Type 0 where
   pub few : length piece ≤ 64
   pub below : All (λ actor. actor < n) piece
 
-none-past : (n : ℕ) (numbers : List ℕ) → All (λ actor. actor < n) numbers → list_any (λ actor. leb n actor) numbers ≡ false
+none-past : (n : ℕ) (numbers : List ℕ) → All (λ actor. actor < n) numbers
+    → list_any (λ actor. leb n actor) numbers ≡ false
 none-past n [] h = refl
 none-past n (a ∷ numbers) h =
     let here : a < n = All-head (λ actor. actor < n) a numbers h in

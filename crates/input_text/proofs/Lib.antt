@@ -3,4 +3,3 @@ mod Leading
 mod Calls
 mod Whole
 mod ByActor
-mod OneMore

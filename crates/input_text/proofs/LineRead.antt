@@ -78,7 +78,8 @@ fields-cut so_far (b ∷ bytes) rest e =
     rw (dense-blank b both.0) (fields-cut (so_far ++ b ∷ []) bytes rest both.1
     ∙ ap (λ l. piece l ++ fields_from [] rest) (append_assoc so_far (b ∷ []) bytes))
 
-fields-end : (so_far bytes : List ℕ) → list_all is_dense bytes ≡ true → fields_from so_far bytes ≡ piece (so_far ++ bytes)
+fields-end : (so_far bytes : List ℕ) → list_all is_dense bytes ≡ true
+    → fields_from so_far bytes ≡ piece (so_far ++ bytes)
 fields-end so_far [] e = ap piece (sym (append-nil so_far))
 fields-end so_far (b ∷ bytes) e =
     let both = and-split (is_dense b) (list_all is_dense bytes) e in
@@ -111,7 +112,8 @@ pub record IsWritten (n : ℕ) : Type 0 where
   pub dense : list_all is_dense (decimal n) ≡ true
   pub reads : number_of (decimal n) ≡ Some n
 
-number-go : (a b c : Bool) (v n : ℕ) → a ≡ true → b ≡ true → c ≡ true → v ≡ n → cond (a && b && c) (Some v) None ≡ Some n
+number-go : (a b c : Bool) (v n : ℕ) → a ≡ true → b ≡ true → c ≡ true → v ≡ n
+    → cond (a && b && c) (Some v) None ≡ Some n
 number-go true true true v n e f g h = ap Some h
 number-go true true false v n e f g h = cc
 number-go true false c v n e f g h = cc
@@ -132,7 +134,8 @@ written n small =
 -- the fields of a word and numbers behind it
 word-fields : (word : List ℕ) (numbers : List ℕ) → list_all is_dense word ≡ true → All IsSmall numbers
     → fields_from [] (word ++ fields numbers) ≡ piece word ++ map decimal numbers
-word-fields word [] dense small = ap (fields_from []) (append-nil word) ∙ fields-end [] word dense ∙ sym (append-nil (piece word))
+word-fields word [] dense small = ap (fields_from []) (append-nil word) ∙ fields-end [] word dense
+    ∙ sym (append-nil (piece word))
 word-fields word (n ∷ numbers) dense small =
     let here = written n (All-head IsSmall n numbers small) in
     fields-cut [] word (decimal n ++ fields numbers) dense

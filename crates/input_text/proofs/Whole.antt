@@ -15,7 +15,7 @@ use Rattle.net_reader.specs.Valid.{IsCourse, IsSearch}
 use Rattle.text_line.specs.OrderLines.{order_lines, pieces_within, pieces}
 use Rattle.input_text.specs.declared.listing.ActorCall.{ActorCall}
 use Rattle.input_text.specs.Listing.{ListingValue, actor_lines, call_line, call_lines, contents_in, edge_line, home_line, line_of, lines_from_k, lines_from_nodes, listing_text, network_lines, spoken_of}
-use Rattle.input_text.specs.ListingLaws.{script-at, scripts_count}
+use Rattle.net_reader.specs.CallLaws.{script-at, scripts_count}
 use Rattle.input_text.specs.Laws.{IsListing}
 use Rattle.input_text.proofs.Calls.{AreNext, calls-lead}
 use Rattle.input_text.proofs.Leading.{IsPiece, Leads, behind, callers-good, edges-lead, homes-lead, is_callers, is_k, is_nodes, is_track, k-good, leads-both, leads-line, leads-word, nodes-good, orders-lead, small-one, track-good}
@@ -141,7 +141,8 @@ calls-part l is =
     let orders = orders-lead (after_calls l) (pieces l.order) (order-stands l.calls) few parts.sound in
     leads-both (after_callers l) (after_calls l) (after_order l) (map call_line l.calls) (order_lines l.order)
     (calls-lead (after_callers l) l.calls refl (listed-next l is))
-    (subst (λ (ns : List ℕ). Leads (after_calls l) (concat (order_lines l.order)) (record (after_order l) { order = ns }))
+    (subst (λ (ns : List ℕ). Leads (after_calls l) (concat (order_lines l.order))
+    (record (after_order l) { order = ns }))
     parts.joined orders)
 
 actors-part : (l : ListingValue) → IsListing l → Leads (after_network l) (concat (actor_lines l)) (after_order l)
@@ -163,7 +164,8 @@ network-part : (l : ListingValue) → IsListing l → Leads (after_k l) (concat 
 network-part l is =
     let valid = is.valid in
     leads-both (after_k l) (after_network l) (after_order l) (map edge_line l.edges) (actor_lines l)
-    (edges-lead (after_k l) l.edges refl (most-few l.format l.nodes valid.format valid.few) valid.edges (omega (arith, valid.few_edges)))
+    (edges-lead (after_k l) l.edges refl (most-few l.format l.nodes valid.format valid.few) valid.edges
+    (omega (arith, valid.few_edges)))
     (actors-part l is)
 
 format-small : (format : ℕ) → (format ≡ 1) ⊎ (format ≡ 2) → format < 10000000

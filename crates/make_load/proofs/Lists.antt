@@ -12,7 +12,8 @@ use Rattle.make_load.specs.Load.{drawn_call, drawn_calls, drawn_find, drawn_move
 left-over : (from n : ℕ) → from < n → n - from ≡ suc (n - (from + 1))
 left-over from n below = omega arith
 
-pub next-value : {A : Type 0} (item : ℕ → Lcg → Drawn A) (from n : ℕ) (g next : Lcg) (done now whole : List A) (made : A)
+pub next-value : {A : Type 0} (item : ℕ → Lcg → Drawn A) (from n : ℕ) (g next : Lcg) (done now whole : List A)
+    (made : A)
     → from < n → made ≡ (item from g).value → next ≡ (item from g).left → now ≡ done ++ made ∷ []
     → done ++ (draw_list item from (n - from) g).value ≡ whole
     → now ++ (draw_list item (from + 1) (n - (from + 1)) next).value ≡ whole
@@ -34,7 +35,8 @@ next-left item from n g next whole below behind so_far =
     ∙ so_far
 
 -- the same of calls
-pub next-calls : (load : Load) (j n : ℕ) (places later : List ℕ) (g next : Lcg) (done now whole : List ActorCall) (made :
+pub next-calls : (load : Load) (j n : ℕ) (places later : List ℕ) (g next : Lcg) (done now whole : List ActorCall)
+    (made :
     ActorCall) → j < n → made ≡ (drawn_call load j places g).call → later ≡ (drawn_call load j places g).places
     → next ≡ (drawn_call load j places g).left → now ≡ done ++ made ∷ []
     → done ++ (drawn_calls load j (n - j) places g).value ≡ whole
@@ -84,6 +86,7 @@ pub same-places : (load : Load) (j : ℕ) (places : List ℕ) (g : Lcg)
 same-places load j places g = go (is_move load j)
   where
     go : (b : Bool) → length (cond b (drawn_move load places g) (drawn_find load places g)).places ≡ length places
-    go true = length-set places (draw load.subs g).value (target_of load.nodes (get_or places (draw load.subs g).value 0)
+    go true = length-set places (draw load.subs g).value (target_of load.nodes
+        (get_or places (draw load.subs g).value 0)
         (draw (load.nodes - 1) (draw load.subs g).left).value)
     go false = refl

@@ -16,7 +16,7 @@ use Rattle.net_reader.specs.Valid.{IsCourse, IsSearch}
 use Rattle.word_line.specs.declared.load.Load.{Load}
 use Rattle.input_text.specs.declared.listing.ActorCall.{ActorCall}
 use Rattle.input_text.specs.Listing.{spoken_of}
-use Rattle.input_text.specs.ListingLaws.{script-cons}
+use Rattle.net_reader.specs.CallLaws.{script-cons}
 use Rattle.make_load.specs.Draws.{draw}
 use Rattle.make_load.specs.Load.{DrawnCall, drawn_calls, drawn_find, drawn_move, is_move, target_of}
 
@@ -159,7 +159,8 @@ AllSound format load j count = (places : List ℕ) (g : Lcg) → ArePlaces load 
 
 move-step : (format : ℕ) (load : Load) (j count : ℕ) (places : List ℕ) (g : Lcg) → HasCalls load → 2 ≤ load.nodes
     → ArePlaces load places → AllSound format load (j + 1) count
-    → AreSound format load.nodes load.subs load.callers places ((drawn_move load places g).call ∷ (drawn_calls load (j + 1)
+    → AreSound format load.nodes load.subs load.callers places
+    ((drawn_move load places g).call ∷ (drawn_calls load (j + 1)
     count (drawn_move load places g).places (drawn_move load places g).left).value)
 move-step format load j count places g has many are rest =
     let sub = draw load.subs g in
@@ -181,7 +182,8 @@ move-step format load j count places g has many are rest =
 
 find-step : (format : ℕ) (load : Load) (j count : ℕ) (places : List ℕ) (g : Lcg) → HasCalls load → 1 ≤ load.callers
     → ArePlaces load places → AllSound format load (j + 1) count
-    → AreSound format load.nodes load.subs load.callers places ((drawn_find load places g).call ∷ (drawn_calls load (j + 1)
+    → AreSound format load.nodes load.subs load.callers places
+    ((drawn_find load places g).call ∷ (drawn_calls load (j + 1)
     count (drawn_find load places g).places (drawn_find load places g).left).value)
 find-step format load j count places g has some are rest =
     let caller = draw load.callers g in
@@ -197,7 +199,8 @@ with_rest load j count made = made.call ∷ (drawn_calls load (j + 1) count made
 
 call-step : (move : Bool) (format : ℕ) (load : Load) (j count : ℕ) (places : List ℕ) (g : Lcg) → is_move load j ≡ move
     → HasCalls load → ArePlaces load places → AllSound format load (j + 1) count
-    → AreSound format load.nodes load.subs load.callers places (with_rest load j count (cond move (drawn_move load places
+    → AreSound format load.nodes load.subs load.callers places
+    (with_rest load j count (cond move (drawn_move load places
     g) (drawn_find load places g)))
 call-step true format load j count places g e has are rest =
     move-step format load j count places g has (has-move load j e) are rest

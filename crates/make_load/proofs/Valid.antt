@@ -18,7 +18,7 @@ use Rattle.word_line.specs.declared.load.Load.{Load}
 use Rattle.input_text.specs.declared.listing.ActorCall.{ActorCall}
 use Rattle.input_text.specs.Laws.{IsListing}
 use Rattle.input_text.specs.Listing.{contents_in, spoken_of}
-use Rattle.input_text.specs.ListingLaws.{script-at, scripts-few, scripts_count}
+use Rattle.net_reader.specs.CallLaws.{script-at, scripts-few, scripts_count}
 use Rattle.make_load.specs.Draws.{draw, draw_list, generator_of}
 use Rattle.make_load.specs.Load.{IsLoad, calls_of, drawn_call, drawn_calls, format_of, homes_of, listing_of, order_of, other_edge, others_of, tree_edge, tree_of}
 use Rattle.make_load.proofs.Lists.{all-drawn, count-drawn}
@@ -43,7 +43,8 @@ room-go true false nodes calls e f few less = record { is = inr refl; few = few;
 room-go false b nodes calls e f few less = record { is = inr refl; few = few; few_calls = less }
 
 has-room : (load : Load) → IsLoad load → HasRoom (format_of load) load.nodes load.calls
-has-room load is = room-go (leb load.nodes 256) (leb load.calls 8192) load.nodes load.calls refl refl is.few_nodes is.few_calls
+has-room load is = room-go (leb load.nodes 256) (leb load.calls 8192) load.nodes load.calls refl refl is.few_nodes
+    is.few_calls
 
 wide-go : (a b c d e : Bool) (nodes k : ℕ) → leb nodes 256 ≡ a → leb 2 k ≡ b → ((a || b) && (c || d || e)) ≡ true
     → 256 < nodes → 2 ≤ k
@@ -52,7 +53,8 @@ wide-go true false c d e nodes k f g h many = absurd (grind (arith, nat_tests))
 wide-go false false c d e nodes k f g h many = cc
 
 is-wide : (load : Load) → IsLoad load → 256 < load.nodes → 2 ≤ load.k
-is-wide load is many = wide-go (leb load.nodes 256) (leb 2 load.k) (leb 2 load.nodes) (leb 1 load.callers) (eqb load.calls 0)
+is-wide load is many = wide-go (leb load.nodes 256) (leb 2 load.k) (leb 2 load.nodes) (leb 1 load.callers)
+    (eqb load.calls 0)
     load.nodes load.k refl refl is.sound many
 
 calls-go : (a b c d e : Bool) (nodes callers calls : ℕ) → leb 2 nodes ≡ c → leb 1 callers ≡ d → eqb calls 0 ≡ e
@@ -137,8 +139,11 @@ reached load edges has (suc bound) (suc u) less below =
 tree-joins : (load : Load) (v : ℕ) → 1 ≤ v → v < load.nodes
     → (w : ℕ) × Contains ((tree_of load).value ++ (others_of load).value) (make_edge ((v - 1) / 2) v w)
 tree-joins load v some below =
-    let found = tree-has v 1 (load.nodes - 1) (generator_of load.start) some (omega arith) in
-    (found.0, Contains-append_left (tree_of load).value (others_of load).value (make_edge ((v - 1) / 2) v found.0) found.1)
+    let found = tree-has v 1 (load.nodes - 1) (generator_of load.start) some (omega arith) in (
+      found.0,
+      Contains-append_left (tree_of load).value (others_of load).value (make_edge ((v - 1) / 2) v found.0)
+          found.1,
+    )
 
 edges-few : (load : Load) → IsLoad load → length ((tree_of load).value ++ (others_of load).value) ≤ 32768
 edges-few load is = omega (
@@ -200,7 +205,8 @@ listing-valid load is =
       few_calls = omega (arith, scripts-few 0 actors spoken, length-map listed spoken_of, listed_few, room.few_calls);
       order = subst (λ m. All (λ a. a < m) (order_of load).value) (ap (λ m. m + load.callers) (sym count) ∙ sym scripts)
           (all-drawn (λ a. a < load.subs + load.callers) (λ i. draw (load.subs + load.callers)) 0 (8 * load.calls)
-          (calls_of load).left (λ i g above below. draw-below (load.subs + load.callers) g (omega (arith, is.some_subs))));
+          (calls_of load).left (λ i g above below. draw-below (load.subs + load.callers) g
+          (omega (arith, is.some_subs))));
       connected = λ v below. reached load ((tree_of load).value ++ (others_of load).value) (tree-joins load) (v + 1) v
           (omega arith) below;
     }

@@ -1,5 +1,5 @@
 -- The load of a command is within the limits.
-use Rattle.std.proofs.Common.{◌≡◌, ◌⊎◌, inl, inr, ℕ, ◌^◌, ◌<◌, ◌≤◌, Bool, true, false, cond, leb, ◌&&◌, List, [], ◌∷◌, length, Option, Some, None, codes, refl, sym, subst, ◌∙◌, arith}
+use Rattle.std.proofs.Common.{◌≡◌, ◌⊎◌, inl, inr, ℕ, ◌^◌, ◌<◌, ◌≤◌, Bool, true, false, cond, leb, ◌&&◌, List, [], ◌∷◌, length, Option, Some, None, codes, refl, sym, subst, arith}
 use Rattle.std.proofs.Math.Nat.{pow-le-pow_right}
 use Rattle.std.proofs.lemmas.Bool.Decides.{nat_tests}
 use Rattle.std.proofs.lemmas.Int.Digits.{digits_value-lt}
@@ -47,7 +47,8 @@ taken false x y e = cc
 
 number-small : (word : List ℕ) (n : ℕ) → number_of word ≡ Some n → n < 10 ^ 18
 number-small word n e =
-    let all = taken (leb 1 (length word) && leb (length word) 18 && list_all is_ascii_digit word) (digits_value 10 word) n e in
+    let all = taken (leb 1 (length word) && leb (length word) 18 && list_all is_ascii_digit word) (digits_value 10 word)
+    n e in
     let digits = and-split (leb 1 (length word) && leb (length word) 18) (list_all is_ascii_digit word) all.0 in
     let short = (and-split (leb 1 (length word)) (leb (length word) 18) digits.0).1 in
     let few : length word ≤ 18 = grind (arith, nat_tests) in
@@ -81,7 +82,8 @@ network-is a b c found e =
     let last : ℕ → ℕ → Option (ℕ × ℕ × ℕ) = λ s n. number_in 1 8 c >>= (λ k. Some (s, n, k)) in
     let one = bound (number_of a) (λ s. number_in 1 1024 b >>= (λ n. last s n)) found e in
     let two = bound (number_in 1 1024 b) (λ n. last one.value n) found one.gives in
-    let three = bound (number_in 1 8 c) (λ k. let t : ℕ × ℕ × ℕ = (one.value, two.value, k) in Some t) found two.gives in
+    let three = bound (number_in 1 8 c) (λ k. let t : ℕ × ℕ × ℕ = (one.value, two.value, k) in Some t) found two.gives
+    in
     let triple : ℕ × ℕ × ℕ = (one.value, two.value, three.value) in
     let gives : Some triple ≡ Some found = three.gives in
     let same : triple ≡ found = cc in
@@ -106,7 +108,8 @@ actors-are a b c found e =
     let last : ℕ → ℕ → Option (ℕ × ℕ × ℕ) = λ s n. number_in 0 16384 c >>= (λ k. Some (s, n, k)) in
     let one = bound (number_in 1 64 a) (λ s. number_in 0 64 b >>= (λ n. last s n)) found e in
     let two = bound (number_in 0 64 b) (λ n. last one.value n) found one.gives in
-    let three = bound (number_in 0 16384 c) (λ k. let t : ℕ × ℕ × ℕ = (one.value, two.value, k) in Some t) found two.gives in
+    let three = bound (number_in 0 16384 c) (λ k. let t : ℕ × ℕ × ℕ = (one.value, two.value, k) in Some t) found
+    two.gives in
     let triple : ℕ × ℕ × ℕ = (one.value, two.value, three.value) in
     let gives : Some triple ≡ Some found = three.gives in
     let same : triple ≡ found = cc in

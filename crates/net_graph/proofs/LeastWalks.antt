@@ -151,7 +151,8 @@ first_found p (suc tries) at w passes le lt before = elim (cases_Bool (p at)) [
   | inl here ↦ rw here (record { passes = here; first = before })
   | inr not ↦ rw not (elim (cases_lt at w) [
     | inl less ↦ first_found p tries (suc at) w passes (omega arith) (omega arith)
-        (λ x h. subst (λ i. (y : ℕ) → y < i → p y ≡ false) (add-one at) (below_more (λ y. p y ≡ false) at before not) x h)
+        (λ x h. subst (λ i. (y : ℕ) → y < i → p y ≡ false) (add-one at) (below_more (λ y. p y ≡ false) at before not) x
+        h)
     | inr more ↦ let same : w ≡ at = omega arith in
         absurd (false≢true (sym not ∙ subst (λ i. p i ≡ true) same passes))
   ])

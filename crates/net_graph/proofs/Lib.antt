@@ -1,7 +1,9 @@
+mod Elements
 mod Replacing
 mod Rows
 mod Lowering
-mod Chaining
+mod Noting
+mod Placing
 mod LayingOut
 mod Relaxing
 mod Searching

@@ -1,5 +1,5 @@
 -- What one step of the search does to the weights.
-use Rattle.std.proofs.Common.{◌≡◌, ◌⊎◌, ◌≢◌, ◌++◌, take, get_or, ℕ, zero, suc, ◌+◌, ◌<◌, ◌≤◌, Bool, true, false, List, [], ◌∷◌, Option, None, Some, length, set, refl, sym, ◌∙◌, ap, subst, inl, inr, arith}
+use Rattle.std.proofs.Common.{◌≡◌, ◌⊎◌, ◌≢◌, ◌++◌, take, get_or, ℕ, ◌+◌, ◌<◌, ◌≤◌, Bool, true, false, List, [], ◌∷◌, Option, None, Some, length, set, refl, sym, ◌∙◌, ap, subst, inl, inr, arith}
 use Rattle.std.specs.Prelude.{Contains, IsPermutation}
 use Rattle.std.proofs.lemmas.List.{length-set, get_or-set_same, get_or-set_other, get_or_past}
 use Rattle.std.proofs.lemmas.Bool.{cases_eq, cases_lt}
@@ -13,6 +13,7 @@ use Rattle.net_graph.specs.Search.{IsLighter, IsRelaxed}
 use Rattle.std.proofs.lemmas.List.Sorted.{Contains-permutation, IsPermutation-sym}
 use Rattle.std.proofs.lemmas.List.Elements.{Contains-append_left, Contains-append_right, Contains-append_cases}
 use Rattle.std.proofs.lemmas.List.{take_more}
+use Rattle.net_graph.proofs.Elements.{first, first_or_later, later, some_same}
 
 pub among_below : (allowed : List Bool) (v : ℕ) → among allowed v ≡ true → v < length allowed
 among_below allowed v h = elim (cases_lt v (length allowed)) [
@@ -23,23 +24,6 @@ among_below allowed v h = elim (cases_lt v (length allowed)) [
 pub true_or_false : (b : Bool) → (b ≡ true) ⊎ (b ≡ false)
 true_or_false true = inl refl
 true_or_false false = inr refl
-
-contains_first : (arc : Arc) (arcs : List Arc) → Contains (arc ∷ arcs) arc
-contains_first arc arcs = (0, omega arith, refl)
-
-contains_cases : (arc other : Arc) (arcs : List Arc) → Contains (other ∷ arcs) arc → (other ≡ arc) ⊎ Contains arcs arc
-contains_cases arc other arcs (zero, below, here) = inl here
-contains_cases arc other arcs (suc k, below, here) = inr (k, omega arith, here)
-
-waits_cases : (x y : Waiting) (xs : List Waiting) → Contains (y ∷ xs) x → (y ≡ x) ⊎ Contains xs x
-waits_cases x y xs (zero, below, here) = inl here
-waits_cases x y xs (suc k, below, here) = inr (k, omega arith, here)
-
-waits_later : (x y : Waiting) (xs : List Waiting) → Contains xs x → Contains (y ∷ xs) x
-waits_later x y xs (k, below, here) = (suc k, omega arith, here)
-
-some_same : (w x : ℕ) → Some w ≡ Some x → w ≡ x
-some_same w x h = cc
 
 lighter_falls : (through w : ℕ) (weight : Option ℕ) → IsLighter through weight → IsAtMost weight w → through ≤ w
 lighter_falls through w None lighter h = absurd h
@@ -54,7 +38,7 @@ relaxed_not arc x unsettled old waited light = record {
   kept = λ v settled. refl;
   cause = λ v w here. inl here;
   falls = λ v w h. h;
-  reached = λ v c has waits. elim (contains_cases (make_arc v c) arc [] has) [
+  reached = λ v c has waits. elim (first_or_later (make_arc v c) arc [] has) [
     | inl same ↦ subst (λ (a : Arc). IsAtMost (at_node old a.target) (x + a.weight)) same
         (light (ap (among unsettled) (ap (λ (a : Arc). a.target) same) ∙ waits))
     | inr none ↦ absurd (omega (arith, none.1))
@@ -105,7 +89,7 @@ module _ (arc : Arc) (x : ℕ) (unsettled : List Bool) (old : List (Option ℕ))
     cause = λ v w here. elim (cases_eq v arc.target) [
       | inl same ↦ inr (record {
         by = arc.weight;
-        arc = subst (λ i. Contains (arc ∷ []) (make_arc i arc.weight)) (sym same) (contains_first arc []);
+        arc = subst (λ i. Contains (arc ∷ []) (make_arc i arc.weight)) (sym same) (first arc []);
         waits = ap (among unsettled) same ∙ waits;
         sum = some_same w (x + arc.weight) (sym here ∙ ap (at_node lowered) same ∙ here_now);
       })
@@ -117,21 +101,21 @@ module _ (arc : Arc) (x : ℕ) (unsettled : List Bool) (old : List (Option ℕ))
           (subst (λ i. IsAtMost (at_node old i) w) same h))
       | inr other ↦ subst (λ o. IsAtMost o w) (sym (other_now v other)) h
     ];
-    reached = λ v c has v_waits. elim (contains_cases (make_arc v c) arc [] has) [
+    reached = λ v c has v_waits. elim (first_or_later (make_arc v c) arc [] has) [
       | inl same ↦ subst (λ (a : Arc). IsAtMost (at_node lowered a.target) (x + a.weight)) same
           (subst (λ o. IsAtMost o (x + arc.weight)) (sym here_now) (omega arith))
       | inr none ↦ absurd (omega (arith, none.1))
     ];
     wait_on = λ w v has. Contains-permutation (make_waiting (x + arc.weight) arc.target ∷ waited) waiting
         (make_waiting w v) pushed
-        (waits_later (make_waiting w v) (make_waiting (x + arc.weight) arc.target) waited has);
+        (later (make_waiting w v) (make_waiting (x + arc.weight) arc.target) waited has);
     joined = λ v w here. elim (cases_eq v arc.target) [
       | inl same ↦ inr (subst (λ i. Contains waiting (make_waiting i v))
           (sym (some_same w (x + arc.weight) (sym here ∙ ap (at_node lowered) same ∙ here_now)))
           (subst (λ i. Contains waiting (make_waiting (x + arc.weight) i)) (sym same) joins))
       | inr other ↦ inl (sym (other_now v other) ∙ here)
     ];
-    since = λ w v has. elim (waits_cases (make_waiting w v) (make_waiting (x + arc.weight) arc.target) waited
+    since = λ w v has. elim (first_or_later (make_waiting w v) (make_waiting (x + arc.weight) arc.target) waited
         (Contains-permutation waiting (make_waiting (x + arc.weight) arc.target ∷ waited) (make_waiting w v)
         (IsPermutation-sym (make_waiting (x + arc.weight) arc.target ∷ waited) waiting pushed) has)) [
           | inl is ↦

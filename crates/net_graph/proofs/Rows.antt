@@ -1,7 +1,7 @@
 -- The rows of a flat array of arcs, and the edges that they stand for.
-use Rattle.std.proofs.Common.{◌≡◌, ℕ, zero, suc, ◌+◌, ◌-◌, ◌<◌, ◌≤◌, List, [], ◌∷◌, ◌++◌, length, get_or, drop, refl, sym, ◌∙◌, ap, subst, inl, inr, arith, map}
+use Rattle.std.proofs.Common.{◌≡◌, ℕ, zero, suc, ◌+◌, ◌-◌, ◌<◌, List, ◌++◌, length, get_or, drop, sym, ◌∙◌, ap, subst, inl, inr, arith, map}
 use Rattle.std.specs.Prelude.{Contains, All, slice_range}
-use Rattle.std.proofs.lemmas.List.{length-map, length-append, get_or-map, get_or_append_left, get_or_push, get_or_read, take-append-le, drop-append-le, drop_at, take_all, length-drop}
+use Rattle.std.proofs.lemmas.List.{length-map, get_or-map, get_or_read}
 use Rattle.std.proofs.lemmas.List.Elements.{All-contains, All-take, All-drop, Contains-append_left, Contains-append_right, Contains-append_cases, Contains-get_or}
 use Rattle.std.proofs.lemmas.Bool.{cases_lt}
 use Rattle.net_graph.specs.declared.edge.Edge.{Edge}
@@ -106,34 +106,3 @@ read_row n starts arcs network u first next list laid view below at_first at_nex
     let ends : next ≡ get_or starts (u + 1) 0 = get_or_read starts (u + 1) next (omega (arith, laid.count)) at_next 0 in
     subst (λ (x : Network). AreArcsOf x.nodes x.edges u (slice_range list first next)) view
     (rw (begins, ends, whole) (row_arcs n starts arcs u laid short))
-
-slice_kept : (xs ys : List Arc) (i j : ℕ) → i ≤ j → j ≤ length xs → slice_range (xs ++ ys) i j ≡ slice_range xs i j
-slice_kept xs ys i j ordered within =
-    let short : i ≤ length xs = omega arith in
-    let fits : j - i ≤ length (drop i xs) = omega (arith, length-drop i xs) in
-    rw (drop-append-le i xs ys short) (take-append-le (j - i) (drop i xs) ys fits)
-
--- a row that is there stays as it is when more arcs and starts follow
-pub row_kept : (starts more_starts : List ℕ) (arcs more : List Arc) (k : ℕ) → k + 1 < length starts
-    → get_or starts k 0 ≤ get_or starts (k + 1) 0 → get_or starts (k + 1) 0 ≤ length arcs
-    → row (starts ++ more_starts) (arcs ++ more) k ≡ row starts arcs k
-row_kept starts more_starts arcs more k there ordered within =
-    let first : get_or (starts ++ more_starts) k 0 ≡ get_or starts k 0 =
-    get_or_append_left starts more_starts 0 k (omega arith) in
-    let next : get_or (starts ++ more_starts) (k + 1) 0 ≡ get_or starts (k + 1) 0 =
-    get_or_append_left starts more_starts 0 (k + 1) there in
-    rw (first, next)
-    (slice_kept arcs more (get_or starts k 0) (get_or starts (k + 1) 0) ordered within)
-
--- the row that was put last
-pub row_last : (starts : List ℕ) (arcs more : List Arc) (k : ℕ) → length starts ≡ k + 1
-    → get_or starts k 0 ≡ length arcs
-    → row (starts ++ length (arcs ++ more) ∷ []) (arcs ++ more) k ≡ more
-row_last starts arcs more k count last =
-    let end : ℕ = length (arcs ++ more) in
-    let first : get_or (starts ++ end ∷ []) k 0 ≡ length arcs = get_or_append_left starts (end ∷ []) 0 k (omega arith)
-    ∙ last in
-    let next : get_or (starts ++ end ∷ []) (k + 1) 0 ≡ end = get_or_push starts end 0 (k + 1) count in
-    rw (first, next)
-    (rw (drop_at arcs more (length arcs) refl)
-    (take_all (length (arcs ++ more) - length arcs) more (omega (arith, length-append arcs more))))

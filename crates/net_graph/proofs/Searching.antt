@@ -21,6 +21,7 @@ use Rattle.std.proofs.lemmas.List.Sorted.{Contains-permutation, IsPermutation-sy
 use Rattle.net_graph.specs.WalkLaws.{walk_further, walk_begins}
 use Rattle.net_graph.proofs.Lowering.{at_most_trans, at_most_some}
 use Rattle.net_graph.proofs.Relaxing.{among_below, true_or_false}
+use Rattle.net_graph.proofs.Elements.{some_same}
 
 -- how many nodes are unsettled
 abbrev pub unsettled_count : List Bool → ℕ
@@ -59,9 +60,6 @@ pub record IsQueue (unsettled : List Bool) (weights : List (Option ℕ)) (waitin
 none_is_not_some : (w : ℕ) → None ≡ Some w → ⊥
 none_is_not_some w h = cc
 
-some_injective : (x y : ℕ) → Some x ≡ Some y → x ≡ y
-some_injective x y h = cc
-
 true_is_not_false : (b : Bool) → b ≡ true → b ≡ false → ⊥
 true_is_not_false b h k = let both : true ≡ false = sym h ∙ k in cc
 
@@ -78,7 +76,7 @@ only_root n root v w here = elim (cases_lt root n) [
   | inl below ↦ elim (cases_eq v root) [
     | inl same ↦ (
       same,
-      sym (some_injective 0 w
+      sym (some_same 0 w
           (sym (get_or-set_same (replicate n None) root (Some 0) None
           (omega (arith, length-replicate {A = Option ℕ} n None)))
           ∙ sym (ap (at_node (set (replicate n None) root (Some 0))) same) ∙ here)),
@@ -169,7 +167,7 @@ module _ (network : Network) (inside : ℕ → Bool) (root : ℕ) (unsettled : L
         elim (settled_now unsettled best.node u is_settled) [
           | inr old ↦ r.falls v (w + c) (so_far.closed u v w c old before inner joined)
           | inl same ↦
-              let w_is : best.weight ≡ w = some_injective best.weight w
+              let w_is : best.weight ≡ w = some_same best.weight w
               (sym lightest.weighs ∙ sym (ap (at_node weights) same) ∙ before) in
               let from : Joins network.edges best.node v c = subst (λ i. Joins network.edges i v c) same joined in
               elim (true_or_false (among (set unsettled best.node false) v)) [
@@ -200,7 +198,7 @@ module _ (network : Network) (inside : ℕ → Bool) (root : ℕ) (unsettled : L
         let light : x ≤ best.weight = elim (settled_now unsettled best.node u is_settled) [
           | inl same ↦ omega (
             arith,
-            some_injective best.weight x
+            some_same best.weight x
                 (sym lightest.weighs ∙ sym (ap (at_node weights) same) ∙ before),
           )
           | inr old ↦ so_far.lightest u best.node x best.weight old before lightest.waits lightest.weighs

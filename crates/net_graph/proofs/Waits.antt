@@ -1,5 +1,5 @@
 -- Which nodes wait, as the queue goes on.
-use Rattle.std.proofs.Common.{◌≡◌, ◌⊎◌, ℕ, zero, suc, ◌<◌, ◌≤◌, Bool, true, false, List, [], ◌∷◌, length, refl, sym, ◌∙◌, ap, subst, inl, inr, arith, cond, lt-ltb}
+use Rattle.std.proofs.Common.{◌≡◌, ◌⊎◌, ℕ, ◌<◌, ◌≤◌, Bool, true, false, List, [], ◌∷◌, length, sym, ◌∙◌, ap, subst, inl, inr, arith, cond, lt-ltb}
 use Rattle.std.specs.Prelude.{Contains, IsPermutation, nat_lt, ◌==◌}
 use Rattle.std.specs.declared.cmp.Ordering.TheVariants.{Less, Equal, Greater}
 use Rattle.std.specs.BinaryHeap.{IsUpperBound}
@@ -10,6 +10,7 @@ use Rattle.std.specs.declared.cmp.Ordering.{Ordering}
 use Rattle.std.proofs.lemmas.Bool.{cases_lt}
 use Rattle.net_graph.specs.Walks.{among}
 use Rattle.net_graph.specs.Queue.{Waiting, make_waiting, lighter_first, AreSettled, IsNextUnsettled}
+use Rattle.net_graph.proofs.Elements.{first, first_or_later, later}
 
 -- the unsettled nodes wait still, and no new ones
 pub record StillWait (unsettled : List Bool) (old now : List Waiting) : Type 0 where
@@ -18,16 +19,6 @@ pub record StillWait (unsettled : List Bool) (old now : List Waiting) : Type 0 w
 
 pub all_wait : (unsettled : List Bool) (old : List Waiting) → StillWait unsettled old old
 all_wait unsettled old = record { kept = λ w v has waits. has; fewer = λ w v has. has }
-
-first_or_later : (x y : Waiting) (xs : List Waiting) → Contains (y ∷ xs) x → (y ≡ x) ⊎ Contains xs x
-first_or_later x y xs (zero, below, here) = inl here
-first_or_later x y xs (suc k, below, here) = inr (k, omega arith, here)
-
-later : (x y : Waiting) (xs : List Waiting) → Contains xs x → Contains (y ∷ xs) x
-later x y xs (k, below, here) = (suc k, omega arith, here)
-
-first : (x : Waiting) (xs : List Waiting) → Contains (x ∷ xs) x
-first x xs = (zero, omega arith, refl)
 
 no_less : (a b : ℕ) (o : Ordering) → is_lt (ordering_then (nat_cmp b a) o) ≡ false → a ≤ b
 no_less a b o h = elim (cases_lt b a) [

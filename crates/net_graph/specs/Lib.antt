@@ -9,4 +9,4 @@ pub mod Search
 pub mod Parents
 pub mod WalkLaws
 pub mod Queue
-pub mod Chains
+pub mod Notes

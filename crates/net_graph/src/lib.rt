@@ -2,7 +2,7 @@
 //! set of nodes.
 #![tactic(auto)]
 
-mod chains;
+mod counting;
 mod edge;
 mod fault;
 mod graph;

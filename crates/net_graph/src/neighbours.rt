@@ -4,7 +4,7 @@ ghost use Rattle.std.specs.Prelude.{◌≡◌, ◌<◌, ◌≤◌, IfOk, All};
 ghost use Rattle.net_graph.specs.Layout.{AreArcsOf};
 ghost use Rattle.net_graph.specs.Network.{IsEdge, IsInLimits, SameWalks};
 
-use crate::chains::{chains_of, push_chain};
+use crate::counting::{count_arcs, fill_arcs, sum_counts};
 use crate::edge::{Edge, MAX_NODES};
 use std::alloc::{AllocError, Global};
 use std::marker::Model;
@@ -40,6 +40,12 @@ impl Model for Neighbours {
     ghost invariant = { λ g. IsLaidOut g.nodes g.starts.items g.arcs.items };
 }
 
+// What stands in the array until the arcs are written.
+const UNWRITTEN: Arc = Arc {
+    target: 0,
+    weight: 1,
+};
+
 impl Neighbours {
     // A network of `n` nodes with an arc either way for each edge that is no loop.
     pub(crate) fn new(alloc: Global, n: u32, edges: &[Edge]) -> Result<Neighbours, AllocError>
@@ -50,14 +56,12 @@ impl Neighbours {
         ensures limits { IfOk result IsInLimits }
         ensures same { IfOk result (λ g. SameWalks edges.now g.edges) }
     {
-        let chains = chains_of(alloc, n, edges)?;
-        let mut starts = Vec::with_capacity(alloc, n as usize + 1)?;
-        let mut arcs = Vec::with_capacity(alloc, chains.links.len())?;
-        starts.push(0)?;
-        for u in 0..n {
-            push_chain(&chains, u, &mut arcs)?;
-            starts.push(arcs.len())?;
-        }
+        let mut counts = vec![in alloc; 0usize; n as usize]?;
+        count_arcs(edges, &mut counts);
+        let starts = sum_counts(alloc, &counts)?;
+        let mut taken = vec![in alloc; 0usize; n as usize]?;
+        let mut arcs = vec![in alloc; UNWRITTEN; starts[n as usize]]?;
+        fill_arcs(edges, &starts, &mut taken, &mut arcs);
         Ok(Neighbours {
             nodes: n,
             starts,

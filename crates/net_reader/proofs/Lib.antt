@@ -1,5 +1,4 @@
 mod Standing
-mod Scripts
 mod Running
 mod Feeding
 mod Packed

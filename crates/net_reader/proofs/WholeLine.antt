@@ -112,7 +112,8 @@ number-before piece taken value end b rest some within plain read same back = re
 pub number-to : (piece : List ℕ) (taken value : ℕ) (rest : List ℕ) → 0 < taken → taken < length piece
     → IsDigits piece taken value → rest ≡ drop (taken + 1) piece → IsNumberTo (get_or piece taken 0) value piece rest
 number-to piece taken value rest some within digits back =
-    let cut : drop taken piece ≡ get_or piece taken 0 ∷ drop (taken + 1) piece = rw (add-one, drop-cons piece taken 0) in
+    let cut : drop taken piece ≡ get_or piece taken 0 ∷ drop (taken + 1) piece = rw (add-one, drop-cons piece taken 0)
+    in
     number-before piece taken value (get_or piece taken 0) (get_or piece taken 0) rest some (omega (arith, within))
     digits.plain digits.read refl (ap (λ xs. get_or piece taken 0 ∷ xs) back ∙ sym cut)
 

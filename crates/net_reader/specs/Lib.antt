@@ -9,4 +9,5 @@ pub mod Whole
 pub mod Sound
 pub mod Reading
 pub mod Valid
+pub mod CallLaws
 pub mod Laws

@@ -121,6 +121,7 @@ impl Known {
         Ok(())
     }
 
+    #[inline(always)]
     fn edge(&mut self, numbers: &[u64]) -> Result<(), Stop>
         requires { KeepsLimits self.old }
         ensures { Judges result self.new (verdict (edge_row (seen_known self.old) numbers.now)) }
@@ -207,6 +208,7 @@ impl Known {
         self.calls.len() >= most_calls(self.format)
     }
 
+    #[inline(always)]
     fn move_to(&mut self, numbers: &[u64]) -> Result<(), Stop>
         requires { KeepsLimits self.old }
         ensures { Judges result self.new (verdict (move_row (seen_known self.old) numbers.now)) }
@@ -236,6 +238,7 @@ impl Known {
         Ok(())
     }
 
+    #[inline(always)]
     fn find(&mut self, numbers: &[u64]) -> Result<(), Stop>
         requires { KeepsLimits self.old }
         ensures { Judges result self.new (verdict (find_row (seen_known self.old) numbers.now)) }
@@ -330,6 +333,7 @@ impl Known {
         }
     }
 
+    #[inline(always)]
     fn row(&mut self, word: Word, numbers: &[u64]) -> Result<(), Stop>
         requires { KeepsLimits self.old }
         ensures { Judges result self.new (verdict (row_of (seen_known self.old) word numbers.now)) }
@@ -350,6 +354,7 @@ impl Known {
     }
 
     /// What a line with this word and these numbers says.
+    #[inline(always)]
     pub(crate) fn hear_word(&mut self, word: Word, numbers: &[u64]) -> Result<(), Stop>
         requires { KeepsLimits self.old }
         ensures { Judges result self.new (judge_word (seen_known self.old) (Some word) (Some

@@ -19,6 +19,7 @@ loop-script-preserved c =
     record {
       at = omega arith;
       calls = calls-step (map items scripts) c.loop-script.calls.items c.push_calls.new.calls.items
-          (calls_from 0 (map items scripts)) actor c.deref.result.now (omega (arith, below, length-map scripts items)) found
+          (calls_from 0 (map items scripts)) actor c.deref.result.now (omega (arith, below, length-map scripts items))
+          found
           c.in_ok-push_calls.ensures c.loop-script.invariant.calls;
     }

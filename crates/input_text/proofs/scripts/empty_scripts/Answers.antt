@@ -3,7 +3,7 @@ use Rattle.std.proofs.lemmas.List.{map-append}
 use Rattle.net_reader.specs.declared.said.Call.{Call}
 use Rattle.net_reader.specs.Said.{script_of}
 use Rattle.net_reader.specs.Input.{numbers_from}
-use Rattle.input_text.proofs.OneMore.{scripts-step}
+use Rattle.net_reader.specs.CallLaws.{scripts-step}
 use Rattle.input_text.proofs.scripts.empty_scripts.Goals as goal
 
 pub loop-preserved : goal.loop-preserved

@@ -4,7 +4,7 @@ use Rattle.net_reader.specs.declared.said.Call.TheVariants as acts
 use Rattle.net_reader.specs.declared.said.Spoken.{Spoken}
 use Rattle.input_text.specs.declared.listing.ActorCall.{ActorCall}
 use Rattle.input_text.specs.Listing.{spoken_of}
-use Rattle.input_text.proofs.OneMore.{call-left_out, call-taken, scripts}
+use Rattle.net_reader.specs.CallLaws.{call-left_out, call-taken, scripts}
 use Rattle.input_text.proofs.scripts.scripts_of.Goals as goal
 use Rattle.input_text.proofs.scripts.scripts_of.Goals.{then-actor-len+in_ok-push, else-actor-len}
 

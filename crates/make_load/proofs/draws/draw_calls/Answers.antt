@@ -13,6 +13,7 @@ loop-j-preserved c =
       value = next-calls load loop.j load.calls loop.places made.new.places loop.generator made.new.generator
           loop.calls.items c.push.new.self.items all.value made.result c.loop-j-test.true made.ensures.call
           made.ensures.places made.ensures.left c.in_ok-push.ensures.items loop.invariant.value;
-      left = next-calls-left load loop.j load.calls loop.places made.new.places loop.generator made.new.generator all.left
+      left = next-calls-left load loop.j load.calls loop.places made.new.places loop.generator made.new.generator
+          all.left
           c.loop-j-test.true made.ensures.places made.ensures.left loop.invariant.left;
     }

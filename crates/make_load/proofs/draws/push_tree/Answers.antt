@@ -12,6 +12,7 @@ loop-node-preserved c =
       value = next-value tree_edge loop.node n loop.generator c.draw_tree_edge.new.generator loop.edges.items
           c.push.new.self.items (c.args.edges.now.items ++ all.value) c.draw_tree_edge.result c.loop-node-test.true
           c.draw_tree_edge.ensures.value c.draw_tree_edge.ensures.left c.in_ok-push.ensures.items loop.invariant.value;
-      left = next-left tree_edge loop.node n loop.generator c.draw_tree_edge.new.generator all.left c.loop-node-test.true
+      left = next-left tree_edge loop.node n loop.generator c.draw_tree_edge.new.generator all.left
+          c.loop-node-test.true
           c.draw_tree_edge.ensures.left loop.invariant.left;
     }

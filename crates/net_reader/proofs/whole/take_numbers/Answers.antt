@@ -24,7 +24,8 @@ returns-then-end-ne32-clause-taken c =
     let less : found.number < c.args.limit = grind (arith, nat_tests, c.if-number-limit.false) in
     written-last c.args.limit found.number c.numbers.count [] c.numbers.numbers piece (drop at piece) behind
     c.numbers.invariant.taking (last-read found.end found.number (drop at piece) _ behind
-    (number-at found.end found.number at found.taken piece _ _ c.split_at.ensures.back c.split_at-then-end-ne32.ensures.back found.ensures.number)
+    (number-at found.end found.number at found.taken piece _ _ c.split_at.ensures.back
+    c.split_at-then-end-ne32.ensures.back found.ensures.number)
     c.in_ok-behind.ensures) less (omega arith) (omega arith)
 
 pub numbers-preserved : goal.numbers-preserved

@@ -16,7 +16,8 @@ invariant_of-result c =
     (sym c.nodes-nodes.ensures.count)
     (kept c.args.graph.now c.nodes-nodes.ensures.sound cells
     (rows_made c.least_weight_is_found.ensures c.least_weight_is_bounded.ensures c.args.graph.now
-    c.nodes-nodes.ensures.sound c.nodes-nodes.result c.nodes-nodes.ensures.count c.width_for-width.result c.width_for-width.ensures.wide
+    c.nodes-nodes.ensures.sound c.nodes-nodes.result c.nodes-nodes.ensures.count c.width_for-width.result
+    c.width_for-width.ensures.wide
     c.in_ok-table.table.items c.deref_mut.result.now c.in_ok-stages.stages.items c.take_back_all.new.table more
     (take c.in_ok-table.table.len (c.take_back_all.new.table ++ more)) cells c.in_ok-table.table.len
     c.in_ok-table.ensures c.deref_mut.ensures.value c.deref_mut.ensures.len c.in_ok-stages.ensures.stages
@@ -36,7 +37,8 @@ returns c =
     (sym c.nodes-nodes.ensures.count)
     (distances c.args.graph.now c.nodes-nodes.ensures.sound cells
     (rows_made c.least_weight_is_found.ensures c.least_weight_is_bounded.ensures c.args.graph.now
-    c.nodes-nodes.ensures.sound c.nodes-nodes.result c.nodes-nodes.ensures.count c.width_for-width.result c.width_for-width.ensures.wide
+    c.nodes-nodes.ensures.sound c.nodes-nodes.result c.nodes-nodes.ensures.count c.width_for-width.result
+    c.width_for-width.ensures.wide
     c.in_ok-table.table.items c.deref_mut.result.now c.in_ok-stages.stages.items c.take_back_all.new.table more
     (take c.in_ok-table.table.len (c.take_back_all.new.table ++ more)) cells c.in_ok-table.table.len
     c.in_ok-table.ensures c.deref_mut.ensures.value c.deref_mut.ensures.len c.in_ok-stages.ensures.stages

@@ -1,47 +1,74 @@
-use Rattle.std.proofs.Common.{◌≡◌, ℕ, arith, subst}
-use Rattle.net_graph.specs.Chains.{JoinsOther}
+use Rattle.std.proofs.Common.{◌≡◌, ℕ, List, ◌++◌, length, take, drop, arith, ap, subst, sym, ◌∙◌}
+use Rattle.net_graph.specs.declared.neighbours.Arc.{Arc}
+use Rattle.net_graph.specs.Notes.{AreCounts, AreRows, HaveRoom, JoinsOther, notes_of}
 use Rattle.net_graph.proofs.Rows.{laid_out_limits}
-use Rattle.net_graph.proofs.LayingOut.{AreRowsBelow, next_rows, all_rows, rows_same_walks}
+use Rattle.net_graph.proofs.LayingOut.{all_rows, rows_same_walks}
+use Rattle.net_graph.proofs.Placing.{room_made, written}
 use Rattle.net_graph.proofs.neighbours.Neighbours.new.Goals as goal
 
-pub push_chain-requires-clause-below : goal.push_chain-requires-clause-below
-push_chain-requires-clause-below c = omega (arith, c.in_ok-chains.ensures.count)
+pub fill_arcs-requires-clause-room : goal.fill_arcs-requires-clause-room
+fill_arcs-requires-clause-room c =
+    let whole : length c.deref.result.now ≡ length c.deref_mut-2.result.now = omega (
+      arith,
+      ap (length {A = ℕ}) counts,
+      c.count_arcs.auto.counts,
+      ap (length {A = ℕ}) c.deref_mut.ensures.value,
+      c.in_ok-counts.ensures.len,
+      c.in_ok-counts.counts.ok.0,
+      ap (length {A = ℕ}) c.deref_mut-2.ensures.value,
+      c.in_ok-taken.ensures.len,
+      c.in_ok-taken.taken.ok.0,
+    ) in
+    subst (λ (xs : List ℕ). HaveRoom (length c.deref_mut-2.result.now) (notes_of c.args.edges.now) xs)
+    (sym c.deref-2.ensures.value)
+    (room_made (length c.deref_mut-2.result.now) (notes_of c.args.edges.now) c.deref.result.now
+    c.in_ok-starts.starts.items whole
+    (subst (λ (xs : List ℕ). AreCounts (notes_of c.args.edges.now) xs) (sym counts) c.count_arcs.ensures)
+    c.in_ok-starts.ensures)
+  where
+    counts : c.deref.result.now ≡ c.count_arcs.new.counts
+    counts = c.deref.ensures.value
+        ∙ written c.in_ok-counts.counts.len c.count_arcs.new.counts c.in_ok-counts.counts.items
+        (c.count_arcs.auto.counts ∙ ap (length {A = ℕ}) c.deref_mut.ensures.value) c.in_ok-counts.counts.ok.0
 
-pub push_chain-requires-clause-chain : goal.push_chain-requires-clause-chain
-push_chain-requires-clause-chain c =
-    let chain = c.in_ok-chains.ensures.each c.loop-u.u (omega arith) in (chain.arcs, chain.chain)
-
-pub loop-u-preserved : goal.loop-u-preserved
-loop-u-preserved c =
-    next_rows c.args.n c.args.edges.now c.requires.edges c.loop-u.u
-    c.loop-u.starts.items c.push-in-loop-u.new.self.items c.loop-u.arcs.items c.push_chain.new.arcs.items
-    c.in_ok-chains.chains.links.items c.in_ok-chains.chains.last.items
-    (omega arith) c.in_ok-chains.ensures c.loop-u.invariant c.in_ok-push_chain.ensures
-    (cc (c.in_ok-push-2.ensures.items))
+module _ (c : goal.After-arcs-3-1) where
+  -- the rows of the network's nodes
+  made : AreRows c.args.n (JoinsOther c.args.edges.now) c.in_ok-starts.starts.items
+      (take c.in_ok-arcs.arcs.len (c.fill_arcs.new.arcs ++ drop (length c.fill_arcs.new.arcs) c.in_ok-arcs.arcs.items))
+  made =
+      let n_is : length c.deref_mut-2.result.now ≡ c.args.n = omega (
+        arith,
+        ap (length {A = ℕ}) c.deref_mut-2.ensures.value,
+        c.in_ok-taken.ensures.len,
+        c.in_ok-taken.taken.ok.0,
+      ) in
+      let arcs_are : take c.in_ok-arcs.arcs.len
+      (c.fill_arcs.new.arcs ++ drop (length c.fill_arcs.new.arcs) c.in_ok-arcs.arcs.items) ≡ c.fill_arcs.new.arcs =
+      written c.in_ok-arcs.arcs.len c.fill_arcs.new.arcs c.in_ok-arcs.arcs.items
+      (c.fill_arcs.auto.arcs ∙ ap (length {A = Arc}) c.deref_mut-3.ensures.value) c.in_ok-arcs.arcs.ok.0 in
+      subst (λ (xs : List Arc). AreRows c.args.n (JoinsOther c.args.edges.now) c.in_ok-starts.starts.items xs)
+      (sym arcs_are)
+      (subst (λ (xs : List ℕ). AreRows c.args.n (JoinsOther c.args.edges.now) xs c.fill_arcs.new.arcs)
+      c.deref-2.ensures.value
+      (subst (λ (n : ℕ). AreRows n (JoinsOther c.args.edges.now) c.deref-2.result.now c.fill_arcs.new.arcs) n_is
+      c.fill_arcs.ensures))
 
 pub invariant_of-result : goal.invariant_of-result
 invariant_of-result c =
-    let done : c.loop-u.u ≡ c.args.n = omega arith in
-    all_rows c.args.n c.args.edges.now c.requires.edges c.loop-u.starts.items c.loop-u.arcs.items c.requires.positive
-    c.requires.few
-    (subst (λ (u : ℕ). AreRowsBelow c.args.n u (JoinsOther c.args.edges.now) c.loop-u.starts.items c.loop-u.arcs.items)
-    done
-    c.loop-u.invariant)
+    all_rows c.args.n c.args.edges.now c.requires.edges c.in_ok-starts.starts.items
+    (take c.in_ok-arcs.arcs.len (c.fill_arcs.new.arcs ++ drop (length c.fill_arcs.new.arcs) c.in_ok-arcs.arcs.items))
+    c.requires.positive c.requires.few (made c)
 
 pub returns-clause-same : goal.returns-clause-same
 returns-clause-same c =
-    let done : c.loop-u.u ≡ c.args.n = omega arith in
-    rows_same_walks c.args.n c.args.edges.now c.requires.edges c.loop-u.starts.items c.loop-u.arcs.items
-    (subst (λ (u : ℕ). AreRowsBelow c.args.n u (JoinsOther c.args.edges.now) c.loop-u.starts.items c.loop-u.arcs.items)
-    done
-    c.loop-u.invariant)
+    rows_same_walks c.args.n c.args.edges.now c.requires.edges c.in_ok-starts.starts.items
+    (take c.in_ok-arcs.arcs.len (c.fill_arcs.new.arcs ++ drop (length c.fill_arcs.new.arcs) c.in_ok-arcs.arcs.items))
+    (made c.before.before)
 
 pub returns-clause-limits : goal.returns-clause-limits
 returns-clause-limits c =
-    let done : c.loop-u.u ≡ c.args.n = omega arith in
-    laid_out_limits c.args.n c.loop-u.starts.items c.loop-u.arcs.items
-    (all_rows c.args.n c.args.edges.now c.requires.edges c.loop-u.starts.items c.loop-u.arcs.items c.requires.positive
-    c.requires.few
-    (subst (λ (u : ℕ). AreRowsBelow c.args.n u (JoinsOther c.args.edges.now) c.loop-u.starts.items c.loop-u.arcs.items)
-    done
-    c.loop-u.invariant))
+    laid_out_limits c.args.n c.in_ok-starts.starts.items
+    (take c.in_ok-arcs.arcs.len (c.fill_arcs.new.arcs ++ drop (length c.fill_arcs.new.arcs) c.in_ok-arcs.arcs.items))
+    (all_rows c.args.n c.args.edges.now c.requires.edges c.in_ok-starts.starts.items
+    (take c.in_ok-arcs.arcs.len (c.fill_arcs.new.arcs ++ drop (length c.fill_arcs.new.arcs) c.in_ok-arcs.arcs.items))
+    c.requires.positive c.requires.few (made c.before.before))

@@ -25,11 +25,13 @@ returns-in-Move c =
     let self = c.args.self.now in
     let found = c.in-Some-two_numbers in
     let numbers = found.first ∷ found.second ∷ [] in
-    let shorter = whole-shorter c.in-Some-opening.word numbers c.args.piece.now c.in-Some-opening.after.now found.rest.now
+    let shorter = whole-shorter c.in-Some-opening.word numbers c.args.piece.now c.in-Some-opening.after.now
+    found.rest.now
     c.in-Some-opening.ensures found.ensures in
     record {
       read = heard-whole (seen_scan self) (seen_scan c.hear.new.self) self.lines (seen_known self.known)
-          c.in-Some-opening.word numbers c.args.piece.now c.in-Some-opening.after.now found.rest.now c.requires.rests.seen
+          c.in-Some-opening.word numbers c.args.piece.now c.in-Some-opening.after.now found.rest.now
+          c.requires.rests.seen
           c.in_ok-hear.ensures.read c.in-Some-opening.ensures found.ensures;
       shorter = omega (arith, shorter);
       lines = omega (arith, c.in_ok-hear.ensures.lines, shorter);
@@ -42,11 +44,13 @@ returns-in-Find c =
     let self = c.args.self.now in
     let found = c.in-Some-three_numbers in
     let numbers = found.first ∷ found.second ∷ found.third ∷ [] in
-    let shorter = whole-shorter c.in-Some-opening.word numbers c.args.piece.now c.in-Some-opening.after.now found.rest.now
+    let shorter = whole-shorter c.in-Some-opening.word numbers c.args.piece.now c.in-Some-opening.after.now
+    found.rest.now
     c.in-Some-opening.ensures found.ensures in
     record {
       read = heard-whole (seen_scan self) (seen_scan c.hear-in-Find.new.self) self.lines (seen_known self.known)
-          c.in-Some-opening.word numbers c.args.piece.now c.in-Some-opening.after.now found.rest.now c.requires.rests.seen
+          c.in-Some-opening.word numbers c.args.piece.now c.in-Some-opening.after.now found.rest.now
+          c.requires.rests.seen
           c.in_ok-hear-2.ensures.read c.in-Some-opening.ensures found.ensures;
       shorter = omega (arith, shorter);
       lines = omega (arith, c.in_ok-hear-2.ensures.lines, shorter);
@@ -59,11 +63,13 @@ returns c =
     let self = c.args.self.now in
     let found = c.in-Some-edge_numbers in
     let numbers = found.first ∷ found.second ∷ found.weight ∷ [] in
-    let shorter = whole-shorter c.in-Some-opening.word numbers c.args.piece.now c.in-Some-opening.after.now found.rest.now
+    let shorter = whole-shorter c.in-Some-opening.word numbers c.args.piece.now c.in-Some-opening.after.now
+    found.rest.now
     c.in-Some-opening.ensures found.ensures in
     record {
       read = heard-whole (seen_scan self) (seen_scan c.hear-2.new.self) self.lines (seen_known self.known)
-          c.in-Some-opening.word numbers c.args.piece.now c.in-Some-opening.after.now found.rest.now c.requires.rests.seen
+          c.in-Some-opening.word numbers c.args.piece.now c.in-Some-opening.after.now found.rest.now
+          c.requires.rests.seen
           c.in_ok-hear-3.ensures.read c.in-Some-opening.ensures found.ensures;
       shorter = omega (arith, shorter);
       lines = omega (arith, c.in_ok-hear-3.ensures.lines, shorter);

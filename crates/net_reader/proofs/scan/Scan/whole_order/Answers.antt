@@ -18,7 +18,8 @@ returns-in-Some c =
     let rest = c.in-Some.rest.now in
     let going = c.requires.rests.going in
     let heard : HearsOrder self.known known after rest =
-    subst (λ o. IfSome o (λ rest. HearsOrder self.known known after rest.now)) c.in-Some.is c.in_ok-rest.ensures.heard in
+    subst (λ o. IfSome o (λ rest. HearsOrder self.known known after rest.now)) c.in-Some.is c.in_ok-rest.ensures.heard
+    in
     let shorter = whole-shorter Order heard.numbers piece after rest c.requires.opens heard.ends in
     let one_more = ap (λ (s : Scan). s.lines) c.count.ensures in
     record {

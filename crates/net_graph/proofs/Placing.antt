@@ -1,0 +1,325 @@
+-- The arcs of each node, while they are counted and written into their places.
+use Rattle.std.proofs.Common.{◌≡◌, ◌≢◌, ℕ, zero, suc, ◌+◌, ◌-◌, ◌<◌, ◌≤◌, List, [], ◌∷◌, ◌++◌, length, get_or, set, take, drop}
+use Rattle.std.proofs.Common.{refl, sym, ◌∙◌, ap, subst, inl, inr, arith, add-zero, append_assoc}
+use Rattle.std.proofs.lemmas.Bool.{cases_eq, cases_lt}
+use Rattle.std.proofs.lemmas.List.{get_or-set_same, get_or-set_other, get_or-drop, get_or-take, get_or_append_left}
+use Rattle.std.proofs.lemmas.List.{get_or_push, length-append, length-drop, length-set, length-take-le, length_push}
+use Rattle.std.specs.Prelude.{All}
+use Rattle.std.proofs.lemmas.Grind.{flat_map-append}
+use Rattle.std.proofs.lemmas.List.{same_lists, take-append-drop, append-nil}
+use Rattle.std.proofs.lemmas.List.Elements.{All-set}
+use Rattle.std.proofs.Math.Seq.{take-append_seam}
+use Rattle.net_graph.specs.declared.edge.Edge.{Edge}
+use Rattle.net_graph.specs.declared.neighbours.Arc.{Arc}
+use Rattle.net_graph.specs.Layout.{IsArc, row}
+use Rattle.net_graph.specs.Notes.{Note, note_of, notes_by, notes_of, row_of, AreCounts, AreFilled, AreStarts, HaveRoom}
+use Rattle.net_graph.proofs.Noting.{row-append, row-own, row-other, edge-notes, loop-notes, notes-push}
+
+-- a list that was written over whole
+pub written : {A : Type 0} (n : ℕ) (new old : List A) → length new ≡ length old → n ≡ length old
+    → take n (new ++ drop (length new) old) ≡ new
+written n new old same whole = let e : n ≡ length new = whole ∙ sym same in rw (e, take-append_seam) refl
+
+-- ---- counts
+
+row-push : (u : ℕ) (notes : List Note) (note : Note) → u ≡ note.from
+    → length (row_of u (notes ++ note ∷ [])) ≡ length (row_of u notes) + 1
+row-push u notes note is =
+    ap (length {A = Arc}) (row-append u notes (note ∷ [])
+    ∙ ap (λ arcs. row_of u notes ++ arcs) (ap (λ v. row_of v (note ∷ [])) is ∙ row-own note []))
+    ∙ length-append (row_of u notes) (note.arc ∷ [])
+
+row-passed : (u : ℕ) (notes : List Note) (note : Note) → (u ≡ note.from → ⊥)
+    → row_of u (notes ++ note ∷ []) ≡ row_of u notes
+row-passed u notes note other =
+    row-append u notes (note ∷ []) ∙ ap (λ arcs. row_of u notes ++ arcs) (row-other u note [] other)
+    ∙ append-nil (row_of u notes)
+
+-- one note more is counted
+pub one_counted : (notes : List Note) (note : Note) (counts : List ℕ) → note.from < length counts
+    → AreCounts notes counts → AreCounts (notes ++ note ∷ []) (set counts note.from (get_or counts note.from 0 + 1))
+one_counted notes note counts below before v short =
+    let old : v < length counts = omega (arith, short, length-set counts note.from (get_or counts note.from 0 + 1)) in
+    elim (cases_eq v note.from) [
+      | inl same ↦
+          ap (λ u. get_or (set counts note.from (get_or counts note.from 0 + 1)) u 0) same
+          ∙ get_or-set_same counts note.from (get_or counts note.from 0 + 1) 0 below
+          ∙ ap (λ n. n + 1) (ap (λ u. get_or counts u 0) (sym same) ∙ before v old)
+          ∙ sym (row-push v notes note same)
+      | inr other ↦
+          get_or-set_other counts note.from v (get_or counts note.from 0 + 1) 0 other ∙ before v old
+          ∙ ap (length {A = Arc}) (sym (row-passed v notes note other))
+    ]
+
+-- the notes of an edge that is no loop, one behind the other
+pub two_more : (edges : List Edge) (i : ℕ) (d : Edge) → i < length edges
+    → (get_or edges i d).a ≢ (get_or edges i d).b → notes_of (take (i + 1) edges)
+    ≡ (notes_of (take i edges)
+    ++ note_of (get_or edges i d).a (get_or edges i d).b (get_or edges i d).weight ∷ [])
+    ++ note_of (get_or edges i d).b (get_or edges i d).a (get_or edges i d).weight ∷ []
+two_more edges i d below apart =
+    let e : Edge = get_or edges i d in
+    notes-push edges i d below
+    ∙ ap (λ xs. notes_of (take i edges) ++ xs) (edge-notes e apart)
+    ∙ sym (append_assoc (notes_of (take i edges)) (note_of e.a e.b e.weight ∷ []) (note_of e.b e.a e.weight ∷ []))
+
+pub none_more : (edges : List Edge) (i : ℕ) (d : Edge) → i < length edges
+    → (get_or edges i d).a ≡ (get_or edges i d).b → notes_of (take (i + 1) edges) ≡ notes_of (take i edges)
+none_more edges i d below same =
+    notes-push edges i d below
+    ∙ ap (λ xs. notes_of (take i edges) ++ xs) (loop-notes (get_or edges i d) same)
+    ∙ append-nil (notes_of (take i edges))
+
+-- ---- starts
+
+pub no_starts : (starts : List ℕ) → starts ≡ 0 ∷ [] → AreStarts [] starts
+no_starts starts is = rw is (record { count = refl; each = λ v below. omega arith })
+
+module _ (counts starts : List ℕ) (i sum : ℕ) (short : i < length counts) (before : AreStarts (take i counts) starts)
+    (last : get_or starts i 0 ≡ sum) where
+  counted : length (take i counts) ≡ i
+  counted = length-take-le i counts (omega arith)
+
+  pub last_start : (next : List ℕ) → next ≡ starts ++ (sum + get_or counts i 0) ∷ []
+      → get_or next (i + 1) 0 ≡ sum + get_or counts i 0
+  last_start next is =
+      ap (λ xs. get_or xs (i + 1) 0) is
+      ∙ get_or_push starts (sum + get_or counts i 0) 0 (i + 1) (omega (arith, before.count, counted))
+
+  pub one_start : (next : List ℕ) → next ≡ starts ++ (sum + get_or counts i 0) ∷ []
+      → AreStarts (take (i + 1) counts) next
+  one_start next is = rw is (record {
+    count =
+        omega (
+          arith,
+          length_push starts (sum + get_or counts i 0),
+          before.count,
+          counted,
+          length-take-le (i + 1) counts (omega arith),
+        );
+    each = λ v below.
+        let fits : v < i + 1 = omega (arith, below, length-take-le (i + 1) counts (omega arith)) in
+        let kept : (k : ℕ) → k ≤ i → get_or (starts ++ (sum + get_or counts i 0) ∷ []) k 0 ≡ get_or starts k 0
+        = λ k low. get_or_append_left starts ((sum + get_or counts i 0) ∷ []) 0 k (omega (arith, before.count, counted))
+        in
+        let taken : get_or (take (i + 1) counts) v 0 ≡ get_or counts v 0 = get_or-take (i + 1) counts v 0 fits in
+        elim (cases_lt v i) [
+          | inl less ↦
+              omega (
+                arith,
+                kept v (omega arith),
+                kept (v + 1) (omega arith),
+                before.each v (omega (arith, counted)),
+                get_or-take i counts v 0 less,
+                taken,
+              )
+          | inr over ↦
+              let same : v ≡ i = omega arith in
+              subst (λ k. get_or (starts ++ (sum + get_or counts i 0) ∷ []) (k + 1) 0
+              ≡ get_or (starts ++ (sum + get_or counts i 0) ∷ []) k 0 + get_or (take (i + 1) counts) k 0) (sym same)
+              (omega (
+                arith,
+                kept i (omega arith),
+                last,
+                last_start (starts ++ (sum + get_or counts i 0) ∷ []) refl,
+                get_or-take (i + 1) counts i 0 (omega arith),
+              ))
+        ];
+  })
+
+pub room_made : (n : ℕ) (notes : List Note) (counts starts : List ℕ) → length counts ≡ n → AreCounts notes counts
+    → AreStarts counts starts → HaveRoom n notes starts
+room_made n notes counts starts whole counted sums = record {
+  count = omega (arith, sums.count, whole);
+  each = λ v below. let short : v < length counts = omega (arith, below, whole) in
+      sums.each v short ∙ ap (λ k. get_or starts v 0 + k) (counted v short);
+}
+
+-- ---- places
+
+module _ (n : ℕ) (all : List Note) (starts : List ℕ) (room : HaveRoom n all starts) where
+  rise_by : (v k : ℕ) → v + k ≤ n → get_or starts v 0 ≤ get_or starts (v + k) 0
+  rise_by v zero short = subst (λ (i : ℕ). get_or starts v 0 ≤ get_or starts i 0) (sym (add-zero v)) (omega arith)
+  rise_by v (suc k) short =
+      let e : v + k + 1 ≡ v + suc k = omega arith in
+      subst (λ (i : ℕ). get_or starts v 0 ≤ get_or starts i 0) e
+      (omega (arith, rise_by v k (omega arith), room.each (v + k) (omega arith)))
+
+  pub starts_rise : (u v : ℕ) → u ≤ v → v ≤ n → get_or starts u 0 ≤ get_or starts v 0
+  starts_rise u v order short =
+      let e : u + (v - u) ≡ v = omega arith in
+      subst (λ (i : ℕ). get_or starts u 0 ≤ get_or starts i 0) e (rise_by u (v - u) (omega arith))
+
+  -- the places of two nodes are different
+  apart : (u v i j : ℕ) → u < n → v < n → (u ≡ v → ⊥) → i < length (row_of u all) → j < length (row_of v all)
+      → get_or starts u 0 + i ≡ get_or starts v 0 + j → ⊥
+  apart u v i j u_below v_below other i_short j_short same = elim (cases_lt u v) [
+    | inl less ↦
+        omega (arith, same, room.each u u_below, starts_rise (u + 1) v (omega arith) (omega arith), i_short)
+    | inr over ↦
+        omega (
+          arith,
+          same,
+          room.each v v_below,
+          starts_rise (v + 1) u (omega (arith, over, other)) (omega arith),
+          j_short,
+        )
+  ]
+
+  module _ (first rest : List Note) (note : Note) (whole : all ≡ first ++ note ∷ rest) (below : note.from < n)
+      (taken : List ℕ) (long : length taken ≡ n) (counts : AreCounts first taken) where
+    row_splits : (v : ℕ) → row_of v all ≡ row_of v first ++ row_of v (note ∷ rest)
+    row_splits v = ap (row_of v) whole ∙ row-append v first (note ∷ rest)
+
+    fits : (v : ℕ) → v < n → get_or taken v 0 ≤ length (row_of v all)
+    fits v short =
+        omega (
+          arith,
+          counts v (omega (arith, short, long)),
+          ap (length {A = Arc}) (row_splits v),
+          length-append (row_of v first) (row_of v (note ∷ rest)),
+        )
+
+    is_next : (d : Arc) → get_or (row_of note.from all) (get_or taken note.from 0) d ≡ note.arc
+    is_next d =
+        ap (λ xs. get_or xs (get_or taken note.from 0) d)
+        (row_splits note.from ∙ ap (λ xs. row_of note.from first ++ xs) (row-own note rest))
+        ∙ ap (λ k. get_or (row_of note.from first ++ note.arc ∷ row_of note.from rest) k d)
+        (counts note.from (omega (arith, below, long)))
+        ∙ next_after (row_of note.from first) (note.arc) (row_of note.from rest) d
+      where
+        next_after : (xs : List Arc) (y : Arc) (ys : List Arc) (d : Arc) → get_or (xs ++ y ∷ ys) (length xs) d ≡ y
+        next_after [] y ys d = refl
+        next_after (x ∷ xs) y ys d = next_after xs y ys d
+
+    free : get_or taken note.from 0 < length (row_of note.from all)
+    free =
+        omega (
+          arith,
+          counts note.from (omega (arith, below, long)),
+          ap (length {A = Arc}) (row_splits note.from ∙ ap (λ xs. row_of note.from first ++ xs) (row-own note rest)),
+          length-append (row_of note.from first) (note.arc ∷ row_of note.from rest),
+        )
+
+    -- the place of the next arc
+    pub place_within : get_or starts note.from 0 + get_or taken note.from 0 < get_or starts n 0
+    place_within =
+        omega (arith, room.each note.from below, starts_rise (note.from + 1) n (omega arith) (omega arith), free)
+
+    -- one arc more is in its place
+    pub one_filled : (arcs : List Arc) → length arcs ≡ get_or starts n 0 → AreFilled all starts taken arcs
+        → AreFilled all starts (set taken note.from (get_or taken note.from 0 + 1))
+        (set arcs (get_or starts note.from 0 + get_or taken note.from 0) note.arc)
+    one_filled arcs sized before v place d v_short short =
+        let old : v < length taken =
+        omega (arith, v_short, length-set taken note.from (get_or taken note.from 0 + 1)) in
+        elim (cases_eq v note.from) [
+          | inl same ↦
+              subst (λ u. get_or (set arcs (get_or starts note.from 0 + get_or taken note.from 0) note.arc)
+              (get_or starts u 0 + place) d ≡ get_or (row_of u all) place d) (sym same)
+              (here (subst (λ u. place < get_or (set taken note.from (get_or taken note.from 0 + 1)) u 0) same short))
+          | inr other ↦
+              let low : place < get_or taken v 0 =
+              subst (λ k. place < k) (get_or-set_other taken note.from v (get_or taken note.from 0 + 1) 0 other) short
+              in
+              get_or-set_other arcs (get_or starts note.from 0 + get_or taken note.from 0) (get_or starts v 0 + place)
+              note.arc d
+              (apart v note.from place (get_or taken note.from 0) (omega (arith, old, long)) below other
+              (omega (arith, low, fits v (omega (arith, old, long)))) free)
+              ∙ before v place d old low
+        ]
+      where
+        here : place < get_or (set taken note.from (get_or taken note.from 0 + 1)) note.from 0
+            → get_or (set arcs (get_or starts note.from 0 + get_or taken note.from 0) note.arc)
+            (get_or starts note.from 0 + place) d ≡ get_or (row_of note.from all) place d
+        here below_next = elim (cases_eq place (get_or taken note.from 0)) [
+          | inl last ↦
+              subst (λ k. get_or (set arcs (get_or starts note.from 0 + get_or taken note.from 0) note.arc)
+              (get_or starts note.from 0 + k) d ≡ get_or (row_of note.from all) k d) (sym last)
+              (get_or-set_same arcs (get_or starts note.from 0 + get_or taken note.from 0) note.arc d
+              (omega (arith, sized, place_within)) ∙ sym (is_next d))
+          | inr older ↦
+              get_or-set_other arcs (get_or starts note.from 0 + get_or taken note.from 0)
+              (get_or starts note.from 0 + place) note.arc d (λ same. omega (arith, same, older))
+              ∙ before note.from place d (omega (arith, below, long))
+              (omega (
+                arith,
+                below_next,
+                older,
+                get_or-set_same taken note.from (get_or taken note.from 0 + 1) 0 (omega (arith, below, long)),
+              ))
+        ]
+
+  -- ---- all arcs
+
+  pub rows_filled : (taken : List ℕ) (arcs : List Arc) → length taken ≡ n → AreCounts all taken
+      → length arcs ≡ get_or starts n 0 → AreFilled all starts taken arcs
+      → (v : ℕ) → v < n → row starts arcs v ≡ row_of v all
+  rows_filled taken arcs long counts sized filled v below =
+      let v_short : v < length taken = omega (arith, below, long) in
+      let wide : length (row starts arcs v) ≡ get_or starts (v + 1) 0 - get_or starts v 0 =
+      length-take-le (get_or starts (v + 1) 0 - get_or starts v 0) (drop (get_or starts v 0) arcs)
+      (omega (
+        arith,
+        length-drop (get_or starts v 0) arcs,
+        sized,
+        starts_rise (v + 1) n (omega arith) (omega arith),
+      )) in
+      same_lists (row starts arcs v) (row_of v all)
+      (omega (arith, wide, room.each v below))
+      (λ k d short.
+      get_or-take (get_or starts (v + 1) 0 - get_or starts v 0) (drop (get_or starts v 0) arcs) k d
+      (omega (arith, short, wide))
+      ∙ get_or-drop (get_or starts v 0) arcs k d
+      ∙ filled v k d v_short
+      (omega (arith, short, wide, room.each v below, counts v v_short)))
+
+-- ---- an edge that is no loop
+
+-- all notes are those before the edge, its two, and those behind
+pub edge_splits : (edges : List Edge) (i : ℕ) (d : Edge) → i < length edges
+    → (get_or edges i d).a ≢ (get_or edges i d).b → notes_of edges
+    ≡ (notes_of (take i edges)
+    ++ note_of (get_or edges i d).a (get_or edges i d).b (get_or edges i d).weight ∷ [])
+    ++ note_of (get_or edges i d).b (get_or edges i d).a (get_or edges i d).weight ∷ notes_of (drop (i + 1) edges)
+edge_splits edges i d below apart =
+    let e : Edge = get_or edges i d in
+    let before : List Note = notes_of (take i edges) ++ note_of e.a e.b e.weight ∷ [] in
+    ap notes_of (sym (take-append-drop (i + 1) edges))
+    ∙ flat_map-append notes_by (take (i + 1) edges) (drop (i + 1) edges)
+    ∙ ap (λ xs. xs ++ notes_of (drop (i + 1) edges)) (two_more edges i d below apart)
+    ∙ append_assoc before (note_of e.b e.a e.weight ∷ []) (notes_of (drop (i + 1) edges))
+
+-- what the places hold once the first so many edges are written
+pub record ArePlaced (n : ℕ) (edges : List Edge) (starts : List ℕ) (first : List Note) (taken : List ℕ)
+    (arcs : List Arc) : Type 0 where
+  pub counts : AreCounts first taken
+  pub filled : AreFilled (notes_of edges) starts taken arcs
+  pub limits : All (IsArc n) arcs
+  pub long : length taken ≡ n
+  pub sized : length arcs ≡ get_or starts n 0
+
+module _ (n : ℕ) (edges : List Edge) (starts : List ℕ) (room : HaveRoom n (notes_of edges) starts)
+    (first rest : List Note) (note : Note) (whole : notes_of edges ≡ first ++ note ∷ rest) (below : note.from < n)
+    (taken : List ℕ) (arcs : List Arc) (placed : ArePlaced n edges starts first taken arcs) where
+  pub has_place : get_or starts note.from 0 + get_or taken note.from 0 < length arcs
+  has_place =
+      omega (
+        arith,
+        placed.sized,
+        place_within n (notes_of edges) starts room first rest note whole below taken placed.long placed.counts,
+      )
+
+  pub one_placed : (next : List ℕ) (more : List Arc) → IsArc n note.arc
+      → next ≡ set taken note.from (get_or taken note.from 0 + 1)
+      → more ≡ set arcs (get_or starts note.from 0 + get_or taken note.from 0) note.arc
+      → ArePlaced n edges starts (first ++ note ∷ []) next more
+  one_placed next more limited next_is more_is = rw (next_is, more_is) (record {
+    counts = one_counted first note taken (omega (arith, below, placed.long)) placed.counts;
+    filled = one_filled n (notes_of edges) starts room first rest note whole below taken placed.long placed.counts
+        arcs placed.sized placed.filled;
+    limits = All-set (IsArc n) arcs (get_or starts note.from 0 + get_or taken note.from 0) note.arc limited
+        placed.limits;
+    long = length-set taken note.from (get_or taken note.from 0 + 1) ∙ placed.long;
+    sized = length-set arcs (get_or starts note.from 0 + get_or taken note.from 0) note.arc ∙ placed.sized;
+  })
