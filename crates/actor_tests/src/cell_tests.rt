@@ -3,7 +3,6 @@
 
 ghost use Rattle.std.specs.Prelude.{◌≡◌, ◌<◌, ◌≤◌, true};
 ghost use Rattle.region_plan.specs.Cells.{IsCell};
-ghost use Rattle.region_plan.specs.Matched.{IsMatched};
 ghost use Rattle.region_plan.specs.Plan.{nodes_of};
 ghost use Rattle.visit_log.specs.Cells.{GoWith};
 
@@ -157,7 +156,6 @@ fn play_over(
     subs: u32,
     script: &[(Step, u64)],
 ) -> Result<(), Fail>
-    requires matched { IsMatched plan.now }
     requires inside { home < nodes_of plan.now }
     requires some { 1 ≤ subs }
     requires few { subs ≤ 64 }

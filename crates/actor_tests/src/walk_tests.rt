@@ -1,6 +1,5 @@
 //! Finds over the line 0 - 1 - 2 - 3 of unit weights, and over a path of the most nodes.
 ghost use Rattle.std.specs.Prelude.{◌≡◌, ◌≤◌, IfSome};
-ghost use Rattle.region_plan.specs.Matched.{IsMatched, IsWithinReach};
 ghost use Rattle.region_plan.specs.Plan.{nodes_of};
 ghost use Rattle.walk.specs.Walks.{IsWalkOver, IsWordBelow};
 ghost use Rattle.walk.specs.declared.progress.Progress.{Progress};
@@ -40,8 +39,6 @@ fn start(plan: &Plan, from: u32, subs: u32) -> Option<Walk>
 fn see_nothing(walk: &mut Walk, plan: &Plan, distances: &Distances)
     requires goes { IsWalkOver plan.now walk.old }
     requires belongs { plan.now.distances ≡ distances.now }
-    requires matched { IsMatched plan.now }
-    requires reached { IsWithinReach plan.now }
     ensures { IsWalkOver plan.now walk.new }
 {
     empty_words();
@@ -52,8 +49,6 @@ fn see_nothing(walk: &mut Walk, plan: &Plan, distances: &Distances)
 fn see(walk: &mut Walk, plan: &Plan, distances: &Distances, word: u64)
     requires goes { IsWalkOver plan.now walk.old }
     requires belongs { plan.now.distances ≡ distances.now }
-    requires matched { IsMatched plan.now }
-    requires reached { IsWithinReach plan.now }
     requires word { (progress : Progress) → IsWordBelow (nodes_of plan.now) progress word }
     ensures { IsWalkOver plan.now walk.new }
 {
@@ -65,8 +60,6 @@ fn see(walk: &mut Walk, plan: &Plan, distances: &Distances, word: u64)
 fn see_subscriber(walk: &mut Walk, plan: &Plan, distances: &Distances)
     requires goes { IsWalkOver plan.now walk.old }
     requires belongs { plan.now.distances ≡ distances.now }
-    requires matched { IsMatched plan.now }
-    requires reached { IsWithinReach plan.now }
     ensures { IsWalkOver plan.now walk.new }
 {
     let word = pack_mark(PresenceMark::Here { number: 7 });
@@ -77,8 +70,6 @@ fn see_subscriber(walk: &mut Walk, plan: &Plan, distances: &Distances)
 fn see_coming(walk: &mut Walk, plan: &Plan, distances: &Distances)
     requires goes { IsWalkOver plan.now walk.old }
     requires belongs { plan.now.distances ≡ distances.now }
-    requires matched { IsMatched plan.now }
-    requires reached { IsWithinReach plan.now }
     ensures { IsWalkOver plan.now walk.new }
 {
     let word = pack_mark(PresenceMark::Coming { number: 1, from: 0 });
@@ -89,8 +80,6 @@ fn see_coming(walk: &mut Walk, plan: &Plan, distances: &Distances)
 fn see_gone_to_first(walk: &mut Walk, plan: &Plan, distances: &Distances)
     requires goes { IsWalkOver plan.now walk.old }
     requires belongs { plan.now.distances ≡ distances.now }
-    requires matched { IsMatched plan.now }
-    requires reached { IsWithinReach plan.now }
     ensures { IsWalkOver plan.now walk.new }
 {
     let word = pack_mark(PresenceMark::Gone { number: 1, to: 0 });
@@ -101,8 +90,6 @@ fn see_gone_to_first(walk: &mut Walk, plan: &Plan, distances: &Distances)
 fn see_gone_to_last(walk: &mut Walk, plan: &Plan, distances: &Distances)
     requires goes { IsWalkOver plan.now walk.old }
     requires belongs { plan.now.distances ≡ distances.now }
-    requires matched { IsMatched plan.now }
-    requires reached { IsWithinReach plan.now }
     requires nodes { nodes_of plan.now ≡ MAX_NODES }
     ensures { IsWalkOver plan.now walk.new }
 {
@@ -117,8 +104,6 @@ fn see_gone_to_last(walk: &mut Walk, plan: &Plan, distances: &Distances)
 fn go_to_and_fro(walk: &mut Walk, plan: &Plan, distances: &Distances, times: u32)
     requires goes { IsWalkOver plan.now walk.old }
     requires belongs { plan.now.distances ≡ distances.now }
-    requires matched { IsMatched plan.now }
-    requires reached { IsWithinReach plan.now }
     requires nodes { nodes_of plan.now ≡ MAX_NODES }
     ensures { IsWalkOver plan.now walk.new }
 {
@@ -160,7 +145,6 @@ enum Seen {
 // What is ahead of a walk: its level, and how many entries are left there.
 fn ahead(walk: &Walk, plan: &Plan) -> Option<(u32, usize)>
     requires goes { IsWalkOver plan.now walk.now }
-    requires matched { IsMatched plan.now }
 {
     let climb = walk.climb()?;
     Some((climb.level, climb.readers(plan).len()))
@@ -169,8 +153,6 @@ fn ahead(walk: &Walk, plan: &Plan) -> Option<(u32, usize)>
 // The walk passes so many entries, if so many are ahead, and a level above them if these are all.
 fn pass(walk: &mut Walk, plan: &Plan, count: usize) -> Seen
     requires goes { IsWalkOver plan.now walk.old }
-    requires matched { IsMatched plan.now }
-    requires reached { IsWithinReach plan.now }
     ensures { IsWalkOver plan.now walk.new }
 {
     let Some(climb) = walk.climb() else {
@@ -188,8 +170,6 @@ fn pass(walk: &mut Walk, plan: &Plan, count: usize) -> Seen
 fn take(walk: &mut Walk, plan: &Plan, distances: &Distances, step: Step) -> Seen
     requires goes { IsWalkOver plan.now walk.old }
     requires belongs { plan.now.distances ≡ distances.now }
-    requires matched { IsMatched plan.now }
-    requires reached { IsWithinReach plan.now }
     ensures { IsWalkOver plan.now walk.new }
 {
     match step {
@@ -225,8 +205,6 @@ fn play(
 )
     requires goes { IsWalkOver plan.now walk.old }
     requires belongs { plan.now.distances ≡ distances.now }
-    requires matched { IsMatched plan.now }
-    requires reached { IsWithinReach plan.now }
 {
     'steps: for at in 0..script.len() {
         let (step, wanted) = script[at];

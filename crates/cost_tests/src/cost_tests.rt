@@ -4,7 +4,6 @@
 ghost use Rattle.std.specs.Prelude.{◌≡◌, IfOk};
 ghost use Rattle.net_reader.specs.Seen.{seen_input};
 ghost use Rattle.net_reader.specs.Valid.{IsValid};
-ghost use Rattle.region_plan.specs.Matched.{BoundsFinds};
 ghost use Rattle.region_plan.specs.Plan.{nodes_of};
 
 use distances::Distances;
@@ -37,7 +36,6 @@ fn input_of(alloc: Global, text: &[u8]) -> Result<Input, Fail>
 fn plan_of(alloc: Global, input: &Input) -> Result<(Plan, Distances), Fail>
     requires { IsValid (seen_input input.now) }
     ensures copy { IfOk result (λ pair. pair.0.distances ≡ pair.1) }
-    ensures bounding { IfOk result (λ pair. BoundsFinds pair.0) }
     ensures nodes { IfOk result (λ pair. nodes_of pair.0 ≡ input.now.nodes) }
 {
     let graph = match Graph::new(alloc, input.nodes, &input.edges) {

@@ -2,20 +2,17 @@
 -- its clauses `free` and `crew`, so that one call may follow another.
 use Rattle.std.specs.Prelude.{◌≡◌}
 use Rattle.distances.specs.Table.{DistanceTable}
-use Rattle.region_plan.specs.Matched.{BoundsFinds}
 use Rattle.region_plan.specs.Plan.{PlanData}
 use Rattle.station.specs.Handsets.{IsHandsetOf}
 use Rattle.station.specs.Passes.{IsFree, TrackerData}
 use Rattle.station.specs.Setup.{subs_in}
 use Rattle.four_threads.specs.declared.crew.Crew.{Crew}
 
--- the plan is the tracker's own, its distances are these, it bounds its finds, and there is one
--- subscriber
+-- the plan is the tracker's own, its distances are these, and there is one subscriber
 pub record IsReady (tracker : TrackerData) (plan : PlanData) (distances : DistanceTable)
     : Type 0 where
   pub plan_is : plan ≡ tracker.setup.plan
   pub belongs : plan.distances ≡ distances
-  pub bounding : BoundsFinds plan
   pub subs : subs_in tracker.setup ≡ 1
 
 -- all passes are of the tracker and in no node, and the handset goes with the subscriber's

@@ -1,6 +1,5 @@
 //! Who takes part: the subscriber with its handset, and three callers.
 ghost use Rattle.std.specs.Prelude.{◌≡◌, ◌+◌, ◌≤◌, ◌^◌, ◌∷◌, [], length, IfOk};
-ghost use Rattle.region_plan.specs.Matched.{BoundsFinds};
 ghost use Rattle.region_plan.specs.Plan.{nodes_of};
 ghost use Rattle.station.specs.Handsets.{IsHandsetOf};
 ghost use Rattle.station.specs.Opening.{setup_of};
@@ -56,7 +55,6 @@ fn resting(alloc: Global, plan: &Plan) -> Result<Handset, Stop>
 
 /// A tracker with one subscriber at node 3 and three callers, and all who take part.
 pub fn open(alloc: Global, plan: &Plan) -> Result<(Tracker, Crew), Stop>
-    requires bounding { BoundsFinds plan.now }
     requires nodes { nodes_of plan.now ≡ 4 }
     ensures setup { IfOk result (λ made. made.0.setup ≡ setup_of plan.now (3 ∷ []) 4) }
     ensures crew { IfOk result (λ made. IsCrewOf made.0 made.1) }

@@ -1,6 +1,5 @@
 //! The line of four nodes.
 ghost use Rattle.std.specs.Prelude.{◌≡◌, IfOk};
-ghost use Rattle.region_plan.specs.Matched.{BoundsFinds};
 ghost use Rattle.region_plan.specs.Plan.{nodes_of};
 
 use crate::stop::Stop;
@@ -18,7 +17,6 @@ fn edge(a: u32, b: u32) -> Edge
 
 /// The plan of the line 0 - 1 - 2 - 3, and its distances.
 pub fn line_of_four(alloc: Global) -> Result<(Plan, Distances), Stop>
-    ensures bounding { IfOk result (λ pair. BoundsFinds pair.0) }
     ensures copy { IfOk result (λ pair. pair.0.distances ≡ pair.1) }
     ensures nodes { IfOk result (λ pair. nodes_of pair.0 ≡ 4) }
 {

@@ -8,6 +8,7 @@ use Rattle.directory.specs.Finds.{FindCall, key_of}
 use Rattle.directory.specs.Orders.{AreValid, Caller as Seeker, IsFindCall, caller_in, finds_of, key_in, next_key}
 use Rattle.directory.specs.Statements.{PlayedIsLegal}
 use Rattle.trail_laws.specs.Trail.{EntriesTell, MarksTell}
+use Rattle.region_plan.specs.Matched.{IsMatched}
 use Rattle.region_plan.specs.Plan.{PlanData, nodes_of}
 use Rattle.region_plan.specs.Cells.{IsCell}
 use Rattle.walk.specs.Walks.{IsWalkOver, IsWordBelow, WalkData, call_of, stage_of}
@@ -77,19 +78,20 @@ pub record Wanted (input : Contents) (plan : PlanData) (cells : CellData) (histo
 
 pub wanted : MarksTell → EntriesTell → PlayedIsLegal → ScriptsAreValid → (input : Contents) (plan : PlanData)
     (distances : DistanceTable) (cells : CellData) (history : History) (actor : ℕ) (caller : Caller) (walk : WalkData)
-    (key : Key) → BelongTogether input plan distances → length input.homes ≤ actor → actor < length input.scripts
-    → Sees input plan cells history → IsCaller input plan history actor caller → caller.walk ≡ Some walk
+    (key : Key) → BelongTogether input plan distances → IsMatched plan → length input.homes ≤ actor
+    → actor < length input.scripts → Sees input plan cells history → IsCaller input plan history actor caller
+    → caller.walk ≡ Some walk
     → key_of (call_of walk) (stage_of plan walk) ≡ Some key → Wanted input plan cells history walk key
-wanted marks entries legal scripts input plan distances cells history actor caller walk key together high low sees its held
-    wants =
+wanted marks entries legal scripts input plan distances cells history actor caller walk key together matched high low
+    sees its held wants =
     let valid : AreValid (setting_over input plan) (scripts_of input) =
     scripts input (setting_over input plan) together.valid (over input plan distances together) in
     let known = sub-known scripts input plan distances history actor caller walk together high low its held in
-    let small : nodes_of plan ≤ 2 ^ 16 = omega (arith, together.matched.metric.few) in
+    let small : nodes_of plan ≤ 2 ^ 16 = omega (arith, matched.metric.few) in
     record {
-      is_cell = cell-wanted plan walk cells.subs key together.matched known.0
+      is_cell = cell-wanted plan walk cells.subs key matched known.0
           (omega (arith, known.1, sees.hold.subs)) wants;
-      is_below = word-wanted marks entries plan input.homes history walk key together.matched small
+      is_below = word-wanted marks entries plan input.homes history walk key matched small
           (legal (setting_over input plan) (scripts_of input) history walk.sub small valid known.1 sees.played) known.0
           wants;
     }

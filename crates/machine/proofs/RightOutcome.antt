@@ -6,6 +6,7 @@ use Rattle.directory.specs.Histories.{History}
 use Rattle.directory.specs.Orders.{IsDone}
 use Rattle.directory.specs.Outcomes.{outcome_in}
 use Rattle.trail_laws.specs.Lines.{IsRightLine, NumbersRise, OutcomesAreRight, TellRisingNumbers}
+use Rattle.region_plan.specs.Matched.{IsMatched}
 use Rattle.machine.specs.declared.machine.Machine.{Machine}
 use Rattle.machine.specs.Machines.{HasHistory, input_at, scripts_at, setting_at}
 use Rattle.directory.specs.Statements.{OrdersAreOwn}
@@ -15,16 +16,17 @@ use Rattle.machine.specs.Stands.{over}
 use Rattle.walk.specs.ReaderLaws.{reads-top}
 
 pub right-outcome : OutcomesAreRight → OrdersAreOwn → ScriptsAreValid → (machine : Machine) (history : History)
-    → HasHistory machine history → ((actor : ℕ) → IsDone (setting_at machine) (scripts_at machine) history actor)
+    → IsMatched machine.plan.now → HasHistory machine history
+    → ((actor : ℕ) → IsDone (setting_at machine) (scripts_at machine) history actor)
     → All (IsRightLine (setting_at machine) history)
     (outcome_in (setting_at machine) (scripts_at machine) history).calls
-right-outcome right own valid machine history is done =
+right-outcome right own valid machine history matched is done =
     subst (λ h. All (IsRightLine (setting_at machine) h)
     (outcome_in (setting_at machine) (scripts_at machine) h).calls)
     (own (setting_at machine) (scripts_at machine) history is.sees.played done)
     (right (setting_at machine) (scripts_at machine) (map (λ (visit : Visit). visit.actor) history)
     (omega (arith, is.together.nodes, few-nodes (input_at machine) is.together.valid))
-    (reads-top machine.plan.now (input_at machine).homes is.together.matched)
+    (reads-top machine.plan.now (input_at machine).homes matched)
     (valid (input_at machine) (setting_at machine) is.together.valid
     (over (input_at machine) machine.plan.now machine.distances.now is.together)))
 

@@ -21,6 +21,7 @@ use Rattle.handset.specs.Stands.{StandsForSteps}
 use Rattle.visit_log.specs.Cells.{CellData, GoWith, Hold}
 use Rattle.machine.specs.declared.subscriber.Subscriber.{Subscriber}
 use Rattle.machine.specs.declared.turn.Turn.TheVariants.{Finished, Visited}
+use Rattle.scripts.specs.ScriptLaws.{few-nodes}
 use Rattle.scripts.specs.Scripts.{scripts_of}
 use Rattle.scripts.specs.Laws.{ScriptsAreValid}
 use Rattle.machine.specs.Stands.{AreMade, BelongTogether, Sees, setting_over}
@@ -98,7 +99,7 @@ under-way unpack own_law scripts input plan distances history sub old visit toge
           (omega (arith, room, length_push p (length history))))
           ∙ ap (λ l. step_lines setting sub course split.before (take n (tickets sub history)) ++ l ∷ [])
           (line-grows unpack setting sub after split.last p (length history) visit may.0
-          (omega (arith, together.matched.metric.few)) may.1 (omega (arith, size, past)) here))));
+          (omega (arith, together.nodes, few-nodes input together.valid)) may.1 (omega (arith, size, past)) here))));
     }
   where
     assoc : (xs ys : List ℕ) (x : ℕ) → (xs ++ ys) ++ x ∷ [] ≡ xs ++ (ys ++ x ∷ [])

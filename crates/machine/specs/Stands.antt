@@ -13,7 +13,6 @@ use Rattle.net_reader.specs.declared.said.Call.{Call}
 use Rattle.net_reader.specs.declared.said.Call.TheVariants as calls
 use Rattle.region_plan.specs.Plan.{PlanData, nodes_of}
 use Rattle.region_plan.specs.Settings.{setting_of}
-use Rattle.region_plan.specs.Matched.{IsMatched, IsWithinReach}
 use Rattle.visit_log.specs.Cells.{CellData, GoWith, Hold}
 use Rattle.walk.specs.Walks.{IsWalkOver, WalkData, call_of, stage_of}
 use Rattle.scripts.specs.Scripts.{IsSettingOf, scripts_of}
@@ -35,8 +34,6 @@ pub record BelongTogether (input : Contents) (plan : PlanData)
   pub valid : IsValid input
   pub nodes : nodes_of plan ≡ input.nodes
   pub belongs : plan.distances ≡ distances
-  pub matched : IsMatched plan
-  pub reached : IsWithinReach plan
 
 -- the setting of an input and a plan
 abbrev pub setting_over : Contents → PlanData → Setting

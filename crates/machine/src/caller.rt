@@ -10,7 +10,6 @@ ghost use Rattle.region_plan.specs.Plan.{clusters_of, levels_of, nodes_of};
 ghost use Rattle.scripts.specs.Scripts.{find_of};
 ghost use Rattle.machine.specs.Stands.{BelongTogether, IsWalking, Sees};
 ghost use Rattle.machine.specs.Callers.{HasLooked, IsCaller, Looks, MakesLooks, MayLook, TakesLooks};
-ghost use Rattle.region_plan.specs.Matched.{IsMatched};
 ghost use Rattle.visit_log.specs.Cells.{GoWith, word_at};
 ghost use Rattle.walk.specs.Climbs.{IsClimbOver, readers_left};
 
@@ -18,7 +17,7 @@ use crate::turn::Turn;
 use directory::{Done, Found, each_visit_is_next, every_order_is_legal, lines_grow, own_after};
 use distances::Distances;
 use net_reader::{Call, Input};
-use region_plan::Plan;
+use region_plan::{Plan, plan_is_sound};
 use scripts::scripts_are_valid;
 use std::alloc::{AllocError, Global};
 use trail_laws::{entries_tell, marks_tell};
@@ -114,6 +113,7 @@ impl Caller {
         scripts_are_valid();
         lines_grow();
         own_after();
+        plan_is_sound(plan);
         let Some(walk) = &mut self.walk else {
             return Turn::Finished;
         };
@@ -195,7 +195,6 @@ fn count_ahead<const ALONE: bool>(
 ) -> usize
     requires goes { GoWith plan.now cells.now }
     requires over { IsClimbOver plan.now climb }
-    requires matched { IsMatched plan.now }
     requires known { sub < cells.now.subs }
     ensures few { result ≤ most }
     ensures left { result ≤ length (readers_left plan.now climb) }
@@ -206,8 +205,8 @@ fn count_ahead<const ALONE: bool>(
     ensures empty { (i : ℕ) → i < result → word_at plan.now cells.now
         (Entry climb.level (slice_index (readers_left plan.now climb) i) sub) ≡ 0 }
 {
-    // The call tells the proof that there is a level.
-    let _nodes = plan.nodes();
+    // There is a level.
+    plan_is_sound(plan);
     let top = plan.levels() - 1;
     let clusters = climb.readers(plan);
     let left = if climb.level < top {

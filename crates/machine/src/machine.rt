@@ -26,7 +26,7 @@ use directory::{
 };
 use distances::Distances;
 use net_reader::{Call, Input};
-use region_plan::Plan;
+use region_plan::{Plan, plan_is_sound};
 use scripts::{scripts_are_valid, visits_are_few};
 use std::alloc::{AllocError, Global};
 use trail_laws::{lines_are_in_turn, outcomes_are_right};
@@ -178,6 +178,7 @@ impl<'a> Machine<'a> {
         outcomes_are_right();
         order_of_history();
         scripts_are_valid();
+        plan_is_sound(self.plan);
         let mut calls = self.calls;
         push_steps(&mut calls, &self.subscribers);
         push_finds(&mut calls, &self.callers);

@@ -11,7 +11,7 @@ ghost use Rattle.region_plan.specs.Settings.{setting_of};
 ghost use Rattle.handset.specs.Kept.{GoesWith};
 ghost use Rattle.handset.specs.Progress.{due};
 ghost use Rattle.handset.specs.Stands.{StandsForSteps, switch_to};
-ghost use Rattle.visit_log.specs.Cells.{HasHomes, GoWith, Hold};
+ghost use Rattle.visit_log.specs.Cells.{GoWith, Hold};
 ghost use Rattle.scripts.specs.Scripts.{step_of};
 ghost use Rattle.machine.specs.Stands.{BelongTogether};
 ghost use Rattle.machine.specs.Subscribers.{HavePut, MakesTurns, MayBegin, begun_line, line_after, MayTakeTurn, TakesTurn, TakesTurns};
@@ -22,7 +22,7 @@ use distances::Distances;
 use entry_word::{Act, Key, Visit, mark_words};
 use handset::{EntryWrite, Handset};
 use net_reader::{Call, Input};
-use region_plan::Plan;
+use region_plan::{Plan, plan_is_sound};
 use scripts::scripts_are_valid;
 use std::alloc::{AllocError, Global};
 use visit_log::PlainCells;
@@ -219,11 +219,12 @@ fn make_entries<const ALONE: bool>(
 ) -> usize
     requires goes { GoesWith plan.now handset.old }
     requires cells { GoWith plan.now cells.old }
-    requires homes { HasHomes plan.now }
     requires known { handset.old.sub < cells.old.subs }
     ensures few { result ≤ most }
     ensures made { HavePut plan.now handset.old cells.old result handset.new cells.new }
 {
+    // Each home is a cluster of its level.
+    plan_is_sound(plan);
     let Some(mut at) = handset.entry_stage() else {
         return 0;
     };
@@ -256,7 +257,6 @@ fn make_entries<const ALONE: bool>(
 fn make(handset: &mut Handset, plan: &Plan, cells: &mut PlainCells) -> Option<Visit>
     requires goes { GoesWith plan.now handset.old }
     requires cells { GoWith plan.now cells.old }
-    requires homes { HasHomes plan.now }
     requires known { handset.old.sub < cells.old.subs }
     ensures exact { result ≡ due (setting_of plan.now []) handset.old }
     ensures visit { (starts : List ℕ) (steps : List Step) (made : ℕ)
@@ -274,6 +274,8 @@ fn make(handset: &mut Handset, plan: &Plan, cells: &mut PlainCells) -> Option<Vi
         → (visit : Visit) → result ≡ Some visit
         → Hold plan.now starts cells.new (history ++ visit ∷ [])) }
 {
+    // Each home is a cluster of its level.
+    plan_is_sound(plan);
     let visit = handset.write(plan)?;
     if let Act::Put(key, word) = visit.act {
         cells.put(plan, key, word);

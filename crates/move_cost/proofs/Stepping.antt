@@ -20,6 +20,7 @@ use Rattle.net_reader.specs.Valid.{IsValid, count_calls}
 use Rattle.net_reader.specs.declared.said.Call.{Call}
 use Rattle.net_reader.specs.declared.said.Call.TheVariants as calls
 use Rattle.region_plan.specs.Kept.{IsKept}
+use Rattle.region_plan.specs.Matched.{IsMatched}
 use Rattle.region_plan.specs.Plan.{PlanData, distance, levels_of, nodes_of}
 use Rattle.region_plan.specs.Settings.{setting_of}
 use Rattle.handset.specs.Kept.{GoesWith, HandsetData, begun_at}
@@ -185,13 +186,13 @@ pub record IsReady (input : Contents) (plan : PlanData) (sub place : ℕ) (hands
       ≡ cost_line (setting_of plan input.homes) sub (first_steps input sub (suc place))
 
 pub ready : ScriptsAreValid → MovesAreShort → (input : Contents) (plan : PlanData) (distances : DistanceTable)
-    (sub place : ℕ) (handset : HandsetData) (line : CostLine) (call : Call) → IsKept plan
+    (sub place : ℕ) (handset : HandsetData) (line : CostLine) (call : Call) → IsKept plan → IsMatched plan
     → GoTogether input plan distances → sub < length input.homes
     → place < length (steps_of (scripts_of input) sub)
     → call ≡ get_or (get_or input.scripts sub []) place call
     → IsCounted input plan sub place handset line
     → IsReady input plan sub place handset line call
-ready scripts moves input plan distances sub place handset line call kept together low short same counted =
+ready scripts moves input plan distances sub place handset line call kept matched together low short same counted =
     let setting : Setting = setting_of plan input.homes in
     let steps : List Step = first_steps input sub place in
     let course : Course = course_of setting sub steps in
@@ -230,7 +231,7 @@ ready scripts moves input plan distances sub place handset line call kept togeth
       more = its.more;
       short = omega (arith, short, few-steps input sub together.valid low);
       count = short-step moves plan input.homes course (step_of call) kept;
-      fit = fit-step plan input.homes course together.matched here placed few (step_of call) its.may;
+      fit = fit-step plan input.homes course matched here placed few (step_of call) its.may;
       told = subst (λ l. with_writes setting (node_after handset call) (with_call plan handset l call)
           (step_writes setting course (step_of call)) ≡ cost_line setting sub (first_steps input sub (suc place)))
           (sym counted.told)
@@ -247,13 +248,13 @@ ready scripts moves input plan distances sub place handset line call kept togeth
 -- so it is known of the call that the code reads
 pub ready-here : ScriptsAreValid → MovesAreShort → (input : Input) (plan : PlanData) (distances : DistanceTable)
     (sub place : ℕ) (handset : HandsetData) (line : CostLine) (held : Vec Call Global) (call : Call) → IsKept plan
-    → GoTogether (seen_input input) plan distances → sub < length input.homes.items
+    → IsMatched plan → GoTogether (seen_input input) plan distances → sub < length input.homes.items
     → place < length (steps_of (scripts_of (seen_input input)) sub)
     → held ≡ get_or input.scripts.items sub held → call ≡ get_or held.items place call
     → IsCounted (seen_input input) plan sub place handset line
     → IsReady (seen_input input) plan sub place handset line call
-ready-here scripts moves input plan distances sub place handset line held call kept together low short reads same
-    counted =
+ready-here scripts moves input plan distances sub place handset line held call kept matched together low short reads
+    same counted =
     let known : sub < length input.scripts.items =
     omega (
       arith,
@@ -264,7 +265,7 @@ ready-here scripts moves input plan distances sub place handset line held call k
     let script : held.items ≡ get_or (seen_input input).scripts sub [] =
     ap (λ (s : Vec Call Global). s.items) reads
     ∙ sym (get_or-map (λ (s : Vec Call Global). s.items) input.scripts.items sub held [] known) in
-    ready scripts moves (seen_input input) plan distances sub place handset line call kept together low short
+    ready scripts moves (seen_input input) plan distances sub place handset line call kept matched together low short
     (same ∙ ap (λ s. get_or s place call) script) counted
 
 -- what is left of the step that was begun

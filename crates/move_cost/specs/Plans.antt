@@ -10,7 +10,7 @@ use Rattle.directory.specs.Orders.{AreValid, Scripts}
 use Rattle.net_reader.specs.Input.{Contents}
 use Rattle.net_reader.specs.Valid.{IsValid}
 use Rattle.region_plan.specs.Plan.{PlanData, levels_of, nodes_of}
-use Rattle.region_plan.specs.Matched.{BoundsFinds, IsMatched, IsWithinReach}
+use Rattle.region_plan.specs.Matched.{BoundsFinds}
 use Rattle.region_plan.specs.Regions.{plan_of}
 use Rattle.region_plan.specs.Settings.{setting_of}
 use Rattle.move_cost.specs.declared.line.CostLine.{CostLine}
@@ -23,8 +23,6 @@ pub record GoTogether (input : Contents) (plan : PlanData) (distances : Distance
     pub valid : IsValid input
     pub nodes : nodes_of plan ≡ input.nodes
     pub belongs : plan.distances ≡ distances
-    pub matched : IsMatched plan
-    pub reached : IsWithinReach plan
 
 -- with clusters of this width and so many levels, what is written is at most the rate times the way,
 -- and no more is purged than moves are made

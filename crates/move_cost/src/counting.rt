@@ -4,7 +4,7 @@ ghost use Rattle.directory.specs.Courses.{Step};
 ghost use Rattle.directory.specs.Orders.{steps_of};
 ghost use Rattle.directory.specs.Writes.{Write};
 ghost use Rattle.net_reader.specs.Seen.{seen_input};
-ghost use Rattle.region_plan.specs.Matched.{BoundsFinds, IsMatched, IsWithinReach};
+ghost use Rattle.region_plan.specs.Matched.{BoundsFinds};
 ghost use Rattle.region_plan.specs.Plan.{nodes_of};
 ghost use Rattle.region_plan.specs.Settings.{setting_of};
 ghost use Rattle.handset.specs.Kept.{GoesWith};
@@ -23,7 +23,7 @@ use distances::Distances;
 use entry_word::{address_words, mark_words};
 use handset::Handset;
 use net_reader::{Call, Input};
-use region_plan::Plan;
+use region_plan::{Plan, plan_is_sound};
 use scripts::scripts_are_valid;
 use std::alloc::{AllocError, Global};
 
@@ -98,8 +98,8 @@ fn count_step(
 {
     scripts_are_valid();
     moves_are_short();
-    // The call tells the proof that levels are few.
-    let _nodes = plan.nodes();
+    // Levels are few, and homes hold their nodes.
+    plan_is_sound(plan);
     let call = input.scripts[sub as usize][place];
     let node = begin(handset, line, call, plan, distances);
     finish(handset, line, node, plan, distances);
@@ -162,8 +162,6 @@ fn begin(
 fn finish(handset: &mut Handset, line: &mut CostLine, node: u32, plan: &Plan, distances: &Distances)
     requires goes { GoesWith plan.now handset.old }
     requires belongs { plan.now.distances ≡ distances.now }
-    requires matched { IsMatched plan.now }
-    requires reached { IsWithinReach plan.now }
     requires node { node < nodes_of plan.now }
     requires room { HasRoom plan.now handset.old line.old }
     ensures goes { GoesWith plan.now handset.new }
@@ -181,6 +179,7 @@ fn finish(handset: &mut Handset, line: &mut CostLine, node: u32, plan: &Plan, di
 {
     mark_words();
     address_words();
+    plan_is_sound(plan);
     'writes: while let Some(visit) = handset.next(plan) {
         line.written += act_weight(plan, distances, node, visit.act);
         line.purged += u64::from(is_purge(visit.act));

@@ -2,7 +2,6 @@
 ghost use Rattle.std.specs.Prelude.{◌≡◌, ◌<◌, ◌≤◌, [], true};
 ghost use Rattle.entry_word.specs.Addresses.{address_in};
 ghost use Rattle.entry_word.specs.Marks.{mark_in};
-ghost use Rattle.region_plan.specs.Matched.{IsMatched, IsWithinReach};
 ghost use Rattle.node_set.specs.Ascending.{has};
 ghost use Rattle.region_plan.specs.Plan.{clusters_of, inside, levels_of, members_of, nodes_of};
 ghost use Rattle.region_plan.specs.Settings.{setting_of};
@@ -11,7 +10,7 @@ ghost use Rattle.move_cost.specs.Counting.{IsFitAct, IsFitEntry, IsFitMark, act_
 
 use distances::Distances;
 use entry_word::{Act, Address, Key, PresenceMark, unpack_address, unpack_mark};
-use region_plan::Plan;
+use region_plan::{Plan, plan_is_sound};
 
 // The mark that a word is read as.
 fn mark_in(word: u64) -> PresenceMark
@@ -48,15 +47,14 @@ fn mark_weight(plan: &Plan, distances: &Distances, place: u32, mark: PresenceMar
 
 // The least weight inside a cluster from its leader to a member, which reads few clusters.
 fn weight_inside(plan: &Plan, level: u32, cluster: u32, node: u32) -> u64
-    requires matched { IsMatched plan.now }
     requires node { node < nodes_of plan.now }
     requires level { level < levels_of plan.now }
     requires cluster { cluster < clusters_of plan.now level }
     requires member { has node (members_of plan.now level cluster) ≡ true }
     ensures { result ≡ inside plan.now level cluster node }
 {
-    // The call tells the proof that a node reads few clusters.
-    let _nodes = plan.nodes();
+    // A node reads few clusters: just those that contain it.
+    plan_is_sound(plan);
     match plan.readers(level, node).binary_search(&cluster) {
         Ok(place) => plan.reader_weight(level, node, place as u32),
         Err(_) => unreachable!(),
@@ -74,8 +72,6 @@ fn entry_weight(
     address: Option<Address>,
 ) -> u64
     requires belongs { plan.now.distances ≡ distances.now }
-    requires matched { IsMatched plan.now }
-    requires reached { IsWithinReach plan.now }
     requires node { node < nodes_of plan.now }
     requires level { level < levels_of plan.now }
     requires cluster { cluster < clusters_of plan.now level }
@@ -83,8 +79,8 @@ fn entry_weight(
     ensures weight { result ≡ entry_weight (setting_of plan.now []) node level cluster address }
     ensures small { result ≤ most_weight }
 {
-    // The call tells the proof that distances and weights are small.
-    let _nodes = plan.nodes();
+    // Distances are small, and so are weights inside clusters.
+    plan_is_sound(plan);
     match address {
         Some(address) => 2 * weight_inside(plan, level, cluster, u32::from(address.node)),
         None => 2 * distances.between(node, plan.leader(level, cluster)),
@@ -94,8 +90,6 @@ fn entry_weight(
 // The weight of an act, by a subscriber that goes to a node.
 pub fn act_weight(plan: &Plan, distances: &Distances, node: u32, act: Act) -> u64
     requires belongs { plan.now.distances ≡ distances.now }
-    requires matched { IsMatched plan.now }
-    requires reached { IsWithinReach plan.now }
     requires node { node < nodes_of plan.now }
     requires fit { IsFitAct plan.now act }
     ensures weight { result ≡ act_weight (setting_of plan.now []) node act }

@@ -18,7 +18,7 @@ use Rattle.region_plan.specs.Plan.{PlanCluster, Level, PlanData, level_in, no_le
 use Rattle.region_plan.specs.Regions.{balls_of, regions_of, readers_of, threshold_of}
 use Rattle.region_plan.specs.Meanings.{IsTop, AreClustersOf, IsLevelOf}
 use Rattle.region_plan.specs.Meanings.{IsCoveredPlan}
-use Rattle.region_plan.specs.Kept.{AreLevelsOf, IsSpanned, IsSized, Shape, level_of, shape_with}
+use Rattle.region_plan.specs.Kept.{AreLevelsOf, IsSpanned, IsSized, Shape, level_of, plan_with, shape_with}
 use Rattle.region_plan.specs.Coverings.{CoveringsAreShaped, covering_of, reach_of, trade_off_of}
 use Rattle.region_plan.specs.declared.covering.Covering.{Covering}
 use Rattle.region_plan.proofs.Spanning.{centred, inside, listed_spanned}
@@ -152,16 +152,14 @@ levels_tabled network table covering i threshold old new shape before is sized s
     levels_more network table covering i old new (level_of i (threshold_of i) shape) before is sized
     (now ∙ ap (λ t. old ++ level_of i t shape ∷ []) same)
 
-abbrev plan_with : ℕ → ℕ → List Level → DistanceTable → PlanData
-plan_with k reach levels t = record { k = k; reach = reach; distances = t; levels = levels }
-
 pub plan_built : (network : Network) (table copy : DistanceTable) (covering : Covering) (k reach top : ℕ) (levels : List Level)
     (plan : PlanData) → AreDistancesOf network table → copy ≡ table
-    → k ≡ trade_off_of covering → reach ≡ reach_of covering → plan ≡ record { k = k; reach = reach; distances = copy; levels = levels } → length levels
-    ≡ top + 1 → IsTop table top
+    → k ≡ trade_off_of covering → reach ≡ reach_of covering → plan ≡ plan_with k reach copy levels
+    → length levels ≡ top + 1 → IsTop table top
     → ((j : ℕ) → j < top + 1 → IsLevelOf network table covering j (level_in levels j)) → IsCoveredPlan covering network plan
 plan_built network table copy covering k reach top levels plan least same k_is reach_is is count top_is each =
-    subst (λ (p : PlanData). IsCoveredPlan covering network p) (sym (is ∙ ap (plan_with k reach levels) same)) (record {
+    subst (λ (p : PlanData). IsCoveredPlan covering network p)
+    (sym (is ∙ ap (λ t. plan_with k reach t levels) same)) (record {
       distances = least;
       trade_off = k_is;
       reach = reach_is;

@@ -1,6 +1,7 @@
--- What every plan keeps: its sizes; how a level lies in memory, with a weight beside each reader,
--- and what levels share; and what the private functions find of clusters.
--- Key law: `Plan::nodes`, by its clause `sound` (every plan has these sizes).
+-- What every plan keeps: its sizes, and that it is matched within its reach; how a level lies in
+-- memory, with a weight beside each reader, and what levels share; and what the private functions
+-- find of clusters.
+-- Key law: `plan_is_sound` (every plan has these sizes, is matched and within its reach).
 use Rattle.std.specs.Prelude.{◌≡◌, ℕ, true, ◌+◌, ◌≤◌, ◌<◌, List, [], All}
 use Rattle.std.specs.Prelude.{length}
 use Rattle.std.specs.Prelude.{map, slice_index, slice_index_or, slice_range}
@@ -14,6 +15,7 @@ use Rattle.region_plan.specs.Plan.{PlanCluster, PlanData, Level, nodes_of, level
 use Rattle.region_plan.specs.Plan.{level_in, weight_in}
 use Rattle.region_plan.specs.Regions.{clusters_with, readers_of}
 use Rattle.region_plan.specs.Meanings.{IsLevelOf}
+use Rattle.region_plan.specs.Matched.{IsMatched, IsWithinReach}
 use Rattle.region_plan.specs.Measures.{degree_of}
 use Rattle.region_plan.specs.declared.covering.Covering.{Covering}
 use Rattle.region_plan.specs.declared.sharing.LevelHead.{LevelHead}
@@ -58,9 +60,21 @@ pub record IsTable (n : ℕ) (clusters : List PlanCluster) (starts readers weigh
   pub rows : AreRows n clusters starts readers
   pub beside : AreBeside n clusters starts readers weights
 
--- the sizes of a plan, and its degree
+-- the plan of these parts
+abbrev pub plan_with : ℕ → ℕ → DistanceTable → List Level → PlanData
+plan_with k reach distances levels =
+    record {
+      k = k;
+      reach = reach;
+      distances = distances;
+      levels = levels;
+    }
+
+-- what every plan is, and its degree
 pub record IsPlanKept (plan : PlanData) (d : ℕ) : Type 0 where
   pub kept : IsKept plan
+  pub matched : IsMatched plan
+  pub reached : IsWithinReach plan
   pub degree : d ≡ degree_of plan
   pub light : d ≤ 1024
 

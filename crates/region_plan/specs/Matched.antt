@@ -1,10 +1,10 @@
 -- A matched plan: at each level the home of a node is read by every node within the level's radius.
 -- And what the bound on the weight of finds asks of a plan beside that.
--- Key laws: `Plan::build` and `Plan::build_mean` give plans that bound their finds, by the clause
+-- Key laws: `plan_is_sound` (each plan that there is is matched, and its clusters are within their
+-- reach); `Plan::build` and `Plan::build_mean` give plans that bound their finds, by the clause
 -- `bounding`, and `covered_plan_is_bounding` says the same of the plan of every network over either
 -- covering; `plan_is_sparse` and the clause `sparse` bound the degree by the number of nodes and k,
--- `mean_plan_is_small` and the clause `small_sum` the sum of sizes; `Plan::flat` gives matched plans
--- whose clusters are within their reach, by its clauses `matched` and `reached`.
+-- `mean_plan_is_small` and the clause `small_sum` the sum of sizes.
 use Rattle.std.specs.Prelude.{◌≡◌, ℕ, ◌+◌, ◌*◌, ◌^◌, ◌<◌, ◌≤◌, true, length, sum_by}
 use Rattle.node_set.specs.Ascending.{has}
 use Rattle.distances.specs.Table.{IsMetric}

@@ -7,10 +7,11 @@
 //! has the radius 2^exponent, and the exponent of a level of `build` is `i`. Accessors ask for
 //! numbers that there are.
 //!
-//! Callers above carry three predicates of `specs/Matched.antt`: `IsMatched` (both constructors
-//! give it), `IsWithinReach` (the same), and `BoundsFinds`, which has both and all that a bound on
-//! finds asks for (`build` gives it, by its clause `bounding`). That the plan's distances are those
-//! handed in is the clause `copy`.
+//! Every plan keeps what callers above lean on (`specs/Kept.antt`): it is within its sizes
+//! (`IsKept`) and matched (`IsMatched`), and its clusters are within its reach (`IsWithinReach`).
+//! Who holds a `&Plan` carries no such premise: the law [`plan_is_sound`] hands all three out. A
+//! bound on finds asks for more: for `BoundsFinds`, which `build` gives by its clause `bounding`.
+//! That the plan's distances are those handed in is the clause `copy`.
 #![tactic(auto)]
 
 mod balls;
@@ -32,4 +33,4 @@ pub use laws::{
     plan_counts, plan_is_bounding, plan_is_sparse, plan_means, plan_of_same_walks,
 };
 pub use net_graph::OutOfMemory;
-pub use plan::Plan;
+pub use plan::{Plan, plan_is_sound};

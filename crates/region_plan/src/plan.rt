@@ -17,7 +17,7 @@ ghost use Rattle.region_plan.specs.Measures.{degree_of, stretch_of};
 ghost use Rattle.region_plan.specs.Settings.{setting_of};
 ghost use Rattle.directory.specs.Finds.{most_looks};
 ghost use Rattle.directory.specs.Writes.{most_writes};
-ghost use Rattle.region_plan.specs.Kept.{IsKept};
+ghost use Rattle.region_plan.specs.Kept.{IsKept, plan_with};
 
 use crate::balls::{empty_sets, top_for};
 use crate::building::push_level;
@@ -88,18 +88,10 @@ impl Plan {
 
     // The plan of these levels.
     fn of_levels(k: u32, reach: u32, distances: Distances, levels: Levels) -> Plan
-        requires { IsKept (record {
-          k = k;
-          reach = reach;
-          distances = distances;
-          levels = levels;
-        }) }
-        ensures { result ≡ record {
-          k = k;
-          reach = reach;
-          distances = distances;
-          levels = levels;
-        } }
+        requires kept { IsKept (plan_with k reach distances levels) }
+        requires matched { IsMatched (plan_with k reach distances levels) }
+        requires reached { IsWithinReach (plan_with k reach distances levels) }
+        ensures { result ≡ plan_with k reach distances levels }
     {
         let mut degree = 0;
         for i in 0..levels.count() {
@@ -385,4 +377,15 @@ impl Plan {
     {
         3 + 2 * u64::from(self.levels()) + u64::from(self.nodes())
     }
+}
+
+/// What every plan is: within its sizes, matched, and with clusters within their reach. The call
+/// does nothing, and its clauses are laws.
+pub fn plan_is_sound(plan: &Plan)
+    ensures sound { IsKept plan.now }
+    ensures matched { IsMatched plan.now }
+    ensures reached { IsWithinReach plan.now }
+{
+    // A look at a field tells the proof what the plan keeps.
+    let _ = &plan.degree;
 }

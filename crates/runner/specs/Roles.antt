@@ -22,7 +22,6 @@ use Rattle.directory.specs.Finds.{after_word, answer_of, key_of}
 use Rattle.directory.specs.Histories.{History, before, cell, own, puts_to}
 use Rattle.entry_word.specs.declared.visit.Act.TheVariants.{Look}
 use Rattle.entry_word.specs.declared.visit.Key.{Key}
-use Rattle.region_plan.specs.Matched.{IsMatched, IsWithinReach}
 use Rattle.walk.specs.Walks.{IsWalkOver, WalkData, call_of, stage_of}
 use Rattle.station.specs.declared.turns.Held.{Held}
 use Rattle.station.specs.declared.view.View.{View}
@@ -89,8 +88,6 @@ pub record MayWalkOn (tracker : TrackerData) (plan : PlanData) (distances : Dist
   pub of : IsPassOf tracker pass
   pub plan_is : plan ≡ tracker.setup.plan
   pub belongs : plan.distances ≡ distances
-  pub matched : IsMatched plan
-  pub reached : IsWithinReach plan
   pub outside : pass.view.inside ≡ None
   pub spare : 1 ≤ pass.spare
   pub goes : IsWalkOver tracker.setup.plan walk

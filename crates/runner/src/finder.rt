@@ -15,7 +15,7 @@ ghost use Rattle.runner.specs.Roles.{HasLookedOn, IsFinder, IsSetFor, MayWalkOn,
 use directory::{lines_grow, looks_fall};
 use distances::Distances;
 use net_reader::Call;
-use region_plan::Plan;
+use region_plan::{Plan, plan_is_sound};
 use scripts::scripts_are_valid;
 use station::{Held, Pass, Tracker};
 use std::alloc::{AllocError, Global};
@@ -103,6 +103,7 @@ fn look_on(
     marks_tell();
     entries_tell();
     front_of_history_is_legal();
+    plan_is_sound(plan);
     let Some(key) = walk.next(plan) else {
         unreachable!()
     };

@@ -2,7 +2,6 @@
 ghost use Rattle.std.specs.Prelude.{◌≡◌, IfOk};
 ghost use Rattle.net_reader.specs.Seen.{seen_input};
 ghost use Rattle.net_reader.specs.Valid.{IsValid};
-ghost use Rattle.region_plan.specs.Matched.{BoundsFinds};
 ghost use Rattle.region_plan.specs.Plan.{nodes_of};
 
 use directory::Outcome;
@@ -45,7 +44,6 @@ pub fn input_of_calls(alloc: Global, calls: &str) -> Result<Input, Fail>
 pub fn plan_of(alloc: Global, input: &Input) -> Result<(Plan, Distances), Fail>
     requires { IsValid (seen_input input.now) }
     ensures copy { IfOk result (λ pair. pair.0.distances ≡ pair.1) }
-    ensures bounding { IfOk result (λ pair. BoundsFinds pair.0) }
     ensures nodes { IfOk result (λ pair. nodes_of pair.0 ≡ input.now.nodes) }
 {
     let graph = match Graph::new(alloc, input.nodes, &input.edges) {

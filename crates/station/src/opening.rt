@@ -4,7 +4,7 @@ ghost use Rattle.directory.specs.Census.{census};
 ghost use Rattle.region_plan.specs.Plan.{PlanData, clusters_of, levels_of, nodes_of};
 ghost use Rattle.region_plan.specs.Settings.{setting_of};
 ghost use Rattle.visit_log.specs.Numbers.{clusters_below};
-ghost use Rattle.visit_log.specs.Cells.{HasHomes, GoWith, Hold};
+ghost use Rattle.visit_log.specs.Cells.{GoWith, Hold};
 ghost use Rattle.station.specs.Opening.{AreLaid, AreOpening, setup_of};
 
 use entry_word::Key;
@@ -18,7 +18,6 @@ pub fn opening_words(alloc: Global, plan: &Plan, homes: &[u32]) -> Result<Vec<u6
     requires some { 1 ≤ length homes.now }
     requires few { length homes.now ≤ 64 }
     requires inside { All (λ home. home < nodes_of plan.now) homes.now }
-    requires clusters { HasHomes plan.now }
     ensures opening { IfOk result (λ words. (actors : ℕ)
         → AreOpening (setup_of plan.now homes.now actors) words.items) }
 {

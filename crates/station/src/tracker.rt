@@ -2,7 +2,6 @@
 ghost use Rattle.std.specs.Prelude.{◌≡◌, ◌+◌, ◌<◌, ◌≤◌, [], All, IfOk, length};
 ghost use Rattle.std.specs.Vec.{vec_capacity};
 ghost use Rattle.region_plan.specs.Plan.{nodes_of};
-ghost use Rattle.region_plan.specs.Matched.{IsMatched};
 ghost use Rattle.station.specs.Opening.{setup_of};
 ghost use Rattle.station.specs.Passes.{AreFresh, IsPassOf};
 ghost use Rattle.station.specs.Plays.{IsWitnessed, first_view};
@@ -14,7 +13,7 @@ use crate::view::{About, View};
 use atomic_table::{Seat, Table};
 use entry_word::Act;
 use net_graph::OutOfMemory;
-use region_plan::Plan;
+use region_plan::{Plan, plan_is_sound};
 use std::alloc::Global;
 use std::marker::Model;
 use visit_log::{Places, cell_numbers};
@@ -48,8 +47,8 @@ impl Model for Tracker {
 
 impl Tracker {
     /// A tracker at the opening, and a pass for each actor: the subscribers, which start at these
-    /// homes, and then the callers. Homes are nodes of the plan, which `Plan::build` and
-    /// `Plan::flat` give as a matched one. There are 1 to 64 subscribers and at most 64 callers.
+    /// homes, and then the callers. Homes are nodes of the plan. There are 1 to 64 subscribers and
+    /// at most 64 callers.
     pub fn new(
         alloc: Global,
         plan: &Plan,
@@ -60,7 +59,6 @@ impl Tracker {
         requires few { length homes.now ≤ 64 }
         requires callers { callers ≤ 64 }
         requires inside { All (λ home. home < nodes_of plan.now) homes.now }
-        requires matched { IsMatched plan.now }
         ensures setup { IfOk result (λ made. made.0.setup
             ≡ setup_of plan.now homes.now (length homes.now + callers)) }
         ensures fresh { IfOk result (λ made. AreFresh made.0 made.1.items) }
@@ -68,6 +66,7 @@ impl Tracker {
             ≡ length homes.now + callers) }
     {
         cell_numbers();
+        plan_is_sound(plan);
         let words = opening_words(alloc, plan, homes)?;
         let places = Places::new(alloc, plan)?;
         // The call tells the proof that words can be numbered.

@@ -1,7 +1,7 @@
 //! Plans, and the distances of their networks.
 
 ghost use Rattle.std.specs.Prelude.{◌≡◌, IfOk};
-ghost use Rattle.region_plan.specs.Matched.{BoundsFinds, IsMatched, IsWithinReach};
+ghost use Rattle.region_plan.specs.Matched.{BoundsFinds};
 ghost use Rattle.region_plan.specs.Plan.{nodes_of};
 
 use crate::networks::path;
@@ -16,8 +16,6 @@ use std::test::Fail;
 pub fn line_of_four(alloc: Global) -> Result<(Plan, Distances), Fail>
     ensures copy { IfOk result (λ pair. pair.0.distances ≡ pair.1) }
     ensures nodes { IfOk result (λ pair. nodes_of pair.0 ≡ 4) }
-    ensures matched { IfOk result (λ pair. IsMatched pair.0) }
-    ensures reached { IfOk result (λ pair. IsWithinReach pair.0) }
     ensures bounding { IfOk result (λ pair. BoundsFinds pair.0) }
 {
     let (graph, distances) = path(alloc, 4, 1)?;
@@ -29,8 +27,6 @@ pub fn line_of_four(alloc: Global) -> Result<(Plan, Distances), Fail>
 pub fn plan_past_two_words(alloc: Global) -> Result<(Plan, Distances), Fail>
     ensures copy { IfOk result (λ pair. pair.0.distances ≡ pair.1) }
     ensures nodes { IfOk result (λ pair. nodes_of pair.0 ≡ 130) }
-    ensures matched { IfOk result (λ pair. IsMatched pair.0) }
-    ensures reached { IfOk result (λ pair. IsWithinReach pair.0) }
     ensures bounding { IfOk result (λ pair. BoundsFinds pair.0) }
 {
     let (graph, distances) = path(alloc, 130, 1)?;
@@ -42,8 +38,6 @@ pub fn plan_past_two_words(alloc: Global) -> Result<(Plan, Distances), Fail>
 pub fn plan_of_most_nodes(alloc: Global) -> Result<(Plan, Distances), Fail>
     ensures copy { IfOk result (λ pair. pair.0.distances ≡ pair.1) }
     ensures nodes { IfOk result (λ pair. nodes_of pair.0 ≡ MAX_NODES) }
-    ensures matched { IfOk result (λ pair. IsMatched pair.0) }
-    ensures reached { IfOk result (λ pair. IsWithinReach pair.0) }
 {
     let (graph, distances) = path(alloc, MAX_NODES, 1)?;
     let plan = Plan::flat(alloc, &graph, &distances)?;

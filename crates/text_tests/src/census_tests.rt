@@ -1,6 +1,5 @@
 //! Censuses of the line 0 - 1 - 2 - 3 of unit weights, and of places.
 ghost use Rattle.std.specs.Prelude.{◌≡◌, ◌<◌, ◌≤◌, All, length};
-ghost use Rattle.region_plan.specs.Matched.{IsMatched};
 ghost use Rattle.region_plan.specs.Plan.{nodes_of};
 ghost use Rattle.visit_log.specs.Cells.{GoWith};
 

@@ -22,7 +22,6 @@ use Rattle.tracker_calls.specs.declared.finds.FindRefusal.{FindRefusal}
 use Rattle.tracker_calls.specs.declared.finds.FindRefusal.TheVariants as refusals
 use Rattle.distances.specs.Table.{DistanceTable}
 use Rattle.region_plan.specs.Plan.{PlanData}
-use Rattle.region_plan.specs.Matched.{IsMatched, IsWithinReach}
 
 -- a walk may go on by looks of a pass, in no node, over the tracker's own plan and its distances
 pub record MayWalkOn (tracker : TrackerData) (plan : PlanData) (distances : DistanceTable)
@@ -30,8 +29,6 @@ pub record MayWalkOn (tracker : TrackerData) (plan : PlanData) (distances : Dist
   pub of : IsPassOf tracker pass
   pub plan_is : plan ≡ tracker.setup.plan
   pub belongs : plan.distances ≡ distances
-  pub matched : IsMatched plan
-  pub reached : IsWithinReach plan
   pub outside : pass.view.inside ≡ None
   pub goes : IsWalkOver tracker.setup.plan walk
   pub known : walk.sub < subs_in tracker.setup

@@ -1,7 +1,6 @@
 //! Finds, look by look.
 ghost use Rattle.std.specs.Prelude.{◌≡◌, None, MatchResult};
 ghost use Rattle.directory.specs.Finds.{FindCall, at_origin};
-ghost use Rattle.region_plan.specs.Matched.{IsMatched, IsWithinReach};
 ghost use Rattle.station.specs.Passes.{IsPassOf, TrackerData};
 ghost use Rattle.station.specs.Setup.{subs_in};
 ghost use Rattle.walk.specs.Walks.{IsWalkOver, call_of, stage_of};
@@ -54,8 +53,6 @@ pub fn find_now(
     requires of { IsPassOf tracker.now pass.old }
     requires plan { plan.now ≡ tracker.now.setup.plan }
     requires belongs { plan.now.distances ≡ distances.now }
-    requires matched { IsMatched plan.now }
-    requires reached { IsWithinReach plan.now }
     requires subs { subs ≡ subs_in tracker.now.setup }
     requires outside { pass.old.view.inside ≡ None }
     ensures find { let call : FindCall = record { from = from; sub = sub } in MatchResult result
@@ -91,8 +88,6 @@ pub fn find<R: Wait>(
     requires of { IsPassOf tracker.now pass.old }
     requires plan { plan.now ≡ tracker.now.setup.plan }
     requires belongs { plan.now.distances ≡ distances.now }
-    requires matched { IsMatched plan.now }
-    requires reached { IsWithinReach plan.now }
     requires subs { subs ≡ subs_in tracker.now.setup }
     requires outside { pass.old.view.inside ≡ None }
     ensures find { let call : FindCall = record { from = from; sub = sub } in MatchResult result

@@ -12,7 +12,7 @@ ghost use Rattle.tracker_calls.specs.Finds.{HasFound, HasLookedOn, HasStopped, M
 use directory::{Found, histories_begin, looks_fall, own_after};
 use distances::Distances;
 use entry_word::Key;
-use region_plan::Plan;
+use region_plan::{Plan, plan_is_sound};
 use station::{Held, Pass, Tracker};
 use std::sync::Wait;
 use std::thread::yield_now;
@@ -44,6 +44,7 @@ pub fn walk_on(
     answers_are_right();
     again_has_its_cause();
     plan_finds_are_near();
+    plan_is_sound(plan);
     'looks: while let Some(key) = walk.next(plan) {
         look_on(tracker, pass, plan, distances, walk, key)?;
     }
@@ -73,6 +74,7 @@ pub fn walk_through<R: Wait>(
     answers_are_right();
     again_has_its_cause();
     plan_finds_are_near();
+    plan_is_sound(plan);
     'looks: while let Some(key) = walk.next(plan) {
         look_when_free(rt, tracker, pass, plan, distances, walk, key);
     }
@@ -128,6 +130,7 @@ fn look_on(
     marks_tell();
     entries_tell();
     front_of_history_is_legal();
+    plan_is_sound(plan);
     let looked = tracker.visit_look(pass, plan, key)?;
     walk.saw(plan, distances, looked.word);
     Ok(())

@@ -1,9 +1,8 @@
--- What the steps of a script need, and keep: `IsOver` (a tracker of one subscriber over a plan that
--- finds may use) and `AreReady` (passes outside all nodes, and the handset of the first of them).
+-- What the steps of a script need, and keep: `IsOver` (a tracker of one subscriber over a plan) and
+-- `AreReady` (passes outside all nodes, and the handset of the first of them).
 use Rattle.std.specs.Prelude.{◌≡◌}
 use Rattle.distances.specs.Table.{DistanceTable}
 use Rattle.handset.specs.Kept.{HandsetData}
-use Rattle.region_plan.specs.Matched.{IsMatched, IsWithinReach}
 use Rattle.region_plan.specs.Plan.{PlanData}
 use Rattle.station.specs.Handsets.{IsHandsetOf}
 use Rattle.station.specs.Passes.{IsFree, PassData, TrackerData}
@@ -14,8 +13,6 @@ pub record IsOver (tracker : TrackerData) (plan : PlanData) (distances : Distanc
     : Type 0 where
   pub plan_is : plan ≡ tracker.setup.plan
   pub belongs : plan.distances ≡ distances
-  pub matched : IsMatched plan
-  pub reached : IsWithinReach plan
   pub subs : subs_in tracker.setup ≡ 1
 
 -- passes of a tracker are outside all nodes, and a handset goes with the first

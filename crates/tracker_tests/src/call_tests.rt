@@ -2,7 +2,6 @@
 //! the path of the most nodes. Passes 0, 1 and 2 are those of the subscriber and of two callers.
 
 ghost use Rattle.std.specs.Prelude.{◌≡◌, ◌≤◌, ◌^◌, IfOk};
-ghost use Rattle.region_plan.specs.Matched.{IsMatched};
 ghost use Rattle.region_plan.specs.Plan.{nodes_of};
 ghost use Rattle.station.specs.Passes.{IsFree};
 ghost use Rattle.station.specs.Setup.{subs_in};
@@ -231,7 +230,6 @@ fn a_move_over_the_most_nodes(rt: HostRuntime) -> Result<(), Fail> {
 // The pass of the last of 64 callers, with room for so many visits, beside those of 64 subscribers
 // at the last node.
 fn open_last(alloc: Global, plan: &Plan, visits: u64) -> Result<(Tracker, Pass), Fail>
-    requires matched { IsMatched plan.now }
     requires nodes { nodes_of plan.now ≡ MAX_NODES }
     requires few { visits ≤ 2 ^ 56 }
     ensures plan { IfOk result (λ pair. pair.0.setup.plan ≡ plan.now) }

@@ -1,7 +1,6 @@
 //! A tracker with one subscriber and two callers, and what they have at hand.
 
 ghost use Rattle.std.specs.Prelude.{◌≡◌, ◌+◌, ◌<◌, ◌≤◌, ◌^◌, ◌∷◌, [], length, IfOk};
-ghost use Rattle.region_plan.specs.Matched.{IsMatched};
 ghost use Rattle.region_plan.specs.Plan.{nodes_of};
 ghost use Rattle.station.specs.Handsets.{IsHandsetOf};
 ghost use Rattle.station.specs.Opening.{setup_of};
@@ -38,7 +37,6 @@ pub fn open(
     task: Task,
     visits: u64,
 ) -> Result<(Tracker, Parties), Fail>
-    requires matched { IsMatched plan.now }
     requires inside { home < nodes_of plan.now }
     requires few { visits ≤ 2 ^ 56 }
     ensures setup { IfOk result (λ pair. pair.0.setup ≡ setup_of plan.now (home ∷ []) 3) }

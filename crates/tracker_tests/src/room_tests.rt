@@ -1,7 +1,6 @@
 //! Passes with much room, and a tracker with as many actors and nodes as there may be.
 
 ghost use Rattle.std.specs.Prelude.{◌≡◌, ◌≤◌, ◌^◌, [], IfOk};
-ghost use Rattle.region_plan.specs.Matched.{IsMatched};
 ghost use Rattle.region_plan.specs.Plan.{nodes_of};
 ghost use Rattle.station.specs.Passes.{AreFresh, IsFree, IsPassOf};
 ghost use Rattle.station.specs.Setup.{nodes_in, subs_in};
@@ -53,7 +52,6 @@ fn room_for_many_visits(rt: HostRuntime) -> Result<(), Fail> {
 // A tracker of the most subscribers, all at the last node, and of the most callers; the passes of
 // all but the last two actors, and of these.
 fn open_all(alloc: Global, plan: &Plan) -> Result<(Tracker, Vec<Pass>, Pass, Pass), Fail>
-    requires matched { IsMatched plan.now }
     requires nodes { nodes_of plan.now ≡ MAX_NODES }
     ensures plan { IfOk result (λ all. all.0.setup.plan ≡ plan.now) }
     ensures subs { IfOk result (λ all. subs_in all.0.setup ≡ 64) }
@@ -120,7 +118,6 @@ fn visits_of_all(
     alloc: Global,
     plan: &Plan,
 ) -> Result<(Option<(CensusSeen, u64, u64)>, Vec<u32>), Fail>
-    requires matched { IsMatched plan.now }
     requires nodes { nodes_of plan.now ≡ MAX_NODES }
 {
     let (tracker, passes, mut one, mut last) = open_all(alloc, plan)?;

@@ -1,7 +1,6 @@
 //! Scripts: tables of steps, each with what is to be seen of it, and how they are played.
 
 ghost use Rattle.std.specs.Prelude.{◌≡◌, ◌<◌, ◌≤◌, ◌^◌};
-ghost use Rattle.region_plan.specs.Matched.{IsMatched, IsWithinReach};
 ghost use Rattle.region_plan.specs.Plan.{nodes_of};
 ghost use Rattle.tracker_tests.specs.Ready.{AreReady, IsOver};
 
@@ -120,8 +119,6 @@ fn play_over<R: Wait + Abort>(
     script: &[(Step, Seen)],
 ) -> Result<Vec<u32>, Fail>
     requires belongs { plan.now.distances ≡ distances.now }
-    requires matched { IsMatched plan.now }
-    requires reached { IsWithinReach plan.now }
     requires inside { home < nodes_of plan.now }
     requires few { visits ≤ 2 ^ 56 }
 {

@@ -8,12 +8,12 @@ ghost use Rattle.directory.specs.Keys.{key_sub};
 ghost use Rattle.region_plan.specs.Plan.{clusters_of, levels_of, nodes_of};
 ghost use Rattle.region_plan.specs.Settings.{setting_of};
 ghost use Rattle.region_plan.specs.Cells.{IsCell};
-ghost use Rattle.visit_log.specs.Cells.{HasHomes, GoWith, Hold, open_word, slot_of, width_of, word_at};
+ghost use Rattle.visit_log.specs.Cells.{GoWith, Hold, open_word, slot_of, width_of, word_at};
 
 use crate::places::Places;
 use directory::{cell_after, same_key_means};
 use entry_word::{Address, Key, PresenceMark, pack_address, pack_mark};
-use region_plan::Plan;
+use region_plan::{Plan, plan_is_sound};
 use std::alloc::{AllocError, Global};
 use std::marker::Model;
 
@@ -44,12 +44,11 @@ impl PlainCells {
         requires some { 1 ≤ length homes.now }
         requires few { length homes.now ≤ 64 }
         requires inside { All (λ home. home < nodes_of plan.now) homes.now }
-        requires clusters { HasHomes plan.now }
         ensures goes { IfOk result (GoWith plan.now) }
         ensures opening { IfOk result (λ cells. Hold plan.now homes.now cells []) }
     {
-        // The call tells the proof that there is a level.
-        let _nodes = plan.nodes();
+        // There is a level.
+        plan_is_sound(plan);
         let subs = homes.len() as u32;
         let mut cells = PlainCells::empty(alloc, plan, subs)?;
         for sub in 0..subs {
@@ -145,7 +144,6 @@ impl PlainCells {
         requires goes { GoWith plan.now self.old }
         requires known { sub < self.old.subs }
         requires inside { home < nodes_of plan.now }
-        requires homes { HasHomes plan.now }
         ensures goes { GoWith plan.now self.new }
         ensures subs { self.new.subs ≡ self.old.subs }
         ensures words { (key : Key) → IsCell plan.now self.old.subs key
@@ -153,8 +151,8 @@ impl PlainCells {
             (word_at plan.now self.old key) }
     {
         same_key_means();
-        // The call tells the proof that nodes are few.
-        let _nodes = plan.nodes();
+        // Nodes are few, and homes are clusters.
+        plan_is_sound(plan);
         let here = pack_mark(PresenceMark::Here { number: 0 });
         self.set(plan, Key::Presence { node: home, sub }, here);
         let address = pack_address(Some(Address {

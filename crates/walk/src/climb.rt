@@ -3,7 +3,6 @@ ghost use Rattle.std.specs.Prelude.{◌≡◌, ◌+◌, ◌-◌, ◌*◌, ◌^�
 ghost use Rattle.node_set.specs.Ascending.{has};
 ghost use Rattle.directory.specs.Finds.{FindCall, after_entry, after_word, climb};
 ghost use Rattle.region_plan.specs.Kept.{IsKept};
-ghost use Rattle.region_plan.specs.Matched.{IsMatched, IsWithinReach};
 ghost use Rattle.region_plan.specs.Plan.{clusters_of, inside, leader, levels_of, members_of, nodes_of, readers};
 ghost use Rattle.region_plan.specs.Settings.{setting_of};
 ghost use Rattle.walk.specs.Climbs.{IsClimbOver, PassesEntry, climb_past, climb_to, readers_left, walk_at, weight_past};
@@ -11,7 +10,7 @@ ghost use Rattle.walk.specs.Walks.{IsProgressWithin, StandsForWords, WalkData, r
 
 use crate::progress::{Climb, Progress};
 use directory::{Found, Why};
-use region_plan::Plan;
+use region_plan::{Plan, plan_is_sound};
 
 impl Climb {
     /// The readers of its origin that are left at its level: the entries that it looks at as long
@@ -20,15 +19,14 @@ impl Climb {
     #[inline(always)]
     pub fn readers<'a>(&self, plan: &'a Plan) -> &'a [u32]
         requires over { IsClimbOver plan.now self.now }
-        requires matched { IsMatched plan.now }
         ensures exact { result.now ≡ readers_left plan.now self.now }
         ensures some { 1 ≤ length result.now }
         ensures few { length result.now ≤ 1024 }
         ensures clusters { All (λ cluster. cluster < clusters_of plan.now self.now.level)
             result.now }
     {
-        // The call tells the proof that there are few clusters.
-        let _nodes = plan.nodes();
+        // There are few clusters, and the node is in those that it reads.
+        plan_is_sound(plan);
         &plan.readers(self.level, self.from)[self.index as usize..]
     }
 
@@ -37,8 +35,6 @@ impl Climb {
     #[inline(always)]
     pub fn past(self, plan: &Plan, count: usize) -> Climb
         requires over { IsClimbOver plan.now self }
-        requires matched { IsMatched plan.now }
-        requires reached { IsWithinReach plan.now }
         requires left { count ≤ length (readers_left plan.now self) }
         requires above { count ≡ length (readers_left plan.now self)
             → self.level + 1 < levels_of plan.now }
@@ -51,6 +47,7 @@ impl Climb {
             → StandsForWords plan.now (walk_at walk self) words
             → StandsForWords plan.now (walk_at walk result) (words ++ replicate count 0) }
     {
+        plan_is_sound(plan);
         let weight = weight_past(plan, self.from, self.level, self.index, self.weight, count);
         self.moved_to(plan, weight, self.index + count as u32)
     }
@@ -122,8 +119,6 @@ pub fn past_entry(
 ) -> Progress
     requires from { from < nodes_of plan.now }
     requires within { IsProgressWithin plan.now from (Progress.Climbing known weight level index) }
-    requires matched { IsMatched plan.now }
-    requires reached { IsWithinReach plan.now }
     ensures stage { (sub : ℕ) → let call : FindCall = record { from = from; sub = sub } in
         stage_at (setting_of plan.now []) from result
         ≡ after_entry (setting_of plan.now []) call known weight
@@ -150,15 +145,14 @@ pub fn reader_at(plan: &Plan, from: u32, level: u32, index: u32) -> u32
     requires from { from < nodes_of plan.now }
     requires level { level < levels_of plan.now }
     requires index { index < length (readers plan.now level from) }
-    requires matched { IsMatched plan.now }
     ensures value { result ≡ slice_index (readers plan.now level from) index }
     ensures cluster { result < clusters_of plan.now level }
     ensures member { has from (members_of plan.now level result) ≡ true }
     ensures few { length (readers plan.now level from) ≤ 1024 }
     ensures kept { IsKept plan.now }
 {
-    // The call tells the proof that there are few clusters.
-    let _nodes = plan.nodes();
+    // There are few clusters, and the node is in those that it reads.
+    plan_is_sound(plan);
     plan.readers(level, from)[index as usize]
 }
 
@@ -167,16 +161,14 @@ pub fn way_in(plan: &Plan, from: u32, level: u32, index: u32) -> u64
     requires from { from < nodes_of plan.now }
     requires level { level < levels_of plan.now }
     requires index { index < length (readers plan.now level from) }
-    requires matched { IsMatched plan.now }
-    requires reached { IsWithinReach plan.now }
     ensures way { result ≡ inside plan.now level (slice_index
         (readers plan.now level from) index) from }
     ensures light { result ≤ 2 ^ 35 }
     ensures few { length (readers plan.now level from) ≤ 1024 }
     ensures kept { IsKept plan.now }
 {
-    // The call tells the proof that there are few readers, whose weights are light.
-    let _nodes = plan.nodes();
+    // There are few readers, and the weights inside them are light.
+    plan_is_sound(plan);
     plan.reader_weight(level, from, index)
 }
 
@@ -186,14 +178,12 @@ pub fn weight_past(plan: &Plan, from: u32, level: u32, index: u32, weight: u64, 
     requires level { level < levels_of plan.now }
     requires inside { index + count ≤ length (readers plan.now level from) }
     requires light { weight ≤ (level * 1024 + index) * 2 ^ 36 }
-    requires matched { IsMatched plan.now }
-    requires reached { IsWithinReach plan.now }
     ensures weight { result ≡ weight_past plan.now from level index weight count }
     ensures few { length (readers plan.now level from) ≤ 1024 }
     ensures kept { IsKept plan.now }
 {
-    // The call tells the proof that there are few readers.
-    let _nodes = plan.nodes();
+    // There are few readers.
+    plan_is_sound(plan);
     let mut sum = weight;
     for passed in 0..count as u32 {
         sum += 2 * way_in(plan, from, level, index + passed);

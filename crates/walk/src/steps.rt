@@ -5,7 +5,6 @@ ghost use Rattle.entry_word.specs.Marks.{mark_in};
 ghost use Rattle.entry_word.specs.Addresses.{address_in};
 ghost use Rattle.directory.specs.Finds.{FindCall, after_mark, after_origin, after_word, begin_chase, climb, hop};
 ghost use Rattle.region_plan.specs.Kept.{IsKept};
-ghost use Rattle.region_plan.specs.Matched.{IsMatched, IsWithinReach};
 ghost use Rattle.region_plan.specs.Plan.{inside, leader, levels_of, nodes_of, readers};
 ghost use Rattle.region_plan.specs.Settings.{setting_of};
 ghost use Rattle.walk.specs.Walks.{IsMarkBelow, IsProgressWithin, IsWordBelow, chase_of, stage_at};
@@ -15,7 +14,7 @@ use crate::progress::{Chase, Progress};
 use directory::{Found, Why};
 use distances::Distances;
 use entry_word::{Address, PresenceMark, unpack_address, unpack_mark};
-use region_plan::Plan;
+use region_plan::{Plan, plan_is_sound};
 
 // The progress of a find from a node, after one more word.
 pub fn progress_after(
@@ -28,8 +27,6 @@ pub fn progress_after(
     requires from { from < nodes_of plan.now }
     requires within { IsProgressWithin plan.now from progress }
     requires belongs { plan.now.distances ≡ distances.now }
-    requires matched { IsMatched plan.now }
-    requires reached { IsWithinReach plan.now }
     requires word { IsWordBelow (nodes_of plan.now) progress word }
     ensures stage { (sub : ℕ) → let call : FindCall = record { from = from; sub = sub } in
         stage_at (setting_of plan.now []) from result ≡ after_word (setting_of plan.now []) call
@@ -123,8 +120,6 @@ fn to_address(
     requires from { from < nodes_of plan.now }
     requires level { level < levels_of plan.now }
     requires index { index < length (readers plan.now level from) }
-    requires matched { IsMatched plan.now }
-    requires reached { IsWithinReach plan.now }
     requires belongs { plan.now.distances ≡ distances.now }
     requires node { address.node < nodes_of plan.now }
     ensures way { result ≡ inside plan.now level (slice_index
@@ -135,6 +130,8 @@ fn to_address(
     ensures few { length (readers plan.now level from) ≤ 1024 }
     ensures kept { IsKept plan.now }
 {
+    // A leader is a node.
+    plan_is_sound(plan);
     let cluster = reader_at(plan, from, level, index);
     let leader = plan.leader(level, cluster);
     way_in(plan, from, level, index) + between(plan, distances, leader, u32::from(address.node))

@@ -2,7 +2,6 @@
 ghost use Rattle.std.specs.Prelude.{◌≡◌, ◌++◌, ◌∷◌, [], ℕ, true, List, IfOk, IfSome};
 ghost use Rattle.std.specs.Option.{is_some};
 ghost use Rattle.directory.specs.Finds.{after_word, answer_of, key_of};
-ghost use Rattle.region_plan.specs.Matched.{IsMatched, IsWithinReach};
 ghost use Rattle.region_plan.specs.Plan.{PlanData, nodes_of};
 ghost use Rattle.region_plan.specs.Settings.{setting_of};
 ghost use Rattle.walk.specs.Climbs.{IsClimbOf, IsClimbOver, is_climbing, walk_at};
@@ -151,8 +150,6 @@ impl Walk {
     pub fn saw(&mut self, plan: &Plan, distances: &Distances, word: u64)
         requires goes { IsWalkOver plan.now self.old }
         requires belongs { plan.now.distances ≡ distances.now }
-        requires matched { IsMatched plan.now }
-        requires reached { IsWithinReach plan.now }
         requires word { IsWordBelow (nodes_of plan.now) self.old.progress word }
         ensures stage { stage_of plan.now self.new ≡ after_word (setting_of plan.now [])
             (call_of self.old) (stage_of plan.now self.old) word }
@@ -168,8 +165,6 @@ impl Walk {
     fn step(&mut self, plan: &Plan, distances: &Distances, word: u64)
         requires goes { IsWalkOver plan.now self.old }
         requires belongs { plan.now.distances ≡ distances.now }
-        requires matched { IsMatched plan.now }
-        requires reached { IsWithinReach plan.now }
         requires word { IsWordBelow (nodes_of plan.now) self.old.progress word }
         ensures stage { stage_of plan.now self.new ≡ after_word (setting_of plan.now [])
             (call_of self.old) (stage_of plan.now self.old) word }

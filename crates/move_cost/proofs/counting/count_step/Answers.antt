@@ -8,14 +8,16 @@ pub begin-node-requires-clause-may : goal.begin-node-requires-clause-may
 begin-node-requires-clause-may c =
     (ready-here c.scripts_are_valid.ensures c.moves_are_short.ensures c.args.input.now c.args.plan.now
     c.args.distances.now c.args.sub c.args.place c.args.handset.now c.args.line.now c.index.result.now
-    c.index-call.result.now c.nodes-nodes.ensures.sound c.requires.together c.requires.known c.requires.short
+    c.index-call.result.now c.plan_is_sound.ensures.sound c.plan_is_sound.ensures.matched c.requires.together
+    c.requires.known c.requires.short
     c.index.ensures c.index-call.ensures c.requires.counted).may
 
 pub begin-node-requires-clause-moved : goal.begin-node-requires-clause-moved
 begin-node-requires-clause-moved c =
     let is = ready-here c.scripts_are_valid.ensures c.moves_are_short.ensures c.args.input.now c.args.plan.now
     c.args.distances.now c.args.sub c.args.place c.args.handset.now c.args.line.now c.index.result.now
-    c.index-call.result.now c.nodes-nodes.ensures.sound c.requires.together c.requires.known c.requires.short
+    c.index-call.result.now c.plan_is_sound.ensures.sound c.plan_is_sound.ensures.matched c.requires.together
+    c.requires.known c.requires.short
     c.index.ensures c.index-call.ensures c.requires.counted in
     omega (arith, is.short, c.requires.counted.small.moved)
 
@@ -23,7 +25,8 @@ pub finish-requires-clause-node : goal.finish-requires-clause-node
 finish-requires-clause-node c =
     let is = ready-here c.scripts_are_valid.ensures c.moves_are_short.ensures c.args.input.now c.args.plan.now
     c.args.distances.now c.args.sub c.args.place c.args.handset.now c.args.line.now c.index.result.now
-    c.index-call.result.now c.nodes-nodes.ensures.sound c.requires.together c.requires.known c.requires.short
+    c.index-call.result.now c.plan_is_sound.ensures.sound c.plan_is_sound.ensures.matched c.requires.together
+    c.requires.known c.requires.short
     c.index.ensures c.index-call.ensures c.requires.counted in
     subst (λ n. n < nodes_of c.args.plan.now) (sym c.begin-node.ensures.node) is.node
 
@@ -31,7 +34,8 @@ pub finish-requires-clause-room : goal.finish-requires-clause-room
 finish-requires-clause-room c =
     let is = ready-here c.scripts_are_valid.ensures c.moves_are_short.ensures c.args.input.now c.args.plan.now
     c.args.distances.now c.args.sub c.args.place c.args.handset.now c.args.line.now c.index.result.now
-    c.index-call.result.now c.nodes-nodes.ensures.sound c.requires.together c.requires.known c.requires.short
+    c.index-call.result.now c.plan_is_sound.ensures.sound c.plan_is_sound.ensures.matched c.requires.together
+    c.requires.known c.requires.short
     c.index.ensures c.index-call.ensures c.requires.counted in
     room-for-step (seen_input c.args.input.now) c.args.plan.now c.args.sub c.args.place c.args.handset.now
     c.begin-node.new.handset c.args.line.now c.begin-node.new.line c.index-call.result.now c.requires.counted is
@@ -42,7 +46,8 @@ pub returns : goal.returns
 returns c =
     let is = ready-here c.scripts_are_valid.ensures c.moves_are_short.ensures c.args.input.now c.args.plan.now
     c.args.distances.now c.args.sub c.args.place c.args.handset.now c.args.line.now c.index.result.now
-    c.index-call.result.now c.nodes-nodes.ensures.sound c.requires.together c.requires.known c.requires.short
+    c.index-call.result.now c.plan_is_sound.ensures.sound c.plan_is_sound.ensures.matched c.requires.together
+    c.requires.known c.requires.short
     c.index.ensures c.index-call.ensures c.requires.counted in
     let stands = c.begin-node.ensures.stands c.args.input.now.homes.items _ _ c.requires.counted.stands in
     let left = left-of-step (seen_input c.args.input.now) c.args.plan.now c.args.sub c.args.place c.args.handset.now

@@ -27,25 +27,25 @@ cost c = record {
 pub act_weight-requires-clause-fit : goal.act_weight-requires-clause-fit
 act_weight-requires-clause-fit c =
     (next-fits c.mark_words.ensures.unpacked c.address_words.ensures.unpacked c.args.plan.now
-    (omega (arith, c.requires.matched.metric.few)) c.args.node c.writes.handset c.writes.line c.in-Some.visit
+    (omega (arith, c.plan_is_sound.ensures.sound.metric.few)) c.args.node c.writes.handset c.writes.line c.in-Some.visit
     (λ starts steps made stands. sym c.in-Some.is ∙ c.next.ensures.stands starts steps made stands)
     c.writes.invariant.room).0
 
 pub writes-smaller : goal.writes-smaller
 writes-smaller c =
     left-falls c.mark_words.ensures.unpacked c.address_words.ensures.unpacked c.args.plan.now
-    (omega (arith, c.requires.matched.metric.few)) c.writes.handset c.made.new.self c.writes.line c.in-Some.visit
-    (makes c) c.writes.invariant.room
+    (omega (arith, c.plan_is_sound.ensures.sound.metric.few)) c.writes.handset c.made.new.self c.writes.line
+    c.in-Some.visit (makes c) c.writes.invariant.room
 
 pub writes-preserved : goal.writes-preserved
 writes-preserved c = record {
   goes = c.made.ensures.goes;
   its = (makes c).same ∙ c.writes.invariant.its;
   room = room-on c.mark_words.ensures.unpacked c.address_words.ensures.unpacked c.args.plan.now
-      (omega (arith, c.requires.matched.metric.few)) c.args.node c.writes.handset c.made.new.self c.writes.line
-      c.in-Some.visit c.act_weight.result c.from.result (makes c) (cost c) c.writes.invariant.room;
+      (omega (arith, c.plan_is_sound.ensures.sound.metric.few)) c.args.node c.writes.handset c.made.new.self
+      c.writes.line c.in-Some.visit c.act_weight.result c.from.result (makes c) (cost c) c.writes.invariant.room;
   follows = follows-on c.mark_words.ensures.unpacked c.address_words.ensures.unpacked c.args.plan.now
-      (omega (arith, c.requires.matched.metric.few)) c.args.node c.args.handset.now c.args.line.now
+      (omega (arith, c.plan_is_sound.ensures.sound.metric.few)) c.args.node c.args.handset.now c.args.line.now
       c.writes.handset c.made.new.self c.writes.line
       c.in-Some.visit c.act_weight.result c.from.result (makes c) (cost c) c.writes.invariant.follows;
 }

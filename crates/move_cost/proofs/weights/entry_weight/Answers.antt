@@ -11,8 +11,8 @@ is-small c =
     omega (
       arith,
       c.weight_inside.ensures ∙ ap (inside c.args.plan.now c.args.level c.args.cluster) c.from.ensures,
-      inside-small c.args.plan.now c.args.level c.args.cluster c.in-Some.address.node c.nodes-nodes.ensures.sound
-          c.requires.reached c.requires.level c.requires.cluster fit.2,
+      inside-small c.args.plan.now c.args.level c.args.cluster c.in-Some.address.node c.plan_is_sound.ensures.sound
+          c.plan_is_sound.ensures.reached c.requires.level c.requires.cluster fit.2,
     )
 
 pub overflow_mul-result : goal.overflow_mul-result

@@ -13,7 +13,7 @@ use Rattle.runner.proofs.finder.look_on.Goals as goal
 pub visit_look-requires-clause-cell : goal.visit_look-requires-clause-cell
 visit_look-requires-clause-cell c =
     cell-wanted c.args.tracker.now.setup.plan c.args.walk.now (subs_in c.args.tracker.now.setup) c.in-Some.key
-    (subst IsMatched c.requires.way.plan_is c.requires.way.matched) c.requires.way.goes c.requires.way.known
+    (subst IsMatched c.requires.way.plan_is c.plan_is_sound.ensures.matched) c.requires.way.goes c.requires.way.known
     (subst (λ p. key_of (call_of c.args.walk.now) (stage_of p c.args.walk.now) ≡ Some c.in-Some.key) c.requires.way.plan_is
     (sym c.next.ensures ∙ c.in-Some.is))
 
@@ -23,7 +23,7 @@ saw-requires-clause-word c =
     word-seen c.marks_tell.ensures.marks c.entries_tell.ensures.entries c.front_of_history_is_legal.ensures
     c.args.tracker.now.setup c.args.plan.now c.args.pass.now c.visit_look.new.pass (Look c.in-Some.key)
     c.in_ok-looked.looked.ticket c.in_ok-looked.looked.word c.args.walk.now c.in-Some.key c.requires.way.plan_is
-    c.requires.way.matched c.requires.way.of.setup looked.0 looked.1 c.requires.way.known c.requires.way.goes
+    c.plan_is_sound.ensures.matched c.requires.way.of.setup looked.0 looked.1 c.requires.way.known c.requires.way.goes
     (subst (λ p. key_of (call_of c.args.walk.now) (stage_of p c.args.walk.now) ≡ Some c.in-Some.key) c.requires.way.plan_is
     (sym c.next.ensures ∙ c.in-Some.is))
 

@@ -12,7 +12,7 @@ use Rattle.tracker_calls.proofs.walking.look_on.Goals as goal
 pub visit_look-requires-clause-cell : goal.visit_look-requires-clause-cell
 visit_look-requires-clause-cell c =
     cell-wanted c.args.tracker.now.setup.plan c.args.walk.now (subs_in c.args.tracker.now.setup) c.args.key
-    (subst IsMatched c.requires.way.plan_is c.requires.way.matched) c.requires.way.goes c.requires.way.known
+    (subst IsMatched c.requires.way.plan_is c.plan_is_sound.ensures.matched) c.requires.way.goes c.requires.way.known
     c.requires.wanted
 
 pub saw-requires-clause-word : goal.saw-requires-clause-word
@@ -21,7 +21,7 @@ saw-requires-clause-word c =
     word-seen c.marks_tell.ensures.marks c.entries_tell.ensures.entries c.front_of_history_is_legal.ensures
     c.args.tracker.now.setup c.args.plan.now c.args.pass.now c.visit_look.new.pass (Look c.args.key)
     c.in_ok-looked.looked.ticket c.in_ok-looked.looked.word c.args.walk.now c.args.key c.requires.way.plan_is
-    c.requires.way.matched c.requires.way.of.setup looked.0 looked.1 c.requires.way.known c.requires.way.goes
+    c.plan_is_sound.ensures.matched c.requires.way.of.setup looked.0 looked.1 c.requires.way.known c.requires.way.goes
     c.requires.wanted
 
 pub returns : goal.returns

@@ -34,7 +34,7 @@ returns c =
       found = (
         walked-out c.answers_are_right.ensures c.again_has_its_cause.ensures.quiet c.plan_finds_are_near.ensures setup
             c.args.pass.now (call_of c.args.walk.now) c.looks.pass c.looks.walk c.in-Some-answer.found
-            (subst IsMatched c.requires.way.plan_is c.requires.way.matched) c.requires.way.goes.from
+            (subst IsMatched c.requires.way.plan_is c.plan_is_sound.ensures.matched) c.requires.way.goes.from
             c.requires.way.known at (answer-ends (stage_of setup.plan c.looks.walk) c.in-Some-answer.found
             (sym (c.answer.ensures setup.plan at.goes) ∙ c.in-Some-answer.is)),
         c.looks.invariant.lost,

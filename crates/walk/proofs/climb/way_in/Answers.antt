@@ -6,12 +6,12 @@ use Rattle.walk.proofs.climb.way_in.Goals as goal
 
 pub returns-clause-light : goal.returns-clause-light
 returns-clause-light c =
-    let held = reader-held c.args.plan.now c.args.level c.args.from c.args.index c.requires.matched c.requires.level
-    c.requires.from c.requires.index in
+    let held = reader-held c.args.plan.now c.args.level c.args.from c.args.index c.plan_is_sound.ensures.matched
+    c.requires.level c.requires.from c.requires.index in
     subst (λ n. n ≤ 2 ^ 35) (sym c.reader_weight.ensures)
     (way-light c.args.plan.now c.args.level (get_or (readers c.args.plan.now c.args.level c.args.from) c.args.index 0)
-    c.args.from c.nodes-nodes.ensures.sound c.requires.reached c.requires.level held.1 held.0)
+    c.args.from c.plan_is_sound.ensures.sound c.plan_is_sound.ensures.reached c.requires.level held.1 held.0)
 
 pub returns-clause-few : goal.returns-clause-few
-returns-clause-few c = readers-few c.args.plan.now c.args.level c.args.from c.requires.matched
-    c.nodes-nodes.ensures.sound c.requires.level c.requires.from
+returns-clause-few c = readers-few c.args.plan.now c.args.level c.args.from c.plan_is_sound.ensures.matched
+    c.plan_is_sound.ensures.sound c.requires.level c.requires.from

@@ -7,7 +7,7 @@ overflow_cast-passed-end c =
     omega (
       arith,
       c.requires.inside,
-      readers-few c.args.plan.now c.args.level c.args.from c.requires.matched c.nodes-nodes.ensures.sound
+      readers-few c.args.plan.now c.args.level c.args.from c.plan_is_sound.ensures.matched c.plan_is_sound.ensures.sound
           c.requires.level c.requires.from,
     )
 
@@ -18,11 +18,11 @@ overflow_add-index c =
       c.requires.inside,
       c.loop-passed-test.true,
       c.loop-passed.auto.passed-end,
-      readers-few c.args.plan.now c.args.level c.args.from c.requires.matched c.nodes-nodes.ensures.sound
+      readers-few c.args.plan.now c.args.level c.args.from c.plan_is_sound.ensures.matched c.plan_is_sound.ensures.sound
           c.requires.level c.requires.from,
     )
 
 pub returns-clause-few : goal.returns-clause-few
 returns-clause-few c =
-    readers-few c.args.plan.now c.args.level c.args.from c.requires.matched c.nodes-nodes.ensures.sound
+    readers-few c.args.plan.now c.args.level c.args.from c.plan_is_sound.ensures.matched c.plan_is_sound.ensures.sound
     c.requires.level c.requires.from

@@ -69,7 +69,7 @@ returns-clause-right c history is done =
     subst (λ lines. All (IsRightLine (setting_at c.args.self) history) lines)
     (sym (ap (λ (o : Outcome). o.calls) (returns-clause-result c history is done)))
     (right-outcome c.outcomes_are_right.ensures.lines c.order_of_history.ensures.done c.scripts_are_valid.ensures
-    c.args.self history is done)
+    c.args.self history c.plan_is_sound.ensures.matched is done)
 
 pub returns-clause-numbers : goal.returns-clause-numbers
 returns-clause-numbers c history is done =

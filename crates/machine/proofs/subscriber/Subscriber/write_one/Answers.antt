@@ -5,6 +5,7 @@ use Rattle.directory.specs.Histories.{own}
 use Rattle.directory.specs.Writes.{visits}
 use Rattle.net_reader.specs.Seen.{seen_input}
 use Rattle.machine.specs.Stands.{setting_over}
+use Rattle.scripts.specs.ScriptLaws.{few-nodes}
 use Rattle.machine.specs.Subscribers.{begun_steps, line_after}
 use Rattle.machine.proofs.Beginning.{on-some}
 use Rattle.machine.proofs.Written.{under-way, written-on}
@@ -35,7 +36,11 @@ returns c = λ history sees place its.
     ∙ ap (λ b. line_after
     (get_or c.args.self.now.lines.items (c.len-last.result - 1) c.index_mut.result.now) b c.args.ticket)
     (c.commits-commits.ensures c.args.plan.now c.in-Some._visit
-    (omega (arith, c.requires.together.matched.metric.few)) its.goes
+    (omega (
+      arith,
+      c.requires.together.nodes,
+      few-nodes (seen_input c.args.input.now) c.requires.together.valid,
+    )) its.goes
     (sym c.make.ensures.exact ∙ c.in-Some.is))))
     c.make.ensures.cells
     (on-some _ c.make.result c.in-Some._visit c.in-Some.is c.make.ensures.hold c.args.input.now.homes.items history

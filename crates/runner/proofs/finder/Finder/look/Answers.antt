@@ -18,8 +18,6 @@ look_on-requires c =
         of = c.requires.of;
         plan_is = set.plan_is;
         belongs = set.together.belongs;
-        matched = set.together.matched;
-        reached = set.together.reached;
         outside = c.requires.outside;
         spare = look-room input setup c.args.pass.now.view.low c.args.pass.now.view.seen c.args.pass.now.spare
             c.args.self.now c.in-Some.walk its c.in-Some.is;

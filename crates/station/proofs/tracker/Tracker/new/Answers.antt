@@ -19,7 +19,7 @@ of_words-requires c =
     (subst (λ (ws : List ℕ). KeepsRule (setup_of plan homes actors) (opening ws [] (first_view
     (setup_of plan homes actors)))) words
     (opens c.cell_numbers.ensures.below (setup_of plan homes actors) c.in_ok-words.words.items
-    (matched_lies plan homes actors c.requires.matched)
+    (matched_lies plan homes actors c.plan_is_sound.ensures.matched)
     (omega (arith, c.requires.few, c.requires.callers))
     (λ sub known. start_inside plan homes actors sub c.requires.inside known)
     (c.in_ok-words.ensures.opening actors)))
@@ -44,7 +44,7 @@ invariant_of-tracker c =
       few_subs = c.requires.few;
       some_actors = omega (arith, c.requires.some);
       few_actors = omega (arith, c.requires.few, c.requires.callers);
-      lies = matched_lies plan homes actors c.requires.matched;
-      homes = c.requires.matched.homes;
+      lies = matched_lies plan homes actors c.plan_is_sound.ensures.matched;
+      homes = c.plan_is_sound.ensures.matched.homes;
       places_are = c.in_ok-places.ensures;
     }

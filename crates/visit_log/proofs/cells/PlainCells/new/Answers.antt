@@ -14,5 +14,5 @@ loop-sub-preserved c = record {
       ∙ (ap (open_word c.args.plan.now c.loop-sub.sub (get_or c.args.homes.now c.loop-sub.sub 0)
       (levels_of c.args.plan.now) key) (c.loop-sub.invariant.words key its)
       ∙ opened-more c.args.plan.now c.args.homes.now c.loop-sub.sub (get_or c.args.homes.now c.loop-sub.sub 0) key
-      c.nodes-nodes.ensures.sound.some its.place (omega arith) refl);
+      c.plan_is_sound.ensures.sound.some its.place (omega arith) refl);
 }

@@ -25,7 +25,7 @@ loop-level-preserved c =
     ) in
     let held : c.home-cluster.result < clusters_of c.args.plan.now c.loop-level.level =
     subst (λ n. n < clusters_of c.args.plan.now c.loop-level.level) (sym c.home-cluster.ensures)
-    (c.requires.homes c.loop-level.level c.args.home low c.requires.inside) in
+    (c.plan_is_sound.ensures.matched.homes c.loop-level.level c.args.home low c.requires.inside) in
     let known : c.args.sub < c.loop-level.self.subs = omega (arith, c.requires.known, c.loop-level.invariant.subs) in
     record {
       goes = c.set-in-loop-level.ensures.goes;

@@ -17,14 +17,14 @@ returns-clause-from c =
 pub returns-clause-over : goal.returns-clause-over
 returns-clause-over c =
     subst (IsClimbOver c.args.plan.now) (sym (returns-clause-exact c))
-    (past-over c.args.plan.now c.args.self c.args.count c.weight_past-weight.ensures.kept c.requires.matched
-    c.requires.reached c.requires.over
+    (past-over c.args.plan.now c.args.self c.args.count c.plan_is_sound.ensures.sound
+    c.plan_is_sound.ensures.matched c.plan_is_sound.ensures.reached c.requires.over
     (may-pass c.args.plan.now c.args.self c.args.count c.requires.over c.requires.left c.requires.above))
 
 pub returns-clause-each : goal.returns-clause-each
 returns-clause-each c = λ walk same.
-    passes-each c.args.plan.now walk c.args.self c.args.count c.weight_past-weight.ensures.kept c.requires.matched
-    c.requires.reached c.requires.over
+    passes-each c.args.plan.now walk c.args.self c.args.count c.plan_is_sound.ensures.sound
+    c.plan_is_sound.ensures.matched c.plan_is_sound.ensures.reached c.requires.over
     (may-pass c.args.plan.now c.args.self c.args.count c.requires.over c.requires.left c.requires.above) same
 
 pub returns-clause-stands : goal.returns-clause-stands

@@ -18,9 +18,10 @@ returns-clause-some c =
 pub returns-clause-few : goal.returns-clause-few
 returns-clause-few c =
     subst (λ left. length left ≤ 1024) (sym (returns-clause-exact c))
-    (left-few c.args.plan.now c.args.self.now c.requires.matched c.nodes-nodes.ensures.sound c.requires.over)
+    (left-few c.args.plan.now c.args.self.now c.plan_is_sound.ensures.matched c.plan_is_sound.ensures.sound
+    c.requires.over)
 
 pub returns-clause-clusters : goal.returns-clause-clusters
 returns-clause-clusters c =
     subst (All (λ cluster. cluster < clusters_of c.args.plan.now c.args.self.now.level)) (sym (returns-clause-exact c))
-    (left-inside c.args.plan.now c.args.self.now c.requires.matched c.requires.over)
+    (left-inside c.args.plan.now c.args.self.now c.plan_is_sound.ensures.matched c.requires.over)
