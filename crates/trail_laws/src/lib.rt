@@ -11,7 +11,7 @@ mod ways;
 
 pub use answers::{again_has_its_cause, answers_are_right, numbers_never_fall};
 pub use censuses::censuses_are_right;
-pub use marks::{entries_tell, marks_lead, marks_tell};
+pub use marks::{coming_stands, entries_tell, marks_lead, marks_tell};
 pub use outcomes::{lines_are_in_turn, outcomes_are_right};
 pub use ways::{
     front_of_history_is_legal, levels_stay_near, marks_lead_by_phase, marks_lead_shortly,
