@@ -8,6 +8,7 @@ mod Views
 mod Chases
 mod Tells
 mod Leads
+mod Stops
 mod Prices
 mod Fine
 mod Lazy
