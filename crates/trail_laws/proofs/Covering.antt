@@ -18,7 +18,7 @@ use Rattle.trail_laws.proofs.ClosedViews.{clearing, coming, passage, Phase, phas
 use Rattle.trail_laws.proofs.Laws.{HistoryView, Laws, view}
 
 -- at most one move is begun that isn't committed
-view-counts : (setting : Setting) (from : ℕ) (marks : ℕ → PresenceMark) (entries : ℕ → ℕ → Option Address)
+pub view-counts : (setting : Setting) (from : ℕ) (marks : ℕ → PresenceMark) (entries : ℕ → ℕ → Option Address)
     (commits : List Commit) (off : Bool) (moves : List Move) → View setting from marks entries commits off moves
     → (length moves ≡ suc (length commits)) ⊎ (length moves ≡ length commits)
 view-counts setting from marks entries commits off moves (inl h) = inr (omega (

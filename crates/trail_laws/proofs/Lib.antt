@@ -31,4 +31,6 @@ mod RightLines
 mod Listed
 mod Ending
 mod Rising
+mod Behind
+mod Following
 mod InTurn
