@@ -8,7 +8,7 @@ use Rattle.directory.specs.Courses.{Course, Step, after_step, course_at, move_to
 use Rattle.directory.specs.Finds.{FindCall, Stage, after_word, answer_of}
 use Rattle.directory.specs.Histories.{History, tickets, words_read}
 use Rattle.directory.specs.Orders.{Answer, Caller as Seeker, IsPlayed, Scripts, after_read, caller_at, caller_in, finds_of, read_by, steps_of, with_stage}
-use Rattle.directory.specs.Outcomes.{FollowEachOther, answer_line, caller_lines, found_line, outcome_in, step_line, step_lines, sub_lines}
+use Rattle.directory.specs.Outcomes.{FollowEachOther, answer_line, caller_lines, found_line, step_line, step_lines, sub_lines}
 use Rattle.directory.specs.Writes.{numbers_from, step_writes}
 use Rattle.directory.specs.declared.answers.Done.{Done}
 use Rattle.directory.specs.declared.answers.Found.{Found}

@@ -76,13 +76,13 @@ trail-linked setting course sound =
     (linked-drop setting course.start 0 course.moves (low_of setting course) sound.linked
     (base-low setting course setting.top sound))
 
-trail-stops : (setting : Setting) (course : Course) (i : ℕ) → IsSound setting course
+pub trail-stops : (setting : Setting) (course : Course) (i : ℕ) → IsSound setting course
     → stop_at (first_of setting course) (since_top setting course) i
     ≡ stop_at course.start course.moves (low_of setting course + i)
 trail-stops setting course i sound = stop-drop course.start course.moves (low_of setting course) i
     (base-low setting course setting.top sound)
 
-trail-count : (setting : Setting) (course : Course) → IsSound setting course
+pub trail-count : (setting : Setting) (course : Course) → IsSound setting course
     → low_of setting course + length (since_top setting course) ≡ length course.moves
 trail-count setting course sound = drop-count course.moves (low_of setting course)
     (base-low setting course setting.top sound)
@@ -249,6 +249,32 @@ with-linked setting course move sound next =
     (subst (λ n. n < setting.nodes) (sym next.from) (stop-inside setting course sound)) next.inside next.moving
     next.renewed next.weight (trail-linked setting course sound)
 
+-- the trail with one move more ends the course with it
+with-trail : (setting : Setting) (course : Course) (move : Move) → IsSound setting course
+    → since_top setting course ++ move ∷ [] ≡ drop (low_of setting course) (course.moves ++ move ∷ [])
+with-trail setting course move sound = sym (drop-append-le (low_of setting course) course.moves (move ∷ [])
+    (base-low setting course setting.top sound))
+
+pub with-stops : (setting : Setting) (course : Course) (move : Move) (i : ℕ) → IsSound setting course
+    → stop_at (first_of setting course) (since_top setting course ++ move ∷ []) i
+    ≡ stop_at course.start (course.moves ++ move ∷ []) (low_of setting course + i)
+with-stops setting course move i sound =
+    ap (λ n. stop_at n (since_top setting course ++ move ∷ []) i) first_same
+    ∙ (ap (λ ms. stop_at (stop_at course.start (course.moves ++ move ∷ []) (low_of setting course)) ms i)
+    (with-trail setting course move sound)
+    ∙ stop-drop course.start (course.moves ++ move ∷ []) (low_of setting course) i
+    (omega (arith, length-append course.moves (move ∷ []), base-low setting course setting.top sound)))
+  where
+    first_same : first_of setting course ≡ stop_at course.start (course.moves ++ move ∷ []) (low_of setting course)
+    first_same = sym (ap (λ xs. slice_index (course.start ∷ xs) (low_of setting course))
+        (map-append (λ (m : Move). m.to) course.moves (move ∷ []))
+        ∙ get_or_append_left (course.start ∷ map (λ (m : Move). m.to) course.moves) (move.to ∷ []) 0
+        (low_of setting course) (omega (
+          arith,
+          length-map course.moves (λ (m : Move). m.to),
+          base-low setting course setting.top sound,
+        )))
+
 module _ (setting : Setting) (course : Course) (move : Move) (marks : ℕ → PresenceMark)
     (sound : IsSound setting course) (next : IsNext setting course move)
     (marks_are : (v : ℕ) → v < setting.nodes → marks v ≡ mark_erasing setting course move [] v) where
@@ -302,32 +328,14 @@ module _ (setting : Setting) (course : Course) (move : Move) (marks : ℕ → Pr
       counted : length (since_top setting course ++ move ∷ []) ≡ suc (length (since_top setting course))
       counted = omega (arith, length-append (since_top setting course) (move ∷ []))
 
-      same : since_top setting course ++ move ∷ [] ≡ drop (low_of setting course) (course.moves ++ move ∷ [])
-      same = sym (drop-append-le (low_of setting course) course.moves (move ∷ [])
-          (base-low setting course setting.top sound))
-
-      first_same : first_of setting course ≡ stop_at course.start (course.moves ++ move ∷ []) (low_of setting course)
-      first_same = sym (ap (λ xs. slice_index (course.start ∷ xs) (low_of setting course))
-          (map-append (λ (m : Move). m.to) course.moves (move ∷ []))
-          ∙ get_or_append_left (course.start ∷ map (λ (m : Move). m.to) course.moves) (move.to ∷ []) 0
-          (low_of setting course) (omega (
-            arith,
-            length-map course.moves (λ (m : Move). m.to),
-            base-low setting course setting.top sound,
-          )))
-
       is_place : stop_at (first_of setting course) (since_top setting course ++ move ∷ []) (q - low_of setting course)
           ≡ v
-      is_place = ap (λ n. stop_at n (since_top setting course ++ move ∷ []) (q - low_of setting course)) first_same
-          ∙ (ap (λ ms. stop_at (stop_at course.start (course.moves ++ move ∷ []) (low_of setting course)) ms
-          (q - low_of setting course)) same
-          ∙ (stop-drop course.start (course.moves ++ move ∷ []) (low_of setting course) (q - low_of setting course)
-          (omega (arith, length-append course.moves (move ∷ []), base-low setting course setting.top sound))
-          ∙ (ap (stop_at course.start (course.moves ++ move ∷ [])) placed ∙ is_stop)))
+      is_place = with-stops setting course move (q - low_of setting course) sound
+          ∙ (ap (stop_at course.start (course.moves ++ move ∷ [])) placed ∙ is_stop)
 
       weights : weight_from (since_top setting course ++ move ∷ []) (q - low_of setting course)
           ≡ weight_from (course.moves ++ move ∷ []) q
-      weights = ap (λ ms. weight_from ms (q - low_of setting course)) same
+      weights = ap (λ ms. weight_from ms (q - low_of setting course)) (with-trail setting course move sound)
           ∙ ap (sum_by (λ (m : Move). m.weight)) (drop-more (low_of setting course) (q - low_of setting course)
           (course.moves ++ move ∷ []) ∙ ap (λ n. drop n (course.moves ++ move ∷ [])) placed)
 

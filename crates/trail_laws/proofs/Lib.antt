@@ -8,6 +8,7 @@ mod Views
 mod Chases
 mod Tells
 mod Leads
+mod Stops
 mod Prices
 mod Fine
 mod Lazy
@@ -30,4 +31,6 @@ mod RightLines
 mod Listed
 mod Ending
 mod Rising
+mod Behind
+mod Following
 mod InTurn

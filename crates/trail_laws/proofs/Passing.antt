@@ -2,16 +2,21 @@
 use Rattle.std.proofs.Common.{◌≡◌, ℕ, zero, suc, ◌+◌, ◌-◌, ◌≤◌, ◌^◌, Bool, true, false, cond, List, [], ◌∷◌, ◌++◌, Some, length, take, filter, refl, sym, ap, ◌∙◌, subst, arith, length-append}
 use Rattle.std.specs.Prelude.{slice_get}
 use Rattle.std.proofs.lemmas.List.{append-nil, length-take}
+use Rattle.std.proofs.lemmas.List.Elements.{filter-append}
+use Rattle.std.proofs.lemmas.List.Sums.{fold-append}
 use Rattle.entry_word.specs.declared.visit.Key.{Key}
 use Rattle.entry_word.specs.declared.visit.Visit.{Visit}
-use Rattle.directory.specs.Settings.{Setting}
+use Rattle.directory.specs.Settings.{Setting, start}
+use Rattle.directory.specs.Courses.{Course, Step, after_step, after_steps, course_at, move_to, next_move, switch_off, switch_on}
 use Rattle.directory.specs.Histories.{before, History, is_put_for, puts_to, through}
 use Rattle.directory.specs.Legal.{ArePuts, IsLegal}
 use Rattle.directory.specs.Looks.{look_by}
-use Rattle.directory.specs.Standing.{commits, number}
-use Rattle.directory.specs.StepLaws.{puts-push, take-more}
+use Rattle.directory.specs.Puts.{course_in, ends_off, steps_from, steps_in}
+use Rattle.directory.specs.Standing.{Commit, commits, number}
+use Rattle.directory.specs.StepLaws.{puts-push, steps-append, take-more}
 use Rattle.directory.specs.Statements.{FrontsAreLegal}
 use Rattle.directory.specs.HistoryLaws.{commits-append}
+use Rattle.trail_laws.specs.Phases.{moves_begun}
 
 filter-front : (p : Visit → Bool) (t : ℕ) (xs : List Visit)
     → filter p (take t xs) ≡ take (length (filter p (take t xs))) (filter p xs)
@@ -48,15 +53,53 @@ take-further k (suc t) (x ∷ xs) =
     let more = take-further k t xs in
     let e : k + suc t ≡ suc (k + t) = omega arith in (more.0, rw e (ap (λ zs. x ∷ zs) more.1))
 
+-- later commits only come behind
+pub commits-grow : (sub t u : ℕ) (history : History) → t ≤ u
+    → (more : List Commit) × (commits sub (take u history) ≡ commits sub (take t history) ++ more)
+commits-grow sub t u history h =
+    let more = take-further (u - t) t history in
+    let e : (u - t) + t ≡ u = omega arith in (
+      commits sub more.0,
+      ap (λ n. commits sub (take n history)) (sym e)
+          ∙ (ap (commits sub) more.1 ∙ commits-append sub (take t history) more.0),
+    )
+
 pub number-grows : (sub t u : ℕ) (history : History) → t ≤ u
     → number sub (take t history) ≤ number sub (take u history)
 number-grows sub t u history h =
+    let more = commits-grow sub t u history h in
+    omega (arith, ap length more.1, length-append (commits sub (take t history)) more.0)
+
+-- and so do moves that are begun later
+moves-kept : (setting : Setting) (course : Course) (steps : List Step)
+    → length course.moves ≤ length (after_steps setting course steps).moves
+moves-kept setting course [] = omega arith
+moves-kept setting course (move_to node ∷ steps) = omega (
+  arith,
+  length-append course.moves (next_move setting course node ∷ []),
+  moves-kept setting (after_step setting course (move_to node)) steps,
+)
+moves-kept setting course (switch_off ∷ steps) = moves-kept setting (after_step setting course switch_off) steps
+moves-kept setting course (switch_on ∷ steps) = moves-kept setting (after_step setting course switch_on) steps
+
+pub begun-grows : (setting : Setting) (sub t u : ℕ) (history : History) → t ≤ u
+    → moves_begun setting sub (take t history) ≤ moves_begun setting sub (take u history)
+begun-grows setting sub t u history h =
     let more = take-further (u - t) t history in
     let e : (u - t) + t ≡ u = omega arith in
-    let longer : commits sub (take u history) ≡ commits sub (take t history) ++ commits sub more.0 = ap
-    (λ n. commits sub (take n history)) (sym e) ∙ (ap (commits sub) more.1
-    ∙ commits-append sub (take t history) more.0) in
-    omega (arith, ap length longer, length-append (commits sub (take t history)) (commits sub more.0))
+    let puts : puts_to sub (take u history) ≡ puts_to sub (take t history) ++ puts_to sub more.0 =
+    ap (λ n. puts_to sub (take n history)) (sym e) ∙ (ap (puts_to sub) more.1
+    ∙ filter-append (λ (v : Visit). is_put_for sub v.act) (take t history) more.0) in
+    of_puts (puts_to sub (take u history)) (puts_to sub (take t history)) (puts_to sub more.0) puts
+  where
+    of_puts : (all xs ys : List Visit) → all ≡ xs ++ ys
+        → length (course_in setting sub xs).moves ≤ length (course_in setting sub all).moves
+    of_puts all xs ys same = subst (λ (c : Course). length (course_in setting sub xs).moves ≤ length c.moves)
+        (sym (ap (course_in setting sub) same
+        ∙ (ap (after_steps setting (course_at (start setting sub))) (steps-append false xs ys)
+        ∙ fold-append (after_step setting) (course_at (start setting sub)) (steps_in xs)
+        (steps_from (ends_off xs) ys))))
+        (moves-kept setting (course_in setting sub xs) (steps_from (ends_off xs) ys))
 
 -- after a look all is as before
 pub through-look : (actor : ℕ) (key : Key) (t : ℕ) (history : History)

@@ -2,19 +2,17 @@
 -- short.
 use Rattle.std.proofs.Common.{◌≡◌, ℕ, ◌+◌, ◌*◌, ◌<◌, ◌≤◌, List, [], ◌∷◌, ◌++◌, length, map, take, drop, refl, sym, ap, ◌∙◌, subst, arith, length-append}
 use Rattle.std.specs.Prelude.{sum_by}
-use Rattle.std.proofs.lemmas.List.{drop-append-le, length-map}
+use Rattle.std.proofs.lemmas.List.{drop-append-le}
 use Rattle.std.proofs.lemmas.List.Sums.{sum_by_push}
-use Rattle.entry_word.specs.declared.mark.PresenceMark.{PresenceMark}
-use Rattle.entry_word.specs.declared.mark.PresenceMark.TheVariants.{Coming}
 use Rattle.directory.specs.Settings.{Setting}
 use Rattle.directory.specs.Courses.{Move, Course, address_node, base, last_stop}
 use Rattle.directory.specs.Standing.{commit_by}
 use Rattle.trail_laws.specs.Trail.{HasMetric}
 use Rattle.trail_laws.proofs.Links.{IsSound, base-low, stop-inside}
-use Rattle.trail_laws.proofs.ClosedMarks.{IsNext, mark_passing}
+use Rattle.trail_laws.proofs.ClosedMarks.{IsNext}
 use Rattle.trail_laws.proofs.Chases.{way-short, weight_from, old-inside}
-use Rattle.trail_laws.proofs.Tells.{next-stands, rest-stands, stands}
-use Rattle.trail_laws.proofs.Leads.{passing-at_to, stop-end}
+use Rattle.trail_laws.proofs.Tells.{next-stands, stands}
+use Rattle.trail_laws.proofs.Leads.{stop-end}
 
 -- after each of these moves each level has gathered less than its threshold
 abbrev pub AreLazy : Setting → List Move → Type 0

@@ -1,7 +1,8 @@
--- Where a Gone leads, the number is higher: the marks of a trail rise from hop to hop.
-use Rattle.std.proofs.Common.{◌≡◌, ◌≢◌, ◌⊎◌, inl, inr, ℕ, zero, suc, ◌-◌, ◌<◌, ◌≤◌, ◌==◌, Bool, true, false, cond, List, [], ◌∷◌, ◌++◌, Option, Some, length, refl, sym, ap, ◌∙◌, subst, arith, eqb-true, eq-eqb}
-use Rattle.std.specs.Prelude.{slice_get}
-use Rattle.std.proofs.lemmas.Bool.{cases_eq}
+-- Where a subscriber was after so many commits, the number is no lower: so the marks of a trail rise from hop to hop.
+use Rattle.std.proofs.Common.{◌≡◌, ◌≢◌, ◌⊎◌, inl, inr, ℕ, ◌+◌, ◌-◌, ◌<◌, ◌≤◌, ◌^◌, ◌==◌, Bool, true, false, cond, List, [], ◌∷◌, ◌++◌, Option, length, length-append, map, refl, sym, ap, ◌∙◌, subst, arith, eqb-true, eq-eqb}
+use Rattle.std.proofs.lemmas.Bool.{cases_eq, cases_lt}
+use Rattle.std.proofs.lemmas.List.{length-map}
+use Rattle.std.proofs.lemmas.Option.{slice_get_within}
 use Rattle.std.proofs.lemmas.List.Sums.{fold-append}
 use Rattle.node_set.specs.Ascending.{has}
 use Rattle.entry_word.specs.declared.address.Address.{Address}
@@ -9,16 +10,18 @@ use Rattle.entry_word.specs.declared.mark.PresenceMark.{PresenceMark}
 use Rattle.entry_word.specs.declared.mark.PresenceMark.TheVariants.{Empty, Here, Gone, Coming, Off}
 use Rattle.directory.specs.Settings.{Setting, start}
 use Rattle.directory.specs.Courses.{Course, Move, last_stop}
-use Rattle.directory.specs.Histories.{puts_to}
+use Rattle.directory.specs.Histories.{History, puts_to}
+use Rattle.directory.specs.Legal.{IsLegal}
 use Rattle.directory.specs.Puts.{course_in}
-use Rattle.directory.specs.Standing.{Commit, commits, number, off}
+use Rattle.directory.specs.Standing.{Commit, commit_by, commits, number, off}
 use Rattle.trail_laws.specs.Trail.{GoesUp, MarksTell, MarkTells, NumbersGoUp, entry_seen, mark_seen}
 use Rattle.trail_laws.proofs.Links.{AreLinked, IsSound}
 use Rattle.trail_laws.proofs.ClosedMarks.{IsNext, mark_coming, mark_erasing, mark_passing, rest_mark, since_top, there, trail_mark, trail_mark-push}
-use Rattle.trail_laws.proofs.ClosedViews.{Phase, View, coming, passage, clearing, phase_mark}
+use Rattle.trail_laws.proofs.ClosedViews.{Phase, View, coming, passage, clearing, phase_commits, phase_mark}
 use Rattle.trail_laws.proofs.Chases.{IsLeft, last-left, stop_at}
-use Rattle.trail_laws.proofs.Leads.{first_of, low_of, stop-end, trail-ends, trail-linked, with-linked}
+use Rattle.trail_laws.proofs.Leads.{first_of, low_of, stop-end, trail-count, trail-ends, trail-linked, trail-stops, with-linked, with-stops}
 use Rattle.trail_laws.proofs.Laws.{HistoryView, Laws, view}
+use Rattle.trail_laws.proofs.Stops.{stop_after, stop-listed, stops-told}
 
 -- each Gone is that of the last of these moves that left its node, and there is none where they end
 record IsTrailOf (setting : Setting) (marks : ℕ → PresenceMark) (from number : ℕ) (moves : List Move) : Type 0 where
@@ -35,38 +38,34 @@ gone-node a b c d h = cc
 not-empty : (p w : ℕ) (mark : PresenceMark) → mark ≡ Empty → mark ≡ Gone p w → ⊥
 not-empty p w mark none h = let clash : Empty ≡ Gone p w = sym none ∙ h in cc
 
-rises : (setting : Setting) (marks : ℕ → PresenceMark) (from number : ℕ) (moves : List Move)
-    → IsTrailOf setting marks from number moves → (v p w q x : ℕ) → v < setting.nodes → w < setting.nodes
-    → marks v ≡ Gone p w → marks w ≡ Gone q x → p < q
-rises setting marks from number moves is v p w q x v_low w_low at_v at_w =
-    at_left (last-left setting from number moves v Empty is.linked)
-    (last-left setting from number moves w Empty is.linked)
+-- a Gone where these moves had stopped is that of a later move
+later : (setting : Setting) (marks : ℕ → PresenceMark) (from number : ℕ) (moves : List Move)
+    → IsTrailOf setting marks from number moves → (j w q x : ℕ) → w < setting.nodes
+    → j ≤ number + length moves → (number ≤ j → stop_at from moves (j - number) ≡ w) → marks w ≡ Gone q x → j < q
+later setting marks from number moves is j w q x low few stops at_w =
+    at_left (last-left setting from number moves w Empty is.linked)
   where
-    NotLeftAt : ℕ → Type 0
-    NotLeftAt u = (trail_mark moves u Empty ≡ Empty)
-        × ((i : ℕ) → i < length moves → stop_at from moves i ≡ u → ⊥)
+    at_left : ((trail_mark moves w Empty ≡ Empty) × ((i : ℕ) → i < length moves → stop_at from moves i ≡ w → ⊥))
+        ⊎ IsLeft setting from number moves w (trail_mark moves w Empty) → j < q
+    at_left (inl none) = absurd (not-empty q x (trail_mark moves w Empty) none.0 (is.gone w q x low at_w))
+    at_left (inr left) = at_place (cases_lt j number)
+      where
+        q_is : left.move.number ≡ q
+        q_is = gone-number _ _ q x (sym left.mark_is ∙ is.gone w q x low at_w)
 
-    LeftAt : ℕ → Type 0
-    LeftAt u = IsLeft setting from number moves u (trail_mark moves u Empty)
-
-    at_both : LeftAt v → LeftAt w → p < q
-    at_both one other =
-        let same_v = sym one.mark_is ∙ is.gone v p w v_low at_v in
-        let same_w = sym other.mark_is ∙ is.gone w q x w_low at_w in
-        let p_is = gone-number _ _ p w same_v in
-        let q_is = gone-number _ _ q x same_w in
-        let comes : stop_at from moves (suc one.place) ≡ w = one.goes_on ∙ gone-node _ _ p w same_v in
-        let inside : suc one.place < length moves = elim (cases_eq (suc one.place) (length moves)) [
-          | inl same ↦ absurd (is.ends w q x w_low at_w (sym comes ∙ ap (stop_at from moves) same))
-          | inr other_place ↦ omega (arith, one.within)
-        ] in
-        omega (arith, p_is, q_is, one.its_number, other.its_number, other.last (suc one.place) inside comes)
-
-    at_left : NotLeftAt v ⊎ LeftAt v → NotLeftAt w ⊎ LeftAt w → p < q
-    at_left (inl none) other = absurd (not-empty p w (trail_mark moves v Empty) none.0 (is.gone v p w v_low at_v))
-    at_left (inr one) (inl none) =
-        absurd (not-empty q x (trail_mark moves w Empty) none.0 (is.gone w q x w_low at_w))
-    at_left (inr one) (inr other) = at_both one other
+        at_place : (j < number) ⊎ (number ≤ j) → j < q
+        at_place (inl early) = omega (arith, early, q_is, left.its_number)
+        at_place (inr there) = at_end (cases_eq (j - number) (length moves))
+          where
+            at_end : ((j - number) ≡ length moves) ⊎ ((j - number) ≢ length moves) → j < q
+            at_end (inl end) = absurd (is.ends w q x low at_w (sym (stops there) ∙ ap (stop_at from moves) end))
+            at_end (inr other) = omega (
+              arith,
+              there,
+              q_is,
+              left.its_number,
+              left.last (j - number) (omega (arith, few, there, other)) (stops there),
+            )
 
 -- at rest, and in each phase of a move
 there-not : (course : Course) (p w : ℕ) → there course ≡ Gone p w → ⊥
@@ -141,18 +140,21 @@ with-end setting course move =
     stop-end (first_of setting course) (since_top setting course ++ move ∷ [])
     ∙ fold-append (λ node (m : Move). m.to) (first_of setting course) (since_top setting course) (move ∷ [])
 
--- the trail of a view
-record HasTrail (setting : Setting) (marks : ℕ → PresenceMark) : Type 0 where
+-- the trail of a view, which ends the commits
+record HasTrail (setting : Setting) (marks : ℕ → PresenceMark) (begin : ℕ) (commits : List Commit) : Type 0 where
   from : ℕ
   number : ℕ
   moves : List Move
   is : IsTrailOf setting marks from number moves
+  count : length commits ≡ number + length moves
+  stops : (j : ℕ) → number ≤ j → stop_at from moves (j - number) ≡ stop_after begin commits j
 
-short-trail : (setting : Setting) (course : Course) (marks : ℕ → PresenceMark) → IsSound setting course
+short-trail : (setting : Setting) (course : Course) (marks : ℕ → PresenceMark) (begin : ℕ) (commits : List Commit)
+    → IsSound setting course → course.start ≡ begin → commits ≡ map commit_by course.moves
     → ((v p w : ℕ) → v < setting.nodes → marks v ≡ Gone p w
     → (trail_mark (since_top setting course) v Empty ≡ Gone p w) × (v ≢ last_stop course))
-    → HasTrail setting marks
-short-trail setting course marks sound told = record {
+    → HasTrail setting marks begin commits
+short-trail setting course marks begin commits sound begins commits_are told = record {
   from = first_of setting course;
   number = low_of setting course;
   moves = since_top setting course;
@@ -161,14 +163,26 @@ short-trail setting course marks sound told = record {
     gone = λ v p w low h. (told v p w low h).0;
     ends = λ v p w low h same. (told v p w low h).1 (same ∙ trail-ends setting course sound);
   };
+  count = omega (
+    arith,
+    ap length commits_are,
+    length-map course.moves commit_by,
+    trail-count setting course sound,
+  );
+  stops = λ j h.
+      let placed : low_of setting course + (j - low_of setting course) ≡ j = omega (arith, h) in
+      trail-stops setting course (j - low_of setting course) sound
+      ∙ (ap (stop_at course.start course.moves) placed
+      ∙ stops-told begin course.start commits course.moves j begins commits_are);
 }
 
-long-trail : (setting : Setting) (course : Course) (move : Move) (marks : ℕ → PresenceMark) → IsSound setting course
-    → IsNext setting course move
+long-trail : (setting : Setting) (course : Course) (move : Move) (marks : ℕ → PresenceMark) (begin : ℕ)
+    (commits : List Commit) → IsSound setting course → IsNext setting course move → course.start ≡ begin
+    → commits ≡ map commit_by (course.moves ++ move ∷ [])
     → ((v p w : ℕ) → v < setting.nodes → marks v ≡ Gone p w
     → (trail_mark (since_top setting course ++ move ∷ []) v Empty ≡ Gone p w) × (v ≢ move.to))
-    → HasTrail setting marks
-long-trail setting course move marks sound next told = record {
+    → HasTrail setting marks begin commits
+long-trail setting course move marks begin commits sound next begins commits_are told = record {
   from = first_of setting course;
   number = low_of setting course;
   moves = since_top setting course ++ move ∷ [];
@@ -177,65 +191,80 @@ long-trail setting course move marks sound next told = record {
     gone = λ v p w low h. (told v p w low h).0;
     ends = λ v p w low h same. (told v p w low h).1 (same ∙ with-end setting course move);
   };
+  count = omega (
+    arith,
+    ap length commits_are,
+    length-map (course.moves ++ move ∷ []) commit_by,
+    length-append course.moves (move ∷ []),
+    length-append (since_top setting course) (move ∷ []),
+    trail-count setting course sound,
+  );
+  stops = λ j h.
+      let placed : low_of setting course + (j - low_of setting course) ≡ j = omega (arith, h) in
+      with-stops setting course move (j - low_of setting course) sound
+      ∙ (ap (stop_at course.start (course.moves ++ move ∷ [])) placed
+      ∙ stops-told begin course.start commits (course.moves ++ move ∷ []) j begins commits_are);
 }
 
 has-trail : (setting : Setting) (from : ℕ) (marks : ℕ → PresenceMark) (entries : ℕ → ℕ → Option Address)
     (commits : List Commit) (off : Bool) (moves : List Move) → View setting from marks entries commits off moves
-    → HasTrail setting marks
+    → HasTrail setting marks from commits
 has-trail setting from marks entries commits off moves (inl h) =
-    short-trail setting h.course marks h.sound
+    short-trail setting h.course marks from commits h.sound h.begins h.commits_are
     (λ v p w low is. rest-gone setting h.course v p w (sym (h.marks_are v low) ∙ is))
-has-trail setting from marks entries commits off moves (inr h) = at_phase h.phase h.marks_are
+has-trail setting from marks entries commits off moves (inr h) = at_phase h.phase h.marks_are h.commits_are
   where
     at_phase : (phase : Phase) → ((v : ℕ) → v < setting.nodes → marks v ≡ phase_mark setting h.course h.move phase v)
-        → HasTrail setting marks
-    at_phase (coming written) are = short-trail setting h.course marks h.sound
+        → commits ≡ phase_commits h.course h.move phase → HasTrail setting marks from commits
+    at_phase (coming written) are c = short-trail setting h.course marks from commits h.sound h.begins c
         (λ v p w low is. let rest = coming-gone setting h.course h.move v p w (sym (are v low) ∙ is) in
         (rest.0, rest.1))
-    at_phase passage are = long-trail setting h.course h.move marks h.sound h.next
+    at_phase passage are c = long-trail setting h.course h.move marks from commits h.sound h.next h.begins c
         (λ v p w low is. passing-gone setting h.course h.move v p w h.next (sym (are v low) ∙ is))
-    at_phase (clearing erased purged) are = long-trail setting h.course h.move marks h.sound h.next
+    at_phase (clearing erased purged) are c =
+        long-trail setting h.course h.move marks from commits h.sound h.next h.begins c
         (λ v p w low is. clearing-gone setting h.course h.move purged v p w h.next (sym (are v low) ∙ is))
 
-listed-few : (xs : List Commit) (i : ℕ) (x : Commit) → slice_get xs i ≡ Some x → i < length xs
-listed-few [] i x h = cc
-listed-few (y ∷ ys) zero x h = omega arith
-listed-few (y ∷ ys) (suc i) x h = omega (arith, listed-few ys i x h)
-
-pub numbers-go_up : Laws → MarksTell → NumbersGoUp
+-- where a subscriber was after so many commits, the number is no lower, and that of a Gone is higher
+pub stop-goes_up : Laws → MarksTell → (setting : Setting) (sub : ℕ) (history : History) → setting.nodes ≤ 2 ^ 16
+    → IsLegal setting sub history → (j w : ℕ) → j ≤ number sub history
+    → stop_after (start setting sub) (commits sub history) j ≡ w → w < setting.nodes
+    → GoesUp j (mark_seen setting sub history w)
 unfolding HistoryView
-numbers-go_up laws tells setting sub history low legal node p to inside is =
-    at_mark (mark_seen setting sub history to) refl (tells setting sub history low legal to to_low)
+stop-goes_up laws tells setting sub history low legal j w few stop inside =
+    at_mark (mark_seen setting sub history w) refl (tells setting sub history low legal w inside)
   where
-    its : MarkTells setting sub history node (Gone p to)
-    its = subst (MarkTells setting sub history node) is (tells setting sub history low legal node inside)
-
-    to_low : to < setting.nodes
-    to_low = its.2
-
-    few : p ≤ number sub history
-    few = omega (arith, its.0, listed-few (commits sub history) (p - 1) _ its.1)
-
-    trail : HasTrail setting (mark_seen setting sub history)
+    trail : HasTrail setting (mark_seen setting sub history) (start setting sub) (commits sub history)
     trail = has-trail setting (start setting sub) (mark_seen setting sub history) (entry_seen setting sub history)
         (commits sub history) (off sub history) (course_in setting sub (puts_to sub history)).moves
         (view laws setting sub history low legal)
 
-    at_mark : (mark : PresenceMark) → mark_seen setting sub history to ≡ mark → MarkTells setting sub history to
-        (mark_seen setting sub history to) → GoesUp p mark
+    at_mark : (mark : PresenceMark) → mark_seen setting sub history w ≡ mark
+        → MarkTells setting sub history w (mark_seen setting sub history w) → GoesUp j mark
     at_mark Empty e told = tt
     at_mark (Here q) e told =
-        let h : MarkTells setting sub history to (Here q) = subst (MarkTells setting sub history to) e told in
+        let h : MarkTells setting sub history w (Here q) = subst (MarkTells setting sub history w) e told in
         omega (arith, few, h.1)
     at_mark (Off q) e told =
-        let h : MarkTells setting sub history to (Off q) = subst (MarkTells setting sub history to) e told in
+        let h : MarkTells setting sub history w (Off q) = subst (MarkTells setting sub history w) e told in
         omega (arith, few, h.1)
     at_mark (Gone q x) e told =
-        rises setting (mark_seen setting sub history) trail.from trail.number trail.moves trail.is node p to q x inside
-        to_low is e
+        later setting (mark_seen setting sub history) trail.from trail.number trail.moves trail.is j w q x inside
+        (omega (arith, few, trail.count)) (λ h. trail.stops j h ∙ stop) e
     at_mark (Coming q u) e told =
-        let h : MarkTells setting sub history to (Coming q u) = subst (MarkTells setting sub history to) e told in
+        let h : MarkTells setting sub history w (Coming q u) = subst (MarkTells setting sub history w) e told in
         elim h.3 [
           | inl before ↦ omega (arith, few, before.0)
           | inr behind ↦ omega (arith, few, behind.0)
         ]
+
+pub numbers-go_up : Laws → MarksTell → NumbersGoUp
+numbers-go_up laws tells setting sub history low legal node p to inside is =
+    stop-goes_up laws tells setting sub history low legal p to few
+    (stop-listed (start setting sub) (commits sub history) p _ its.0 its.1) its.2
+  where
+    its : MarkTells setting sub history node (Gone p to)
+    its = subst (MarkTells setting sub history node) is (tells setting sub history low legal node inside)
+
+    few : p ≤ number sub history
+    few = omega (arith, its.0, slice_get_within (commits sub history) (p - 1) _ its.1)

@@ -16,7 +16,7 @@ use Rattle.trail_laws.proofs.Links.{stop-inside}
 use Rattle.trail_laws.proofs.Tells.{next-stands, rest-stands, stands}
 use Rattle.trail_laws.proofs.ClosedViews.{clearing, coming, passage as is_passage, Phase, phase_commits, View}
 use Rattle.trail_laws.proofs.Comings.{coming-leads_on}
-use Rattle.trail_laws.proofs.Laws.{HistoryView, Laws, placed, view}
+use Rattle.trail_laws.proofs.Laws.{HistoryView, Laws, view}
 use Rattle.trail_laws.proofs.Lazy.{legal-lazy}
 use Rattle.trail_laws.proofs.Nearby.{level-has}
 use Rattle.trail_laws.proofs.Passages.{coming-opens, PassageLaws}

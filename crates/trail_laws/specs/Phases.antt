@@ -2,14 +2,15 @@
 -- addresses then. Before the commit a move is begun that isn't committed; the passage is open from
 -- the commit to the confirm; after that the subscriber is settled, and it rests when it has nothing
 -- left to put. An address is current where the moves that are begun leave it to its level.
--- Key laws: `marks_lead_by_phase`, `rest_is_settled`, `phases_cover`.
+-- Key laws: `marks_lead_by_phase`, `rest_is_settled`, `phases_cover`, `coming_stands` (a move that
+-- isn't committed has its Coming where it goes).
 use Rattle.std.specs.Prelude.{◌≡◌, ◌≢◌, ◌⊎◌, ℕ, suc, ◌+◌, ◌*◌, ◌<◌, ◌≤◌, ◌^◌, [], length, Option, Some}
 use Rattle.entry_word.specs.declared.address.Address.{Address}
 use Rattle.entry_word.specs.declared.mark.PresenceMark.TheVariants.{Coming, Here, Off}
 use Rattle.directory.specs.Settings.{Setting}
 use Rattle.directory.specs.Histories.{History, puts_to}
-use Rattle.directory.specs.Courses.{base, last_stop}
-use Rattle.directory.specs.Puts.{course_in, puts_left}
+use Rattle.directory.specs.Courses.{base, last_stop, Move}
+use Rattle.directory.specs.Puts.{course_in, last_move, puts_left}
 use Rattle.directory.specs.Legal.{IsLegal}
 use Rattle.directory.specs.Standing.{number, off, standing}
 use Rattle.trail_laws.specs.Trail.{entry_seen, IsLed, HasMetric, KnowsAtMost, mark_seen}
@@ -109,3 +110,12 @@ PhasesCover =
     → IsLegal setting sub history
     → IsBeforeCommit setting sub history
     ⊎ (((from : ℕ) × IsPassingFrom setting sub history from) ⊎ IsSettled setting sub history)
+
+-- from when a move has put its Coming until its commit, that Coming stands where the move goes
+-- (`coming_stands`)
+abbrev pub ComingStands : Type 0
+ComingStands =
+    (setting : Setting) (sub : ℕ) (history : History) (move : Move) → setting.nodes ≤ 2 ^ 16
+    → IsLegal setting sub history → IsBeforeCommit setting sub history
+    → last_move setting sub (puts_to sub history) ≡ Some move
+    → mark_seen setting sub history move.to ≡ Coming move.number move.from

@@ -1,8 +1,11 @@
-//! Laws of answers.
+//! Laws of answers, and of what finds read on the way to them.
+ghost use Rattle.trail_laws.specs.Chased.{ChasesRise};
 ghost use Rattle.trail_laws.specs.Rightness.{AgainHasItsCause, AnswersAreRight, NumbersNeverFall, QuietFindsAnswer};
 
 use crate::marks::{entries_tell, marks_lead, marks_tell};
-use directory::{cell_of_puts, front_is_legal, read_of_legal, steps_begin_at_rest};
+use directory::{
+    cell_of_puts, front_is_legal, legal_is_amid, read_of_legal, steps_begin_at_rest, told_by_writes,
+};
 
 /// A find that answers names the node where its subscriber stands at the find's last look, its
 /// number, and whether it is off.
@@ -36,4 +39,18 @@ pub fn again_has_its_cause()
     front_is_legal();
     read_of_legal();
     steps_begin_at_rest();
+}
+
+/// Along the chase of a find, whatever visits fall between its looks, no mark has a lower number
+/// than the one before, but for a Here to which a Coming leads back; and the numbers of the Gones
+/// rise.
+pub fn chases_rise()
+    ensures { ChasesRise }
+{
+    marks_tell();
+    entries_tell();
+    front_is_legal();
+    legal_is_amid();
+    read_of_legal();
+    told_by_writes();
 }

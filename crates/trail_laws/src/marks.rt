@@ -1,4 +1,5 @@
 //! Laws of marks and addresses.
+ghost use Rattle.trail_laws.specs.Phases.{ComingStands};
 ghost use Rattle.trail_laws.specs.Trail.{AddressesLead, ComingsLead, EntriesTell, MarksTell, NumbersGoUp, OneComing, TopHasEntry};
 
 use directory::{legal_is_amid, read_of_legal, told_by_writes};
@@ -8,6 +9,16 @@ use directory::{legal_is_amid, read_of_legal, told_by_writes};
 pub fn marks_tell()
     ensures marks { MarksTell }
     ensures one { OneComing }
+{
+    legal_is_amid();
+    read_of_legal();
+    told_by_writes();
+}
+
+/// From a move's first put to its commit, its Coming stands at the node where it goes, so that a
+/// find that looks there is led back to where the subscriber still stands.
+pub fn coming_stands()
+    ensures { ComingStands }
 {
     legal_is_amid();
     read_of_legal();

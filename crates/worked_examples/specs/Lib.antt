@@ -1,3 +1,4 @@
+pub mod Chases
 pub mod Examples
 pub mod Faults
 pub mod Grammar

@@ -5,6 +5,7 @@
 mod calls;
 mod cells;
 mod censuses;
+mod chases;
 mod closing;
 mod costs;
 mod faults;
@@ -24,6 +25,7 @@ mod wrong;
 pub use calls::{wrong_additions, wrong_answers, wrong_finds, wrong_steps, wrong_stops};
 pub use cells::{worked_cells, worked_words};
 pub use censuses::worked_censuses;
+pub use chases::{worked_chases, wrong_chases};
 pub use closing::{wrong_causes, wrong_orders};
 pub use costs::{worked_climbs, worked_costs, wrong_costs};
 pub use faults::{worked_move_faults, worked_switch_faults, wrong_find_faults, wrong_move_faults};

@@ -1,17 +1,19 @@
 //! What the laws of marks and of phases say of the line of four, and the phases of its move from
 //! node 3 to node 2.
-ghost use Rattle.std.specs.Prelude.{◌≡◌, ◌<◌, ◌≤◌, [], ◌∷◌, ℕ};
+ghost use Rattle.std.specs.Prelude.{◌≡◌, ◌<◌, ◌≤◌, [], ◌∷◌, Some, ℕ};
 ghost use Rattle.entry_word.specs.declared.mark.PresenceMark.TheVariants.{Coming, Gone, Here, Off};
 ghost use Rattle.directory.specs.Courses.{move_to};
-ghost use Rattle.directory.specs.Histories.{History, before};
+ghost use Rattle.directory.specs.Histories.{History, before, puts_to};
 ghost use Rattle.directory.specs.Legal.{IsLegal};
+ghost use Rattle.directory.specs.Puts.{last_move};
 ghost use Rattle.directory.specs.Writes.{visits};
 ghost use Rattle.region_plan.specs.Examples.{line_setting};
-ghost use Rattle.trail_laws.specs.Phases.{IsAtRest, IsBeforeCommit, IsPassingFrom, IsSettled, PhasesCover};
+ghost use Rattle.trail_laws.specs.Phases.{ComingStands, IsAtRest, IsBeforeCommit, IsPassingFrom, IsSettled, PhasesCover};
 ghost use Rattle.trail_laws.specs.Trail.{GoesUp, NumbersGoUp, OneComing};
 ghost use Rattle.worked_examples.specs.Trails.{line_mark};
 
-/// After a legal history of the subscriber: where a Coming is at node 2, none is elsewhere; behind
+/// After a legal history of the subscriber: where a Coming is at node 2, none is elsewhere; where
+/// its fourth move is begun, from node 3 to node 2, and not committed, that Coming is there; behind
 /// a Gone with number 4 that leads to node 2, the mark there has no lower number, and a Gone a
 /// higher one; and where no move waits for its commit and no passage is open, the subscriber is
 /// settled.
@@ -19,6 +21,11 @@ pub fn worked_trails()
     ensures one { OneComing → (history : History) → IsLegal line_setting 0 history
         → (other p q u v : ℕ) → other < 4 → line_mark history 2 ≡ Coming p u
         → line_mark history other ≡ Coming q v → 2 ≡ other }
+    ensures begun { ComingStands → (history : History) → IsLegal line_setting 0 history
+        → IsBeforeCommit line_setting 0 history → (weight renewed : ℕ)
+        → last_move line_setting 0 (puts_to 0 history)
+        ≡ Some (record { number = 4; from = 3; to = 2; weight = weight; renewed = renewed })
+        → line_mark history 2 ≡ Coming 4 3 }
     ensures there { NumbersGoUp → (history : History) → IsLegal line_setting 0 history
         → (number : ℕ) → line_mark history 3 ≡ Gone 4 2 → line_mark history 2 ≡ Here number
         → 4 ≤ number }
@@ -36,6 +43,10 @@ pub fn worked_trails()
 pub fn worked_phases()
     ensures begun { IsBeforeCommit line_setting 0
         (before 3 (visits line_setting 0 (move_to 2 ∷ []))) }
+    ensures comes { line_mark (before 3 (visits line_setting 0 (move_to 2 ∷ []))) 2
+        ≡ Coming 1 3 }
+    ensures came { line_mark (before 5 (visits line_setting 0 (move_to 2 ∷ []))) 2
+        ≡ Coming 1 3 → ⊥ }
     ensures unbegun { IsBeforeCommit line_setting 0 [] → ⊥ }
     ensures committed { IsBeforeCommit line_setting 0
         (before 4 (visits line_setting 0 (move_to 2 ∷ []))) → ⊥ }

@@ -21,6 +21,14 @@ pub returns-clause-begun : goal.returns-clause-begun
 unfolding writes highest steps_from
 returns-clause-begun c = refl
 
+pub returns-clause-comes : goal.returns-clause-comes
+unfolding writes highest steps_from
+returns-clause-comes c = refl
+
+pub returns-clause-came : goal.returns-clause-came
+unfolding writes highest steps_from
+returns-clause-came c = λ comes. here-no 1 1 3 comes
+
 pub returns-clause-unbegun : goal.returns-clause-unbegun
 unfolding writes highest steps_from
 returns-clause-unbegun c = λ begun. let e : ◌≡◌ {A = ℕ} 0 1 = begun in omega (arith, e)

@@ -7,6 +7,10 @@ pub returns-clause-one : goal.returns-clause-one
 returns-clause-one c = λ law history legal other p q u v below here there.
     law line_setting 0 history (omega arith) legal 2 other p q u v (omega arith) below here there
 
+pub returns-clause-begun : goal.returns-clause-begun
+returns-clause-begun c = λ law history legal early weight renewed last.
+    law line_setting 0 history _ (omega arith) legal early last
+
 pub returns-clause-there : goal.returns-clause-there
 returns-clause-there c = λ law history legal number gone there.
     subst (GoesUp 4) there (law line_setting 0 history (omega arith) legal 3 4 2 (omega arith) gone)

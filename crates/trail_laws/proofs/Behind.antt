@@ -1,0 +1,167 @@
+-- What the marks that a chase has read leave for the next one, and what follows for the whole list. Each is read where
+-- the subscriber was after so many of its commits, and that stays so.
+use Rattle.std.proofs.Common.{◌≡◌, ◌⊎◌, inl, inr, ℕ, ◌-◌, ◌≤◌, false, List, [], ◌∷◌, ◌++◌, Option, refl, sym, ap, ◌∙◌, subst, arith}
+use Rattle.std.specs.Prelude.{filter_map}
+use Rattle.node_set.specs.Ascending.{IsAscending, IsBelowAll}
+use Rattle.entry_word.specs.declared.mark.PresenceMark.{PresenceMark}
+use Rattle.entry_word.specs.declared.mark.PresenceMark.TheVariants.{Empty, Here, Gone, Coming, Off}
+use Rattle.directory.specs.Settings.{Setting, start}
+use Rattle.directory.specs.Histories.{before, History}
+use Rattle.directory.specs.Finds.{after_word, at_origin, chases, climbs, ended, FindCall, is_known, Stage}
+use Rattle.directory.specs.Standing.{Commit, commits, number}
+use Rattle.trail_laws.specs.Trail.{GoesUp}
+use Rattle.trail_laws.specs.Phases.{moves_begun}
+use Rattle.trail_laws.specs.Chased.{FollowOn, GoesBack, gone_number, mark_chased, marks_chased}
+use Rattle.trail_laws.proofs.Stops.{stop_after, stop-kept}
+use Rattle.trail_laws.proofs.Passing.{begun-grows, commits-grow, number-grows}
+
+-- what the marks that were read leave for the next one: after how many commits the subscriber was at its node, a number
+-- that was begun, and that of the last Gone
+pub record Behind : Type 0 where
+  pub place : ℕ
+  pub begun : ℕ
+  pub gone : ℕ
+
+abbrev pub nothing : Behind
+nothing = record { place = 0; begun = 0; gone = 0 }
+
+pub record IsBehind (setting : Setting) (sub : ℕ) (seen : History) (behind : Behind) (known : Option ℕ) (node : ℕ)
+    : Type 0 where
+  pub few : behind.place ≤ number sub seen
+  pub stop : (behind.place ≡ 0) ⊎ (stop_after (start setting sub) (commits sub seen) behind.place ≡ node)
+  pub early : behind.begun ≤ moves_begun setting sub seen
+  pub rises : behind.gone ≤ behind.place
+  pub fresh : (p : ℕ) → is_known p known ≡ false → behind.gone ≤ p - 1
+
+behind-nothing : (setting : Setting) (sub : ℕ) (seen : History) (known : Option ℕ) (node : ℕ)
+    → IsBehind setting sub seen nothing known node
+behind-nothing setting sub seen known node = record {
+  few = omega arith;
+  stop = inl refl;
+  early = omega arith;
+  rises = omega arith;
+  fresh = λ p h. omega arith;
+}
+
+-- it stays so
+pub behind-later : (setting : Setting) (sub t u : ℕ) (history : History) (behind : Behind) (known : Option ℕ) (node : ℕ)
+    → t ≤ u → IsBehind setting sub (before t history) behind known node
+    → IsBehind setting sub (before u history) behind known node
+behind-later setting sub t u history behind known node h is = record {
+  few = omega (arith, is.few, number-grows sub t u history h);
+  stop = at_stop is.stop;
+  early = omega (arith, is.early, begun-grows setting sub t u history h);
+  rises = is.rises;
+  fresh = is.fresh;
+}
+  where
+    at_stop : (behind.place ≡ 0)
+        ⊎ (stop_after (start setting sub) (commits sub (before t history)) behind.place ≡ node)
+        → (behind.place ≡ 0)
+        ⊎ (stop_after (start setting sub) (commits sub (before u history)) behind.place ≡ node)
+    at_stop (inl none) = inl none
+    at_stop (inr stop) =
+        let more = commits-grow sub t u history h in
+        inr (ap (λ (cs : List Commit). stop_after (start setting sub) cs behind.place) more.1
+        ∙ (stop-kept (start setting sub) (commits sub (before t history)) more.0 behind.place is.few ∙ stop))
+
+-- what is known at a stage
+abbrev pub IsTracked : Setting → ℕ → History → Behind → Stage → Type 0
+IsTracked setting sub seen behind at_origin = behind ≡ nothing
+IsTracked setting sub seen behind (climbs known weight reader later) = behind ≡ nothing
+IsTracked setting sub seen behind (chases chase node) = IsBehind setting sub seen behind chase.known node
+IsTracked setting sub seen behind (ended found) = Unit {0}
+
+pub tracked-nothing : (setting : Setting) (sub : ℕ) (seen : History) (stage : Stage)
+    → IsTracked setting sub seen nothing stage
+tracked-nothing setting sub seen at_origin = refl
+tracked-nothing setting sub seen (climbs known weight reader later) = refl
+tracked-nothing setting sub seen (chases chase node) = behind-nothing setting sub seen chase.known node
+tracked-nothing setting sub seen (ended found) = tt
+
+-- a mark fits what is behind it
+abbrev pub IsBegun : ℕ → PresenceMark → Type 0
+IsBegun n Empty = Unit {0}
+IsBegun n (Here q) = Unit {0}
+IsBegun n (Gone q to) = Unit {0}
+IsBegun n (Coming q from) = n ≤ q
+IsBegun n (Off q) = n ≤ q
+
+abbrev pub HeadFits : ℕ → ℕ → List PresenceMark → Type 0
+HeadFits place begun [] = Unit {0}
+HeadFits place begun (mark ∷ later) = GoesUp place mark × IsBegun begun mark
+
+-- marks that a chase reads behind others
+pub record Rises (behind : Behind) (marks : List PresenceMark) : Type 0 where
+  pub head : HeadFits behind.place behind.begun marks
+  pub on : FollowOn marks
+  pub above : IsBelowAll behind.gone (filter_map gone_number marks)
+  pub ascends : IsAscending (filter_map gone_number marks)
+
+pub none-rise : (behind : Behind) → Rises behind []
+none-rise behind = record { head = tt; on = tt; above = tt; ascends = tt }
+
+below-less : (a b : ℕ) (xs : List ℕ) → a ≤ b → IsBelowAll b xs → IsBelowAll a xs
+below-less a b [] h all = tt
+below-less a b (x ∷ xs) h all = (omega (arith, h, all.0), below-less a b xs h all.1)
+
+goes-back : (p : ℕ) (mark : PresenceMark) → GoesUp (p - 1) mark → IsBegun p mark → GoesBack p mark
+goes-back p Empty up begun = tt
+goes-back p (Here q) up begun = omega (arith, up)
+goes-back p (Gone q to) up begun = omega (arith, up)
+goes-back p (Coming q from) up begun = begun
+goes-back p (Off q) up begun = begun
+
+-- what a mark leaves for the next one
+abbrev pub after_gone : ℕ → Behind
+after_gone p = record { place = p; begun = p; gone = p }
+
+abbrev pub after_coming : Behind → ℕ → Behind
+after_coming behind p = record { place = p - 1; begun = p; gone = behind.gone }
+
+abbrev pub Continues : Behind → PresenceMark → List PresenceMark → Type 0
+Continues behind Empty later = later ≡ []
+Continues behind (Here q) later = later ≡ []
+Continues behind (Gone q to) later = Rises (after_gone q) later
+Continues behind (Coming q from) later = Rises (after_coming behind q) later
+Continues behind (Off q) later = later ≡ []
+
+pub one-more : (behind : Behind) (mark : PresenceMark) (later : List PresenceMark) → behind.gone ≤ behind.place
+    → GoesUp behind.place mark → IsBegun behind.begun mark → Continues behind mark later
+    → Rises behind (mark ∷ later)
+one-more behind Empty later low up begun none = subst (λ l. Rises behind (Empty ∷ l)) (sym none)
+    (record { head = (tt, tt); on = tt; above = tt; ascends = tt })
+one-more behind (Here q) later low up begun none = subst (λ l. Rises behind (Here q ∷ l)) (sym none)
+    (record { head = (up, tt); on = tt; above = tt; ascends = tt })
+one-more behind (Off q) later low up begun none = subst (λ l. Rises behind (Off q ∷ l)) (sym none)
+    (record { head = (up, begun); on = tt; above = tt; ascends = tt })
+one-more behind (Gone q to) later low up begun rest = record {
+  head = (up, tt);
+  on = joined later rest.head rest.on;
+  above = (omega (arith, low, up), below-less behind.gone q _ (omega (arith, low, up)) rest.above);
+  ascends = (rest.above, rest.ascends);
+}
+  where
+    joined : (marks : List PresenceMark) → HeadFits q q marks → FollowOn marks → FollowOn (Gone q to ∷ marks)
+    joined [] head on = tt
+    joined (next ∷ more) head on = (head.0, on)
+one-more behind (Coming q from) later low up begun rest = record {
+  head = (up, begun);
+  on = joined later rest.head rest.on;
+  above = rest.above;
+  ascends = rest.ascends;
+}
+  where
+    joined : (marks : List PresenceMark) → HeadFits (q - 1) q marks → FollowOn marks
+        → FollowOn (Coming q from ∷ marks)
+    joined [] head on = tt
+    joined (next ∷ more) head on = (goes-back q next head.0 head.1, on)
+
+-- no mark is read after the end
+pub ended-none : (setting : Setting) (call : FindCall) (stage : Stage) (words : List ℕ)
+    → ((word : ℕ) → (mark_chased stage word ≡ []) × (after_word setting call stage word ≡ stage))
+    → marks_chased setting call stage words ≡ []
+ended-none setting call stage [] still = refl
+ended-none setting call stage (word ∷ words) still =
+    ap (λ ms. ms ++ marks_chased setting call (after_word setting call stage word) words) (still word).0
+    ∙ (ap (λ s. marks_chased setting call s words) (still word).1 ∙ ended-none setting call stage words still)

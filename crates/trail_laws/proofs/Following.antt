@@ -1,0 +1,321 @@
+-- How the marks of a chase follow one another, by the looks of a find: what a Gone or a Coming tells of the node where
+-- it leads holds at every later look.
+use Rattle.std.proofs.Common.{◌≡◌, ◌⊎◌, inl, inr, ℕ, zero, suc, ◌-◌, ◌<◌, ◌≤◌, ◌^◌, max, Bool, true, false, cond, List, [], ◌∷◌, ◌++◌, Option, Some, None, length, refl, sym, ap, ◌∙◌, subst, arith}
+use Rattle.std.specs.Prelude.{flat_map}
+use Rattle.std.proofs.lemmas.Bool.Decides.{nat_tests}
+use Rattle.std.proofs.lemmas.List.{length-map}
+use Rattle.entry_word.specs.Marks.{mark_in}
+use Rattle.entry_word.specs.declared.address.Address.{Address}
+use Rattle.entry_word.specs.declared.mark.PresenceMark.{PresenceMark}
+use Rattle.entry_word.specs.declared.mark.PresenceMark.TheVariants.{Empty, Here, Gone, Coming, Off}
+use Rattle.entry_word.specs.declared.visit.Key.{Key}
+use Rattle.entry_word.specs.declared.visit.Key.TheVariants.{Presence}
+use Rattle.directory.specs.Settings.{Setting, start}
+use Rattle.directory.specs.Histories.{before, cell, History, puts_to, words_at, words_by}
+use Rattle.directory.specs.Courses.{Move}
+use Rattle.directory.specs.Puts.{course_in}
+use Rattle.directory.specs.Legal.{IsLegal}
+use Rattle.directory.specs.Finds.{after_mark, after_word, at_origin, Chase, chases, climbs, ended, FindCall, hop, is_known, key_of, known_with, Stage}
+use Rattle.directory.specs.Looks.{AreLooks}
+use Rattle.directory.specs.Standing.{Commit, commit_by, commits, number, off, standing}
+use Rattle.directory.specs.Statements.{FrontsAreLegal}
+use Rattle.directory.specs.declared.answers.Found.{Found}
+use Rattle.directory.specs.declared.answers.Found.TheVariants.{At, Off as OffAt, Again}
+use Rattle.directory.specs.declared.answers.Why.TheVariants.{Empty as EmptyAt, Chased}
+use Rattle.trail_laws.proofs.Covering.{view-counts}
+use Rattle.trail_laws.specs.Trail.{EntriesTell, entry_seen, GoesUp, mark_seen, MarksTell, MarkTells}
+use Rattle.trail_laws.specs.Phases.{moves_begun}
+use Rattle.trail_laws.specs.Chased.{ChasesRise, marks_chased}
+use Rattle.trail_laws.proofs.ClosedViews.{View}
+use Rattle.trail_laws.proofs.Laws.{HistoryView, Laws, view}
+use Rattle.trail_laws.proofs.Stops.{stop_after, stop-last, stop-left, stop-listed}
+use Rattle.trail_laws.proofs.Passing.{front-legal, number-grows}
+use Rattle.trail_laws.proofs.Rising.{stop-goes_up}
+use Rattle.trail_laws.proofs.Right.{gone-known, IsGood, IsSafe, look-good, safe-later}
+use Rattle.trail_laws.proofs.Behind.{after_coming, after_gone, Behind, behind-later, Continues, ended-none, IsBegun, IsBehind, IsTracked, none-rise, nothing, one-more, Rises, tracked-nothing}
+
+-- what is taken from the laws of marks and of fronts
+pub record ChaseLaws : Type 0 where
+  pub cells : Laws
+  pub marks : MarksTell
+  pub entries : EntriesTell
+  pub fronts : FrontsAreLegal
+
+-- what the counts of a legal history tell
+counted : Laws → (setting : Setting) (sub : ℕ) (history : History) → setting.nodes ≤ 2 ^ 16
+    → IsLegal setting sub history
+    → (moves_begun setting sub history ≡ suc (number sub history)) ⊎ (moves_begun setting sub history
+    ≡ number sub history)
+unfolding HistoryView
+counted laws setting sub history low legal =
+    view-counts setting (start setting sub) (mark_seen setting sub history) (entry_seen setting sub history)
+    (commits sub history) (off sub history) (course_in setting sub (puts_to sub history)).moves
+    (view laws setting sub history low legal)
+
+number-few : Laws → (setting : Setting) (sub : ℕ) (history : History) → setting.nodes ≤ 2 ^ 16
+    → IsLegal setting sub history → number sub history ≤ moves_begun setting sub history
+number-few laws setting sub history low legal = elim (counted laws setting sub history low legal) [
+  | inl more ↦ omega (arith, more)
+  | inr same ↦ omega (arith, same)
+]
+
+off-counts : (setting : Setting) (from : ℕ) (marks : ℕ → PresenceMark) (entries : ℕ → ℕ → Option Address)
+    (commits : List Commit) (off : Bool) (moves : List Move) → View setting from marks entries commits off moves
+    → off ≡ true → length moves ≡ length commits
+off-counts setting from marks entries commits off moves (inl h) e = omega (
+  arith,
+  ap length h.moves_are,
+  ap length h.commits_are,
+  length-map h.course.moves commit_by,
+)
+off-counts setting from marks entries commits off moves (inr h) e =
+    let clash : true ≡ false = sym e ∙ h.off_is in cc
+
+off-rests : Laws → (setting : Setting) (sub : ℕ) (history : History) → setting.nodes ≤ 2 ^ 16
+    → IsLegal setting sub history → off sub history ≡ true → moves_begun setting sub history ≡ number sub history
+unfolding HistoryView
+off-rests laws setting sub history low legal e =
+    off-counts setting (start setting sub) (mark_seen setting sub history) (entry_seen setting sub history)
+    (commits sub history) (off sub history) (course_in setting sub (puts_to sub history)).moves
+    (view laws setting sub history low legal) e
+
+-- the mark that a chase reads fits what is behind it
+zero-up : (setting : Setting) (sub : ℕ) (seen : History) (node : ℕ) (mark : PresenceMark)
+    → MarkTells setting sub seen node mark → GoesUp 0 mark
+zero-up setting sub seen node Empty tells = tt
+zero-up setting sub seen node (Here q) tells = omega arith
+zero-up setting sub seen node (Gone q to) tells = tells.0
+zero-up setting sub seen node (Coming q from) tells = omega arith
+zero-up setting sub seen node (Off q) tells = omega arith
+
+fits-up : ChaseLaws → (setting : Setting) (sub : ℕ) (seen : History) (behind : Behind) (known : Option ℕ) (node : ℕ)
+    → setting.nodes ≤ 2 ^ 16 → IsLegal setting sub seen → node < setting.nodes
+    → IsBehind setting sub seen behind known node → GoesUp behind.place (mark_seen setting sub seen node)
+fits-up laws setting sub seen behind known node low legal inside is = at_stop is.stop
+  where
+    at_stop : (behind.place ≡ 0) ⊎ (stop_after (start setting sub) (commits sub seen) behind.place ≡ node)
+        → GoesUp behind.place (mark_seen setting sub seen node)
+    at_stop (inl none) = subst (λ j. GoesUp j (mark_seen setting sub seen node)) (sym none)
+        (zero-up setting sub seen node (mark_seen setting sub seen node)
+        (laws.marks setting sub seen low legal node inside))
+    at_stop (inr stop) = stop-goes_up laws.cells laws.marks setting sub seen low legal behind.place node is.few stop
+        inside
+
+fits-begun : ChaseLaws → (setting : Setting) (sub : ℕ) (seen : History) (n node : ℕ) (mark : PresenceMark)
+    → setting.nodes ≤ 2 ^ 16 → IsLegal setting sub seen → n ≤ moves_begun setting sub seen
+    → MarkTells setting sub seen node mark → IsBegun n mark
+fits-begun laws setting sub seen n node Empty low legal early tells = tt
+fits-begun laws setting sub seen n node (Here q) low legal early tells = tt
+fits-begun laws setting sub seen n node (Gone q to) low legal early tells = tt
+fits-begun laws setting sub seen n node (Coming q from) low legal early tells = omega (arith, early, tells.0)
+fits-begun laws setting sub seen n node (Off q) low legal early tells =
+    omega (arith, early, tells.1, off-rests laws.cells setting sub seen low legal tells.2)
+
+-- where a Gone and a Coming lead
+unknown : (p q : ℕ) (known : Option ℕ) → is_known q (known_with p known) ≡ false → p ≤ q - 1
+unknown p q None h = let more : p < q = grind (arith, nat_tests, h) in omega (arith, more)
+unknown p q (Some k) h = let more : max k p < q = grind (arith, nat_tests, h) in omega (arith, more)
+
+gone-leads : ChaseLaws → (setting : Setting) (sub : ℕ) (seen : History) (known : Option ℕ) (node p to : ℕ)
+    → setting.nodes ≤ 2 ^ 16 → IsLegal setting sub seen → MarkTells setting sub seen node (Gone p to)
+    → IsBehind setting sub seen (after_gone p) (known_with p known) to
+gone-leads laws setting sub seen known node p to low legal tells = record {
+  few = gone-known setting sub seen node p to tells;
+  stop = inr (stop-listed (start setting sub) (commits sub seen) p _ tells.0 tells.1);
+  early = omega (
+    arith,
+    gone-known setting sub seen node p to tells,
+    number-few laws.cells setting sub seen low legal,
+  );
+  rises = omega arith;
+  fresh = λ q h. unknown p q known h;
+}
+
+coming-leads : ChaseLaws → (setting : Setting) (sub : ℕ) (seen : History) (behind : Behind) (known : Option ℕ)
+    (node p from : ℕ) → setting.nodes ≤ 2 ^ 16 → IsLegal setting sub seen
+    → MarkTells setting sub seen node (Coming p from) → IsBehind setting sub seen behind known node
+    → is_known p known ≡ false → IsBehind setting sub seen (after_coming behind p) known from
+unfolding HistoryView
+coming-leads laws setting sub seen behind known node p from low legal tells is new = record {
+  few = few tells.3;
+  stop = inr (stop tells.3);
+  early = omega (arith, tells.0);
+  rises = is.fresh p new;
+  fresh = is.fresh;
+}
+  where
+    few : ((p ≡ suc (number sub seen)) × (from ≡ standing setting sub seen))
+        ⊎ ((p ≡ number sub seen) × (node ≡ standing setting sub seen) × (mark_seen setting sub seen from ≡ Gone p node))
+        → p - 1 ≤ number sub seen
+    few (inl early) = omega (arith, early.0)
+    few (inr late) = omega (arith, late.0)
+
+    stop : ((p ≡ suc (number sub seen)) × (from ≡ standing setting sub seen))
+        ⊎ ((p ≡ number sub seen) × (node ≡ standing setting sub seen) × (mark_seen setting sub seen from ≡ Gone p node))
+        → stop_after (start setting sub) (commits sub seen) (p - 1) ≡ from
+    stop (inl early) =
+        let e : p - 1 ≡ length (commits sub seen) = omega (arith, early.0) in
+        ap (stop_after (start setting sub) (commits sub seen)) e
+        ∙ (stop-last (start setting sub) (commits sub seen) ∙ sym early.1)
+    stop (inr late) =
+        let gone : MarkTells setting sub seen from (Gone p node) = subst (MarkTells setting sub seen from) late.2
+        (laws.marks setting sub seen low legal from tells.1) in
+        stop-left setting (start setting sub) (mark_seen setting sub seen) (entry_seen setting sub seen)
+        (commits sub seen) (off sub seen) (course_in setting sub (puts_to sub seen)).moves
+        (view laws.cells setting sub seen low legal) (p - 1) _ gone.1
+
+-- one look of a chase
+module _ (laws : ChaseLaws) (setting : Setting) (history : History) (call : FindCall) (t : ℕ) (chase : Chase)
+    (node : ℕ) (words : List ℕ) (behind : Behind) (low : setting.nodes ≤ 2 ^ 16)
+    (legal : IsLegal setting call.sub (before t history))
+    (is : IsBehind setting call.sub (before t history) behind chase.known node) where
+  abbrev pub Later : Stage → Type 0
+  Later stage = (b : Behind) → IsTracked setting call.sub (before (suc t) history) b stage
+      → Rises b (marks_chased setting call stage words)
+
+  ended-so : (found : Found) → marks_chased setting call (ended found) words ≡ []
+  ended-so found = ended-none setting call (ended found) words (λ word. (refl, refl))
+
+  hop-rises : (known level : Option ℕ) (weight left to : ℕ) (b : Behind)
+      → IsBehind setting call.sub (before t history) b known to
+      → Later (hop setting known level weight left node to)
+      → Rises b (marks_chased setting call (hop setting known level weight left node to) words)
+  hop-rises known level weight zero to b its more = subst (Rises b)
+      (sym (ended-so (Again Chased weight))) (none-rise b)
+  hop-rises known level weight (suc left) to b its more = more b
+      (behind-later setting call.sub t (suc t) history b known to (omega arith) its)
+
+  continues : (mark : PresenceMark) → MarkTells setting call.sub (before t history) node mark
+      → Later (after_mark setting chase node mark)
+      → Continues behind mark (marks_chased setting call (after_mark setting chase node mark) words)
+  continues Empty tells more = ended-so (Again (EmptyAt node) chase.weight)
+  continues (Here q) tells more = ended-so (At node q chase.level chase.weight)
+  continues (Off q) tells more = ended-so (OffAt node q chase.level chase.weight)
+  continues (Gone q to) tells more = hop-rises (known_with q chase.known) chase.level chase.weight chase.hops_left to
+      (after_gone q) (gone-leads laws setting call.sub (before t history) chase.known node q to low legal tells) more
+  continues (Coming q from) tells more = at_known (is_known q chase.known) refl more
+    where
+      at_known : (b : Bool) → is_known q chase.known ≡ b
+          → Later (cond b (ended (At node q chase.level chase.weight))
+          (hop setting chase.known chase.level chase.weight chase.hops_left node from))
+          → Rises (after_coming behind q) (marks_chased setting call
+          (cond b (ended (At node q chase.level chase.weight))
+          (hop setting chase.known chase.level chase.weight chase.hops_left node from)) words)
+      at_known true e rest = subst (Rises (after_coming behind q))
+          (sym (ended-so (At node q chase.level chase.weight))) (none-rise (after_coming behind q))
+      at_known false e rest = hop-rises chase.known chase.level chase.weight chase.hops_left from
+          (after_coming behind q)
+          (coming-leads laws setting call.sub (before t history) behind chase.known node q from low legal tells is e)
+          rest
+
+  chase-rises : node < setting.nodes
+      → Later (after_mark setting chase node (mark_seen setting call.sub (before t history) node))
+      → Rises behind (mark_seen setting call.sub (before t history) node
+      ∷ marks_chased setting call (after_mark setting chase node
+      (mark_seen setting call.sub (before t history) node)) words)
+  chase-rises inside more =
+      one-more behind (mark_seen setting call.sub (before t history) node) _ is.rises
+      (fits-up laws setting call.sub (before t history) behind chase.known node low legal inside is)
+      (fits-begun laws setting call.sub (before t history) behind.begun node
+      (mark_seen setting call.sub (before t history) node) low legal is.early tells)
+      (continues (mark_seen setting call.sub (before t history) node) tells more)
+    where
+      tells : MarkTells setting call.sub (before t history) node (mark_seen setting call.sub (before t history) node)
+      tells = laws.marks setting call.sub (before t history) low legal node inside
+
+-- one look of a find
+look-rises : ChaseLaws → (setting : Setting) (history : History) (call : FindCall) (t : ℕ) (stage : Stage) (key : Key)
+    (words : List ℕ) (behind : Behind) → setting.nodes ≤ 2 ^ 16 → IsLegal setting call.sub (before t history)
+    → IsSafe setting (number call.sub (before t history)) stage
+    → IsTracked setting call.sub (before t history) behind stage → key_of call stage ≡ Some key
+    → ((b : Behind) → IsTracked setting call.sub (before (suc t) history) b
+    (after_word setting call stage (cell setting (before t history) key))
+    → Rises b (marks_chased setting call
+    (after_word setting call stage (cell setting (before t history) key)) words))
+    → Rises behind (marks_chased setting call stage (cell setting (before t history) key ∷ words))
+look-rises laws setting history call t at_origin key words behind low legal safe tracked wanted more =
+    subst (λ b. Rises b (marks_chased setting call at_origin (cell setting (before t history) key ∷ words)))
+    (sym tracked) (more nothing (tracked-nothing setting call.sub (before (suc t) history) _))
+look-rises laws setting history call t (climbs known weight reader later) key words behind low legal safe tracked
+    wanted more =
+    subst (λ b. Rises b (marks_chased setting call (climbs known weight reader later)
+    (cell setting (before t history) key ∷ words)))
+    (sym tracked) (more nothing (tracked-nothing setting call.sub (before (suc t) history) _))
+look-rises laws setting history call t (chases chase node) key words behind low legal safe tracked wanted more =
+    let e : key ≡ Presence node call.sub = cc in
+    subst (λ (k : Key). ((b : Behind) → IsTracked setting call.sub (before (suc t) history) b
+    (after_mark setting chase node (mark_in (cell setting (before t history) k)))
+    → Rises b (marks_chased setting call
+    (after_mark setting chase node (mark_in (cell setting (before t history) k))) words))
+    → Rises behind (mark_in (cell setting (before t history) k) ∷ marks_chased setting call
+    (after_mark setting chase node (mark_in (cell setting (before t history) k))) words)) (sym e)
+    (chase-rises laws setting history call t chase node words behind low legal tracked safe.1) more
+look-rises laws setting history call t (ended found) key words behind low legal safe tracked wanted more = cc
+
+good-safe : (setting : Setting) (sub : ℕ) (seen : History) (stage : Stage) → IsGood setting sub seen stage
+    → IsSafe setting (number sub seen) stage
+good-safe setting sub seen at_origin good = tt
+good-safe setting sub seen (climbs known weight reader later) good = good
+good-safe setting sub seen (chases chase node) good = good
+good-safe setting sub seen (ended found) good = tt
+
+tracked-later : (setting : Setting) (sub t u : ℕ) (history : History) (behind : Behind) (stage : Stage) → t ≤ u
+    → IsTracked setting sub (before t history) behind stage → IsTracked setting sub (before u history) behind stage
+tracked-later setting sub t u history behind at_origin h tracked = tracked
+tracked-later setting sub t u history behind (climbs known weight reader later) h tracked = tracked
+tracked-later setting sub t u history behind (chases chase node) h tracked =
+    behind-later setting sub t u history behind chase.known node h tracked
+tracked-later setting sub t u history behind (ended found) h tracked = tt
+
+-- the looks of a find
+looks-rise : ChaseLaws → (setting : Setting) (history : History) (actor : ℕ) (call : FindCall)
+    → setting.nodes ≤ 2 ^ 16 → call.from < setting.nodes → IsLegal setting call.sub history
+    → (tickets : List ℕ) (earliest : ℕ) (stage : Stage) (behind : Behind)
+    → IsSafe setting (number call.sub (before earliest history)) stage
+    → IsTracked setting call.sub (before earliest history) behind stage
+    → AreLooks setting history actor call earliest stage tickets
+    → Rises behind (marks_chased setting call stage (flat_map (words_at setting history) tickets))
+unfolding AreLooks
+looks-rise laws setting history actor call low inside legal [] earliest stage behind safe tracked looks =
+    none-rise behind
+looks-rise laws setting history actor call low inside legal (t ∷ later) earliest stage behind safe tracked
+    (first, (key, wanted, is_look, rest)) =
+    subst (Rises behind) (sym read)
+    (look-rises laws setting history call t stage key (flat_map (words_at setting history) later) behind low
+    legal_now safe_now
+    (tracked-later setting call.sub earliest t history behind stage first tracked) wanted
+    (λ b its. looks-rise laws setting history actor call low inside legal later (suc t) next b safe_next its rest))
+  where
+    word : ℕ
+    word = cell setting (before t history) key
+
+    next : Stage
+    next = after_word setting call stage (cell setting (before t history) key)
+
+    read : marks_chased setting call stage (flat_map (words_at setting history) (t ∷ later))
+        ≡ marks_chased setting call stage
+        (cell setting (before t history) key ∷ flat_map (words_at setting history) later)
+    read = ap (λ o. marks_chased setting call stage (words_by setting (before t history) o
+        ++ flat_map (words_at setting history) later)) is_look
+
+    legal_now : IsLegal setting call.sub (before t history)
+    legal_now = front-legal laws.fronts setting call.sub history t low legal
+
+    safe_now : IsSafe setting (number call.sub (before t history)) stage
+    safe_now = safe-later setting (number call.sub (before earliest history)) (number call.sub (before t history))
+        stage (number-grows call.sub earliest t history first) safe
+
+    safe_next : IsSafe setting (number call.sub (before (suc t) history))
+        (after_word setting call stage (cell setting (before t history) key))
+    safe_next = safe-later setting (number call.sub (before t history)) (number call.sub (before (suc t) history))
+        (after_word setting call stage (cell setting (before t history) key))
+        (number-grows call.sub t (suc t) history (omega arith))
+        (good-safe setting call.sub (before t history)
+        (after_word setting call stage (cell setting (before t history) key))
+        (look-good laws.marks laws.entries setting (before t history) call stage key low inside legal_now safe_now
+        wanted))
+
+pub chases-rise : ChaseLaws → ChasesRise
+chases-rise laws setting history actor call tickets low inside legal looks =
+    let all = looks-rise laws setting history actor call low inside legal tickets 0 at_origin nothing tt refl looks in
+    (all.on, all.ascends)
