@@ -83,7 +83,8 @@ resound setup ws new history owner k u o same =
             alone = h.alone;
             lock = same node (lock_word node) is (is_lock refl) ∙ h.lock;
             won = h.won;
-            last = h.last;
+            drawn = h.drawn;
+            owed = h.owed;
             tally = λ owes. same node (tally_word setup node) is (is_tally refl) ∙ h.tally owes;
           };
       unwritten = λ key is. let h = o.unwritten key is in

@@ -100,7 +100,19 @@ grows law s id x new v act o me may is =
                   alone = here.alone;
                   lock = words x ∙ here.lock;
                   won = here.won;
-                  last = λ _. ap (λ l. visits_at setting x l) (drop_all history visit);
+                  drawn = λ _. record {
+                    earlier = history;
+                    visit = visit;
+                    begins = front-itself longer;
+                    mine = refl;
+                    meant = may.intended;
+                    at = may.at;
+                    count = refl;
+                    last = ap (λ l. visits_at setting x l) (drop_all history visit);
+                    word = λ key put. sym (put_before setup history act key put);
+                    tally = λ _. refl;
+                  };
+                  owed = λ _. refl;
                   tally = λ _. words _ ∙ o.tallies x here.known (tallied_here setup s o id x v me others
                       (λ due _. true≢false (sym due ∙ may.clear)));
                 };
@@ -133,8 +145,20 @@ grows law s id x new v act o me may is =
               alone = h.alone;
               lock = words node ∙ h.lock;
               won = h.won;
-              last = λ d. at-push setting node u.visit_count history visit
-                  (λ e. others k u t.0 t.1 (at ∙ ap (λ (n : ℕ). Some n) (sym e ∙ may.at))) (h.last d);
+              drawn = λ drawn. let d = h.drawn drawn in record {
+                earlier = d.earlier;
+                visit = d.visit;
+                begins = front-longer (d.earlier ++ d.visit ∷ []) history (visit ∷ []) d.begins;
+                mine = d.mine;
+                meant = d.meant;
+                at = d.at;
+                count = d.count;
+                last = at-push setting node u.visit_count history visit
+                    (λ e. others k u t.0 t.1 (at ∙ ap (λ (n : ℕ). Some n) (sym e ∙ may.at))) d.last;
+                word = d.word;
+                tally = d.tally;
+              };
+              owed = h.owed;
               tally = λ due. words _ ∙ h.tally due;
             };
             unwritten = λ key put. let h = old.unwritten key put in

@@ -299,7 +299,20 @@ hears setup id other v w low high out s o me ne at =
               alone = h.alone;
               lock = h.lock;
               won = Contains-append_left v.won w.won (turn_at node (suc v.low)) h.won;
-              last = h.last;
+              drawn = λ drawn. let d = h.drawn drawn in
+                  record {
+                    earlier = d.earlier;
+                    visit = d.visit;
+                    begins = d.begins;
+                    mine = d.mine;
+                    meant = d.meant;
+                    at = d.at;
+                    count = d.count;
+                    last = d.last;
+                    word = d.word;
+                    tally = d.tally;
+                  };
+              owed = h.owed;
               tally = h.tally;
             };
         unwritten = λ key is. let h = was.unwritten key is in

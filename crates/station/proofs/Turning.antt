@@ -138,7 +138,8 @@ entering law setup s o j x v act me known alone idle free =
               alone = alone;
               lock = get_or-set_same s.words (lock_word x) (suc v.low) 0 wide;
               won = Contains-push v.won (turn_at x (suc v.low));
-              last = λ drawn. absurd (true≢false (sym drawn ∙ (was.outside idle.out).0));
+              drawn = λ drawn. absurd (true≢false (sym drawn ∙ (was.outside idle.out).0));
+              owed = λ owes. absurd (true≢false (sym owes ∙ (was.outside idle.out).1));
               tally = λ owes. absurd (true≢false (sym owes ∙ (was.outside idle.out).1));
             };
         unwritten = λ key is. absurd (no_key key (sym idle.unwritten ∙ is));

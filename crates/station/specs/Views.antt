@@ -2,13 +2,14 @@
 -- on, up to another: for one of them while the tracker is open. A note's view stands for none.
 -- What an actor has visited is what its view has seen of it.
 -- Key law: `Tracker::witness`, by its clause `rule`: the rule says so of the view of each pass.
-use Rattle.std.specs.Prelude.{◌≡◌, ℕ, suc, ◌<◌, ◌≤◌, true, false, List, [], drop, Some, None, slice_index, ◌==◌}
+use Rattle.std.specs.Prelude.{◌≡◌, ℕ, suc, ◌<◌, ◌≤◌, true, false, List, [], ◌∷◌, ◌++◌, length, drop, Some, None, slice_index, ◌==◌}
 use Rattle.std.specs.List.{Contains, filter}
 use Rattle.entry_word.specs.declared.visit.Key.{Key}
 use Rattle.entry_word.specs.declared.visit.Visit.{Visit}
 use Rattle.directory.specs.Settings.{Setting}
 use Rattle.directory.specs.Keys.{act_node, key_node}
-use Rattle.directory.specs.Histories.{History, IsFront, own}
+use Rattle.directory.specs.Histories.{History, IsFront, cell, own}
+use Rattle.directory.specs.Census.{census}
 use Rattle.station.specs.Setup.{Setup, setting_in, nodes_in, IsCellOf, lock_word, tally_word, cell_word}
 use Rattle.station.specs.declared.view.NodeTurn.{NodeTurn}
 use Rattle.station.specs.declared.view.View.{View}
@@ -35,16 +36,34 @@ pub record HasSeen (history : History) (view : View) : Type 0 where
 abbrev pub turn_at : ℕ → ℕ → NodeTurn
 turn_at node word = record { node = node; word = word }
 
--- a view is inside a node: it stands for one actor, the lock word names that actor, it has won that
--- turn, and once it has drawn its ticket there, no later visit is at the node
+-- a view has drawn its ticket at a node: after some earlier visits comes its own, of the act that
+-- it means to do there; it counts them and its own, and no later visit is at the node. If that is a
+-- put which isn't written, the word before it is what the earlier visits left in the cell; if it
+-- owes the tally, the tally before is the count of the census after the earlier visits
+pub record HasDrawn (setup : Setup) (history : History) (view : View) (node : ℕ) : Type 0 where
+  pub earlier : History
+  pub visit : Visit
+  pub begins : IsFront (earlier ++ visit ∷ []) history
+  pub mine : visit.actor ≡ view.low
+  pub meant : view.intended ≡ Some visit.act
+  pub at : act_node (setting_in setup) visit.act ≡ node
+  pub count : view.visit_count ≡ suc (length earlier)
+  pub last : visits_at (setting_in setup) node (drop view.visit_count history) ≡ []
+  pub word : (key : Key) → view.unwritten ≡ Some key
+      → view.before ≡ cell (setting_in setup) earlier key
+  pub tally : view.owes ≡ true → view.tally ≡ length (census (setting_in setup) earlier node)
+
+-- a view is inside a node: it stands for one actor, the lock word names that actor, and it has won
+-- that turn; a drawn ticket is that of its visit there; and while it owes the tally, which it does
+-- only behind its ticket, the tally word still has the tally before
 pub record IsInsideNode (setup : Setup) (words : List ℕ) (history : History) (view : View)
     (node : ℕ) : Type 0 where
   pub known : node < nodes_in setup
   pub alone : view.high ≡ suc view.low
   pub lock : slice_index words (lock_word node) ≡ suc view.low
   pub won : Contains view.won (turn_at node (suc view.low))
-  pub last : view.has_drawn ≡ true
-      → visits_at (setting_in setup) node (drop view.visit_count history) ≡ []
+  pub drawn : view.has_drawn ≡ true → HasDrawn setup history view node
+  pub owed : view.owes ≡ true → view.has_drawn ≡ true
   pub tally : view.owes ≡ true → slice_index words (tally_word setup node) ≡ view.tally
 
 -- a view has a put that isn't written: into a cell of the node that it is inside, once it has drawn
