@@ -96,4 +96,5 @@ resound setup ws new history owner k u o same =
                 (is_cell key h.cell refl refl) ∙ h.word;
           };
       outside = o.outside;
+      others = o.others;
     }

@@ -125,6 +125,7 @@ grows law s id x new v act o me may is =
                   ∙ put_before setup history act key put);
             };
             outside = λ out. absurd (some_not_none x (sym may.inside ∙ out));
+            others = was.others;
           }))
           (λ (t : (k ≢ id) × (get_elem? s.views k ≡ some u)). let old = o.views k u t.1 in record {
             setup_is = old.setup_is;
@@ -164,6 +165,7 @@ grows law s id x new v act o me may is =
             unwritten = λ key put. let h = old.unwritten key put in
                 record { cell = h.cell; inside = h.inside; drawn = h.drawn; word = words _ ∙ h.word };
             outside = old.outside;
+            others = old.others;
           })
           (at_set s.views id k w u there);
       actors = λ actor below. owned s o.owner id actor v w me refl refl near (o.actors actor below);

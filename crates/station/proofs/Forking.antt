@@ -62,6 +62,7 @@ opens below setup words lies few inside all =
             inside = λ node is. absurd (no_some node is);
             unwritten = λ key is. absurd (no_key key is);
             outside = λ _. (refl, refl);
+            others = λ _ _ turn had. absurd (none_lost turn had);
           };
       actors = λ actor below. (v, refl, (omega arith, below));
       known = λ _ _. refl;
@@ -137,6 +138,7 @@ forked setup s o j v l r owner f =
             inside = was.inside;
             unwritten = was.unwritten;
             outside = was.outside;
+            others = was.others;
           })
           (at_set s.views j k l u old))
           (λ (t : (k ≡ length vs) × (r ≡ u)). subst (λ (y : View). IsSoundView setup s.words o.history owner k y) t.1
@@ -251,6 +253,7 @@ deals setup id v more out clear s o me =
         inside = λ node is. absurd (no_some node (sym out ∙ is));
         unwritten = λ key is. absurd (no_key key (sym clear ∙ is));
         outside = λ _. calm;
+        others = λ actor st. was.others actor (omega arith, omega arith);
       };
       new = record {
         setup_is = was.setup_is;
@@ -267,5 +270,6 @@ deals setup id v more out clear s o me =
         inside = λ node is. absurd (no_some node (sym out ∙ is));
         unwritten = λ key is. absurd (no_key key (sym clear ∙ is));
         outside = λ _. calm;
+        others = λ actor st. was.others actor (omega arith, omega arith);
       };
     }

@@ -58,6 +58,7 @@ notes setup id v s o me =
         inside = λ node is. absurd (no_some node is);
         unwritten = λ key is. absurd (no_key key is);
         outside = λ _. (refl, refl);
+        others = λ actor st. absurd (omega (arith, st.1));
       };
     }
 
@@ -96,6 +97,7 @@ spent_sound setup words history owner seat = record {
   inside = λ node is. absurd (no_some node is);
   unwritten = λ key is. absurd (no_key key is);
   outside = λ _. (refl, refl);
+  others = λ actor st. absurd (omega (arith, st.1));
 }
 
 pub taken : (setup : Setup) (s : St) (o : KeepsRule setup s) (id other : ℕ) (v w b : View) (owner : ℕ → ℕ)
@@ -144,6 +146,7 @@ taken setup s o id other v w b owner t =
             inside = was.inside;
             unwritten = was.unwritten;
             outside = was.outside;
+            others = was.others;
           })
           (at_set s.views id k b u x.1))
           (at_set vs other k spent_view u at);
@@ -318,6 +321,7 @@ hears setup id other v w low high out s o me ne at =
         unwritten = λ key is. let h = was.unwritten key is in
             record { cell = h.cell; inside = h.inside; drawn = h.drawn; word = h.word };
         outside = was.outside;
+        others = was.others;
       };
     }
 

@@ -144,6 +144,7 @@ entering law setup s o j x v act me known alone idle free =
             };
         unwritten = λ key is. absurd (no_key key (sym idle.unwritten ∙ is));
         outside = λ is. absurd (some_not_none x is);
+        others = was.others;
       };
       alone = others;
       lock = λ actor is. let e : suc v.low ≡ suc actor = sym (get_or-set_same s.words (lock_word x)
@@ -213,6 +214,12 @@ turns law setup n id x m act known alone idle s o wide me small =
             inside = λ node is. absurd (no_some node (sym idle.out ∙ is));
             unwritten = λ key is. absurd (no_key key (sym idle.unwritten ∙ is));
             outside = was.outside;
+            others = λ actor st turn had. ⊎_elim
+                (λ (old : Contains m.0.lost turn). was.others actor st turn old)
+                (λ (e : turn_at x word ≡ turn). λ names.
+                let its : actor ≡ m.0.low = omega (arith, st.0, st.1, alone) in
+                other (ap (λ (t : NodeTurn). t.word) e ∙ (names ∙ ap suc its)))
+                (Contains-push_cases m.0.lost (turn_at x word) turn had);
           }),
       λ node said-act at said. let a : x ≡ node = omega arith in
           ((λ is. absurd (taken is)), λ _. ((λ i. (view_held m.0 (a i) word, m.1)), other, few)),
@@ -255,6 +262,7 @@ leaves law setup n id x m there unwritten owes s o wide me small =
           inside = λ node is. absurd (no_some node is);
           unwritten = λ key is. absurd (no_key key (sym unwritten ∙ is));
           outside = λ is. (refl, owes);
+          others = was.others;
         };
         alone = others;
         lock = λ actor is. let e : 0 ≡ suc actor = sym (get_or-set_same s.words (lock_word x) 0 0 near) ∙ is in

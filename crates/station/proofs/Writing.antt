@@ -84,6 +84,7 @@ sound-stored setup words ws history owner j x v unwritten owes was there lock st
           };
       unwritten = puts;
       outside = λ out. absurd (no_some x (sym out ∙ there));
+      others = was.others;
     }
 
 pub writes : NumbersApart → NumbersBelow → SameKey → (n id i new : ℕ) (m : Seat) (key : Key) → m.0.unwritten ≡ Some key

@@ -2,7 +2,7 @@
 -- on, up to another: for one of them while the tracker is open. A note's view stands for none.
 -- What an actor has visited is what its view has seen of it.
 -- Key law: `Tracker::witness`, by its clause `rule`: the rule says so of the view of each pass.
-use Rattle.std.specs.Prelude.{◌≡◌, ℕ, suc, ◌<◌, ◌≤◌, true, false, List, [], ◌∷◌, ◌++◌, length, drop, Some, None, slice_index, ◌==◌}
+use Rattle.std.specs.Prelude.{◌≡◌, ◌≢◌, ℕ, suc, ◌<◌, ◌≤◌, true, false, List, [], ◌∷◌, ◌++◌, length, drop, Some, None, slice_index, ◌==◌}
 use Rattle.std.specs.List.{Contains, filter}
 use Rattle.entry_word.specs.declared.visit.Key.{Key}
 use Rattle.entry_word.specs.declared.visit.Visit.{Visit}
@@ -75,7 +75,8 @@ pub record HasUnwritten (setup : Setup) (words : List ℕ) (view : View) (key : 
   pub word : slice_index words (cell_word setup key) ≡ view.before
 
 -- what the rule says of the view of a seat: it holds the one setup, unless it is spent; the seat is
--- the owner of its actors; and it draws its ticket, and owes a tally, only inside a node
+-- the owner of its actors; it draws its ticket, and owes a tally, only inside a node; and no turn
+-- that it has lost is one of its own actors
 pub record IsSoundView (setup : Setup) (words : List ℕ) (history : History) (owner : ℕ → ℕ)
     (seat : ℕ) (view : View) : Type 0 where
   pub setup_is : view.is_spent ≡ false → view.setup ≡ setup
@@ -86,3 +87,5 @@ pub record IsSoundView (setup : Setup) (words : List ℕ) (history : History) (o
       → IsInsideNode setup words history view node
   pub unwritten : (key : Key) → view.unwritten ≡ Some key → HasUnwritten setup words view key
   pub outside : view.inside ≡ None → (view.has_drawn ≡ false) × (view.owes ≡ false)
+  pub others : (actor : ℕ) → StandsForActor view actor → (turn : NodeTurn)
+      → Contains view.lost turn → turn.word ≢ suc actor
