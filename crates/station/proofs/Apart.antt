@@ -82,7 +82,6 @@ resound setup ws new history owner k u o same =
             known = h.known;
             alone = h.alone;
             lock = same node (lock_word node) is (is_lock refl) ∙ h.lock;
-            won = h.won;
             drawn = h.drawn;
             owed = h.owed;
             tally = λ owes. same node (tally_word setup node) is (is_tally refl) ∙ h.tally owes;

@@ -20,7 +20,7 @@ use Rattle.station.specs.Rule.{KeepsRule, IsViewOf}
 use Rattle.station.specs.Plays.{Seat, visit_by, key_put, word_before, view_with_ticket, DrawsTicket}
 use Rattle.station.specs.Visits.{MayDraw}
 use Rattle.station.specs.declared.view.View.{View}
-use Rattle.station.proofs.Won.{one_lost}
+use Rattle.station.proofs.Logging.{all-logged, log-stays}
 use Rattle.station.proofs.Fronts.{front-longer, own-other, own-mine}
 use Rattle.station.proofs.Steps.{St, with, owned, seat_below}
 use Rattle.station.proofs.Turning.{written_here, tallied_here, no_key, some_not_none, same_some}
@@ -99,7 +99,6 @@ grows law s id x new v act o me may is =
                   known = here.known;
                   alone = here.alone;
                   lock = words x ∙ here.lock;
-                  won = here.won;
                   drawn = λ _. record {
                     earlier = history;
                     visit = visit;
@@ -145,7 +144,6 @@ grows law s id x new v act o me may is =
               known = h.known;
               alone = h.alone;
               lock = words node ∙ h.lock;
-              won = h.won;
               drawn = λ drawn. let d = h.drawn drawn in record {
                 earlier = d.earlier;
                 visit = d.visit;
@@ -178,7 +176,11 @@ grows law s id x new v act o me may is =
           few_more (own actor history) visit (own actor longer) (own-mine actor history visit e) (subst (λ
           (l : History). length l < 2 ^ 56) (sym same) little))
           (λ ne. subst (λ (l : History). length l ≤ 2 ^ 56) (sym (own-other actor history visit ne)) (o.few actor));
-      lost = one_lost setup s.views id v w me near (λ turn had. had) o.lost (λ turn had. o.lost id v me turn had);
+      turns = o.turns;
+      in_turn = o.in_turn;
+      strangers = o.strangers;
+      lock_words = λ node known. words node ∙ o.lock_words node known;
+      logged = all-logged setup s o id w o.turns (log-stays setup s o id v w me refl refl refl refl);
       locks = λ node actor known names. still_held s o.owner id node actor v w me refl refl
           (o.locks node actor known (sym (words node) ∙ names));
       cells = λ key known quiet. words _ ∙ (o.cells key known (λ k u there put. dite (ℕ_discrete k id)

@@ -22,6 +22,7 @@ use Rattle.station.proofs.Apart.{is_tally, is_cell, else_where, behind, behind_t
 use Rattle.station.proofs.Steps.{St, seat_below, changed, has-kept, no_some}
 use Rattle.station.proofs.Turning.{written_here, tallied_here, no_key, same_some}
 use Rattle.station.proofs.Reading.{cell_seen, census_seen, alone}
+use Rattle.station.proofs.Logging.{log-stays}
 use Rattle.directory.specs.Statements.{SameKey}
 
 pub cell_below : NumbersBelow → (setup : Setup) (key : Key) → IsCellOf setup key
@@ -66,7 +67,6 @@ sound-stored setup words ws history owner j x v unwritten owes was there lock st
             known = here.known;
             alone = here.alone;
             lock = lock ∙ here.lock;
-            won = here.won;
             drawn = λ drawn. let d = here.drawn drawn in record {
               earlier = d.earlier;
               visit = d.visit;
@@ -115,8 +115,10 @@ writes law below same n id i new m key put known at turn is s o wide me small =
         before = inr turn.inside;
         low = refl;
         high = refl;
-        won = λ turn had. had;
-        lost = refl;
+        log = o.turns;
+        goes = log-stays setup s o id v w me refl refl refl refl;
+        lock_else = λ _ _. refl;
+        lock_here = get_or-set_other s.words i (lock_word x) new 0 not_lock ∙ o.lock_words x here.known;
         size = length-set s.words i new;
         first = get_or-set_other s.words i 0 new 0 (λ e. first_apart (e ∙ at));
         elsewhere = λ y k iny ne word. else_where law setup s.words x y i k new here.known iny ne
@@ -169,8 +171,10 @@ tallies law same n id x i new m turn at is s o wide me small =
         before = inr turn.inside;
         low = refl;
         high = refl;
-        won = λ turn had. had;
-        lost = refl;
+        log = o.turns;
+        goes = log-stays setup s o id v w me refl refl refl refl;
+        lock_else = λ _ _. refl;
+        lock_here = get_or-set_other s.words i (lock_word x) new 0 not_lock ∙ o.lock_words x here.known;
         size = length-set s.words i new;
         first = get_or-set_other s.words i 0 new 0 (λ e. omega (arith, at, e));
         elsewhere = λ y k iny ne word. else_where law setup s.words x y i k new here.known iny ne (is_tally at) word;

@@ -53,15 +53,14 @@ pub record HasDrawn (setup : Setup) (history : History) (view : View) (node : �
       → view.before ≡ cell (setting_in setup) earlier key
   pub tally : view.owes ≡ true → view.tally ≡ length (census (setting_in setup) earlier node)
 
--- a view is inside a node: it stands for one actor, the lock word names that actor, and it has won
--- that turn; a drawn ticket is that of its visit there; and while it owes the tally, which it does
--- only behind its ticket, the tally word still has the tally before
+-- a view is inside a node: it stands for one actor, and the lock word names that actor; a drawn
+-- ticket is that of its visit there; and while it owes the tally, which it does only behind its
+-- ticket, the tally word still has the tally before
 pub record IsInsideNode (setup : Setup) (words : List ℕ) (history : History) (view : View)
     (node : ℕ) : Type 0 where
   pub known : node < nodes_in setup
   pub alone : view.high ≡ suc view.low
   pub lock : slice_index words (lock_word node) ≡ suc view.low
-  pub won : Contains view.won (turn_at node (suc view.low))
   pub drawn : view.has_drawn ≡ true → HasDrawn setup history view node
   pub owed : view.owes ≡ true → view.has_drawn ≡ true
   pub tally : view.owes ≡ true → slice_index words (tally_word setup node) ≡ view.tally

@@ -11,7 +11,9 @@ use Rattle.directory.specs.Legal.{IsLegal}
 use Rattle.station.specs.Setup.{setting_in, subs_in, IsCellOf}
 use Rattle.station.specs.Plays.{Draws, MayDo, key_put, longer, visit_by, view_held}
 use Rattle.station.specs.Passes.{NoteData, PassData, actor_of}
+use Rattle.station.specs.Turns.{Logs}
 use Rattle.station.specs.declared.turns.Held.{Held}
+use Rattle.station.specs.declared.view.TurnEvent.TheVariants.{Lost}
 use Rattle.station.specs.declared.view.View.{View}
 
 -- a view may draw the ticket of an act at a node
@@ -73,11 +75,13 @@ pub record HasVisited (old : PassData) (act : Act) (ticket : ℕ) (new : PassDat
   pub spare : new.spare + 1 ≡ old.spare
   pub same : IsSamePass old new
 
--- a pass has lost a turn at a node to another actor, and nothing else has changed
+-- a pass has lost a turn at a node to another actor, and nothing else has changed; the turn was
+-- that actor's at this very step, by the log of all turns
 pub record HasLost (old : PassData) (place : ℕ) (held : Held) (new : PassData) : Type 0 where
   pub node : held.node ≡ place
   pub other : held.by ≢ actor_of old
-  pub turn : new ≡ record old { view = view_held old.view place (suc held.by) }
+  pub turn : new ≡ record old { view = view_held old.view place (suc held.by) new.view.turns }
+  pub logs : Logs old.view (Lost (actor_of old) place (suc held.by)) new.view.turns
 
 -- a number has a bit for each subscriber of a census, and no other, and there are so many
 pub record IsCensus (census : List ℕ) (who count : ℕ) : Type 0 where
@@ -85,13 +89,14 @@ pub record IsCensus (census : List ℕ) (who count : ℕ) : Type 0 where
   pub length_is : count ≡ length census
 
 -- a pass has heard a note: what it has seen is the longer of what it had seen and what was noted,
--- and goes on from both, by known actors alone, and is legal; its own visits, its spare and the
--- node that it is inside are as before
+-- and goes on from both, by known actors alone, and is legal; its own visits, its turns, its spare
+-- and the node that it is inside are as before
 pub record HasHeard (old : PassData) (note : NoteData) (new : PassData) : Type 0 where
   pub same : IsSamePass old new
   pub spare : new.spare ≡ old.spare
   pub inside : new.view.inside ≡ old.view.inside
   pub lost : new.view.lost ≡ old.view.lost
+  pub turns : new.view.turns ≡ old.view.turns
   pub seen : new.view.seen ≡ longer old.view.seen note.view.seen
   pub begins : IsFront old.view.seen new.view.seen
   pub told : IsFront note.view.seen new.view.seen
