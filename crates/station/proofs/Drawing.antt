@@ -43,6 +43,11 @@ put_node setting (Put other word) key e = sym (ap (λ (o : Option Key). key_node
     (Rattle.std.specs.Prelude.unwrap_or o key)) e)
 put_node setting (Census node) key e = absurd (no_key key e)
 
+put_word : (act : Act) (key : Key) → key_put act ≡ Some key → (word : ℕ) × (act ≡ Put key word)
+put_word (Look other) key e = absurd (no_key key e)
+put_word (Put other word) key e = (word, ap (λ (k : Key). Put k word) (same_some other key e))
+put_word (Census node) key e = absurd (no_key key e)
+
 put_before : (setup : Setup) (history : History) (act : Act) (key : Key) → key_put act ≡ Some key
     → cell (setting_in setup) history key ≡ word_before setup history act
 put_before setup history (Look other) key e = absurd (no_key key e)
@@ -108,7 +113,9 @@ grows law s id x new v act o me may is =
                     at = may.at;
                     count = refl;
                     last = ap (λ l. visits_at setting x l) (drop_all history visit);
+                    put = put_word act;
                     word = λ key put. sym (put_before setup history act key put);
+                    moves = λ due. due;
                     tally = λ _. refl;
                   };
                   owed = λ _. refl;
@@ -154,7 +161,9 @@ grows law s id x new v act o me may is =
                 count = d.count;
                 last = at-push setting node u.visit_count history visit
                     (λ e. others k u t.0 t.1 (at ∙ ap (λ (n : ℕ). Some n) (sym e ∙ may.at))) d.last;
+                put = d.put;
                 word = d.word;
+                moves = d.moves;
                 tally = d.tally;
               };
               owed = h.owed;

@@ -298,7 +298,9 @@ hears setup id other v w low high out s o me ne at =
                     at = d.at;
                     count = d.count;
                     last = d.last;
+                    put = d.put;
                     word = d.word;
+                    moves = d.moves;
                     tally = d.tally;
                   };
               owed = h.owed;

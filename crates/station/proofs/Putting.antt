@@ -339,8 +339,8 @@ pub census-short : (setting : Setting) (history : History) (node : ℕ)
 census-short setting history node = length-passing-le (λ s. says_here (mark_in (cell setting history
     (Presence node s)))) 0 (subs setting)
 
-pub may_put : (view : View) (node : ℕ) (key : Key) (word : ℕ) (log : List TurnEvent) → view.has_drawn ≡ false → view.unwritten ≡ None
-    → view.owes ≡ false
+pub may_put : (view : View) (node : ℕ) (key : Key) (word : ℕ) (log : List TurnEvent) → view.has_drawn ≡ false
+    → view.unwritten ≡ None → view.owes ≡ false
     → node ≡ key_node (setting_in view.setup) key → length (own view.low view.seen) < 2 ^ 56
     → IsCellOf view.setup key → key_sub key ≡ view.low
     → IsLegal (setting_in view.setup) view.low (view.seen ++ put_of view.low key word ∷ [])

@@ -120,13 +120,15 @@ may_draw me one actor seen spare kept room node act p some turn at none may = re
 pub look_done : (me one two there new : Me Act View) (actor seen spare left node ticket : ℕ) (kept : List ℕ)
     (room : ℕ) (act : Act)
     → IsPass me actor seen spare kept room → left + 1 ≡ spare → one ≡ (view_inside me.0 node act one.0.turns, me.1)
-    → Draws one.0 node act ticket two.0 → two.1 ≡ one.1 → there ≡ two → new ≡ (view_outside there.0 new.0.turns, there.1)
+    → Draws one.0 node act ticket two.0 → two.1 ≡ one.1 → there ≡ two
+    → new ≡ (view_outside there.0 new.0.turns, there.1)
     → two.0.unwritten ≡ None → two.0.owes ≡ false
     → IsPass new actor (suc ticket) left (kept ++ ticket ∷ []) room
 look_done me one two there new actor seen spare left node ticket kept room act p less turn d slots same gone unwritten
     clear =
     pass_done me one two new actor seen spare left node ticket kept room act p less turn d
-    (left_by two.0 new.0 (ap (λ (m : Me Act View). m.0) gone ∙ ap (λ (m : Me Act View). view_outside m.0 new.0.turns) same)
+    (left_by two.0 new.0 (ap (λ (m : Me Act View). m.0) gone
+    ∙ ap (λ (m : Me Act View). view_outside m.0 new.0.turns) same)
     unwritten clear)
     (ap (λ (m : Me Act View). m.1) gone ∙ (ap (λ (m : Me Act View). m.1) same
     ∙ (slots ∙ ap (λ (m : Me Act View). m.1) turn)))

@@ -301,7 +301,8 @@ leaves law setup n id x m there unwritten owes s o wide me small =
       (
         refl,
         λ node at. let a : x ≡ node = same_some x node (sym there ∙ at) in
-            subst (λ (n : ℕ). Logs v (GivenBack v.low n) log) a (logs setup s o id v (GivenBack v.low x) me here.alone may),
+            subst (λ (n : ℕ). Logs v (GivenBack v.low n) log) a
+            (logs setup s o id v (GivenBack v.low x) me here.alone may),
       ),
     )
 

@@ -76,7 +76,9 @@ sound-stored setup words ws history owner j x v unwritten owes was there lock st
               at = d.at;
               count = d.count;
               last = d.last;
+              put = λ key put. d.put key (kept key put);
               word = λ key put. d.word key (kept key put);
+              moves = λ owed. d.moves (still owed);
               tally = λ owed. d.tally (still owed);
             };
             owed = λ owed. here.owed (still owed);

@@ -5,10 +5,11 @@
 use Rattle.std.specs.Prelude.{◌≡◌, ◌≢◌, ℕ, suc, ◌<◌, ◌≤◌, true, false, List, [], ◌∷◌, ◌++◌, length, drop, Some, None, slice_index, ◌==◌}
 use Rattle.std.specs.List.{Contains, filter}
 use Rattle.entry_word.specs.declared.visit.Key.{Key}
+use Rattle.entry_word.specs.declared.visit.Act.TheVariants.{Put}
 use Rattle.entry_word.specs.declared.visit.Visit.{Visit}
 use Rattle.directory.specs.Settings.{Setting}
 use Rattle.directory.specs.Keys.{act_node, key_node}
-use Rattle.directory.specs.Histories.{History, IsFront, cell, own}
+use Rattle.directory.specs.Histories.{History, IsFront, cell, changes_here, own}
 use Rattle.directory.specs.Census.{census}
 use Rattle.station.specs.Setup.{Setup, setting_in, nodes_in, IsCellOf, lock_word, tally_word, cell_word}
 use Rattle.station.specs.declared.view.NodeTurn.{NodeTurn}
@@ -37,9 +38,10 @@ abbrev pub turn_at : ℕ → ℕ → NodeTurn
 turn_at node word = record { node = node; word = word }
 
 -- a view has drawn its ticket at a node: after some earlier visits comes its own, of the act that
--- it means to do there; it counts them and its own, and no later visit is at the node. If that is a
--- put which isn't written, the word before it is what the earlier visits left in the cell; if it
--- owes the tally, the tally before is the count of the census after the earlier visits
+-- it means to do there; it counts them and its own, and no later visit is at the node. What isn't
+-- written is what that act puts, and the word before is what the earlier visits left in the cell;
+-- it owes the tally only if the act changes it, and the tally before is the count of the census
+-- after the earlier visits
 pub record HasDrawn (setup : Setup) (history : History) (view : View) (node : ℕ) : Type 0 where
   pub earlier : History
   pub visit : Visit
@@ -49,8 +51,10 @@ pub record HasDrawn (setup : Setup) (history : History) (view : View) (node : �
   pub at : act_node (setting_in setup) visit.act ≡ node
   pub count : view.visit_count ≡ suc (length earlier)
   pub last : visits_at (setting_in setup) node (drop view.visit_count history) ≡ []
+  pub put : (key : Key) → view.unwritten ≡ Some key → (word : ℕ) × (visit.act ≡ Put key word)
   pub word : (key : Key) → view.unwritten ≡ Some key
       → view.before ≡ cell (setting_in setup) earlier key
+  pub moves : view.owes ≡ true → changes_here (setting_in setup) earlier visit.act ≡ true
   pub tally : view.owes ≡ true → view.tally ≡ length (census (setting_in setup) earlier node)
 
 -- a view is inside a node: it stands for one actor, and the lock word names that actor; a drawn

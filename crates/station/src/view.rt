@@ -46,8 +46,8 @@ pub struct NodeTurn {
     pub word: u64,
 }
 
-// What an actor does at the lock of a node: it wins the turn, it gives it back, or it reads the word
-// of another's turn, and has lost one.
+// What an actor does at the lock of a node: it wins the turn, it gives it back, or it reads that
+// the turn is another's, and has lost one.
 pub enum TurnEvent {
     Won { actor: u64, node: u64 },
     GivenBack { actor: u64, node: u64 },

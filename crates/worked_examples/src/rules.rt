@@ -3,9 +3,10 @@
 ghost use Rattle.std.specs.Prelude.{◌≡◌, ◌-◌, ◌<◌, ◌≤◌, [], ◌∷◌, ℕ, List, Some, length, slice_get, slice_index, suc, take, true};
 ghost use Rattle.atomic_table.specs.Table.{State};
 ghost use Rattle.directory.specs.Census.{census};
-ghost use Rattle.directory.specs.Histories.{History, cell};
+ghost use Rattle.directory.specs.Histories.{History, cell, changes_here};
 ghost use Rattle.directory.specs.Keys.{act_node};
 ghost use Rattle.entry_word.specs.declared.visit.Act.{Act};
+ghost use Rattle.entry_word.specs.declared.visit.Act.TheVariants.{Put};
 ghost use Rattle.entry_word.specs.declared.visit.Key.{Key};
 ghost use Rattle.station.specs.Plays.{visit_by};
 ghost use Rattle.station.specs.Rule.{KeepsRule};
@@ -17,13 +18,20 @@ ghost use Rattle.station.specs.declared.view.View.{View};
 ghost use Rattle.worked_examples.specs.Passes.{count_by, line_setup};
 
 /// A ticket that a pass inside a node has drawn is that of its own visit there, of the act that it
-/// means to do, and no later visit is there. The word and the tally that it keeps as those before
+/// means to do, and no later visit is there. What it hasn't written is what that act puts, and it
+/// owes the tally only if the act changes it. The word and the tally that it keeps as those before
 /// are what the visits before its ticket leave.
 pub fn told_tickets()
     ensures own { (setup : Setup) (history : History) (view : View) (node : ℕ)
         → HasDrawn setup history view node → (act : Act) × (view.intended ≡ Some act)
         × (act_node (setting_in setup) act ≡ node)
         × (slice_get history (view.visit_count - 1) ≡ Some (visit_by view act)) }
+    ensures unwritten { (setup : Setup) (history : History) (view : View) (node : ℕ) (key : Key)
+        → HasDrawn setup history view node → view.unwritten ≡ Some key
+        → (word : ℕ) × (view.intended ≡ Some (Put key word)) }
+    ensures moves { (setup : Setup) (history : History) (view : View) (node : ℕ) (act : Act)
+        → HasDrawn setup history view node → view.owes ≡ true → view.intended ≡ Some act
+        → changes_here (setting_in setup) (take (view.visit_count - 1) history) act ≡ true }
     ensures word { (setup : Setup) (history : History) (view : View) (node : ℕ) (key : Key)
         → HasDrawn setup history view node → view.unwritten ≡ Some key
         → view.before

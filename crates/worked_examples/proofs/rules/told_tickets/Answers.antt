@@ -1,9 +1,10 @@
-use Rattle.std.proofs.Common.{◌≡◌, ℕ, ◌-◌, arith, [], ◌∷◌, ◌++◌, length, take, drop, refl, sym, ap, ◌∙◌, subst, Some}
-use Rattle.std.specs.Prelude.{slice_get}
+use Rattle.std.proofs.Common.{◌≡◌, ℕ, ◌-◌, arith, [], ◌∷◌, ◌++◌, length, take, drop, refl, sym, ap, ◌∙◌, subst, Option, Some}
+use Rattle.std.specs.Prelude.{slice_get, unwrap_or}
+use Rattle.entry_word.specs.declared.visit.Act.{Act}
 use Rattle.entry_word.specs.declared.visit.Visit.{Visit}
 use Rattle.directory.specs.Census.{census}
 use Rattle.directory.specs.HistoryLaws.{front-append, front-through}
-use Rattle.directory.specs.Histories.{History, cell}
+use Rattle.directory.specs.Histories.{History, cell, changes_here}
 use Rattle.station.specs.Setup.{Setup, setting_in}
 use Rattle.station.specs.TicketLaws.{front-rest}
 use Rattle.station.specs.Views.{HasDrawn, visits_at}
@@ -36,6 +37,16 @@ returns-clause-own c = λ setup history view node d.
     ap (slice_get history) (sym (count-is setup history view node d))
     ∙ (ap (λ (h : History). slice_get h (length d.earlier)) whole ∙ stands-there d.earlier d.visit rest) in
     (d.visit.act, d.meant, d.at, at ∙ (λ i. Some (record { actor = d.mine i; act = d.visit.act })))
+
+pub returns-clause-unwritten : goal.returns-clause-unwritten
+returns-clause-unwritten c = λ setup history view node key d put.
+    let t = d.put key put in (t.0, d.meant ∙ ap (λ (act : Act). Some act) t.1)
+
+pub returns-clause-moves : goal.returns-clause-moves
+returns-clause-moves c = λ setup history view node act d owes meant.
+    let same : d.visit.act ≡ act = ap (λ (o : Option Act). unwrap_or o act) (sym d.meant ∙ meant) in
+    sym (ap (λ (h : History). changes_here (setting_in setup) h act) (before-is setup history view node d))
+    ∙ (sym (ap (changes_here (setting_in setup) d.earlier) same) ∙ d.moves owes)
 
 pub returns-clause-word : goal.returns-clause-word
 returns-clause-word c = λ setup history view node key d put. d.word key put

@@ -33,7 +33,8 @@ make_put-ticket-requires-clause-may c =
     let known = c.next_put-key.ensures.cell (subst (λ (s : ℕ). s < subs_in c.args.self.now.setup)
     (sym h.sub) h.script.known) in
     subst (λ (q : View). MayDraw q node (Put key word)) (sym (ap (λ m. m.0) c.in_ok-turn.ensures.turn))
-    (may_put v node key word c.turn.new.seat.me.0.turns c.pass.invariant.undrawn c.pass.invariant.unwritten c.pass.invariant.clear
+    (may_put v node key word c.turn.new.seat.me.0.turns c.pass.invariant.undrawn c.pass.invariant.unwritten
+    c.pass.invariant.clear
     (c.node_of-node.ensures.node ∙ ap (λ (s : Setup). key_node (setting_in s) key) back)
     (own_few c.pass.inside.seat.me _ _ _ _ _ c.pass.invariant spare)
     (subst (λ (s : Setup). IsCellOf s key) back known)
