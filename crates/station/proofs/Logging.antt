@@ -170,12 +170,14 @@ log-goes setup s o j v w event me alone mine may low high turns lost =
 
 -- what such a step tells
 pub logs : (setup : Setup) (s : State Act View) (o : KeepsRule setup s) (j : ℕ) (v : View) (event : TurnEvent)
-    → IsViewOf s.views j v → v.high ≡ suc v.low → IsInTurn o.turns event → Logs v event (o.turns ++ event ∷ [])
-logs setup s o j v event me alone may =
+    → IsViewOf s.views j v → v.high ≡ suc v.low → event_actor event ≡ v.low → IsInTurn o.turns event
+    → Logs v.turns event (o.turns ++ event ∷ [])
+logs setup s o j v event me alone mine may =
     let has = o.logged j v me in
     record {
       later = has.later;
-      by_others = has.by_others v.low (omega arith, omega (arith, alone));
+      by_others = subst (λ (a : ℕ). events_of a has.later ≡ []) (sym mine)
+          (has.by_others v.low (omega arith, omega (arith, alone)));
       goes_on = ap (λ l. l ++ event ∷ []) has.goes_on;
       in_turn = log-more o.turns event o.in_turn may;
     }

@@ -10,8 +10,11 @@ use Rattle.directory.specs.Histories.{History, IsFront, before, own, tickets, ti
 use Rattle.directory.specs.Legal.{IsLegal}
 use Rattle.station.specs.Setup.{Setup, setting_in, subs_in}
 use Rattle.station.specs.Plays.{Draws, view_with_ticket, view_inside, view_outside, visit_by, key_put, MayDo}
-use Rattle.station.specs.Passes.{IsPass, PassData}
+use Rattle.station.specs.Passes.{IsPass, PassData, actor_of}
+use Rattle.station.specs.Turns.{HasHadTurn, Logs}
+use Rattle.station.specs.declared.view.TurnEvent.TheVariants.{GivenBack, Won}
 use Rattle.station.specs.Visits.{HasLeft, HasVisited, MayDraw}
+use Rattle.station.specs.declared.view.TurnEvent.{TurnEvent}
 use Rattle.station.specs.declared.view.View.{View}
 use Rattle.station.specs.TicketLaws.{tickets-mine, tickets-same}
 use Rattle.directory.specs.HistoryLaws.{tickets-count}
@@ -133,10 +136,20 @@ look_done me one two there new actor seen spare left node ticket kept room act p
     (ap (λ (m : Me Act View). m.1) gone ∙ (ap (λ (m : Me Act View). m.1) same
     ∙ (slots ∙ ap (λ (m : Me Act View). m.1) turn)))
 
+-- that a seat has won its turn, told of its pass
+pub pass_wins : (old pass : PassData) (actor node : ℕ) (log : List TurnEvent) → old ≡ pass → old.view.low ≡ actor
+    → Logs old.view.turns (Won actor node) log → Logs pass.view.turns (Won (actor_of pass) node) log
+pass_wins old pass actor node log told low wins =
+    subst (λ (q : PassData). Logs q.view.turns (Won (actor_of q) node) log) told
+    (subst (λ (a : ℕ). Logs old.view.turns (Won a node) log) (sym low) wins)
+
 pub visit_done : (old new : PassData) (one two : Me Act View) (node ticket : ℕ) (act : Act)
     → one.0 ≡ view_inside old.view node act one.0.turns → Draws one.0 node act ticket two.0 → HasLeft two.0 new.view
+    → act_node (setting_in old.view.setup) act ≡ node
+    → Logs old.view.turns (Won (actor_of old) node) one.0.turns
+    → Logs two.0.turns (GivenBack two.0.low node) new.view.turns
     → new.table ≡ old.table → new.seat ≡ old.seat → new.spare + 1 ≡ old.spare → HasVisited old act ticket new
-visit_done old new one two node ticket act turn d gone_by table seat less =
+visit_done old new one two node ticket act turn d gone_by at wins back table seat less =
     let v = old.view in
     let there : two.0 ≡ view_with_ticket (view_inside v node act one.0.turns) node act d.earlier = d.view
     ∙ ap (λ (m : View). view_with_ticket m node act d.earlier) turn in
@@ -151,6 +164,11 @@ visit_done old new one two node ticket act turn d gone_by table seat less =
           → IsLegal (setting_in v.setup) sub l) (sym gone_by.seen)
           (subst (λ (s : Setup). (sub : ℕ) → sub < subs_in s → IsLegal (setting_in s) sub two.0.seen) setup d.legal);
       outside = gone_by.inside;
+      turn = subst (λ (n : ℕ). HasHadTurn v.low n v.turns new.view.turns) (sym at) record {
+        inside = one.0.turns;
+        won = wins;
+        given_back = subst (λ (x : View). Logs x.turns (GivenBack x.low node) new.view.turns) there back;
+      };
       lost = gone_by.lost ∙ ap (λ (x : View). x.lost) there;
       spare = less;
       same = record {

@@ -133,7 +133,7 @@ record Brings (setup : Setup) (old new : State Act View) (seat : ℕ) (before af
   pub low : after.low ≡ before.low
   pub high : after.high ≡ before.high
   pub mine : event_actor event ≡ before.low
-  pub logs : Logs before event after.turns
+  pub logs : Logs before.turns event after.turns
 
 module _ (setup : Setup) (old new : State Act View) (seat : ℕ) (before after : View) (event : TurnEvent)
     (s : Brings setup old new seat before after event) where
@@ -201,7 +201,8 @@ module _ (setup : Setup) (old new : State Act View) (seat : ℕ) (before after :
   -- what the event comes behind has all own events that there were
   own_first : events_of before.low (before.turns ++ s.logs.later) ≡ events_of before.low s.was.turns
   own_first = parts before.low before.turns s.logs.later
-      ∙ (ap (λ l. events_of before.low before.turns ++ l) s.logs.by_others
+      ∙ (ap (λ l. events_of before.low before.turns ++ l)
+      (subst (λ (a : ℕ). events_of a s.logs.later ≡ []) s.mine s.logs.by_others)
       ∙ (append-nil (events_of before.low before.turns)
       ∙ sym (own-all s.was.turns before before.low (s.was.logged seat before s.me) stands_first)))
 

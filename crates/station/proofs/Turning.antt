@@ -191,8 +191,8 @@ turns law setup n id x m act known alone idle s o wide me small =
           let a : x ≡ node = omega arith in let b : act ≡ other = some-injective act other said in (
             (λ _. (
               (λ i. (view_inside m.0 (a i) (b i) log, m.1)),
-              subst (λ (n : ℕ). Logs m.0 (Won m.0.low n) log) a
-                  (logs setup s o id m.0 (Won m.0.low x) me alone (sym (o.lock_words x known) ∙ free)),
+              subst (λ (n : ℕ). Logs m.0.turns (Won m.0.low n) log) a
+                  (logs setup s o id m.0 (Won m.0.low x) me alone refl (sym (o.lock_words x known) ∙ free)),
             )),
             (λ not. absurd (not free)),
           ),
@@ -238,8 +238,8 @@ turns law setup n id x m act known alone idle s o wide me small =
           (λ i. (view_held m.0 (a i) word log, m.1)),
           other,
           few,
-          subst (λ (n : ℕ). Logs m.0 (Lost m.0.low n word) log) a
-              (logs setup s o id m.0 (Lost m.0.low x word) me alone may),
+          subst (λ (n : ℕ). Logs m.0.turns (Lost m.0.low n word) log) a
+              (logs setup s o id m.0 (Lost m.0.low x word) me alone refl may),
         ),
       ),
     ))
@@ -301,8 +301,8 @@ leaves law setup n id x m there unwritten owes s o wide me small =
       (
         refl,
         λ node at. let a : x ≡ node = same_some x node (sym there ∙ at) in
-            subst (λ (n : ℕ). Logs v (GivenBack v.low n) log) a
-            (logs setup s o id v (GivenBack v.low x) me here.alone may),
+            subst (λ (n : ℕ). Logs v.turns (GivenBack v.low n) log) a
+            (logs setup s o id v (GivenBack v.low x) me here.alone refl may),
       ),
     )
 

@@ -29,5 +29,5 @@ EventsComeNow =
     (event : TurnEvent) → KeepsRule setup old → KeepsRule setup new
     → IsViewOf old.views seat before → new.views ≡ slice_set old.views seat after
     → before.high ≡ suc before.low → after.low ≡ before.low → after.high ≡ before.high
-    → event_actor event ≡ before.low → (logs : Logs before event after.turns)
+    → event_actor event ≡ before.low → (logs : Logs before.turns event after.turns)
     → HasLocks setup old (before.turns ++ logs.later)

@@ -43,10 +43,10 @@ abbrev pub Turns : Play
 Turns step before found after =
     (node : ℕ) (act : Act) → step.word ≡ lock_word node → step.said ≡ some act
     → (found ≡ 0 → (after ≡ (view_inside before.0 node act after.0.turns, before.1))
-    × Logs before.0 (Won before.0.low node) after.0.turns)
+    × Logs before.0.turns (Won before.0.low node) after.0.turns)
     × (found ≢ 0 → (after ≡ (view_held before.0 node found after.0.turns, before.1))
     × (found ≢ suc before.0.low) × (found ≤ 128)
-    × Logs before.0 (Lost before.0.low node found) after.0.turns)
+    × Logs before.0.turns (Lost before.0.low node found) after.0.turns)
 
 -- the view of the first seat stands for all actors
 abbrev pub first_view : Setup → View
@@ -232,7 +232,7 @@ Tallies step before found after = after ≡ (view_after_tally before.0, before.1
 abbrev pub Leaves : Play
 Leaves step before found after =
     (after ≡ (view_outside before.0 after.0.turns, before.1)) × ((node : ℕ)
-    → before.0.inside ≡ Some node → Logs before.0 (GivenBack before.0.low node) after.0.turns)
+    → before.0.inside ≡ Some node → Logs before.0.turns (GivenBack before.0.low node) after.0.turns)
 
 -- the rule holds, and a seat has the view
 pub record IsWitnessed (view : View) : Type 0 where

@@ -66,10 +66,18 @@ pub record HasLogged (log : List TurnEvent) (view : View) : Type 0 where
   pub lost : (actor : ℕ) → StandsForActor view actor
       → view.lost ≡ lost_in (events_of actor view.turns)
 
--- an event of a view's own actor comes into the log: behind what the view had logged, and what
--- others did since, where it may come; and all of the log is such
-pub record Logs (before : View) (event : TurnEvent) (log : List TurnEvent) : Type 0 where
+-- an event comes into a log: behind what its actor had logged before, and what others did since,
+-- where it may come; and all of the log is such
+pub record Logs (before : List TurnEvent) (event : TurnEvent) (log : List TurnEvent)
+    : Type 0 where
   pub later : List TurnEvent
-  pub by_others : events_of before.low later ≡ []
-  pub goes_on : log ≡ (before.turns ++ later) ++ event ∷ []
+  pub by_others : events_of (event_actor event) later ≡ []
+  pub goes_on : log ≡ (before ++ later) ++ event ∷ []
   pub in_turn : IsLog log
+
+-- an actor has had a turn at a node: it is logged as won, and then as given back, and nothing else
+-- of its own is logged since
+pub record HasHadTurn (actor node : ℕ) (before log : List TurnEvent) : Type 0 where
+  pub inside : List TurnEvent
+  pub won : Logs before (Won actor node) inside
+  pub given_back : Logs inside (GivenBack actor node) log

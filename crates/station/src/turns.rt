@@ -43,7 +43,7 @@ impl Tracker {
               view = view_inside pass.old.view node (Census node)
                   pass.new.view.turns;
             })
-            × Logs pass.old.view (Won (actor_of pass.old) node) pass.new.view.turns)
+            × Logs pass.old.view.turns (Won (actor_of pass.old) node) pass.new.view.turns)
             (λ held. HasLost pass.old node held pass.new) }
     {
         let actor = pass.actor;
@@ -57,7 +57,7 @@ impl Tracker {
         requires stay { IsStayOf stay pass.old }
         ensures left { pass.new
             ≡ record pass.old { view = view_outside pass.old.view pass.new.view.turns } }
-        ensures logs { Logs pass.old.view (GivenBack (actor_of pass.old) stay.node)
+        ensures logs { Logs pass.old.view.turns (GivenBack (actor_of pass.old) stay.node)
             pass.new.view.turns }
     {
         let Stay { node, actor: _ } = stay;
@@ -91,8 +91,8 @@ impl Tracker {
               seat.old.me.1,
             ))) }
         ensures logs { MatchResult result
-            (λ _. Logs seat.old.me.0 (Won actor node) seat.new.me.0.turns)
-            (λ held. Logs seat.old.me.0 (Lost actor node (suc held.by)) seat.new.me.0.turns) }
+            (λ _. Logs seat.old.me.0.turns (Won actor node) seat.new.me.0.turns)
+            (λ held. Logs seat.old.me.0.turns (Lost actor node (suc held.by)) seat.new.me.0.turns) }
     {
         cell_numbers();
         let word = node as usize + 1;
@@ -119,7 +119,7 @@ impl Tracker {
         ensures id { seat.new.id ≡ seat.old.id }
         ensures left { seat.new.me
             ≡ (view_outside seat.old.me.0 seat.new.me.0.turns, seat.old.me.1) }
-        ensures logs { Logs seat.old.me.0 (GivenBack seat.old.me.0.low node)
+        ensures logs { Logs seat.old.me.0.turns (GivenBack seat.old.me.0.low node)
             seat.new.me.0.turns }
     {
         cell_numbers();

@@ -13,6 +13,20 @@ returns-clause-unlogged c = λ old new lost same.
       length-append old.view.turns lost.logs.later,
     )
 
+pub returns-clause-visited : goal.returns-clause-visited
+returns-clause-visited c = λ old new visited same.
+    let won = visited.turn.won in
+    let back = visited.turn.given_back in
+    omega (
+      arith,
+      ap length (sym back.goes_on ∙ same),
+      length-append (visited.turn.inside ++ back.later) (GivenBack (actor_of old) 2 ∷ []),
+      length-append visited.turn.inside back.later,
+      ap length won.goes_on,
+      length-append (old.view.turns ++ won.later) (Won (actor_of old) 2 ∷ []),
+      length-append old.view.turns won.later,
+    )
+
 pub returns-clause-unheld : goal.returns-clause-unheld
 returns-clause-unheld c = λ old new lost is.
     let e : ◌≡◌ {A = ℕ} 0 6 =

@@ -24,7 +24,7 @@ returns c =
         },
         with_view c.args.pass.now _ _ (λ v. view_inside v node (Census node) log) p t.table t.id refl (ap
             (λ m. m.0) t.turn),
-        subst (λ (q : PassData). Logs q.view (Won (actor_of q) node) log) p (subst (λ (a : ℕ). Logs
-            c.pass.inside.seat.me.0 (Won a node) log) (sym c.pass.invariant.low) t.logs),
+        subst (λ (q : PassData). Logs q.view.turns (Won (actor_of q) node) log) p (subst (λ (a : ℕ). Logs
+            c.pass.inside.seat.me.0.turns (Won a node) log) (sym c.pass.invariant.low) t.logs),
       );
     }

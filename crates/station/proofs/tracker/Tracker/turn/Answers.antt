@@ -27,7 +27,7 @@ returns-then-found-eq0-clause-turn c = ((c.compare_exchange_with-found.ensures.2
 pub returns-then-found-eq0-clause-logs : goal.returns-then-found-eq0-clause-logs
 returns-then-found-eq0-clause-logs c =
     let log = c.compare_exchange_with-found.new.seat.me.0.turns in
-    subst (λ (a : ℕ). Logs c.args.seat.now.me.0 (Won a c.args.node) log) c.requires.low
+    subst (λ (a : ℕ). Logs c.args.seat.now.me.0.turns (Won a c.args.node) log) c.requires.low
     ((c.compare_exchange_with-found.ensures.2 c.args.node c.args.act.now (omega arith) refl).0
     c.if-found-eq0.true).1
 
@@ -65,8 +65,8 @@ returns-clause-logs c =
     let t = (c.compare_exchange_with-found.ensures.2 c.args.node c.args.act.now
     (omega arith) refl).1 c.if-found-eq0.false in
     let some : found ≡ suc (found - 1) = up found c.if-found-eq0.false in
-    subst (λ (k : ℕ). Logs old (Lost c.args.actor c.args.node k) log) some
-    (subst (λ (a : ℕ). Logs old (Lost a c.args.node found) log) c.requires.low t.3)
+    subst (λ (k : ℕ). Logs old.turns (Lost c.args.actor c.args.node k) log) some
+    (subst (λ (a : ℕ). Logs old.turns (Lost a c.args.node found) log) c.requires.low t.3)
   where
     up : (k : ℕ) → k ≢ 0 → k ≡ suc (k - 1)
     up k ne = omega arith

@@ -1,4 +1,4 @@
-use Rattle.std.proofs.Common.{arith, sym, ap, ◌∙◌, ◌≡◌, ℕ, length, refl}
+use Rattle.std.proofs.Common.{arith, subst, sym, ap, ◌∙◌, ◌≡◌, ℕ, length, refl}
 use Rattle.std.specs.Prelude.{if◌then◌else◌}
 use Rattle.node_set.specs.Ascending.{has}
 use Rattle.entry_word.specs.declared.visit.Act.TheVariants.{Census}
@@ -6,10 +6,14 @@ use Rattle.directory.specs.Census.{census}
 use Rattle.directory.specs.Histories.{before}
 use Rattle.station.specs.Plays.{view_inside, view_outside, visit_by}
 use Rattle.station.specs.Setup.{setting_in}
+use Rattle.station.specs.Turns.{Logs}
+use Rattle.station.specs.declared.view.TurnEvent.TheVariants.{GivenBack}
+use Rattle.atomic_table.specs.Table.{Me}
+use Rattle.entry_word.specs.declared.visit.Act.{Act}
 use Rattle.station.specs.declared.view.View.{View}
 use Rattle.station.proofs.Growing.{census-counted}
 use Rattle.station.proofs.Turning.{no_key}
-use Rattle.station.proofs.Ticketing.{before_last, left_by, look_done, may_draw, pass_is, seen_done, visit_done}
+use Rattle.station.proofs.Ticketing.{before_last, left_by, look_done, may_draw, pass_is, pass_wins, seen_done, visit_done}
 use Rattle.station.proofs.tracker.Tracker.visit_census.Goals as goal
 
 pub draw-ticket-requires-clause-may : goal.draw-ticket-requires-clause-may
@@ -62,7 +66,10 @@ returns c =
     ∙ (census-counted setting d.earlier node one.0.low node ∙ sym (ap (λ h. census setting h node) earlier)) in
     record {
       seen = (
-        visit_done c.args.pass.now _ one two node c.draw-ticket.result act turn d left table seat
+        visit_done c.args.pass.now _ one two node c.draw-ticket.result act turn d left refl
+            (pass_wins _ c.args.pass.now c.pass.inside.actor node one.0.turns told c.pass.invariant.low t.logs)
+            (subst (λ (m : Me Act View). Logs m.0.turns (GivenBack m.0.low node) new.turns) same
+            c.give_back.ensures.logs) table seat
             (c.keep_ticket.ensures.spare ∙ ap (λ q. q.spare) told),
         record {
           bits = λ sub. c.list_here-who.ensures.bits sub ∙ ap {B = ℕ} (λ l. if has sub l then 1 else 0) seen;

@@ -13,7 +13,7 @@ use Rattle.station.specs.Handsets.{HandsetGoesOn, IsHandsetOf, put_of}
 use Rattle.station.specs.Visits.{HasVisited, MayDraw}
 use Rattle.station.specs.declared.view.View.{View}
 use Rattle.station.proofs.Putting.{may_put, handset_after, put_due, write-sub}
-use Rattle.station.proofs.Ticketing.{own_few, pass_done, visit_done, pass_is, seen_done}
+use Rattle.station.proofs.Ticketing.{own_few, pass_done, visit_done, pass_is, pass_wins, seen_done}
 use Rattle.station.proofs.tracker.Tracker.visit_put.Goals as goal
 
 pub make_put-ticket-requires-clause-may : goal.make_put-ticket-requires-clause-may
@@ -72,7 +72,10 @@ returns c =
     let less = c.keep_ticket.ensures.spare ∙ ap (λ q. q.spare) told in
     let visited = visit_done old _ c.turn.new.seat.me
     (made.there, []) c.node_of-node.result c.make_put-ticket.result
-    (Put key word) turn made.draws made.left table seat less in
+    (Put key word) turn made.draws made.left
+    (ap (λ (s : Setup). key_node (setting_in s) key) c.requires.of.setup ∙ sym c.node_of-node.ensures.node)
+    (pass_wins _ old c.pass.inside.actor c.node_of-node.result c.turn.new.seat.me.0.turns told c.pass.invariant.low
+    c.in_ok-turn.ensures.logs) made.logs table seat less in
     let made_count = length (puts_to old.view.low old.view.seen) in
     let low = subst (λ (s : Setup). old.view.low < subs_in s) (sym c.requires.of.setup) h.script.known in
     let puts = subst (λ (v : View). v.low < subs_in v.setup
