@@ -82,8 +82,8 @@ resound setup ws new history owner k u o same =
             known = h.known;
             alone = h.alone;
             lock = same node (lock_word node) is (is_lock refl) ∙ h.lock;
-            won = h.won;
-            last = h.last;
+            drawn = h.drawn;
+            owed = h.owed;
             tally = λ owes. same node (tally_word setup node) is (is_tally refl) ∙ h.tally owes;
           };
       unwritten = λ key is. let h = o.unwritten key is in
@@ -95,4 +95,5 @@ resound setup ws new history owner k u o same =
                 (is_cell key h.cell refl refl) ∙ h.word;
           };
       outside = o.outside;
+      others = o.others;
     }

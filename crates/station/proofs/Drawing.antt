@@ -20,7 +20,7 @@ use Rattle.station.specs.Rule.{KeepsRule, IsViewOf}
 use Rattle.station.specs.Plays.{Seat, visit_by, key_put, word_before, view_with_ticket, DrawsTicket}
 use Rattle.station.specs.Visits.{MayDraw}
 use Rattle.station.specs.declared.view.View.{View}
-use Rattle.station.proofs.Won.{one_lost}
+use Rattle.station.proofs.Logging.{all-logged, log-stays}
 use Rattle.station.proofs.Fronts.{front-longer, own-other, own-mine}
 use Rattle.station.proofs.Steps.{St, with, owned, seat_below}
 use Rattle.station.proofs.Turning.{written_here, tallied_here, no_key, some_not_none, same_some}
@@ -42,6 +42,11 @@ put_node setting (Look other) key e = absurd (no_key key e)
 put_node setting (Put other word) key e = sym (ap (λ (o : Option Key). key_node setting
     (Rattle.std.specs.Prelude.unwrap_or o key)) e)
 put_node setting (Census node) key e = absurd (no_key key e)
+
+put_word : (act : Act) (key : Key) → key_put act ≡ Some key → (word : ℕ) × (act ≡ Put key word)
+put_word (Look other) key e = absurd (no_key key e)
+put_word (Put other word) key e = (word, ap (λ (k : Key). Put k word) (same_some other key e))
+put_word (Census node) key e = absurd (no_key key e)
 
 put_before : (setup : Setup) (history : History) (act : Act) (key : Key) → key_put act ≡ Some key
     → cell (setting_in setup) history key ≡ word_before setup history act
@@ -99,8 +104,21 @@ grows law s id x new v act o me may is =
                   known = here.known;
                   alone = here.alone;
                   lock = words x ∙ here.lock;
-                  won = here.won;
-                  last = λ _. ap (λ l. visits_at setting x l) (drop_all history visit);
+                  drawn = λ _. record {
+                    earlier = history;
+                    visit = visit;
+                    begins = front-itself longer;
+                    mine = refl;
+                    meant = may.intended;
+                    at = may.at;
+                    count = refl;
+                    last = ap (λ l. visits_at setting x l) (drop_all history visit);
+                    put = put_word act;
+                    word = λ key put. sym (put_before setup history act key put);
+                    moves = λ due. due;
+                    tally = λ _. refl;
+                  };
+                  owed = λ _. refl;
                   tally = λ _. words _ ∙ o.tallies x here.known (tallied_here setup s o id x v me others
                       (λ due _. true≢false (sym due ∙ may.clear)));
                 };
@@ -113,6 +131,7 @@ grows law s id x new v act o me may is =
                   ∙ put_before setup history act key put);
             };
             outside = λ out. absurd (some_not_none x (sym may.inside ∙ out));
+            others = was.others;
           }))
           (λ (t : (k ≢ id) × (get_elem? s.views k ≡ some u)). let old = o.views k u t.1 in record {
             setup_is = old.setup_is;
@@ -132,14 +151,28 @@ grows law s id x new v act o me may is =
               known = h.known;
               alone = h.alone;
               lock = words node ∙ h.lock;
-              won = h.won;
-              last = λ d. at-push setting node u.visit_count history visit
-                  (λ e. others k u t.0 t.1 (at ∙ ap (λ (n : ℕ). Some n) (sym e ∙ may.at))) (h.last d);
+              drawn = λ drawn. let d = h.drawn drawn in record {
+                earlier = d.earlier;
+                visit = d.visit;
+                begins = front-longer (d.earlier ++ d.visit ∷ []) history (visit ∷ []) d.begins;
+                mine = d.mine;
+                meant = d.meant;
+                at = d.at;
+                count = d.count;
+                last = at-push setting node u.visit_count history visit
+                    (λ e. others k u t.0 t.1 (at ∙ ap (λ (n : ℕ). Some n) (sym e ∙ may.at))) d.last;
+                put = d.put;
+                word = d.word;
+                moves = d.moves;
+                tally = d.tally;
+              };
+              owed = h.owed;
               tally = λ due. words _ ∙ h.tally due;
             };
             unwritten = λ key put. let h = old.unwritten key put in
                 record { cell = h.cell; inside = h.inside; drawn = h.drawn; word = words _ ∙ h.word };
             outside = old.outside;
+            others = old.others;
           })
           (at_set s.views id k w u there);
       actors = λ actor below. owned s o.owner id actor v w me refl refl near (o.actors actor below);
@@ -152,7 +185,11 @@ grows law s id x new v act o me may is =
           few_more (own actor history) visit (own actor longer) (own-mine actor history visit e) (subst (λ
           (l : History). length l < 2 ^ 56) (sym same) little))
           (λ ne. subst (λ (l : History). length l ≤ 2 ^ 56) (sym (own-other actor history visit ne)) (o.few actor));
-      lost = one_lost setup s.views id v w me near (λ turn had. had) o.lost (λ turn had. o.lost id v me turn had);
+      turns = o.turns;
+      in_turn = o.in_turn;
+      strangers = o.strangers;
+      lock_words = λ node known. words node ∙ o.lock_words node known;
+      logged = all-logged setup s o id w o.turns (log-stays setup s o id v w me refl refl refl refl);
       locks = λ node actor known names. still_held s o.owner id node actor v w me refl refl
           (o.locks node actor known (sym (words node) ∙ names));
       cells = λ key known quiet. words _ ∙ (o.cells key known (λ k u there put. dite (ℕ_discrete k id)

@@ -18,7 +18,8 @@ use Rattle.station.specs.Plays.{first_view, view_of_first, view_of_rest}
 use Rattle.station.specs.declared.view.NodeTurn.{NodeTurn}
 use Rattle.station.specs.declared.view.View.{View}
 use Rattle.std.specs.List.{Contains}
-use Rattle.station.proofs.Won.{GoOn, HasWonToo, one_goes_on, still_won}
+use Rattle.station.specs.Turns.{HasLogged}
+use Rattle.station.proofs.Logging.{log-nil, logged-same}
 use Rattle.station.proofs.Steps.{St, seat_below, no_some}
 use Rattle.station.proofs.Turning.{no_key}
 use Rattle.station.proofs.Writing.{cell_below}
@@ -62,12 +63,17 @@ opens below setup words lies few inside all =
             inside = λ node is. absurd (no_some node is);
             unwritten = λ key is. absurd (no_key key is);
             outside = λ _. (refl, refl);
+            others = λ _ _ turn had. absurd (none_lost turn had);
           };
       actors = λ actor below. (v, refl, (omega arith, below));
       known = λ _ _. refl;
       few = λ _. omega arith;
-      lost = λ k u at turn had. absurd (none_lost turn (subst (λ (y : View). Contains y.lost turn)
-          (sym (one_view v u k at).1) had));
+      turns = [];
+      in_turn = log-nil;
+      strangers = λ _ _. refl;
+      lock_words = λ node known. o.locks node known (omega (arith, all.size, known));
+      logged = λ k u at. subst (λ (y : View). HasLogged [] y) (one_view v u k at).1
+          record { later = []; goes_on = refl; by_others = λ _ _. refl; lost = λ _ _. refl };
       locks = λ node actor known is. absurd (omega (arith, o.locks node known (omega (arith, all.size, known)), is));
       cells = λ key known _. o.cells key known (subst (λ (k : ℕ). cell_word setup key < k) (sym all.size)
           (cell_below below setup key known));
@@ -98,9 +104,8 @@ pub record Forks (setup : Setup) (s : St) (o : KeepsRule setup s) (j : ℕ) (v l
   pub inside : l.inside ≡ v.inside
   pub unwritten : l.unwritten ≡ v.unwritten
   pub owes : l.owes ≡ v.owes
-  pub won : HasWonToo v l
-  pub lost_left : l.lost ≡ v.lost
-  pub lost_right : (turn : NodeTurn) → Contains r.lost turn → Contains v.lost turn
+  pub logged_left : HasLogged o.turns l
+  pub logged_right : HasLogged o.turns r
   pub sound : IsSoundView setup s.words o.history owner j l
   pub new : IsSoundView setup s.words o.history owner (length s.views) r
 
@@ -137,6 +142,7 @@ forked setup s o j v l r owner f =
             inside = was.inside;
             unwritten = was.unwritten;
             outside = was.outside;
+            others = was.others;
           })
           (at_set s.views j k l u old))
           (λ (t : (k ≡ length vs) × (r ≡ u)). subst (λ (y : View). IsSoundView setup s.words o.history owner k y) t.1
@@ -166,19 +172,17 @@ forked setup s o j v l r owner f =
           ));
       known = o.known;
       few = o.few;
-      lost = λ k u at turn had.
-          let on : GoOn s.views (vs ++ r ∷ []) = λ seat view is.
-          let next = one_goes_on s.views j v l f.me near f.won seat view is in
-          (next.0, next.1, at_longer vs (r ∷ []) next.0 next.1 next.2, next.3) in
-          still_won setup s.views (vs ++ r ∷ []) turn on (⊎_elim
+      turns = o.turns;
+      in_turn = o.in_turn;
+      strangers = o.strangers;
+      lock_words = o.lock_words;
+      logged = λ k u at. ⊎_elim
           (λ (old : get_elem? vs k ≡ some u). ⊎_elim
-          (λ (t : (k ≡ j) × (l ≡ u)). o.lost j v f.me turn (subst (λ (x : List NodeTurn). Contains x turn) f.lost_left
-          (subst (λ (y : View). Contains y.lost turn) (sym t.1) had)))
-          (λ (t : (k ≢ j) × (get_elem? s.views k ≡ some u)). o.lost k u t.1 turn had)
+          (λ (t : (k ≡ j) × (l ≡ u)). subst (λ (y : View). HasLogged o.turns y) t.1 f.logged_left)
+          (λ (t : (k ≢ j) × (get_elem? s.views k ≡ some u)). o.logged k u t.1)
           (at_set s.views j k l u old))
-          (λ (t : (k ≡ length vs) × (r ≡ u)). o.lost j v f.me turn
-          (f.lost_right turn (subst (λ (y : View). Contains y.lost turn) (sym t.1) had)))
-          (at_end vs r u k at));
+          (λ (t : (k ≡ length vs) × (r ≡ u)). subst (λ (y : View). HasLogged o.turns y) t.1 f.logged_right)
+          (at_end vs r u k at);
       locks = λ node actor known is. let t = o.locks node actor known is in dite (ℕ_discrete (o.owner actor) j)
           (λ e. let same = mine (o.owner actor) t.0 e t.1 in
           let in_node : v.inside ≡ Some node = ap (λ (y : View). y.inside) (sym same) ∙ t.2 in
@@ -232,9 +236,10 @@ deals setup id v more out clear s o me =
       inside = refl;
       unwritten = refl;
       owes = refl;
-      won = λ turn had. had;
-      lost_left = refl;
-      lost_right = λ turn had. had;
+      logged_left = logged-same o.turns v (view_of_rest v) refl refl (λ actor st. (omega arith, omega arith))
+          (o.logged id v me);
+      logged_right = logged-same o.turns v (view_of_first v) refl refl (λ actor st. (omega arith, omega arith))
+          (o.logged id v me);
       sound = record {
         setup_is = was.setup_is;
         has = record {
@@ -251,6 +256,7 @@ deals setup id v more out clear s o me =
         inside = λ node is. absurd (no_some node (sym out ∙ is));
         unwritten = λ key is. absurd (no_key key (sym clear ∙ is));
         outside = λ _. calm;
+        others = λ actor st. was.others actor (omega arith, omega arith);
       };
       new = record {
         setup_is = was.setup_is;
@@ -267,5 +273,6 @@ deals setup id v more out clear s o me =
         inside = λ node is. absurd (no_some node (sym out ∙ is));
         unwritten = λ key is. absurd (no_key key (sym clear ∙ is));
         outside = λ _. calm;
+        others = λ actor st. was.others actor (omega arith, omega arith);
       };
     }

@@ -86,6 +86,13 @@ census-push law setting history node visit calm =
     ∙ here-same law setting history node sub visit.act calm in
     λ i. sift (λ sub. same sub i) 0 (subs setting)
 
+-- counting changes nothing
+pub census-counted : (setting : Setting) (history : History) (node actor at : ℕ)
+    → census setting (history ++ record { actor = actor; act = Census at } ∷ []) node ≡ census setting history node
+census-counted setting history node actor at =
+    let visit : Visit = record { actor = actor; act = Census at } in
+    λ i. sift (λ sub. says_here (mark_in (cell-push setting (Presence node sub) history visit i))) 0 (subs setting)
+
 -- no visit is at a node, still, after one elsewhere
 pub at-push : (setting : Setting) (node count : ℕ) (history : History) (visit : Visit)
     → act_node setting visit.act ≢ node

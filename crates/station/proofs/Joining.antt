@@ -12,19 +12,17 @@ use Rattle.directory.specs.Histories.{History, IsFront, own}
 use Rattle.directory.specs.Legal.{IsLegal}
 use Rattle.trail_laws.specs.Within.{HistoryFrontsAreLegal}
 use Rattle.station.specs.Setup.{Setup, setting_in}
-use Rattle.station.specs.Views.{IsSoundView, StandsForActor, turn_at}
+use Rattle.station.specs.Views.{IsSoundView, StandsForActor}
 use Rattle.station.specs.Rule.{KeepsRule, IsViewOf}
 use Rattle.station.specs.Plays.{Seat, note_of, longer, view_with_note, spent_view, IsLearned, Learns}
 use Rattle.station.specs.Passes.{IsPass}
-use Rattle.station.specs.declared.view.NodeTurn.{NodeTurn}
 use Rattle.station.specs.declared.view.View.{View}
-use Rattle.std.specs.List.{Contains}
-use Rattle.std.proofs.lemmas.List.Elements.{Contains-append_left, Contains-append_right}
 use Rattle.station.proofs.Fronts.{front-of_longer, own-between, own-none_longer}
 use Rattle.station.proofs.Steps.{St, seat_below, no_some}
 use Rattle.station.proofs.Turning.{no_key}
-use Rattle.station.proofs.Forking.{forked, none_lost}
-use Rattle.station.proofs.Won.{GoOn, HasWonToo, still_won}
+use Rattle.station.proofs.Forking.{forked}
+use Rattle.station.specs.Turns.{HasLogged}
+use Rattle.station.proofs.Logging.{logged-same}
 use Rattle.station.proofs.Reading.{unmoved}
 use Rattle.station.specs.TicketLaws.{tickets-same}
 
@@ -41,9 +39,13 @@ notes setup id v s o me =
       inside = refl;
       unwritten = refl;
       owes = refl;
-      won = λ turn had. had;
-      lost_left = refl;
-      lost_right = λ turn had. absurd (none_lost turn had);
+      logged_left = o.logged id v me;
+      logged_right = record {
+        later = (o.logged id v me).later;
+        goes_on = (o.logged id v me).goes_on;
+        by_others = λ actor st. absurd (omega (arith, st.1));
+        lost = λ actor st. absurd (omega (arith, st.1));
+      };
       sound = was;
       new = record {
         setup_is = was.setup_is;
@@ -58,6 +60,7 @@ notes setup id v s o me =
         inside = λ node is. absurd (no_some node is);
         unwritten = λ key is. absurd (no_key key is);
         outside = λ _. (refl, refl);
+        others = λ actor st. absurd (omega (arith, st.1));
       };
     }
 
@@ -75,9 +78,7 @@ pub record Takes (setup : Setup) (s : St) (o : KeepsRule setup s) (id other : �
   pub inside : b.inside ≡ v.inside
   pub unwritten : b.unwritten ≡ v.unwritten
   pub owes : b.owes ≡ v.owes
-  pub won : HasWonToo v b
-  pub won_there : HasWonToo w b
-  pub lost : b.lost ≡ v.lost
+  pub logged : HasLogged o.turns b
   pub kept : (node : ℕ) → v.inside ≡ Some node → b.low ≡ v.low
   pub sound : IsSoundView setup s.words o.history owner id b
 
@@ -96,6 +97,7 @@ spent_sound setup words history owner seat = record {
   inside = λ node is. absurd (no_some node is);
   unwritten = λ key is. absurd (no_key key is);
   outside = λ _. (refl, refl);
+  others = λ actor st. absurd (omega (arith, st.1));
 }
 
 pub taken : (setup : Setup) (s : St) (o : KeepsRule setup s) (id other : ℕ) (v w b : View) (owner : ℕ → ℕ)
@@ -144,6 +146,7 @@ taken setup s o id other v w b owner t =
             inside = was.inside;
             unwritten = was.unwritten;
             outside = was.outside;
+            others = was.others;
           })
           (at_set s.views id k b u x.1))
           (at_set vs other k spent_view u at);
@@ -165,33 +168,22 @@ taken setup s o id other v w b owner t =
           )));
       known = o.known;
       few = o.few;
-      lost = λ k u at turn had.
-          let on : GoOn s.views (set vs other spent_view) = λ seat view is. dite (ℕ_discrete seat id)
-          (λ e. (
-            id,
-            b,
-            here,
-            λ had_it won. t.won had_it (subst (λ (y : View). Contains y.won had_it)
-                (mine seat view e is) won),
-          ))
-          (λ ne. dite (ℕ_discrete seat other)
-          (λ e. (
-            id,
-            b,
-            here,
-            λ had_it won. t.won_there had_it (subst (λ (y : View). Contains y.won had_it)
-                (theirs seat view e is) won),
-          ))
-          (λ no_other. (seat, view, there seat view ne no_other is, λ had_it won. won))) in
-          still_won setup s.views (set vs other spent_view) turn on (⊎_elim
-          (λ (x : (k ≡ other) × (spent_view ≡ u)). absurd (none_lost turn (subst (λ (y : View). Contains y.lost turn)
-          (sym x.1) had)))
+      turns = o.turns;
+      in_turn = o.in_turn;
+      strangers = o.strangers;
+      lock_words = o.lock_words;
+      logged = λ k u at. ⊎_elim
+          (λ (x : (k ≡ other) × (spent_view ≡ u)). subst (λ (y : View). HasLogged o.turns y) x.1 record {
+            later = o.turns;
+            goes_on = refl;
+            by_others = λ actor st. absurd (omega (arith, st.1));
+            lost = λ actor st. absurd (omega (arith, st.1));
+          })
           (λ (x : (k ≢ other) × (get_elem? vs k ≡ some u)). ⊎_elim
-          (λ (y : (k ≡ id) × (b ≡ u)). o.lost id v t.me turn (subst (λ (l : List NodeTurn). Contains l turn) t.lost
-          (subst (λ (z : View). Contains z.lost turn) (sym y.1) had)))
-          (λ (y : (k ≢ id) × (get_elem? s.views k ≡ some u)). o.lost k u y.1 turn had)
+          (λ (y : (k ≡ id) × (b ≡ u)). subst (λ (z : View). HasLogged o.turns z) y.1 t.logged)
+          (λ (y : (k ≢ id) × (get_elem? s.views k ≡ some u)). o.logged k u y.1)
           (at_set s.views id k b u x.1))
-          (at_set vs other k spent_view u at));
+          (at_set vs other k spent_view u at);
       locks = λ node actor known is. let x = o.locks node actor known is in dite (ℕ_discrete (o.owner actor) id)
           (λ e. let same = mine (o.owner actor) x.0 e x.1 in
           let in_node : v.inside ≡ Some node = ap (λ (y : View). y.inside) (sym same) ∙ x.2 in
@@ -278,9 +270,7 @@ hears setup id other v w low high out s o me ne at =
       inside = refl;
       unwritten = refl;
       owes = refl;
-      won = λ turn had. Contains-append_left v.won w.won turn had;
-      won_there = λ turn had. Contains-append_right v.won w.won turn had;
-      lost = refl;
+      logged = logged-same o.turns v b refl refl (λ actor st. st) (o.logged id v me);
       kept = λ node _. refl;
       sound = record {
         setup_is = was.setup_is;
@@ -298,13 +288,28 @@ hears setup id other v w low high out s o me ne at =
               known = h.known;
               alone = h.alone;
               lock = h.lock;
-              won = Contains-append_left v.won w.won (turn_at node (suc v.low)) h.won;
-              last = h.last;
+              drawn = λ drawn. let d = h.drawn drawn in
+                  record {
+                    earlier = d.earlier;
+                    visit = d.visit;
+                    begins = d.begins;
+                    mine = d.mine;
+                    meant = d.meant;
+                    at = d.at;
+                    count = d.count;
+                    last = d.last;
+                    put = d.put;
+                    word = d.word;
+                    moves = d.moves;
+                    tally = d.tally;
+                  };
+              owed = h.owed;
               tally = h.tally;
             };
         unwritten = λ key is. let h = was.unwritten key is in
             record { cell = h.cell; inside = h.inside; drawn = h.drawn; word = h.word };
         outside = was.outside;
+        others = was.others;
       };
     }
 

@@ -17,4 +17,5 @@ mod Putting
 mod Listing
 mod Joining
 mod Ending
-mod Won
+mod Logging
+mod Timing

@@ -30,6 +30,7 @@ use Rattle.station.specs.Setup.{Setup, setting_in, subs_in, IsCellOf}
 use Rattle.station.specs.Handsets.{HandsetGoesOn, IsHandsetOf, Moves, moves_here, put_of}
 use Rattle.station.specs.Plays.{view_inside}
 use Rattle.station.specs.Visits.{MayDraw}
+use Rattle.station.specs.declared.view.TurnEvent.{TurnEvent}
 use Rattle.station.specs.declared.view.View.{View}
 use Rattle.station.proofs.Growing.{cell-push}
 use Rattle.station.specs.PutLaws.{puts-append}
@@ -338,13 +339,13 @@ pub census-short : (setting : Setting) (history : History) (node : ℕ)
 census-short setting history node = length-passing-le (λ s. says_here (mark_in (cell setting history
     (Presence node s)))) 0 (subs setting)
 
-pub may_put : (view : View) (node : ℕ) (key : Key) (word : ℕ) → view.has_drawn ≡ false → view.unwritten ≡ None
-    → view.owes ≡ false
+pub may_put : (view : View) (node : ℕ) (key : Key) (word : ℕ) (log : List TurnEvent) → view.has_drawn ≡ false
+    → view.unwritten ≡ None → view.owes ≡ false
     → node ≡ key_node (setting_in view.setup) key → length (own view.low view.seen) < 2 ^ 56
     → IsCellOf view.setup key → key_sub key ≡ view.low
     → IsLegal (setting_in view.setup) view.low (view.seen ++ put_of view.low key word ∷ [])
-    → MayDraw (view_inside view node (Put key word)) node (Put key word)
-may_put view node key word undrawn unwritten clear at few cell mine legal = record {
+    → MayDraw (view_inside view node (Put key word) log) node (Put key word)
+may_put view node key word log undrawn unwritten clear at few cell mine legal = record {
   inside = refl;
   intended = refl;
   undrawn = undrawn;

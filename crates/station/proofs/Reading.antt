@@ -40,7 +40,7 @@ pub all_seen : (setup : Setup) (s : St) (o : KeepsRule setup s) (j x : ℕ) (v :
     → visits_at (setting_in setup) x (drop (length v.seen) o.history) ≡ []
 all_seen setup s o j x v me turn =
     subst (λ (k : ℕ). visits_at (setting_in setup) x (drop k o.history) ≡ []) turn.count
-    (((o.views j v me).inside x turn.inside).last turn.has_drawn)
+    (((o.views j v me).inside x turn.inside).drawn turn.has_drawn).last
 
 -- what the history leaves in a cell there is what the view has seen of it
 pub cell_seen : SameKey → (setup : Setup) (s : St) (o : KeepsRule setup s) (j : ℕ) (v : View) (key : Key)

@@ -15,10 +15,10 @@ use Rattle.directory.specs.Census.{census}
 use Rattle.station.specs.Setup.{Setup, setting_in, nodes_in, IsCellOf, lock_word, tally_word, cell_word}
 use Rattle.station.specs.Views.{HasSeen, IsSoundView, StandsForActor}
 use Rattle.station.specs.Rule.{KeepsRule, IsViewOf, IsOwned, IsHeld}
-use Rattle.station.specs.declared.view.NodeTurn.{NodeTurn}
+use Rattle.station.specs.declared.view.TurnEvent.{TurnEvent}
 use Rattle.station.specs.declared.view.View.{View}
-use Rattle.std.specs.List.{Contains}
-use Rattle.station.proofs.Won.{HasWonToo, one_lost}
+use Rattle.station.specs.Turns.{lock_in}
+use Rattle.station.proofs.Logging.{LogGoes, all-logged}
 use Rattle.station.proofs.Apart.{IsWordAt, is_lock, is_tally, is_cell, resound}
 
 abbrev pub St : Type 0
@@ -69,8 +69,11 @@ pub record Changes (setup : Setup) (s : St) (o : KeepsRule setup s) (j x : ℕ) 
   pub before : (v.inside ≡ None) ⊎ (v.inside ≡ Some x)
   pub low : w.low ≡ v.low
   pub high : w.high ≡ v.high
-  pub won : HasWonToo v w
-  pub lost : w.lost ≡ v.lost
+  -- the log then
+  pub log : List TurnEvent
+  pub goes : LogGoes setup s o j w log
+  pub lock_else : (y : ℕ) → x ≢ y → lock_in log y ≡ lock_in o.turns y
+  pub lock_here : slice_index new (lock_word x) ≡ lock_in log x
   pub size : length new ≡ length s.words
   pub first : slice_index new 0 ≡ slice_index s.words 0
   pub elsewhere : (y k : ℕ) → y < nodes_in setup → x ≢ y → IsWordAt setup y k
@@ -114,8 +117,14 @@ changed setup s o j x v w new c =
       actors = λ actor below. owned s o.owner j actor v w c.me c.low c.high near (o.actors actor below);
       known = o.known;
       few = o.few;
-      lost = one_lost setup s.views j v w c.me near c.won o.lost
-          (λ turn had. o.lost j v c.me turn (subst (λ (l : List NodeTurn). Contains l turn) c.lost had));
+      turns = c.log;
+      in_turn = c.goes.in_turn;
+      strangers = c.goes.strangers;
+      lock_words = λ node known. dite (ℕ_discrete x node)
+          (λ e. subst (λ (n : ℕ). slice_index new (lock_word n) ≡ lock_in c.log n) e c.lock_here)
+          (λ ne. c.elsewhere node (lock_word node) known ne (is_lock refl)
+          ∙ (o.lock_words node known ∙ sym (c.lock_else node ne)));
+      logged = all-logged setup s o j w c.log c.goes;
       locks = λ node actor inside is. dite (ℕ_discrete x node)
           (λ e. subst (λ (n : ℕ). IsHeld (set s.views j w) o.owner n actor) e (c.lock actor (ap (λ
           (n : ℕ). slice_index new (lock_word n)) e ∙ is)))

@@ -10,8 +10,11 @@ use Rattle.directory.specs.Histories.{History, IsFront, before, own, tickets, ti
 use Rattle.directory.specs.Legal.{IsLegal}
 use Rattle.station.specs.Setup.{Setup, setting_in, subs_in}
 use Rattle.station.specs.Plays.{Draws, view_with_ticket, view_inside, view_outside, visit_by, key_put, MayDo}
-use Rattle.station.specs.Passes.{IsPass, PassData}
+use Rattle.station.specs.Passes.{IsPass, PassData, actor_of}
+use Rattle.station.specs.Turns.{HasHadTurn, Logs}
+use Rattle.station.specs.declared.view.TurnEvent.TheVariants.{GivenBack, Won}
 use Rattle.station.specs.Visits.{HasLeft, HasVisited, MayDraw}
+use Rattle.station.specs.declared.view.TurnEvent.{TurnEvent}
 use Rattle.station.specs.declared.view.View.{View}
 use Rattle.station.specs.TicketLaws.{tickets-mine, tickets-same}
 use Rattle.directory.specs.HistoryLaws.{tickets-count}
@@ -63,7 +66,7 @@ pass_after me new actor seen spare left ticket kept room earlier act p less coun
       few = omega (arith, p.few, one, less);
     }
 
-pub left_by : (there new : View) → new ≡ view_outside there → there.unwritten ≡ None → there.owes ≡ false
+pub left_by : (there new : View) → new ≡ view_outside there new.turns → there.unwritten ≡ None → there.owes ≡ false
     → HasLeft there new
 left_by there new e unwritten clear = subst (λ (v : View). HasLeft there v) (sym e) record {
   low = refl;
@@ -81,12 +84,12 @@ left_by there new e unwritten clear = subst (λ (v : View). HasLeft there v) (sy
 -- from the pass before to the pass after a whole visit
 pub pass_done : (me one two new : Me Act View) (actor seen spare left node ticket : ℕ) (kept : List ℕ) (room : ℕ)
     (act : Act)
-    → IsPass me actor seen spare kept room → left + 1 ≡ spare → one ≡ (view_inside me.0 node act, me.1)
+    → IsPass me actor seen spare kept room → left + 1 ≡ spare → one ≡ (view_inside me.0 node act one.0.turns, me.1)
     → Draws one.0 node act ticket two.0 → HasLeft two.0 new.0 → new.1 ≡ me.1
     → IsPass new actor (suc ticket) left (kept ++ ticket ∷ []) room
 pass_done me one two new actor seen spare left node ticket kept room act p less turn d gone_by slots =
     let v = me.0 in
-    let there : two.0 ≡ view_with_ticket (view_inside v node act) node act d.earlier = d.view
+    let there : two.0 ≡ view_with_ticket (view_inside v node act one.0.turns) node act d.earlier = d.view
     ∙ ap (λ (m : Me Act View). view_with_ticket m.0 node act d.earlier) turn in
     pass_after me new actor seen spare left ticket kept room d.earlier act p less d.count
     (subst (λ (l : History). IsFront l d.earlier) (ap (λ (m : Me Act View). m.0.seen) turn) d.seen)
@@ -100,7 +103,7 @@ pass_done me one two new actor seen spare left node ticket kept room act p less 
 
 -- a pass that has its turn at a node may draw the ticket of an act that puts nothing
 pub may_draw : (me one : Me Act View) (actor seen spare : ℕ) (kept : List ℕ) (room node : ℕ) (act : Act)
-    → IsPass me actor seen spare kept room → 1 ≤ spare → one ≡ (view_inside me.0 node act, me.1)
+    → IsPass me actor seen spare kept room → 1 ≤ spare → one ≡ (view_inside me.0 node act one.0.turns, me.1)
     → act_node (setting_in one.0.setup) act ≡ node → ((key : Key) → key_put act ≡ Some key → ⊥) → MayDo one.0 act
     → MayDraw one.0 node act
 may_draw me one actor seen spare kept room node act p some turn at none may = record {
@@ -119,24 +122,36 @@ may_draw me one actor seen spare kept room node act p some turn at none may = re
 -- a pass that has drawn the ticket of a look, and has looked, leaves the node with its visit made
 pub look_done : (me one two there new : Me Act View) (actor seen spare left node ticket : ℕ) (kept : List ℕ)
     (room : ℕ) (act : Act)
-    → IsPass me actor seen spare kept room → left + 1 ≡ spare → one ≡ (view_inside me.0 node act, me.1)
-    → Draws one.0 node act ticket two.0 → two.1 ≡ one.1 → there ≡ two → new ≡ (view_outside there.0, there.1)
+    → IsPass me actor seen spare kept room → left + 1 ≡ spare → one ≡ (view_inside me.0 node act one.0.turns, me.1)
+    → Draws one.0 node act ticket two.0 → two.1 ≡ one.1 → there ≡ two
+    → new ≡ (view_outside there.0 new.0.turns, there.1)
     → two.0.unwritten ≡ None → two.0.owes ≡ false
     → IsPass new actor (suc ticket) left (kept ++ ticket ∷ []) room
 look_done me one two there new actor seen spare left node ticket kept room act p less turn d slots same gone unwritten
     clear =
     pass_done me one two new actor seen spare left node ticket kept room act p less turn d
-    (left_by two.0 new.0 (ap (λ (m : Me Act View). m.0) gone ∙ ap (λ (m : Me Act View). view_outside m.0) same)
+    (left_by two.0 new.0 (ap (λ (m : Me Act View). m.0) gone
+    ∙ ap (λ (m : Me Act View). view_outside m.0 new.0.turns) same)
     unwritten clear)
     (ap (λ (m : Me Act View). m.1) gone ∙ (ap (λ (m : Me Act View). m.1) same
     ∙ (slots ∙ ap (λ (m : Me Act View). m.1) turn)))
 
+-- that a seat has won its turn, told of its pass
+pub pass_wins : (old pass : PassData) (actor node : ℕ) (log : List TurnEvent) → old ≡ pass → old.view.low ≡ actor
+    → Logs old.view.turns (Won actor node) log → Logs pass.view.turns (Won (actor_of pass) node) log
+pass_wins old pass actor node log told low wins =
+    subst (λ (q : PassData). Logs q.view.turns (Won (actor_of q) node) log) told
+    (subst (λ (a : ℕ). Logs old.view.turns (Won a node) log) (sym low) wins)
+
 pub visit_done : (old new : PassData) (one two : Me Act View) (node ticket : ℕ) (act : Act)
-    → one.0 ≡ view_inside old.view node act → Draws one.0 node act ticket two.0 → HasLeft two.0 new.view
+    → one.0 ≡ view_inside old.view node act one.0.turns → Draws one.0 node act ticket two.0 → HasLeft two.0 new.view
+    → act_node (setting_in old.view.setup) act ≡ node
+    → Logs old.view.turns (Won (actor_of old) node) one.0.turns
+    → Logs two.0.turns (GivenBack two.0.low node) new.view.turns
     → new.table ≡ old.table → new.seat ≡ old.seat → new.spare + 1 ≡ old.spare → HasVisited old act ticket new
-visit_done old new one two node ticket act turn d gone_by table seat less =
+visit_done old new one two node ticket act turn d gone_by at wins back table seat less =
     let v = old.view in
-    let there : two.0 ≡ view_with_ticket (view_inside v node act) node act d.earlier = d.view
+    let there : two.0 ≡ view_with_ticket (view_inside v node act one.0.turns) node act d.earlier = d.view
     ∙ ap (λ (m : View). view_with_ticket m node act d.earlier) turn in
     let setup : one.0.setup ≡ v.setup = ap (λ (x : View). x.setup) turn in
     record {
@@ -149,6 +164,11 @@ visit_done old new one two node ticket act turn d gone_by table seat less =
           → IsLegal (setting_in v.setup) sub l) (sym gone_by.seen)
           (subst (λ (s : Setup). (sub : ℕ) → sub < subs_in s → IsLegal (setting_in s) sub two.0.seen) setup d.legal);
       outside = gone_by.inside;
+      turn = subst (λ (n : ℕ). HasHadTurn v.low n v.turns new.view.turns) (sym at) record {
+        inside = one.0.turns;
+        won = wins;
+        given_back = subst (λ (x : View). Logs x.turns (GivenBack x.low node) new.view.turns) there back;
+      };
       lost = gone_by.lost ∙ ap (λ (x : View). x.lost) there;
       spare = less;
       same = record {
@@ -167,14 +187,18 @@ pass_is me actor seen seen' spare kept kept' room room' p a b c =
     (subst (λ (x : List ℕ). IsPass me actor seen spare x room') (sym b) (subst (λ
     (x : ℕ). IsPass me actor seen spare kept x) (sym c) p))
 
+-- what comes before the last visit
+pub before_last : (earlier seen : History) (visit : Visit) (ticket : ℕ) → length earlier ≡ ticket
+    → seen ≡ earlier ++ visit ∷ [] → before ticket seen ≡ earlier
+before_last earlier seen visit ticket count is = ap (λ (k : ℕ). take k seen) (sym count)
+    ∙ (ap (take (length earlier)) is ∙ take-append_seam earlier (visit ∷ []))
+
 -- what a visit has seen before its own ticket
 pub before_own : (old new : PassData) (act : Act) (ticket : ℕ) → (h : HasVisited old act ticket new)
     → before ticket new.view.seen ≡ h.earlier
-before_own old new act ticket h =
-    ap (λ (k : ℕ). take k new.view.seen) (sym h.count)
-    ∙ (ap (take (length h.earlier)) h.seen ∙ take-append_seam h.earlier (visit_by old.view act ∷ []))
+before_own old new act ticket h = before_last h.earlier new.view.seen (visit_by old.view act) ticket h.count h.seen
 
-pub seen_done : (v one two new : View) (node ticket : ℕ) (act : Act) → one ≡ view_inside v node act
+pub seen_done : (v one two new : View) (node ticket : ℕ) (act : Act) → one ≡ view_inside v node act one.turns
     → (d : Draws one node act ticket two)
     → HasLeft two new → new.seen ≡ d.earlier ++ visit_by v act ∷ []
 seen_done v one two new node ticket act turn d left = left.seen ∙ (ap (λ (x : View). x.seen) d.view

@@ -1,5 +1,5 @@
 -- The turn at a node: it is won or lost, and given back.
-use Rattle.std.proofs.Common.{◌≡◌, ◌≢◌, ℕ, suc, ◌-◌, ◌<◌, ◌≤◌, ◌==◌, true, false, true≢false, List, [], ◌∷◌, length, set, refl, sym, ap, ◌∙◌, subst, inl, inr, ⊎_elim, arith, Some, None, get_or-set_other, get_or-set_same, length-set}
+use Rattle.std.proofs.Common.{◌≡◌, ◌≢◌, ℕ, suc, ◌-◌, ◌<◌, ◌≤◌, ◌==◌, true, false, true≢false, List, [], ◌∷◌, ◌++◌, length, set, refl, sym, ap, ◌∙◌, subst, inl, inr, ⊎_elim, arith, Some, None, get_or-set_other, get_or-set_same, length-set}
 use Rattle.std.specs.Prelude.{slice_index}
 use Rattle.std.proofs.lemmas.List.{set-get_or}
 use mathlib.Core.Option.{some, none, some-injective}
@@ -14,13 +14,17 @@ use Rattle.entry_word.specs.declared.visit.Act.{Act}
 use Rattle.directory.specs.Keys.{key_node}
 use Rattle.station.specs.Setup.{Setup, setting_in, nodes_in, lock_word, tally_word, cell_word}
 use Rattle.station.specs.Views.{IsSoundView, IsInsideNode, turn_at}
-use Rattle.station.specs.Rule.{KeepsRule, IsViewOf, IsHeld, IsCellWritten, IsTallied, WasWon}
+use Rattle.station.specs.Rule.{KeepsRule, IsViewOf, IsHeld, IsCellWritten, IsTallied}
 use Rattle.station.specs.Plays.{Seat, view_inside, view_held, Turns, view_outside, Leaves}
 use Rattle.station.specs.declared.view.NodeTurn.{NodeTurn}
 use Rattle.station.specs.declared.view.View.{View}
 use Rattle.std.specs.List.{Contains}
-use Rattle.std.proofs.lemmas.List.Elements.{Contains-append_left, Contains-push, Contains-push_cases}
-use Rattle.station.proofs.Won.{HasWonToo, one_lost}
+use Rattle.std.proofs.lemmas.List.Elements.{Contains-push_cases}
+use Rattle.station.specs.Turns.{IsInTurn, Logs, lock_in}
+use Rattle.station.specs.declared.view.TurnEvent.{TurnEvent}
+use Rattle.station.specs.declared.view.TurnEvent.TheVariants.{Won, GivenBack, Lost}
+use Rattle.station.proofs.Logging.{LogGoes, all-logged, lock-back, lock-back_else, lock-push, lock-won, lock-won_else, log-goes, logs}
+use Rattle.std.proofs.lemmas.List.{append-nil}
 use Rattle.station.proofs.Apart.{is_lock, else_where, one_inside, behind}
 use Rattle.station.proofs.Steps.{St, with, owned, seat_below, changed, has-kept, no_some}
 use Rattle.visit_log.specs.Numbers.{NumbersApart}
@@ -55,9 +59,9 @@ tallied_here setup s o j x v me alone mine k u there owes is = dite (ℕ_discret
 -- the view of a seat changes in what the rule doesn't speak of
 pub restated : (setup : Setup) (s : St) (o : KeepsRule setup s) (j : ℕ) (v w : View) → IsViewOf s.views j v
     → w.low ≡ v.low → w.high ≡ v.high → w.inside ≡ v.inside → w.unwritten ≡ v.unwritten → w.owes ≡ v.owes
-    → HasWonToo v w → ((turn : NodeTurn) → Contains w.lost turn → WasWon setup s.views turn)
+    → (log : List TurnEvent) → LogGoes setup s o j w log → ((node : ℕ) → lock_in log node ≡ lock_in o.turns node)
     → IsSoundView setup s.words o.history o.owner j w → KeepsRule setup (with s.words s j w)
-restated setup s o j v w me low high inside unwritten owes won lost mine =
+restated setup s o j v w me low high inside unwritten owes log goes locked mine =
     let near = seat_below s.views j v me in
     record {
       history = o.history;
@@ -74,7 +78,11 @@ restated setup s o j v w me low high inside unwritten owes won lost mine =
       actors = λ actor below. owned s o.owner j actor v w me low high near (o.actors actor below);
       known = o.known;
       few = o.few;
-      lost = one_lost setup s.views j v w me near won o.lost lost;
+      turns = log;
+      in_turn = goes.in_turn;
+      strangers = goes.strangers;
+      lock_words = λ node known. o.lock_words node known ∙ sym (locked node);
+      logged = all-logged setup s o j w log goes;
       locks = λ node actor known is. let t = o.locks node actor known is in dite (ℕ_discrete (o.owner actor) j)
           (λ e. let same : t.0 ≡ v = some-injective t.0 v (sym t.1 ∙ (ap (get_elem? s.views) e ∙ me)) in (
             w,
@@ -106,10 +114,12 @@ no_key key e = cc
 entering : NumbersApart → (setup : Setup) (s : St) (o : KeepsRule setup s) (j x : ℕ) (v : View) (act : Act)
     → IsViewOf s.views j v
     → x < nodes_in setup → v.high ≡ suc v.low → IsIdle v → slice_index s.words (lock_word x) ≡ 0
-    → KeepsRule setup (with (set s.words (lock_word x) (suc v.low)) s j (view_inside v x act))
+    → KeepsRule setup (with (set s.words (lock_word x) (suc v.low)) s j
+    (view_inside v x act (o.turns ++ Won v.low x ∷ [])))
 entering law setup s o j x v act me known alone idle free =
     let new = set s.words (lock_word x) (suc v.low) in
-    let w = view_inside v x act in
+    let log : List TurnEvent = o.turns ++ Won v.low x ∷ [] in
+    let w = view_inside v x act log in
     let was = o.views j v me in
     let near = seat_below s.views j v me in
     let wide : lock_word x < length s.words = omega (arith, o.size) in
@@ -122,8 +132,11 @@ entering law setup s o j x v act me known alone idle free =
       before = inl idle.out;
       low = refl;
       high = refl;
-      won = λ turn had. Contains-append_left v.won (turn_at x (suc v.low) ∷ []) turn had;
-      lost = refl;
+      log = log;
+      goes = log-goes setup s o j v w (Won v.low x) me alone refl (sym (o.lock_words x known) ∙ free) refl refl refl
+          (sym (append-nil v.lost));
+      lock_else = λ y ne. lock-won_else o.turns v.low x y ne;
+      lock_here = get_or-set_same s.words (lock_word x) (suc v.low) 0 wide ∙ sym (lock-won o.turns v.low x);
       size = length-set s.words (lock_word x) (suc v.low);
       first = get_or-set_other s.words (lock_word x) 0 (suc v.low) 0 (λ e. omega arith);
       elsewhere = λ y k iny ne word. else_where law setup s.words x y (lock_word x) k (suc v.low) known iny ne
@@ -137,12 +150,13 @@ entering law setup s o j x v act me known alone idle free =
               known = known;
               alone = alone;
               lock = get_or-set_same s.words (lock_word x) (suc v.low) 0 wide;
-              won = Contains-push v.won (turn_at x (suc v.low));
-              last = λ drawn. absurd (true≢false (sym drawn ∙ (was.outside idle.out).0));
+              drawn = λ drawn. absurd (true≢false (sym drawn ∙ (was.outside idle.out).0));
+              owed = λ owes. absurd (true≢false (sym owes ∙ (was.outside idle.out).1));
               tally = λ owes. absurd (true≢false (sym owes ∙ (was.outside idle.out).1));
             };
         unwritten = λ key is. absurd (no_key key (sym idle.unwritten ∙ is));
         outside = λ is. absurd (some_not_none x is);
+        others = was.others;
       };
       alone = others;
       lock = λ actor is. let e : suc v.low ≡ suc actor = sym (get_or-set_same s.words (lock_word x)
@@ -168,17 +182,24 @@ turns law setup n id x m act known alone idle s o wide me small =
     × KeepsRule setup (stepped s (lock_word x) k id m.1 w a)
     × Turns (step n (lock_word x) 0 (suc m.0.low) (some act)) m word (w, carried_after m.1 a) in
     exchanged word 0 (suc m.0.low) Goes
-    (λ free. (
-      view_inside m.0 x act,
+    (λ free. let log : List TurnEvent = o.turns ++ Won m.0.low x ∷ [] in (
+      view_inside m.0 x act log,
       keeps,
       tt,
       entering law setup s o id x m.0 act me known alone idle free,
       λ node other at said.
-          let a : x ≡ node = omega arith in let b : act ≡ other = some-injective act other said in
-          ((λ _. λ i. (view_inside m.0 (a i) (b i), m.1)), (λ not. absurd (not free))),
+          let a : x ≡ node = omega arith in let b : act ≡ other = some-injective act other said in (
+            (λ _. (
+              (λ i. (view_inside m.0 (a i) (b i) log, m.1)),
+              subst (λ (n : ℕ). Logs m.0.turns (Won m.0.low n) log) a
+                  (logs setup s o id m.0 (Won m.0.low x) me alone refl (sym (o.lock_words x known) ∙ free)),
+            )),
+            (λ not. absurd (not free)),
+          ),
     ))
     (λ taken. let was = o.views id m.0 me in
-    let w = view_held m.0 x word in
+    let log : List TurnEvent = o.turns ++ Lost m.0.low x word ∷ [] in
+    let w = view_held m.0 x word log in
     let b : ℕ = word - 1 in
     let held : IsHeld s.views o.owner x b = o.locks x b known (omega arith) in
     let theirs = o.views (o.owner b) held.0 held.1 in
@@ -189,32 +210,38 @@ turns law setup n id x m act known alone idle s o wide me small =
     let other : word ≢ suc m.0.low = λ e.
     let mine : o.owner b ≡ id = ap o.owner (omega arith) ∙ (was.owner_is m.0.low (omega arith, omega arith)).0 in
     let same : held.0 ≡ m.0 = some-injective held.0 m.0 (sym held.1 ∙ (ap (get_elem? s.views) mine ∙ me)) in
-    some_not_none x (sym held.2 ∙ (ap (λ (y : View). y.inside) same ∙ idle.out)) in (
+    some_not_none x (sym held.2 ∙ (ap (λ (y : View). y.inside) same ∙ idle.out)) in
+    let may : IsInTurn o.turns (Lost m.0.low x word) = (sym (o.lock_words x known), taken, other) in (
       w,
       keeps,
       tt,
       subst (λ (ws : List ℕ). KeepsRule setup (with ws s id w)) (sym (set-get_or s.words (lock_word x) 0))
-          (restated setup s o id m.0 w me refl refl refl refl refl (λ turn had. had) (λ turn had. ⊎_elim
-          (λ (old : Contains m.0.lost turn). o.lost id m.0 me turn old)
-          (λ (e : turn_at x word ≡ turn). subst (λ (t : NodeTurn). WasWon setup s.views t) e record {
-            actor = b;
-            names = omega arith;
-            below = below;
-            seat = o.owner b;
-            view = held.0;
-            there = held.1;
-            won = subst (λ (k : ℕ). Contains held.0.won (turn_at x k)) (omega arith) there.won;
-          })
-          (Contains-push_cases m.0.lost (turn_at x word) turn had)) record {
+          (restated setup s o id m.0 w me refl refl refl refl refl log
+          (log-goes setup s o id m.0 w (Lost m.0.low x word) me alone refl may refl refl refl refl)
+          (λ node. lock-push o.turns (Lost m.0.low x word) node) record {
             setup_is = was.setup_is;
             has = has-kept o.history m.0 w refl refl refl refl refl was.has;
             owner_is = was.owner_is;
             inside = λ node is. absurd (no_some node (sym idle.out ∙ is));
             unwritten = λ key is. absurd (no_key key (sym idle.unwritten ∙ is));
             outside = was.outside;
+            others = λ actor st turn had. ⊎_elim
+                (λ (old : Contains m.0.lost turn). was.others actor st turn old)
+                (λ (e : turn_at x word ≡ turn). λ names.
+                let its : actor ≡ m.0.low = omega (arith, st.0, st.1, alone) in
+                other (ap (λ (t : NodeTurn). t.word) e ∙ (names ∙ ap suc its)))
+                (Contains-push_cases m.0.lost (turn_at x word) turn had);
           }),
-      λ node said-act at said. let a : x ≡ node = omega arith in
-          ((λ is. absurd (taken is)), λ _. ((λ i. (view_held m.0 (a i) word, m.1)), other, few)),
+      λ node said-act at said. let a : x ≡ node = omega arith in (
+        (λ is. absurd (taken is)),
+        λ _. (
+          (λ i. (view_held m.0 (a i) word log, m.1)),
+          other,
+          few,
+          subst (λ (n : ℕ). Logs m.0.turns (Lost m.0.low n word) log) a
+              (logs setup s o id m.0 (Lost m.0.low x word) me alone refl may),
+        ),
+      ),
     ))
 
 -- the node is left
@@ -225,13 +252,15 @@ pub leaves : NumbersApart → (setup : Setup) (n id x : ℕ) (m : Seat) → m.0.
 leaves law setup n id x m there unwritten owes s o wide me small =
     let v = m.0 in
     let new = set s.words (lock_word x) 0 in
-    let w = view_outside v in
+    let log : List TurnEvent = o.turns ++ GivenBack v.low x ∷ [] in
+    let w = view_outside v log in
     let was = o.views id v me in
     let here = was.inside x there in
     let known = here.known in
     let near : lock_word x < length s.words = omega (arith, o.size, known) in
     let others : (k : ℕ) (u : View) → k ≢ id → IsViewOf s.views k u → u.inside ≢ Some x =
-    λ k u ne at is. ne (one_inside setup s o id k x v u me at there is) in (
+    λ k u ne at is. ne (one_inside setup s o id k x v u me at there is) in
+    let may : IsInTurn o.turns (GivenBack v.low x) = sym (o.lock_words x known) ∙ here.lock in (
       w,
       keeps,
       tt,
@@ -241,8 +270,11 @@ leaves law setup n id x m there unwritten owes s o wide me small =
         before = inr there;
         low = refl;
         high = refl;
-        won = λ turn had. had;
-        lost = refl;
+        log = log;
+        goes = log-goes setup s o id v w (GivenBack v.low x) me here.alone refl may refl refl refl
+            (sym (append-nil v.lost));
+        lock_else = λ y ne. lock-back_else o.turns v.low x y ne;
+        lock_here = get_or-set_same s.words (lock_word x) 0 0 near ∙ sym (lock-back o.turns v.low x);
         size = length-set s.words (lock_word x) 0;
         first = get_or-set_other s.words (lock_word x) 0 0 0 (λ e. omega arith);
         elsewhere = λ y k iny ne word. else_where law setup s.words x y (lock_word x) k 0 known iny ne
@@ -254,6 +286,7 @@ leaves law setup n id x m there unwritten owes s o wide me small =
           inside = λ node is. absurd (no_some node is);
           unwritten = λ key is. absurd (no_key key (sym unwritten ∙ is));
           outside = λ is. (refl, owes);
+          others = was.others;
         };
         alone = others;
         lock = λ actor is. let e : 0 ≡ suc actor = sym (get_or-set_same s.words (lock_word x) 0 0 near) ∙ is in
@@ -265,7 +298,12 @@ leaves law setup n id x m there unwritten owes s o wide me small =
             get_or-set_other s.words (lock_word x) (tally_word setup x) 0 0 (λ e. omega arith)
             ∙ o.tallies x known (tallied_here setup s o id x v me others (λ due is. true≢false (sym due ∙ owes)));
       },
-      refl,
+      (
+        refl,
+        λ node at. let a : x ≡ node = same_some x node (sym there ∙ at) in
+            subst (λ (n : ℕ). Logs v.turns (GivenBack v.low n) log) a
+            (logs setup s o id v (GivenBack v.low x) me here.alone refl may),
+      ),
     )
 
 pub turns_at : NumbersApart → (setup : Setup) (n id x i new : ℕ) (m : Seat) (act : Act) → x < nodes_in setup

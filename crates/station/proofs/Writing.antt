@@ -22,6 +22,7 @@ use Rattle.station.proofs.Apart.{is_tally, is_cell, else_where, behind, behind_t
 use Rattle.station.proofs.Steps.{St, seat_below, changed, has-kept, no_some}
 use Rattle.station.proofs.Turning.{written_here, tallied_here, no_key, same_some}
 use Rattle.station.proofs.Reading.{cell_seen, census_seen, alone}
+use Rattle.station.proofs.Logging.{log-stays}
 use Rattle.directory.specs.Statements.{SameKey}
 
 pub cell_below : NumbersBelow → (setup : Setup) (key : Key) → IsCellOf setup key
@@ -48,11 +49,13 @@ still_held s o j x actor v w me inside low t = dite (ℕ_discrete (o actor) j)
 sound-stored : (setup : Setup) (words ws : List ℕ) (history : History) (owner : ℕ → ℕ) (j x : ℕ) (v : View)
     (unwritten : Option Key) (owes : Bool) → (was : IsSoundView setup words history owner j v) → v.inside ≡ Some x
     → slice_index ws (lock_word x) ≡ slice_index words (lock_word x)
+    → (owes ≡ true → v.owes ≡ true)
     → (owes ≡ true → slice_index ws (tally_word setup x) ≡ v.tally)
+    → ((key : Key) → unwritten ≡ Some key → v.unwritten ≡ Some key)
     → ((key : Key) → unwritten ≡ Some key
     → HasUnwritten setup ws (record v { unwritten = unwritten; owes = owes }) key)
     → IsSoundView setup ws history owner j (record v { unwritten = unwritten; owes = owes })
-sound-stored setup words ws history owner j x v unwritten owes was there lock tally puts =
+sound-stored setup words ws history owner j x v unwritten owes was there lock still tally kept puts =
     let w : View = record v { unwritten = unwritten; owes = owes } in
     let here = was.inside x there in
     record {
@@ -64,12 +67,26 @@ sound-stored setup words ws history owner j x v unwritten owes was there lock ta
             known = here.known;
             alone = here.alone;
             lock = lock ∙ here.lock;
-            won = here.won;
-            last = here.last;
+            drawn = λ drawn. let d = here.drawn drawn in record {
+              earlier = d.earlier;
+              visit = d.visit;
+              begins = d.begins;
+              mine = d.mine;
+              meant = d.meant;
+              at = d.at;
+              count = d.count;
+              last = d.last;
+              put = λ key put. d.put key (kept key put);
+              word = λ key put. d.word key (kept key put);
+              moves = λ owed. d.moves (still owed);
+              tally = λ owed. d.tally (still owed);
+            };
+            owed = λ owed. here.owed (still owed);
             tally = tally;
           };
       unwritten = puts;
       outside = λ out. absurd (no_some x (sym out ∙ there));
+      others = was.others;
     }
 
 pub writes : NumbersApart → NumbersBelow → SameKey → (n id i new : ℕ) (m : Seat) (key : Key) → m.0.unwritten ≡ Some key
@@ -100,16 +117,18 @@ writes law below same n id i new m key put known at turn is s o wide me small =
         before = inr turn.inside;
         low = refl;
         high = refl;
-        won = λ turn had. had;
-        lost = refl;
+        log = o.turns;
+        goes = log-stays setup s o id v w me refl refl refl refl;
+        lock_else = λ _ _. refl;
+        lock_here = get_or-set_other s.words i (lock_word x) new 0 not_lock ∙ o.lock_words x here.known;
         size = length-set s.words i new;
         first = get_or-set_other s.words i 0 new 0 (λ e. first_apart (e ∙ at));
         elsewhere = λ y k iny ne word. else_where law setup s.words x y i k new here.known iny ne
             (is_cell key known refl at) word;
         mine = sound-stored setup s.words ws o.history o.owner id x v None v.owes was turn.inside
-            (get_or-set_other s.words i (lock_word x) new 0 not_lock)
+            (get_or-set_other s.words i (lock_word x) new 0 not_lock) (λ owes. owes)
             (λ owes. get_or-set_other s.words i (tally_word setup x) new 0 not_tally ∙ here.tally owes)
-            (λ other there. absurd (no_key other there));
+            (λ other there. absurd (no_key other there)) (λ other there. absurd (no_key other there));
         alone = others;
         lock = λ actor names. still_held s o.owner id x actor v w me refl refl
             (o.locks x actor here.known (sym (get_or-set_other s.words i (lock_word x) new 0 not_lock) ∙ names));
@@ -154,13 +173,16 @@ tallies law same n id x i new m turn at is s o wide me small =
         before = inr turn.inside;
         low = refl;
         high = refl;
-        won = λ turn had. had;
-        lost = refl;
+        log = o.turns;
+        goes = log-stays setup s o id v w me refl refl refl refl;
+        lock_else = λ _ _. refl;
+        lock_here = get_or-set_other s.words i (lock_word x) new 0 not_lock ∙ o.lock_words x here.known;
         size = length-set s.words i new;
         first = get_or-set_other s.words i 0 new 0 (λ e. omega (arith, at, e));
         elsewhere = λ y k iny ne word. else_where law setup s.words x y i k new here.known iny ne (is_tally at) word;
         mine = sound-stored setup s.words ws o.history o.owner id x v v.unwritten false was turn.inside
             (get_or-set_other s.words i (lock_word x) new 0 not_lock) (λ owes. absurd (true≢false (sym owes)))
+            (λ owes. absurd (true≢false (sym owes))) (λ key there. there)
             (λ key there. let h = was.unwritten key there in
             record {
               cell = h.cell;

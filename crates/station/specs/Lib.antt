@@ -1,6 +1,8 @@
 pub mod Setup
 pub mod Views
+pub mod Turns
 pub mod Rule
+pub mod Moments
 pub mod Plays
 pub mod Opening
 pub mod Passes

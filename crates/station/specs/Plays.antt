@@ -1,6 +1,6 @@
 -- What each step tells its seat: of the step, the seat before, the number found and the seat after.
 -- Key law: `Tracker::witness`, by its clause `rule` (the rule holds of a state with the view).
-use Rattle.std.specs.Prelude.{◌≡◌, ◌≢◌, ℕ, suc, ◌^◌, ◌<◌, ◌≤◌, true, false, [], ◌∷◌, ◌++◌, length, nat_lt, if◌then◌else◌, Option, Some, None}
+use Rattle.std.specs.Prelude.{◌≡◌, ◌≢◌, ℕ, suc, ◌^◌, ◌<◌, ◌≤◌, true, false, List, [], ◌∷◌, ◌++◌, length, nat_lt, if◌then◌else◌, Option, Some, None}
 use mathlib.Core.Option.{some}
 use Rattle.atomic_table.specs.Table.{Me, State, Step}
 use Rattle.entry_word.specs.declared.visit.Key.{Key}
@@ -14,6 +14,9 @@ use Rattle.directory.specs.Census.{census}
 use Rattle.station.specs.Setup.{Setup, setting_in, subs_in, IsCellOf, lock_word, tally_word, cell_word}
 use Rattle.station.specs.Views.{StandsForActor, turn_at}
 use Rattle.station.specs.Rule.{KeepsRule, IsViewOf}
+use Rattle.station.specs.Turns.{Logs}
+use Rattle.station.specs.declared.view.TurnEvent.{TurnEvent}
+use Rattle.station.specs.declared.view.TurnEvent.TheVariants.{Won, GivenBack, Lost}
 use Rattle.station.specs.declared.view.View.{View}
 
 -- a view with its slots, of which it has none
@@ -24,27 +27,26 @@ Seat = Me Act View
 abbrev pub Play : Type 1
 Play = Step Act → Seat → ℕ → Seat → Type 0
 
--- the view inside a node where it means to do an act: it has won the turn
-abbrev pub view_inside : View → ℕ → Act → View
-view_inside view node act =
-    record view {
-      inside = Some node;
-      intended = Some act;
-      won = view.won ++ turn_at node (suc view.low) ∷ [];
-    }
+-- the view inside a node where it means to do an act, and the log
+abbrev pub view_inside : View → ℕ → Act → List TurnEvent → View
+view_inside view node act log =
+    record view { inside = Some node; intended = Some act; turns = log }
 
--- the view that lost the turn
-abbrev pub view_held : View → ℕ → ℕ → View
-view_held view node word =
-    record view { lost = view.lost ++ turn_at node word ∷ [] }
+-- the view that lost the turn, and the log
+abbrev pub view_held : View → ℕ → ℕ → List TurnEvent → View
+view_held view node word log =
+    record view { lost = view.lost ++ turn_at node word ∷ []; turns = log }
 
--- the turn is won where the lock word was 0; where it wasn't, it names another actor
+-- the turn is won where the lock word was 0; where it wasn't, it names another actor, and the turn
+-- is lost; and it is logged so
 abbrev pub Turns : Play
 Turns step before found after =
     (node : ℕ) (act : Act) → step.word ≡ lock_word node → step.said ≡ some act
-    → (found ≡ 0 → after ≡ (view_inside before.0 node act, before.1))
-    × (found ≢ 0 → (after ≡ (view_held before.0 node found, before.1))
-    × (found ≢ suc before.0.low) × (found ≤ 128))
+    → (found ≡ 0 → (after ≡ (view_inside before.0 node act after.0.turns, before.1))
+    × Logs before.0.turns (Won before.0.low node) after.0.turns)
+    × (found ≢ 0 → (after ≡ (view_held before.0 node found after.0.turns, before.1))
+    × (found ≢ suc before.0.low) × (found ≤ 128)
+    × Logs before.0.turns (Lost before.0.low node found) after.0.turns)
 
 -- the view of the first seat stands for all actors
 abbrev pub first_view : Setup → View
@@ -65,7 +67,7 @@ first_view setup =
       before = 0;
       owes = false;
       tally = 0;
-      won = [];
+      turns = [];
       lost = [];
     }
 
@@ -88,7 +90,6 @@ note_of view =
       has_drawn = false;
       unwritten = None;
       owes = false;
-      won = [];
       lost = [];
     }
 
@@ -99,12 +100,7 @@ longer one other = if nat_lt (length one) (length other) then other else one
 -- a view that takes a note in
 abbrev pub view_with_note : View → View → View
 view_with_note view note =
-    record view {
-      seen = longer view.seen note.seen;
-      told = note.seen;
-      had = view.seen;
-      won = view.won ++ note.won;
-    }
+    record view { seen = longer view.seen note.seen; told = note.seen; had = view.seen }
 
 -- the setup that a spent note is left with
 abbrev pub no_setup : Setup
@@ -219,9 +215,10 @@ view_after_put view = record view { unwritten = None }
 abbrev pub view_after_tally : View → View
 view_after_tally view = record view { owes = false }
 
--- the node is left
-abbrev pub view_outside : View → View
-view_outside view = record view { inside = None; intended = None; has_drawn = false }
+-- the node is left, and the log
+abbrev pub view_outside : View → List TurnEvent → View
+view_outside view log =
+    record view { inside = None; intended = None; has_drawn = false; turns = log }
 
 -- a seat writes its put
 abbrev pub Writes : Play
@@ -231,9 +228,11 @@ Writes step before found after = after ≡ (view_after_put before.0, before.1)
 abbrev pub Tallies : Play
 Tallies step before found after = after ≡ (view_after_tally before.0, before.1)
 
--- a seat leaves its node
+-- a seat leaves its node, and its turn is logged as given back
 abbrev pub Leaves : Play
-Leaves step before found after = after ≡ (view_outside before.0, before.1)
+Leaves step before found after =
+    (after ≡ (view_outside before.0 after.0.turns, before.1)) × ((node : ℕ)
+    → before.0.inside ≡ Some node → Logs before.0.turns (GivenBack before.0.low node) after.0.turns)
 
 -- the rule holds, and a seat has the view
 pub record IsWitnessed (view : View) : Type 0 where

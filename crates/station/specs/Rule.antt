@@ -7,7 +7,6 @@
 --
 -- Key law: `Tracker::witness`, by its clause `rule` (a state meets it).
 use Rattle.std.specs.Prelude.{◌≡◌, ◌≢◌, ℕ, suc, ◌^◌, ◌<◌, ◌≤◌, true, List, [], length, Some, slice_index}
-use Rattle.std.specs.List.{Contains}
 use mathlib.Core.Option.{some}
 use lib.ListN.{get_elem?}
 use Rattle.atomic_table.specs.Table.{State}
@@ -18,7 +17,8 @@ use Rattle.directory.specs.Legal.{IsLegal}
 use Rattle.directory.specs.Census.{census}
 use Rattle.station.specs.Setup.{Setup, setting_in, nodes_in, subs_in, IsCellOf, CellsLie, lock_word, tally_word, cell_word, word_count}
 use Rattle.station.specs.Views.{IsSoundView, StandsForActor}
-use Rattle.station.specs.declared.view.NodeTurn.{NodeTurn}
+use Rattle.station.specs.Turns.{HasLogged, IsLog, events_of, lock_in}
+use Rattle.station.specs.declared.view.TurnEvent.{TurnEvent}
 use Rattle.station.specs.declared.view.View.{View}
 
 -- the view of a seat
@@ -47,16 +47,6 @@ IsTallied views node =
     (seat : ℕ) (view : View) → IsViewOf views seat view → view.owes ≡ true
     → view.inside ≢ Some node
 
--- an actor of the tracker has won this turn, by some view
-pub record WasWon (setup : Setup) (views : List View) (turn : NodeTurn) : Type 0 where
-  pub actor : ℕ
-  pub names : turn.word ≡ suc actor
-  pub below : actor < setup.actors
-  pub seat : ℕ
-  pub view : View
-  pub there : IsViewOf views seat view
-  pub won : Contains view.won turn
-
 -- the rule, of a state's words and views: there is a history, and an owner of each actor, of which
 -- all this holds
 pub record KeepsRule (setup : Setup) (state : State Act View) : Type 0 where
@@ -77,9 +67,14 @@ pub record KeepsRule (setup : Setup) (state : State Act View) : Type 0 where
   -- a lock word names an actor only while its pass is inside the node
   pub locks : (node actor : ℕ) → node < nodes_in setup
       → slice_index state.words (lock_word node) ≡ suc actor → IsHeld state.views owner node actor
-  -- a turn that was lost is one that an actor has won
-  pub lost : (seat : ℕ) (view : View) → IsViewOf state.views seat view → (turn : NodeTurn)
-      → Contains view.lost turn → WasWon setup state.views turn
+  -- there is a log of turns, of known actors alone; each lock word is as it leaves it; and each
+  -- view has logged what its actors did, and has lost the turns that it has logged as lost
+  pub turns : List TurnEvent
+  pub in_turn : IsLog turns
+  pub strangers : (actor : ℕ) → setup.actors ≤ actor → events_of actor turns ≡ []
+  pub lock_words : (node : ℕ) → node < nodes_in setup
+      → slice_index state.words (lock_word node) ≡ lock_in turns node
+  pub logged : (seat : ℕ) (view : View) → IsViewOf state.views seat view → HasLogged turns view
   -- a cell holds what the history leaves there, and a tally counts who is at its node
   pub cells : (key : Key) → IsCellOf setup key → IsCellWritten state.views key
       → slice_index state.words (cell_word setup key) ≡ cell (setting_in setup) history key

@@ -71,8 +71,8 @@ pub handset-held : (old : PassData) (place : ℕ) (held : Held) (new : PassData)
     (handset : HandsetData) → HasLost old place held new
     → IsHandsetOf old.view.setup old.view handset → IsHandsetOf old.view.setup new.view handset
 handset-held old place held new handset lost its =
-    let view : new.view ≡ view_held old.view place (suc held.by) =
+    let view : new.view ≡ view_held old.view place (suc held.by) new.view.turns =
     ap (λ (p : PassData). p.view) lost.turn in
     subst (λ (v : View). IsHandsetOf old.view.setup v handset) (sym view)
-    (handset-stays old.view.setup old.view (view_held old.view place (suc held.by)) handset refl refl
-    its)
+    (handset-stays old.view.setup old.view (view_held old.view place (suc held.by) new.view.turns)
+    handset refl refl its)

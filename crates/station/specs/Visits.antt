@@ -11,7 +11,9 @@ use Rattle.directory.specs.Legal.{IsLegal}
 use Rattle.station.specs.Setup.{setting_in, subs_in, IsCellOf}
 use Rattle.station.specs.Plays.{Draws, MayDo, key_put, longer, visit_by, view_held}
 use Rattle.station.specs.Passes.{NoteData, PassData, actor_of}
+use Rattle.station.specs.Turns.{HasHadTurn, Logs}
 use Rattle.station.specs.declared.turns.Held.{Held}
+use Rattle.station.specs.declared.view.TurnEvent.TheVariants.{GivenBack, Lost}
 use Rattle.station.specs.declared.view.View.{View}
 
 -- a view may draw the ticket of an act at a node
@@ -45,11 +47,13 @@ pub record HasLeft (there new : View) : Type 0 where
   pub unwritten : new.unwritten ≡ None
   pub clear : new.owes ≡ false
 
--- from inside the node: the ticket is drawn, what the act says is done, and the node is left
+-- from inside the node: the ticket is drawn, what the act says is done, and the node is left, and
+-- its turn is logged as given back
 pub record Makes (before : View) (node : ℕ) (act : Act) (ticket : ℕ) (after : View) : Type 0 where
   pub there : View
   pub draws : Draws before node act ticket there
   pub left : HasLeft there after
+  pub logs : Logs there.turns (GivenBack there.low node) after.turns
 
 -- two states of one pass, but for what it has seen and lost
 pub record IsSamePass (old new : PassData) : Type 0 where
@@ -59,7 +63,8 @@ pub record IsSamePass (old new : PassData) : Type 0 where
   pub actor : actor_of new ≡ actor_of old
 
 -- a pass has made a visit, with this ticket: what it has seen goes on to the visit, which is the
--- last, and is legal for each subscriber; the visit is its own, and no other one is new
+-- last, and is legal for each subscriber; the visit is its own, and no other one is new; and it was
+-- made in a turn of its own at the node
 pub record HasVisited (old : PassData) (act : Act) (ticket : ℕ) (new : PassData) : Type 0 where
   pub earlier : History
   pub count : length earlier ≡ ticket
@@ -69,15 +74,19 @@ pub record HasVisited (old : PassData) (act : Act) (ticket : ℕ) (new : PassDat
   pub legal : (sub : ℕ) → sub < subs_in old.view.setup
       → IsLegal (setting_in old.view.setup) sub new.view.seen
   pub outside : new.view.inside ≡ None
+  pub turn : HasHadTurn (actor_of old) (act_node (setting_in old.view.setup) act) old.view.turns
+      new.view.turns
   pub lost : new.view.lost ≡ old.view.lost
   pub spare : new.spare + 1 ≡ old.spare
   pub same : IsSamePass old new
 
--- a pass has lost a turn at a node to another actor, and nothing else has changed
+-- a pass has lost a turn at a node to another actor, and nothing else has changed; the turn was
+-- that actor's at this very step, by the log of all turns
 pub record HasLost (old : PassData) (place : ℕ) (held : Held) (new : PassData) : Type 0 where
   pub node : held.node ≡ place
   pub other : held.by ≢ actor_of old
-  pub turn : new ≡ record old { view = view_held old.view place (suc held.by) }
+  pub turn : new ≡ record old { view = view_held old.view place (suc held.by) new.view.turns }
+  pub logs : Logs old.view.turns (Lost (actor_of old) place (suc held.by)) new.view.turns
 
 -- a number has a bit for each subscriber of a census, and no other, and there are so many
 pub record IsCensus (census : List ℕ) (who count : ℕ) : Type 0 where
@@ -85,13 +94,14 @@ pub record IsCensus (census : List ℕ) (who count : ℕ) : Type 0 where
   pub length_is : count ≡ length census
 
 -- a pass has heard a note: what it has seen is the longer of what it had seen and what was noted,
--- and goes on from both, by known actors alone, and is legal; its own visits, its spare and the
--- node that it is inside are as before
+-- and goes on from both, by known actors alone, and is legal; its own visits, its turns, its spare
+-- and the node that it is inside are as before
 pub record HasHeard (old : PassData) (note : NoteData) (new : PassData) : Type 0 where
   pub same : IsSamePass old new
   pub spare : new.spare ≡ old.spare
   pub inside : new.view.inside ≡ old.view.inside
   pub lost : new.view.lost ≡ old.view.lost
+  pub turns : new.view.turns ≡ old.view.turns
   pub seen : new.view.seen ≡ longer old.view.seen note.view.seen
   pub begins : IsFront old.view.seen new.view.seen
   pub told : IsFront note.view.seen new.view.seen

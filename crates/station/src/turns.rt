@@ -1,7 +1,10 @@
 //! The turn at a node: it is won or lost, and given back.
 ghost use Rattle.std.specs.Prelude.{◌≡◌, ◌≢◌, ◌<◌, suc, false, Some, None, MatchResult};
 ghost use Rattle.entry_word.specs.declared.visit.Act.TheVariants.{Census};
-ghost use Rattle.station.specs.Passes.{IsPassOf, IsStayOf};
+ghost use Rattle.station.specs.Passes.{IsPassOf, IsStayOf, actor_of};
+ghost use Rattle.station.specs.Moments.{EventsComeNow};
+ghost use Rattle.station.specs.Turns.{Logs};
+ghost use Rattle.station.specs.declared.view.TurnEvent.TheVariants.{GivenBack, Lost, Won};
 ghost use Rattle.station.specs.Visits.{HasLost};
 ghost use Rattle.station.specs.Plays.{view_held, view_inside, view_outside};
 ghost use Rattle.station.specs.Setup.{nodes_in};
@@ -36,7 +39,11 @@ impl Tracker {
         requires outside { pass.old.view.inside ≡ None }
         ensures stay { MatchResult result
             (λ stay. IsStayOf stay pass.new
-            × (pass.new ≡ record pass.old { view = view_inside pass.old.view node (Census node) }))
+            × (pass.new ≡ record pass.old {
+              view = view_inside pass.old.view node (Census node)
+                  pass.new.view.turns;
+            })
+            × Logs pass.old.view.turns (Won (actor_of pass.old) node) pass.new.view.turns)
             (λ held. HasLost pass.old node held pass.new) }
     {
         let actor = pass.actor;
@@ -48,7 +55,10 @@ impl Tracker {
     pub fn leave(&self, pass: &mut Pass, stay: Stay)
         requires of { IsPassOf self.now pass.old }
         requires stay { IsStayOf stay pass.old }
-        ensures left { pass.new ≡ record pass.old { view = view_outside pass.old.view } }
+        ensures left { pass.new
+            ≡ record pass.old { view = view_outside pass.old.view pass.new.view.turns } }
+        ensures logs { Logs pass.old.view.turns (GivenBack (actor_of pass.old) stay.node)
+            pass.new.view.turns }
     {
         let Stay { node, actor: _ } = stay;
         self.give_back(&mut pass.seat, node);
@@ -71,9 +81,18 @@ impl Tracker {
         ensures table { seat.new.table_id ≡ seat.old.table_id }
         ensures id { seat.new.id ≡ seat.old.id }
         ensures turn { MatchResult result
-            (λ _. seat.new.me ≡ (view_inside seat.old.me.0 node act.now, seat.old.me.1))
+            (λ _. seat.new.me ≡ (
+              view_inside seat.old.me.0 node act.now seat.new.me.0.turns,
+              seat.old.me.1,
+            ))
             (λ held. (held.node ≡ node) × (held.by ≢ actor)
-            × (seat.new.me ≡ (view_held seat.old.me.0 node (suc held.by), seat.old.me.1))) }
+            × (seat.new.me ≡ (
+              view_held seat.old.me.0 node (suc held.by) seat.new.me.0.turns,
+              seat.old.me.1,
+            ))) }
+        ensures logs { MatchResult result
+            (λ _. Logs seat.old.me.0.turns (Won actor node) seat.new.me.0.turns)
+            (λ held. Logs seat.old.me.0.turns (Lost actor node (suc held.by)) seat.new.me.0.turns) }
     {
         cell_numbers();
         let word = node as usize + 1;
@@ -98,9 +117,19 @@ impl Tracker {
         requires clear { seat.old.me.0.owes ≡ false }
         ensures table { seat.new.table_id ≡ seat.old.table_id }
         ensures id { seat.new.id ≡ seat.old.id }
-        ensures left { seat.new.me ≡ (view_outside seat.old.me.0, seat.old.me.1) }
+        ensures left { seat.new.me
+            ≡ (view_outside seat.old.me.0 seat.new.me.0.turns, seat.old.me.1) }
+        ensures logs { Logs seat.old.me.0.turns (GivenBack seat.old.me.0.low node)
+            seat.new.me.0.turns }
     {
         cell_numbers();
         self.table.shared.store::<Leave>(seat, node as usize + 1, 0);
     }
 }
+
+/// An event comes into the log of turns at the very step that brings it: just before that step each
+/// lock word is as the log until then leaves it. So where a call tells that a turn was lost, at one
+/// of its steps the lock word named the other actor, whose pass was inside the node.
+pub fn events_come_now()
+    ensures { EventsComeNow }
+{}

@@ -46,6 +46,14 @@ pub struct NodeTurn {
     pub word: u64,
 }
 
+// What an actor does at the lock of a node: it wins the turn, it gives it back, or it reads that
+// the turn is another's, and has lost one.
+pub enum TurnEvent {
+    Won { actor: u64, node: u64 },
+    GivenBack { actor: u64, node: u64 },
+    Lost { actor: u64, node: u64, word: u64 },
+}
+
 // What a seat knows. No value of it is made.
 pub struct View {
     pub setup: About,
@@ -70,7 +78,7 @@ pub struct View {
     // Whether the tally isn't written yet, and the tally before.
     pub owes: bool,
     pub tally: u64,
-    // The turns that it has won, and those that it has lost.
-    pub won: LinkedList<NodeTurn>,
+    // The log of all turns, up to the last event of its own, and the turns that it has lost.
+    pub turns: LinkedList<TurnEvent>,
     pub lost: LinkedList<NodeTurn>,
 }

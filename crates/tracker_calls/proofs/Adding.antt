@@ -83,8 +83,10 @@ tried-again begun pass new place held tried lost =
     let is : new.view.lost ≡ pass.view.lost ++ one ∷ [] = ap (λ (q : PassData). q.view.lost) lost.turn in (
       keeps-through begun pass new tried.0 (one ∷ [], is),
       lost.turn
-          ∙ (ap (λ (q : PassData). record q { view = view_held q.view place (suc held.by) }) tried.1
-          ∙ ap (λ (l : List NodeTurn). record begun { view = record begun.view { lost = l } }) (sym is)),
+          ∙ (ap (λ (q : PassData). record q { view = view_held q.view place (suc held.by) new.view.turns }) tried.1
+          ∙ ap (λ (l : List NodeTurn). record begun {
+            view = record begun.view { turns = new.view.turns; lost = l };
+          }) (sym is)),
     )
 
 -- turns that are lost add nothing

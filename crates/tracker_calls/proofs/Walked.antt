@@ -54,7 +54,8 @@ tried-on : (setup : Setup) (pass tried : PassData) → HasTried pass tried → (
     → IsHandsetOf setup pass.view handset → IsHandsetOf setup tried.view handset
 tried-on setup pass tried lost handset its =
     subst (λ (q : PassData). IsHandsetOf setup q.view handset) (sym lost.1)
-    (handset-stays setup pass.view (record pass.view { lost = tried.view.lost }) handset refl refl its)
+    (handset-stays setup pass.view (record pass.view { turns = tried.view.turns; lost = tried.view.lost })
+    handset refl refl its)
 
 no-looks : (setting : Setting) (history : History) (actor : ℕ) (call : FindCall)
     → AreLooks setting history actor call 0 at_origin []

@@ -33,7 +33,9 @@ abbrev pub KeepsHandsets : Setup → PassData → PassData → Type 0
 KeepsHandsets setup old new = (handset : HandsetData) → IsHandsetOf setup old.view handset
     → IsHandsetOf setup new.view handset
 
--- the pass has lost more turns, and nothing else has changed
+-- the pass has lost more turns, which are logged, and nothing else has changed
 abbrev pub HasTried : PassData → PassData → Type 0
 HasTried old new =
-    KeepsLost old new × (new ≡ record old { view = record old.view { lost = new.view.lost } })
+    KeepsLost old new × (new ≡ record old {
+      view = record old.view { turns = new.view.turns; lost = new.view.lost };
+    })

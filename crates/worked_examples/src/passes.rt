@@ -1,15 +1,20 @@
 //! What a pass doesn't do when it loses a turn, takes a census or hears a note: each is wrong in
 //! one part.
-ghost use Rattle.std.specs.Prelude.{◌≡◌, ◌++◌, ◌<◌, [], ◌∷◌, ℕ, Some, None, suc, length};
+ghost use Rattle.std.specs.Prelude.{◌≡◌, ◌++◌, ◌<◌, [], ◌∷◌, ℕ, List, Some, None, suc, length};
 ghost use Rattle.directory.specs.Legal.{IsLegal};
-ghost use Rattle.station.specs.Passes.{NoteData, PassData};
+ghost use Rattle.entry_word.specs.declared.visit.Act.TheVariants.{Census};
+ghost use Rattle.station.specs.Passes.{NoteData, PassData, actor_of};
 ghost use Rattle.station.specs.Setup.{setting_in, subs_in};
+ghost use Rattle.station.specs.Turns.{lock_in};
 ghost use Rattle.station.specs.Views.{turn_at};
-ghost use Rattle.station.specs.Visits.{HasHeard, HasLost, IsCensus};
+ghost use Rattle.station.specs.Visits.{HasHeard, HasLost, HasVisited, IsCensus};
+ghost use Rattle.station.specs.declared.view.TurnEvent.{TurnEvent};
+ghost use Rattle.station.specs.declared.view.TurnEvent.TheVariants.{GivenBack, Lost, Won};
 ghost use Rattle.worked_examples.specs.Passes.{HasNote, HasPass, count_by, line_setup};
 
-/// A turn that is lost is one at the node that was asked for, to another actor, and the pass has it
-/// as its last lost turn; nothing else changes.
+/// A turn that is lost is one at the node that was asked for, to another actor whose turn it is by
+/// the log, and the pass has it as its last lost turn; nothing else changes. A visit that is made
+/// has had a turn.
 pub fn wrong_turns()
     ensures elsewhere { (old new : PassData)
         → HasLost old 2 (record { node = 1; by = 5 }) new → ⊥ }
@@ -22,6 +27,15 @@ pub fn wrong_turns()
         → suc new.spare ≡ old.spare → ⊥ }
     ensures inside { (old new : PassData) → HasLost old 2 (record { node = 2; by = 5 }) new
         → old.view.inside ≡ None → new.view.inside ≡ Some 2 → ⊥ }
+    ensures unlogged { (old new : PassData) → HasLost old 2 (record { node = 2; by = 5 }) new
+        → new.view.turns ≡ old.view.turns → ⊥ }
+    ensures visited { (old new : PassData) → HasVisited old (Census 2) 0 new
+        → new.view.turns ≡ old.view.turns → ⊥ }
+    ensures unheld { (old new : PassData) → HasLost old 2 (record { node = 2; by = 5 }) new
+        → new.view.turns ≡ Won 5 2 ∷ GivenBack 5 2 ∷ Lost (actor_of old) 2 6 ∷ [] → ⊥ }
+    ensures held { (old new : PassData) (earlier : List TurnEvent)
+        → HasLost old 2 (record { node = 2; by = 5 }) new
+        → new.view.turns ≡ earlier ++ Lost (actor_of old) 2 6 ∷ [] → lock_in earlier 2 ≡ 6 }
     ensures seen { (old new : PassData) → HasPass old 1 [] → HasPass new 1 (count_by 0 0 ∷ [])
         → HasLost old 2 (record { node = 2; by = 5 }) new → ⊥ }
 {}
@@ -69,6 +83,8 @@ pub fn wrong_notes()
         → old.view.inside ≡ None → new.view.inside ≡ Some 2 → ⊥ }
     ensures lost { (old new : PassData) (note : NoteData) → HasHeard old note new
         → old.view.lost ≡ [] → new.view.lost ≡ turn_at 2 6 ∷ [] → ⊥ }
+    ensures turns { (old new : PassData) (note : NoteData) → HasHeard old note new
+        → new.view.turns ≡ old.view.turns }
     ensures seat { (old new : PassData) (note : NoteData) → HasHeard old note new
         → new.seat ≡ suc old.seat → ⊥ }
     ensures actor { (old new : PassData) (note : NoteData) → HasHeard old note new

@@ -1,8 +1,19 @@
-use Rattle.std.proofs.Common.{arith, ap, ◌∙◌, refl}
+use Rattle.std.proofs.Common.{arith, subst, sym, ap, ◌∙◌, ◌≡◌, ℕ, length, refl}
+use Rattle.std.specs.Prelude.{if◌then◌else◌}
+use Rattle.node_set.specs.Ascending.{has}
 use Rattle.entry_word.specs.declared.visit.Act.TheVariants.{Census}
+use Rattle.directory.specs.Census.{census}
+use Rattle.directory.specs.Histories.{before}
+use Rattle.station.specs.Plays.{view_inside, view_outside, visit_by}
+use Rattle.station.specs.Setup.{setting_in}
+use Rattle.station.specs.Turns.{Logs}
+use Rattle.station.specs.declared.view.TurnEvent.TheVariants.{GivenBack}
+use Rattle.atomic_table.specs.Table.{Me}
+use Rattle.entry_word.specs.declared.visit.Act.{Act}
 use Rattle.station.specs.declared.view.View.{View}
+use Rattle.station.proofs.Growing.{census-counted}
 use Rattle.station.proofs.Turning.{no_key}
-use Rattle.station.proofs.Ticketing.{look_done, may_draw, pass_is}
+use Rattle.station.proofs.Ticketing.{before_last, left_by, look_done, may_draw, pass_is, pass_wins, seen_done, visit_done}
 use Rattle.station.proofs.tracker.Tracker.visit_census.Goals as goal
 
 pub draw-ticket-requires-clause-may : goal.draw-ticket-requires-clause-may
@@ -26,3 +37,44 @@ invariant_of-pass-2 c =
     (c.count_here-count.ensures.same ∙ c.list_here-who.ensures.same) c.give_back.ensures.left
     (ap (λ (x : View). x.unwritten) d.view) (ap (λ (x : View). x.owes) d.view))
     kept.seen kept.tickets kept.room
+
+pub returns : goal.returns
+returns c =
+    let node = c.args.node in
+    let act = Census node in
+    let setting = setting_in c.args.self.now.setup in
+    let told = c.pass.view_is in
+    let t = c.in_ok-turn.ensures in
+    let d = c.draw-ticket.ensures.drawn in
+    let one = c.turn.new.seat.me in
+    let two = c.draw-ticket.new.seat.me in
+    let new : View = c.give_back.new.seat.me.0 in
+    let same = c.count_here-count.ensures.same ∙ c.list_here-who.ensures.same in
+    let turn = ap (λ m. m.0) t.turn ∙ ap (λ q. view_inside q.view node act one.0.turns) told in
+    let left = left_by two.0 new (ap (λ m. m.0) c.give_back.ensures.left
+    ∙ ap (λ m. view_outside m.0 new.turns) same) (ap (λ (x : View). x.unwritten) d.view)
+    (ap (λ (x : View). x.owes) d.view) in
+    let table = c.give_back.ensures.table ∙ (c.count_here-count.ensures.table ∙ (c.list_here-who.ensures.table
+    ∙ (c.draw-ticket.ensures.table ∙ (t.table ∙ ap (λ q. q.table) told)))) in
+    let seat = c.give_back.ensures.id ∙ (c.count_here-count.ensures.id ∙ (c.list_here-who.ensures.id
+    ∙ (c.draw-ticket.ensures.id ∙ (t.id ∙ ap (λ q. q.seat) told)))) in
+    let old : View = c.args.pass.now.view in
+    let earlier : before c.draw-ticket.result new.seen ≡ d.earlier = before_last d.earlier new.seen
+    (visit_by old act) c.draw-ticket.result d.count (seen_done old one.0 two.0 new node _ act turn d left) in
+    let seen : census setting two.0.seen node ≡ census setting (before c.draw-ticket.result new.seen) node =
+    ap (λ (x : View). census setting x.seen node) d.view
+    ∙ (census-counted setting d.earlier node one.0.low node ∙ sym (ap (λ h. census setting h node) earlier)) in
+    record {
+      seen = (
+        visit_done c.args.pass.now _ one two node c.draw-ticket.result act turn d left refl
+            (pass_wins _ c.args.pass.now c.pass.inside.actor node one.0.turns told c.pass.invariant.low t.logs)
+            (subst (λ (m : Me Act View). Logs m.0.turns (GivenBack m.0.low node) new.turns) same
+            c.give_back.ensures.logs) table seat
+            (c.keep_ticket.ensures.spare ∙ ap (λ q. q.spare) told),
+        record {
+          bits = λ sub. c.list_here-who.ensures.bits sub ∙ ap {B = ℕ} (λ l. if has sub l then 1 else 0) seen;
+          length_is = c.count_here-count.ensures.count
+              ∙ (ap (λ m. length (census setting m.0.seen node)) c.list_here-who.ensures.same ∙ ap length seen);
+        },
+      );
+    }

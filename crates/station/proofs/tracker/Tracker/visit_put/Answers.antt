@@ -13,7 +13,7 @@ use Rattle.station.specs.Handsets.{HandsetGoesOn, IsHandsetOf, put_of}
 use Rattle.station.specs.Visits.{HasVisited, MayDraw}
 use Rattle.station.specs.declared.view.View.{View}
 use Rattle.station.proofs.Putting.{may_put, handset_after, put_due, write-sub}
-use Rattle.station.proofs.Ticketing.{own_few, pass_done, visit_done, pass_is, seen_done}
+use Rattle.station.proofs.Ticketing.{own_few, pass_done, visit_done, pass_is, pass_wins, seen_done}
 use Rattle.station.proofs.tracker.Tracker.visit_put.Goals as goal
 
 pub make_put-ticket-requires-clause-may : goal.make_put-ticket-requires-clause-may
@@ -33,7 +33,8 @@ make_put-ticket-requires-clause-may c =
     let known = c.next_put-key.ensures.cell (subst (λ (s : ℕ). s < subs_in c.args.self.now.setup)
     (sym h.sub) h.script.known) in
     subst (λ (q : View). MayDraw q node (Put key word)) (sym (ap (λ m. m.0) c.in_ok-turn.ensures.turn))
-    (may_put v node key word c.pass.invariant.undrawn c.pass.invariant.unwritten c.pass.invariant.clear
+    (may_put v node key word c.turn.new.seat.me.0.turns c.pass.invariant.undrawn c.pass.invariant.unwritten
+    c.pass.invariant.clear
     (c.node_of-node.ensures.node ∙ ap (λ (s : Setup). key_node (setting_in s) key) back)
     (own_few c.pass.inside.seat.me _ _ _ _ _ c.pass.invariant spare)
     (subst (λ (s : Setup). IsCellOf s key) back known)
@@ -65,13 +66,16 @@ returns c =
     let h = c.requires.handset in
     let made = c.make_put-ticket.ensures.made in
     let turn = ap (λ m. m.0) c.in_ok-turn.ensures.turn
-    ∙ ap (λ q. view_inside q.view c.node_of-node.result (Put key word)) told in
+    ∙ ap (λ q. view_inside q.view c.node_of-node.result (Put key word) c.turn.new.seat.me.0.turns) told in
     let table = c.make_put-ticket.ensures.table ∙ (c.in_ok-turn.ensures.table ∙ ap (λ q. q.table) told) in
     let seat = c.make_put-ticket.ensures.id ∙ (c.in_ok-turn.ensures.id ∙ ap (λ q. q.seat) told) in
     let less = c.keep_ticket.ensures.spare ∙ ap (λ q. q.spare) told in
     let visited = visit_done old _ c.turn.new.seat.me
     (made.there, []) c.node_of-node.result c.make_put-ticket.result
-    (Put key word) turn made.draws made.left table seat less in
+    (Put key word) turn made.draws made.left
+    (ap (λ (s : Setup). key_node (setting_in s) key) c.requires.of.setup ∙ sym c.node_of-node.ensures.node)
+    (pass_wins _ old c.pass.inside.actor c.node_of-node.result c.turn.new.seat.me.0.turns told c.pass.invariant.low
+    c.in_ok-turn.ensures.logs) made.logs table seat less in
     let made_count = length (puts_to old.view.low old.view.seen) in
     let low = subst (λ (s : Setup). old.view.low < subs_in s) (sym c.requires.of.setup) h.script.known in
     let puts = subst (λ (v : View). v.low < subs_in v.setup

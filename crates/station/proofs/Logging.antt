@@ -1,0 +1,192 @@
+-- The log of turns, as it goes on by one event more.
+use Rattle.std.proofs.Common.{◌≡◌, ◌≢◌, ◌⊎◌, ℕ, suc, ◌≤◌, ◌==◌, eq-eqb, ne_eqb, cond, List, [], ◌∷◌, ◌++◌, get_or, length, drop, set, refl, sym, ap, ◌∙◌, subst, inl, inr, ⊎_elim, arith, append_assoc, length-append}
+use Rattle.std.specs.Prelude.{if◌then◌else◌}
+use Rattle.std.proofs.lemmas.List.{append-nil}
+use Rattle.std.proofs.lemmas.List.Elements.{filter-append}
+use Rattle.std.proofs.lemmas.List.Sums.{fold-append}
+use mathlib.Core.Option.{some}
+use lib.ListN.{get_elem?}
+use Rattle.atomic_table.specs.Table.{State}
+use Rattle.atomic_table.proofs.Lists.{at_set}
+use Rattle.entry_word.specs.declared.visit.Act.{Act}
+use Rattle.station.specs.Rule.{KeepsRule, IsViewOf}
+use Rattle.station.specs.Setup.{Setup}
+use Rattle.station.specs.Turns.{HasLogged, IsInTurn, IsLog, Logs, event_actor, events_of, lock_after, lock_in, lost_in}
+use Rattle.station.specs.Views.{StandsForActor, turn_at}
+use Rattle.station.specs.declared.view.TurnEvent.{TurnEvent}
+use Rattle.station.specs.declared.view.TurnEvent.TheVariants.{Won, GivenBack, Lost}
+use Rattle.station.specs.declared.view.View.{View}
+
+module _ {A : Type 0} where
+  -- what stands somewhere in a list with one item more is that item, or stood there before
+  pub last_or_there : (xs : List A) (x : A) (earlier : List A) (y : A) (later : List A)
+      → xs ++ x ∷ [] ≡ earlier ++ y ∷ later
+      → ((earlier ≡ xs) × (y ≡ x)) ⊎ ((rest : List A) × (xs ≡ earlier ++ y ∷ rest))
+  last_or_there [] x [] y later e = inl (refl, sym (ap (λ (l : List A). get_or l 0 x) e))
+  last_or_there [] x (a ∷ earlier) y later e =
+      absurd (omega (arith, ap length e, length-append earlier (y ∷ later)))
+  last_or_there (b ∷ xs) x [] y later e =
+      let first : b ≡ y = ap (λ (l : List A). get_or l 0 b) e in
+      inr (xs, λ i. first i ∷ xs)
+  last_or_there (b ∷ xs) x (a ∷ earlier) y later e =
+      let first : b ≡ a = ap (λ (l : List A). get_or l 0 b) e in
+      ⊎_elim
+      (λ (t : (earlier ≡ xs) × (y ≡ x)). inl ((λ i. sym first i ∷ t.0 i), t.1))
+      (λ (t : (rest : List A) × (xs ≡ earlier ++ y ∷ rest)). inr (t.0, λ i. first i ∷ t.1 i))
+      (last_or_there xs x earlier y later (ap (drop 1) e))
+
+pub log-nil : IsLog []
+log-nil earlier event later e = absurd (omega (arith, ap length e, length-append earlier (event ∷ later)))
+
+pub log-more : (log : List TurnEvent) (event : TurnEvent) → IsLog log → IsInTurn log event
+    → IsLog (log ++ event ∷ [])
+log-more log event old new earlier other later e = ⊎_elim
+    (λ (t : (earlier ≡ log) × (other ≡ event)). subst (λ (l : List TurnEvent). IsInTurn l other) (sym t.0)
+    (subst (λ (x : TurnEvent). IsInTurn log x) (sym t.1) new))
+    (λ (t : (rest : List TurnEvent) × (log ≡ earlier ++ other ∷ rest)). old earlier other t.0 t.1)
+    (last_or_there log event earlier other later e)
+
+-- the lock words after one event more
+pub lock-push : (log : List TurnEvent) (event : TurnEvent) (node : ℕ)
+    → lock_in (log ++ event ∷ []) node ≡ lock_after node (lock_in log node) event
+lock-push log event node = fold-append (lock_after node) 0 log (event ∷ [])
+
+pub lock-won : (log : List TurnEvent) (actor node : ℕ) → lock_in (log ++ Won actor node ∷ []) node ≡ suc actor
+lock-won log actor node = lock-push log (Won actor node) node
+    ∙ ap {B = ℕ} (λ b. if b then suc actor else lock_in log node) (eq-eqb node node refl)
+
+pub lock-won_else : (log : List TurnEvent) (actor x y : ℕ) → x ≢ y
+    → lock_in (log ++ Won actor x ∷ []) y ≡ lock_in log y
+lock-won_else log actor x y ne = lock-push log (Won actor x) y
+    ∙ ap {B = ℕ} (λ b. if b then suc actor else lock_in log y) (ne_eqb x y ne)
+
+pub lock-back : (log : List TurnEvent) (actor node : ℕ) → lock_in (log ++ GivenBack actor node ∷ []) node ≡ 0
+lock-back log actor node = lock-push log (GivenBack actor node) node
+    ∙ ap {B = ℕ} (λ b. if b then 0 else lock_in log node) (eq-eqb node node refl)
+
+pub lock-back_else : (log : List TurnEvent) (actor x y : ℕ) → x ≢ y
+    → lock_in (log ++ GivenBack actor x ∷ []) y ≡ lock_in log y
+lock-back_else log actor x y ne = lock-push log (GivenBack actor x) y
+    ∙ ap {B = ℕ} (λ b. if b then 0 else lock_in log y) (ne_eqb x y ne)
+
+-- the events of an actor after one more
+by-mine : (actor : ℕ) (log : List TurnEvent) (event : TurnEvent) → event_actor event ≡ actor
+    → events_of actor (log ++ event ∷ []) ≡ events_of actor log ++ event ∷ []
+by-mine actor log event mine = filter-append (λ (e : TurnEvent). event_actor e == actor) log (event ∷ [])
+    ∙ ap (λ b. events_of actor log ++ cond b (event ∷ []) []) (eq-eqb (event_actor event) actor mine)
+
+by-other : (actor : ℕ) (log : List TurnEvent) (event : TurnEvent) → event_actor event ≢ actor
+    → events_of actor (log ++ event ∷ []) ≡ events_of actor log
+by-other actor log event other = filter-append (λ (e : TurnEvent). event_actor e == actor) log (event ∷ [])
+    ∙ (ap (λ b. events_of actor log ++ cond b (event ∷ []) []) (ne_eqb (event_actor event) actor other)
+    ∙ append-nil (events_of actor log))
+
+lost-push : (log : List TurnEvent) (event : TurnEvent)
+    → lost_in (log ++ event ∷ []) ≡ lost_in log ++ lost_in (event ∷ [])
+lost-push [] event = refl
+lost-push (Won actor node ∷ later) event = lost-push later event
+lost-push (GivenBack actor node ∷ later) event = lost-push later event
+lost-push (Lost actor node word ∷ later) event = ap (λ l. turn_at node word ∷ l) (lost-push later event)
+
+-- a view that has logged the same, and lost the same, and stands for no others
+pub logged-same : (log : List TurnEvent) (v w : View) → w.turns ≡ v.turns → w.lost ≡ v.lost
+    → ((actor : ℕ) → StandsForActor w actor → StandsForActor v actor) → HasLogged log v → HasLogged log w
+logged-same log v w turns lost stands has = record {
+  later = has.later;
+  goes_on = has.goes_on ∙ ap (λ l. l ++ has.later) (sym turns);
+  by_others = λ actor st. has.by_others actor (stands actor st);
+  lost = λ actor st. lost ∙ (has.lost actor (stands actor st) ∙ ap (λ l. lost_in (events_of actor l)) (sym turns));
+}
+
+-- after an event of another
+logged-other : (log : List TurnEvent) (event : TurnEvent) (view : View)
+    → ((actor : ℕ) → StandsForActor view actor → event_actor event ≢ actor) → HasLogged log view
+    → HasLogged (log ++ event ∷ []) view
+logged-other log event view away has = record {
+  later = has.later ++ event ∷ [];
+  goes_on = ap (λ l. l ++ event ∷ []) has.goes_on ∙ append_assoc view.turns has.later (event ∷ []);
+  by_others = λ actor st. by-other actor has.later event (away actor st) ∙ has.by_others actor st;
+  lost = has.lost;
+}
+
+-- after an event of its own
+logged-mine : (log : List TurnEvent) (event : TurnEvent) (v w : View) → event_actor event ≡ v.low
+    → v.high ≡ suc v.low → w.low ≡ v.low → w.high ≡ v.high → w.turns ≡ log ++ event ∷ []
+    → w.lost ≡ v.lost ++ lost_in (event ∷ []) → HasLogged log v → HasLogged (log ++ event ∷ []) w
+logged-mine log event v w mine alone low high turns lost has =
+    let actor = v.low in
+    let stands : StandsForActor v actor = (omega arith, omega (arith, alone)) in
+    let before : events_of actor log ≡ events_of actor v.turns = ap (events_of actor) has.goes_on
+    ∙ (filter-append (λ (e : TurnEvent). event_actor e == actor) v.turns has.later
+    ∙ (ap (λ l. events_of actor v.turns ++ l) (has.by_others actor stands) ∙ append-nil (events_of actor v.turns))) in
+    let whole : lost_in (events_of actor w.turns) ≡ lost_in (events_of actor v.turns) ++ lost_in (event ∷ []) =
+    ap (λ l. lost_in (events_of actor l)) turns ∙ (ap lost_in (by-mine actor log event mine)
+    ∙ (lost-push (events_of actor log) event ∙ ap (λ l. lost_in l ++ lost_in (event ∷ [])) before)) in
+    let all : w.lost ≡ lost_in (events_of actor w.turns) = lost
+    ∙ (ap (λ l. l ++ lost_in (event ∷ [])) (has.lost actor stands) ∙ sym whole) in
+    record {
+      later = [];
+      goes_on = sym (append-nil (log ++ event ∷ [])) ∙ ap (λ l. l ++ []) (sym turns);
+      by_others = λ _ _. refl;
+      lost = λ other st. let same : actor ≡ other = omega (arith, st.0, st.1, low, high, alone) in
+          subst (λ (a : ℕ). w.lost ≡ lost_in (events_of a w.turns)) same all;
+    }
+
+-- the log after a step of a seat j, which has the view w then
+pub record LogGoes (setup : Setup) (s : State Act View) (o : KeepsRule setup s) (j : ℕ) (w : View)
+    (log : List TurnEvent) : Type 0 where
+  pub in_turn : IsLog log
+  pub strangers : (actor : ℕ) → setup.actors ≤ actor → events_of actor log ≡ []
+  pub mine : HasLogged log w
+  pub others : (k : ℕ) (u : View) → k ≢ j → IsViewOf s.views k u → HasLogged log u
+
+-- a step that does nothing at a lock
+pub log-stays : (setup : Setup) (s : State Act View) (o : KeepsRule setup s) (j : ℕ) (v w : View)
+    → IsViewOf s.views j v → w.turns ≡ v.turns → w.lost ≡ v.lost → w.low ≡ v.low → w.high ≡ v.high
+    → LogGoes setup s o j w o.turns
+log-stays setup s o j v w me turns lost low high = record {
+  in_turn = o.in_turn;
+  strangers = o.strangers;
+  mine = logged-same o.turns v w turns lost (λ actor st. (omega (arith, st.0, low), omega (arith, st.1, high)))
+      (o.logged j v me);
+  others = λ k u ne at. o.logged k u at;
+}
+
+-- a step at a lock
+pub log-goes : (setup : Setup) (s : State Act View) (o : KeepsRule setup s) (j : ℕ) (v w : View) (event : TurnEvent)
+    → IsViewOf s.views j v → v.high ≡ suc v.low → event_actor event ≡ v.low → IsInTurn o.turns event
+    → w.low ≡ v.low → w.high ≡ v.high → w.turns ≡ o.turns ++ event ∷ []
+    → w.lost ≡ v.lost ++ lost_in (event ∷ []) → LogGoes setup s o j w (o.turns ++ event ∷ [])
+log-goes setup s o j v w event me alone mine may low high turns lost =
+    let its = (o.views j v me).owner_is v.low (omega arith, omega (arith, alone)) in
+    record {
+      in_turn = log-more o.turns event o.in_turn may;
+      strangers = λ actor above. by-other actor o.turns event (λ e. omega (arith, mine, its.1, above, e))
+          ∙ o.strangers actor above;
+      mine = logged-mine o.turns event v w mine alone low high turns lost (o.logged j v me);
+      others = λ k u ne at. logged-other o.turns event u (λ actor st e.
+          ne (sym ((o.views k u at).owner_is actor st).0 ∙ (ap o.owner (sym e ∙ mine) ∙ its.0))) (o.logged k u at);
+    }
+
+-- what such a step tells
+pub logs : (setup : Setup) (s : State Act View) (o : KeepsRule setup s) (j : ℕ) (v : View) (event : TurnEvent)
+    → IsViewOf s.views j v → v.high ≡ suc v.low → event_actor event ≡ v.low → IsInTurn o.turns event
+    → Logs v.turns event (o.turns ++ event ∷ [])
+logs setup s o j v event me alone mine may =
+    let has = o.logged j v me in
+    record {
+      later = has.later;
+      by_others = subst (λ (a : ℕ). events_of a has.later ≡ []) (sym mine)
+          (has.by_others v.low (omega arith, omega (arith, alone)));
+      goes_on = ap (λ l. l ++ event ∷ []) has.goes_on;
+      in_turn = log-more o.turns event o.in_turn may;
+    }
+
+-- so have all views
+pub all-logged : (setup : Setup) (s : State Act View) (o : KeepsRule setup s) (j : ℕ) (w : View)
+    (log : List TurnEvent) → LogGoes setup s o j w log → (seat : ℕ) (view : View)
+    → IsViewOf (set s.views j w) seat view → HasLogged log view
+all-logged setup s o j w log g seat view there = ⊎_elim
+    (λ (t : (seat ≡ j) × (w ≡ view)). subst (λ (u : View). HasLogged log u) t.1 g.mine)
+    (λ (t : (seat ≢ j) × (get_elem? s.views seat ≡ some view)). g.others seat view t.0 t.1)
+    (at_set s.views j seat w view there)
