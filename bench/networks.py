@@ -29,8 +29,8 @@ def edges(kind, n, weight):
 
 
 def text(n, k, es):
-    """The input of a network, with one subscriber and no calls."""
-    lines = ["track 1", f"nodes {n}", f"k {k}"]
+    """The input of a network, with one subscriber and no calls; in format 2 where format 1 has no room for so many nodes."""
+    lines = ["track 1" if n <= 256 else "track 2", f"nodes {n}", f"k {k}"]
     lines += [f"edge {a} {b} {w}" for a, b, w in es]
     lines += ["sub 0", "callers 0"]
     return "\n".join(lines) + "\n"

@@ -32,6 +32,8 @@ pub enum Asked {
     ReaderWeights(u32, u32),
     /// The most looks from a node.
     Looks(u32),
+    /// For each level 1 where it is known to repeat the one below, else 0.
+    Repeats,
 }
 
 fn level_parts(plan: &Plan, i: u32) -> [u64; 4] {
@@ -134,6 +136,14 @@ fn reader_weights(alloc: Global, plan: &Plan, i: u32, v: u32) -> Result<Vec<u64>
     Ok(weights)
 }
 
+fn repeats_of(alloc: Global, plan: &Plan) -> Result<Vec<u64>, AllocError> {
+    let mut repeats = Vec::new(alloc);
+    for i in 0..plan.levels() {
+        repeats.push(u64::from(plan.repeats(i)))?;
+    }
+    Ok(repeats)
+}
+
 fn whole_parts(plan: &Plan) -> [u64; 6] {
     [
         u64::from(plan.nodes()),
@@ -157,6 +167,7 @@ fn answer(alloc: Global, plan: &Plan, asked: Asked) -> Result<Vec<u64>, AllocErr
         Asked::Readers(i, v) => readers_of(alloc, plan, i, v),
         Asked::ReaderWeights(i, v) => reader_weights(alloc, plan, i, v),
         Asked::Looks(v) => Vec::from_slice(alloc, looks_from(plan, v).as_slice()),
+        Asked::Repeats => repeats_of(alloc, plan),
     }
 }
 

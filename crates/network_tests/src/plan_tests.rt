@@ -85,6 +85,23 @@ fn plan_of_the_heaviest_edge(rt: HostRuntime) -> Result<(), Fail> {
     ask_path(&rt, rt.alloc(), 2, MAX_WEIGHT, Made::With(8), &rows)
 }
 
+// A level repeats the one below it where no distance lies between their radii: so do those below the
+// weight of the only edge. On the line each radius takes another distance in.
+#[test]
+fn levels_that_repeat(rt: HostRuntime) -> Result<(), Fail> {
+    let heavy: [(Asked, &[u64]); 1] = [(
+        Asked::Repeats,
+        &[
+            0, 1, 1, 1, 1, 1, 1, 1, 1, 1, 1, 1, 1, 1, 1, 1, 1, 1, 1, 1, 0,
+        ],
+    )];
+    ask_path(&rt, rt.alloc(), 2, MAX_WEIGHT, Made::With(8), &heavy)?;
+    ask_path(&rt, rt.alloc(), 2, MAX_WEIGHT, Made::Mean(8), &heavy)?;
+    let line: [(Asked, &[u64]); 1] = [(Asked::Repeats, &[0, 0, 0])];
+    ask_path(&rt, rt.alloc(), 4, 1, Made::With(2), &line)?;
+    ask_path(&rt, rt.alloc(), 4, 1, Made::Mean(2), &line)
+}
+
 #[test]
 fn plan_of_one_node(rt: HostRuntime) -> Result<(), Fail> {
     let rows: [(Asked, &[u64]); 5] = [

@@ -144,10 +144,9 @@ fn worked_censuses(rt: HostRuntime) -> Result<(), Fail> {
     play(&rt, rt.alloc(), &["census"], &[7], &rows)
 }
 
-// The report of so many finds at one node, into a sink of so much room.
-fn report_of_finds(alloc: Global, finds: u32, room: usize) -> Result<Ran, Fail> {
-    let before = "track 1\nnodes 1\nk 1\nsub 0\ncallers 1\n";
-    let input = text_of(alloc, Lines(before, "", b"find 1 0 0\n", finds))?;
+// The report of an input, into a sink of so much room.
+fn report_of(alloc: Global, lines: Lines<'_>, room: usize) -> Result<Ran, Fail> {
+    let input = text_of(alloc, lines)?;
     let run = Run {
         words: &["replay"],
         input: &input,
@@ -159,10 +158,16 @@ fn report_of_finds(alloc: Global, finds: u32, room: usize) -> Result<Ran, Fail> 
     perform(alloc, &run)
 }
 
+// The report of so many finds at one node, into a sink of so much room.
+fn report_of_finds(alloc: Global, finds: u32, room: usize) -> Result<Ran, Fail> {
+    let before = "track 1\nnodes 1\nk 1\nsub 0\ncallers 1\n";
+    report_of(alloc, Lines(before, "", b"find 1 0 0\n", finds), room)
+}
+
 // A run has this status, and its text these measures: its length, and how it ends.
-fn is_long(rt: &impl Abort, ran: &Ran, status: u8, length: u64, end: &[u8]) {
+fn is_long(rt: &impl Abort, place: usize, ran: &Ran, status: u8, length: u64, end: &[u8]) {
     let found = [u64::from(ran.status), ran.written.len() as u64];
-    same_numbers(rt, 0, &found, &[u64::from(status), length]);
+    same_numbers(rt, place, &found, &[u64::from(status), length]);
     assert!(rt; ran.written.ends_with(end));
 }
 
@@ -171,10 +176,53 @@ fn is_long(rt: &impl Abort, ran: &Ran, status: u8, length: u64, end: &[u8]) {
 #[test]
 fn longest_report(rt: HostRuntime) -> Result<(), Fail> {
     let whole = report_of_finds(rt.alloc(), 8_192, 1_000_000)?;
-    is_long(&rt, &whole, 0, 531_037, b"end 8192\n");
+    is_long(&rt, 0, &whole, 0, 531_037, b"end 8192\n");
     let refused = report_of_finds(rt.alloc(), 8_193, ROOM)?;
     same_text(&rt, 1, &refused.written, b"refused 8198 too-many\n");
     same_numbers(&rt, 1, &[u64::from(refused.status)], &[1]);
+    Ok(())
+}
+
+const LONE: &str = "track 2\nnodes 1\nk 1\nsub 0\n";
+
+const PAIR: &str = "track 2\nnodes 2\nk 1\nedge 0 1 1\nsub 0\n";
+
+// One script with as many calls as an input of format 2 may have, of each kind, and one call more.
+// The lengths are those of the reports that scripts/directory.py writes: a line for each call, one
+// for each 64 visits, and the end.
+#[test]
+fn longest_scripts(rt: HostRuntime) -> Result<(), Fail> {
+    let rows: [(Lines<'_>, u8, u64, &[u8]); 4] = [
+        (
+            Lines(PAIR, "callers 0\n", b"move 0 1\nmove 0 0\n", 8_192),
+            0,
+            1_204_981,
+            b"end 98304\n",
+        ),
+        (
+            Lines(LONE, "callers 0\n", b"off 0\non 0\n", 8_192),
+            0,
+            621_220,
+            b"end 16384\n",
+        ),
+        (
+            Lines(LONE, "callers 1\n", b"find 1 0 0\n", 16_384),
+            0,
+            1_077_054,
+            b"end 16384\n",
+        ),
+        (
+            Lines(LONE, "callers 1\n", b"find 1 0 0\n", 16_385),
+            1,
+            23,
+            b"refused 16390 too-many\n",
+        ),
+    ];
+    for place in 0..rows.len() {
+        let (lines, status, length, end) = rows[place];
+        let ran = report_of(rt.alloc(), lines, 1_300_000)?;
+        is_long(&rt, place, &ran, status, length, end);
+    }
     Ok(())
 }
 
@@ -183,7 +231,7 @@ fn longest_report(rt: HostRuntime) -> Result<(), Fail> {
 fn report_that_is_cut(rt: HostRuntime) -> Result<(), Fail> {
     let whole = report_of_finds(rt.alloc(), 8_192, 1_000_000)?;
     let cut = report_of_finds(rt.alloc(), 8_192, 100_000)?;
-    is_long(&rt, &cut, 5, 100_000, b"");
+    is_long(&rt, 0, &cut, 5, 100_000, b"");
     assert!(rt; whole.written.starts_with(&cut.written));
     Ok(())
 }

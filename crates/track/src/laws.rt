@@ -1,12 +1,21 @@
 //! What holds of every call. Each public function is a law, and does nothing.
-ghost use Rattle.std.specs.Prelude.{◌≡◌, All, List, ℕ};
+ghost use Rattle.std.specs.Prelude.{◌≡◌, ◌<◌, ◌+◌, ◌-◌, ◌*◌, All, List, length, ℕ};
+ghost use Rattle.directory.specs.Census.{census};
+ghost use Rattle.move_cost.specs.Costs.{cost_lines};
+ghost use Rattle.move_cost.specs.Plans.{IsWithinRate};
 ghost use Rattle.net_reader.specs.Input.{Contents};
+ghost use Rattle.region_plan.specs.Matched.{BoundsFinds, HasSmallSum};
+ghost use Rattle.region_plan.specs.Plan.{levels_of};
 ghost use Rattle.report_check.specs.declared.verdict.Verdict.TheVariants.{Sound};
+ghost use Rattle.report_text.specs.ReportText.{report_of};
+ghost use Rattle.scripts.specs.Scripts.{scripts_of};
 ghost use Rattle.stretch_laws.specs.Lines.{IsLineWithin};
 ghost use Rattle.stretch_laws.specs.Plans.{bound_of};
+ghost use Rattle.trail_laws.specs.Censuses.{IsCounted, who_ends_at};
 ghost use Rattle.trail_laws.specs.Lines.{IsRightLine, TellInTurn, TellRisingNumbers};
 ghost use Rattle.track.specs.Laws.{BytesHaveOneText, IsComplete, IsCompleteAlone, RunsAreReplayed};
-ghost use Rattle.track.specs.Results.{IsReport, history_for, outcome_for, plan_for, setting_for, verdict_for};
+ghost use Rattle.track.specs.Results.{IsCensusText, IsCostText, IsMeanPlanText, IsReport, IsReportJson, IsRunReport};
+ghost use Rattle.track.specs.Results.{history_for, mean_plan_for, outcome_for, plan_for, setting_for, verdict_for};
 
 use json_form::one_text;
 use net_reader::text_says_one;
@@ -52,5 +61,32 @@ pub fn reports_tell()
         → All (IsLineWithin (bound_of (plan_for contents)) (setting_for contents)
         (history_for contents)) (outcome_for contents).calls }
     ensures sound { (contents : Contents) (text : List ℕ) → IsReport contents text
+        → verdict_for contents text ≡ Sound }
+{}
+
+/// What the texts of other commands tell: a plan over mean covers has its reach, bounds its finds
+/// and is small in the sum; a census lists whom the scripts leave at a node, each just where it
+/// stands; costs are within the rate; a report as JSON is that of a report; and the checker finds no
+/// flaw in the report of a run.
+pub fn texts_tell()
+    ensures mean_reach { (contents : Contents) (text : List ℕ) → IsMeanPlanText contents text
+        → (mean_plan_for contents).reach ≡ 2 * contents.k + 1 }
+    ensures mean_bounding { (contents : Contents) (text : List ℕ) → IsMeanPlanText contents text
+        → BoundsFinds (mean_plan_for contents) }
+    ensures mean_small_sum { (contents : Contents) (text : List ℕ) → IsMeanPlanText contents text
+        → HasSmallSum (mean_plan_for contents) }
+    ensures census_by_scripts { (contents : Contents) (text : List ℕ) → IsCensusText contents text
+        → (node : ℕ) → node < contents.nodes
+        → census (setting_for contents) (history_for contents) node
+        ≡ who_ends_at contents.homes (scripts_of contents) node }
+    ensures census_right { (contents : Contents) (text : List ℕ) → IsCensusText contents text
+        → (sub node : ℕ) → sub < length contents.homes → node < contents.nodes
+        → IsCounted (setting_for contents) (history_for contents) sub node }
+    ensures costs_within { (contents : Contents) (text : List ℕ) → IsCostText contents text
+        → All (IsWithinRate (2 * contents.k - 1) (levels_of (plan_for contents)))
+        (cost_lines (setting_for contents) (scripts_of contents)) }
+    ensures json_report { (contents : Contents) (text : List ℕ) → IsReportJson contents text
+        → IsReport contents (report_of (outcome_for contents)) }
+    ensures run_sound { (contents : Contents) (text : List ℕ) → IsRunReport contents text
         → verdict_for contents text ≡ Sound }
 {}

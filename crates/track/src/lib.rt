@@ -17,6 +17,6 @@ mod trial;
 mod writing;
 mod wrong;
 
-pub use laws::{bytes_have_one_text, complete, reports_tell, runs_are_replayed};
+pub use laws::{bytes_have_one_text, complete, reports_tell, runs_are_replayed, texts_tell};
 pub use top::{command, command_with_threads};
-pub use wrong::wrong_ends;
+pub use wrong::{wrong_counts, wrong_ends, wrong_lengths};

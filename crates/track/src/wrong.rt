@@ -1,8 +1,11 @@
 //! Ends that no status may tell: each is wrong in one part.
-ghost use Rattle.std.specs.Prelude.{[], ◌∷◌, Some, None, true, false};
+ghost use Rattle.std.specs.Prelude.{[], ◌∷◌, ◌<◌, ℕ, List, length, Some, None, true, false};
+ghost use Rattle.net_reader.specs.Reading.{most_bytes};
+ghost use Rattle.report_check.specs.Cuts.{input_part};
+ghost use Rattle.report_check.specs.Verdicts.{most_bytes as most_text_bytes};
 ghost use Rattle.word_line.specs.declared.command.Command.TheVariants.{Check, Cover, Replay, Run};
 ghost use Rattle.track.specs.declared.status.Status.TheVariants.{Done, Refused, BadWords, OutOfMemory, ReadFailed, WriteFailed, TooLong, Unsound};
-ghost use Rattle.track.specs.Ends.{Ends, EndsAlone, EndsAs, streams};
+ghost use Rattle.track.specs.Ends.{Ends, EndsAlone, EndsAs, Streams, streams};
 
 /// A status with bytes left, a fault, or something written that it may not come with.
 pub fn wrong_ends()
@@ -44,4 +47,29 @@ pub fn wrong_ends()
         (streams None 0 None 0) → ⊥ }
     ensures alone_other { EndsAlone (1 ∷ []) WriteFailed (streams None 0 (Some []) 0)
         (streams None 0 (Some (2 ∷ [])) 1) → ⊥ }
+{}
+
+/// More bytes than a command may be given, and a text that was written for them, whole or in part.
+pub fn wrong_lengths()
+    ensures whole { (bytes : List ℕ) (now : Streams) → most_bytes < length bytes
+        → EndsAs Cover Done (streams (Some bytes) 0 None 0) now → ⊥ }
+    ensures refused { (bytes : List ℕ) (now : Streams) → most_bytes < length bytes
+        → EndsAs Cover Refused (streams (Some bytes) 0 None 0) now → ⊥ }
+    ensures begun { (bytes : List ℕ) (now : Streams) → most_bytes < length bytes
+        → EndsAs Cover WriteFailed (streams (Some bytes) 0 None 0) now → ⊥ }
+    ensures check_whole { (bytes : List ℕ) (now : Streams) → most_text_bytes < length bytes
+        → EndsAs Check Unsound (streams (Some bytes) 0 None 0) now → ⊥ }
+    ensures check_part { (bytes : List ℕ) (now : Streams) → most_bytes < length (input_part bytes)
+        → EndsAs Check Done (streams (Some bytes) 0 None 0) now → ⊥ }
+    ensures check_begun { (bytes : List ℕ) (now : Streams) → most_bytes < length (input_part bytes)
+        → EndsAs Check WriteFailed (streams (Some bytes) 0 None 0) now → ⊥ }
+{}
+
+/// A count of faults that rose by two.
+pub fn wrong_counts()
+    ensures read { EndsAs Cover ReadFailed (streams None 0 None 0) (streams None 2 None 0) → ⊥ }
+    ensures write { EndsAs Cover WriteFailed (streams None 0 None 0)
+        (streams None 0 None 2) → ⊥ }
+    ensures alone { EndsAlone [] WriteFailed (streams None 0 None 0)
+        (streams None 0 None 2) → ⊥ }
 {}

@@ -138,6 +138,7 @@ moving-out setup begun from to times pass handset moving none =
       after_is = put.after;
       rest = none;
       its = put.its;
+      steps_are = put.steps_are;
       number = moving.number;
       first = moving.first;
       commit = (moving.timed.late (ap is_early (rest-means handset.stage rests))).0;

@@ -1,6 +1,6 @@
 -- What a whole move over the tracker does to its pass and to its handset, and why none is made. Key
 -- law: `move_to`, by its clause `moved`.
-use Rattle.std.specs.Prelude.{◌≡◌, ℕ, zero, suc, ◌<◌, ◌≤◌, List, [], ◌++◌, length, map, slice_index, Some, None}
+use Rattle.std.specs.Prelude.{◌≡◌, ℕ, zero, suc, ◌<◌, ◌≤◌, List, [], ◌∷◌, ◌++◌, length, map, slice_index, Some, None}
 use Rattle.entry_word.specs.declared.visit.Visit.{Visit}
 use Rattle.directory.specs.Settings.{Setting}
 use Rattle.directory.specs.Courses.{Move, Step, move_to}
@@ -58,7 +58,8 @@ after_writes setting handset (suc count) =
     (after_writes setting handset count).stage
 
 -- the pass has made all puts of a move with these tickets, as its next own visits; the handset,
--- which stood for these steps with nothing left, has begun the move and made each of its puts
+-- which stood for these steps with nothing left, has begun the move and made each of its puts, and
+-- now stands for the steps and the move behind them
 pub record HasMoved (setup : Setup) (old : PassData) (handset : HandsetData) (to : ℕ)
     (moved : Moved) (new : PassData) (after : HandsetData) : Type 0 where
   pub steps : List Step
@@ -74,6 +75,7 @@ pub record HasMoved (setup : Setup) (old : PassData) (handset : HandsetData) (to
       (begin_move (setting_in setup) handset to) (length made)
   pub rest : due (setting_in setup) after ≡ None
   pub its : IsHandsetOf setup new.view after
+  pub steps_are : its.steps ≡ steps ++ move_to to ∷ []
   pub number : moved.number ≡ suc handset.number
   pub first : moved.first ≡ first_of made
   pub commit : moved.commit ≡ slice_index made

@@ -36,7 +36,7 @@ pub use moves::{worked_moves, wrong_moves};
 pub use orders::worked_orders;
 pub use others::worked_others;
 pub use passes::{worked_bits, wrong_censuses, wrong_notes, wrong_turns};
-pub use plans::{worked_levels, worked_measures};
+pub use plans::{worked_levels, worked_measures, wrong_overlaps};
 pub use puts::worked_puts;
 pub use rules::{told_tickets, wrong_logs, wrong_views};
 pub use scripts::worked_scripts;

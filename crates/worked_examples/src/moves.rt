@@ -18,7 +18,7 @@ ghost use Rattle.tracker_calls.specs.declared.whole_moves.Moved.{Moved};
 ghost use Rattle.worked_examples.specs.Passes.{HasPass, line_setup};
 
 /// The first move of the line's subscriber, to node 2: its pass has made the six puts of the move,
-/// and they are all of its own visits.
+/// they are all of its own visits, and its handset stands for this one step.
 pub fn worked_moves()
     ensures count { (old new : PassData) (handset after : HandsetData) (moved : Moved)
         (made : HasMoved line_setup old handset 2 moved new after) → HasPass old 0 []
@@ -27,6 +27,9 @@ pub fn worked_moves()
         (made : HasMoved line_setup old handset 2 moved new after) → HasPass old 0 []
         → made.steps ≡ []
         → own 0 new.view.seen ≡ visits line_setting 0 (move_to 2 ∷ []) }
+    ensures steps { (old new : PassData) (handset after : HandsetData) (moved : Moved)
+        (made : HasMoved line_setup old handset 2 moved new after) → made.steps ≡ []
+        → made.its.steps ≡ move_to 2 ∷ [] }
     ensures first { (old new : PassData) (handset after : HandsetData) (moved : Moved)
         (made : HasMoved line_setup old handset 2 moved new after)
         → made.made ≡ 4 ∷ 6 ∷ 7 ∷ 8 ∷ 9 ∷ 11 ∷ [] → moved.first ≡ 4 }

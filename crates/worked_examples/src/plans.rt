@@ -1,10 +1,12 @@
 //! The measures of plans, computed.
 ghost use Rattle.std.specs.Prelude.{◌≡◌, [], ◌∷◌, map};
-ghost use Rattle.region_plan.specs.Examples.{line_level, line_level_0, line_of_four, mean_line_of_four};
+ghost use Rattle.region_plan.specs.Examples.{end_of_line, line_level, line_level_0, line_of_four, mean_line_of_four, whole_line};
+ghost use Rattle.region_plan.specs.Matched.{HasFewReaders, HasSmallSum};
 ghost use Rattle.region_plan.specs.Measures.{degree_in, degree_of, most, stretch_of};
 ghost use Rattle.region_plan.specs.Regions.{threshold_of, top_for};
 ghost use Rattle.stretch_laws.specs.Plans.{bound_of};
 ghost use Rattle.stretch_laws.specs.Tracking.{radius, resting_stretch, stretch};
+ghost use Rattle.worked_examples.specs.Plans.{line_with, lone_node};
 
 /// Thresholds and radii double from level to level, and the top level is the least whose radius
 /// reaches the diameter.
@@ -30,4 +32,12 @@ pub fn worked_measures()
     ensures tracking { stretch 3 2 ≡ 137 }
     ensures resting { resting_stretch 3 2 ≡ 112 }
     ensures resting_other { resting_stretch 5 7 ≡ 584 }
+{}
+
+/// Plans of the line of four that overlap too much: with five phases, with one phase of which two
+/// nodes read two clusters, and with clusters of nine members in all, where eight are few enough.
+pub fn wrong_overlaps()
+    ensures phases { HasFewReaders (line_with 5 (whole_line ∷ end_of_line ∷ [])) → ⊥ }
+    ensures read { HasFewReaders (line_with 1 (whole_line ∷ end_of_line ∷ [])) → ⊥ }
+    ensures sum { HasSmallSum (line_with 1 (whole_line ∷ whole_line ∷ lone_node ∷ [])) → ⊥ }
 {}

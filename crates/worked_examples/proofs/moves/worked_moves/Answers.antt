@@ -1,5 +1,5 @@
-use Rattle.std.proofs.Common.{◌≡◌, length, ◌++◌, subst}
-use Rattle.directory.specs.Courses.{highest}
+use Rattle.std.proofs.Common.{◌≡◌, length, [], ◌∷◌, ◌++◌, subst}
+use Rattle.directory.specs.Courses.{highest, move_to}
 use Rattle.directory.specs.Histories.{own}
 use Rattle.directory.specs.Writes.{writes}
 use Rattle.region_plan.specs.Examples.{line_setting}
@@ -21,3 +21,7 @@ returns-clause-visits c = λ old new handset after moved made is first.
     let alone = subst (λ s. own 0 new.view.seen
     ≡ own 0 s ++ puts_of_move line_setting 0 made.steps 2) is.seen_is by in
     subst (λ s. own 0 new.view.seen ≡ puts_of_move line_setting 0 s 2) first alone
+
+pub returns-clause-steps : goal.returns-clause-steps
+returns-clause-steps c = λ old new handset after moved made first.
+    subst (λ s. made.its.steps ≡ s ++ move_to 2 ∷ []) first made.steps_are
