@@ -5,7 +5,7 @@ ghost use Rattle.handset.specs.Kept.{GoesWith};
 use distances::Distances;
 use entry_word::{Act, Address, Key, PresenceMark, Visit, pack_address, pack_mark};
 use handset::{EntryWrite, Handset, MoveFault, SwitchFault};
-use region_plan::Plan;
+use region_plan::{Plan, plan_is_sound};
 use std::alloc::Global;
 use std::process::Abort;
 use std::test::Fail;
@@ -58,7 +58,7 @@ fn turn(handset: &mut Handset, plan: &Plan, off: bool) -> Result<(), SwitchFault
     ensures { GoesWith plan.now handset.new }
 {
     // The call has the plan at hand for the proof.
-    let _nodes = plan.nodes();
+    plan_is_sound(plan);
     handset.switch(off)
 }
 

@@ -16,7 +16,7 @@ use crate::stage::{Journey, Stage};
 use crate::visits::new_word;
 use directory::levels_after_move;
 use entry_word::{mark_words, pack_address};
-use region_plan::Plan;
+use region_plan::{Plan, plan_is_sound};
 
 /// Where a handset is among the entries that it writes, apart from it.
 #[derive(Clone, Copy, PartialEq, Eq, Debug)]
@@ -93,8 +93,8 @@ impl Handset {
         ensures exact { result ≡ entry_write (setting_of plan.now []) self.now at }
         ensures kept { IsKept plan.now }
     {
-        // The call tells the proof that nodes are few.
-        let _nodes = plan.nodes();
+        // Nodes are few.
+        plan_is_sound(plan);
         match at {
             EntryStage::Renewing { level } => self.renewal(plan, level),
             EntryStage::Erasing { level } => self.erasure(plan, level),
@@ -107,8 +107,8 @@ impl Handset {
         requires goes { GoesWith plan.now (at_entry self.now (EntryStage.Renewing level)) }
         ensures { result ≡ renewal_write (setting_of plan.now []) self.now level }
     {
-        // The call tells the proof that nodes are few.
-        let _nodes = plan.nodes();
+        // Nodes are few.
+        plan_is_sound(plan);
         let Journey {
             number,
             to,
@@ -132,8 +132,8 @@ impl Handset {
         requires goes { GoesWith plan.now (at_entry self.now (EntryStage.Erasing level)) }
         ensures { result ≡ erasure_write (setting_of plan.now []) self.now level }
     {
-        // The call tells the proof that nodes are few.
-        let _nodes = plan.nodes();
+        // Nodes are few.
+        plan_is_sound(plan);
         let next = first_old(plan, &self.addresses, self.last, level + 1)?;
         Some(EntryWrite {
             level,

@@ -19,7 +19,7 @@ use crate::trail::trail_at;
 use directory::levels_after_move;
 use distances::Distances;
 use node_set::NodeSet;
-use region_plan::Plan;
+use region_plan::{Plan, plan_is_sound};
 use std::alloc::{AllocError, Global};
 use std::marker::Model;
 
@@ -209,8 +209,8 @@ impl Handset {
         requires few { self.old.number + 1 < 2 ^ 32 }
         ensures { self.new ≡ begin_move (setting_of plan.now []) self.old to }
     {
-        // The call tells the proof that distances are small.
-        let _nodes = plan.nodes();
+        // Distances are small.
+        plan_is_sound(plan);
         let weight = distances.between(self.place, to);
         let renewed = renewal(plan, &self.gathered, weight);
         gather(&mut self.gathered, renewed, weight);

@@ -6,7 +6,7 @@ ghost use Rattle.handset.specs.Progress.{first_with};
 ghost use Rattle.handset.specs.Beginning.{gathered_after, renewal_in};
 
 use crate::stage::Journey;
-use region_plan::Plan;
+use region_plan::{Plan, plan_is_sound};
 
 // The highest level that a move of this weight renews, by what the levels have gathered.
 pub fn renewal(plan: &Plan, gathered: &[u64], weight: u64) -> u32
@@ -16,8 +16,8 @@ pub fn renewal(plan: &Plan, gathered: &[u64], weight: u64) -> u32
     ensures highest { result ≡ renewal_in (setting_of plan.now []) gathered.now weight }
     ensures within { result < levels_of plan.now }
 {
-    // The call tells the proof that there is a level.
-    let _nodes = plan.nodes();
+    // There is a level.
+    plan_is_sound(plan);
     let mut limit = plan.levels();
     while limit > 0 {
         limit -= 1;
@@ -64,8 +64,8 @@ pub fn first_old(plan: &Plan, addresses: &[u32], last: Journey, from: u32) -> Op
         (slice_index addresses.now level) == home plan.now level last.to)) from
         (suc last.renewed - from) }
 {
-    // The call tells the proof that levels are few.
-    let _nodes = plan.nodes();
+    // Levels are few.
+    plan_is_sound(plan);
     for level in from..last.renewed + 1 {
         if plan.home(level, addresses[level as usize]) != plan.home(level, last.to) {
             return Some(level);

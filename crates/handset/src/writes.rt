@@ -21,7 +21,7 @@ use crate::visits::{
 };
 use directory::levels_after_move;
 use entry_word::{PresenceMark, Visit, mark_words};
-use region_plan::Plan;
+use region_plan::{Plan, plan_is_sound};
 
 impl Handset {
     /// The write that comes next, if one is left.
@@ -85,8 +85,8 @@ impl Handset {
         ensures { result ≡ due (setting_of plan.now []) self.now }
     {
         let (sub, last) = (self.sub, self.last);
-        // The call tells the proof that nodes are few.
-        let _nodes = plan.nodes();
+        // Nodes are few.
+        plan_is_sound(plan);
         match self.stage {
             Stage::Resting => None,
             Stage::Coming => Some(coming_visit(sub, last)),
@@ -117,7 +117,7 @@ impl Handset {
         ensures kept { IsKept plan.now }
     {
         let (sub, last) = (self.sub, self.last);
-        let _nodes = plan.nodes();
+        plan_is_sound(plan);
         match self.stage {
             Stage::Resting => None,
             Stage::Coming => {
@@ -182,8 +182,8 @@ impl Handset {
         requires goes { GoesWith plan.now self.now }
         ensures { result ≡ erasing_from (setting_of plan.now []) self.now level }
     {
-        // The call tells the proof that nodes are few.
-        let _nodes = plan.nodes();
+        // Nodes are few.
+        plan_is_sound(plan);
         match first_old(plan, &self.addresses, self.last, level) {
             Some(level) => Stage::Erasing { level },
             None if self.last.renewed == plan.levels() - 1 => self.purging_from(0),

@@ -129,8 +129,8 @@ fn begin(
         → StandsForSteps (setting_of plan.now starts) handset.new (steps ++ step_of call ∷ [])
         made }
 {
-    // The call tells the proof that distances are small.
-    let _nodes = plan.nodes();
+    // Distances are small.
+    plan_is_sound(plan);
     let place = handset.place();
     match call {
         Call::Move { to } => {

@@ -34,8 +34,8 @@ fn mark_weight(plan: &Plan, distances: &Distances, place: u32, mark: PresenceMar
     ensures weight { result ≡ mark_weight (setting_of plan.now []) place mark }
     ensures small { result ≤ most_weight }
 {
-    // The call tells the proof that distances are small.
-    let _nodes = plan.nodes();
+    // Distances are small.
+    plan_is_sound(plan);
     match mark {
         PresenceMark::Gone { to, .. } => 2 * distances.between(place, u32::from(to)),
         PresenceMark::Empty

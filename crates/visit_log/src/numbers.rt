@@ -8,7 +8,7 @@ ghost use Rattle.region_plan.specs.Cells.{IsCell, IsPlace};
 ghost use Rattle.visit_log.specs.Numbers.{cell_count, cell_number, clusters_below, NumbersApart, NumbersBelow};
 
 use entry_word::Key;
-use region_plan::Plan;
+use region_plan::{Plan, plan_is_sound};
 
 /// The node at which a cell lies.
 pub fn key_node(plan: &Plan, key: Key) -> u32
@@ -61,8 +61,8 @@ pub fn clusters_below(plan: &Plan, level: u32) -> u32
     ensures count { result ≡ clusters_below plan.now level }
     ensures few { result ≤ 1024 * level }
 {
-    // The call tells the proof that levels have few clusters.
-    let _nodes = plan.nodes();
+    // Levels have few clusters.
+    plan_is_sound(plan);
     let mut count = 0;
     for i in 0..level {
         count += plan.clusters(i);

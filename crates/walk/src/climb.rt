@@ -60,8 +60,8 @@ impl Climb {
         requires level { self.level < levels_of plan.now }
         ensures { result ≡ climb_to plan.now self weight index }
     {
-        // The call tells the proof that there are few levels.
-        let _nodes = plan.nodes();
+        // There are few levels.
+        plan_is_sound(plan);
         if (index as usize) < plan.readers(self.level, self.from).len() {
             Climb {
                 weight,
@@ -88,8 +88,8 @@ pub fn climb_from(plan: &Plan, from: u32, known: Option<u32>, weight: u64, level
         (readers_above (setting_of plan.now []) from level) }
     ensures within { IsProgressWithin plan.now from result }
 {
-    // The call tells the proof that there is a level.
-    let _nodes = plan.nodes();
+    // There is a level.
+    plan_is_sound(plan);
     for level in level..plan.levels() {
         if !plan.readers(level, from).is_empty() {
             return Progress::Climbing {

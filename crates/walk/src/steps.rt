@@ -145,8 +145,8 @@ fn between(plan: &Plan, distances: &Distances, u: u32, v: u32) -> u64
     ensures distance { result ≡ (setting_of plan.now []).distance u v }
     ensures light { result ≤ 2 ^ 30 }
 {
-    // The call tells the proof that distances are small.
-    let _nodes = plan.nodes();
+    // Distances are small.
+    plan_is_sound(plan);
     distances.between(u, v)
 }
 
@@ -248,8 +248,8 @@ fn hop_to(plan: &Plan, distances: &Distances, chase: Chase, node: u32, to: u32) 
         to }
     ensures within { (from : ℕ) → IsProgressWithin plan.now from result }
 {
-    // The call tells the proof that distances are small.
-    let _nodes = plan.nodes();
+    // Distances are small.
+    plan_is_sound(plan);
     if chase.hops_left == 0 {
         return Progress::Ended {
             found: Found::Again {

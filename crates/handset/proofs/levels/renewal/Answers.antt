@@ -19,7 +19,7 @@ pub loop-limit-init : goal.loop-limit-init
 loop-limit-init c = record {
   within = omega arith;
   same = from_top c.args.plan.now c.args.gathered.now c.args.weight c.levels-limit.result c.levels-limit.ensures
-      c.nodes-nodes.ensures.sound.some;
+      c.plan_is_sound.ensures.sound.some;
 }
 
 pub returns-then-threshold-gathered-clause-highest : goal.returns-then-threshold-gathered-clause-highest

@@ -10,7 +10,7 @@ pub returns-then-not-is_empty-clause-stage : goal.returns-then-not-is_empty-clau
 returns-then-not-is_empty-clause-stage c =
     let low : c.loop-level.level < levels (setting_of c.args.plan.now []) = omega (
       arith,
-      c.nodes-nodes.ensures.sound.some,
+      c.plan_is_sound.ensures.sound.some,
       c.loop-level-test.true,
       c.levels-level-end.ensures,
     ) in
@@ -21,7 +21,7 @@ pub loop-level-preserved : goal.loop-level-preserved
 loop-level-preserved c =
     let low : c.loop-level.level < levels (setting_of c.args.plan.now []) = omega (
       arith,
-      c.nodes-nodes.ensures.sound.some,
+      c.plan_is_sound.ensures.sound.some,
       c.loop-level-test.true,
       c.levels-level-end.ensures,
     ) in
