@@ -1,10 +1,9 @@
 -- A network and k have one plan.
-use Rattle.std.proofs.Common.{◌≡◌, ℕ, zero, suc, ◌<◌, ◌≤◌, Bool, true, List, [], ◌∷◌, map, length, get_or, refl, sym}
-use Rattle.std.proofs.Common.{◌∙◌, ap, subst, inl, inr, arith}
+use Rattle.std.proofs.Common.{◌≡◌, ℕ, zero, suc, ◌<◌, Bool, true, List, [], ◌∷◌, map, length, get_or, refl, sym}
+use Rattle.std.proofs.Common.{◌∙◌, ap, subst, arith}
 use Rattle.std.specs.Prelude.{All}
 use Rattle.std.proofs.lemmas.List.{get_or_default, same_lists}
 use Rattle.std.proofs.lemmas.List.Elements.{All-nil, All-cons, All-append, All-head, All-tail}
-use Rattle.std.proofs.lemmas.Bool.{cases_lt}
 use Rattle.net_graph.specs.declared.edge.Edge.{Edge}
 use Rattle.net_graph.specs.Network.{Network}
 use Rattle.net_graph.specs.Walks.{IsLeastWeight}
@@ -25,6 +24,7 @@ use Rattle.region_plan.specs.Meanings.{IsTop, IsClusterOf, AreClustersOf, IsCove
 use Rattle.region_plan.specs.declared.covering.Covering.{Covering}
 use Rattle.region_plan.specs.declared.covering.Covering.TheVariants.{Phased, Mean}
 use Rattle.region_plan.specs.Meanings.{as_tree}
+use Rattle.region_plan.proofs.Uniqueness.{depths_are_one, tops_are_one}
 
 -- ---- the clusters of a coarsening have ascending members
 
@@ -93,12 +93,6 @@ same_weights xs ws us rises one two same =
     ∙ same (get_or xs i 0) (has_place xs i (omega (arith, one)))
     ∙ beside_place xs us i rises two (omega (arith, one)) ∙ get_or_default us i 0 d (omega (arith, one, two)))
 
-same_depth : (cluster : WeighedCluster) (d e : ℕ) → IsDepth cluster d → IsDepth cluster e → d ≡ e
-same_depth cluster d e p q =
-    let below : d ≤ e = subst (λ w. w ≤ e) p.attained.far (q.greatest p.attained.node p.attained.member) in
-    let above : e ≤ d = subst (λ w. w ≤ d) q.attained.far (p.greatest q.attained.node q.attained.member) in
-    omega arith
-
 -- a network has one least weight between two nodes
 abbrev pub LeastIsOne : Type 0
 LeastIsOne = (edges : List Edge) (inside : ℕ → Bool) (u v w x : ℕ) → IsLeastWeight edges inside u v w
@@ -118,7 +112,7 @@ same_cluster one_weight network made d e rises p q =
     (p.tree.each v h) (q.tree.each v h)
     ∙ ap (λ ys. weight_beside v ys e.weights) q.members) in
     let both : as_tree d ≡ as_tree e = cc in
-    let depth : d.depth ≡ e.depth = same_depth (as_tree e) d.depth e.depth (subst
+    let depth : d.depth ≡ e.depth = depths_are_one (as_tree e) d.depth e.depth (subst
     (λ (c : WeighedCluster). IsDepth c d.depth) both p.depth) q.depth in
     let parts : ◌≡◌ {A = PlanCluster}
     (record { leader = d.leader; phase = d.phase; members = d.members; weights = d.weights; depth = d.depth })
@@ -148,7 +142,8 @@ same_level one_weight network table covering i one two p q =
     let rise : All Rises (cluster_list table.nodes 0 (regions_of table covering i)) =
     listed_rise table.nodes 0 (regions_of table covering i) (covering_ascends covering _) in
     let clusters : one.clusters ≡ two.clusters =
-    same_clusters one_weight network (cluster_list table.nodes 0 (regions_of table covering i)) one.clusters two.clusters
+    same_clusters one_weight network (cluster_list table.nodes 0 (regions_of table covering i)) one.clusters
+    two.clusters
     rise p.clusters q.clusters in
     let exponent : one.exponent ≡ two.exponent = p.exponent ∙ sym q.exponent in
     let threshold : one.threshold ≡ two.threshold = p.threshold ∙ sym q.threshold in
@@ -173,18 +168,6 @@ same_level one_weight network table covering i one two p q =
     }) = cc in
     parts
 
-same_top : (table : DistanceTable) (one two : ℕ) → IsTop table one → IsTop table two → one ≡ two
-same_top table one two p q =
-    let le : p.diameter ≤ q.diameter = subst (λ w. w ≤ q.diameter) p.greatest.attained.far (q.greatest.greatest
-    p.greatest.attained.from p.greatest.attained.to p.greatest.attained.from_below p.greatest.attained.to_below) in
-    let ge : q.diameter ≤ p.diameter = subst (λ w. w ≤ p.diameter) q.greatest.attained.far (p.greatest.greatest
-    q.greatest.attained.from q.greatest.attained.to q.greatest.attained.from_below q.greatest.attained.to_below) in
-    elim (cases_lt one two) [
-      | inl less ↦ absurd (omega (arith, q.least one less, p.enough, le, ge))
-      | inr more ↦ elim (cases_lt two one)
-          [ inl greater ↦ absurd (omega (arith, p.least two greater, q.enough, le, ge)) | inr same ↦ omega arith ]
-    ]
-
 pub one_plan : (one_table : DistancesAreOne) (one_weight : LeastIsOne) (network : Network) (covering : Covering)
     (one two : PlanData)
     → IsCoveredPlan covering network one → IsCoveredPlan covering network two → one ≡ two
@@ -205,7 +188,7 @@ one_plan one_table one_weight network covering one two p q =
     trade_off = p.trade_off ∙ sym q.trade_off
 
     tops : top_of one ≡ top_of two
-    tops = same_top two.distances (top_of one) (top_of two)
+    tops = tops_are_one two.distances (top_of one) (top_of two)
         (subst (λ (t : DistanceTable). IsTop t (top_of one)) tables p.top) q.top
 
     count : levels_of one ≡ levels_of two

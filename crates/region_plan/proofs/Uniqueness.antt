@@ -69,7 +69,7 @@ no_later table s t one two later =
     let at = two.greatest.attained in
     omega (arith, two.least s later, one.enough, one.greatest.greatest at.from at.to at.from_below at.to_below, at.far)
 
-tops_are_one : (table : DistanceTable) (s t : ℕ) → IsTop table s → IsTop table t → s ≡ t
+pub tops_are_one : (table : DistanceTable) (s t : ℕ) → IsTop table s → IsTop table t → s ≡ t
 tops_are_one table s t one two = elim (cases_lt s t) [
   | inl less ↦ absurd (no_later table s t one two less)
   | inr more ↦ elim (cases_lt t s) [
@@ -78,7 +78,7 @@ tops_are_one table s t one two = elim (cases_lt s t) [
   ]
 ]
 
-depths_are_one : (cluster : WeighedCluster) (d e : ℕ) → IsDepth cluster d → IsDepth cluster e → d ≡ e
+pub depths_are_one : (cluster : WeighedCluster) (d e : ℕ) → IsDepth cluster d → IsDepth cluster e → d ≡ e
 depths_are_one cluster d e one two =
     omega (
       arith,
