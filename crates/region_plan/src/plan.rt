@@ -226,7 +226,8 @@ impl Plan {
         self.levels.exponent(i)
     }
 
-    /// The weight that a subscriber gathers before its address at the level is renewed.
+    /// The weight that a subscriber gathers before its address at the level is renewed, unless that
+    /// of a higher level is renewed before.
     pub fn threshold(&self, i: u32) -> u64
         requires level { i < levels_of self.now }
         ensures { result ≡ threshold_at self.now i }
@@ -350,8 +351,9 @@ impl Plan {
         self.degree
     }
 
-    /// How many times its distance a quiet find may travel, but for twice an open passage
-    /// (docs/DIRECTORY.md, "What a find pays").
+    /// How many times its distance a quiet find may travel, but for twice an open passage, over a
+    /// plan that bounds its finds, as those of `build` and `build_mean` do (docs/DIRECTORY.md,
+    /// "What a find pays"). Over the flat plan it bounds nothing.
     pub fn stretch(&self) -> u64
         ensures exact { result ≡ stretch_of self.now }
         ensures small { result ≤ 2 ^ 20 }

@@ -58,7 +58,8 @@ pub fn address_after_confirm()
     levels_stay_near();
 }
 
-/// After the confirm an address that stays costs at most the width and once more the radius.
+/// After the confirm an address that isn't being replaced costs at most the width and once more the
+/// radius.
 pub fn current_address_after_confirm()
     ensures { CurrentAfterConfirm }
 {
