@@ -27,7 +27,8 @@ entry-due setting handset (entries.Renewing level) = at_test (nat_lt level hands
       word = Rattle.entry_word.specs.Addresses.address_word
           (Some (record { number = handset.last.number; node = handset.last.to }));
       next = entries.Renewing (suc level);
-    })) None) (λ (write : EntryWrite). due setting (at_entry handset (entries.Renewing level)) ≡ Some (entry_put handset.sub write))
+    })) None) (λ (write : EntryWrite). due setting (at_entry handset (entries.Renewing level))
+        ≡ Some (entry_put handset.sub write))
     at_test true = refl
     at_test false = tt
 entry-due setting handset (entries.Erasing level) = at_next (first_with (is_old setting handset) (suc level)
@@ -65,7 +66,8 @@ entry-after setting handset (entries.Erasing level) = at_next (first_with (is_ol
 
 -- and goes with its plan
 pub entry-goes : (plan : PlanData) (handset : HandsetData) (at : EntryStage) → GoesWith plan (at_entry handset at)
-    → IfSome (entry_write (setting_of plan []) handset at) (λ (write : EntryWrite). GoesWith plan (at_entry handset write.next))
+    → IfSome (entry_write (setting_of plan []) handset at) (λ (write : EntryWrite). GoesWith plan
+    (at_entry handset write.next))
 entry-goes plan handset (entries.Renewing level) goes = at_test (nat_lt level handset.last.renewed) refl
   where
     at_test : (b : Bool) → nat_lt level handset.last.renewed ≡ b → IfSome (cond b (Some (record {

@@ -72,7 +72,8 @@ text-is listing =
     let after_edges : List (List ℕ) = homes ++ after_homes in
     grown-is [] (track ∷ nodes ∷ k ∷ concat edges ∷ concat homes ∷ callers ∷ concat calls ∷ concat orders ∷ [])
     ∙ ap (λ (l : List ℕ). track ++ (nodes ++ (k ++ l)))
-    (ap (λ (l : List ℕ). concat edges ++ (concat homes ++ (callers ++ (concat calls ++ l)))) (append-nil (concat orders))
+    (ap (λ (l : List ℕ). concat edges ++ (concat homes ++ (callers ++ (concat calls ++ l))))
+    (append-nil (concat orders))
     ∙ ap (λ (l : List ℕ). concat edges ++ (concat homes ++ (callers ++ l))) (sym (concat-append calls orders))
     ∙ ap (λ (l : List ℕ). concat edges ++ l) (sym (concat-append homes after_homes))
     ∙ sym (concat-append edges after_edges))

@@ -65,7 +65,8 @@ pub line-written : (items left now later : List Value) (start text line grown cl
     → m ≤ length left → now ≡ take m left → later ≡ drop m left
     → each_in number_in (items_view now) ≡ Some ns → length now ≡ m
     → grown ≡ text ++ order_line ns → cleared ≡ [] → HasWritten items later start grown cleared
-line-written items left now later start text line grown cleared ns m h some few full within front back is count written clear =
+line-written items left now later start text line grown cleared ns m h some few full within front back is count written
+    clear =
     let cut : left ≡ now ++ later =
     sym (take-append-drop m left) ∙ ap (λ (l : List Value). l ++ drop m left) (sym front)
     ∙ ap (λ (l : List Value). now ++ l) (sym back) in

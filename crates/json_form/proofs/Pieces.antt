@@ -60,9 +60,11 @@ pub numbers-step : (begun : Bool) (numbers front others now later empty line las
     → opening begun ≡ byte ∷ [] → empty ≡ [] → line ≡ empty ++ byte ∷ decimal n → now ≡ take m others
     → later ≡ drop m others → last ≡ line ++ flat_map (λ n. 44 ∷ decimal n) now
     → list_left begun whole numbers ≡ last ++ list_left true whole later
-numbers-step begun [] front others now later empty line last n byte m some fronts rests is opens none first some_now after
+numbers-step begun [] front others now later empty line last n byte m some fronts rests is opens none first some_now
+    after
     all = absurd (omega arith)
-numbers-step begun (x ∷ xs) front others now later empty line last n byte m some fronts rests is opens none first some_now after
+numbers-step begun (x ∷ xs) front others now later empty line last n byte m some fronts rests is opens none first
+    some_now after
     all =
     let commas = flat_map (λ n. 44 ∷ decimal n) now in
     let tail = list_left true whole later in
@@ -89,4 +91,5 @@ row-end ns line with_numbers last numbers end =
     end
     ∙ ap (λ (l : List ℕ). l ++ codes "]") numbers
     ∙ append_assoc line (flat_map (λ n. 44 ∷ decimal n) ns) (codes "]")
-    ∙ ap (λ (l : List ℕ). line ++ l) (sym (numbers-more ns []) ∙ ap (λ (l : List ℕ). list_left true whole l) (append-nil ns))
+    ∙ ap (λ (l : List ℕ). line ++ l) (sym (numbers-more ns [])
+    ∙ ap (λ (l : List ℕ). list_left true whole l) (append-nil ns))

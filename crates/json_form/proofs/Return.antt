@@ -110,7 +110,8 @@ listing-readable listing small =
           (member-utf8 false (codes "callers") (whole listing.callers) from_calls (IsUtf8-are_ascii _ refl) callers.utf8
           (member-utf8 true (codes "calls") (list_by call_value listing.calls) from_edges (IsUtf8-are_ascii _ refl)
           spoken.utf8
-          (member-utf8 true (codes "edges") (list_by edge_value listing.edges) from_k (IsUtf8-are_ascii _ refl) edges.utf8
+          (member-utf8 true (codes "edges") (list_by edge_value listing.edges) from_k (IsUtf8-are_ascii _ refl)
+          edges.utf8
           (member-utf8 true (codes "k") (whole listing.k) from_nodes (IsUtf8-are_ascii _ refl) k.utf8
           (member-utf8 true (codes "nodes") (whole listing.nodes) from_order (IsUtf8-are_ascii _ refl) nodes.utf8
           (member-utf8 true (codes "order") (wholes listing.order) from_subs (IsUtf8-are_ascii _ refl) order.utf8
@@ -145,7 +146,11 @@ course-small format n here off (calls.On ∷ script) few course =
 
 search-small : (n subs : ℕ) (call : Call) → n ≤ 1024 → subs ≤ 1024 → IsSearch n subs call → IsSmallCall call
 search-small n subs (calls.Move to) few some search = absurd search
-search-small n subs (calls.Find from sub) few some search = (omega (arith, few, search.0), omega (arith, some, search.1))
+search-small n subs (calls.Find from sub) few some search = (
+  omega (arith, few, search.0),
+  omega
+      (arith, some, search.1),
+)
 search-small n subs calls.Off few some search = absurd search
 search-small n subs calls.On few some search = absurd search
 
@@ -179,7 +184,8 @@ valid-small contents valid =
       nodes = omega (arith, few);
       k = omega (arith, valid.k_few);
       edges = each-of (IsEdge contents.nodes) IsSmallEdge contents.edges (λ edge is.
-          (omega (arith, is.a_below, few), (omega (arith, is.b_below, few), (omega (arith, is.light), tt)))) valid.edges;
+          (omega (arith, is.a_below, few), (omega (arith, is.b_below, few), (omega (arith, is.light), tt))))
+          valid.edges;
       homes = each-of (λ home. home < contents.nodes) IsSmall contents.homes (λ home is. omega (arith, is, few))
           valid.homes;
       callers = omega (arith, valid.callers);

@@ -31,8 +31,10 @@ done-is (Again actor from sub NoEntry weight first last) = refl
 done-is (Again actor from sub Chased weight first last) = refl
 
 regroup : (calls order visits : List ℕ)
-    → codes "{\"calls\":" ++ (calls ++ (codes ",\"order\":" ++ (order ++ ((codes ",\"visits\":" ++ visits) ++ codes "}\n"))))
-    ≡ (codes "{\"calls\":" ++ (calls ++ (codes ",\"order\":" ++ (order ++ ((codes ",\"visits\":" ++ visits) ++ codes "}"))))) ++ 10 ∷ []
+    → codes "{\"calls\":" ++ (calls ++ (codes ",\"order\":" ++
+    (order ++ ((codes ",\"visits\":" ++ visits) ++ codes "}\n"))))
+    ≡ (codes "{\"calls\":" ++ (calls ++ (codes ",\"order\":" ++
+    (order ++ ((codes ",\"visits\":" ++ visits) ++ codes "}"))))) ++ 10 ∷ []
 regroup calls order visits = simp append_assoc
 
 whole-report : (outcome : Outcome)
@@ -63,7 +65,8 @@ call-step begun (call ∷ calls) none order visits opened line some opens is =
     let rest = calls_left true calls order visits in
     let behind = codes ",\"order\":" ++ order_left false order visits in
     let item = compact_text (done_value call) in
-    let last : take (length (call ∷ calls) - 1) calls ≡ calls = take_all (length (call ∷ calls) - 1) calls (omega arith) in
+    let last : take (length (call ∷ calls) - 1) calls ≡ calls = take_all (length (call ∷ calls) - 1) calls (omega arith)
+    in
     ap (λ (l : List ℕ). l ++ behind) (list-more begun done_value call calls)
     ∙ append_assoc (opening begun) (item ++ list_left true done_value calls) behind
     ∙ ap (λ (l : List ℕ). opening begun ++ l) (append_assoc item (list_left true done_value calls) behind)
@@ -88,7 +91,8 @@ pub input-is : (listing : ListingValue)
     ∷ compact_text (list_by call_value listing.calls)
     ∷ codes ",\"edges\":"
     ∷ compact_text (list_by edge_value listing.edges)
-    ∷ ((member_text (codes ",\"k\"") listing.k ++ member_text (codes ",\"nodes\"") listing.nodes) ++ codes ",\"order\":")
+    ∷ ((member_text (codes ",\"k\"") listing.k ++ member_text (codes ",\"nodes\"") listing.nodes)
+    ++ codes ",\"order\":")
     ∷ compact_text (wholes listing.order)
     ∷ codes ",\"subs\":"
     ∷ compact_text (wholes listing.homes)

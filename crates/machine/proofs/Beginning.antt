@@ -41,7 +41,8 @@ script-of input plan distances sub held script together low reads same =
     (omega (arith, low, together.valid.scripts, length-map input.scripts.items (λ (s : Vec Call Global). s.items)))
     reads same
 
-pub ready : ScriptsAreValid → (input : Input) (plan : PlanData) (distances : DistanceTable) (history : History) (sub : ℕ)
+pub ready : ScriptsAreValid → (input : Input) (plan : PlanData) (distances : DistanceTable) (history : History)
+    (sub : ℕ)
     (old : Subscriber)
     (held : Vec Call Global) (script : List Call) (place : ℕ) (default : Call)
     → BelongTogether (seen_input input) plan distances → sub < length input.homes.items
@@ -49,7 +50,8 @@ pub ready : ScriptsAreValid → (input : Input) (plan : PlanData) (distances : D
     → due (setting_over (seen_input input) plan) old.handset ≡ None
     → held ≡ get_or input.scripts.items sub held → script ≡ held.items → place ≡ length old.lines.items
     → (place ≡ length script → ⊥) → Ready input plan history sub old script place default
-ready scripts input plan distances history sub old held script place default together low its rests reads same here other =
+ready scripts input plan distances history sub old held script place default together low its rests reads same here
+    other =
     let script_is : script ≡ get_or (seen_input input).scripts sub [] =
     script-of input plan distances sub held script together low reads same in
     let steps : length (steps_of (scripts_of (seen_input input)) sub) ≡ length script =

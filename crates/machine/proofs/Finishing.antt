@@ -137,7 +137,8 @@ pub visits-fewer : VisitsAreFew → (old new : Machine) (history : History) (act
     < most_visits (setting_at old) (input_at old).scripts - length old.order.items
 visits-fewer few old new history actor count same is made some =
     let after : History = after_turns (setting_at old) (scripts_at old) history (replicate count actor) in
-    let most : most_visits (setting_at new) (input_at new).scripts ≡ most_visits (setting_at old) (input_at old).scripts =
+    let most : most_visits (setting_at new) (input_at new).scripts
+    ≡ most_visits (setting_at old) (input_at old).scripts =
     ap (λ setting. most_visits setting (input_at new).scripts) (same-setting old new same)
     ∙ ap (λ input. most_visits (setting_at old) (seen_input input).scripts) same.0 in
     omega (

@@ -146,7 +146,8 @@ pub some-line : MarksUnpack → TicketsAreOwn → ScriptsAreValid → (input : C
     → sub < length input.homes → IsSubscriber input plan history sub old → (cells : CellData) (count : ℕ)
     (handset : HandsetData) (after : CellData) → 0 < count → HavePut plan old.handset cells count handset after
     → 0 < length old.lines.items
-some-line unpack tell scripts input plan distances history sub old together low its cells count handset after some puts =
+some-line unpack tell scripts input plan distances history sub old together low its cells count handset after some
+    puts =
     let put = first-put plan old.handset cells count handset after some puts in
     let way = under-way unpack tell scripts input plan distances history sub old put.0 together low its
     (ap (λ s. slice_get (visits (setting_over input plan) s (begun_steps input sub old)) (length (own sub history)))
@@ -252,4 +253,5 @@ none-written input plan cells after history sub old handset zero none sees its p
     (subst (λ k. AreMade input plan k history sub 0 (λ later. IsSubscriber input plan later sub old)) (sym puts.1)
     (made-none input plan cells history sub (λ later. IsSubscriber input plan later sub old) sees its))
     puts.0 refl (omega arith)
-none-written input plan cells after history sub old handset (suc count) none sees its puts = absurd (omega (arith, none))
+none-written input plan cells after history sub old handset (suc count) none sees its puts = absurd
+    (omega (arith, none))

@@ -115,7 +115,8 @@ begins scripts input plan distances history sub old call together low its none s
     let more : take (suc (length old.lines.items)) (steps_of (scripts_of input) sub)
     ≡ begun_steps input sub old ++ step_of call ∷ [] =
     take-more (steps_of (scripts_of input) sub) (length old.lines.items) (step_of call)
-    (step-at input sub (length old.lines.items) call together.valid low short ∙ ap (λ c. Some (step_of c)) (sym same)) in
+    (step-at input sub (length old.lines.items) call together.valid low short ∙ ap (λ c. Some (step_of c)) (sym same))
+    in
     let allowed =
     step-allowed scripts input plan distances sub (suc (length old.lines.items)) (begun_steps input sub old)
     (step_of call) together low more in

@@ -97,7 +97,8 @@ seen-after own_law ticket_law input plan history sub k visit low at =
     }
 
 -- a step of a valid script, where it comes
-pub step-allowed : ScriptsAreValid → (input : Contents) (plan : PlanData) (distances : DistanceTable) (sub k : ℕ) (before : List Step)
+pub step-allowed : ScriptsAreValid → (input : Contents) (plan : PlanData) (distances : DistanceTable) (sub k : ℕ)
+    (before : List Step)
     (step : Step)
     → BelongTogether input plan distances → sub < length input.homes
     → take k (steps_of (scripts_of input) sub) ≡ before ++ step ∷ []

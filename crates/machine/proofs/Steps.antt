@@ -136,7 +136,8 @@ move-commits unpack setting sub course move number from to i visit h =
     (says move.from (Gone move.number move.to) true (number, to) refl) (
       says move.to (Here move.number) false number refl,
       quiet-append sub (erasure_writes setting course move) (purge_writes setting course move)
-          (quiet-map sub _ (λ level. refl) _) (quiet-purge (move.renewed == setting.top) _ (λ node. says node Empty false tt refl)),
+          (quiet-map sub _ (λ level. refl) _) (quiet-purge (move.renewed == setting.top) _
+          (λ node. says node Empty false tt refl)),
     )
     i visit h)
   where
@@ -209,7 +210,8 @@ unfolding MaySteps
 may-at setting course [] step later may inside = (may.0, inside)
 may-at setting course (move_to node ∷ before) step later may inside =
     may-at setting (after_step setting course (move_to node)) before step later may.1
-    (subst (λ n. n < setting.nodes) (sym (fold-append (λ n (m : Move). m.to) course.start course.moves (next_move setting course node ∷ [])))
+    (subst (λ n. n < setting.nodes) (sym (fold-append (λ n (m : Move). m.to) course.start course.moves
+    (next_move setting course node ∷ [])))
     may.0.inside)
 may-at setting course (switch_off ∷ before) step later may inside =
     may-at setting (after_step setting course switch_off) before step later may.1 inside

@@ -193,7 +193,8 @@ pub caller-turned : OwnGrow → TicketsGrow → CallersKept
     → callers.items ≡ slice_set old.callers.items place caller
     → order.items ≡ old.order.items ++ replicate count actor → vec_capacity old.order ≤ vec_capacity order
     → HasHistory (record old { callers = callers; order = order }) (history ++ visits)
-caller-turned own_law ticket_law kept old history actor place count visits caller callers order stands at low actors sees
+caller-turned own_law ticket_law kept old history actor place count visits caller callers order stands at low actors
+    sees
     its items pushed room =
     record {
       together = stands.together;

@@ -108,7 +108,8 @@ under-way unpack own_law scripts input plan distances history sub old visit toge
 
 -- so a step goes on
 pub written-on : MarksUnpack → OwnGrow → TicketsGrow → TicketsAreOwn → ScriptsAreValid → (input : Contents)
-    (plan : PlanData) (distances : DistanceTable) (after : CellData) (history : History) (sub ticket last : ℕ) (old new : Subscriber)
+    (plan : PlanData) (distances : DistanceTable) (after : CellData) (history : History) (sub ticket last : ℕ)
+    (old new : Subscriber)
     (visit : Visit) (line default : Done)
     → BelongTogether input plan distances → sub < length input.homes → length history ≡ ticket
     → IsSubscriber input plan history sub old
@@ -124,7 +125,8 @@ pub written-on : MarksUnpack → OwnGrow → TicketsGrow → TicketsAreOwn → S
     → (v : Visit) × (next (setting_over input plan) (scripts_of input) history sub ≡ Some v)
     × IsSubscriber input plan (history ++ v ∷ []) sub new × GoWith plan after
     × Hold plan input.homes after (history ++ v ∷ [])
-written-on unpack own_law ticket_law tell scripts input plan distances after history sub ticket last old new visit line default
+written-on unpack own_law ticket_law tell scripts input plan distances after history sub ticket last old new visit line
+    default
     together low place its at
     stands goes same lines room last_is line_is go hold =
     let setting : Setting = setting_over input plan in

@@ -27,7 +27,8 @@ none-of f None h = refl
 none-of f (Some x) h = cc
 
 -- a stage without a next write is that of rest
-stage-rests : (setting : Setting) (handset : HandsetData) (stage : Stage) → due_at setting handset stage ≡ None
+stage-rests : (setting : Setting) (handset : HandsetData) (stage : Stage)
+    → due_at setting handset stage ≡ None
     → stage ≡ Resting
 stage-rests setting handset Resting h = refl
 stage-rests setting handset Coming h = cc
@@ -54,12 +55,19 @@ IsStep calls.Off = Unit {0}
 IsStep calls.On = Unit {0}
 
 -- a step that may come may begin
-pub may-begin : (plan : PlanData) (starts : List ℕ) (handset : HandsetData) (steps : List Step) (made : ℕ) (call : Call)
+pub may-begin : (plan : PlanData) (starts : List ℕ) (handset : HandsetData) (steps : List Step)
+    (made : ℕ) (call : Call)
     → IsRestAfter (setting_of plan starts) handset.sub handset steps made → IsStep call
-    → MayStep (setting_of plan starts) (course_of (setting_of plan starts) handset.sub steps) (step_of call)
+    → MayStep (setting_of plan starts) (course_of (setting_of plan starts) handset.sub steps)
+    (step_of call)
     → MayBegin plan handset call
-may-begin plan starts handset steps made (calls.Move to) at its may =
-    (may.inside, λ same. may.moving (same ∙ at.place), at.is_off ∙ may.is_on, omega (arith, may.few, at.number))
+may-begin plan starts handset steps made (calls.Move to) at its may = (
+  may.inside,
+  λ same. may.moving (same ∙ at.place),
+  at.is_off
+      ∙ may.is_on,
+  omega (arith, may.few, at.number),
+)
 may-begin plan starts handset steps made (calls.Find from sub) at its may = absurd its
 may-begin plan starts handset steps made calls.Off at its may = at.is_off ∙ may
 may-begin plan starts handset steps made calls.On at its may = at.is_off ∙ may

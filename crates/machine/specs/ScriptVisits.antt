@@ -21,10 +21,12 @@ use Rattle.scripts.specs.Scripts.{scripts_of, step_of}
 -- the step of the call at a place of a script
 pub step-at : (input : Contents) (sub k : ℕ) (d : Call) → IsValid input → sub < length input.homes
     → k < length (get_or input.scripts sub [])
-    → slice_get (steps_of (scripts_of input) sub) k ≡ Some (step_of (get_or (get_or input.scripts sub []) k d))
+    → slice_get (steps_of (scripts_of input) sub) k
+    ≡ Some (step_of (get_or (get_or input.scripts sub []) k d))
 step-at input sub k d valid low short =
     let script : List Call = get_or input.scripts sub [] in
-    let found = slice_get-within (map step_of script) k (omega (arith, short, length-map script step_of)) in
+    let found = slice_get-within (map step_of script) k
+    (omega (arith, short, length-map script step_of)) in
     let is : found.0 ≡ step_of (get_or script k d) =
     ap (λ o. unwrap_or o (step_of d)) (sym found.1)
     ∙ (unwrap_or-slice_get (map step_of script) k (step_of d)
@@ -32,7 +34,8 @@ step-at input sub k d valid low short =
     ap (λ ss. slice_get ss k) (steps-are input sub valid low) ∙ (found.1 ∙ ap Some is)
 
 -- the first steps of steps that may be made, and the one after them
-pub may-take : (setting : Setting) (course : Course) (steps : List Step) (k : ℕ) → MaySteps setting course steps
+pub may-take : (setting : Setting) (course : Course) (steps : List Step) (k : ℕ)
+    → MaySteps setting course steps
     → MaySteps setting course (take k steps)
 unfolding MaySteps
 may-take setting course steps zero h = tt
@@ -51,7 +54,8 @@ may-at setting course (one ∷ steps) (suc k) step h at =
     may-at setting (after_step setting course one) steps k step h.1 at
 
 -- each step writes something
-pub some-write : (setting : Setting) (course : Course) (step : Step) → 1 ≤ length (step_writes setting course step)
+pub some-write : (setting : Setting) (course : Course) (step : Step)
+    → 1 ≤ length (step_writes setting course step)
 some-write setting course (move_to node) = omega arith
 some-write setting course switch_off = omega arith
 some-write setting course switch_on = omega arith
@@ -74,13 +78,15 @@ visits-longer setting sub steps step =
     )
 
 -- the visits of the first steps of a script are its first visits
-get-left : {A : Type 0} (xs ys : List A) (i : ℕ) (x : A) → slice_get xs i ≡ Some x → slice_get (xs ++ ys) i ≡ Some x
+get-left : {A : Type 0} (xs ys : List A) (i : ℕ) (x : A) → slice_get xs i ≡ Some x
+    → slice_get (xs ++ ys) i ≡ Some x
 get-left [] ys i x h = cc
 get-left (y ∷ xs) ys zero x h = h
 get-left (y ∷ xs) ys (suc i) x h = get-left xs ys i x h
 
 pub in-script : (setting : Setting) (sub k n : ℕ) (steps : List Step) (visit : Visit)
-    → slice_get (visits setting sub (take k steps)) n ≡ Some visit → slice_get (visits setting sub steps) n ≡ Some visit
+    → slice_get (visits setting sub (take k steps)) n ≡ Some visit
+    → slice_get (visits setting sub steps) n ≡ Some visit
 in-script setting sub k n steps visit h =
     ap (λ ss. slice_get (visits setting sub ss) n) (sym (take-append-drop k steps))
     ∙ (ap (λ vs. slice_get vs n)

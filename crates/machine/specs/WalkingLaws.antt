@@ -24,7 +24,8 @@ use Rattle.walk.specs.Walks.{IsWalkOver, WalkData, call_of, stage_of, walk_or_fa
 use Rattle.machine.specs.Stands.{IsWalking}
 
 -- the walk of the find that a caller is at
-pub record Walks (plan : PlanData) (calls : List FindCall) (stage : Stage) (walk : WalkData) : Type 0 where
+pub record Walks (plan : PlanData) (calls : List FindCall) (stage : Stage) (walk : WalkData) : Type
+    0 where
   pub call : FindCall
   pub later : List FindCall
   pub calls_are : calls ≡ call ∷ later
@@ -33,7 +34,8 @@ pub record Walks (plan : PlanData) (calls : List FindCall) (stage : Stage) (walk
   pub goes : IsWalkOver plan walk
   pub unanswered : answer_of stage ≡ None
 
-pub walking : (plan : PlanData) (calls : List FindCall) (stage : Stage) (held : Option WalkData) (walk : WalkData)
+pub walking : (plan : PlanData) (calls : List FindCall) (stage : Stage) (held : Option WalkData)
+    (walk : WalkData)
     → held ≡ Some walk → IsWalking plan calls stage held → Walks plan calls stage walk
 walking plan [] stage None walk same h = cc
 walking plan (call ∷ later) stage None walk same h = cc
@@ -50,14 +52,16 @@ walking plan (call ∷ later) stage (Some other) walk same h =
       unanswered = h.3;
     }
 
-pub idle-done : (plan : PlanData) (calls : List FindCall) (stage : Stage) (held : Option WalkData) → held ≡ None
+pub idle-done : (plan : PlanData) (calls : List FindCall) (stage : Stage) (held : Option WalkData)
+    → held ≡ None
     → IsWalking plan calls stage held → key_in calls stage ≡ None
 idle-done plan [] stage held same h = refl
 idle-done plan (call ∷ later) stage None same h = absurd h
 idle-done plan (call ∷ later) stage (Some walk) same h = cc
 
 -- a caller that has read one word more
-pub read-on : (setting : Setting) (seeker : Seeker) (call : FindCall) (later : List FindCall) (word : ℕ)
+pub read-on : (setting : Setting) (seeker : Seeker) (call : FindCall) (later : List FindCall)
+    (word : ℕ)
     (answer : Option Found) → seeker.calls ≡ call ∷ later
     → answer_of (after_word setting call seeker.stage word) ≡ answer
     → after_read setting seeker word
@@ -77,8 +81,10 @@ drop-more (suc n) (y ∷ ys) x later h =
     let deep = drop-more n ys x later h in (omega (arith, deep.0), deep.1, deep.2)
 
 -- the walk of the find at a place of a script
-pub walk-at : (plan : PlanData) (script : List Call) (place count from sub : ℕ) (made : Result WalkData WalkFault)
-    (held : Option WalkData) → place < length script → ((d : Call) → calls.Find from sub ≡ get_or script place d)
+pub walk-at : (plan : PlanData) (script : List Call) (place count from sub : ℕ)
+    (made : Result WalkData WalkFault)
+    (held : Option WalkData) → place < length script
+    → ((d : Call) → calls.Find from sub ≡ get_or script place d)
     → All (IsSearch (nodes_of plan) count) script → made ≡ walk_or_fault plan from sub count
     → IfOk made (IsWalkOver plan) → held ≡ result_ok made
     → IsWalking plan (drop place (map find_of script)) at_origin held
@@ -91,7 +97,8 @@ walk-at plan script place count from sub made held low here searches answer goes
     let fine : made ≡ Ok (record { from = from; sub = sub; progress = AtOrigin }) = answer
     ∙ (ap (λ b. if b then Err NoNode else if nat_le count sub then Err NoSubscriber
     else Ok (record { from = from; sub = sub; progress = AtOrigin })) inside
-    ∙ ap (λ b. if b then Err NoSubscriber else Ok (record { from = from; sub = sub; progress = AtOrigin })) known) in
+    ∙ ap (λ b. if b then Err NoSubscriber else Ok (record
+    { from = from; sub = sub; progress = AtOrigin })) known) in
     let there : drop place (map find_of script)
     ≡ (record { from = from; sub = sub }) ∷ drop (suc place) (map find_of script) =
     drop-cons (map find_of script) place (record { from = from; sub = sub })
@@ -101,8 +108,10 @@ walk-at plan script place count from sub made held low here searches answer goes
     ∙ ap find_of (sym (here (calls.Find from sub)))) in
     let goes_on : IsWalkOver plan (record { from = from; sub = sub; progress = AtOrigin }) =
     subst (λ r. IfOk r (IsWalkOver plan)) fine goes in
-    let is_held : held ≡ Some (record { from = from; sub = sub; progress = AtOrigin }) = same ∙ ap result_ok fine in
+    let is_held : held ≡ Some (record { from = from; sub = sub; progress = AtOrigin }) = same
+    ∙ ap result_ok fine in
     subst (λ cs. IsWalking plan cs at_origin held) (sym there)
-    (subst (IsWalking plan (record { from = from; sub = sub } ∷ drop (suc place) (map find_of script)) at_origin)
+    (subst (IsWalking plan (record { from = from; sub = sub } ∷ drop (suc place)
+    (map find_of script)) at_origin)
     (sym is_held)
     (refl, refl, goes_on, refl))

@@ -137,7 +137,8 @@ module _ (plan : PlanData) (starts : List ℕ) (course : Course) (matched : IsMa
       at_test : (b : Bool) (test : ℕ → Bool)
           → All (IsFit plan) (cond b (map (λ n. mark_at n Empty) (sift test 0 setting.nodes)) [])
       at_test true test = All-map (IsFit plan) (λ n. mark_at n Empty) (sift test 0 setting.nodes)
-          (all-sifted (λ n. IsFit plan (mark_at n Empty)) test 0 setting.nodes (λ n low high. (omega (arith, high), tt)))
+          (all-sifted (λ n. IsFit plan (mark_at n Empty)) test 0 setting.nodes
+          (λ n low high. (omega (arith, high), tt)))
       at_test false test = All-nil (IsFit plan)
 
   pub fit-step : (step : Step) → MayStep setting course step → All (IsFit plan) (step_writes setting course step)

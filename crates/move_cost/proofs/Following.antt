@@ -264,7 +264,8 @@ module _ (marks : MarksUnpack) (entries : EntriesUnpack) (plan : PlanData) (few 
       )
 
 -- a write changes no number of a subscriber
-go-on-sub : (setting : Setting) (handset : HandsetData) (stage : Stage) → (go_on setting handset stage).sub ≡ handset.sub
+go-on-sub : (setting : Setting) (handset : HandsetData) (stage : Stage)
+    → (go_on setting handset stage).sub ≡ handset.sub
 go-on-sub setting handset Resting = refl
 go-on-sub setting handset Coming = refl
 go-on-sub setting handset (Renewing level) = refl

@@ -363,7 +363,8 @@ counted-more input plan sub place handset begun new line after end call node cou
       goes = goes;
       its = still ∙ (same ∙ counted.its);
       rests = rests;
-      stands = subst (λ ss. StandsForSteps setting new ss (length (visits setting sub (first_steps input sub (suc place)))))
+      stands = subst (λ ss. StandsForSteps setting new ss (length
+          (visits setting sub (first_steps input sub (suc place)))))
           (sym is.more) (subst (StandsForSteps setting new (steps ++ step_of call ∷ [])) made stands);
       told = told
           ∙ (ap (λ n. with_writes setting n after later) to

@@ -55,7 +55,8 @@ taken (y ∷ xs) (suc t) (suc j) x is =
     let deep = taken xs t j x is in record { there = deep.there; front = ap (λ zs. y ∷ zs) deep.front }
 
 -- a front of a played history is played
-pub front-played : (setting : Setting) (scripts : Scripts) (history : History) (t : ℕ) → IsPlayed setting scripts history
+pub front-played : (setting : Setting) (scripts : Scripts) (history : History) (t : ℕ)
+    → IsPlayed setting scripts history
     → IsPlayed setting scripts (before t history)
 front-played setting scripts history t played ticket visit is =
     let deep = taken history t ticket visit is in
@@ -105,13 +106,15 @@ module _ (laws : Laws) (setting : Setting) (scripts : Scripts) (history : Histor
   pub cut-below : (ticket i : ℕ) → i < length (tickets sub history) → slice_index (tickets sub history) i < ticket
       → i < made_before ticket
   cut-below ticket i low less =
-      (cut-at sub 0 ticket i (slice_index (tickets sub history) i) history (slice_get-get_or (tickets sub history) i 0 low)).0
+      (cut-at sub 0 ticket i (slice_index (tickets sub history) i) history
+      (slice_get-get_or (tickets sub history) i 0 low)).0
       (omega (arith, less))
 
   pub cut-past : (ticket i : ℕ) → i < length (tickets sub history) → ticket ≤ slice_index (tickets sub history) i
       → made_before ticket ≤ i
   cut-past ticket i low far =
-      (cut-at sub 0 ticket i (slice_index (tickets sub history) i) history (slice_get-get_or (tickets sub history) i 0 low)).1
+      (cut-at sub 0 ticket i (slice_index (tickets sub history) i) history
+      (slice_get-get_or (tickets sub history) i 0 low)).1
       (omega (arith, far))
 
   -- the history before a ticket is legal
@@ -142,7 +145,8 @@ module _ (laws : Laws) (setting : Setting) (scripts : Scripts) (history : Histor
         steps_from (fold (λ o (visit : Visit). says_off (mark_put visit.act)) false front) back,
         sym (laws.shown setting scripts history sub over.nodes over.valid known over.played (over.done sub))
             ∙ ap (λ (h : History). steps_in (puts_to sub h)) (sym (take-append-drop ticket history))
-            ∙ ap steps_in (filter-append (λ (v : Visit). is_put_for sub v.act) (before ticket history) (drop ticket history))
+            ∙ ap steps_in (filter-append (λ (v : Visit). is_put_for sub v.act) (before ticket history)
+            (drop ticket history))
             ∙ steps-append false front back,
       )
 

@@ -105,13 +105,17 @@ module _ (laws : Laws) (count : CallersCount) (plan : PlanData) (homes : List �
         (record { node = refl; number = refl; is_off = refl; last = tt }) in
         let mine : IsToldBy S homes sub last seen all (sub_lines S scripts history sub) (take m all) =
         steps-told S homes sub last seen all (course_at (start S sub)) (steps_of scripts sub) 0 m [] [] count_is
-        (over.valid.steps sub known).allowed refl (omega (arith, count-all laws S scripts history over sub known)) refl refl
+        (over.valid.steps sub known).allowed refl (omega (arith, count-all laws S scripts history over sub known)) refl
+        refl
         start_told in
-        let finders = rows-skip homes sub last (λ actor. tickets actor history) (caller_lines S scripts history) (subs S)
+        let finders = rows-skip homes sub last (λ actor. tickets actor history) (caller_lines S scripts history)
+        (subs S)
         (length scripts.finds) (flat_map (sub_lines S scripts history) (numbers_from 0 (subs S)))
         (λ actor low high. caller-runs count S scripts history actor low over.played (over.done actor)) (inl known) in
-        let movers = rows-told homes sub last (λ actor. tickets actor history) (sub_lines S scripts history) 0 (subs S) []
-        (λ actor low high. sub-runs laws.in_order S scripts history actor (omega (arith, high)) over.played (over.done actor))
+        let movers = rows-told homes sub last (λ actor. tickets actor history) (sub_lines S scripts history) 0 (subs S)
+        []
+        (λ actor low high. sub-runs laws.in_order S scripts history actor (omega (arith, high)) over.played
+        (over.done actor))
         (omega arith) (omega (arith, known)) refl in
         let same = finders ∙ movers in record {
           node = rw same mine.node;
@@ -123,7 +127,8 @@ module _ (laws : Laws) (count : CallersCount) (plan : PlanData) (homes : List �
     commits-through : (last : ℕ) → IsLook history last → commits sub (through last history)
         ≡ commits_in (take (made_before laws S scripts history over sub known last) all)
     commits-through last look =
-        ap (filter_map (λ (v : Visit). commit_of (node_put v.act) (mark_put v.act))) (look-puts-not history sub last look)
+        ap (filter_map (λ (v : Visit). commit_of (node_put v.act) (mark_put v.act)))
+        (look-puts-not history sub last look)
         ∙ commits-before laws S scripts history over sub known last
 
     -- the lines tell where the subscriber stands at a look, with its number and its state
@@ -141,7 +146,8 @@ module _ (laws : Laws) (count : CallersCount) (plan : PlanData) (homes : List �
         → (told_before homes calls sub last).is_off ≡ off sub (through last history)
     off-told last look =
         (sub-told last).is_off
-        ∙ sym (ap ends_off (look-puts-not history sub last look) ∙ off-before laws S scripts history over sub known last)
+        ∙ sym (ap ends_off (look-puts-not history sub last look)
+        ∙ off-before laws S scripts history over sub known last)
 
     -- a ticket of the subscriber's writes is no look
     abbrev put_at : Option Visit → Bool
@@ -237,14 +243,16 @@ module _ (laws : Laws) (count : CallersCount) (plan : PlanData) (homes : List �
       or-true (meets_move calls order sub first last) _ (λ none.
           let quiet : IsQuiet history sub first last = λ t low high. none-where (moves_at sub history t) (λ moves.
           let met : meets_move calls order sub first last ≡ true =
-          meets-move S scripts history calls sub first last t over.played one two low high moves (no-switch sub t known moves)
+          meets-move S scripts history calls sub first last t over.played one two low high moves
+          (no-switch sub t known moves)
           (has-line S scripts history sub t known over.played moves) in
           let bad : true ≡ false = sym met ∙ none in cc) in
           let limited : weight ≤ stretch_of plan * S.distance from node + 2 * passage S sub (through last history) =
           subst (λ k. weight ≤ stretch_of plan * S.distance from k + 2 * passage S sub (through last history)) (sym at)
           (near quiet) in
           light (stretch_of plan) (S.distance from node) (passage S sub (through last history))
-          (open_passage order sub last (told_before homes calls sub last) (told_before homes calls sub last).commit) weight
+          (open_passage order sub last (told_before homes calls sub last) (told_before homes calls sub last).commit)
+          weight
           limited (passage-le last two)),
     )
 
@@ -308,15 +316,18 @@ module _ (laws : Laws) (count : CallersCount) (plan : PlanData) (homes : List �
   line-keeps (FoundBy actor from sub node n level weight first last) made right near =
       let ends = ends-are actor (record { from = from; sub = sub })
       (FoundBy actor from sub node n level weight first last) made in
-      let both = answered sub ends.2.known false from node n weight first last ends.0 ends.1 right.0 right.1 right.2 near in
+      let both = answered sub ends.2.known false from node n weight first last ends.0 ends.1 right.0 right.1 right.2
+      near in
       (both.0, refl, both.1)
   line-keeps (OffBy actor from sub node n level weight first last) made right near =
       let ends = ends-are actor (record { from = from; sub = sub })
       (OffBy actor from sub node n level weight first last) made in
-      let both = answered sub ends.2.known true from node n weight first last ends.0 ends.1 right.0 right.1 right.2 near in
+      let both = answered sub ends.2.known true from node n weight first last ends.0 ends.1 right.0 right.1 right.2 near
+      in
       (both.0, refl, both.1)
   line-keeps (AgainBy actor from sub why weight first last) made (t, low, high, moves) near =
-      let ends = ends-are actor (record { from = from; sub = sub }) (AgainBy actor from sub why weight first last) made in (
+      let ends = ends-are actor (record { from = from; sub = sub }) (AgainBy actor from sub why weight first last) made
+      in (
         refl,
         meets-move S scripts history calls sub first last t over.played ends.0 ends.1 low high moves
             (no-switch sub t ends.2.known moves) (has-line S scripts history sub t ends.2.known over.played moves),

@@ -128,7 +128,8 @@ find-runs : (seen : List ℕ) (actor p : ℕ) (answers : List Answer) → AreJoi
 unfolding HaveRuns
 find-runs seen actor p [] joined = joined
 find-runs seen actor p (answer ∷ answers) joined =
-    let here = found-run seen actor p answer.last (slice_index seen answer.first) (slice_index seen answer.last) answer.call
+    let here = found-run seen actor p answer.last (slice_index seen answer.first) (slice_index seen answer.last)
+    answer.call
     answer.found (omega (arith, joined.0, joined.1), ap (slice_index seen) (sym joined.0), refl) in (
       answer.last,
       omega (arith, joined-up (suc answer.last) (length seen) answers joined.2),

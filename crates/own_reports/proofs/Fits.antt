@@ -74,7 +74,8 @@ module _ (setting : Setting) (small : IsSmall setting) (call : FindCall) (from_i
       self n b = let e : (n == n) ≡ true = grind (arith, nat_tests) in ap (λ x. x || b) e
 
   readers-from : (from count : ℕ) → from + count ≤ levels setting
-      → AreReaders (flat_map (λ level. map (reader_at level) (setting.readers level call.from)) (numbers_from from count))
+      → AreReaders (flat_map (λ level. map (reader_at level) (setting.readers level call.from))
+      (numbers_from from count))
   readers-from from zero fits = tt
   readers-from from (suc count) fits =
       readers-join (map (reader_at from) (setting.readers from call.from)) _
@@ -211,11 +212,13 @@ module _ (setting : Setting) (small : IsSmall setting) (call : FindCall) (from_i
         let word : ℕ = cell setting (before t history) key in
         let next : Stage = after_word setting call stage word in
         let goes : IsNext stage next = word-next stage t key placed wanted in
-        let fewer : looks_left setting call next < looks_left setting call stage = fall setting call stage word key wanted in
+        let fewer : looks_left setting call next < looks_left setting call stage = fall setting call stage word key
+        wanted in
         subst (λ s. IsPlaced s × (weight_of s ≤ most_weight))
         (sym (stage-step setting history actor call stage t key seen there))
         (looks-fit fall actor (suc t) next seen looks goes.0
-        (less (weight_of stage) (weight_of next) (looks_left setting call stage) (looks_left setting call next) goes.1 fewer
+        (less (weight_of stage) (weight_of next) (looks_left setting call stage) (looks_left setting call next) goes.1
+        fewer
         light))
       where
         less : (w v l k : ℕ) → v ≤ w + 2 ^ 36 → k < l → w + 2 ^ 36 * l ≤ most_weight → v + 2 ^ 36 * k ≤ most_weight

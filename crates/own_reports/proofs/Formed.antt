@@ -104,7 +104,8 @@ module _ (plan : PlanData) (homes : List ℕ) (some : 1 ≤ levels_of plan) (sma
   S = setting_of plan homes
 
   step-below : (sub : ℕ) (course : Course) (step : Step) (seen : List ℕ)
-      → ((i : ℕ) → slice_index seen i ≤ length history) → IsCallBelow (bounds_of plan) (step_line S sub course step seen)
+      → ((i : ℕ) → slice_index seen i ≤ length history) → IsCallBelow (bounds_of plan)
+      (step_line S sub course step seen)
   step-below sub course (move_to node) seen low = (
     omega (arith, small.distance (last_stop course) node),
     omega (arith, low 0, few),
@@ -143,7 +144,8 @@ module _ (plan : PlanData) (homes : List ℕ) (some : 1 ≤ levels_of plan) (sma
     made-find : (caller : ℕ) (call : FindCall) (line : Done) → IsFindLine S scripts history caller call line
         → IsRightLine S history line → IsCallBelow (bounds_of plan) line
     made-find caller call line made right =
-        let is : IsFindCall S call = call_of_valid S scripts caller made.before call made.later over.valid made.script in
+        let is : IsFindCall S call = call_of_valid S scripts caller made.before call made.later over.valid made.script
+        in
         let ends = ends-look S history caller call made.found made.seen made.find in
         let fit : IsFit S made.found =
         find-fits S small call is.inside history marks entries
@@ -176,7 +178,13 @@ script-few : (setting : Setting) (script : List Call) → IsSmall setting
     → most_in setting script ≤ length script * 2 ^ 16
 script-few setting [] small = omega arith
 script-few setting (call ∷ script) small =
-    omega (arith, sum_by-cons (most_of setting) call script, call-few setting call small, script-few setting script small)
+    omega (
+      arith,
+      sum_by-cons (most_of setting) call script,
+      call-few setting call small,
+      script-few setting script
+          small,
+    )
 
 scripts-few : (setting : Setting) (scripts : List (List Call)) → IsSmall setting
     → most_visits setting scripts ≤ count_calls scripts * 2 ^ 16

@@ -82,7 +82,8 @@ put-own setting scripts history sub t v is put = elim (cases_lt v.actor (subs se
       let place : ℕ = length (own v.actor (before t history)) in
       let made : (w : Write) × (visit_of v.actor w ≡ v) =
       mapped-some (visit_of v.actor) (slice_get ws place) v
-      (sym (slice_get-map (visit_of v.actor) ws place) ∙ sym (next-sub setting scripts (before t history) v.actor low) ∙ is) in
+      (sym (slice_get-map (visit_of v.actor) ws place) ∙ sym (next-sub setting scripts (before t history) v.actor low)
+      ∙ is) in
       written v.actor made.0 (ap (λ (x : Visit). is_put_for sub x.act) made.1 ∙ put)
   | inr high ↦
       let made : (key : Key) × (look_by v.actor key ≡ v) =
@@ -155,7 +156,8 @@ has-line setting scripts history sub t known played is =
     let whose = put-own setting scripts history sub t found.0 (played t found.0 found.1) found.2 in
     let next_is : next setting scripts (before t history) sub ≡ Some found.0 =
     ap (next setting scripts (before t history)) (sym whose) ∙ played t found.0 found.1 in
-    let at : slice_get (visits setting sub (steps_of scripts sub)) (length (own sub (before t history))) ≡ Some found.0 =
+    let at : slice_get (visits setting sub (steps_of scripts sub)) (length (own sub (before t history)))
+    ≡ Some found.0 =
     sym (next-sub setting scripts (before t history) sub known) ∙ next_is in
     list_any-append (is_of sub) (flat_map (sub_lines setting scripts history) (numbers_from 0 (subs setting))) _
     ∙ ap (λ b. b || list_any (is_of sub)

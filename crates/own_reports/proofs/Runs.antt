@@ -114,7 +114,8 @@ other-last actor call (next ∷ rest) same others = grind (arith, nat_tests)
 
 same-last : (actor : ℕ) (call next : Done) (rest : List Done) → actor_of call ≡ actor → actor_of next ≡ actor
     → is_last call (next ∷ rest) ≡ false
-same-last actor call next rest one two = let e : actor_of next ≡ actor_of call = two ∙ sym one in grind (arith, nat_tests)
+same-last actor call next rest one two = let e : actor_of next ≡ actor_of call = two
+    ∙ sym one in grind (arith, nat_tests)
 
 -- the calls of an actor have their tickets, in front of those of later actors
 runs-hold : (order seen : List ℕ) (actor p : ℕ) (before : Option ℕ) (call : Done) (later rest : List Done)

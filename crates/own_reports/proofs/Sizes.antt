@@ -112,7 +112,8 @@ small-in means bounds sparse track contents valid =
     let is : IsPlanOf (network_in contents) contents.k plan = plan-means means contents valid in
     let bounding : BoundsFinds plan = plan-bounds bounds contents valid in
     let tracking : IsTracking (setting_in contents) plan.reach (degree_of plan) = track plan contents.homes bounding in
-    let few_of : HasFewReaders plan = sparse (network_in contents) contents.k (network-valid contents valid) valid.k_some in
+    let few_of : HasFewReaders plan = sparse (network_in contents) contents.k (network-valid contents valid)
+    valid.k_some in
     let metric : IsMetric plan.distances = bounding.matched.metric in
     let nodes : nodes_of plan ≤ 1024 = omega (arith, metric.few) in
     let dist_few : (u v : ℕ) → u < nodes_of plan → v < nodes_of plan → dist plan.distances u v ≤ 2 ^ 30 =

@@ -51,13 +51,16 @@ step-slots setting sub course (said.Move to ∷ script) seen format n here off p
     (step-slots setting sub (after_step setting course (move_to to)) script _ format n to off to (suc number)
     (fold-append (λ node (m : Move). m.to) course.start course.moves (move ∷ []))
     (length-append course.moves (move ∷ []) ∙ omega (arith, count)) is.3)
-step-slots setting sub course (said.Find from other ∷ script) seen format n here off place number at count is = absurd is
+step-slots setting sub course (said.Find from other ∷ script) seen format n here off place number at count is = absurd
+    is
 step-slots setting sub course (said.Off ∷ script) seen format n here off place number at count is =
     made-same (λ q u. slot_told (Switched sub true u q 0)) count at
-    (step-slots setting sub (after_step setting course switch_off) script _ format n here true place number at count is.2)
+    (step-slots setting sub (after_step setting course switch_off) script _ format n here true place number at count
+    is.2)
 step-slots setting sub course (said.On ∷ script) seen format n here off place number at count is =
     made-same (λ q u. slot_told (Switched sub false u q 0)) count at
-    (step-slots setting sub (after_step setting course switch_on) script _ format n here false place number at count is.2)
+    (step-slots setting sub (after_step setting course switch_on) script _ format n here false place number at count
+    is.2)
 
 -- a caller's lines have the slots of its script
 found-slot : (caller : ℕ) (call : FindCall) (found : Found) (first last : ℕ)
@@ -135,7 +138,8 @@ outcome-slots contents setting history valid same over =
     let movers : map slot_told (flat_map (sub_lines setting scripts history) (numbers_from 0 (length mine)))
     ≡ slots_from homes 0 mine =
     rows-slots homes (sub_lines setting scripts history) 0 mine (λ i low.
-    subst (λ k. map slot_told (sub_lines setting scripts history k) ≡ slots_in k (slice_index homes k) 0 (get_or mine i []))
+    subst (λ k. map slot_told (sub_lines setting scripts history k)
+    ≡ slots_in k (slice_index homes k) 0 (get_or mine i []))
     (let z : i ≡ 0 + i = omega arith in z) (of-sub i (omega (arith, low, short)))) in
     let seekers : map slot_told (flat_map (caller_lines setting scripts history)
     (numbers_from (length homes) (length theirs))) ≡ slots_from homes (length homes) theirs =
@@ -143,7 +147,8 @@ outcome-slots contents setting history valid same over =
     of-caller i (omega (arith, low, length-drop (length homes) contents.scripts))) in
     map-append slot_told (flat_map (sub_lines setting scripts history) (numbers_from 0 (subs setting))) _
     ∙ ap (λ k. map slot_told (flat_map (sub_lines setting scripts history) (numbers_from 0 k))
-    ++ map slot_told (flat_map (caller_lines setting scripts history) (numbers_from (subs setting) (length scripts.finds))))
+    ++ map slot_told (flat_map (caller_lines setting scripts history)
+    (numbers_from (subs setting) (length scripts.finds))))
     (count ∙ sym short)
     ∙ ap (λ k. map slot_told (flat_map (sub_lines setting scripts history) (numbers_from 0 (length mine)))
     ++ map slot_told (flat_map (caller_lines setting scripts history) (numbers_from k (length scripts.finds)))) count
@@ -157,7 +162,8 @@ outcome-slots contents setting history valid same over =
   where
     of-sub : (sub : ℕ) → sub < length contents.homes
         → map slot_told (sub_lines setting (scripts_of contents) history sub)
-        ≡ slots_in sub (slice_index contents.homes sub) 0 (get_or (take (length contents.homes) contents.scripts) sub [])
+        ≡ slots_in sub (slice_index contents.homes sub) 0 (get_or (take (length contents.homes) contents.scripts) sub
+        [])
     of-sub sub low =
         let script : List Call = get_or contents.scripts sub [] in
         let home : start setting sub ≡ slice_index contents.homes sub = ap (λ (hs : List ℕ). slice_index hs sub) same in

@@ -37,7 +37,8 @@ sound-from : (plan : PlanData) (homes : List ℕ) (scripts : List (List Call)) (
     → list_all (has_call scripts) outcome.order ≡ true
     → verdict_from plan homes scripts outcome lines before later ≡ Sound
 unfolding HaveTickets verdict_from
-sound-from plan homes scripts outcome lines before [] held kept known = pass (list_all (has_call scripts) outcome.order) known
+sound-from plan homes scripts outcome lines before [] held kept known = pass (list_all (has_call scripts) outcome.order)
+    known
   where
     pass : (b : Bool) → b ≡ true → cond b Sound (Unsound (line_behind lines) flaws.Tickets) ≡ Sound
     pass true e = refl

@@ -71,10 +71,22 @@ step-run setting sub course (move_to node) seen p e ends fits =
         ),
       ),
     )
-step-run setting sub course switch_off seen p e ends fits =
-    (refl, (omega (arith, ends), part-at seen p 1 0 (omega arith) ∙ ap (slice_index seen) (let z : p + 0 ≡ p = omega arith in z)))
-step-run setting sub course switch_on seen p e ends fits =
-    (refl, (omega (arith, ends), part-at seen p 1 0 (omega arith) ∙ ap (slice_index seen) (let z : p + 0 ≡ p = omega arith in z)))
+step-run setting sub course switch_off seen p e ends fits = (
+  refl,
+  (
+    omega (arith, ends),
+    part-at seen p 1 0 (omega arith)
+        ∙ ap (slice_index seen) (let z : p + 0 ≡ p = omega arith in z),
+  ),
+)
+step-run setting sub course switch_on seen p e ends fits = (
+  refl,
+  (
+    omega (arith, ends),
+    part-at seen p 1 0 (omega arith)
+        ∙ ap (slice_index seen) (let z : p + 0 ≡ p = omega arith in z),
+  ),
+)
 
 -- a step has a write
 pub some-writes : (setting : Setting) (course : Course) (step : Step) → 0 < length (step_writes setting course step)
@@ -98,13 +110,15 @@ step-runs setting sub course (step ∷ steps) seen p ends =
     let next : p + n ≡ suc e = omega (arith, some) in
     let low : e < length seen = omega (arith, some, ends, split) in
     let here = step-run setting sub course step seen p e next low in
-    let later : HaveRuns sub seen (suc e) (step_lines setting sub (after_step setting course step) steps (drop (suc e) seen)) =
+    let later : HaveRuns sub seen (suc e) (step_lines setting sub (after_step setting course step) steps
+    (drop (suc e) seen)) =
     step-runs setting sub (after_step setting course step) steps seen (suc e) (omega (arith, ends, split, next)) in (
       e,
       low,
       here.0,
       here.1,
-      subst (λ (rest : List ℕ). HaveRuns sub seen (suc e) (step_lines setting sub (after_step setting course step) steps rest))
+      subst (λ (rest : List ℕ). HaveRuns sub seen (suc e) (step_lines setting sub (after_step setting course step) steps
+          rest))
           (ap (λ k. drop k seen) (sym next) ∙ sym (drop-drop n p seen)) later,
     )
 

@@ -95,7 +95,8 @@ module _ (setting : Setting) (sub t : ℕ) (seen : List ℕ) (all : List Write) 
           inr (
             ap (λ (xs : List Write). slice_get xs p) is ∙ get-add done _ p 0 (omega (arith, place)),
             ap (λ (xs : List Write). off_by false (take p xs)) is
-                ∙ ap (off_by false) (take-append-le p done _ (omega (arith, place)) ∙ take_all p done (omega (arith, place)))
+                ∙ ap (off_by false) (take-append-le p done _ (omega (arith, place))
+                ∙ take_all p done (omega (arith, place)))
                 ∙ off ∙ may,
           ),
         ),
@@ -163,7 +164,8 @@ module _ (laws : Laws) (setting : Setting) (scripts : Scripts) (history : Histor
       let few = cut-past laws setting scripts history over sub known (slice_index seen 0) 0 low (omega arith) in
       omega (arith, few)
   count-at (suc i) low =
-      let few = cut-past laws setting scripts history over sub known (slice_index seen (suc i)) (suc i) low (omega arith) in
+      let few = cut-past laws setting scripts history over sub known (slice_index seen (suc i)) (suc i) low
+      (omega arith) in
       let many = cut-below laws setting scripts history over sub known (slice_index seen (suc i)) i (omega (arith, low))
       ((tickets-are laws.ascend history sub).rise i (suc i) (omega arith) low) in
       omega (arith, few, many)

@@ -65,7 +65,8 @@ module _ (setting : Setting) (homes : List ℕ) (sub ticket : ℕ) (seen : List 
             (sym (ap (fold (λ node (c : Commit). c.to) (slice_index homes sub)) grown
             ∙ fold-append (λ node (c : Commit). c.to) (slice_index homes sub) (commits_in made) (commit_by move ∷ [])));
         number = rw (joined, test-now sub commit ticket low)
-            (ap suc told.number ∙ sym (ap length grown ∙ length-append (commits_in made) (commit_by move ∷ []) ∙ omega arith));
+            (ap suc told.number ∙ sym (ap length grown ∙ length-append (commits_in made) (commit_by move ∷ [])
+            ∙ omega arith));
         is_off = rw (joined, test-now sub commit ticket low)
             (told.is_off ∙ sym (fold-append (λ (last : Bool) write. write_off write) false made more ∙ still));
         last = rw (joined, test-now sub commit ticket low)
@@ -187,7 +188,8 @@ module _ (setting : Setting) (homes : List ℕ) (sub ticket : ℕ) (seen : List 
             (i, inside, here, confirm, refl)
         | inr far ↦
             told-waiting lines (take m done) (take (m - p) ws) move.number move.from move.to move.weight
-            (slice_index chunk 0) (slice_index chunk (suc (suc move.renewed))) (slice_index chunk (length chunk - 1)) told
+            (slice_index chunk 0) (slice_index chunk (suc (suc move.renewed))) (slice_index chunk (length chunk - 1))
+            told
             (omega (arith, here, far))
             (move-waits (m - p) setting course move (omega (arith, count.past i (omega (arith, inside)) far))) still
       ]
@@ -206,7 +208,8 @@ module _ (setting : Setting) (homes : List ℕ) (sub ticket : ℕ) (seen : List 
         | inl low ↦
             let whole : take (m - p) (write ∷ []) ≡ write ∷ [] =
             take_all (m - p) (write ∷ []) (omega (arith, count.below p (omega (arith, fits)) low)) in
-            told-switched lines (take m done) (take (m - p) (write ∷ [])) off node number at told (omega (arith, here, low))
+            told-switched lines (take m done) (take (m - p) (write ∷ [])) off node number at told
+            (omega (arith, here, low))
             (ap commits_in whole ∙ ap (λ o. cons_option o []) none)
             (ap (off_by (off_by false (take m done))) whole ∙ turns)
         | inr far ↦
@@ -251,7 +254,8 @@ module _ (setting : Setting) (homes : List ℕ) (sub ticket : ℕ) (seen : List 
       → MaySteps setting course steps → length done ≡ p → p + length (writes setting course steps) ≡ length seen
       → all ≡ done ++ writes setting course steps → off_by false done ≡ course.is_off
       → IsToldBy setting homes sub ticket seen all lines (take m done)
-      → IsToldBy setting homes sub ticket seen all (lines ++ step_lines setting sub course steps (drop p seen)) (take m all)
+      → IsToldBy setting homes sub ticket seen all (lines ++ step_lines setting sub course steps (drop p seen))
+      (take m all)
   unfolding writes step_lines MaySteps
   steps-told course [] p m done lines count may place ends all_is off told =
       subst (λ (ls : List Done). IsToldBy setting homes sub ticket seen all ls (take m all)) (sym (append-nil lines))

@@ -98,7 +98,8 @@ pub levels_shared : (network : Network) (table : DistanceTable) (covering : Cove
 levels_shared network table covering zero t marks old new marked some few none before is now = absurd (omega arith)
 levels_shared network table covering (suc i) t marks old new marked some few none before is now =
     let last : length old - 1 ≡ i = omega (arith, before.count_is) in
-    levels_more network table covering (suc i) old new (level_with (suc i) (threshold_of (suc i)) (level_in old i)) before
+    levels_more network table covering (suc i) old new (level_with (suc i) (threshold_of (suc i)) (level_in old i))
+    before
     (level_above table marks marked i none network covering (level_in old i) (before.each i (omega arith)))
     (sized_above table.nodes (suc i) (threshold_of (suc i)) (level_in old i) few
     (before.sized i no_level (omega (arith, before.count_is))))

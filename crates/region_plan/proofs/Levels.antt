@@ -116,7 +116,8 @@ module _ (network : Network) (table : DistanceTable) (metric : IsMetric table) (
 pub more_levels : (network : Network) (table : DistanceTable) (covering : Covering) (i : ℕ) (old new : List Level)
     (level : Level)
     → length old ≡ i
-    → ((j : ℕ) → j < i → IsLevelOf network table covering j (level_in old j)) → IsLevelOf network table covering i level → new
+    → ((j : ℕ) → j < i → IsLevelOf network table covering j (level_in old j)) → IsLevelOf network table covering i level
+    → new
     ≡ old ++ level ∷ []
     → (j : ℕ) → j < i + 1 → IsLevelOf network table covering j (level_in new j)
 more_levels network table covering i old new level count each is now j below = elim (cases_lt j i) [
@@ -152,11 +153,13 @@ levels_tabled network table covering i threshold old new shape before is sized s
     levels_more network table covering i old new (level_of i (threshold_of i) shape) before is sized
     (now ∙ ap (λ t. old ++ level_of i t shape ∷ []) same)
 
-pub plan_built : (network : Network) (table copy : DistanceTable) (covering : Covering) (k reach top : ℕ) (levels : List Level)
+pub plan_built : (network : Network) (table copy : DistanceTable) (covering : Covering) (k reach top : ℕ)
+    (levels : List Level)
     (plan : PlanData) → AreDistancesOf network table → copy ≡ table
     → k ≡ trade_off_of covering → reach ≡ reach_of covering → plan ≡ plan_with k reach copy levels
     → length levels ≡ top + 1 → IsTop table top
-    → ((j : ℕ) → j < top + 1 → IsLevelOf network table covering j (level_in levels j)) → IsCoveredPlan covering network plan
+    → ((j : ℕ) → j < top + 1 → IsLevelOf network table covering j (level_in levels j))
+    → IsCoveredPlan covering network plan
 plan_built network table copy covering k reach top levels plan least same k_is reach_is is count top_is each =
     subst (λ (p : PlanData). IsCoveredPlan covering network p)
     (sym (is ∙ ap (λ t. plan_with k reach t levels) same)) (record {

@@ -97,7 +97,8 @@ module _ (network : Network) (table : DistanceTable) (metric : IsMetric table) (
             from.2 in
             omega (arith, here.1, least.nodes);
         near = λ v h.
-            near_more network.edges (within c.members) c.first v ((2 * c.growths + 1) * 2 ^ i) (reach_of covering * 2 ^ i)
+            near_more network.edges (within c.members) c.first v ((2 * c.growths + 1) * 2 ^ i)
+            (reach_of covering * 2 ^ i)
             (enough c.growths (steps_of covering) (reach_of covering) (2 ^ i) shaped.0 (reach_is covering low))
             (subst (λ (xs : List ℕ). IsNoHeavier network.edges (within xs) c.first v ((2 * c.growths + 1) * 2 ^ i))
             (sym is)
@@ -111,10 +112,12 @@ module _ (network : Network) (table : DistanceTable) (metric : IsMetric table) (
   pub listed_close : CoveringsAreShaped
       → All (IsClose network (reach_of covering * 2 ^ i)) (cluster_list table.nodes 0 (regions_of table covering i))
   listed_close law =
-      for_each_listed (IsClose network (reach_of covering * 2 ^ i)) (IsShaped (balls_of table i) (steps_of covering)) table.nodes shape_close 0
+      for_each_listed (IsClose network (reach_of covering * 2 ^ i)) (IsShaped (balls_of table i) (steps_of covering))
+      table.nodes shape_close 0
       (regions_of table covering i)
       (law covering (balls_of table i) low centred inside)
 
-  pub listed_spanned : CoveringsAreShaped → All (IsSpanned network) (cluster_list table.nodes 0 (regions_of table covering i))
+  pub listed_spanned : CoveringsAreShaped → All (IsSpanned network)
+      (cluster_list table.nodes 0 (regions_of table covering i))
   listed_spanned law j d h = close_spans network (reach_of covering * 2 ^ i)
       (get_or (cluster_list table.nodes 0 (regions_of table covering i)) j d) (listed_close law j d h)

@@ -109,7 +109,8 @@ module _ (sparse : CoversAreSparse) (network : Network) (sound : IsNetwork netwo
       × ((v : ℕ) → count_by (λ c. has v c.members) (all_clusters (regions_of plan.distances (Phased k) i))
       ≤ length (regions_of plan.distances (Phased k) i))
   at_level i =
-      let here = sparse (balls_of plan.distances i) k low (centred network plan.distances metric is.distances sound (Phased k) i low)
+      let here = sparse (balls_of plan.distances i) k low (centred network plan.distances metric is.distances sound
+      (Phased k) i low)
       in (
         subst (λ n. length (regions_of plan.distances (Phased k) i) ^ k ≤ k ^ k * n)
             (length-map_centres (λ u. ball_of plan.distances u (2 ^ i)) (nodes_of plan)) here.0,

@@ -61,7 +61,8 @@ block-other counts calls place block d low is no-line =
       behind = ap (list_any counts) more
           ∙ list_any-append counts (drop block.end (take place calls)) (get_or calls place d ∷ [])
           ∙ or-false (list_any counts (drop block.end (take place calls)))
-          (list_any counts (get_or calls place d ∷ [])) is.behind (or-false (counts (get_or calls place d)) false no-line refl);
+          (list_any counts (get_or calls place d ∷ [])) is.behind
+          (or-false (counts (get_or calls place d)) false no-line refl);
     }
 
 nothing-behind : (counts : Done → Bool) (calls : List Done) (place : ℕ)
@@ -198,7 +199,8 @@ any-alike counts calls block is =
 between-map : (lines : List Line) (start end : ℕ)
     → map done_of (take (end - start) (drop start lines)) ≡ between start end (map done_of lines)
 between-map lines start end =
-    sym (take-map done_of (end - start) (drop start lines)) ∙ ap (take (end - start)) (sym (drop-map done_of start lines))
+    sym (take-map done_of (end - start) (drop start lines)) ∙ ap (take (end - start))
+    (sym (drop-map done_of start lines))
 
 pub switch-lines : (lines : List Line) (block : Block) → IsBlock is_switched (map done_of lines) block
     → SwitchesAlike (map done_of lines) (map done_of (take (block.end - block.start) (drop block.start lines)))

@@ -158,7 +158,8 @@ other-byte w c later e =
     by-test (eqb c w) (λ (t : Bool). t ≡ false) later false
     (λ s. absurd (true-not-false (sym ((Decides-eqb w c).1 (sym ((Decides-eqb c w).0 s))) ∙ e))) (λ s. refl)
 
-from-repor : (text : List ℕ) → is_report_alone (fields_from (codes "repor") text) ≡ rest_alone (word_in (codes "t") text)
+from-repor : (text : List ℕ) → is_report_alone (fields_from (codes "repor") text)
+    ≡ rest_alone (word_in (codes "t") text)
 unfolding word_in
 from-repor = word-more 114 (101 ∷ 112 ∷ 111 ∷ 114 ∷ []) 116 [] refl (λ c e. other-byte 116 c true e) refl word-whole
 

@@ -80,7 +80,8 @@ pub lines-done : (plan : PlanData) (homes : List ℕ) (scripts : List (List Call
     ≡ strangers scripts order n
 unfolding verdict_from
 lines-done plan homes scripts calls order i before n high same =
-    ap (λ cs. verdict_from plan homes scripts (record { calls = calls; order = order }) i before cs) (drop_all i calls high)
+    ap (λ cs. verdict_from plan homes scripts (record { calls = calls; order = order }) i before cs)
+    (drop_all i calls high)
     ∙ ap (strangers scripts order) same
 
 pub called : (scripts : List (List Call)) (order : List ℕ) (lines : ℕ) (b : Bool)
@@ -126,7 +127,8 @@ judge-good plan homes scripts lines order i d before now last whole low ends fin
     let later : now ≡ cond (is_last_at calls i) None (Some (end_of (get_or calls i (done_of d)))) =
     is ∙ ap (λ b. cond b None (Some (end_of (done_of (get_or lines i d))))) ends
     ∙ ap (λ c. cond (is_last_at calls i) None (Some (end_of c))) (sym this) in
-    ap (λ b. verdict_from plan homes scripts (record { calls = calls; order = order }) (i + 1) b (drop (i + 1) calls)) later
+    ap (λ b. verdict_from plan homes scripts (record { calls = calls; order = order }) (i + 1) b (drop (i + 1) calls))
+    later
     ∙ sym (line-good plan homes scripts calls order i (done_of d) before
     (omega (arith, low, length-map lines done_of)) none)
     ∙ same

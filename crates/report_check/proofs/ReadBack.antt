@@ -212,7 +212,10 @@ place-reads bounds node number level rest few short n q l stop =
     label-then (codes " at") bounds.nodes node (codes " number" ++ (field number ++ levels)) rest _ _ n few refl
     (label-then (codes " number") most number levels rest _ _ q high refl
     (word-then (codes " level") (level_field level) rest _ _
-    (ap (λ o. o >>= (λ (found : Option ℕ × List ℕ). Some (record { node = node; number = number; level = found.0 }, found.1)))
+    (ap (λ o. o >>= (λ (found : Option ℕ × List ℕ). Some (
+      record { node = node; number = number; level = found.0 },
+      found.1,
+    )))
     (level-reads bounds.levels level rest short l stop))))
 
 why-reads : (bounds : Bounds) (why : Why) (rest : List ℕ) → bounds.nodes ≤ 2 ^ 63 → IsWhyBelow bounds.nodes why
@@ -241,7 +244,8 @@ answer-reads bounds off actor from sub node number level weight first last rest 
     let behind : List ℕ = visit_fields weight first last ++ rest in
     word-then (fields (actor ∷ from ∷ sub ∷ [])) (place_fields node number level ++ visit_fields weight first last)
     rest _ _
-    (bind-to _ _ _ _ (ap (place_in bounds) (append_assoc (place_fields node number level) (visit_fields weight first last) rest)
+    (bind-to _ _ _ _ (ap (place_in bounds) (append_assoc (place_fields node number level)
+    (visit_fields weight first last) rest)
     ∙ place-reads bounds node number level behind few short place.0 place.1 place.2 refl)
     (bind-to _ _ _ _ (visits-read weight first last rest visits.0 visits.1 visits.2) refl))
 

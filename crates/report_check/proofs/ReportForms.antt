@@ -236,7 +236,8 @@ orders-read-back (suc fuel) before text found e =
         → ((now rest : List ℕ) → orders_in fuel now rest ≡ Ok found → AreOrders now rest found)
         → AreOrders before text found
     at_test true is e deeper =
-        at_word (let full : length before % 64 ≡ 0 = grind (arith, nat_tests) in full) (word_in (codes "order") text) refl
+        at_word (let full : length before % 64 ≡ 0 = grind (arith, nat_tests) in full) (word_in (codes "order") text)
+        refl
         e deeper
     at_test false is e deeper = no-orders before text found e
 

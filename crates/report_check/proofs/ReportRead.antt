@@ -90,7 +90,8 @@ begins before some none full = ap (λ k. cond (eqb k 0) some none) full
 
 -- one line of the order
 order-goes : (fuel : ℕ) (before : List ℕ) (n : ℕ) (ns rest : List ℕ) → length before % 64 ≡ 0 → length ns ≤ 63
-    → AreSmall (n ∷ ns) → orders_in (suc fuel) before (order_line (n ∷ ns) ++ rest) ≡ orders_in fuel (before ++ n ∷ ns) rest
+    → AreSmall (n ∷ ns) → orders_in (suc fuel) before (order_line (n ∷ ns) ++ rest)
+    ≡ orders_in fuel (before ++ n ∷ ns) rest
 unfolding orders_in
 order-goes fuel before n ns rest full few low =
     begins before _ _ full

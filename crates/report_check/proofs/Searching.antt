@@ -49,7 +49,8 @@ report-goes text start at low below other =
 -- the end of a line that doesn't cut
 pub front-line : (text : List ℕ) (at : ℕ)
     → take (at + 1) text ≡ take (at + 1) text ++ between (at + 1) (at + 1) text
-front-line text at = sym (ap (λ t. take (at + 1) text ++ t) (between_none text (at + 1)) ∙ append-nil (take (at + 1) text))
+front-line text at = sym (ap (λ t. take (at + 1) text ++ t) (between_none text (at + 1))
+    ∙ append-nil (take (at + 1) text))
 
 feed : (text : List ℕ) (at : ℕ) → at < length text → get_or text at 0 ≡ 10 → drop at text ≡ 10 ∷ drop (at + 1) text
 feed text at below is = drop_more text at 0 below ∙ ap (λ b. b ∷ drop (at + 1) text) is

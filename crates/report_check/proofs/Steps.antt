@@ -117,10 +117,12 @@ slots-done before whole a p n script i high same =
     sym (append-nil before) ∙ ap (λ (ys : List Slot). before ++ ys) (sym (ap (slots_in a p n) (drop_all i script high)))
     ∙ same
 
-pub scripts-step : (homes : List ℕ) (before now whole : List Slot) (a : ℕ) (scripts : List (List Call)) (script : List Call)
+pub scripts-step : (homes : List ℕ) (before now whole : List Slot) (a : ℕ) (scripts : List (List Call))
+    (script : List Call)
     → a < length scripts → get_or scripts a [] ≡ script
     → now ≡ before ++ slots_in a (get_or homes a 0) 0 script
-    → before ++ slots_from homes a (drop a scripts) ≡ whole → now ++ slots_from homes (a + 1) (drop (a + 1) scripts) ≡ whole
+    → before ++ slots_from homes a (drop a scripts) ≡ whole → now ++ slots_from homes (a + 1) (drop (a + 1) scripts)
+    ≡ whole
 unfolding slots_from
 scripts-step homes before now whole a scripts script low is grown same =
     let more : slots_from homes a (drop a scripts)
@@ -130,7 +132,8 @@ scripts-step homes before now whole a scripts script low is grown same =
     (sym (add-one a)) in
     ap (λ xs. xs ++ slots_from homes (a + 1) (drop (a + 1) scripts)) grown
     ∙ append_assoc before (slots_in a (get_or homes a 0) 0 script) (slots_from homes (a + 1) (drop (a + 1) scripts))
-    ∙ ap (λ s. before ++ (slots_in a (get_or homes a 0) 0 s ++ slots_from homes (a + 1) (drop (a + 1) scripts))) (sym is)
+    ∙ ap (λ s. before ++ (slots_in a (get_or homes a 0) 0 s ++ slots_from homes (a + 1) (drop (a + 1) scripts)))
+    (sym is)
     ∙ ap (λ (ys : List Slot). before ++ ys) (sym more)
     ∙ same
 

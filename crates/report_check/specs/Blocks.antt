@@ -57,7 +57,8 @@ AreBehind order behind =
 -- some lines tell the same of an actor as all do
 abbrev pub TellsAlike : ℕ → List Done → List Done → Type 0
 TellsAlike actor calls some =
-    (ticket : ℕ) (told : Told) → fold (tell actor ticket) told some ≡ fold (tell actor ticket) told calls
+    (ticket : ℕ) (told : Told) → fold (tell actor ticket) told some
+    ≡ fold (tell actor ticket) told calls
 
 -- some lines have the same switches
 abbrev pub SwitchesAlike : List Done → List Done → Type 0

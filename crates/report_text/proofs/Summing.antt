@@ -17,9 +17,11 @@ step old now label number rest is =
     ∙ append_assoc (old ++ label) (field number) rest
     ∙ append_assoc old label (field number ++ rest)
 
-pub six_pushed : (head a b c d e f g text : List ℕ) (k l m n o p : List ℕ) (u v w x y z : ℕ) → a ≡ head → IsPushed a b k u
+pub six_pushed : (head a b c d e f g text : List ℕ) (k l m n o p : List ℕ) (u v w x y z : ℕ) → a ≡ head
+    → IsPushed a b k u
     → IsPushed b c l v → IsPushed c d m w → IsPushed d e n x → IsPushed e f o y → IsPushed f g p z → text ≡ g ++ 10 ∷ []
-    → text ≡ head ++ (k ++ (field u ++ (l ++ (field v ++ (m ++ (field w ++ (n ++ (field x ++ (o ++ (field y ++ (p ++ (field z
+    → text ≡ head ++ (k ++ (field u ++ (l ++ (field v ++ (m ++
+    (field w ++ (n ++ (field x ++ (o ++ (field y ++ (p ++ (field z
     ++ 10 ∷ []))))))))))))
 six_pushed head a b c d e f g text k l m n o p u v w x y z begun one two three four five six last =
     let after_y : List ℕ = p ++ (field z ++ 10 ∷ []) in
@@ -27,6 +29,7 @@ six_pushed head a b c d e f g text k l m n o p u v w x y z begun one two three f
     let after_w : List ℕ = n ++ (field x ++ after_x) in
     let after_v : List ℕ = m ++ (field w ++ after_w) in
     let after_u : List ℕ = l ++ (field v ++ after_v) in
-    last ∙ step f g p z (10 ∷ []) six ∙ step e f o y after_y five ∙ step d e n x after_x four ∙ step c d m w after_w three
+    last ∙ step f g p z (10 ∷ []) six ∙ step e f o y after_y five ∙ step d e n x after_x four
+    ∙ step c d m w after_w three
     ∙ step b c l v after_v two ∙ step a b k u after_u one
     ∙ ap (λ t. t ++ (k ++ (field u ++ after_u))) begun

@@ -175,7 +175,8 @@ pub looks-origin : (setting : Setting) (finds : List FindCall)
 looks-origin setting [] = refl
 looks-origin setting (call ∷ later) = sym (sum_by-cons (λ (find : FindCall). most_looks setting find.from) call later)
 
-pub room-of : (setting : Setting) (spare : ℕ) (one two : List FindCall) (stage other : Stage) → one ≡ two → stage ≡ other
+pub room-of : (setting : Setting) (spare : ℕ) (one two : List FindCall) (stage other : Stage) → one ≡ two
+    → stage ≡ other
     → looks_after setting two other ≤ spare → looks_after setting one stage ≤ spare
 room-of setting spare one two stage other e f room =
     subst (λ finds. looks_after setting finds stage ≤ spare) (sym e)
@@ -297,7 +298,8 @@ looked-on input setup old new first last moved its at none script subs done walk
       low = its.low;
       script = script ∙ its.script;
       subs = subs ∙ its.subs;
-      walk = subst (λ cs. IsWalking setup.plan cs (caller_in setting scripts new.view.seen old.view.low).stage last.walk)
+      walk = subst (λ cs. IsWalking setup.plan cs (caller_in setting scripts new.view.seen old.view.low).stage
+          last.walk)
           (sym finds)
           (subst (λ s. IsWalking setup.plan (at.call ∷ at.later) s last.walk) (sym stage)
           (subst (IsWalking setup.plan (at.call ∷ at.later) at.stage) (sym walk)
@@ -334,7 +336,8 @@ looked-up input setup old new first last moved found its at some script subs don
       low = its.low;
       script = script ∙ its.script;
       subs = subs ∙ its.subs;
-      walk = subst (λ cs. IsWalking setup.plan cs (caller_in setting scripts new.view.seen old.view.low).stage last.walk)
+      walk = subst (λ cs. IsWalking setup.plan cs (caller_in setting scripts new.view.seen old.view.low).stage
+          last.walk)
           (sym (finds ∙ (later ∙ ap (drop last.done) (sym all))))
           (subst (λ s. IsWalking setup.plan (drop last.done (map find_of first.script.items)) s last.walk)
           (sym stage) walk);

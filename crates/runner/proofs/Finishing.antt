@@ -69,7 +69,8 @@ order-played input tracker workers order are count its =
         let there : slice_get (map (λ (w : Worker). w.pass) workers) actor ≡ Some worker.pass =
         get-map (λ (w : Worker). w.pass) workers actor worker found.1 in
         subst (λ a. IsPlayedBy (setting_in tracker.setup) (scripts_of input) a its.history) each.1
-        (played-in (setting_in tracker.setup) (scripts_of input) (actor_of worker.pass) worker.pass.view.seen its.history
+        (played-in (setting_in tracker.setup) (scripts_of input) (actor_of worker.pass) worker.pass.view.seen
+        its.history
         (its.seen actor worker.pass there) (its.visits actor worker.pass there) each.0.played)
     at actor (inr high) = λ ticket visit got mine.
         absurd (own-none actor its.history ticket visit

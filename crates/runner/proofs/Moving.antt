@@ -365,7 +365,8 @@ mover-held input setup old new place held first last lost part handset script be
 -- what comes of a put that is tried
 pub put-on : (input : Contents) (setup : Setup) (plan : PlanData) (old new : PassData) (first last : Mover)
     (ticket : ℕ) → plan ≡ setup.plan → IsMover input setup old.view old.spare first
-    → next_of input setup old.view ≡ due (setting_of plan []) first.handset → IsSome (due (setting_of plan []) first.handset)
+    → next_of input setup old.view ≡ due (setting_of plan []) first.handset
+    → IsSome (due (setting_of plan []) first.handset)
     → IfSome (due (setting_of plan []) first.handset) (λ visit. HasVisited old visit.act ticket new)
     → IfSome (due (setting_of plan []) first.handset) (λ visit. (own : IsHandsetOf setup old.view first.handset)
     → HandsetGoesOn setup old.view new.view last.handset own.steps visit)

@@ -44,7 +44,8 @@ gone-made kept input tracker old new its made role count =
           };
           outside = visited.outside;
           known = omega (arith, actor, its.known);
-          played = subst (λ a. IsPlayedBy (setting_in tracker.setup) (scripts_of input) a new.pass.view.seen) (sym actor)
+          played = subst (λ a. IsPlayedBy (setting_in tracker.setup) (scripts_of input) a new.pass.view.seen)
+              (sym actor)
               (played-next kept input tracker.setup old.pass new.pass made its.played);
           made = omega (
             arith,
@@ -123,7 +124,8 @@ worker-new input plan tracker pass new visits may of role enough few same none =
     }
 
 pub worker-reserved : (input : Contents) (plan : PlanData) (tracker : TrackerData) (pass reserved : PassData)
-    (role : Role) (visits : ℕ) (result : Result (Unit {0}) AllocError) → MayServe input plan pass → IsPassOf tracker pass
+    (role : Role) (visits : ℕ) (result : Result (Unit {0}) AllocError) → MayServe input plan pass
+    → IsPassOf tracker pass
     → IsRoleAt input plan (actor_of pass) visits role → visits ≤ 2 ^ 56 → is_err result ≡ false
     → OnOk result (reserved ≡ record pass { spare = max pass.spare visits })
     → IsWorkerOf input tracker (record { pass = reserved; made = 0; role = role })

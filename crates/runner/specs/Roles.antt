@@ -114,7 +114,8 @@ pub record MayStart (input : Contents) (plan : PlanData) (actor : ℕ) : Type 0 
 -- either part
 abbrev pub IsRole : Contents → Setup → View → ℕ → Role → Type 0
 IsRole input setup view spare (roles.Mover mover) = IsMover input setup view spare mover
-IsRole input setup view spare (roles.Finder finder) = IsFinder input setup view.low view.seen spare finder
+IsRole input setup view spare (roles.Finder finder) = IsFinder input setup view.low view.seen spare
+    finder
 
 -- a subscriber's step is begun, if one is left: the handset has the next visit
 abbrev pub IsPrepared : Contents → Setup → View → Role → Type 0

@@ -39,8 +39,10 @@ steps-most short setting course (call ∷ script) =
     )
 
 -- nor a caller
-pub finds-most : (setting : Setting) (n subs : ℕ) (script : List Call) → All (IsSearch n subs) script
-    → sum_by (λ (call : FindCall). most_looks setting call.from) (map find_of script) ≤ most_in setting script
+pub finds-most : (setting : Setting) (n subs : ℕ) (script : List Call)
+    → All (IsSearch n subs) script
+    → sum_by (λ (call : FindCall). most_looks setting call.from) (map find_of script) ≤ most_in
+    setting script
 finds-most setting n subs [] all = omega arith
 finds-most setting n subs (call ∷ script) all =
     omega (
@@ -51,7 +53,8 @@ finds-most setting n subs (call ∷ script) all =
       sum_by-cons (λ (c : FindCall). most_looks setting c.from) (find_of call) (map find_of script),
     )
   where
-    at_call : (c : Call) → IsSearch n subs c → most_looks setting (find_of c).from ≤ most_of setting c
+    at_call : (c : Call) → IsSearch n subs c → most_looks setting (find_of c).from ≤ most_of setting
+        c
     at_call (calls.Move to) its = absurd its
     at_call (calls.Find from sub) its = omega arith
     at_call calls.Off its = absurd its

@@ -62,12 +62,13 @@ script-few (script ∷ scripts) (suc a) = omega (arith, script-few scripts a)
 -- each script of a valid input is short
 pub calls-few : (input : Contents) (a : ℕ) → IsValid input
     → length (get_or input.scripts a []) < 2 ^ 32 - 1
-calls-few input a valid = elim valid.format as (λ _. length (get_or input.scripts a []) < 2 ^ 32 - 1) [
-  | inl one ↦ few 8192 (subst (λ f. count_calls input.scripts ≤ most_calls f) one valid.few_calls)
-      (omega arith)
-  | inr two ↦ few 16384 (subst (λ f. count_calls input.scripts ≤ most_calls f) two valid.few_calls)
-      (omega arith)
-]
+calls-few input a valid = elim valid.format as (λ _. length (get_or input.scripts a []) < 2 ^ 32 -
+    1) [
+      | inl one ↦ few 8192 (subst (λ f. count_calls input.scripts ≤ most_calls f) one valid.few_calls)
+          (omega arith)
+      | inr two ↦ few 16384 (subst (λ f. count_calls input.scripts ≤ most_calls f) two valid.few_calls)
+          (omega arith)
+    ]
   where
     few : (most : ℕ) → count_calls input.scripts ≤ most → most < 2 ^ 32 - 1
         → length (get_or input.scripts a []) < 2 ^ 32 - 1

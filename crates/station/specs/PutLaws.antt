@@ -14,7 +14,8 @@ use Rattle.directory.specs.Legal.{ArePuts, IsLegal}
 use Rattle.station.specs.TicketLaws.{front-rest, own-beyond, own-nil}
 
 -- the puts to a subscriber in two parts of a history
-pub puts-append : (sub : ℕ) (xs ys : History) → puts_to sub (xs ++ ys) ≡ puts_to sub xs ++ puts_to sub ys
+pub puts-append : (sub : ℕ) (xs ys : History) → puts_to sub (xs ++ ys) ≡ puts_to sub xs
+    ++ puts_to sub ys
 puts-append sub xs ys = filter-append (λ (v : Visit). is_put_for sub v.act) xs ys
 
 -- all visits of a subscriber's steps are its own
@@ -23,27 +24,32 @@ own-visits : (sub k : ℕ) (ws : List Write)
 own-visits sub zero ws = refl
 own-visits sub (suc k) [] = refl
 own-visits sub (suc k) (w ∷ ws) =
-    ap (λ b. cond b (visit_of sub w ∷ own sub (take k (map (visit_of sub) ws))) (own sub (take k (map
+    ap (λ b. cond b (visit_of sub w ∷ own sub (take k (map (visit_of sub) ws)))
+    (own sub (take k (map
     (visit_of sub) ws)))) (eq-eqb sub sub refl)
     ∙ ap (λ l. visit_of sub w ∷ l) (own-visits sub k ws)
 
-own-puts : (setting : Setting) (sub : ℕ) (puts : List Visit) → ArePuts setting sub puts → own sub puts ≡ puts
+own-puts : (setting : Setting) (sub : ℕ) (puts : List Visit) → ArePuts setting sub puts
+    → own sub puts ≡ puts
 own-puts setting sub puts legal =
     let front = legal.front in
-    ap (own sub) front ∙ (own-visits sub (length puts) (writes setting (course_at (start setting sub))
+    ap (own sub) front ∙ (own-visits sub (length puts)
+    (writes setting (course_at (start setting sub))
     (steps_in puts)) ∙ sym front)
 
 own-short : (sub : ℕ) (xs : List Visit) → length (own sub xs) ≤ length xs
 own-short sub [] = omega arith
 own-short sub (x ∷ xs) = go (x.actor == sub) (own-short sub xs)
   where
-    go : (b : Bool) → length (own sub xs) ≤ length xs → length (cond b (x ∷ own sub xs) (own sub xs)) ≤ suc (length xs)
+    go : (b : Bool) → length (own sub xs) ≤ length xs
+        → length (cond b (x ∷ own sub xs) (own sub xs)) ≤ suc (length xs)
     go true h = omega arith
     go false h = omega arith
 
 own-later : (sub : ℕ) (xs ys : List Visit) → own sub (xs ++ ys) ≡ xs ++ ys → own sub ys ≡ ys
 own-later sub [] ys e = e
-own-later sub (x ∷ xs) ys e = go (λ f. own-later sub xs ys f) (x.actor == sub) (own-short sub (xs ++ ys)) e
+own-later sub (x ∷ xs) ys e = go (λ f. own-later sub xs ys f) (x.actor == sub)
+    (own-short sub (xs ++ ys)) e
   where
     go : (own sub (xs ++ ys) ≡ xs ++ ys → own sub ys ≡ ys) → (b : Bool)
         → length (own sub (xs ++ ys)) ≤ length (xs ++ ys)
@@ -59,7 +65,8 @@ own-none sub (x ∷ xs) e =
   where
     go : (b : Bool) → (x.actor == sub) ≡ false → own sub (puts_to sub xs) ≡ []
         → own sub (cond b (x ∷ puts_to sub xs) (puts_to sub xs)) ≡ []
-    go true other h = ap (λ c. cond c (x ∷ own sub (puts_to sub xs)) (own sub (puts_to sub xs))) other ∙ h
+    go true other h = ap (λ c. cond c (x ∷ own sub (puts_to sub xs)) (own sub (puts_to sub xs)))
+        other ∙ h
     go false other h = h
 
 -- a front that has all visits of a subscriber has all puts to it
@@ -70,8 +77,10 @@ puts-seen setting sub seen history front same legal =
     let rest = drop (length seen) history in
     let whole : puts_to sub history ≡ puts_to sub seen ++ puts_to sub rest = ap (puts_to sub)
     (front-rest seen history front) ∙ puts-append sub seen rest in
-    let mine : own sub (puts_to sub seen ++ puts_to sub rest) ≡ puts_to sub seen ++ puts_to sub rest =
+    let mine : own sub (puts_to sub seen ++ puts_to sub rest) ≡ puts_to sub seen
+    ++ puts_to sub rest =
     ap (own sub) (sym whole) ∙ (own-puts setting sub (puts_to sub history) legal ∙ whole) in
-    let later : puts_to sub rest ≡ [] = sym (own-later sub (puts_to sub seen) (puts_to sub rest) mine)
+    let later : puts_to sub rest ≡ [] = sym (own-later sub (puts_to sub seen) (puts_to sub rest)
+    mine)
     ∙ own-none sub rest (own-beyond sub seen history front same) in
     whole ∙ (ap (λ l. puts_to sub seen ++ l) later ∙ append-nil (puts_to sub seen))

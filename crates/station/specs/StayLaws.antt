@@ -36,7 +36,8 @@ handset-stays setup old new handset low puts its =
           its.stands;
       made = both ∙ (its.made ∙ (ap (λ (l : List Visit). take (length l) (visits setting old.low
           its.steps)) (sym both)
-          ∙ ap (λ a. take (length (puts_to new.low new.seen)) (visits setting a its.steps)) (sym low)));
+          ∙ ap (λ a. take (length (puts_to new.low new.seen)) (visits setting a its.steps))
+          (sym low)));
     }
 
 -- after a note

@@ -94,7 +94,8 @@ pub stopped : (command : Command) → IsPlain command → (stop : ReadStop) (lef
     → EndsAs command (read_status stop) (streams left rf written wf) (streams left' rf' written wf)
 stopped command plain reading.OutOfMemory left left' rf rf' written wf h = ((refl, refl), h)
 stopped command plain reading.Failed left left' rf rf' written wf h = ((refl, refl), h)
-stopped command plain reading.TooLong left left' rf rf' written wf h = ((refl, refl), h.1, long_in command plain left h.0)
+stopped command plain reading.TooLong left left' rf rf' written wf
+    h = ((refl, refl), h.1, long_in command plain left h.0)
 
 told : (command : Command) (status : Status) (before now : Streams) → IsTold status
     → EndsDone command status before now → EndsAs command status before now
@@ -143,7 +144,8 @@ begun-bytes command status writing.Failed text bytes left left' rf rf' written w
       calm,
     )
 
-pub done : (command : Command) → IsPlain command → (status : Status) (text shown : List ℕ) (reader : ReaderValue) (left left' : Option
+pub done : (command : Command) → IsPlain command → (status : Status) (text shown : List ℕ) (reader : ReaderValue)
+    (left left' : Option
     (List ℕ)) (rf rf' : ℕ) (written written' : Option (List ℕ)) (wf wf' : ℕ) → IsAllRead reader left left' rf rf'
     → ((bytes : List ℕ) → StandsFor reader bytes → IsInputText command bytes status text) → shown ≡ text
     → written' ≡ append_known written shown → wf' ≡ wf
@@ -154,7 +156,8 @@ done command plain status text shown reader left left' rf rf' written written' w
     (w ∙ ap (append_known written) same) f
 
 -- the text wasn't written whole
-pub unwritten : (command : Command) → IsPlain command → (status : Status) (stop : WriteStop) (text : List ℕ) (reader : ReaderValue)
+pub unwritten : (command : Command) → IsPlain command → (status : Status) (stop : WriteStop) (text : List ℕ)
+    (reader : ReaderValue)
     (left left' : Option (List ℕ)) (rf rf' : ℕ) (written written' : Option (List ℕ)) (wf wf' : ℕ)
     → IsAllRead reader left left' rf rf' → ((bytes : List ℕ) → StandsFor reader bytes
     → IsInputText command bytes status text) → StopsWriting stop text written written' wf wf'

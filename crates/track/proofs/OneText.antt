@@ -34,7 +34,8 @@ same_result (commands.Make load) contents one other served p q = absurd p
 same_result (commands.Trial load) contents one other served p q = absurd p
 
 same_answer : (command : Command) (input : Result Contents InputFault) (s t : Status) (one other : List ℕ)
-    → is_served false command ≡ true → IsRightAnswer command input s one → IsRightAnswer command input t other → (s ≡ t) × (one ≡ other)
+    → is_served false command ≡ true → IsRightAnswer command input s one → IsRightAnswer command input t other
+    → (s ≡ t) × (one ≡ other)
 same_answer command (Ok contents) s t one other served p q = (
   p.0 ∙ sym q.0,
   same_result command contents one other served p.1 q.1,
@@ -137,7 +138,8 @@ remade_input says json bytes status text contents (inr (inr h)) input =
     absurd ((json.right bytes input.listing input.listed).0 h.0)
 
 -- the status of bytes that say an input to a command
-status_is : TextSaysOne → JsonIsOne → (command : Command) (bytes : List ℕ) (status : Status) (text : List ℕ) (contents : Contents)
+status_is : TextSaysOne → JsonIsOne → (command : Command) (bytes : List ℕ) (status : Status) (text : List ℕ)
+    (contents : Contents)
     → IsText command bytes status text → SaysInput command bytes contents
     → status ≡ whole_status command bytes contents
 status_is says json commands.Check bytes status text contents right input =
@@ -150,7 +152,8 @@ status_is says json command bytes status text contents right input =
     right.answer
 
 -- what was written whole has that status
-whole_is : TextSaysOne → JsonIsOne → (command : Command) (status : Status) (before now : Streams) (bytes : List ℕ) (contents
+whole_is : TextSaysOne → JsonIsOne → (command : Command) (status : Status) (before now : Streams) (bytes : List ℕ)
+    (contents
     : Contents) → EndsDone command status before now → before.left ≡ Some bytes → SaysInput command bytes contents
     → status ≡ whole_status command bytes contents
 whole_is says json command status before now bytes contents h left input =
@@ -164,7 +167,8 @@ short_or_long commands.Check bytes short (inl long) = omega (arith, short.0, lon
 short_or_long commands.Check bytes short (inr long) = omega (arith, short.1, long)
 short_or_long command bytes short long = omega (arith, short, long)
 
-pub is_complete : TextSaysOne → JsonIsOne → (command : Command) (status : Status) (before now : Streams) (bytes : List ℕ) (contents
+pub is_complete : TextSaysOne → JsonIsOne → (command : Command) (status : Status) (before now : Streams)
+    (bytes : List ℕ) (contents
     : Contents)
     → EndsAs command status before now → before.left ≡ Some bytes → IsShort command bytes
     → SaysInput command bytes contents

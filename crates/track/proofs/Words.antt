@@ -29,7 +29,8 @@ pub at_none : (threads : Bool) (words : Option Command) (read : Result Command W
 at_none threads words read other fault number before e is n =
     let told : Tells threads None number before before =
     record { status = statuses.BadWords; is = n; ends = (refl, refl) } in
-    subst (λ (o : Option Command). Tells threads o number before before) (sym (none_of words read other fault e is)) told
+    subst (λ (o : Option Command). Tells threads o number before before) (sym (none_of words read other fault e is))
+    told
 
 -- the words of a command
 pub at_some : (threads : Bool) (words : Option Command) (read : Result Command WordsFault) (other : WordsFault)

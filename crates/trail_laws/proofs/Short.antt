@@ -68,7 +68,8 @@ addresses-short by_phase cover tell setting sub history low metric some legal le
     is_some knows opens =
     let there = by_phase setting sub history low metric some legal level cluster address known below is_some knows in
     let its : EntryTells setting sub history level cluster (Some address) =
-    subst (EntryTells setting sub history level cluster) is_some (tell setting sub history low legal level cluster below)
+    subst (EntryTells setting sub history level cluster) is_some
+    (tell setting sub history low legal level cluster below)
     in (
       there.0,
       there.1,

@@ -7,7 +7,8 @@ use Rattle.json_form.proofs.input.push_calls.Given as goal
 
 abbrev pub invariant-calls : goal.invariant-calls
 invariant-calls l = record {
-  text : l.text.items ++ list_left l.begun call_value l.left ≡ l.fn.text.items ++ compact_text (list_by call_value l.fn.calls);
+  text : l.text.items ++ list_left l.begun call_value l.left ≡ l.fn.text.items
+      ++ compact_text (list_by call_value l.fn.calls);
   clear : l.line ≡ [];
 }
 

@@ -7,7 +7,8 @@ use Rattle.json_form.proofs.input.push_edges.Given as goal
 
 abbrev pub invariant-edges : goal.invariant-edges
 invariant-edges l = record {
-  text : l.text.items ++ list_left l.begun edge_value l.left ≡ l.fn.text.items ++ compact_text (list_by edge_value l.fn.edges);
+  text : l.text.items ++ list_left l.begun edge_value l.left ≡ l.fn.text.items
+      ++ compact_text (list_by edge_value l.fn.edges);
   clear : l.line ≡ [];
 }
 

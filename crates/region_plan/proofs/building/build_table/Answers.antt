@@ -6,22 +6,26 @@ use Rattle.region_plan.proofs.building.build_table.Goals as goal
 
 pub cover-requires-clause-small : goal.cover-requires-clause-small
 cover-requires-clause-small c =
-    balls_few c.args.graph.now c.args.distances.now c.requires.metric c.requires.belongs c.requires.network c.args.covering
+    balls_few c.args.graph.now c.args.distances.now c.requires.metric c.requires.belongs c.requires.network
+    c.args.covering
     c.args.i c.requires.low c.fill_balls.new.balls c.fill_balls.ensures.balls
 
 pub cover-requires-clause-rooms : goal.cover-requires-clause-rooms
 cover-requires-clause-rooms c =
-    balls_rooms c.args.graph.now c.args.distances.now c.requires.metric c.requires.belongs c.requires.network c.args.covering
+    balls_rooms c.args.graph.now c.args.distances.now c.requires.metric c.requires.belongs c.requires.network
+    c.args.covering
     c.args.i c.requires.low c.fill_balls.new.balls c.fill_balls.ensures.balls c.fill_balls.ensures.rooms
 
 pub cover-requires-clause-centred : goal.cover-requires-clause-centred
 cover-requires-clause-centred c =
-    balls_centred c.args.graph.now c.args.distances.now c.requires.metric c.requires.belongs c.requires.network c.args.covering
+    balls_centred c.args.graph.now c.args.distances.now c.requires.metric c.requires.belongs c.requires.network
+    c.args.covering
     c.args.i c.requires.low c.fill_balls.new.balls c.fill_balls.ensures.balls
 
 pub cover-requires-clause-turned : goal.cover-requires-clause-turned
 cover-requires-clause-turned c =
-    balls_turned c.args.graph.now c.args.distances.now c.requires.metric c.requires.belongs c.requires.network c.args.covering
+    balls_turned c.args.graph.now c.args.distances.now c.requires.metric c.requires.belongs c.requires.network
+    c.args.covering
     c.args.i c.requires.low c.fill_balls.new.balls c.fill_balls.ensures.balls
 
 pub cover-requires-clause-inside : goal.cover-requires-clause-inside
@@ -31,7 +35,8 @@ cover-requires-clause-inside c =
 
 pub of_cover-requires-clause-spanned : goal.of_cover-requires-clause-spanned
 of_cover-requires-clause-spanned c =
-    cover_spanned c.args.graph.now c.args.distances.now c.requires.metric c.requires.belongs c.requires.network c.args.covering
+    cover_spanned c.args.graph.now c.args.distances.now c.requires.metric c.requires.belongs c.requires.network
+    c.args.covering
     c.args.i c.requires.low c.fill_balls.new.balls c.fill_balls.ensures.balls
     c.in_ok-made.field-0 c.in_ok-made.ensures.exact c.covering_shape.ensures
 
@@ -40,7 +45,8 @@ new-requires-clause-nodes c =
     omega (
       arith,
       c.requires.metric.few,
-      homes_count c.args.graph.now c.args.distances.now c.requires.metric c.requires.belongs c.requires.network c.args.covering
+      homes_count c.args.graph.now c.args.distances.now c.requires.metric c.requires.belongs c.requires.network
+          c.args.covering
           c.args.i c.requires.low c.fill_balls.new.balls c.fill_balls.ensures.balls
           c.in_ok-made.field-0 c.in_ok-made.ensures.exact,
     )
@@ -49,10 +55,12 @@ pub new-requires-clause-clusters : goal.new-requires-clause-clusters
 new-requires-clause-clusters c =
     omega (
       arith,
-      homes_count c.args.graph.now c.args.distances.now c.requires.metric c.requires.belongs c.requires.network c.args.covering
+      homes_count c.args.graph.now c.args.distances.now c.requires.metric c.requires.belongs c.requires.network
+          c.args.covering
           c.args.i c.requires.low c.fill_balls.new.balls c.fill_balls.ensures.balls
           c.in_ok-made.field-0 c.in_ok-made.ensures.exact,
-      rows_few c.args.graph.now c.args.distances.now c.requires.metric c.requires.belongs c.requires.network c.args.covering
+      rows_few c.args.graph.now c.args.distances.now c.requires.metric c.requires.belongs c.requires.network
+          c.args.covering
           c.args.i c.requires.low c.fill_balls.new.balls c.fill_balls.ensures.balls
           c.in_ok-made.field-0 c.in_ok-made.ensures.exact
           c.in_ok-clusters.clusters c.in_ok-clusters.ensures.clusters c.in_ok-made.ensures.few,
@@ -60,7 +68,8 @@ new-requires-clause-clusters c =
 
 pub returns-clause-level : goal.returns-clause-level
 returns-clause-level c =
-    level_built c.args.graph.now c.args.distances.now c.requires.metric c.requires.belongs c.requires.network c.args.covering
+    level_built c.args.graph.now c.args.distances.now c.requires.metric c.requires.belongs c.requires.network
+    c.args.covering
     c.args.i c.requires.low c.fill_balls.new.balls c.fill_balls.ensures.balls
     c.in_ok-made.field-0 c.in_ok-made.ensures.exact
     c.in_ok-clusters.clusters c.in_ok-clusters.ensures.clusters c.in_ok-made.ensures.few c.in_ok-new.field-0
@@ -68,7 +77,8 @@ returns-clause-level c =
 
 pub returns-clause-sized : goal.returns-clause-sized
 returns-clause-sized c =
-    level_fits c.args.graph.now c.args.distances.now c.requires.metric c.requires.belongs c.requires.network c.args.covering
+    level_fits c.args.graph.now c.args.distances.now c.requires.metric c.requires.belongs c.requires.network
+    c.args.covering
     c.args.i c.requires.low c.fill_balls.new.balls c.fill_balls.ensures.balls
     c.in_ok-made.field-0 c.in_ok-made.ensures.exact
     c.in_ok-clusters.clusters c.in_ok-clusters.ensures.clusters c.in_ok-made.ensures.few c.in_ok-new.field-0
@@ -77,13 +87,15 @@ returns-clause-sized c =
 
 pub cover-requires-clause-work : goal.cover-requires-clause-work
 cover-requires-clause-work c =
-    balls_work c.args.graph.now c.args.distances.now c.requires.metric c.requires.belongs c.requires.network c.args.covering
+    balls_work c.args.graph.now c.args.distances.now c.requires.metric c.requires.belongs c.requires.network
+    c.args.covering
     c.args.i c.requires.low c.fill_balls.new.balls c.fill_balls.ensures.balls
     c.args.work.now c.requires.work
 
 pub of_cover-requires-clause-work : goal.of_cover-requires-clause-work
 of_cover-requires-clause-work c =
-    nodes_work c.args.graph.now c.args.distances.now c.requires.metric c.requires.belongs c.requires.network c.args.covering
+    nodes_work c.args.graph.now c.args.distances.now c.requires.metric c.requires.belongs c.requires.network
+    c.args.covering
     c.args.i c.requires.low c.fill_balls.new.balls c.fill_balls.ensures.balls
     c.cover.new.work c.in_ok-made.ensures.work
 

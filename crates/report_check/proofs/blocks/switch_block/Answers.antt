@@ -9,10 +9,13 @@ use Rattle.report_check.proofs.blocks.switch_block.Goals.{then-is_switched, else
 pub lines-preserved : goal.lines-preserved
 lines-preserved c =
     elim c.if-is_switched.branch [
-      | then-is_switched w ↦ subst (IsSoFar is_switched (map done_of c.args.calls.now) (c.lines.place + 1)) (sym w.block-is)
-          (subst (IsSoFar is_switched (map done_of c.args.calls.now) (c.lines.place + 1)) (sym w.with_line-block.ensures)
+      | then-is_switched w ↦ subst (IsSoFar is_switched (map done_of c.args.calls.now) (c.lines.place + 1))
+          (sym w.block-is)
+          (subst (IsSoFar is_switched (map done_of c.args.calls.now) (c.lines.place + 1))
+          (sym w.with_line-block.ensures)
           (block-line is_switched (map done_of c.args.calls.now) c.lines.place c.lines.block c.lines.invariant))
-      | else-is_switched w ↦ subst (IsSoFar is_switched (map done_of c.args.calls.now) (c.lines.place + 1)) (sym w.block-is)
+      | else-is_switched w ↦ subst (IsSoFar is_switched (map done_of c.args.calls.now) (c.lines.place + 1))
+          (sym w.block-is)
           (line-other is_switched c.args.calls.now c.lines.place c.lines.block (Move 0 0 0 0 0 0 0 0) c.lines-test.true
           c.lines.invariant (sym c.is_switched.ensures ∙ w.if-is_switched.false))
     ]

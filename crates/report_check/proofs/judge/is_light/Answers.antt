@@ -20,7 +20,8 @@ returns c = λ plan is.
     ∙ ap (λ t. open_passage c.args.order.now c.args.sub c.args.visits.last t t.commit) told in
     let way : c.args.ground.now.stretch * c.distance-way.result
     ≡ stretch_of plan * (setting_of plan homes).distance c.args.from c.args.place.node =
-    ap (λ s. s * c.distance-way.result) is.stretch ∙ ap (λ d. stretch_of plan * d) (c.distance-way.ensures plan homes is) in
+    ap (λ s. s * c.distance-way.result) is.stretch ∙ ap (λ d. stretch_of plan * d)
+    (c.distance-way.ensures plan homes is) in
     c.is_within.ensures
     ∙ ap (λ w. leb weight (w + 2 * c.open_passage-passage.result)) way
     ∙ ap (λ p. leb weight (stretch_of plan * (setting_of plan homes).distance c.args.from c.args.place.node + 2 * p))

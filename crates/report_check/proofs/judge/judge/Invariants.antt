@@ -8,6 +8,7 @@ use Rattle.report_check.proofs.judge.judge.Given as goal
 abbrev pub invariant-lines : goal.invariant-lines
 invariant-lines l = (plan : PlanData) → IsGround plan l.ground
     → verdict_from plan l.ground.homes.now (map (λ script. script.items) l.scripts)
-    (record { calls = map done_of l.lines.calls.now; order = l.order }) l.index l.before (drop l.index (map done_of l.lines.calls.now))
+    (record { calls = map done_of l.lines.calls.now; order = l.order }) l.index l.before
+    (drop l.index (map done_of l.lines.calls.now))
     ≡ judged plan l.ground.homes.now (map (λ script. script.items) l.scripts)
     (record { calls = map done_of l.lines.calls.now; order = l.order })

@@ -27,7 +27,13 @@ actors-preserved c =
     c.home_of-home.ensures ∙ ap (λ homes. get_or homes c.actors.actor 0) c.deref.ensures.value in
     scripts-step c.args.input.now.homes.items _ _ _ c.actors.actor (seen_input c.args.input.now).scripts
     c.deref-in-actors.result.now
-    (omega (arith, c.actors-test.true, c.len-actor-end.ensures, length-map c.args.input.now.scripts.items (λ s. s.items)))
+    (omega (
+      arith,
+      c.actors-test.true,
+      c.len-actor-end.ensures,
+      length-map c.args.input.now.scripts.items
+          (λ s. s.items),
+    ))
     script (c.in_ok-push_slots.ensures
     ∙ ap (λ h. c.actors.slots.items ++ slots_in c.actors.actor h 0 c.deref-in-actors.result.now) home)
     c.actors.invariant
@@ -35,5 +41,11 @@ actors-preserved c =
 pub returns : goal.returns
 returns c =
     scripts-done c.args.input.now.homes.items _ _ c.actors.actor (seen_input c.args.input.now).scripts
-    (omega (arith, c.actors-test.false, c.len-actor-end.ensures, length-map c.args.input.now.scripts.items (λ s. s.items)))
+    (omega (
+      arith,
+      c.actors-test.false,
+      c.len-actor-end.ensures,
+      length-map c.args.input.now.scripts.items
+          (λ s. s.items),
+    ))
     c.actors.invariant

@@ -14,7 +14,8 @@ pub visit_look-requires-clause-cell : goal.visit_look-requires-clause-cell
 visit_look-requires-clause-cell c =
     cell-wanted c.args.tracker.now.setup.plan c.args.walk.now (subs_in c.args.tracker.now.setup) c.in-Some.key
     (subst IsMatched c.requires.way.plan_is c.plan_is_sound.ensures.matched) c.requires.way.goes c.requires.way.known
-    (subst (λ p. key_of (call_of c.args.walk.now) (stage_of p c.args.walk.now) ≡ Some c.in-Some.key) c.requires.way.plan_is
+    (subst (λ p. key_of (call_of c.args.walk.now) (stage_of p c.args.walk.now) ≡ Some c.in-Some.key)
+    c.requires.way.plan_is
     (sym c.next.ensures ∙ c.in-Some.is))
 
 pub saw-requires-clause-word : goal.saw-requires-clause-word
@@ -24,7 +25,8 @@ saw-requires-clause-word c =
     c.args.tracker.now.setup c.args.plan.now c.args.pass.now c.visit_look.new.pass (Look c.in-Some.key)
     c.in_ok-looked.looked.ticket c.in_ok-looked.looked.word c.args.walk.now c.in-Some.key c.requires.way.plan_is
     c.plan_is_sound.ensures.matched c.requires.way.of.setup looked.0 looked.1 c.requires.way.known c.requires.way.goes
-    (subst (λ p. key_of (call_of c.args.walk.now) (stage_of p c.args.walk.now) ≡ Some c.in-Some.key) c.requires.way.plan_is
+    (subst (λ p. key_of (call_of c.args.walk.now) (stage_of p c.args.walk.now) ≡ Some c.in-Some.key)
+    c.requires.way.plan_is
     (sym c.next.ensures ∙ c.in-Some.is))
 
 pub returns : goal.returns
@@ -37,7 +39,8 @@ returns c =
     (stage_of p c.args.walk.now) c.in_ok-looked.looked.word) c.requires.way.plan_is c.saw.ensures.stage in record {
       looked = record {
         key = c.in-Some.key;
-        wanted = subst (λ p. key_of (call_of c.args.walk.now) (stage_of p c.args.walk.now) ≡ Some c.in-Some.key) c.requires.way.plan_is
+        wanted = subst (λ p. key_of (call_of c.args.walk.now) (stage_of p c.args.walk.now) ≡ Some c.in-Some.key)
+            c.requires.way.plan_is
             (sym c.next.ensures ∙ c.in-Some.is);
         ticket = c.in_ok-looked.looked.ticket;
         visited = looked.0;

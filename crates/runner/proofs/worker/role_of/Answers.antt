@@ -47,5 +47,7 @@ returns-clause-role c = λ setup view spare set is none bare enough.
     finder-at c.lines_grow.ensures.kept (seen_input c.args.input.now) c.args.plan.now c.args.actor
     c.in_ok-visits.visits c.in_ok-finder.finder (omega (arith, c.if-actor-len.false, c.len.ensures))
     c.requires.may.known (its.script ∙ script) (omega (arith, its.subs, c.len-2.ensures)) its.done
-    (subst (λ s. IsWalking c.args.plan.now (map find_of s) at_origin c.in_ok-finder.finder.walk) (sym its.script) its.walk)
-    (λ starts. c.in_ok-visits.ensures.most starts ∙ ap (most_in (setting_of c.args.plan.now starts)) (sym its.script)) setup view spare set is none enough
+    (subst (λ s. IsWalking c.args.plan.now (map find_of s) at_origin c.in_ok-finder.finder.walk) (sym its.script)
+    its.walk)
+    (λ starts. c.in_ok-visits.ensures.most starts ∙ ap (most_in (setting_of c.args.plan.now starts)) (sym its.script))
+    setup view spare set is none enough

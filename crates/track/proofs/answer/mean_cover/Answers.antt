@@ -15,7 +15,8 @@ returns c =
     (λ (plan : PlanData). IsMeanPlanText contents (plan_text_of plan))
     (λ plan is. record {
       text_is = ap plan_text_of is;
-      reach_is = (c.covered_plan_means.ensures (Mean contents.k) (network_of contents) sound c.requires.valid.k_some).reach;
+      reach_is = (c.covered_plan_means.ensures (Mean contents.k) (network_of contents) sound
+          c.requires.valid.k_some).reach;
       bounding = c.covered_plan_is_bounding.ensures (Mean contents.k) (network_of contents) sound
           c.requires.valid.k_some;
       small_sum = c.mean_plan_is_small.ensures (network_of contents) contents.k sound c.requires.valid.k_some;

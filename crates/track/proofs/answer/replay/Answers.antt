@@ -53,7 +53,8 @@ returns-clause-report c =
     let order = c.deref.result.now in
     let is = returns-clause-is c in
     let low : 1 ≤ trade_off_of c.args.covering = omega (arith, c.requires.trade_off, c.requires.valid.k_some) in
-    let turn : TellInTurn (outcome_over (covered_plan c.args.covering (network_of contents)) contents).calls = subst (λ (o : Outcome). TellInTurn o.calls) is
+    let turn : TellInTurn (outcome_over (covered_plan c.args.covering (network_of contents)) contents).calls = subst
+    (λ (o : Outcome). TellInTurn o.calls) is
     (c.outcome.ensures.in_turn (history_of (setting_at last) (scripts_at last) order)
     (play-ended c.in_ok-machine.machine last order c.play.ensures.same c.play.ensures.stands)
     (c.all_scripts_done.ensures.done (setting_at last) (scripts_at last) order)) in
@@ -64,4 +65,5 @@ returns-clause-report c =
     report-says (covered_plan c.args.covering (network_of contents)) contents contents.order turn
     c.outcomes_are_right.ensures.lines c.outcomes_are_right.ensures.numbers c.plans_track.ensures
     c.plan_outcomes_are_near.ensures c.scripts_are_valid.ensures (report_of (result_of c.outcome.result))
-    c.requires.valid (covered-nodes c.covered_plan_means.ensures c.args.covering contents c.requires.valid low) bounds (ap report_of is)
+    c.requires.valid (covered-nodes c.covered_plan_means.ensures c.args.covering contents c.requires.valid low) bounds
+    (ap report_of is)

@@ -10,7 +10,8 @@ use Rattle.track.proofs.top.command_with_threads.Goals as goal
 pub returns-in-Ok-clause-told : goal.returns-in-Ok-clause-told
 returns-in-Ok-clause-told g c =
     at_some true (command_of (bytes_of c.args.words.now)) c.read_words.result refusals.Refused c.in-Ok.command
-    c.serve_by_threads-status.result c.from.result _ _ c.read_words.ensures c.in-Ok.is c.from.ensures c.serve_by_threads-status.ensures.ends
+    c.serve_by_threads-status.result c.from.result _ _ c.read_words.ensures c.in-Ok.is c.from.ensures
+    c.serve_by_threads-status.ensures.ends
 
 pub returns-in-Ok-clause-unread : goal.returns-in-Ok-clause-unread
 returns-in-Ok-clause-unread g c = λ alone. c.serve_by_threads-status.ensures.unread

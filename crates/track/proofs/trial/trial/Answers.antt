@@ -11,7 +11,8 @@ use Rattle.track.proofs.trial.trial.Goals as goal
 
 pub returns-in-Ok : goal.returns-in-Ok
 returns-in-Ok c =
-    let same : summary_of (outcome_for (seen_input c.in_ok-input.input)) ≡ summary_of (outcome_for (load_contents c.args.load)) =
+    let same : summary_of (outcome_for (seen_input c.in_ok-input.input))
+    ≡ summary_of (outcome_for (load_contents c.args.load)) =
     ap (λ (contents : Contents). summary_of (outcome_for contents)) c.in_ok-input.ensures in
     if_ok c.summary.result _ _ (λ text is. is ∙ ap summary_of c.in_ok-outcome-in-Ok.ensures.is ∙ same) c.summary.ensures
 

@@ -44,7 +44,8 @@ returns-clause-other c = λ sub caller is_sub is_caller closed.
 pub returns-clause-more : goal.returns-clause-more
 returns-clause-more c = λ sub caller is_sub is_caller closed.
     let found = one 1 closed.history closed.actors in
-    let by : own 1 closed.history ≡ own 1 caller.view.seen = subst (λ n. own n closed.history ≡ own n caller.view.seen) is_caller.low
+    let by : own 1 closed.history ≡ own 1 caller.view.seen = subst (λ n. own n closed.history ≡ own n caller.view.seen)
+    is_caller.low
     (closed.visits 1 caller refl) in
     let none_seen : own 1 closed.history ≡ [] = subst (λ s. own 1 closed.history ≡ own 1 s) is_caller.seen_is by in
     let alone : own 1 (found.0 ∷ []) ≡ [] = subst (λ h. own 1 h ≡ []) found.2 none_seen in

@@ -39,7 +39,9 @@ pub returns-clause-quiet_again : goal.returns-clause-quiet_again
 returns-clause-quiet_again c = λ r. r (λ t a b. refl)
 
 pub returns-clause-falling : goal.returns-clause-falling
-returns-clause-falling c = λ r. let e : 2 ≤ 1 = r 0 1 _ _ refl refl 0 2 1 3 5 (refl, refl, refl) (refl, refl, refl) (omega arith) in omega (arith, e)
+returns-clause-falling c = λ r. let e : 2 ≤ 1 = r 0 1 _ _ refl refl 0 2 1 3 5 (refl, refl, refl) (refl, refl, refl)
+    (omega arith) in omega (arith, e)
 
 pub returns-clause-out_of_turn : goal.returns-clause-out_of_turn
-returns-clause-out_of_turn c = λ r. let e : 5 ≤ 3 = r 0 1 _ _ (omega arith) refl refl refl 0 1 2 2 5 3 (refl, refl, refl) (refl, refl, refl) in omega (arith, e)
+returns-clause-out_of_turn c = λ r. let e : 5 ≤ 3 = r 0 1 _ _ (omega arith) refl refl refl 0 1 2 2 5 3
+    (refl, refl, refl) (refl, refl, refl) in omega (arith, e)

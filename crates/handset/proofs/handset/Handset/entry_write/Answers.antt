@@ -15,7 +15,8 @@ use Rattle.handset.proofs.handset.Handset.entry_write.Goals as goal
 
 pub returns-clause-due : goal.returns-clause-due
 returns-clause-due c =
-    subst (λ o. IfSome o (λ (write : EntryWrite). due (setting_of c.args.plan.now []) (at_entry c.args.self.now c.args.at)
+    subst (λ o. IfSome o (λ (write : EntryWrite). due (setting_of c.args.plan.now [])
+    (at_entry c.args.self.now c.args.at)
     ≡ Some (entry_put c.args.self.now.sub write))) (sym c.write_at.ensures.exact)
     (entry-due (setting_of c.args.plan.now []) c.args.self.now c.args.at)
 

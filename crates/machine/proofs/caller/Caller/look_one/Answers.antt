@@ -21,7 +21,8 @@ use Rattle.machine.proofs.caller.Caller.look_one.Goals.{After-len}
 pub look-requires-clause-cell : goal.look-requires-clause-cell
 look-requires-clause-cell c =
     (wanted c.marks_tell.ensures.marks c.entries_tell.ensures.entries c.every_order_is_legal.ensures
-    c.scripts_are_valid.ensures (seen_input c.args.input.now) c.args.plan.now c.args.distances.now c.args.cells.now c.requires.stands.0 c.args.actor
+    c.scripts_are_valid.ensures (seen_input c.args.input.now) c.args.plan.now c.args.distances.now c.args.cells.now
+    c.requires.stands.0 c.args.actor
     c.args.self.now c.in-Some.walk c.in-Some-next.key c.requires.together c.plan_is_sound.ensures.matched
     c.requires.high (scripts-low c.args.input.now.scripts.items c.args.actor c.requires.low) c.requires.stands.1
     c.requires.stands.3 c.in-Some.is (sym c.next.ensures ∙ c.in-Some-next.is)).is_cell
@@ -31,7 +32,8 @@ saw-requires-clause-word c =
     subst (IsWordBelow (nodes_of c.args.plan.now) c.in-Some.walk.progress)
     (sym (c.look.ensures.history c.args.input.now.homes.items c.requires.stands.0 c.requires.stands.1.hold))
     (wanted c.marks_tell.ensures.marks c.entries_tell.ensures.entries c.every_order_is_legal.ensures
-    c.scripts_are_valid.ensures (seen_input c.args.input.now) c.args.plan.now c.args.distances.now c.args.cells.now c.requires.stands.0 c.args.actor
+    c.scripts_are_valid.ensures (seen_input c.args.input.now) c.args.plan.now c.args.distances.now c.args.cells.now
+    c.requires.stands.0 c.args.actor
     c.args.self.now c.in-Some.walk c.in-Some-next.key c.requires.together c.plan_is_sound.ensures.matched
     c.requires.high (scripts-low c.args.input.now.scripts.items c.args.actor c.requires.low) c.requires.stands.1
     c.requires.stands.3 c.in-Some.is (sym c.next.ensures ∙ c.in-Some-next.is)).is_below

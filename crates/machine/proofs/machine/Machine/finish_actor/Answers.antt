@@ -12,7 +12,8 @@ turns-smaller c =
     let reached : History = after_turns (setting_at c.args.self.now) (scripts_at c.args.self.now) c.requires.stands.0
     (replicate far.0 c.args.actor) in
     visits-fewer c.visits_are_few.ensures c.turns.self c.stride.new.self reached c.args.actor c.stride.result
-    c.stride.ensures.same far.1.stands (c.stride.ensures.stands reached far.1.stands).0 (omega (arith, c.turns-test.true))
+    c.stride.ensures.same far.1.stands (c.stride.ensures.stands reached far.1.stands).0
+    (omega (arith, c.turns-test.true))
 
 pub turns-preserved : goal.turns-preserved
 turns-preserved c = record {

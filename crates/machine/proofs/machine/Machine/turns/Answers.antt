@@ -43,7 +43,8 @@ turns-preserved c = record {
   few = omega (arith, c.turns.invariant.few);
   stands = λ history is.
       let made = c.turns.invariant.stands history is in
-      let all : c.args.count - c.turns.left + c.stride-made.result ≡ c.args.count - (c.turns.left - c.stride-made.result) =
+      let all : c.args.count - c.turns.left + c.stride-made.result
+      ≡ c.args.count - (c.turns.left - c.stride-made.result) =
       omega (arith, c.turns.invariant.few, c.stride-made.ensures.few) in
       subst (HasMade c.args.self.now c.stride-made.new.self history c.args.actor) all
       (made-joined c.args.self.now c.turns.self c.stride-made.new.self history c.args.actor

@@ -29,7 +29,8 @@ returns-then-place-script c = λ history sees place its. (
 
 pub offset_bounds-script-place : goal.offset_bounds-script-place
 offset_bounds-script-place c =
-    let at = ready c.scripts_are_valid.ensures c.args.input.now c.args.plan.now c.args.distances.now c.requires.stands.0 c.args.sub c.args.self.now
+    let at = ready c.scripts_are_valid.ensures c.args.input.now c.args.plan.now c.args.distances.now c.requires.stands.0
+    c.args.sub c.args.self.now
     c.index.result.now
     c.as_slice-script.result.now c.len-place.result
     (Rattle.net_reader.specs.declared.said.Call.TheVariants.Move 0) c.requires.together c.requires.low
@@ -40,7 +41,8 @@ offset_bounds-script-place c =
 
 pub bounds-script-place : goal.bounds-script-place
 bounds-script-place c =
-    let at = ready c.scripts_are_valid.ensures c.args.input.now c.args.plan.now c.args.distances.now c.requires.stands.0 c.args.sub c.args.self.now
+    let at = ready c.scripts_are_valid.ensures c.args.input.now c.args.plan.now c.args.distances.now c.requires.stands.0
+    c.args.sub c.args.self.now
     c.index.result.now
     c.as_slice-script.result.now c.len-place.result
     (Rattle.net_reader.specs.declared.said.Call.TheVariants.Move 0) c.requires.together c.requires.low
@@ -51,7 +53,8 @@ bounds-script-place c =
 
 pub begin_step-line-requires-clause-may : goal.begin_step-line-requires-clause-may
 begin_step-line-requires-clause-may c =
-    let at = ready c.scripts_are_valid.ensures c.args.input.now c.args.plan.now c.args.distances.now c.requires.stands.0 c.args.sub c.args.self.now
+    let at = ready c.scripts_are_valid.ensures c.args.input.now c.args.plan.now c.args.distances.now c.requires.stands.0
+    c.args.sub c.args.self.now
     c.index.result.now
     c.as_slice-script.result.now c.len-place.result
     (Rattle.net_reader.specs.declared.said.Call.TheVariants.Move 0) c.requires.together c.requires.low
@@ -62,7 +65,8 @@ begin_step-line-requires-clause-may c =
 
 pub unreachable-requires : goal.unreachable-requires
 unreachable-requires c =
-    let at = ready c.scripts_are_valid.ensures c.args.input.now c.args.plan.now c.args.distances.now c.requires.stands.0 c.args.sub c.args.self.now
+    let at = ready c.scripts_are_valid.ensures c.args.input.now c.args.plan.now c.args.distances.now c.requires.stands.0
+    c.args.sub c.args.self.now
     c.index.result.now
     c.as_slice-script.result.now c.len-place.result
     (Rattle.net_reader.specs.declared.said.Call.TheVariants.Move 0) c.requires.together c.requires.low
@@ -74,7 +78,8 @@ unreachable-requires c =
 
 pub unreachable-requires-then-is_none : goal.unreachable-requires-then-is_none
 unreachable-requires-then-is_none c =
-    let at = ready c.scripts_are_valid.ensures c.args.input.now c.args.plan.now c.args.distances.now c.requires.stands.0 c.args.sub c.args.self.now
+    let at = ready c.scripts_are_valid.ensures c.args.input.now c.args.plan.now c.args.distances.now c.requires.stands.0
+    c.args.sub c.args.self.now
     c.index.result.now
     c.as_slice-script.result.now c.len-place.result
     (Rattle.net_reader.specs.declared.said.Call.TheVariants.Move 0) c.requires.together c.requires.low
@@ -92,7 +97,8 @@ unreachable-requires-then-is_none c =
 
 pub returns : goal.returns
 returns c = λ history sees place its.
-    let at = ready c.scripts_are_valid.ensures c.args.input.now c.args.plan.now c.args.distances.now history c.args.sub c.args.self.now
+    let at = ready c.scripts_are_valid.ensures c.args.input.now c.args.plan.now c.args.distances.now history c.args.sub
+    c.args.self.now
     c.index.result.now
     c.as_slice-script.result.now c.len-place.result
     (Rattle.net_reader.specs.declared.said.Call.TheVariants.Move 0) c.requires.together c.requires.low its

@@ -34,5 +34,6 @@ numbers-preserved c =
 pub returns : goal.returns
 returns c =
     last-read c.args.room c.numbers._number c.numbers.order.items c.numbers.self.rest.now
-    c.line_end-2.new.self.rest.now _ c.line_end-2.result c.numbers-test.false c.numbers.invariant c.line_end-2.ensures.some
+    c.line_end-2.new.self.rest.now _ c.line_end-2.result c.numbers-test.false c.numbers.invariant
+    c.line_end-2.ensures.some
     c.line_end-2.ensures.none

@@ -17,7 +17,8 @@ returns-then-is_none-clause-read c =
     if-none c.word.result c.if-is_none.ensures c.word.ensures.still in
     c.lines.invariant
     ∙ orders-none (length c.args.self.now.rest.now) c.lines._line c.lines.order.items c.lines.self.rest.now
-    c.lines-test.true (full-too (length c.lines.order.items) c.len.result (omega (arith, c.len.ensures)) c.if-len-ne0.false)
+    c.lines-test.true (full-too (length c.lines.order.items) c.len.result (omega (arith, c.len.ensures))
+    c.if-len-ne0.false)
     (if-none c.word.result c.if-is_none.ensures c.word.ensures.none)
     ∙ ap (λ (text : List ℕ). Ok (c.lines.order.items, text)) (sym same)
 
@@ -25,7 +26,8 @@ pub returns-then-is_none-2-clause-read : goal.returns-then-is_none-2-clause-read
 returns-then-is_none-2-clause-read c =
     c.lines.invariant
     ∙ orders-bad (length c.args.self.now.rest.now) c.lines._line c.lines.order.items c.lines.self.rest.now
-    c.word.new.self.rest.now c.lines-test.true (full-too (length c.lines.order.items) c.len.result (omega (arith, c.len.ensures)) c.if-len-ne0.false)
+    c.word.new.self.rest.now c.lines-test.true (full-too (length c.lines.order.items) c.len.result
+    (omega (arith, c.len.ensures)) c.if-len-ne0.false)
     (if-some c.word.result c.if-is_none.ensures c.word.ensures.some)
     (read-none _ c.in_ok-order_line.field-0 _ _ c.if-is_none-2.ensures c.in_ok-order_line.ensures)
     ∙ ap Err (ap order_line_count (sym c.deref.ensures.value) ∙ sym c.line_count-lines.ensures.count)

@@ -52,7 +52,8 @@ returns-then-is_some c = record {
         at.made,
         looked-up input setup old new c.args.self.now _ c.look_on.new.walk found.0 its at
             (sym (c.answer.ensures setup.plan on.goes) ∙ found.1) refl refl (omega arith)
-            (subst (λ p. IsWalking p (drop (c.args.self.now.done + 1) (map find_of c.args.self.now.script.items)) at_origin
+            (subst (λ p. IsWalking p (drop (c.args.self.now.done + 1) (map find_of c.args.self.now.script.items))
+            at_origin
             c.walk_at-self.result) set.plan_is
             (subst (λ s. IsWalking c.args.plan.now (drop (c.args.self.now.done + 1) (map find_of s)) at_origin
             c.walk_at-self.result) c.deref.ensures.value c.walk_at-self.ensures)) set.homes,
@@ -69,7 +70,8 @@ returns-else-is_some c = record {
       c.args.self.now c.in-Some.walk c.look_on.new.walk set.homes its c.in-Some.is c.in_ok-look_on.ensures.looked in (
         at.made,
         looked-on input setup old new c.args.self.now _ c.look_on.new.walk its at
-            (sym (c.answer.ensures setup.plan at.goes) ∙ none-is c.answer.result (sym c.is_some.ensures ∙ c.if-is_some.false))
+            (sym (c.answer.ensures setup.plan at.goes) ∙ none-is c.answer.result
+            (sym c.is_some.ensures ∙ c.if-is_some.false))
             refl refl refl refl,
       );
 }

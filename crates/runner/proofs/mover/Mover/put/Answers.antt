@@ -14,7 +14,8 @@ pub returns-in-Ok : goal.returns-in-Ok
 returns-in-Ok c = record {
   tries = λ input part next.
       put-on input c.args.tracker.now.setup c.args.plan.now c.args.pass.now c.visit_put.new.pass c.args.self.now _
-      c.in-Ok._ticket c.requires.plan part next c.requires.left c.in-Ok.ensures.made.0 c.in-Ok.ensures.goes_on refl refl;
+      c.in-Ok._ticket c.requires.plan part next c.requires.left c.in-Ok.ensures.made.0 c.in-Ok.ensures.goes_on refl
+      refl;
 }
 
 pub returns-in-Err : goal.returns-in-Err

@@ -62,7 +62,8 @@ tries-preserved-in-Made g c =
       );
       gone = λ input may.
           let gone = c.tries.invariant.gone input may in
-          let prepares = c.prepare.ensures.its input tracker.setup c.tries.self.pass.view c.tries.self.pass.spare may.set
+          let prepares = c.prepare.ensures.its input tracker.setup c.tries.self.pass.view c.tries.self.pass.spare
+          may.set
           gone.worker.role in
           gone-on input tracker c.args.self.now _ c.attempt.new.self c.tries.held 0 c.tries.held
           (prepared-gone input tracker c.args.self.now c.tries.self c.prepare.new.self c.tries.held gone prepares.0)
@@ -101,7 +102,8 @@ tries-preserved-in-Held g c =
       );
       gone = λ input may.
           let gone = c.tries.invariant.gone input may in
-          let prepares = c.prepare.ensures.its input tracker.setup c.tries.self.pass.view c.tries.self.pass.spare may.set
+          let prepares = c.prepare.ensures.its input tracker.setup c.tries.self.pass.view c.tries.self.pass.spare
+          may.set
           gone.worker.role in
           gone-on input tracker c.args.self.now _ c.attempt.new.self c.tries.held 1 (c.tries.held + 1)
           (prepared-gone input tracker c.args.self.now c.tries.self c.prepare.new.self c.tries.held gone prepares.0)
@@ -141,7 +143,8 @@ tries-preserved g c =
       );
       gone = λ input may.
           let gone = c.tries.invariant.gone input may in
-          let prepares = c.prepare.ensures.its input tracker.setup c.tries.self.pass.view c.tries.self.pass.spare may.set
+          let prepares = c.prepare.ensures.its input tracker.setup c.tries.self.pass.view c.tries.self.pass.spare
+          may.set
           gone.worker.role in
           kept-gone input tracker c.args.self.now _ c.attempt.new.self c.tries.held
           (prepared-gone input tracker c.args.self.now c.tries.self c.prepare.new.self c.tries.held gone prepares.0)

@@ -32,7 +32,8 @@ invariant_of-tracker c =
     let key : setup_of plan homes actors ≡ table.key = sym (c.in_ok-table.ensures.5 ∙ e) in
     let words : c.deref.result.now ≡ c.in_ok-words.words.items = search rules in
     let sound : IsKept plan = c.nodes.ensures.sound in
-    subst (λ (s : Setup). IsTracker table.table_id s c.nodes.result (length homes) actors c.in_ok-places.places) key record {
+    subst (λ (s : Setup). IsTracker table.table_id s c.nodes.result (length homes) actors c.in_ok-places.places) key
+    record {
       words = c.in_ok-table.ensures.0 ∙ (ap length words ∙ (c.in_ok-words.ensures.opening actors).size);
       slots = c.in_ok-table.ensures.1;
       nodes_are = c.nodes.ensures.count;
