@@ -20,7 +20,7 @@ use Rattle.directory.proofs.TicketLaws.{tickets-push}
 use Rattle.directory.proofs.NextLaws.{after_turns-done}
 use Rattle.directory.proofs.CallerLaws.{caller-push}
 use Rattle.directory.proofs.OrderLaws.{after_turns-append, done-after}
-use Rattle.directory.proofs.MadeLaws.{IsAnswered, IsUnderWay, under_way}
+use Rattle.directory.proofs.UnderWay.{IsAnswered, IsUnderWay, under_way}
 
 -- turns of one actor, in two parts
 replicate-split : {A : Type 0} (few many : ℕ) (x : A) → few ≤ many

@@ -16,7 +16,8 @@ use Rattle.trail_laws.proofs.ClosedMarks.{mark_coming, mark_erasing, mark_passin
 use Rattle.trail_laws.proofs.ClosedEntries.{entry_written, new_entry, rest_entry}
 use Rattle.trail_laws.proofs.ClosedViews.{clearing, coming, IsPhase, old_levels, passage, Phase, phase_commits, phase_entry, phase_mark, purged_nodes, renewed_levels, View, while_clearing}
 use Rattle.trail_laws.proofs.ClosedWrites.{in-levels}
-use Rattle.trail_laws.proofs.Chases.{Arrival, arrived, IsLeft, last-left, left-leads, longer, stop_at, old-inside}
+use Rattle.trail_laws.proofs.Chases.{Arrival, arrived, left-leads, longer}
+use Rattle.trail_laws.proofs.LinkedStops.{IsLeft, last-left, stop_at, old-inside}
 use Rattle.node_set.specs.SetLaws.{has-passing, passing_over}
 use Rattle.trail_laws.proofs.Addresses.{not-taken}
 use Rattle.trail_laws.proofs.Tells.{next-stands, rest-stands, stands}

@@ -12,7 +12,7 @@ use Rattle.directory.specs.Puts.{course_in}
 use Rattle.directory.specs.StepLaws.{take-append}
 use Rattle.trail_laws.proofs.Links.{AreLinked, IsSound, base-low, sound-step}
 use Rattle.trail_laws.proofs.ClosedMarks.{base-with}
-use Rattle.trail_laws.proofs.Chases.{weight_from}
+use Rattle.trail_laws.proofs.LinkedStops.{weight_from}
 use Rattle.trail_laws.proofs.Prices.{AreLazy, weight-push}
 
 -- above the highest level that passes a test no level passes it

@@ -10,7 +10,7 @@ use Rattle.directory.specs.Standing.{commit_by}
 use Rattle.trail_laws.specs.Trail.{HasMetric}
 use Rattle.trail_laws.proofs.Links.{IsSound, base-low, stop-inside}
 use Rattle.trail_laws.proofs.ClosedMarks.{IsNext}
-use Rattle.trail_laws.proofs.Chases.{way-short, weight_from, old-inside}
+use Rattle.trail_laws.proofs.LinkedStops.{way-short, weight_from, old-inside}
 use Rattle.trail_laws.proofs.Tells.{next-stands, stands}
 use Rattle.trail_laws.proofs.Leads.{stop-end}
 

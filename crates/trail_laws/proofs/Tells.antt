@@ -14,7 +14,7 @@ use Rattle.directory.specs.Standing.{Commit, commit_by}
 use Rattle.trail_laws.proofs.Links.{AreLinked, IsSound, base-low, stop-inside, moves-count}
 use Rattle.trail_laws.proofs.ClosedMarks.{IsNext, rest_mark, mark_coming, mark_passing, mark_erasing, since_top, there, trail_mark}
 use Rattle.trail_laws.proofs.ClosedViews.{clearing, coming, IsPhase, passage, Phase, phase_commits, phase_mark, View}
-use Rattle.trail_laws.proofs.Chases.{IsLeft, last-left, stop_at}
+use Rattle.trail_laws.proofs.LinkedStops.{IsLeft, last-left, stop_at}
 
 -- where commits say that a subscriber stands
 abbrev pub stands : ℕ → List Commit → ℕ
