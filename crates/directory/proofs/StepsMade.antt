@@ -15,6 +15,7 @@ use Rattle.directory.specs.Outcomes.{step_line, step_lines, sub_lines, IsStepLin
 use Rattle.directory.proofs.NextLaws.{played-own}
 use Rattle.directory.proofs.TicketLaws.{tickets-tell, tickets-ascend, ascending_take, ascending_drop}
 use Rattle.directory.specs.HistoryLaws.{next-sub}
+use Rattle.std.proofs.lemmas.Simd.{map-map}
 
 -- the first visits of some are those of the first writes, and the others those of the others
 parted : (history : History) (sub : ℕ) (seen : List ℕ) (xs ys : List Write)
@@ -85,10 +86,6 @@ steps_made setting scripts history sub done (step ∷ left) seen script ascendin
         (writes setting (after_step setting course step) left))
     parts = parted history sub seen (step_writes setting course step)
         (writes setting (after_step setting course step) left) made
-
-map-map : {A B C : Type 0} (g : B → C) (f : A → B) (xs : List A) → map g (map f xs) ≡ map (λ x. g (f x)) xs
-map-map g f [] = refl
-map-map g f (x ∷ xs) = ap (λ zs. g (f x) ∷ zs) (map-map g f xs)
 
 get_none : (xs : List Visit) (i : ℕ) → slice_get xs i ≡ None → length xs ≤ i
 get_none [] i h = omega arith

@@ -14,6 +14,7 @@ pub mod Orders
 pub mod Outcomes
 pub mod Census
 pub mod Amid
+pub mod ListLaws
 pub mod StepLaws
 pub mod HistoryLaws
 pub mod LookLaws

@@ -108,6 +108,20 @@ pub puts-push : (sub : ℕ) (history : History) (visit : Visit)
 puts-push sub history visit = filter-append (λ (v : Visit). is_put_for sub v.act) history
     (visit ∷ [])
 
+-- a visit that isn't put for it
+pub puts-push_other : (sub : ℕ) (history : History) (visit : Visit)
+    → is_put_for sub visit.act ≡ false → puts_to sub (history ++ visit ∷ []) ≡ puts_to sub history
+puts-push_other sub history visit other = puts-push sub history visit
+    ∙ (ap (λ b. puts_to sub history ++ cond b (visit ∷ []) []) other
+    ∙ append-nil (puts_to sub history))
+
+-- and one that is
+pub puts-push_own : (sub : ℕ) (history : History) (visit : Visit)
+    → is_put_for sub visit.act ≡ true
+    → puts_to sub (history ++ visit ∷ []) ≡ puts_to sub history ++ visit ∷ []
+puts-push_own sub history visit own = puts-push sub history visit
+    ∙ ap (λ b. puts_to sub history ++ cond b (visit ∷ []) []) own
+
 -- one step more adds its writes
 pub writes-more : (setting : Setting) (course : Course) (steps : List Step) (step : Step)
     → writes setting course (steps ++ step ∷ []) ≡ writes setting course steps

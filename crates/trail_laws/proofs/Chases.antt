@@ -1,7 +1,7 @@
 -- Where the marks of a trail lead: the numbers rise from hop to hop, so that no node is met twice.
-use Rattle.std.proofs.Common.{◌≡◌, ◌≢◌, ◌⊎◌, inl, inr, ℕ, zero, suc, ◌+◌, ◌*◌, ◌<◌, ◌≤◌, max, Bool, true, false, cond, ◌==◌, List, Option, Some, None, length, refl, sym, ap, ◌∙◌, subst, arith}
+use Rattle.std.proofs.Common.{◌≡◌, ◌≢◌, ◌⊎◌, inl, inr, ℕ, zero, suc, ◌+◌, ◌*◌, ◌<◌, ◌≤◌, max, Bool, true, false, cond, List, Option, Some, None, length, refl, sym, ap, ◌∙◌, subst, arith}
 use Rattle.std.specs.Prelude.{nat_le}
-use Rattle.std.proofs.lemmas.Bool.{eqb-true, eq-eqb}
+use Rattle.std.proofs.lemmas.Bool.{cases_eq}
 use Rattle.std.proofs.lemmas.Bool.Decides.{nat_tests}
 use Rattle.entry_word.specs.declared.mark.PresenceMark.{PresenceMark}
 use Rattle.entry_word.specs.declared.mark.PresenceMark.TheVariants.{Empty, Gone, Coming}
@@ -71,13 +71,6 @@ knows-less : (most number : ℕ) (known : Option ℕ) → KnowsAtMost most known
     → is_known number known ≡ false
 knows-less most number None h low = refl
 knows-less most number (Some k) h low = grind (arith, nat_tests)
-
-cases_eq : (a b : ℕ) → (a ≡ b) ⊎ (a ≢ b)
-cases_eq a b = at_test (a == b) refl
-  where
-    at_test : (t : Bool) → (a == b) ≡ t → (a ≡ b) ⊎ (a ≢ b)
-    at_test true e = inl (eqb-true a b e)
-    at_test false e = inr (λ same. let clash : (a == b) ≡ true = eq-eqb a b same in cc)
 
 -- where a trail is left: a node is one of its exits, from where the marks lead to the end, or its mark is that of the
 -- trail
