@@ -2,6 +2,7 @@ pub mod Settings
 pub mod Keys
 pub mod Histories
 pub mod Courses
+pub mod Places
 pub mod Writes
 pub mod Puts
 pub mod States
