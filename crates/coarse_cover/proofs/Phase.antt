@@ -15,7 +15,7 @@ use Rattle.coarse_cover.specs.Progress.{IsReady}
 use Rattle.node_set.specs.Balls.{ball, union_of, touches, growth, least, GrownCluster, IsShaped, is_homed}
 use Rattle.node_set.specs.GrowthLaws.{touching_below}
 use Rattle.node_set.specs.HomeLaws.{homed_here, homed_later, homed_cases}
-use Rattle.node_set.specs.FilterLaws.{filter_keeps, filter_has, filter_twice, filter_halves, filter_fewer, filter_more}
+use Rattle.node_set.specs.FilterLaws.{filter_keeps, filter-has, filter_twice, filter_halves, filter_fewer, filter_more}
 use Rattle.node_set.specs.FilterLaws.{some_length, ascending-filter}
 use Rattle.node_set.specs.BallLaws.{HoldCentres, union_from, touches_own, growth_waits, growth_leader, growth_picked}
 use Rattle.node_set.specs.BallLaws.{least_passes}
@@ -81,7 +81,7 @@ pub apart_fewer : (balls : List (List ℕ)) (k r : ℕ) (waiting : List ℕ) (c 
     → IsCluster balls k r waiting c → length (apart balls c.members waiting) < length waiting
 apart_fewer balls k r waiting c is =
     let taken : has c.first (filter (touches balls c.members) waiting)
-    ≡ true = filter_has (touches balls c.members) c.first waiting (is.waits c.first is.leads)
+    ≡ true = filter-has (touches balls c.members) c.first waiting (is.waits c.first is.leads)
     (is.touching c.first is.leads) in
     omega (
       arith,

@@ -15,7 +15,7 @@ use Rattle.coarse_cover.specs.declared.cover.Cover.{Cover}
 use Rattle.node_set.specs.declared.workspace.Workspace.{Workspace}
 use Rattle.coarse_cover.proofs.Phase.{IsCluster, IsPhase, apart, apart_fewer, cluster_ready, ready_filter, phase_is}
 use Rattle.node_set.specs.Balls.{touches, GrownCluster, is_homed, home_of, centres, AreCentred}
-use Rattle.node_set.specs.FilterLaws.{filter_keeps, filter_has, filter_twice, filter_same, has-filter}
+use Rattle.node_set.specs.FilterLaws.{filter_keeps, filter-has, filter_twice, filter_same, has-filter}
 use Rattle.coarse_cover.proofs.Whole.{ArePhases, phases_are, ready_left, phase_fewer, some_clusters, clusters_within}
 use Rattle.coarse_cover.proofs.Whole.{phases_within}
 use Rattle.node_set.specs.BallLaws.{length-centres}
@@ -287,7 +287,7 @@ in_phase_next balls k r a rest old new before after leads phase added =
           filter_keeps (λ u. not (touches balls (cluster_of balls k r old.waiting.members a).members u)) v
           old.waiting.members h
           in
-          filter_has (λ u. not (has u (cluster_of balls k r old.waiting.members a).homed)) v old.left.members
+          filter-has (λ u. not (has u (cluster_of balls k r old.waiting.members a).homed)) v old.left.members
           (phase.waiting_left v w.0)
           (not_from_false (has v (cluster_of balls k r old.waiting.members a).homed)
           (false_from_ne_true (has v (cluster_of balls k r old.waiting.members a).homed) (λ homed.

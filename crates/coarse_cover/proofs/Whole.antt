@@ -12,7 +12,7 @@ use Rattle.whole_powers.specs.PowerLaws.{zero_pow}
 use Rattle.coarse_cover.specs.Coarsening.{phase, without_home, phases, all_clusters}
 use Rattle.coarse_cover.specs.Progress.{IsReady}
 use Rattle.node_set.specs.Balls.{GrownCluster, IsShaped, is_homed}
-use Rattle.node_set.specs.FilterLaws.{filter_has, filter_halves, filter_fewer}
+use Rattle.node_set.specs.FilterLaws.{filter-has, filter_halves, filter_fewer}
 use Rattle.coarse_cover.proofs.Phase.{IsPhase, ready_filter, phase_is, phase_size, phase_count, phase_once}
 use Rattle.coarse_cover.proofs.Phase.{phase_joined}
 
@@ -137,7 +137,7 @@ module _ (balls : List (List ℕ)) (k : ℕ) where
         | inl here ↦ homed_front cs (all_clusters later) v here
         | inr gone ↦ homed_end cs (all_clusters later) v
             (all_homed (without_home cs left) later are.2 v
-            (filter_has (λ w. not (is_homed cs w)) v left h (not_from_false (is_homed cs v) gone)))
+            (filter-has (λ w. not (is_homed cs w)) v left h (not_from_false (is_homed cs v) gone)))
       ]
 
   -- ---- how many clusters have a node

@@ -1,10 +1,9 @@
 -- What a turn adds: to a history, to the lines of a subscriber and to those of a caller.
-use Rattle.std.proofs.Common.{◌≡◌, ℕ, zero, suc, ◌-◌, ◌<◌, ◌≤◌, List, [], ◌∷◌, ◌++◌, Option, Some, None, length, map, take, drop, refl, sym, ap, ◌∙◌, arith, inl, inr, ◌⊎◌, length-append}
+use Rattle.std.proofs.Common.{◌≡◌, ℕ, ◌-◌, ◌≤◌, List, [], ◌∷◌, ◌++◌, Option, Some, None, length, map, take, drop, refl, sym, ap, ◌∙◌, arith, inl, inr, length-append, ◌+◌}
 use Rattle.std.specs.Prelude.{slice_index, replicate, option_map, option_to_list, All}
-use Rattle.std.proofs.lemmas.Bool.{eq-eqb}
-use Rattle.std.proofs.lemmas.Bool.Decides.{nat_tests}
-use Rattle.std.proofs.lemmas.List.{append-nil, take_all, take-append-le, drop-append-le, length-drop, map-append, get_or_append_left, get_or_push}
-use Rattle.std.proofs.lemmas.List.Elements.{All-cons, All-nil, All-head, All-tail}
+use Rattle.std.proofs.lemmas.Bool.{eq-eqb, cases_lt}
+use Rattle.std.proofs.lemmas.List.{append-nil, take_all, take-append-le, drop-append-le, length-drop, map-append, get_or_append_left, get_or_push, nil_from_length, replicate-append-replicate}
+use Rattle.std.proofs.lemmas.List.Elements.{All-head, All-tail, All-replicate}
 use Rattle.directory.specs.Settings.{Setting}
 use Rattle.directory.specs.Histories.{History, cell, tickets, words_read}
 use Rattle.directory.specs.Courses.{after_step}
@@ -20,20 +19,13 @@ use Rattle.directory.proofs.TicketLaws.{tickets-push}
 use Rattle.directory.proofs.NextLaws.{after_turns-done}
 use Rattle.directory.proofs.CallerLaws.{caller-push}
 use Rattle.directory.proofs.OrderLaws.{after_turns-append, done-after}
-use Rattle.directory.proofs.MadeLaws.{IsAnswered, IsUnderWay, under_way}
+use Rattle.directory.proofs.UnderWay.{IsAnswered, IsUnderWay, under_way}
 
 -- turns of one actor, in two parts
 replicate-split : {A : Type 0} (few many : ℕ) (x : A) → few ≤ many
     → replicate many x ≡ replicate few x ++ replicate (many - few) x
-replicate-split zero many x h = let e : many - 0 ≡ many = omega arith in sym (ap (λ k. replicate k x) e)
-replicate-split (suc few) zero x h = absurd (omega arith)
-replicate-split (suc few) (suc many) x h =
-    let e : suc many - suc few ≡ many - few = omega arith in
-    rw e (ap (λ xs. x ∷ xs) (replicate-split few many x (omega arith)))
-
-all_same : {A : Type 0} (P : A → Type 0) (k : ℕ) (x : A) → P x → All P (replicate k x)
-all_same P zero x p = All-nil P
-all_same P (suc k) x p = All-cons P x (replicate k x) p (all_same P k x p)
+replicate-split few many x h = let e : few + (many - few) ≡ many = omega (arith, h) in
+    sym (replicate-append-replicate few (many - few) x ∙ ap (λ k. replicate k x) e)
 
 -- more turns of an actor that is done
 more_turns : (setting : Setting) (scripts : Scripts) (history : History) (actor few many : ℕ) → few ≤ many
@@ -45,32 +37,25 @@ more_turns setting scripts history actor few many h done =
     ∙ (after_turns-append setting scripts history (replicate few actor) (replicate (many - few) actor)
     ∙ after_turns-done setting scripts (after_turns setting scripts history (replicate few actor))
     (replicate (many - few) actor)
-    (all_same (IsDone setting scripts (after_turns setting scripts history (replicate few actor)))
+    (All-replicate (IsDone setting scripts (after_turns setting scripts history (replicate few actor)))
     (many - few) actor done))
 
 pub turns-end : TurnsEndAlike
 turns-end setting scripts history actor k played done =
-    elim (cases k (most_turns setting scripts actor)) as (λ _. after_turns setting scripts history (replicate k actor)
-    ≡ after_turns setting scripts history (replicate (most_turns setting scripts actor) actor)) [
+    elim (cases_lt k (most_turns setting scripts actor)) as (λ _. after_turns setting scripts history
+    (replicate k actor) ≡ after_turns setting scripts history (replicate (most_turns setting scripts actor) actor)) [
       | inl low ↦ sym (more_turns setting scripts history actor k (most_turns setting scripts actor)
           (omega arith) done)
       | inr high ↦ more_turns setting scripts history actor (most_turns setting scripts actor) k high
           (done-after setting scripts actor history played)
     ]
-  where
-    cases : (a b : ℕ) → (a < b) ⊎ (b ≤ a)
-    cases a b = grind (arith, nat_tests)
 
 -- the lines of a subscriber
 pub step_lines-push : StepLinesGrow
 unfolding step_lines writes
 step_lines-push setting sub course [] step seen more count size =
-    let none : seen ≡ [] = no_length seen count in
+    let none : seen ≡ [] = nil_from_length seen count in
     rw (none, take_all (length (step_writes setting course step)) more (omega (arith, size))) refl
-  where
-    no_length : (xs : List ℕ) → length xs ≡ 0 → xs ≡ []
-    no_length [] h = refl
-    no_length (x ∷ xs) h = absurd (omega arith)
 step_lines-push setting sub course (one ∷ done) step seen more count size =
     rw (
       front,

@@ -9,6 +9,8 @@ mod OrderLaws
 mod CellLaws
 mod StateLaws
 mod TicketLaws
+mod StepsMade
+mod UnderWay
 mod MadeLaws
 mod StandingLaws
 mod RestLaws

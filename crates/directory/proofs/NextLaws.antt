@@ -1,8 +1,7 @@
 -- The next visits of actors, and histories in which each visit was its actor's next one.
-use Rattle.std.proofs.Common.{◌≡◌, ℕ, zero, suc, ◌<◌, ◌≤◌, Bool, true, false, cond, ◌==◌, List, [], ◌∷◌, ◌++◌, Option, Some, None, length, take, map, refl, sym, ap, ◌∙◌, subst, arith, inl, inr, ◌⊎◌}
+use Rattle.std.proofs.Common.{◌≡◌, ℕ, zero, suc, ◌<◌, Bool, true, false, cond, ◌==◌, List, [], ◌∷◌, ◌++◌, Option, Some, None, length, take, map, refl, sym, ap, ◌∙◌, subst, arith, inl, inr}
 use Rattle.std.specs.Prelude.{slice_get, option_map, option_to_list, All}
-use Rattle.std.proofs.lemmas.Bool.{eqb-true, ne_eqb}
-use Rattle.std.proofs.lemmas.Bool.Decides.{nat_tests}
+use Rattle.std.proofs.lemmas.Bool.{eqb-true, ne_eqb, cases_lt}
 use Rattle.std.proofs.lemmas.List.{append-nil, take_all, take-append-le, length_push}
 use Rattle.std.proofs.lemmas.Option.{slice_get_within}
 use Rattle.std.proofs.lemmas.List.Elements.{All-head, All-tail}
@@ -48,16 +47,13 @@ pub next-actor : (setting : Setting) (scripts : Scripts) (history : History) (ac
     → next setting scripts history actor ≡ Some visit → visit.actor ≡ actor
 unfolding IsOwn
 next-actor setting scripts history actor visit h =
-    elim (cases actor (subs setting)) as (λ _. visit.actor ≡ actor) [
+    elim (cases_lt actor (subs setting)) as (λ _. visit.actor ≡ actor) [
       | inl low ↦ (slice_get-of_map actor 0 _ (length (own actor history)) visit
           (sym (next-sub setting scripts history actor low) ∙ h)).0
       | inr high ↦ let found = look-next actor (next_key (caller_in setting scripts history actor)) visit
           (sym (next-caller setting scripts history actor high) ∙ h) in
           let e : visit ≡ record { actor = actor; act = Look found.0 } = found.1 in ap (λ (v : Visit). v.actor) e
     ]
-  where
-    cases : (a b : ℕ) → (a < b) ⊎ (b ≤ a)
-    cases a b = grind (arith, nat_tests)
 
 pub turn-some : (setting : Setting) (scripts : Scripts) (history : History) (actor : ℕ) (visit : Visit)
     → next setting scripts history actor ≡ Some visit → after_turn setting scripts history actor
@@ -87,7 +83,7 @@ kept_by_play setting scripts P more (actor ∷ order) history now =
 -- a next visit keeps that each visit was its actor's next one
 pub played-push : MoreIsPlayed
 played-push setting scripts history actor visit e played ticket found h =
-    elim (cases ticket (length history)) as (λ _. next setting scripts
+    elim (cases_lt ticket (length history)) as (λ _. next setting scripts
     (take ticket (history ++ visit ∷ [])) found.actor ≡ Some found) [
       | inl low ↦ rw (take-append-le ticket history (visit ∷ []) (omega arith))
           (played ticket found (sym (get-left history (visit ∷ []) ticket low) ∙ h))
@@ -103,9 +99,6 @@ played-push setting scripts history actor visit e played ticket found h =
           (ap (λ a. next setting scripts history a) own_one ∙ e))
     ]
   where
-    cases : (a b : ℕ) → (a < b) ⊎ (b ≤ a)
-    cases a b = grind (arith, nat_tests)
-
     get-left : (xs ys : History) (i : ℕ) → i < length xs → slice_get (xs ++ ys) i ≡ slice_get xs i
     get-left [] ys i h = absurd (omega arith)
     get-left (x ∷ xs) ys zero h = refl
@@ -139,7 +132,7 @@ next-puts : (setting : Setting) (scripts : Scripts) (history : History) (actor s
     → is_put_for sub visit.act ≡ (visit.actor == sub)
 unfolding IsOwn
 next-puts setting scripts history actor sub visit below h =
-    elim (cases actor (subs setting)) as (λ _. is_put_for sub visit.act ≡ (visit.actor == sub)) [
+    elim (cases_lt actor (subs setting)) as (λ _. is_put_for sub visit.act ≡ (visit.actor == sub)) [
       | inl low ↦ let found = slice_get-of_map actor sub _ (length (own actor history)) visit
           (sym (next-sub setting scripts history actor low) ∙ h) in
           found.1 ∙ sym (ap (λ a. a == sub) found.0)
@@ -149,9 +142,6 @@ next-puts setting scripts history actor sub visit below h =
           let apart : (actor == sub) ≡ false = ne_eqb actor sub (λ same. omega arith) in
           subst (λ (v : Visit). is_put_for sub v.act ≡ (v.actor == sub)) (sym e) (sym apart)
     ]
-  where
-    cases : (a b : ℕ) → (a < b) ⊎ (b ≤ a)
-    cases a b = grind (arith, nat_tests)
 
 -- in such a history what is put for a subscriber are its own visits, and these are the first of its script
 pub played-puts : OwnPutsAlone

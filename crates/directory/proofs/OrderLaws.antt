@@ -1,7 +1,7 @@
 -- The histories of orders: turns of actors until they are done, and orders of the actors of histories.
 use Rattle.std.proofs.Common.{◌≡◌, ℕ, zero, suc, ◌+◌, ◌-◌, ◌<◌, ◌≤◌, Bool, true, false, cond, ◌==◌, List, [], ◌∷◌, ◌++◌, Option, Some, None, length, take, map, fold, refl, sym, ap, ◌∙◌, subst, arith, inl, inr, ◌⊎◌, ◌||◌}
 use Rattle.std.specs.Prelude.{sum_by, flat_map, replicate, option_map}
-use Rattle.std.proofs.lemmas.Bool.{eqb-true, lt-ltb, le-ltb, ne_eqb, eq-eqb}
+use Rattle.std.proofs.lemmas.Bool.{eqb-true, lt-ltb, le-ltb, ne_eqb, eq-eqb, cases_lt}
 use Rattle.std.proofs.lemmas.Bool.Decides.{nat_tests}
 use Rattle.std.proofs.lemmas.List.{append-nil, length_push, get_or_past, map-append}
 use Rattle.std.proofs.lemmas.List.Sums.{fold-append}
@@ -25,7 +25,7 @@ use Rattle.directory.specs.HistoryLaws.{next-sub, next-caller, turn-none}
 -- an actor that isn't done has made fewer visits than it may
 pub next-few : TurnsAreFew
 next-few setting scripts history actor visit played h =
-    elim (cases actor (subs setting)) as (λ _. length (own actor history) < most_turns setting scripts actor) [
+    elim (cases_lt actor (subs setting)) as (λ _. length (own actor history) < most_turns setting scripts actor) [
       | inl low ↦ rw (lt-ltb actor (subs setting) low)
           (slice_get_within (script_visits setting scripts actor) (length (own actor history)) visit
           (sym (next-sub setting scripts history actor low) ∙ h))
@@ -33,9 +33,6 @@ next-few setting scripts history actor visit played h =
           (wanting (caller-look setting scripts history actor visit high h) high)
     ]
   where
-    cases : (a b : ℕ) → (a < b) ⊎ (b ≤ a)
-    cases a b = grind (arith, nat_tests)
-
     wanting : (key : Key) × (next_key (caller_in setting scripts history actor) ≡ Some key)
         × (visit ≡ look_by actor key) → subs setting ≤ actor
         → length (own actor history) < sum_by (λ (call : FindCall). most_looks setting call.from)
@@ -195,7 +192,7 @@ stranger-done setting scripts history actor high =
 -- when an order is played to its end all scripts are done
 pub all-done : OrdersAreDone
 all-done setting scripts order actor =
-    elim (cases actor (actors setting scripts)) as (λ _. IsDone setting scripts
+    elim (cases_lt actor (actors setting scripts)) as (λ _. IsDone setting scripts
     (history_of setting scripts order) actor) [
       | inl low ↦ rw (after_turns-append setting scripts [] order (last_turns setting scripts))
           (done-each setting scripts actor (numbers_from 0 (actors setting scripts))
@@ -203,9 +200,6 @@ all-done setting scripts order actor =
           (omega arith)) (played-of_play setting scripts order))
       | inr high ↦ stranger-done setting scripts (history_of setting scripts order) actor high
     ]
-  where
-    cases : (a b : ℕ) → (a < b) ⊎ (b ≤ a)
-    cases a b = grind (arith, nat_tests)
 
 all-idle : (setting : Setting) (scripts : Scripts) (history : History) (idle : List ℕ)
     → ((actor : ℕ) → IsDone setting scripts history actor) → after_turns setting scripts history idle ≡ history

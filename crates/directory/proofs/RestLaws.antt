@@ -1,8 +1,7 @@
 -- Where nobody moves; what the last commit tells; and that finds are short.
-use Rattle.std.proofs.Common.{◌≡◌, ◌≢◌, false, ℕ, suc, ◌<◌, ◌≤◌, cond, List, [], ◌∷◌, ◌++◌, Option, Some, None, length, take, fold, refl, sym, ap, ◌∙◌, subst, arith, inl, inr, ◌⊎◌}
+use Rattle.std.proofs.Common.{◌≡◌, ◌≢◌, false, ℕ, suc, ◌<◌, ◌≤◌, cond, List, [], ◌∷◌, ◌++◌, Some, None, length, take, fold, refl, sym, ap, ◌∙◌, subst, arith, inl, inr, ◌⊎◌}
 use Rattle.std.specs.Prelude.{slice_get}
 use Rattle.std.specs.List.{last_or, list_any}
-use Rattle.std.proofs.lemmas.Bool.Decides.{nat_tests}
 use Rattle.std.proofs.lemmas.List.Sums.{fold-append}
 use Rattle.entry_word.specs.declared.visit.Key.{Key}
 use Rattle.entry_word.specs.declared.visit.Visit.{Visit}
@@ -22,6 +21,8 @@ use Rattle.directory.proofs.FindLaws.{looks-fall}
 use Rattle.directory.specs.Statements.{RestKeepsOpening}
 use Rattle.directory.specs.StepLaws.{by_fronts}
 use Rattle.directory.specs.HistoryLaws.{next-sub}
+use Rattle.std.proofs.lemmas.Bool.{cases_lt}
+use Rattle.directory.specs.ListLaws.{last_or-push}
 
 -- which moves may come
 pub move-may : (setting : Setting) (course : Course) (node : ℕ) → node < setting.nodes → node ≢ last_stop course
@@ -44,11 +45,8 @@ rest-keeps setting scripts history key still played =
     by_fronts (λ front. cell setting front key ≡ opening setting key) history refl
     (λ t visit h same. cell-after setting (take t history) visit key
     ∙ (ap (λ w. word_after key w visit.act) same ∙ a_look (take t history) visit
-    (cases visit.actor (subs setting)) (played t visit h)))
+    (cases_lt visit.actor (subs setting)) (played t visit h)))
   where
-    cases : (a b : ℕ) → (a < b) ⊎ (b ≤ a)
-    cases a b = grind (arith, nat_tests)
-
     a_look : (front : History) (visit : Visit) → (visit.actor < subs setting) ⊎ (subs setting ≤ visit.actor)
         → next setting scripts front visit.actor ≡ Some visit
         → word_after key (opening setting key) visit.act ≡ opening setting key
@@ -64,11 +62,6 @@ rest-keeps setting scripts history key still played =
         looked : (k : Key) × (next_key (caller_in setting scripts front visit.actor) ≡ Some k)
             × (visit ≡ look_by visit.actor k) → word_after key (opening setting key) visit.act ≡ opening setting key
         looked (k, wanted, is_look) = ap (λ (v : Visit). word_after key (opening setting key) v.act) is_look
-
--- the last of a list
-pub last-of_push : {A : Type 0} (other : Option A) (xs : List A) (x : A) → last_or other (xs ++ x ∷ []) ≡ Some x
-last-of_push other [] x = refl
-last-of_push other (y ∷ xs) x = last-of_push (Some y) xs x
 
 -- what the last commit tells
 pub stands-at_last : (setting : Setting) (sub : ℕ) (history : History) (earlier : List Commit) (last : Commit)
@@ -90,7 +83,7 @@ pub passage-last : (setting : Setting) (sub : ℕ) (history : History) (earlier 
     → passage setting sub history ≡ cond (list_any (λ (visit : Visit). confirms last (node_put visit.act)
     (mark_put visit.act)) (puts_to sub history)) 0 (setting.distance last.from last.to)
 passage-last setting sub history earlier last h = ap (passage_of setting (puts_to sub history))
-    (ap (last_or None) h ∙ last-of_push None earlier last)
+    (ap (last_or None) h ∙ last_or-push None earlier last)
 
 -- a find has no look more than its stage leaves
 pub looks-short : (setting : Setting) (history : History) (actor : ℕ) (call : FindCall) (earliest : ℕ) (stage : Stage)

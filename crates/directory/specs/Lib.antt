@@ -2,6 +2,7 @@ pub mod Settings
 pub mod Keys
 pub mod Histories
 pub mod Courses
+pub mod Places
 pub mod Writes
 pub mod Puts
 pub mod States
@@ -14,6 +15,7 @@ pub mod Orders
 pub mod Outcomes
 pub mod Census
 pub mod Amid
+pub mod ListLaws
 pub mod StepLaws
 pub mod HistoryLaws
 pub mod LookLaws

@@ -1,7 +1,7 @@
 -- Short laws of lists of steps, writes and puts, one more at the end: what the crates above take
 -- for granted. Key laws: `writes-append` (more steps only add writes at the end), `steps-append`
 -- (more puts show more steps), `by_fronts` (what holds of no visits and with each that comes next
--- holds of all).
+-- holds of all), `place-after_steps` (a course leads where its steps do).
 use Rattle.std.proofs.Common.{◌≡◌, ℕ, zero, suc, ◌-◌, ◌<◌, ◌≤◌, Bool, cond, ◌==◌, List, [], ◌∷◌, ◌++◌, Option, Some, None, length, map, take, fold, refl, sym, ap, ◌∙◌, subst, arith, append_assoc, true, false, inl, inr}
 use Rattle.std.specs.Prelude.{slice_get}
 use Rattle.std.specs.List.{cons_option}
@@ -11,7 +11,9 @@ use Rattle.entry_word.specs.Marks.{says_off}
 use Rattle.entry_word.specs.declared.visit.Visit.{Visit}
 use Rattle.directory.specs.Settings.{Setting}
 use Rattle.directory.specs.Histories.{History, is_put_for, puts_to}
-use Rattle.directory.specs.Courses.{Step, Course, after_step, after_steps, highest, move_to, switch_off, switch_on}
+use Rattle.directory.specs.Courses.{Step, Course, Move, after_step, after_steps, highest, move_to, next_move, switch_off, switch_on}
+use Rattle.directory.specs.Places.{place_after_step, place_of}
+use Rattle.std.proofs.lemmas.List.Sums.{fold-append}
 use Rattle.directory.specs.Writes.{visit_of, step_writes, writes}
 use Rattle.directory.specs.Puts.{node_put, mark_put, mark_step, steps_from}
 use Rattle.std.proofs.lemmas.Option.{slice_get_cases}
@@ -108,6 +110,20 @@ pub puts-push : (sub : ℕ) (history : History) (visit : Visit)
 puts-push sub history visit = filter-append (λ (v : Visit). is_put_for sub v.act) history
     (visit ∷ [])
 
+-- a visit that isn't put for it
+pub puts-push_other : (sub : ℕ) (history : History) (visit : Visit)
+    → is_put_for sub visit.act ≡ false → puts_to sub (history ++ visit ∷ []) ≡ puts_to sub history
+puts-push_other sub history visit other = puts-push sub history visit
+    ∙ (ap (λ b. puts_to sub history ++ cond b (visit ∷ []) []) other
+    ∙ append-nil (puts_to sub history))
+
+-- and one that is
+pub puts-push_own : (sub : ℕ) (history : History) (visit : Visit)
+    → is_put_for sub visit.act ≡ true
+    → puts_to sub (history ++ visit ∷ []) ≡ puts_to sub history ++ visit ∷ []
+puts-push_own sub history visit own = puts-push sub history visit
+    ∙ ap (λ b. puts_to sub history ++ cond b (visit ∷ []) []) own
+
 -- one step more adds its writes
 pub writes-more : (setting : Setting) (course : Course) (steps : List Step) (step : Step)
     → writes setting course (steps ++ step ∷ []) ≡ writes setting course steps
@@ -150,3 +166,21 @@ past-end xs i none = elim (slice_get_cases xs i).1 [
   | inl (x, below, some, there) ↦ let clash : Some x ≡ None = sym some ∙ none in cc
   | inr past ↦ past.0
 ]
+
+-- one step more leads its course to the same place
+place-after_step : (setting : Setting) (course : Course) (step : Step)
+    → place_after_step (place_of course) step ≡ place_of (after_step setting course step)
+place-after_step setting course (move_to node) =
+    ap (λ n. record { node = n; is_off = course.is_off })
+    (sym (fold-append (λ n (m : Move). m.to) course.start course.moves
+    (next_move setting course node ∷ [])))
+place-after_step setting course switch_off = refl
+place-after_step setting course switch_on = refl
+
+-- and so do all steps
+pub place-after_steps : (setting : Setting) (course : Course) (steps : List Step)
+    → fold place_after_step (place_of course) steps ≡ place_of (after_steps setting course steps)
+place-after_steps setting course [] = refl
+place-after_steps setting course (step ∷ steps) =
+    ap (λ p. fold place_after_step p steps) (place-after_step setting course step)
+    ∙ place-after_steps setting (after_step setting course step) steps

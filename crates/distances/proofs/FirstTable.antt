@@ -11,7 +11,7 @@ use Rattle.net_graph.specs.LeastWeights.{LeastWeightsAreBounded, LeastWeightsAre
 use Rattle.net_graph.specs.Network.{Network, IsNetwork}
 use Rattle.net_graph.specs.Layout.{AreArcsOf, IsArc, make_arc}
 use Rattle.net_graph.specs.WalkLaws.{join_turned}
-use Rattle.distances.specs.declared.elimination.Stage.{Stage}
+use Rattle.distances.specs.declared.elimination.LeftOut.{LeftOut}
 use Rattle.distances.specs.declared.elimination.TheConstants.{FAR}
 use Rattle.distances.specs.Lowering.{Among, ArcOffer, Below, EdgeOffer, IsLowered, cell_at}
 use Rattle.distances.specs.Rows.{AreClosed}
@@ -103,7 +103,7 @@ module _ (network : Network) (sound : IsNetwork network) (width : ℕ) (wide : n
     }
 
 pub rows_of : LeastWeightsAreFound → LeastWeightsAreBounded → (network : Network) → IsNetwork network
-    → (width : ℕ) → network.nodes ≤ width → (first : List ℕ) (stages : List Stage) (rows table : List ℕ)
+    → (width : ℕ) → network.nodes ≤ width → (first : List ℕ) (stages : List LeftOut) (rows table : List ℕ)
     → IsFirstTable network width first → AreAllStages network.nodes width first stages
     → IsFilled network.nodes width stages rows → AreClosed network.nodes width rows table
     → AreRowsOf network network.nodes table
@@ -128,7 +128,7 @@ rows_of least_of bounds network sound width wide first stages rows table is_firs
 -- the table as the code has it
 pub rows_made : LeastWeightsAreFound → LeastWeightsAreBounded → (network : Network) → IsNetwork network
     → (n : ℕ) → n ≡ network.nodes
-    → (width : ℕ) → n ≤ width → (first seen : List ℕ) (stages : List Stage) (filled more wide closed : List ℕ) (k : ℕ)
+    → (width : ℕ) → n ≤ width → (first seen : List ℕ) (stages : List LeftOut) (filled more wide closed : List ℕ) (k : ℕ)
     → IsFirstTable network width first → seen ≡ first → length seen ≡ k → AreAllStages n width seen stages
     → IsFilled n width stages filled → wide ≡ take k (filled ++ more) → AreClosed n width wide closed
     → AreRowsOf network network.nodes closed

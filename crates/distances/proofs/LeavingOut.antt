@@ -9,7 +9,7 @@ use Rattle.std.proofs.lemmas.List.Edits.{length-between, get_or-between}
 use Rattle.std.specs.List.{between}
 use Rattle.net_graph.specs.Walks.{among}
 use Rattle.distances.specs.declared.elimination.Near.{Near}
-use Rattle.distances.specs.declared.elimination.Stage.{Stage}
+use Rattle.distances.specs.declared.elimination.LeftOut.{LeftOut}
 use Rattle.distances.specs.declared.elimination.TheConstants.{FAR}
 use Rattle.distances.specs.Lowering.{Among, AreNearBelow, IsLowered, IsWithin, PairOffer, cell_at}
 use Rattle.distances.specs.Stages.{AreLengths, AreStages, IsFresh, AreAllStages, KeepsLengths, IsStage, IsStageWithin, make_near}
@@ -18,7 +18,7 @@ use Rattle.distances.proofs.OneLess.{left_out, stage}
 use Rattle.distances.proofs.Lowered.{lowered_light}
 
 -- what leaving out nodes keeps
-pub record IsLeavingSome (n width : ℕ) (first : List ℕ) (left : List Bool) (stages : List Stage)
+pub record IsLeavingSome (n width : ℕ) (first : List ℕ) (left : List Bool) (stages : List LeftOut)
     (table : List ℕ) : Type 0 where
   pub left_count : length left ≡ n
   pub count : length table ≡ n * width
@@ -131,11 +131,11 @@ module _ (n width : ℕ) (wide : n ≤ width) (v : ℕ) (new : ℕ → Type 0) (
       ])
 
 -- one more node is left out
-module _ (n width : ℕ) (wide : n ≤ width) (first : List ℕ) (left : List Bool) (stages : List Stage) (old : List ℕ)
+module _ (n width : ℕ) (wide : n ≤ width) (first : List ℕ) (left : List Bool) (stages : List LeftOut) (old : List ℕ)
     (so_far : IsLeavingSome n width first left stages old)
     (v : ℕ) (v_left : among left v ≡ true) (row : List ℕ) (row_count : length row ≡ n)
     (is_row : (x : ℕ) → x < n → get_or row x 0 ≡ cell_at width old v x)
-    (s : Stage) (s_node : s.node ≡ v)
+    (s : LeftOut) (s_node : s.node ≡ v)
     (are_near : AreNearBelow (length row) row (λ x. among (set left v false) x ≡ true) s.near.items)
     (table : List ℕ) (lowered : IsLowered (Among s.near.items (λ a. Among s.near.items (PairOffer width a))) old table)
   where
@@ -152,11 +152,11 @@ module _ (n width : ℕ) (wide : n ≤ width) (first : List ℕ) (left : List Bo
     now_fresh x h =
         let f = fewer left v v_left x h in
         let was = so_far.left_is_fresh x f.0 in
-        (was.0, All-push (λ (t : Stage). t.node ≢ x) stages s was.1 (λ e. f.1 (sym e ∙ s_node)))
+        (was.0, All-push (λ (t : LeftOut). t.node ≢ x) stages s was.1 (λ e. f.1 (sym e ∙ s_node)))
 
     fresh_now : (x : ℕ) → IsFresh n (stages ++ s ∷ []) x → among (set left v false) x ≡ true
     fresh_now x h =
-        let parts = All-pop (λ (t : Stage). t.node ≢ x) (stages ++ s ∷ []) stages (Some s) refl h.1 in
+        let parts = All-pop (λ (t : LeftOut). t.node ≢ x) (stages ++ s ∷ []) stages (Some s) refl h.1 in
         rest left v v_left x (so_far.fresh_is_left x (h.0, parts.0)) (λ e. parts.1 (s_node ∙ sym e))
 
     next_keeps : (d : ℕ → ℕ → ℕ) → AreLengths n d → KeepsLengths (λ x. x < n) (cell_at width first) d
@@ -221,7 +221,7 @@ leaving_begins n width first count light = record {
           get_or_past (replicate n true) x false (omega (arith, length-replicate n true)) in
           let both : false ≡ true = sym none_there ∙ h in cc
     ],
-    All-nil (λ (s : Stage). s.node ≢ x),
+    All-nil (λ (s : LeftOut). s.node ≢ x),
   );
   fresh_is_left = λ x h. get_or-replicate n x true false h.0;
   keeps = λ d lengths begun. keeps_as (λ x. x < n) (λ x. among (replicate n true) x ≡ true) (cell_at width first) d
@@ -236,7 +236,7 @@ leaving_begins n width first count light = record {
   holds = λ d lengths begun. none;
 }
 
-pub leaving_ends : (n width : ℕ) (first : List ℕ) (left : List Bool) (stages : List Stage) (table : List ℕ)
+pub leaving_ends : (n width : ℕ) (first : List ℕ) (left : List Bool) (stages : List LeftOut) (table : List ℕ)
     → IsLeavingSome n width first left stages table
     → ((x : ℕ) → among left x ≡ true → ⊥) → AreAllStages n width first stages
 leaving_ends n width first left stages table so_far none_left = record {
@@ -246,8 +246,8 @@ leaving_ends n width first left stages table so_far none_left = record {
 }
 
 -- the step as the code has it
-pub leaving_next : (n width : ℕ) → n ≤ width → (first : List ℕ) (left seen next : List Bool) (stages later : List Stage)
-    (old table : List ℕ) (v : ℕ) (s : Stage) (near : List Near)
+pub leaving_next : (n width : ℕ) → n ≤ width → (first : List ℕ) (left seen next : List Bool)
+    (stages later : List LeftOut) (old table : List ℕ) (v : ℕ) (s : LeftOut) (near : List Near)
     → IsLeavingSome n width first left stages old → seen ≡ left → (v < length seen) × (among seen v ≡ true) → s.node ≡ v
     → next ≡ set left v false
     → AreNearBelow (length (between (v * width) (v * width + n) old)) (between (v * width) (v * width + n) old)

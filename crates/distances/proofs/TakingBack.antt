@@ -5,14 +5,14 @@ use Rattle.std.proofs.lemmas.List.{length-set, get_or-set_same, get_or-set_other
 use Rattle.std.proofs.lemmas.List.Elements.{All-nil, All-pop, All-push, All-same, Contains-append_left, Contains-push}
 use Rattle.std.proofs.lemmas.Bool.{cases_eq}
 use Rattle.distances.specs.declared.elimination.Near.{Near}
-use Rattle.distances.specs.declared.elimination.Stage.{Stage}
+use Rattle.distances.specs.declared.elimination.LeftOut.{LeftOut}
 use Rattle.distances.specs.declared.elimination.TheConstants.{FAR}
 use Rattle.distances.specs.Lowering.{Among, IsLowered, IsWithin, IsNodeWritten, RowOffer, cell_at}
 use Rattle.distances.specs.Stages.{AreLengths, AreStages, IsFilled, IsFresh, IsStage, IsStageWithin, make_near}
 use Rattle.distances.specs.Stages.AreStages.{none, more}
 
 -- what taking back nodes keeps: the fresh ones are back, and their cells are lengths
-pub record IsFilling (n width : ℕ) (all stages : List Stage) (back table : List ℕ) : Type 0 where
+pub record IsFilling (n width : ℕ) (all stages : List LeftOut) (back table : List ℕ) : Type 0 where
   pub count : length table ≡ n * width
   pub light : All (λ w. w ≤ FAR) table
   pub within : All (IsStageWithin n) stages
@@ -23,15 +23,15 @@ pub record IsFilling (n width : ℕ) (all stages : List Stage) (back table : Lis
       → (a b : ℕ) → IsFresh n stages a → IsFresh n stages b → cell_at width table a b ≡ d a b
 
 -- the last of the stages
-last_stage : (n : ℕ) (d : ℕ → ℕ → ℕ) (earlier : List Stage) (s : Stage) (stages : List Stage) → AreStages n d stages
-    → stages ≡ earlier ++ s ∷ []
+last_stage : (n : ℕ) (d : ℕ → ℕ → ℕ) (earlier : List LeftOut) (s : LeftOut) (stages : List LeftOut)
+    → AreStages n d stages → stages ≡ earlier ++ s ∷ []
     → AreStages n d earlier × IsStage (IsFresh n stages) d s.node s.near.items
 last_stage n d earlier s _ none is = absurd
     (let e : 0 ≡ length (earlier ++ s ∷ []) = ap length is in omega (arith, length-append earlier (s ∷ [])))
 last_stage n d earlier s stages (more other t _ same before holds) is =
     let e = same_from_push other earlier t s (sym same ∙ is) in (
       subst (λ xs. AreStages n d xs) e.0 before,
-      subst (λ (x : Stage). IsStage (IsFresh n stages) d x.node x.near.items) e.1 holds,
+      subst (λ (x : LeftOut). IsStage (IsFresh n stages) d x.node x.near.items) e.1 holds,
     )
 
 -- the row of a node that is taken back
@@ -68,8 +68,8 @@ module _ (n width : ℕ) (d : ℕ → ℕ → ℕ) (lengths : AreLengths n d) (f
       omega (arith, known on.node b by.0 b_fresh, on.short)
 
 -- one more node is back
-module _ (n width : ℕ) (all : List Stage) (stages earlier : List Stage) (s : Stage) (is : stages ≡ earlier ++ s ∷ [])
-    (back old : List ℕ)
+module _ (n width : ℕ) (all : List LeftOut) (stages earlier : List LeftOut) (s : LeftOut)
+    (is : stages ≡ earlier ++ s ∷ []) (back old : List ℕ)
     (so_far : IsFilling n width all stages back old) (folded mine table : List ℕ)
     (lowered : IsLowered (Among s.near.items (RowOffer n width old)) (replicate n FAR) folded)
     (zeroed : mine ≡ set folded s.node 0)
@@ -87,8 +87,8 @@ module _ (n width : ℕ) (all : List Stage) (stages earlier : List Stage) (s : S
   still : (x : ℕ) → IsFresh n earlier x → x ≢ s.node → IsFresh n stages x
   still x fresh other = (
     fresh.0,
-    All-same (λ (t : Stage). t.node ≢ x) stages (earlier ++ s ∷ []) is
-        (All-push (λ (t : Stage). t.node ≢ x) earlier s fresh.1 (λ e. other (sym e))),
+    All-same (λ (t : LeftOut). t.node ≢ x) stages (earlier ++ s ∷ []) is
+        (All-push (λ (t : LeftOut). t.node ≢ x) earlier s fresh.1 (λ e. other (sym e))),
   )
 
   module _ (d : ℕ → ℕ → ℕ) (lengths : AreLengths n d) (begun : AreStages n d all)
@@ -135,7 +135,7 @@ module _ (n width : ℕ) (all : List Stage) (stages earlier : List Stage) (s : S
     lengths = next_lengths;
   }
 
-pub fill_begins : (n width : ℕ) (all : List Stage) (table : List ℕ) → length table ≡ n * width → All (λ w. w ≤ FAR)
+pub fill_begins : (n width : ℕ) (all : List LeftOut) (table : List ℕ) → length table ≡ n * width → All (λ w. w ≤ FAR)
     table
     → All (IsStageWithin n) all
     → IsFilling n width all all [] table
@@ -149,14 +149,14 @@ fill_begins n width all table count light within = record {
   lengths = λ d lengths begun none_fresh a b a_fresh b_fresh. absurd (none_fresh a a_fresh);
 }
 
-pub fill_ends : (n width : ℕ) (all stages : List Stage) (back table : List ℕ) → IsFilling n width all stages back table
-    → stages ≡ [] → IsFilled n width all table
+pub fill_ends : (n width : ℕ) (all stages : List LeftOut) (back table : List ℕ)
+    → IsFilling n width all stages back table → stages ≡ [] → IsFilled n width all table
 fill_ends n width all stages back table so_far done = record {
   count = so_far.count;
   each = λ d lengths begun none_fresh a b a_below b_below.
       so_far.lengths d lengths begun none_fresh a b
-      (a_below, subst (λ xs. All (λ (s : Stage). s.node ≢ a) xs) (sym done) (All-nil (λ (s : Stage). s.node ≢ a)))
-      (b_below, subst (λ xs. All (λ (s : Stage). s.node ≢ b) xs) (sym done) (All-nil (λ (s : Stage). s.node ≢ b)));
+      (a_below, subst (λ xs. All (λ (s : LeftOut). s.node ≢ a) xs) (sym done) (All-nil (λ (s : LeftOut). s.node ≢ a)))
+      (b_below, subst (λ xs. All (λ (s : LeftOut). s.node ≢ b) xs) (sym done) (All-nil (λ (s : LeftOut). s.node ≢ b)));
 }
 
 -- no cell rises above FAR
@@ -170,8 +170,8 @@ written_light n width v back mine old table written light mine_light i d i_below
     ])
 
 -- the step as the code has it
-module _ (n width : ℕ) (all : List Stage) (stages earlier : List Stage) (s : Stage) (is : stages ≡ earlier ++ s ∷ [])
-    (back old : List ℕ)
+module _ (n width : ℕ) (all : List LeftOut) (stages earlier : List LeftOut) (s : LeftOut)
+    (is : stages ≡ earlier ++ s ∷ []) (back old : List ℕ)
     (so_far : IsFilling n width all stages back old) where
   pub stage_within : IsStageWithin n s
   stage_within = (All-pop (IsStageWithin n) stages earlier (Some s) is so_far.within).1

@@ -5,7 +5,7 @@
 -- fills the table with the lengths of which the stages hold (`IsFilled`).
 use Rattle.std.specs.Prelude.{◌≡◌, ◌≢◌, ◌⊎◌, ℕ, ◌+◌, ◌*◌, ◌<◌, ◌≤◌, List, [], ◌∷◌, ◌++◌, All, Contains, length}
 use Rattle.distances.specs.declared.elimination.Near.{Near}
-use Rattle.distances.specs.declared.elimination.Stage.{Stage}
+use Rattle.distances.specs.declared.elimination.LeftOut.{LeftOut}
 use Rattle.distances.specs.declared.elimination.TheConstants.{FAR}
 use Rattle.net_graph.specs.Walks.{IsLeastWeight, Joins, everywhere}
 use Rattle.net_graph.specs.Network.{Network}
@@ -54,30 +54,30 @@ pub record IsStage (left : ℕ → Type 0) (d : ℕ → ℕ → ℕ) (v : ℕ) (
   pub leads_on : (b : ℕ) → left b → LeadsOn d near v b
 
 -- the stage's nodes are nodes below n, and its weights are no more than FAR
-pub record IsStageWithin (n : ℕ) (stage : Stage) : Type 0 where
+pub record IsStageWithin (n : ℕ) (stage : LeftOut) : Type 0 where
   pub node : stage.node < n
   pub near : All (IsWithin n) stage.near.items
 
 -- a node that no stage left out
-abbrev pub IsFresh : ℕ → List Stage → ℕ → Type 0
-IsFresh n stages x = (x < n) × All (λ (s : Stage). s.node ≢ x) stages
+abbrev pub IsFresh : ℕ → List LeftOut → ℕ → Type 0
+IsFresh n stages x = (x < n) × All (λ (s : LeftOut). s.node ≢ x) stages
 
 -- each stage holds of the nodes that were left after it
-pub data AreStages (n : ℕ) (d : ℕ → ℕ → ℕ) : List Stage → Type 0 where
+pub data AreStages (n : ℕ) (d : ℕ → ℕ → ℕ) : List LeftOut → Type 0 where
   none : AreStages n d []
-  more : (earlier : List Stage) (stage : Stage) (stages : List Stage)
+  more : (earlier : List LeftOut) (stage : LeftOut) (stages : List LeftOut)
       → stages ≡ earlier ++ stage ∷ [] → AreStages n d earlier
       → IsStage (IsFresh n stages) d stage.node stage.near.items → AreStages n d stages
 
 -- the stages by which all nodes were left out of a table
-pub record AreAllStages (n width : ℕ) (first : List ℕ) (stages : List Stage) : Type 0 where
+pub record AreAllStages (n width : ℕ) (first : List ℕ) (stages : List LeftOut) : Type 0 where
   pub within : All (IsStageWithin n) stages
   pub all : (x : ℕ) → IsFresh n stages x → ⊥
   pub holds : (d : ℕ → ℕ → ℕ) → AreLengths n d → KeepsLengths (λ x. x < n) (cell_at width first) d
       → AreStages n d stages
 
 -- the table has the lengths of which the stages hold
-pub record IsFilled (n width : ℕ) (stages : List Stage) (table : List ℕ) : Type 0 where
+pub record IsFilled (n width : ℕ) (stages : List LeftOut) (table : List ℕ) : Type 0 where
   pub count : length table ≡ n * width
   pub each : (d : ℕ → ℕ → ℕ) → AreLengths n d → AreStages n d stages
       → ((x : ℕ) → IsFresh n stages x → ⊥)

@@ -26,7 +26,7 @@ pub(crate) struct Near {
 
 /// A node that was left out, and the nodes near it then.
 #[derive(Debug, Drop)]
-pub(crate) struct Stage {
+pub(crate) struct LeftOut {
     pub(crate) node: usize,
     pub(crate) near: Vec<Near>,
 }
@@ -342,7 +342,7 @@ pub(crate) fn leave_out_all(
     n: usize,
     width: usize,
     degrees: &mut [usize],
-) -> Result<Vec<Stage>, AllocError>
+) -> Result<Vec<LeftOut>, AllocError>
     requires few { n ≤ MAX_NODES }
     requires wide { n ≤ width }
     requires narrow { width ≤ 2048 }
@@ -360,7 +360,7 @@ pub(crate) fn leave_out_all(
         let near = near_of(alloc, &table[node * width..node * width + n], &left)?;
         let counts = stages.len().wrapping_add(near.len()).wrapping_add(1) < n;
         lower_pairs(table, n, width, &near, degrees, &mut mine, counts);
-        stages.push(Stage { node, near })?;
+        stages.push(LeftOut { node, near })?;
     }
     Ok(stages)
 }
@@ -371,7 +371,7 @@ pub(crate) fn take_back_all(
     table: &mut [u32],
     n: usize,
     width: usize,
-    mut stages: Vec<Stage>,
+    mut stages: Vec<LeftOut>,
 ) -> Result<(), AllocError>
     requires few { n ≤ MAX_NODES }
     requires wide { n ≤ width }

@@ -13,6 +13,7 @@ use Rattle.outside.specs.Texts.{fields}
 use Rattle.text_line.specs.OrderLines.{order_line}
 use Rattle.input_text.specs.Listing.{edge_line, home_line, line_of}
 use Rattle.input_text.proofs.LineRead.{IsSmall, IsWord, line-cut, line-fields, line-numbers}
+use Rattle.std.proofs.lemmas.List.Folds.{concat-append}
 
 -- ---- texts that lead from what was said to what is said then
 
@@ -30,10 +31,6 @@ leads-then said next last a b one two = λ before rest.
     let first = one before (b ++ rest) in
     let second = two first.0 rest in
     (second.0, ap (λ l. read_from said before (lines_of l)) (append_assoc a b rest) ∙ first.1 ∙ second.1)
-
-pub concat-append : (xs ys : List (List ℕ)) → concat (xs ++ ys) ≡ concat xs ++ concat ys
-concat-append [] ys = refl
-concat-append (x ∷ xs) ys = ap (λ l. x ++ l) (concat-append xs ys) ∙ sym (append_assoc x (concat xs) (concat ys))
 
 -- one line, then others
 pub leads-line : (said next last : Said) (line : List ℕ) (lines : List (List ℕ)) → Leads said line next

@@ -17,6 +17,7 @@ use Rattle.net_reader.specs.Said.{Said}
 use Rattle.net_reader.specs.Table.{Row, judge_word, may_stand, verdict}
 use Rattle.outside.specs.Texts.{fields}
 use Rattle.input_text.specs.Listing.{line_of}
+use Rattle.std.proofs.lemmas.Bool.{and_from, and_parts}
 
 -- bytes that stand inside a line, and bytes that stand inside a field
 abbrev pub is_inside : ℕ → Bool
@@ -25,30 +26,21 @@ is_inside b = leb 32 b
 abbrev pub is_dense : ℕ → Bool
 is_dense b = leb 33 b
 
-pub and-split : (a b : Bool) → (a && b) ≡ true → (a ≡ true) × (b ≡ true)
-and-split true true e = (refl, refl)
-and-split true false e = cc
-and-split false b e = cc
-
-pub and-both : (a b : Bool) → a ≡ true → b ≡ true → (a && b) ≡ true
-and-both true b e f = f
-and-both false b e f = cc
-
 -- a field's bytes stand inside a line too
 inside-dense : (bytes : List ℕ) → list_all is_dense bytes ≡ true → list_all is_inside bytes ≡ true
 inside-dense [] e = refl
 inside-dense (b ∷ bytes) e =
-    let both = and-split (is_dense b) (list_all is_dense bytes) e in
+    let both = and_parts (is_dense b) (list_all is_dense bytes) e in
     let here : leb 33 b ≡ true = both.0 in
     let inside : leb 32 b ≡ true = grind (arith, nat_tests) in
-    and-both (is_inside b) (list_all is_inside bytes) inside (inside-dense bytes both.1)
+    and_from (is_inside b) (list_all is_inside bytes) inside (inside-dense bytes both.1)
 
 -- a line ends at its line feed
 lines-cut : (so_far line rest : List ℕ) → list_all is_inside line ≡ true
     → lines_from so_far (line ++ 10 ∷ rest) ≡ (so_far ++ line) ∷ lines_of rest
 lines-cut so_far [] rest e = ap (λ l. l ∷ lines_of rest) (sym (append-nil so_far))
 lines-cut so_far (b ∷ line) rest e =
-    let both = and-split (is_inside b) (list_all is_inside line) e in
+    let both = and_parts (is_inside b) (list_all is_inside line) e in
     let here : leb 32 b ≡ true = both.0 in
     let other : eqb b 10 ≡ false = grind (arith, nat_tests) in
     rw other (lines-cut (so_far ++ b ∷ []) line rest both.1
@@ -58,12 +50,12 @@ lines-cut so_far (b ∷ line) rest e =
 no-return : (line : List ℕ) → list_all is_inside line ≡ true → without_return line ≡ line
 no-return [] e = refl
 no-return (b ∷ []) e =
-    let both = and-split (is_inside b) true e in
+    let both = and_parts (is_inside b) true e in
     let here : leb 32 b ≡ true = both.0 in
     let other : eqb b 13 ≡ false = grind (arith, nat_tests) in
     rw other refl
 no-return (b ∷ c ∷ line) e =
-    let both = and-split (is_inside b) (list_all is_inside (c ∷ line)) e in
+    let both = and_parts (is_inside b) (list_all is_inside (c ∷ line)) e in
     ap (λ l. b ∷ l) (no-return (c ∷ line) both.1)
 
 -- a field ends at a blank, or at the end
@@ -74,7 +66,7 @@ fields-cut : (so_far bytes rest : List ℕ) → list_all is_dense bytes ≡ true
     → fields_from so_far (bytes ++ 32 ∷ rest) ≡ piece (so_far ++ bytes) ++ fields_from [] rest
 fields-cut so_far [] rest e = ap (λ l. piece l ++ fields_from [] rest) (sym (append-nil so_far))
 fields-cut so_far (b ∷ bytes) rest e =
-    let both = and-split (is_dense b) (list_all is_dense bytes) e in
+    let both = and_parts (is_dense b) (list_all is_dense bytes) e in
     rw (dense-blank b both.0) (fields-cut (so_far ++ b ∷ []) bytes rest both.1
     ∙ ap (λ l. piece l ++ fields_from [] rest) (append_assoc so_far (b ∷ []) bytes))
 
@@ -82,7 +74,7 @@ fields-end : (so_far bytes : List ℕ) → list_all is_dense bytes ≡ true
     → fields_from so_far bytes ≡ piece (so_far ++ bytes)
 fields-end so_far [] e = ap piece (sym (append-nil so_far))
 fields-end so_far (b ∷ bytes) e =
-    let both = and-split (is_dense b) (list_all is_dense bytes) e in
+    let both = and_parts (is_dense b) (list_all is_dense bytes) e in
     rw (dense-blank b both.0) (fields-end (so_far ++ b ∷ []) bytes both.1
     ∙ ap piece (append_assoc so_far (b ∷ []) bytes))
 
@@ -98,13 +90,13 @@ digits-all : (ds : List ℕ) → AllDigits 10 ds → list_all (λ b. is_ascii_di
 digits-all [] h = refl
 digits-all (d ∷ ds) h =
     let digit : IsInRange 48 57 d = digit_at (d ∷ ds) 0 h (omega arith) in
-    and-both (is_ascii_digit d) (list_all (λ b. is_ascii_digit b) ds) (grind (arith, nat_tests)) (digits-all ds h.1)
+    and_from (is_ascii_digit d) (list_all (λ b. is_ascii_digit b) ds) (grind (arith, nat_tests)) (digits-all ds h.1)
 
 digits-dense : (ds : List ℕ) → AllDigits 10 ds → list_all is_dense ds ≡ true
 digits-dense [] h = refl
 digits-dense (d ∷ ds) h =
     let digit : IsInRange 48 57 d = digit_at (d ∷ ds) 0 h (omega arith) in
-    and-both (is_dense d) (list_all is_dense ds) (grind (arith, nat_tests)) (digits-dense ds h.1)
+    and_from (is_dense d) (list_all is_dense ds) (grind (arith, nat_tests)) (digits-dense ds h.1)
 
 -- a number's digits: there are some, they stand in one field, and they read as the number
 pub record IsWritten (n : ℕ) : Type 0 where
@@ -154,7 +146,7 @@ fields-inside [] small = refl
 fields-inside (n ∷ numbers) small =
     let here = written n (All-head IsSmall n numbers small) in
     list_all-append is_inside (decimal n) (fields numbers)
-    ∙ and-both (list_all is_inside (decimal n)) (list_all is_inside (fields numbers))
+    ∙ and_from (list_all is_inside (decimal n)) (list_all is_inside (fields numbers))
     (inside-dense (decimal n) here.dense) (fields-inside numbers (All-tail IsSmall n numbers small))
 
 -- a word that begins the lines of a place of the grammar, which are judged by a row of the table
@@ -173,14 +165,14 @@ line-cut word numbers rest some dense small =
     ∙ ap (λ l. word ++ l) (append_assoc (fields numbers) (10 ∷ []) rest)
     ∙ sym (append_assoc word (fields numbers) (10 ∷ rest)))
     ∙ lines-cut [] (word ++ fields numbers) rest (list_all-append is_inside word (fields numbers)
-    ∙ and-both (list_all is_inside word) (list_all is_inside (fields numbers)) (inside-dense word dense)
+    ∙ and_from (list_all is_inside word) (list_all is_inside (fields numbers)) (inside-dense word dense)
     (fields-inside numbers small))
 
 pub line-fields : (word numbers : List ℕ) → 0 < length word → list_all is_dense word ≡ true → All IsSmall numbers
     → fields_of (word ++ fields numbers) ≡ word ∷ map decimal numbers
 line-fields word numbers some dense small =
     ap (fields_from []) (no-return (word ++ fields numbers) (list_all-append is_inside word (fields numbers)
-    ∙ and-both (list_all is_inside word) (list_all is_inside (fields numbers)) (inside-dense word dense)
+    ∙ and_from (list_all is_inside word) (list_all is_inside (fields numbers)) (inside-dense word dense)
     (fields-inside numbers small)))
     ∙ word-fields word numbers dense small
     ∙ ap (λ l. l ++ map decimal numbers) (piece-some word some)

@@ -55,7 +55,7 @@ line_of word numbers = word then fields numbers then 10 ∷ []
 abbrev pub edge_line : Edge → List ℕ
 edge_line edge = line_of (codes "edge") (edge.a ∷ edge.b ∷ edge.weight ∷ [])
 
--- the line of a subscriber at this home
+-- the line of a subscriber that starts at this node
 abbrev pub home_line : ℕ → List ℕ
 home_line home = line_of (codes "sub") (home ∷ [])
 
@@ -74,7 +74,7 @@ call_line call = line_of_call call.actor call.call
 abbrev pub call_lines : ListingValue → List (List ℕ)
 call_lines listing = map call_line listing.calls ++ order_lines listing.order
 
--- the lines of the homes, and those behind them
+-- the lines of the subscribers, and those behind them
 abbrev pub actor_lines : ListingValue → List (List ℕ)
 actor_lines listing =
     map home_line listing.homes

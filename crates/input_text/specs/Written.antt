@@ -2,8 +2,8 @@
 -- Key law: `InputLines::next_line` (its line is the first of those that are left).
 use Rattle.std.specs.Prelude.{List, ℕ}
 use Rattle.input_text.specs.declared.listing.Listing.{Listing}
-use Rattle.input_text.specs.declared.lines.Stage.{Stage}
-use Rattle.input_text.specs.declared.lines.Stage.TheVariants as stages
+use Rattle.input_text.specs.declared.lines.NextLine.{NextLine}
+use Rattle.input_text.specs.declared.lines.NextLine.TheVariants as next_lines
 use Rattle.input_text.specs.Listing.{ListingValue, call_lines, input_lines, lines_from_k, lines_from_nodes, network_lines}
 
 -- the listing that borrowed parts are
@@ -19,13 +19,13 @@ seen_listing listing = record {
   order = listing.order.now;
 }
 
--- the lines from a stage on, of what is left of the listing
-abbrev pub lines_left : Stage → ListingValue → List (List ℕ)
-lines_left stages.Format listing = input_lines listing
-lines_left stages.Nodes listing = lines_from_nodes listing
-lines_left stages.K listing = lines_from_k listing
-lines_left stages.Network listing = network_lines listing
-lines_left stages.Calls listing = call_lines listing
+-- the lines from the next one on, of what is left of the listing
+abbrev pub lines_left : NextLine → ListingValue → List (List ℕ)
+lines_left next_lines.Format listing = input_lines listing
+lines_left next_lines.Nodes listing = lines_from_nodes listing
+lines_left next_lines.K listing = lines_from_k listing
+lines_left next_lines.Network listing = network_lines listing
+lines_left next_lines.Calls listing = call_lines listing
 
 -- the lines of a listing: the one that was made last, and those that are left
 pub record LinesState : Type 0 where

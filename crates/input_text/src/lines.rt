@@ -19,7 +19,7 @@ const FAST_NUMBERS: usize = 1_024;
 
 /// The line that is next, where one of the first few is, or else what has one line for each part.
 #[derive(Clone, Copy, Debug, PartialEq, Eq)]
-pub(crate) enum Stage {
+pub(crate) enum NextLine {
     Format,
     Nodes,
     K,
@@ -65,7 +65,7 @@ fn write_call(line: &mut Line, call: &ActorCall)
 }
 
 // The first line of the network or of its actors that is left, and what comes next.
-fn write_network(line: &mut Line, left: &mut Listing) -> Stage
+fn write_network(line: &mut Line, left: &mut Listing) -> NextLine
     requires { line.old ≡ [] }
     ensures { network_lines (seen_listing left.old)
         ≡ line.new ∷ lines_left result (seen_listing left.new) }
@@ -73,14 +73,14 @@ fn write_network(line: &mut Line, left: &mut Listing) -> Stage
     if let [edge, edges @ ..] = left.edges {
         write_edge(line, edge);
         left.edges = edges;
-        Stage::Network
+        NextLine::Network
     } else if let [home, homes @ ..] = left.homes {
         write_line(line, "sub", &[*home]);
         left.homes = homes;
-        Stage::Network
+        NextLine::Network
     } else {
         write_line(line, "callers", &[left.callers]);
-        Stage::Calls
+        NextLine::Calls
     }
 }
 
@@ -107,7 +107,7 @@ fn write_calls(line: &mut Line, left: &mut Listing) -> bool
 /// line.
 #[derive(Debug, Drop)]
 pub struct InputLines<'a> {
-    stage: Stage,
+    next: NextLine,
     left: Listing<'a>,
     line: Line,
 }
@@ -117,7 +117,7 @@ impl<'a> Model for InputLines<'a> {
 
     ghost Value = { LinesState };
 
-    ghost view = { λ l. record { line = l.line; left = lines_left l.stage (seen_listing l.left) } };
+    ghost view = { λ l. record { line = l.line; left = lines_left l.next (seen_listing l.left) } };
 }
 
 impl<'a> InputLines<'a> {
@@ -126,7 +126,7 @@ impl<'a> InputLines<'a> {
         ensures { IfOk result (λ lines. lines.left ≡ input_lines (seen_listing listing.entry)) }
     {
         Ok(InputLines {
-            stage: Stage::Format,
+            next: NextLine::Format,
             left: listing,
             line: Line::new(alloc, FAST_NUMBERS)?,
         })
@@ -138,21 +138,21 @@ impl<'a> InputLines<'a> {
         ensures none { result ≡ false → (self.old.left ≡ []) × (self.new.left ≡ []) }
     {
         self.line.clear();
-        match self.stage {
-            Stage::Format => {
+        match self.next {
+            NextLine::Format => {
                 write_line(&mut self.line, "track", &[self.left.format]);
-                self.stage = Stage::Nodes;
+                self.next = NextLine::Nodes;
             }
-            Stage::Nodes => {
+            NextLine::Nodes => {
                 write_line(&mut self.line, "nodes", &[self.left.nodes]);
-                self.stage = Stage::K;
+                self.next = NextLine::K;
             }
-            Stage::K => {
+            NextLine::K => {
                 write_line(&mut self.line, "k", &[self.left.k]);
-                self.stage = Stage::Network;
+                self.next = NextLine::Network;
             }
-            Stage::Network => self.stage = write_network(&mut self.line, &mut self.left),
-            Stage::Calls => return write_calls(&mut self.line, &mut self.left),
+            NextLine::Network => self.next = write_network(&mut self.line, &mut self.left),
+            NextLine::Calls => return write_calls(&mut self.line, &mut self.left),
         }
         true
     }

@@ -15,6 +15,8 @@ use Rattle.word_line.specs.declared.command.Command.TheVariants.{ToJson, FromJso
 use Rattle.word_line.specs.declared.load.Load.{Load}
 use Rattle.word_line.specs.Forms.{◌>>=◌, actor_numbers, alone, command_of, is_sound, load_of, network_numbers, number_in, number_of, plain_command, sound_alone}
 use Rattle.make_load.specs.Load.{IsLoad}
+use Rattle.std.proofs.lemmas.Bool.{and_parts}
+use Rattle.std.proofs.lemmas.Option.{cond_some}
 
 -- what follows a value
 record IsBound {A B : Type 0} (o : Option A) (f : A → Option B) (found : B) : Type 0 where
@@ -28,29 +30,20 @@ bound (Some value) f found e = record { value = value; is = refl; gives = e }
 
 -- ---- numbers
 
-and-split : (a b : Bool) → (a && b) ≡ true → (a ≡ true) × (b ≡ true)
-and-split true true e = (refl, refl)
-and-split true false e = cc
-and-split false b e = cc
-
 all-digits : (ds : List ℕ) → list_all is_ascii_digit ds ≡ true → AllDigits 10 ds
 all-digits [] e = tt
 all-digits (d ∷ ds) e =
-    let both = and-split (is_ascii_digit d) (list_all is_ascii_digit ds) e in
+    let both = and_parts (is_ascii_digit d) (list_all is_ascii_digit ds) e in
     let here = both.0 in
     let range : IsInRange 48 57 d = grind (arith, nat_tests) in
     (omega (arith, digit_value_digit d range), all-digits ds both.1)
 
-taken : {A : Type 0} (b : Bool) (x y : A) → cond b (Some x) None ≡ Some y → (b ≡ true) × (x ≡ y)
-taken true x y e = let same : x ≡ y = cc in (refl, same)
-taken false x y e = cc
-
 number-small : (word : List ℕ) (n : ℕ) → number_of word ≡ Some n → n < 10 ^ 18
 number-small word n e =
-    let all = taken (leb 1 (length word) && leb (length word) 18 && list_all is_ascii_digit word) (digits_value 10 word)
-    n e in
-    let digits = and-split (leb 1 (length word) && leb (length word) 18) (list_all is_ascii_digit word) all.0 in
-    let short = (and-split (leb 1 (length word)) (leb (length word) 18) digits.0).1 in
+    let all = cond_some (leb 1 (length word) && leb (length word) 18 && list_all is_ascii_digit word)
+    (digits_value 10 word) n e in
+    let digits = and_parts (leb 1 (length word) && leb (length word) 18) (list_all is_ascii_digit word) all.0 in
+    let short = (and_parts (leb 1 (length word)) (leb (length word) 18) digits.0).1 in
     let few : length word ≤ 18 = grind (arith, nat_tests) in
     let below = digits_value-lt 10 word (all-digits word digits.1) in
     let power = pow-le-pow_right {n = 10} (omega arith) few in
@@ -59,8 +52,8 @@ number-small word n e =
 number-within : (least most n : ℕ) (word : List ℕ) → number_in least most word ≡ Some n → (least ≤ n) × (n ≤ most)
 number-within least most n word e =
     let found = bound (number_of word) (λ number. cond (leb least number && leb number most) (Some number) None) n e in
-    let all = taken (leb least found.value && leb found.value most) found.value n found.gives in
-    let both = and-split (leb least found.value) (leb found.value most) all.0 in
+    let all = cond_some (leb least found.value && leb found.value most) found.value n found.gives in
+    let both = and_parts (leb least found.value) (leb found.value most) all.0 in
     let low = both.0 in
     let high = both.1 in
     let same = all.1 in
@@ -139,7 +132,7 @@ load-is (a ∷ b ∷ c ∷ d ∷ e ∷ f ∷ []) load h =
     let network = network-is a b c one.value one.is in
     let actors = actors-are d e f two.value two.is in
     let made : Load = load_at one.value two.value in
-    let sound = taken (is_sound made) made load two.gives in
+    let sound = cond_some (is_sound made) made load two.gives in
     subst IsLoad sound.1 (record {
       start = network.start;
       some_nodes = network.some_nodes;

@@ -118,11 +118,11 @@ tree_of load = draw_list tree_edge 1 (load.nodes - 1) (generator_of load.start)
 abbrev pub others_of : Load → Drawn (List Edge)
 others_of load = draw_list (other_edge load.nodes) 0 (load.nodes / 2) (tree_of load).left
 
--- then a home for each subscriber
+-- then a node where each subscriber starts
 abbrev pub homes_of : Load → Drawn (List ℕ)
 homes_of load = draws_below load.nodes load.subs (others_of load).left
 
--- then the calls, each subscriber being at home before its first one
+-- then the calls, each subscriber being where it starts before its first one
 abbrev pub calls_of : Load → Drawn (List ActorCall)
 calls_of load = drawn_calls load 0 load.calls (homes_of load).value (homes_of load).left
 

@@ -11,7 +11,7 @@ use Rattle.node_set.specs.Balls.{AreCentred, AreInside, GrownCluster, IsShaped, 
 use Rattle.node_set.specs.Balls.{touches, union_of}
 use Rattle.node_set.specs.BallLaws.{HoldCentres, ascending-union_of, below_centre, growth_leader, growth_next}
 use Rattle.node_set.specs.BallLaws.{growth_waits, has_centre, least_passes, length-centres, union_from}
-use Rattle.node_set.specs.FilterLaws.{ascending-filter, filter_halves, filter_has, filter_keeps}
+use Rattle.node_set.specs.FilterLaws.{ascending-filter, filter_halves, filter-has, filter_keeps}
 use Rattle.node_set.specs.FilterLaws.{has-filter, some_length}
 use Rattle.node_set.specs.GrowthLaws.{touching_below}
 use Rattle.node_set.specs.HomeLaws.{homed_here, homed_later}
@@ -77,7 +77,7 @@ others_fewer balls k waiting c is =
     omega (
       arith,
       some_length c.first (filter (λ v. has v c.homed) waiting)
-          (filter_has (λ v. has v c.homed) c.first waiting (is.waits c.first is.leads) is.leads),
+          (filter-has (λ v. has v c.homed) c.first waiting (is.waits c.first is.leads) is.leads),
       filter_halves (λ v. has v c.homed) waiting,
     )
 
@@ -116,7 +116,7 @@ module _ (balls : List (List ℕ)) (k : ℕ) where
   all_homed waiting (c ∷ cs) are v h = elim (cases_Bool (has v c.homed)) [
     | inl here ↦ homed_here c cs v here
     | inr gone ↦ homed_later c cs v (all_homed (others c waiting) cs are.1 v
-        (filter_has (λ w. not (has w c.homed)) v waiting h (not_from_false (has v c.homed) gone)))
+        (filter-has (λ w. not (has w c.homed)) v waiting h (not_from_false (has v c.homed) gone)))
   ]
 
   pub all_shaped : (waiting : List ℕ) (cs : List GrownCluster) → AreMean balls k waiting cs
@@ -159,10 +159,10 @@ module _ (balls : List (List ℕ)) (k : ℕ) where
       → has x (filter (λ y. not (has y is.core)) free) ≡ true
   free_of_core waiting free c is held v x waits inside =
       let w = filter_keeps (λ u. not (has u c.homed)) v waiting waits in
-      filter_has (λ y. not (has y is.core)) x free (held v x w.0 inside)
+      filter-has (λ y. not (has y is.core)) x free (held v x w.0 inside)
       (not_from_false (has x is.core) (false_from_ne_true (has x is.core) (λ met.
       false≢true (sym (not-true (has v c.homed) w.1) ∙ (ap (has v) is.grown
-      ∙ filter_has (touches balls is.core) v waiting w.0 (share_from x (ball balls v) is.core inside met))))))
+      ∙ filter-has (touches balls is.core) v waiting w.0 (share_from x (ball balls v) is.core inside met))))))
 
   -- the cores of the clusters don't meet, so that their sizes add up to the free nodes at most
   pub sum_small : PowersAdd → (waiting free : List ℕ) (cs : List GrownCluster) → 0 < k → IsAscending free

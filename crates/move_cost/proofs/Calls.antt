@@ -26,10 +26,7 @@ use Rattle.scripts.specs.Scripts.{scripts_of, step_of}
 use Rattle.scripts.specs.ScriptLaws.{steps-are}
 use Rattle.move_cost.specs.Counting.{MayBegin, first_steps}
 use Rattle.move_cost.specs.Plans.{GoTogether}
-
-pub none-of : {A B : Type 0} (f : A → B) (o : Option A) → option_map f o ≡ None → o ≡ None
-none-of f None h = refl
-none-of f (Some x) h = cc
+use Rattle.directory.specs.ListLaws.{option_map-none}
 
 pub stage-rests : (setting : Setting) (handset : HandsetData) (stage : Stage) → due_at setting handset stage ≡ None
     → stage ≡ Resting

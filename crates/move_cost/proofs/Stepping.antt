@@ -39,7 +39,8 @@ use Rattle.move_cost.proofs.Fitting.{fit-step}
 use Rattle.move_cost.proofs.MoveParts.{last-after}
 use Rattle.move_cost.proofs.Paying.{weights-more}
 use Rattle.move_cost.proofs.Purging.{purges-more}
-use Rattle.move_cost.proofs.Calls.{IsNextCall, IsStep, may-begin, next-call, none-of, stage-rests}
+use Rattle.move_cost.proofs.Calls.{IsNextCall, IsStep, may-begin, next-call, stage-rests}
+use Rattle.directory.specs.ListLaws.{option_map-none}
 
 -- a list behind another
 drop-front : {A : Type 0} (xs ys : List A) → drop (length xs) (xs ++ ys) ≡ ys
@@ -201,7 +202,7 @@ ready scripts moves input plan distances sub place handset line call kept matche
     next-call scripts input plan distances sub place call together low short same in
     let resting : handset.stage ≡ Resting =
     stage-rests (setting_of plan []) handset handset.stage
-    (none-of (visit_of handset.sub) (due_at (setting_of plan []) handset handset.stage) counted.rests) in
+    (option_map-none (visit_of handset.sub) (due_at (setting_of plan []) handset handset.stage) counted.rests) in
     let at : IsRestAfter setting sub handset steps made =
     subst (λ s. IsRestAfter setting s handset steps made) counted.its
     (rest-after setting handset steps made counted.stands resting) in

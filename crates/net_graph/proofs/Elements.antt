@@ -1,5 +1,5 @@
--- The first element of a list and those behind it, and what `Some` holds.
-use Rattle.std.proofs.Common.{◌≡◌, ◌⊎◌, ℕ, zero, suc, List, ◌∷◌, Some, refl, inl, inr, arith}
+-- The first element of a list, and those behind it.
+use Rattle.std.proofs.Common.{◌≡◌, ◌⊎◌, zero, suc, List, ◌∷◌, refl, inl, inr, arith}
 use Rattle.std.specs.Prelude.{Contains}
 
 pub first : {X : Type 0} (x : X) (xs : List X) → Contains (x ∷ xs) x
@@ -11,6 +11,3 @@ later x y xs (k, below, here) = (suc k, omega arith, here)
 pub first_or_later : {X : Type 0} (x y : X) (xs : List X) → Contains (y ∷ xs) x → (y ≡ x) ⊎ Contains xs x
 first_or_later x y xs (zero, below, here) = inl here
 first_or_later x y xs (suc k, below, here) = inr (k, omega arith, here)
-
-pub some_same : (x y : ℕ) → Some x ≡ Some y → x ≡ y
-some_same x y h = cc

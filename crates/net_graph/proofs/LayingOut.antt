@@ -9,7 +9,7 @@ use Rattle.net_graph.specs.Network.{IsEdge, SameWalks}
 use Rattle.net_graph.specs.Layout.{row, edges_from, IsArc, IsLaidOut}
 use Rattle.net_graph.specs.Notes.{HaveRoom, JoinsOther, AreArcsBy, AreRows, notes_of, row_of}
 use Rattle.net_graph.proofs.Noting.{row_is}
-use Rattle.net_graph.proofs.Placing.{starts_rise}
+use Rattle.net_graph.specs.StartLaws.{starts_rise}
 use Rattle.net_graph.proofs.Rows.{edges_have_row, row_has_edge}
 use Rattle.net_graph.specs.WalkLaws.{join_edge, join_turned}
 use Rattle.net_graph.proofs.Replacing.{Covers, same_walks}
@@ -22,7 +22,11 @@ rows_made n edges starts arcs room sized rows limits = record {
   count = room.count;
   ordered = λ k below. omega (arith, room.each k below);
   within = λ k below.
-      omega (arith, sized, starts_rise n (notes_of edges) starts room (k + 1) n (omega arith) (omega arith));
+      omega (
+        arith,
+        sized,
+        starts_rise n (λ v. length (row_of v (notes_of edges))) starts room (k + 1) n (omega arith) (omega arith),
+      );
   are = λ k below. subst (λ xs. AreArcsBy (JoinsOther edges) k xs) (sym (rows k below)) (row_is edges k);
   limits = limits;
 }

@@ -1,10 +1,10 @@
 -- The least weight of a walk is found: whether a walk of a weight is there can be tested, since each edge weighs
 -- something, and none of least weight visits a node twice.
 use Rattle.std.proofs.Common.{◌≡◌, ℕ, zero, suc, ◌+◌, ◌-◌, ◌<◌, ◌≤◌, Bool, true, false, List, [], ◌∷◌, length, refl, sym, subst, inl, inr, arith, below_more, ◌∙◌, add-one}
-use Rattle.std.specs.Prelude.{All, ◌==◌, ◌&&◌, ◌||◌, ◌⊎◌, nat_le}
+use Rattle.std.specs.Prelude.{All, ◌==◌, ◌&&◌, ◌||◌, nat_le}
 use Rattle.std.specs.Prelude.{◌*◌, cond, ltb}
 use Rattle.std.specs.List.{list_any}
-use Rattle.std.proofs.lemmas.Bool.{cases_Bool, cases_eq, cases_lt, eqb-true, eq-eqb, false≢true}
+use Rattle.std.proofs.lemmas.Bool.{cases_Bool, cases_eq, cases_lt, eqb-true, eq-eqb, false≢true, and_parts, or_cases, or_right, and_from, or_left}
 use Rattle.std.proofs.lemmas.Bool.Decides.{nat_tests}
 use Rattle.std.proofs.lemmas.List.Folds.{Any-from_list_any, list_any_at}
 use Rattle.net_graph.specs.declared.edge.Edge.{Edge}
@@ -16,18 +16,6 @@ use Rattle.net_graph.specs.Walks.{Joins, make_edge, Step, IsWalk, weight_of, IsW
 use Rattle.net_graph.specs.WalkLaws.{join_edge, least_weight_one}
 
 -- ---- tests
-
-both : (a b : Bool) → (a && b) ≡ true → (a ≡ true) × (b ≡ true)
-both true b e = (refl, e)
-both false b e = absurd cc
-
-either : (a b : Bool) → (a || b) ≡ true → (a ≡ true) ⊎ (b ≡ true)
-either true b e = inl refl
-either false b e = inr e
-
-or_right : (a b : Bool) → b ≡ true → (a || b) ≡ true
-or_right true b e = refl
-or_right false b e = e
 
 -- ---- what is tested is there
 
@@ -45,8 +33,8 @@ leads : (edges : List Edge) (inside : ℕ → Bool) (v k m u from to w : ℕ)
     → inside u ≡ true → Joins edges from to w → leads_on (reaches edges inside v k) m u from to w ≡ true
     → IsWalkWeight edges inside u v m
 leads edges inside v k m u from to w there is_inside joined e =
-    let first = both (from == u) (nat_le w m && reaches edges inside v k (m - w) to) e in
-    let second = both (nat_le w m) (reaches edges inside v k (m - w) to) first.1 in
+    let first = and_parts (from == u) (nat_le w m && reaches edges inside v k (m - w) to) e in
+    let second = and_parts (nat_le w m) (reaches edges inside v k (m - w) to) first.1 in
     let le : w ≤ m = grind (arith, nat_tests, second.0) in
     step_first edges inside u to v w m is_inside (subst (λ x. Joins edges x to w) (eqb-true from u first.0) joined) le
     (there (m - w) to second.1)
@@ -54,7 +42,7 @@ leads edges inside v k m u from to w there is_inside joined e =
 reached_here : (edges : List Edge) (inside : ℕ → Bool) (u v m : ℕ) → inside u ≡ true → (m == 0 && u == v) ≡ true
     → IsWalkWeight edges inside u v m
 reached_here edges inside u v m is_inside e =
-    let parts = both (m == 0) (u == v) e in
+    let parts = and_parts (m == 0) (u == v) e in
     record { steps = []; walk = (is_inside, eqb-true u v parts.1); sum = sym (eqb-true m 0 parts.0) }
 
 reaches-sound : (edges : List Edge) (inside : ℕ → Bool) (v k m u : ℕ) → reaches edges inside v k m u ≡ true
@@ -65,13 +53,13 @@ reaches-sound edges inside v (suc k) m u e =
     let goes = reaches edges inside v k in
     let test : Edge → Bool = λ edge. leads_on goes m u edge.a edge.b edge.weight || leads_on goes m u edge.b edge.a
     edge.weight in
-    let outer = both (inside u) ((m == 0 && u == v) || list_any test edges) e in
-    elim (either (m == 0 && u == v) (list_any test edges) outer.1) [
+    let outer = and_parts (inside u) ((m == 0 && u == v) || list_any test edges) e in
+    elim (or_cases (m == 0 && u == v) (list_any test edges) outer.1) [
       | inl here ↦ reached_here edges inside u v m outer.0 here
       | inr far ↦
           let found = Any-from_list_any test edges far in
           let edge = found.1 in
-          elim (either (leads_on goes m u edge.a edge.b edge.weight) (leads_on goes m u edge.b edge.a edge.weight)
+          elim (or_cases (leads_on goes m u edge.a edge.b edge.weight) (leads_on goes m u edge.b edge.a edge.weight)
           found.4) [
             | inl on ↦ leads edges inside v k m u edge.a edge.b edge.weight (reaches-sound edges inside v k) outer.0
                 (inl (found.0, found.2, found.3)) on
@@ -82,21 +70,13 @@ reaches-sound edges inside v (suc k) m u e =
 
 -- ---- what is there is tested
 
-true_both : (a b : Bool) → a ≡ true → b ≡ true → (a && b) ≡ true
-true_both true b p q = q
-true_both false b p q = absurd cc
-
-true_either : (a b : Bool) → a ≡ true → (a || b) ≡ true
-true_either true b p = refl
-true_either false b p = absurd cc
-
 leads_on-true : (goes : ℕ → ℕ → Bool) (m u to w rest : ℕ) → m ≡ w + rest → goes rest to ≡ true
     → leads_on goes m u u to w ≡ true
 leads_on-true goes m u to w rest sum e =
     let le : nat_le w m ≡ true = grind (arith, nat_tests) in
     let left : m - w ≡ rest = omega arith in
-    true_both (u == u) (nat_le w m && goes (m - w) to) (eq-eqb u u refl)
-    (true_both (nat_le w m) (goes (m - w) to) le (rw left e))
+    and_from (u == u) (nat_le w m && goes (m - w) to) (eq-eqb u u refl)
+    (and_from (nat_le w m) (goes (m - w) to) le (rw left e))
 
 -- an edge of the list that joins the nodes passes the test
 edge_passes : (edges : List Edge) (goes : ℕ → ℕ → Bool) (m u x w rest : ℕ) → Joins edges u x w → m ≡ w + rest
@@ -106,7 +86,7 @@ edge_passes edges goes m u x w rest (inl h) sum e =
     list_any_at (λ e. leads_on goes m u e.a e.b e.weight || leads_on goes m u e.b e.a e.weight) edges h.0
     (make_edge u x w) h.1
     (subst (λ (d : Edge). (leads_on goes m u d.a d.b d.weight || leads_on goes m u d.b d.a d.weight) ≡ true) (sym h.2)
-    (true_either (leads_on goes m u u x w) (leads_on goes m u x u w) (leads_on-true goes m u x w rest sum e)))
+    (or_left (leads_on goes m u u x w) (leads_on goes m u x u w) (leads_on-true goes m u x w rest sum e)))
 edge_passes edges goes m u x w rest (inr h) sum e =
     list_any_at (λ e. leads_on goes m u e.a e.b e.weight || leads_on goes m u e.b e.a e.weight) edges h.0
     (make_edge x u w) h.1
@@ -119,12 +99,12 @@ reaches-whole : (edges : List Edge) (inside : ℕ → Bool) (u : ℕ) (steps : L
 unfolding reaches
 reaches-whole edges inside u steps v zero walk lt = absurd (omega arith)
 reaches-whole edges inside u [] v (suc k) walk lt =
-    true_both (inside u) _ walk.0 (true_either (0 == 0 && u == v) _
-    (true_both (0 == 0) (u == v) refl (eq-eqb u v walk.1)))
+    and_from (inside u) _ walk.0 (or_left (0 == 0 && u == v) _
+    (and_from (0 == 0) (u == v) refl (eq-eqb u v walk.1)))
 reaches-whole edges inside u (step ∷ steps) v (suc k) walk lt =
     let goes = reaches edges inside v k in
     let m = step.weight + weight_of steps in
-    true_both (inside u) _ walk.0 (or_right (m == 0 && u == v) _
+    and_from (inside u) _ walk.0 (or_right (m == 0 && u == v) _
     (edge_passes edges goes m u step.node step.weight (weight_of steps) walk.1 refl
     (reaches-whole edges inside step.node steps v k walk.2 (omega arith))))
 

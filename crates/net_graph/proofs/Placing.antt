@@ -1,24 +1,20 @@
 -- The arcs of each node, while they are counted and written into their places.
-use Rattle.std.proofs.Common.{◌≡◌, ◌≢◌, ℕ, zero, suc, ◌+◌, ◌-◌, ◌<◌, ◌≤◌, List, [], ◌∷◌, ◌++◌, length, get_or, set, take, drop}
-use Rattle.std.proofs.Common.{refl, sym, ◌∙◌, ap, subst, inl, inr, arith, add-zero, append_assoc}
-use Rattle.std.proofs.lemmas.Bool.{cases_eq, cases_lt}
-use Rattle.std.proofs.lemmas.List.{get_or-set_same, get_or-set_other, get_or-drop, get_or-take, get_or_append_left}
-use Rattle.std.proofs.lemmas.List.{get_or_push, length-append, length-drop, length-set, length-take-le, length_push}
+use Rattle.std.proofs.Common.{◌≡◌, ◌≢◌, ℕ, ◌+◌, ◌-◌, ◌<◌, ◌≤◌, List, [], ◌∷◌, ◌++◌, length, get_or, set, take, drop}
+use Rattle.std.proofs.Common.{refl, sym, ◌∙◌, ap, subst, inl, inr, arith, append_assoc}
+use Rattle.std.proofs.lemmas.Bool.{cases_eq}
+use Rattle.std.proofs.lemmas.List.{get_or-set_same, get_or-set_other, get_or-drop, get_or-take}
+use Rattle.std.proofs.lemmas.List.{length-append, length-drop, length-set, length-take-le}
 use Rattle.std.specs.Prelude.{All}
 use Rattle.std.proofs.lemmas.Grind.{flat_map-append}
 use Rattle.std.proofs.lemmas.List.{same_lists, take-append-drop, append-nil}
 use Rattle.std.proofs.lemmas.List.Elements.{All-set}
-use Rattle.std.proofs.Math.Seq.{take-append_seam}
 use Rattle.net_graph.specs.declared.edge.Edge.{Edge}
 use Rattle.net_graph.specs.declared.neighbours.Arc.{Arc}
 use Rattle.net_graph.specs.Layout.{IsArc, row}
-use Rattle.net_graph.specs.Notes.{Note, note_of, notes_by, notes_of, row_of, AreCounts, AreFilled, AreStarts, HaveRoom}
+use Rattle.net_graph.specs.Notes.{Note, note_of, notes_by, notes_of, row_of, AreCounts, AreFilled, HaveRoom}
 use Rattle.net_graph.proofs.Noting.{row-append, row-own, row-other, edge-notes, loop-notes, notes-push}
-
--- a list that was written over whole
-pub written : {A : Type 0} (n : ℕ) (new old : List A) → length new ≡ length old → n ≡ length old
-    → take n (new ++ drop (length new) old) ≡ new
-written n new old same whole = let e : n ≡ length new = whole ∙ sym same in rw (e, take-append_seam) refl
+use Rattle.net_graph.specs.Starts.{AreStarts}
+use Rattle.net_graph.specs.StartLaws.{places_made, places_within, places_apart, starts_rise}
 
 -- ---- counts
 
@@ -70,102 +66,14 @@ none_more edges i d below same =
     ∙ ap (λ xs. notes_of (take i edges) ++ xs) (loop-notes (get_or edges i d) same)
     ∙ append-nil (notes_of (take i edges))
 
--- ---- starts
-
-pub no_starts : (starts : List ℕ) → starts ≡ 0 ∷ [] → AreStarts [] starts
-no_starts starts is = rw is (record { count = refl; each = λ v below. omega arith })
-
-module _ (counts starts : List ℕ) (i sum : ℕ) (short : i < length counts) (before : AreStarts (take i counts) starts)
-    (last : get_or starts i 0 ≡ sum) where
-  counted : length (take i counts) ≡ i
-  counted = length-take-le i counts (omega arith)
-
-  pub last_start : (next : List ℕ) → next ≡ starts ++ (sum + get_or counts i 0) ∷ []
-      → get_or next (i + 1) 0 ≡ sum + get_or counts i 0
-  last_start next is =
-      ap (λ xs. get_or xs (i + 1) 0) is
-      ∙ get_or_push starts (sum + get_or counts i 0) 0 (i + 1) (omega (arith, before.count, counted))
-
-  pub one_start : (next : List ℕ) → next ≡ starts ++ (sum + get_or counts i 0) ∷ []
-      → AreStarts (take (i + 1) counts) next
-  one_start next is = rw is (record {
-    count =
-        omega (
-          arith,
-          length_push starts (sum + get_or counts i 0),
-          before.count,
-          counted,
-          length-take-le (i + 1) counts (omega arith),
-        );
-    each = λ v below.
-        let fits : v < i + 1 = omega (arith, below, length-take-le (i + 1) counts (omega arith)) in
-        let kept : (k : ℕ) → k ≤ i → get_or (starts ++ (sum + get_or counts i 0) ∷ []) k 0 ≡ get_or starts k 0
-        = λ k low. get_or_append_left starts ((sum + get_or counts i 0) ∷ []) 0 k (omega (arith, before.count, counted))
-        in
-        let taken : get_or (take (i + 1) counts) v 0 ≡ get_or counts v 0 = get_or-take (i + 1) counts v 0 fits in
-        elim (cases_lt v i) [
-          | inl less ↦
-              omega (
-                arith,
-                kept v (omega arith),
-                kept (v + 1) (omega arith),
-                before.each v (omega (arith, counted)),
-                get_or-take i counts v 0 less,
-                taken,
-              )
-          | inr over ↦
-              let same : v ≡ i = omega arith in
-              subst (λ k. get_or (starts ++ (sum + get_or counts i 0) ∷ []) (k + 1) 0
-              ≡ get_or (starts ++ (sum + get_or counts i 0) ∷ []) k 0 + get_or (take (i + 1) counts) k 0) (sym same)
-              (omega (
-                arith,
-                kept i (omega arith),
-                last,
-                last_start (starts ++ (sum + get_or counts i 0) ∷ []) refl,
-                get_or-take (i + 1) counts i 0 (omega arith),
-              ))
-        ];
-  })
-
 pub room_made : (n : ℕ) (notes : List Note) (counts starts : List ℕ) → length counts ≡ n → AreCounts notes counts
     → AreStarts counts starts → HaveRoom n notes starts
-room_made n notes counts starts whole counted sums = record {
-  count = omega (arith, sums.count, whole);
-  each = λ v below. let short : v < length counts = omega (arith, below, whole) in
-      sums.each v short ∙ ap (λ k. get_or starts v 0 + k) (counted v short);
-}
+room_made n notes counts starts whole counted sums = places_made n (λ v. length (row_of v notes)) counts starts whole
+    counted sums
 
 -- ---- places
 
 module _ (n : ℕ) (all : List Note) (starts : List ℕ) (room : HaveRoom n all starts) where
-  rise_by : (v k : ℕ) → v + k ≤ n → get_or starts v 0 ≤ get_or starts (v + k) 0
-  rise_by v zero short = subst (λ (i : ℕ). get_or starts v 0 ≤ get_or starts i 0) (sym (add-zero v)) (omega arith)
-  rise_by v (suc k) short =
-      let e : v + k + 1 ≡ v + suc k = omega arith in
-      subst (λ (i : ℕ). get_or starts v 0 ≤ get_or starts i 0) e
-      (omega (arith, rise_by v k (omega arith), room.each (v + k) (omega arith)))
-
-  pub starts_rise : (u v : ℕ) → u ≤ v → v ≤ n → get_or starts u 0 ≤ get_or starts v 0
-  starts_rise u v order short =
-      let e : u + (v - u) ≡ v = omega arith in
-      subst (λ (i : ℕ). get_or starts u 0 ≤ get_or starts i 0) e (rise_by u (v - u) (omega arith))
-
-  -- the places of two nodes are different
-  apart : (u v i j : ℕ) → u < n → v < n → (u ≡ v → ⊥) → i < length (row_of u all) → j < length (row_of v all)
-      → get_or starts u 0 + i ≡ get_or starts v 0 + j → ⊥
-  apart u v i j u_below v_below other i_short j_short same = elim (cases_lt u v) [
-    | inl less ↦
-        omega (arith, same, room.each u u_below, starts_rise (u + 1) v (omega arith) (omega arith), i_short)
-    | inr over ↦
-        omega (
-          arith,
-          same,
-          room.each v v_below,
-          starts_rise (v + 1) u (omega (arith, over, other)) (omega arith),
-          j_short,
-        )
-  ]
-
   module _ (first rest : List Note) (note : Note) (whole : all ≡ first ++ note ∷ rest) (below : note.from < n)
       (taken : List ℕ) (long : length taken ≡ n) (counts : AreCounts first taken) where
     row_splits : (v : ℕ) → row_of v all ≡ row_of v first ++ row_of v (note ∷ rest)
@@ -203,8 +111,8 @@ module _ (n : ℕ) (all : List Note) (starts : List ℕ) (room : HaveRoom n all 
 
     -- the place of the next arc
     pub place_within : get_or starts note.from 0 + get_or taken note.from 0 < get_or starts n 0
-    place_within =
-        omega (arith, room.each note.from below, starts_rise (note.from + 1) n (omega arith) (omega arith), free)
+    place_within = places_within n (λ v. length (row_of v all)) starts room note.from (get_or taken note.from 0) below
+        free
 
     -- one arc more is in its place
     pub one_filled : (arcs : List Arc) → length arcs ≡ get_or starts n 0 → AreFilled all starts taken arcs
@@ -224,8 +132,8 @@ module _ (n : ℕ) (all : List Note) (starts : List ℕ) (room : HaveRoom n all 
               in
               get_or-set_other arcs (get_or starts note.from 0 + get_or taken note.from 0) (get_or starts v 0 + place)
               note.arc d
-              (apart v note.from place (get_or taken note.from 0) (omega (arith, old, long)) below other
-              (omega (arith, low, fits v (omega (arith, old, long)))) free)
+              (places_apart n (λ u. length (row_of u all)) starts room v note.from place (get_or taken note.from 0)
+              (omega (arith, old, long)) below other (omega (arith, low, fits v (omega (arith, old, long)))) free)
               ∙ before v place d old low
         ]
       where
@@ -263,7 +171,7 @@ module _ (n : ℕ) (all : List Note) (starts : List ℕ) (room : HaveRoom n all 
         arith,
         length-drop (get_or starts v 0) arcs,
         sized,
-        starts_rise (v + 1) n (omega arith) (omega arith),
+        starts_rise n (λ u. length (row_of u all)) starts room (v + 1) n (omega arith) (omega arith),
       )) in
       same_lists (row starts arcs v) (row_of v all)
       (omega (arith, wide, room.each v below))

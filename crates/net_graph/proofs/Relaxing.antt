@@ -1,5 +1,5 @@
 -- What one step of the search does to the weights.
-use Rattle.std.proofs.Common.{◌≡◌, ◌⊎◌, ◌≢◌, ◌++◌, take, get_or, ℕ, ◌+◌, ◌<◌, ◌≤◌, Bool, true, false, List, [], ◌∷◌, Option, None, Some, length, set, refl, sym, ◌∙◌, ap, subst, inl, inr, arith}
+use Rattle.std.proofs.Common.{◌≡◌, ◌≢◌, ◌++◌, take, get_or, ℕ, ◌+◌, ◌<◌, ◌≤◌, Bool, true, false, List, [], ◌∷◌, Option, None, Some, length, set, refl, sym, ◌∙◌, ap, subst, inl, inr, arith}
 use Rattle.std.specs.Prelude.{Contains, IsPermutation}
 use Rattle.std.proofs.lemmas.List.{length-set, get_or-set_same, get_or-set_other, get_or_past}
 use Rattle.std.proofs.lemmas.Bool.{cases_eq, cases_lt}
@@ -13,17 +13,14 @@ use Rattle.net_graph.specs.Search.{IsLighter, IsRelaxed}
 use Rattle.std.proofs.lemmas.List.Sorted.{Contains-permutation, IsPermutation-sym}
 use Rattle.std.proofs.lemmas.List.Elements.{Contains-append_left, Contains-append_right, Contains-append_cases}
 use Rattle.std.proofs.lemmas.List.{take_more}
-use Rattle.net_graph.proofs.Elements.{first, first_or_later, later, some_same}
+use Rattle.net_graph.proofs.Elements.{first, first_or_later, later}
+use Rattle.std.proofs.lemmas.Option.{same_Some}
 
 pub among_below : (allowed : List Bool) (v : ℕ) → among allowed v ≡ true → v < length allowed
 among_below allowed v h = elim (cases_lt v (length allowed)) [
   | inl below ↦ below
   | inr past ↦ let both : false ≡ true = sym (get_or_past allowed v false past) ∙ h in cc
 ]
-
-pub true_or_false : (b : Bool) → (b ≡ true) ⊎ (b ≡ false)
-true_or_false true = inl refl
-true_or_false false = inr refl
 
 lighter_falls : (through w : ℕ) (weight : Option ℕ) → IsLighter through weight → IsAtMost weight w → through ≤ w
 lighter_falls through w None lighter h = absurd h
@@ -91,7 +88,7 @@ module _ (arc : Arc) (x : ℕ) (unsettled : List Bool) (old : List (Option ℕ))
         by = arc.weight;
         arc = subst (λ i. Contains (arc ∷ []) (make_arc i arc.weight)) (sym same) (first arc []);
         waits = ap (among unsettled) same ∙ waits;
-        sum = some_same w (x + arc.weight) (sym here ∙ ap (at_node lowered) same ∙ here_now);
+        sum = same_Some w (x + arc.weight) (sym here ∙ ap (at_node lowered) same ∙ here_now);
       })
       | inr other ↦ inl (sym (other_now v other) ∙ here)
     ];
@@ -111,7 +108,7 @@ module _ (arc : Arc) (x : ℕ) (unsettled : List Bool) (old : List (Option ℕ))
         (later (make_waiting w v) (make_waiting (x + arc.weight) arc.target) waited has);
     joined = λ v w here. elim (cases_eq v arc.target) [
       | inl same ↦ inr (subst (λ i. Contains waiting (make_waiting i v))
-          (sym (some_same w (x + arc.weight) (sym here ∙ ap (at_node lowered) same ∙ here_now)))
+          (sym (same_Some w (x + arc.weight) (sym here ∙ ap (at_node lowered) same ∙ here_now)))
           (subst (λ i. Contains waiting (make_waiting (x + arc.weight) i)) (sym same) joins))
       | inr other ↦ inl (sym (other_now v other) ∙ here)
     ];

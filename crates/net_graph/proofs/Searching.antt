@@ -5,7 +5,7 @@ use Rattle.std.specs.List.{count_by}
 use Rattle.std.proofs.lemmas.List.{length-set, get_or-set_same, get_or-set_other, get_or_past, get_or-replicate, length-replicate, take_at}
 use Rattle.std.proofs.lemmas.List.Elements.{All-contains}
 use Rattle.std.proofs.lemmas.List.Sums.{sum_by-set, count_by-le-length}
-use Rattle.std.proofs.lemmas.Bool.{cases_eq, cases_lt}
+use Rattle.std.proofs.lemmas.Bool.{cases_eq, cases_lt, cases_Bool}
 use Rattle.net_graph.specs.declared.edge.TheConstants.{MAX_NODES, MAX_WEIGHT}
 use Rattle.net_graph.specs.declared.neighbours.Arc.{Arc}
 use Rattle.net_graph.specs.declared.queue.Candidate.{Candidate}
@@ -20,8 +20,8 @@ use Rattle.std.specs.Prelude.{IsPermutation}
 use Rattle.std.proofs.lemmas.List.Sorted.{Contains-permutation, IsPermutation-sym}
 use Rattle.net_graph.specs.WalkLaws.{walk_further, walk_begins}
 use Rattle.net_graph.proofs.Lowering.{at_most_trans, at_most_some}
-use Rattle.net_graph.proofs.Relaxing.{among_below, true_or_false}
-use Rattle.net_graph.proofs.Elements.{some_same}
+use Rattle.net_graph.proofs.Relaxing.{among_below}
+use Rattle.std.proofs.lemmas.Option.{same_Some, none-some}
 
 -- how many nodes are unsettled
 abbrev pub unsettled_count : List Bool → ℕ
@@ -57,16 +57,13 @@ pub record IsQueue (unsettled : List Bool) (weights : List (Option ℕ)) (waitin
   pub light : (w v : ℕ) → Contains waiting (make_waiting w v) → among unsettled v ≡ true
       → IsAtMost (at_node weights v) w
 
-none_is_not_some : (w : ℕ) → None ≡ Some w → ⊥
-none_is_not_some w h = cc
-
 true_is_not_false : (b : Bool) → b ≡ true → b ≡ false → ⊥
 true_is_not_false b h k = let both : true ≡ false = sym h ∙ k in cc
 
 none_there : (n v w : ℕ) → get_or (replicate n None) v None ≡ Some w → ⊥
 none_there n v w here = elim (cases_lt v n) [
-  | inl below ↦ none_is_not_some w (sym (get_or-replicate n v None None below) ∙ here)
-  | inr past ↦ none_is_not_some w (sym (get_or_past (replicate n None) v None
+  | inl below ↦ none-some w (sym (get_or-replicate n v None None below) ∙ here)
+  | inr past ↦ none-some w (sym (get_or_past (replicate n None) v None
       (omega (arith, length-replicate {A = Option ℕ} n None))) ∙ here)
 ]
 
@@ -76,7 +73,7 @@ only_root n root v w here = elim (cases_lt root n) [
   | inl below ↦ elim (cases_eq v root) [
     | inl same ↦ (
       same,
-      sym (some_same 0 w
+      sym (same_Some 0 w
           (sym (get_or-set_same (replicate n None) root (Some 0) None
           (omega (arith, length-replicate {A = Option ℕ} n None)))
           ∙ sym (ap (at_node (set (replicate n None) root (Some 0))) same) ∙ here)),
@@ -85,7 +82,7 @@ only_root n root v w here = elim (cases_lt root n) [
         ∙ here))
   ]
   | inr past ↦ elim (cases_eq v root) [
-    | inl same ↦ absurd (none_is_not_some w (sym (get_or_past (set (replicate n None) root (Some 0)) v None
+    | inl same ↦ absurd (none-some w (sym (get_or_past (set (replicate n None) root (Some 0)) v None
         (omega (
           arith,
           length-set {A = Option ℕ} (replicate n None) root (Some 0),
@@ -167,10 +164,10 @@ module _ (network : Network) (inside : ℕ → Bool) (root : ℕ) (unsettled : L
         elim (settled_now unsettled best.node u is_settled) [
           | inr old ↦ r.falls v (w + c) (so_far.closed u v w c old before inner joined)
           | inl same ↦
-              let w_is : best.weight ≡ w = some_same best.weight w
+              let w_is : best.weight ≡ w = same_Some best.weight w
               (sym lightest.weighs ∙ sym (ap (at_node weights) same) ∙ before) in
               let from : Joins network.edges best.node v c = subst (λ i. Joins network.edges i v c) same joined in
-              elim (true_or_false (among (set unsettled best.node false) v)) [
+              elim (cases_Bool (among (set unsettled best.node false) v)) [
                 | inl waits ↦ subst (λ i. IsAtMost (at_node new v) (i + c)) w_is
                     (r.reached v c (of_node.whole v c from) waits)
                 | inr gone ↦ subst (λ o. IsAtMost o (w + c)) (sym (r.kept v gone))
@@ -198,7 +195,7 @@ module _ (network : Network) (inside : ℕ → Bool) (root : ℕ) (unsettled : L
         let light : x ≤ best.weight = elim (settled_now unsettled best.node u is_settled) [
           | inl same ↦ omega (
             arith,
-            some_same best.weight x
+            same_Some best.weight x
                 (sym lightest.weighs ∙ sym (ap (at_node weights) same) ∙ before),
           )
           | inr old ↦ so_far.lightest u best.node x best.weight old before lightest.waits lightest.weighs
@@ -359,7 +356,7 @@ module _ (network : Network) (inside : ℕ → Bool) (root : ℕ) (unsettled : L
     (so_far : IsSearch network inside root unsettled weights)
     (waiting : List Waiting) (queue : IsQueue unsettled weights waiting) (none : AreSettled unsettled waiting) where
   weighed_is_settled : (u w : ℕ) → at_node weights u ≡ Some w → among unsettled u ≡ false
-  weighed_is_settled u w here = elim (true_or_false (among unsettled u)) [
+  weighed_is_settled u w here = elim (cases_Bool (among unsettled u)) [
     | inl waits ↦ absurd (none w u (queue.whole u w waits here) waits)
     | inr gone ↦ gone
   ]

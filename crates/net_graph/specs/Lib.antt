@@ -9,4 +9,6 @@ pub mod Search
 pub mod Parents
 pub mod WalkLaws
 pub mod Queue
+pub mod Starts
+pub mod StartLaws
 pub mod Notes

@@ -6,6 +6,7 @@ use Rattle.std.specs.List.{flat_map}
 use Rattle.net_graph.specs.declared.edge.Edge.{Edge}
 use Rattle.net_graph.specs.declared.neighbours.Arc.{Arc}
 use Rattle.net_graph.specs.Walks.{Joins}
+use Rattle.net_graph.specs.Starts.{HavePlaces}
 use Rattle.net_graph.specs.Layout.{IsArc, make_arc, row}
 
 -- an arc, and the node that it leads from
@@ -37,16 +38,8 @@ AreCounts notes counts = (v : ℕ) → v < length counts
     → slice_index counts v ≡ length (row_of v notes)
 
 -- from its start on each of n nodes has a place for each of its arcs
-pub record HaveRoom (n : ℕ) (notes : List Note) (starts : List ℕ) : Type 0 where
-  pub count : length starts ≡ n + 1
-  pub each : (v : ℕ) → v < n
-      → slice_index starts (v + 1) ≡ slice_index starts v + length (row_of v notes)
-
--- the sums of the counts before each node, and of all
-pub record AreStarts (counts starts : List ℕ) : Type 0 where
-  pub count : length starts ≡ length counts + 1
-  pub each : (v : ℕ) → v < length counts
-      → slice_index starts (v + 1) ≡ slice_index starts v + slice_index counts v
+abbrev pub HaveRoom : ℕ → List Note → List ℕ → Type 0
+HaveRoom n notes starts = HavePlaces n (λ v. length (row_of v notes)) starts
 
 -- the first so many arcs of each node are in their places
 abbrev pub AreFilled : List Note → List ℕ → List ℕ → List Arc → Type 0

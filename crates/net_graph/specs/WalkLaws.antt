@@ -169,17 +169,17 @@ least_widened n edges inside other all there back u v w below p = record {
       (walk_widened n edges other inside all back u steps v below walk);
 }
 
-everywhere_true : (allowed : List Bool) (n : ℕ) → length allowed ≡ n → All (λ x. x ≡ true) allowed
+everywhere-true : (allowed : List Bool) (n : ℕ) → length allowed ≡ n → All (λ x. x ≡ true) allowed
     → (x : ℕ) → x < n → everywhere x ≡ true → among allowed x ≡ true
-everywhere_true allowed n count all x below h = all x false (omega arith)
+everywhere-true allowed n count all x below h = all x false (omega arith)
 
 pub least_everywhere : (n : ℕ) (edges : List Edge) (allowed : List Bool) (u v w : ℕ)
     → All (IsEdge n) edges → length allowed ≡ n → All (λ x. x ≡ true) allowed → u < n
     → IsLeastWeight edges (among allowed) u v w ↔ IsLeastWeight edges everywhere u v w
 least_everywhere n edges allowed u v w all count true_all below = (
   least_widened n edges (among allowed) everywhere all (λ x b h. refl)
-      (everywhere_true allowed n count true_all) u v w below,
-  least_widened n edges everywhere (among allowed) all (everywhere_true allowed n count true_all)
+      (everywhere-true allowed n count true_all) u v w below,
+  least_widened n edges everywhere (among allowed) all (everywhere-true allowed n count true_all)
       (λ x b h. refl) u v w below,
 )
 
@@ -188,7 +188,7 @@ pub unreached_everywhere : (n : ℕ) (edges : List Edge) (allowed : List Bool) (
     → IsUnreached edges (among allowed) u v ↔ IsUnreached edges everywhere u v
 unreached_everywhere n edges allowed u v all count true_all below = (
   λ none steps walk. none steps (walk_widened n edges everywhere (among allowed) all
-      (everywhere_true allowed n count true_all) u steps v below walk),
+      (everywhere-true allowed n count true_all) u steps v below walk),
   λ none steps walk. none steps (walk_widened n edges (among allowed) everywhere all
       (λ x b h. refl) u steps v below walk),
 )

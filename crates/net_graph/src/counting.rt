@@ -4,7 +4,8 @@
 ghost use Rattle.std.specs.Prelude.{◌≡◌, ◌+◌, ◌<◌, ◌≤◌, [], All, IfOk, length, slice_index, slice_set};
 ghost use Rattle.net_graph.specs.Layout.{IsArc, make_arc};
 ghost use Rattle.net_graph.specs.Network.{IsEdge};
-ghost use Rattle.net_graph.specs.Notes.{AreCounts, AreRows, AreStarts, HaveRoom, JoinsOther, notes_of};
+ghost use Rattle.net_graph.specs.Notes.{AreCounts, AreRows, HaveRoom, JoinsOther, notes_of};
+ghost use Rattle.net_graph.specs.Starts.{AreStarts};
 
 use crate::edge::Edge;
 use crate::neighbours::Arc;

@@ -1,6 +1,5 @@
 -- The scripts of what was said are courses of subscribers and searches of callers, line by line.
 use Rattle.std.proofs.Common.{◌≡◌, ℕ, ◌<◌, ◌≤◌, Bool, true, false, eqb, List, [], ◌∷◌, ◌++◌, length, length-append, All, Ok, get_or, refl, sym, ap, subst, arith}
-use Rattle.std.proofs.lemmas.Bool.Decides.{nat_tests}
 use Rattle.std.proofs.lemmas.List.Elements.{All-append, All-cons, All-nil}
 use Rattle.net_reader.specs.declared.said.Call.{Call}
 use Rattle.net_reader.specs.declared.said.Call.TheVariants as acts
@@ -13,6 +12,7 @@ use Rattle.net_reader.specs.Valid.{IsCourse, IsSearch}
 use Rattle.net_reader.proofs.Heard.{Heard, heard, with_call as call_said}
 use Rattle.net_reader.proofs.Measured.{at-1, at-2, at-3, at-4, at-5, at-6, at-7}
 use Rattle.net_reader.proofs.Standing.{make, with_call, script_of-push}
+use Rattle.std.proofs.lemmas.Bool.{eqb-true}
 
 -- one call more of a course
 pub course-push : (format n here : ℕ) (off : Bool) (script : List Call) (call : Call)
@@ -90,12 +90,9 @@ call-kept said actor call m early few course search = record {
   order = m.order;
 }
 
-same : (x y : ℕ) → eqb x y ≡ true → x ≡ y
-same x y e = grind (arith, nat_tests)
-
 -- a subscriber's call is none of a caller's
 no-caller : (sub n subs a : ℕ) (call : Call) → sub < subs → subs ≤ a → eqb sub a ≡ true → IsSearch n subs call
-no-caller sub n subs a call lt le e = let is = same sub a e in absurd (omega (arith, is, lt, le))
+no-caller sub n subs a call lt le e = let is = eqb-true sub a e in absurd (omega (arith, is, lt, le))
 
 calling-heard : (said found : Said) (word : Word) → IsCalling said → may_stand said.place (place_of_word word) ≡ true
     → Heard said word found → IsCalling found
@@ -149,7 +146,7 @@ calling-heard said found words.Move m p h =
     → IsCourse said.format said.nodes (place_after (get_or said.homes s 0) (script_of s said.calls)) (off_after
     false (script_of s said.calls)) (acts.Move to ∷ []) = λ s below e.
     subst (λ (x : ℕ). IsCourse said.format said.nodes (place_after (get_or said.homes x 0) (script_of x said.calls))
-    (off_after false (script_of x said.calls)) (acts.Move to ∷ [])) (same sub s e) (is.3, is.2, is.4, tt) in
+    (off_after false (script_of x said.calls)) (acts.Move to ∷ [])) (eqb-true sub s e) (is.3, is.2, is.4, tt) in
     subst IsCalling h.3 (call-kept said sub (acts.Move to) m (at-7 said.place p) is.0 course (λ a above e. no-caller
     sub said.nodes (length said.homes) a (acts.Move to) is.1 above e))
 calling-heard said found words.Find m p h =
@@ -158,7 +155,7 @@ calling-heard said found words.Find m p h =
     let none : (s : ℕ) → s < length said.homes → eqb caller s ≡ true
     → IsCourse said.format said.nodes (place_after (get_or said.homes s 0) (script_of s said.calls)) (off_after
     false (script_of s said.calls)) (acts.Find h.1 h.2 ∷ []) = λ s below e.
-    let found = same caller s e in absurd (omega (arith, found, below, is.1)) in
+    let found = eqb-true caller s e in absurd (omega (arith, found, below, is.1)) in
     subst IsCalling h.4 (call-kept said caller (acts.Find h.1 h.2) m (at-7 said.place p) is.0 none (λ a above e. (
       is.3,
       is.4,
@@ -170,7 +167,7 @@ calling-heard said found words.Off m p h =
     → IsCourse said.format said.nodes (place_after (get_or said.homes s 0) (script_of s said.calls)) (off_after
     false (script_of s said.calls)) (acts.Off ∷ []) = λ s below e.
     subst (λ (x : ℕ). IsCourse said.format said.nodes (place_after (get_or said.homes x 0) (script_of x said.calls))
-    (off_after false (script_of x said.calls)) (acts.Off ∷ [])) (same sub s e) (is.2, is.3, tt) in
+    (off_after false (script_of x said.calls)) (acts.Off ∷ [])) (eqb-true sub s e) (is.2, is.3, tt) in
     subst IsCalling h.2 (call-kept said sub acts.Off m (at-7 said.place p) is.0 course (λ a above e. no-caller sub
     said.nodes (length said.homes) a acts.Off is.1 above e))
 calling-heard said found words.On m p h =
@@ -180,7 +177,7 @@ calling-heard said found words.On m p h =
     → IsCourse said.format said.nodes (place_after (get_or said.homes s 0) (script_of s said.calls)) (off_after
     false (script_of s said.calls)) (acts.On ∷ []) = λ s below e.
     subst (λ (x : ℕ). IsCourse said.format said.nodes (place_after (get_or said.homes x 0) (script_of x said.calls))
-    (off_after false (script_of x said.calls)) (acts.On ∷ [])) (same sub s e) (is.2, is.3, tt) in
+    (off_after false (script_of x said.calls)) (acts.On ∷ [])) (eqb-true sub s e) (is.2, is.3, tt) in
     subst IsCalling h.2 (call-kept said sub acts.On m (at-7 said.place p) is.0 course (λ a above e. no-caller sub
     said.nodes (length said.homes) a acts.On is.1 above e))
 calling-heard said found words.Order m p h =

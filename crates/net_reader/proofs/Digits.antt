@@ -10,7 +10,8 @@ use Rattle.std.specs.List.{list_all}
 use Rattle.net_reader.specs.declared.line.Open.{Open}
 use Rattle.net_reader.specs.declared.line.Open.TheVariants.{Number}
 use Rattle.net_reader.specs.Steps.{is_plain, more, more_digits}
-use Rattle.net_reader.proofs.Running.{all-append, and-both}
+use Rattle.net_reader.proofs.Running.{all-append}
+use Rattle.std.proofs.lemmas.Bool.{and_from}
 
 pub below-most : (value taken : ℕ) → value < 10 ^ taken → taken < 18 → value < 100000000000000000
 below-most value taken small few =
@@ -41,7 +42,7 @@ pub plain-more : (xs : List ℕ) (i : ℕ) → i < length xs → is_ascii_digit 
 plain-more xs i within digit plain =
     subst (λ ys. list_all is_plain ys ≡ true) (sym (take_more xs i 0 within))
     (all-append is_plain (take i xs) (get_or xs i 0 ∷ []) plain
-    (and-both (is_plain (get_or xs i 0)) true (digit-plain (get_or xs i 0) digit) refl))
+    (and_from (is_plain (get_or xs i 0)) true (digit-plain (get_or xs i 0) digit) refl))
 
 digit-read : (count value b : ℕ) → is_ascii_digit b ≡ true → count < 18 → value < 100000000000000000
     → Number (count + 1) (10 * value + (b - 48)) ≡ more (Number count value) b

@@ -11,6 +11,7 @@ use Rattle.net_reader.specs.declared.word.Word.{Word}
 use Rattle.net_reader.specs.declared.word.Word.TheVariants as words
 use Rattle.net_reader.specs.Said.{Said, subs, actors, place_of, is_off}
 use Rattle.net_reader.specs.Table.{Row, verdict, row_of, most_nodes, most_calls, sub_row, callers_row, move_row, find_row}
+use Rattle.std.proofs.lemmas.Bool.{or_parts, leb-false}
 
 -- one call more
 abbrev pub with_call : Said → ℕ → Call → Said
@@ -96,15 +97,8 @@ taken-then false row found h = cc
 positive : (n : ℕ) → eqb n 0 ≡ false → 1 ≤ n
 positive n e = grind (arith, nat_tests)
 
-below : (n m : ℕ) → leb n m ≡ false → m < n
-below n m e = grind (arith, nat_tests)
-
 at_most : (n m : ℕ) → ltb n m ≡ false → m ≤ n
 at_most n m e = grind (arith, nat_tests)
-
-one_of : (a b : Bool) → (a || b) ≡ false → (a ≡ false) × (b ≡ false)
-one_of true b e = cc
-one_of false b e = (refl, e)
 
 format-go : (one two : Bool) (n : ℕ) → eqb n 1 ≡ one → eqb n 2 ≡ two → (one || two) ≡ true → (n ≡ 1) ⊎ (n ≡ 2)
 format-go true two n e f h = inl (grind (arith, nat_tests))
@@ -138,8 +132,8 @@ all-below : (n : ℕ) (numbers : List ℕ) → list_any (λ actor. leb n actor) 
     → All (λ actor. actor < n) numbers
 all-below n [] e = All-nil (λ actor. actor < n)
 all-below n (a ∷ numbers) e =
-    let both = one_of (leb n a) (list_any (λ actor. leb n actor) numbers) e in
-    All-cons (λ actor. actor < n) a numbers (below n a both.0) (all-below n numbers both.1)
+    let both = or_parts (leb n a) (list_any (λ actor. leb n actor) numbers) e in
+    All-cons (λ actor. actor < n) a numbers (leb-false n a both.0) (all-below n numbers both.1)
 
 -- what each word's line says
 pub heard : (said found : Said) (word : Word) (ns : List ℕ) → verdict (row_of said word ns) ≡ Ok found
@@ -166,7 +160,7 @@ heard said found words.Edge (a ∷ b ∷ w ∷ []) h =
     let t = taken-if (eqb w 0) _ found h in (
       record { a = a; b = b; weight = w },
       is-edge said.nodes a b w t.0 t.1.large t.1.unknown,
-      below 32768 (length
+      leb-false 32768 (length
           said.edges) t.1.many,
       t.1.next,
     )
@@ -174,7 +168,7 @@ heard said found words.Edge (a ∷ b ∷ c ∷ d ∷ ns) h = cc
 heard said found words.Sub [] h = cc
 heard said found words.Sub (node ∷ []) h =
     let t = taken-some (sub_row said (node ∷ [])) found h in
-    (node, below said.nodes node t.unknown, below 64 (subs said) t.many, t.next)
+    (node, leb-false said.nodes node t.unknown, leb-false 64 (subs said) t.many, t.next)
 heard said found words.Sub (a ∷ b ∷ ns) h = cc
 heard said found words.Callers [] h = cc
 heard said found words.Callers (callers ∷ []) h =
@@ -185,13 +179,13 @@ heard said found words.Move [] h = cc
 heard said found words.Move (a ∷ []) h = cc
 heard said found words.Move (sub ∷ to ∷ []) h =
     let t = taken-some (move_row said (sub ∷ to ∷ [])) found h in
-    let unknown = one_of (leb (subs said) sub) (leb said.nodes to) t.unknown in (
+    let unknown = or_parts (leb (subs said) sub) (leb said.nodes to) t.unknown in (
       sub,
       to,
       (
-        below (most_calls said.format) (length said.calls) t.many,
-        below (subs said) sub unknown.0,
-        below
+        leb-false (most_calls said.format) (length said.calls) t.many,
+        leb-false (subs said) sub unknown.0,
+        leb-false
             said.nodes to unknown.1,
         t.switched,
         other (place_of said sub) to t.nowhere,
@@ -204,19 +198,19 @@ heard said found words.Find (a ∷ []) h = cc
 heard said found words.Find (a ∷ b ∷ []) h = cc
 heard said found words.Find (caller ∷ from ∷ sub ∷ []) h =
     let t = taken-some (find_row said (caller ∷ from ∷ sub ∷ [])) found h in
-    let last = one_of _ (leb (subs said) sub) t.unknown in
-    let third = one_of _ (leb said.nodes from) last.0 in
-    let second = one_of (ltb caller (subs said)) (leb (actors said) caller) third.0 in (
+    let last = or_parts _ (leb (subs said) sub) t.unknown in
+    let third = or_parts _ (leb said.nodes from) last.0 in
+    let second = or_parts (ltb caller (subs said)) (leb (actors said) caller) third.0 in (
       caller,
       from,
       sub,
       (
-        below (most_calls said.format) (length said.calls) t.many,
+        leb-false (most_calls said.format) (length said.calls) t.many,
         at_most caller (subs said)
             second.0,
-        below (actors said) caller second.1,
-        below said.nodes from third.1,
-        below (subs said) sub last.1,
+        leb-false (actors said) caller second.1,
+        leb-false said.nodes from third.1,
+        leb-false (subs said) sub last.1,
       ),
       t.next,
     )
@@ -226,8 +220,8 @@ heard said found words.Off (sub ∷ []) h =
     let t = taken-then (eqb said.format 2) _ found h in (
       sub,
       (
-        below (most_calls said.format) (length said.calls) t.1.many,
-        below (subs said) sub t.1.unknown,
+        leb-false (most_calls said.format) (length said.calls) t.1.many,
+        leb-false (subs said) sub t.1.unknown,
         two-go
             said.format t.0,
         t.1.switched,
@@ -240,8 +234,8 @@ heard said found words.On (sub ∷ []) h =
     let t = taken-then (eqb said.format 2) _ found h in (
       sub,
       (
-        below (most_calls said.format) (length said.calls) t.1.many,
-        below (subs said) sub t.1.unknown,
+        leb-false (most_calls said.format) (length said.calls) t.1.many,
+        leb-false (subs said) sub t.1.unknown,
         two-go
             said.format t.0,
         not-false (is_off said sub) t.1.switched,

@@ -1,5 +1,5 @@
 -- Runs of bytes that don't end a line, and what a line is with them.
-use Rattle.std.proofs.Common.{◌≡◌, ℕ, zero, suc, ◌-◌, ◌<◌, ◌≤◌, Bool, true, false, cond, eqb, ◌&&◌, fold, take, drop, List, [], ◌∷◌, ◌++◌, length, get_or, refl, ap, sym, ◌∙◌, arith, append_assoc, length-append, length-take, subst}
+use Rattle.std.proofs.Common.{◌≡◌, ℕ, zero, suc, ◌-◌, ◌<◌, ◌≤◌, Bool, true, false, cond, eqb, fold, take, drop, List, [], ◌∷◌, ◌++◌, length, get_or, refl, ap, sym, ◌∙◌, arith, append_assoc, length-append, length-take, subst}
 use Rattle.std.proofs.lemmas.Bool.Decides.{nat_tests}
 use Rattle.std.proofs.lemmas.List.{take-append-drop, take_all}
 use Rattle.std.proofs.lemmas.List.Sums.{fold-append}
@@ -8,22 +8,14 @@ use Rattle.net_reader.specs.declared.line.Open.{Open}
 use Rattle.net_reader.specs.declared.line.Open.TheVariants as opens
 use Rattle.net_reader.specs.Lines.{is_blank}
 use Rattle.net_reader.specs.Steps.{IsRun, LineState, close, close_as, is_inside, is_plain, keep, more, pack, put}
-
--- both are true
-pub and-left : (a b : Bool) → (a && b) ≡ true → (a ≡ true) × (b ≡ true)
-and-left true b e = (refl, e)
-and-left false b e = cc
-
-pub and-both : (a b : Bool) → a ≡ true → b ≡ true → (a && b) ≡ true
-and-both true b e f = f
-and-both false b e f = cc
+use Rattle.std.proofs.lemmas.Bool.{and_parts, and_from}
 
 pub all-append : (test : ℕ → Bool) (xs ys : List ℕ) → list_all test xs ≡ true → list_all test ys ≡ true
     → list_all test (xs ++ ys) ≡ true
 all-append test [] ys e f = f
 all-append test (x ∷ xs) ys e f =
-    let both = and-left (test x) (list_all test xs) e in
-    and-both (test x) (list_all test (xs ++ ys)) both.0 (all-append test xs ys both.1 f)
+    let both = and_parts (test x) (list_all test xs) e in
+    and_from (test x) (list_all test (xs ++ ys)) both.0 (all-append test xs ys both.1 f)
 
 -- bytes that no blank is among only go on with the field
 inside-plain : (b : ℕ) → is_plain b ≡ true → is_inside b ≡ true
@@ -32,8 +24,8 @@ inside-plain b e = grind (arith, nat_tests)
 pub all-inside : (xs : List ℕ) → list_all is_plain xs ≡ true → list_all is_inside xs ≡ true
 all-inside [] e = refl
 all-inside (x ∷ xs) e =
-    let both = and-left (is_plain x) (list_all is_plain xs) e in
-    and-both (is_inside x) (list_all is_inside xs) (inside-plain x both.0) (all-inside xs both.1)
+    let both = and_parts (is_plain x) (list_all is_plain xs) e in
+    and_from (is_inside x) (list_all is_inside xs) (inside-plain x both.0) (all-inside xs both.1)
 
 blank-no : (b : ℕ) → is_plain b ≡ true → is_blank b ≡ false
 blank-no b e = grind (arith, nat_tests)
@@ -49,7 +41,7 @@ pub put-plain : (xs : List ℕ) (line : LineState) → list_all is_plain xs ≡ 
 unfolding put
 put-plain [] line e = refl
 put-plain (x ∷ xs) line e =
-    let both = and-left (is_plain x) (list_all is_plain xs) e in
+    let both = and_parts (is_plain x) (list_all is_plain xs) e in
     put-plain xs (record line { open_field = more line.open_field x }) both.1
     ∙ ap (λ l. fold put l xs) (sym (put-go (is_blank x) line x (blank-no x both.0)))
 
@@ -92,7 +84,7 @@ pub inside-front : (hay : List ℕ) (k : ℕ) → k ≤ length hay
 inside-front hay zero h inside = refl
 inside-front [] (suc k) h inside = refl
 inside-front (b ∷ hay) (suc k) h inside =
-    and-both (is_inside b) (list_all is_inside (take k hay)) (inside 0 (omega arith))
+    and_from (is_inside b) (list_all is_inside (take k hay)) (inside 0 (omega arith))
     (inside-front hay k (omega (arith, h)) (λ i below. inside (suc i) (omega (arith, below))))
 
 -- the first byte and those behind it
@@ -112,7 +104,7 @@ run-more first line last piece rest after b run h more = record {
   front = run.front ++ b ∷ more.front;
   parts = run.parts ∙ ap (λ xs. run.front ++ b ∷ xs) more.parts ∙ sym (append_assoc run.front (b ∷ more.front) after);
   inside = all-append is_inside run.front (b ∷ more.front) run.inside
-      (and-both (is_inside b) (list_all is_inside more.front) h more.inside);
+      (and_from (is_inside b) (list_all is_inside more.front) h more.inside);
   read = more.read ∙ ap (λ l. fold put (put l b) more.front) run.read
       ∙ sym (fold-append put first run.front (b ∷ more.front));
 }

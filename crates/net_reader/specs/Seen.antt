@@ -36,8 +36,8 @@ seen_known known =
       order = known.order.items;
     }
 
--- where each subscriber is and whether it is off are kept beside its home and the calls, and no
--- other actor moves
+-- where each subscriber is and whether it is off are kept beside where it starts and the calls, and
+-- no other actor moves
 pub record Stands (homes : List ℕ) (calls : List Spoken) (places : List ℕ)
     (off : List Bool) : Type 0 where
   pub places_count : length places ≡ length homes

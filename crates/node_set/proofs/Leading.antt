@@ -9,6 +9,7 @@ use Rattle.node_set.specs.FilterLaws.{ascending-filter, has-filter}
 use Rattle.node_set.specs.Scan.{IsNext, IsNoneFrom}
 use Rattle.node_set.specs.ScanLaws.{next_taken}
 use Rattle.node_set.specs.SetLaws.{has-union, same_members}
+use Rattle.std.proofs.Math.Bool.{or-false, or_assoc}
 
 -- ---- one ball more
 
@@ -21,28 +22,16 @@ or_both false false c = refl
 union_push : (balls : List (List ℕ)) (x v : ℕ) (vs : List ℕ)
     → has x (union_of balls (vs ++ v ∷ [])) ≡ (has x (union_of balls vs) || has x (ball balls v))
 unfolding union_of
-union_push balls x v [] = has-union x (ball balls v) [] ∙ at (has x (ball balls v))
-  where
-    at : (b : Bool) → (b || false) ≡ b
-    at true = refl
-    at false = refl
+union_push balls x v [] = has-union x (ball balls v) [] ∙ or-false (has x (ball balls v))
 union_push balls x v (w ∷ ws) =
     has-union x (ball balls w) (union_of balls (ws ++ v ∷ []))
     ∙ ap (λ b. has x (ball balls w) || b) (union_push balls x v ws)
-    ∙ at (has x (ball balls w)) (has x (union_of balls ws)) (has x (ball balls v))
+    ∙ sym (or_assoc (has x (ball balls w)) (has x (union_of balls ws)) (has x (ball balls v)))
     ∙ ap (λ b. b || has x (ball balls v)) (sym (has-union x (ball balls w) (union_of balls ws)))
-  where
-    at : (a b c : Bool) → (a || (b || c)) ≡ ((a || b) || c)
-    at true b c = refl
-    at false b c = refl
 
 pub union_nothing : (balls : List (List ℕ)) (x : ℕ) → has x (union_of balls []) ≡ false
 unfolding union_of
 union_nothing balls x = refl
-
-pub or_none : (b : Bool) → (b || false) ≡ b
-or_none true = refl
-or_none false = refl
 
 pub absorb_next : (balls : List (List ℕ)) (centres old nodes b : List ℕ) (from v : ℕ) → IsNext centres from v
     → ball balls v ≡ b

@@ -9,7 +9,7 @@ use Rattle.node_set.specs.Ascending.{has, IsBelowAll, IsAscending, share, union}
 use Rattle.node_set.specs.Nodes.{Nodes}
 use Rattle.node_set.specs.Balls.{AreInside, sets, centres, ball, union_of, touches, growth, least}
 use Rattle.node_set.specs.SetLaws.{few_below, has_head, has-union, ascending-union, share_from, has-passing, passing_over, length-passing_all, passing_all-each}
-use Rattle.node_set.specs.FilterLaws.{filter_keeps, filter_has, filter_own, filter_fewer}
+use Rattle.node_set.specs.FilterLaws.{filter_keeps, filter-has, filter_own, filter_fewer}
 
 -- ---- lists of balls, and of centres
 
@@ -142,7 +142,7 @@ module _ (balls : List (List ℕ)) (a : ℕ) (rest : List ℕ) where
   unfolding growth
   growth_stays hold j v h =
       let waits : has v (a ∷ rest) ≡ true = growth_waits j v h in
-      filter_has (touches balls (union_of balls (growth balls (a ∷ rest) a j))) v (a ∷ rest) waits
+      filter-has (touches balls (union_of balls (growth balls (a ∷ rest) a j))) v (a ∷ rest) waits
       (touches_own balls v (growth balls (a ∷ rest) a j) h (hold v waits))
 
   pub growth_leader : HoldCentres balls (a ∷ rest) → (j : ℕ)
@@ -247,7 +247,7 @@ unfolding growth
 next_growth_means balls waiting a j v = (
   filter_keeps (touches balls (union_of balls (growth balls waiting a j))) v waiting,
   λ w.
-      filter_has (touches balls (union_of balls (growth balls waiting a j))) v waiting w.0 w.1,
+      filter-has (touches balls (union_of balls (growth balls waiting a j))) v waiting w.0 w.1,
 )
 
 -- ---- balls whose nodes have balls

@@ -9,18 +9,18 @@ use Rattle.node_set.specs.SetLaws.{has_head}
 
 -- ---- what a filter keeps
 
-has_cond : (b : Bool) (x y : ℕ) (xs : List ℕ) → has x (cond b (y ∷ xs) xs) ≡ true
+has-cond : (b : Bool) (x y : ℕ) (xs : List ℕ) → has x (cond b (y ∷ xs) xs) ≡ true
     → ((x ≡ y) × (b ≡ true)) ⊎ (has x xs ≡ true)
-has_cond true x y xs h = elim (or_cases (x == y) (has x xs) h)
+has-cond true x y xs h = elim (or_cases (x == y) (has x xs) h)
     [ inl e ↦ inl (eqb-true x y e, refl) | inr later ↦ inr later ]
-has_cond false x y xs h = inr h
+has-cond false x y xs h = inr h
 
 -- what is left passes, and was there
 pub filter_keeps : (p : ℕ → Bool) (x : ℕ) (xs : List ℕ) → has x (filter p xs) ≡ true
     → (has x xs ≡ true) × (p x ≡ true)
 filter_keeps p x [] h = absurd (false≢true h)
 filter_keeps p x (y ∷ ys) h =
-    elim (has_cond (p y) x y (filter p ys) h) [
+    elim (has-cond (p y) x y (filter p ys) h) [
       | inl here ↦ (
         subst (λ (n : ℕ). has n (y ∷ ys) ≡ true) (sym here.0)
             (has_head y ys),
@@ -30,23 +30,23 @@ filter_keeps p x (y ∷ ys) h =
           (or_right (x == y) (has x ys) w.0, w.1)
     ]
 
-cond_has : (b : Bool) (x y : ℕ) (xs : List ℕ) → has x xs ≡ true → has x (cond b (y ∷ xs) xs) ≡ true
-cond_has true x y xs h = or_right (x == y) (has x xs) h
-cond_has false x y xs h = h
+cond-has : (b : Bool) (x y : ℕ) (xs : List ℕ) → has x xs ≡ true → has x (cond b (y ∷ xs) xs) ≡ true
+cond-has true x y xs h = or_right (x == y) (has x xs) h
+cond-has false x y xs h = h
 
 cond_has_head : (b : Bool) (y : ℕ) (xs : List ℕ) → b ≡ true → has y (cond b (y ∷ xs) xs) ≡ true
 cond_has_head b y xs e = rw e (has_head y xs)
 
 -- what passes is left
-pub filter_has : (p : ℕ → Bool) (x : ℕ) (xs : List ℕ) → has x xs ≡ true → p x ≡ true
+pub filter-has : (p : ℕ → Bool) (x : ℕ) (xs : List ℕ) → has x xs ≡ true → p x ≡ true
     → has x (filter p xs) ≡ true
-filter_has p x [] h e = absurd (false≢true h)
-filter_has p x (y ∷ ys) h e =
+filter-has p x [] h e = absurd (false≢true h)
+filter-has p x (y ∷ ys) h e =
     elim (or_cases (x == y) (has x ys) h) [
       | inl here ↦ let same : x ≡ y = eqb-true x y here
           in rw same (cond_has_head (p y) y (filter p ys)
           (subst (λ (n : ℕ). p n ≡ true) same e))
-      | inr later ↦ cond_has (p y) x y (filter p ys) (filter_has p x ys later e)
+      | inr later ↦ cond-has (p y) x y (filter p ys) (filter-has p x ys later e)
     ]
 
 -- who is left
@@ -54,7 +54,7 @@ pub has-filter : (p : ℕ → Bool) (x : ℕ) (xs : List ℕ) → has x (filter 
 has-filter p x xs = at (has x xs) (p x) refl refl
   where
     at : (b c : Bool) → has x xs ≡ b → p x ≡ c → has x (filter p xs) ≡ (b && c)
-    at true true e f = filter_has p x xs e f
+    at true true e f = filter-has p x xs e f
     at true false e f = elim (cases_Bool (has x (filter p xs)))
         [ inl kept ↦ absurd (false≢true (sym f ∙ (filter_keeps p x xs kept).1)) | inr gone ↦ gone ]
     at false c e f = elim (cases_Bool (has x (filter p xs)))
@@ -68,12 +68,12 @@ filter_same p q (y ∷ ys) same =
     rw (same y (has_head y ys), filter_same p q ys (λ x h. same x (or_right (x == y) (has x ys) h)))
     refl
 
-cond_filter : (p q : ℕ → Bool) (y : ℕ) (rest : List ℕ) (b c : Bool) → p y ≡ b → q y ≡ c →
+cond-filter : (p q : ℕ → Bool) (y : ℕ) (rest : List ℕ) (b c : Bool) → p y ≡ b → q y ≡ c →
     filter p (cond c (y ∷ filter q rest) (filter q rest)) ≡ cond c
     (cond b (y ∷ filter p (filter q rest)) (filter p (filter q rest)))
     (filter p (filter q rest))
-cond_filter p q y rest b true e f = rw e refl
-cond_filter p q y rest b false e f = refl
+cond-filter p q y rest b true e f = rw e refl
+cond-filter p q y rest b false e f = refl
 
 -- a filter of a filter
 pub filter_twice : (p q : ℕ → Bool) (xs : List ℕ)
@@ -104,7 +104,7 @@ pub filter_own : (p : ℕ → Bool) (xs : List ℕ) → filter p xs ≡ filter (
 filter_own p xs = filter_same p (λ x. has x (filter p xs)) xs (λ x h. at x h (p x) refl)
   where
     at : (x : ℕ) → has x xs ≡ true → (b : Bool) → p x ≡ b → p x ≡ has x (filter p xs)
-    at x h true e = e ∙ sym (filter_has p x xs h e)
+    at x h true e = e ∙ sym (filter-has p x xs h e)
     at x h false e = e ∙ sym (elim (cases_Bool (has x (filter p xs)))
         [ inl kept ↦ absurd (false≢true (sym e ∙ (filter_keeps p x xs kept).1)) | inr gone ↦ gone ])
 

@@ -7,7 +7,7 @@ use Rattle.std.proofs.lemmas.List.{get_or_past}
 use Rattle.node_set.specs.Ascending.{has, IsAscending}
 use Rattle.node_set.specs.Balls.{ball, union_of, touches, growth}
 use Rattle.node_set.specs.BallLaws.{HoldCentres, union_more, ascending-union_of, touches_own, growth_waits, growth_size, growth_next}
-use Rattle.node_set.specs.FilterLaws.{filter_has}
+use Rattle.node_set.specs.FilterLaws.{filter-has}
 use Rattle.node_set.specs.SetLaws.{same_members, share_gives}
 
 -- a ball that touches others is there
@@ -36,7 +36,7 @@ module _ (balls : List (List ℕ)) (a : ℕ) (waiting rest : List ℕ) (leads : 
   growth_kept hold j v h =
       let waits : has v waiting ≡ true = growth_waiting j v h in
       subst (λ (l : List ℕ). has v l ≡ true) (sym (growth_next balls waiting a j))
-      (filter_has (touches balls (union_of balls (growth balls waiting a j))) v waiting waits
+      (filter-has (touches balls (union_of balls (growth balls waiting a j))) v waiting waits
       (touches_own balls v (growth balls waiting a j) h (hold v waits)))
 
   -- the union of one growth more, from the one before

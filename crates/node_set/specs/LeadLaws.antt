@@ -1,8 +1,7 @@
 -- Laws of the first of the balls that wait, and of sets that are written over, for proofs of covers.
 -- Key laws: `lead` (the list begins with its least member), `nothing_at`, `none_waits` (none is
 -- below the next), `members_few`.
-use Rattle.std.proofs.Common.{◌≡◌, inl, inr, ℕ, ◌<◌, ◌≤◌, true, false, List, [], ◌∷◌, ◌++◌, length, take, drop, refl, sym, ◌∙◌, ap, subst, arith}
-use Rattle.std.proofs.Math.Seq.{take-append_seam}
+use Rattle.std.proofs.Common.{◌≡◌, inl, inr, ℕ, ◌<◌, ◌≤◌, true, false, List, [], ◌∷◌, length, refl, sym, ◌∙◌, ap, subst, arith}
 use Rattle.std.proofs.lemmas.Bool.{cases_lt, false≢true, or_cases, eqb-true}
 use Rattle.std.specs.Prelude.{◌==◌}
 use Rattle.node_set.specs.Ascending.{has, IsAscending, IsBelowAll}
@@ -45,11 +44,6 @@ none_waits waiting from a before next v below = elim (cases_lt v from) [
   | inl less ↦ before v less
   | inr more ↦ next.first v more below
 ]
-
--- a list that was written over whole
-pub written : {A : Type 0} (n : ℕ) (new old : List A) → length new ≡ length old → n ≡ length old
-    → take n (new ++ drop (length new) old) ≡ new
-written n new old same whole = let e : n ≡ length new = whole ∙ sym same in rw (e, take-append_seam) refl
 
 -- a set from its parts
 pub nodes_from : (s : Nodes) (n : ℕ) (members : List ℕ) → s.room ≡ n → s.members ≡ members → s

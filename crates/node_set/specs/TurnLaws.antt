@@ -1,6 +1,6 @@
 -- Laws of rows: the waiting balls that touch a union are those in the rows of its nodes.
 -- Key laws: `touches_turned` (of one ball), `touched_grown` (of all that wait, as sets).
-use Rattle.std.proofs.Common.{◌≡◌, ℕ, ◌<◌, Bool, true, false, List, length, filter, refl, sym, ◌∙◌, subst}
+use Rattle.std.proofs.Common.{◌≡◌, ℕ, ◌<◌, List, length, filter, sym, ◌∙◌, subst}
 use Rattle.node_set.specs.Ascending.{has, AllBelow}
 use Rattle.node_set.specs.Balls.{ball, sets, touches, union_of}
 use Rattle.node_set.specs.BallLaws.{length-sets, union_has, union_from}
@@ -8,18 +8,14 @@ use Rattle.node_set.specs.FilterLaws.{filter_same}
 use Rattle.node_set.specs.Nodes.{AreNodes, Nodes}
 use Rattle.node_set.specs.SetLaws.{below-has, share_from, share_gives}
 use Rattle.node_set.specs.Turned.{AreTurned}
-
-same_tests : (b c : Bool) → (b ≡ true → c ≡ true) → (c ≡ true → b ≡ true) → b ≡ c
-same_tests true c to from = sym (to refl)
-same_tests false true to from = from refl
-same_tests false false to from = refl
+use Rattle.std.specs.Cmp.{both_ways}
 
 -- a ball touches nodes just where its centre is in the union of their rows
 pub touches_turned : (balls rows : List (List ℕ)) (nodes : List ℕ) (v : ℕ) → AreTurned balls rows
     → AllBelow (length balls) nodes
     → v < length balls → touches balls nodes v ≡ has v (union_of rows nodes)
 touches_turned balls rows nodes v turned within below =
-    same_tests (touches balls nodes v) (has v (union_of rows nodes))
+    both_ways (touches balls nodes v) (has v (union_of rows nodes))
     (λ h.
     let x = share_gives (ball balls v) nodes h in
     union_has rows v x.0 nodes x.2 (turned v x.0 below (below-has (length balls) x.0 nodes within x.2) ∙ x.1))

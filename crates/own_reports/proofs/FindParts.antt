@@ -3,7 +3,7 @@
 use Rattle.std.proofs.Common.{◌≡◌, inl, inr, ℕ, suc, ◌+◌, ◌*◌, ◌<◌, ◌≤◌, ◌==◌, ◌||◌, Bool, true, false, cond, List, [], length, take, map, fold, Option, Some, None, refl, ap, sym, ◌∙◌, arith, subst}
 use Rattle.std.specs.Prelude.{filter_map, flat_map, option_map, slice_get, slice_index}
 use Rattle.std.specs.List.{last_or, list_any}
-use Rattle.std.proofs.lemmas.Bool.{cases_lt}
+use Rattle.std.proofs.lemmas.Bool.{cases_lt, false_from_ne_true, eqb-true}
 use Rattle.std.proofs.lemmas.Bool.Decides.{nat_tests}
 use Rattle.std.proofs.lemmas.List.{take_all}
 use Rattle.std.proofs.lemmas.List.Folds.{list_any-append}
@@ -41,10 +41,11 @@ use Rattle.own_reports.proofs.Looked.{IsLook, ends-look, has-line, look-puts-not
 use Rattle.own_reports.proofs.Order.{actors_of, tickets-are}
 use Rattle.own_reports.proofs.Plain.{commits_in}
 use Rattle.own_reports.proofs.RowsTold.{rows-none, rows-skip, rows-told}
-use Rattle.own_reports.proofs.Signs.{any-at, at-most, both-same, equal-by, finds-no-switch, get-take, light, none-where, open-same, open_by, or-true, same-true, still-open, told-true}
+use Rattle.own_reports.proofs.Signs.{at-most, both-same, finds-no-switch, get-take, light, open-same, open_by, or-true, same-true, still-open, told-true}
 use Rattle.own_reports.proofs.StepRuns.{sub-runs}
 use Rattle.own_reports.proofs.Switches.{count-all, mark-read, switch-moves-not, switch-ticket, visit-at}
 use Rattle.own_reports.proofs.Tellings.{IsCount, IsLast, IsToldBy, steps-told}
+use Rattle.std.proofs.lemmas.Map.Keys.{any_passes_from_place}
 
 module _ (laws : Laws) (count : CallersCount) (plan : PlanData) (homes : List ℕ) (scripts : Scripts) (history : History)
     (over : IsOver (setting_of plan homes) scripts history) where
@@ -65,7 +66,7 @@ module _ (laws : Laws) (count : CallersCount) (plan : PlanData) (homes : List �
       ∙ ap (λ b. b || list_any (is_switch_at t)
       (flat_map (caller_lines S scripts history) (numbers_from (subs S) (length scripts.finds))))
       (rows-none (is_switch_at t) (sub_lines S scripts history) 0 (subs S) (λ actor low high.
-      none-where _ (λ found. clash actor (omega (arith, high)) own found)))
+      false_from_ne_true _ (λ found. clash actor (omega (arith, high)) own found)))
       ∙ rows-none (is_switch_at t) (caller_lines S scripts history) (subs S) (length scripts.finds) (λ actor low high.
       finds-no-switch t actor (tickets actor history) (caller_in S scripts history actor).answers)
     where
@@ -76,7 +77,7 @@ module _ (laws : Laws) (count : CallersCount) (plan : PlanData) (homes : List �
           let theirs : is_ticket order actor t ≡ true =
           ap (is_ticket order actor) at.2 ∙ (tickets-are laws.ascend history actor).own at.0 at.1 in
           let same : sub ≡ actor =
-          equal-by sub actor (sym (ap (is_number actor) own) ∙ theirs) in
+          eqb-true sub actor (sym (ap (is_number actor) own) ∙ theirs) in
           let bad : true ≡ false =
           sym (ap (λ k. moves_at k history t) (sym same) ∙ moves)
           ∙ switch-moves-not laws S scripts history over actor low t at in
@@ -198,7 +199,8 @@ module _ (laws : Laws) (count : CallersCount) (plan : PlanData) (homes : List �
               get-take (map (visit_of sub) all) m (suc j) made ∙ slice_get-map (visit_of sub) all (suc j)
               ∙ ap (option_map (visit_of sub)) confirm in
               let any : list_any (λ visit. confirms commit (node_put visit.act) (mark_put visit.act)) puts ≡ true =
-              any-at (λ (visit : Visit). confirms commit (node_put visit.act) (mark_put visit.act)) puts (suc j) _ there
+              any_passes_from_place (λ (visit : Visit). confirms commit (node_put visit.act) (mark_put visit.act)) puts
+              (suc j) _ there
               (ap (confirms commit commit.to)
               (mark-read laws S scripts history over sub known (suc j) commit.to (Here commit.number) confirm)
               ∙ both-same commit.to commit.number) in
@@ -241,7 +243,8 @@ module _ (laws : Laws) (count : CallersCount) (plan : PlanData) (homes : List �
           (told_before homes calls sub last).is_off (node-told last two ∙ sym at) (number-told last two ∙ sym n)
           (off-told last two ∙ o),
       or-true (meets_move calls order sub first last) _ (λ none.
-          let quiet : IsQuiet history sub first last = λ t low high. none-where (moves_at sub history t) (λ moves.
+          let quiet : IsQuiet history sub first last = λ t low high. false_from_ne_true
+          (moves_at sub history t) (λ moves.
           let met : meets_move calls order sub first last ≡ true =
           meets-move S scripts history calls sub first last t over.played one two low high moves
           (no-switch sub t known moves)

@@ -1,6 +1,6 @@
 -- A caller's lines have runs of its tickets: its finds come one behind another, without a gap.
 use Rattle.std.proofs.Common.{◌≡◌, ℕ, suc, ◌≤◌, List, [], ◌∷◌, ◌++◌, length, map, fold, Option, Some, None, refl, ap, sym, ◌∙◌, arith, subst, append_assoc}
-use Rattle.std.specs.Prelude.{option_map, slice_index}
+use Rattle.std.specs.Prelude.{slice_index}
 use Rattle.std.proofs.lemmas.List.{map-append}
 use Rattle.directory.specs.Settings.{Setting, subs}
 use Rattle.directory.specs.Finds.{FindCall, Stage, after_word, answer_of, at_origin, chases, climbs, ended, key_of}
@@ -14,6 +14,7 @@ use Rattle.directory.specs.declared.answers.Found.{Found}
 use Rattle.directory.specs.declared.answers.Found.TheVariants.{At, Off as OffAt, Again}
 use Rattle.report_check.specs.Parts.{actor_of}
 use Rattle.own_reports.proofs.Runs.{HasEnds, HaveRuns, IsRun}
+use Rattle.directory.specs.ListLaws.{option_map-none}
 
 -- answers that come one behind another, from a place to an end
 abbrev pub AreJoined : ℕ → List Answer → ℕ → Type 0
@@ -104,17 +105,13 @@ no-calls : (calls : List FindCall) (stage : Stage) → answer_of stage ≡ None 
 no-calls [] stage going none = refl
 no-calls (call ∷ later) stage going none = absurd (wants call stage going none)
 
-none-mapped : {A B : Type 0} (f : A → B) (o : Option A) → option_map f o ≡ None → o ≡ None
-none-mapped f None none = refl
-none-mapped f (Some x) none = cc
-
 -- a caller that is done has no find left
 pub finds-over : (setting : Setting) (scripts : Scripts) (history : History) (actor : ℕ) → subs setting ≤ actor
     → IsDone setting scripts history actor → (caller_in setting scripts history actor).calls ≡ []
 finds-over setting scripts history actor high done =
     let caller : Caller = caller_in setting scripts history actor in
     no-calls caller.calls caller.stage (calling-in setting scripts history actor).going
-    (none-mapped (look_by actor) (next_key caller) (sym (next-caller setting scripts history actor high) ∙ done))
+    (option_map-none (look_by actor) (next_key caller) (sym (next-caller setting scripts history actor high) ∙ done))
 
 found-run : (seen : List ℕ) (actor p e first last : ℕ) (call : FindCall) (found : Found) → HasEnds seen p e first last
     → (actor_of (found_line actor call found first last) ≡ actor)

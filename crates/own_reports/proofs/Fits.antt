@@ -1,6 +1,6 @@
 -- What a find answers can be written: its node and its level are those of the network and the plan,
 -- and its weight is small, since each look adds little and there are few.
-use Rattle.std.proofs.Common.{◌≡◌, ℕ, zero, suc, ◌+◌, ◌*◌, ◌^◌, ◌<◌, ◌≤◌, ◌==◌, ◌||◌, Bool, true, false, cond, List, [], ◌∷◌, ◌++◌, map, Option, Some, None, refl, ap, sym, arith, subst}
+use Rattle.std.proofs.Common.{◌≡◌, ℕ, zero, suc, ◌+◌, ◌*◌, ◌^◌, ◌<◌, ◌≤◌, ◌==◌, ◌||◌, Bool, true, false, cond, List, [], ◌∷◌, ◌++◌, map, Option, Some, None, ap, sym, arith, subst}
 use Rattle.std.specs.Prelude.{flat_map}
 use Rattle.std.proofs.lemmas.Bool.Decides.{nat_tests}
 use Rattle.entry_word.specs.Addresses.{address_in}
@@ -24,6 +24,7 @@ use Rattle.directory.specs.declared.answers.Found.TheVariants.{At, Off as OffAt,
 use Rattle.report_check.specs.Forms.{IsLevelBelow, IsWhyBelow}
 use Rattle.trail_laws.specs.Trail.{EntriesTell, EntryTells, MarkTells, MarksTell}
 use Rattle.own_reports.proofs.Sizes.{IsSmall, reader_at}
+use Rattle.std.proofs.lemmas.Bool.{or_right}
 
 -- the most that a find may weigh
 abbrev pub most_weight : ℕ
@@ -44,10 +45,6 @@ weight_of (climbs known weight reader later) = weight
 weight_of (chases chase node) = chase.weight
 weight_of (ended found) = found_weight found
 
-or-right : (a b : Bool) → b ≡ true → (a || b) ≡ true
-or-right true b e = refl
-or-right false b e = e
-
 module _ (setting : Setting) (small : IsSmall setting) (call : FindCall) (from_inside : call.from < setting.nodes) where
   -- a reader is of a level of the plan, and lies near
   abbrev IsReader : Reader → Type 0
@@ -67,7 +64,7 @@ module _ (setting : Setting) (small : IsSmall setting) (call : FindCall) (from_i
   level-readers level [] low inside = tt
   level-readers level (c ∷ clusters) low inside = (
     (low, small.inside level c call.from low from_inside (inside c (self c (has c clusters)))),
-    level-readers level clusters low (λ d found. inside d (or-right (d == c) (has d clusters) found)),
+    level-readers level clusters low (λ d found. inside d (or_right (d == c) (has d clusters) found)),
   )
     where
       self : (n : ℕ) (b : Bool) → ((n == n) || b) ≡ true

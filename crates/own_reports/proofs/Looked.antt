@@ -2,7 +2,7 @@
 use Rattle.std.proofs.Common.{◌≡◌, ℕ, zero, suc, ◌+◌, ◌-◌, ◌<◌, ◌≤◌, ◌&&◌, ◌||◌, Bool, true, false, not, eqb, cond, List, [], ◌∷◌, length, take, drop, Option, Some, None, refl, ap, sym, ◌∙◌, arith, append-nil, inl, inr}
 use Rattle.std.specs.Prelude.{slice_get, slice_index, flat_map, option_map}
 use Rattle.std.specs.List.{list_any}
-use Rattle.std.proofs.lemmas.Bool.{cases_eq, cases_lt}
+use Rattle.std.proofs.lemmas.Bool.{cases_eq, cases_lt, eqb-true, and_parts, or_right}
 use Rattle.std.proofs.lemmas.Bool.Decides.{nat_tests}
 use Rattle.std.proofs.lemmas.List.Folds.{list_any-append}
 use Rattle.std.proofs.lemmas.Option.{slice_get-map}
@@ -21,8 +21,9 @@ use Rattle.directory.specs.Writes.{Write, entry_at, mark_at, numbers_from, step_
 use Rattle.directory.specs.declared.answers.Done.{Done}
 use Rattle.directory.specs.declared.answers.Found.{Found}
 use Rattle.report_check.specs.Parts.{is_of, is_of_move, is_switch_at, meets_from, meets_move}
-use Rattle.own_reports.proofs.Signs.{equal-by, lt-true}
+use Rattle.own_reports.proofs.Signs.{lt-true}
 use Rattle.own_reports.proofs.Order.{actors_of}
+use Rattle.directory.specs.ListLaws.{option_map-some}
 
 -- the visit with a ticket is a look
 abbrev pub IsLook : History → ℕ → Type 0
@@ -65,15 +66,6 @@ look-puts-not history sub t (actor, key, is) =
 
 -- ---- the visits of moves are their subscriber's
 
-and-left : (a b : Bool) → (a && b) ≡ true → a ≡ true
-and-left true b e = refl
-and-left false b e = let bad : false ≡ true = e in cc
-
-mapped-some : {A B : Type 0} (f : A → B) (o : Option A) (y : B) → option_map f o ≡ Some y
-    → (x : A) × (f x ≡ y)
-mapped-some f None y e = let bad : None ≡ Some y = e in cc
-mapped-some f (Some x) y e = (x, let s : f x ≡ y = cc in s)
-
 put-own : (setting : Setting) (scripts : Scripts) (history : History) (sub t : ℕ) (v : Visit)
     → next setting scripts (before t history) v.actor ≡ Some v → is_put_for sub v.act ≡ true → v.actor ≡ sub
 put-own setting scripts history sub t v is put = elim (cases_lt v.actor (subs setting)) [
@@ -81,25 +73,25 @@ put-own setting scripts history sub t v is put = elim (cases_lt v.actor (subs se
       let ws : List Write = writes setting (course_at (start setting v.actor)) (steps_of scripts v.actor) in
       let place : ℕ = length (own v.actor (before t history)) in
       let made : (w : Write) × (visit_of v.actor w ≡ v) =
-      mapped-some (visit_of v.actor) (slice_get ws place) v
+      option_map-some (visit_of v.actor) (slice_get ws place) v
       (sym (slice_get-map (visit_of v.actor) ws place) ∙ sym (next-sub setting scripts (before t history) v.actor low)
       ∙ is) in
       written v.actor made.0 (ap (λ (x : Visit). is_put_for sub x.act) made.1 ∙ put)
   | inr high ↦
       let made : (key : Key) × (look_by v.actor key ≡ v) =
-      mapped-some (look_by v.actor) (next_key (caller_in setting scripts (before t history) v.actor)) v
+      option_map-some (look_by v.actor) (next_key (caller_in setting scripts (before t history) v.actor)) v
       (sym (next-caller setting scripts (before t history) v.actor high) ∙ is) in
       let bad : false ≡ true = ap (λ (x : Visit). is_put_for sub x.act) made.1 ∙ put in cc
 ]
   where
     written : (actor : ℕ) (w : Write) → is_put_for sub (visit_of actor w).act ≡ true → actor ≡ sub
-    written actor (mark_at node mark) e = equal-by actor sub e
-    written actor (entry_at level cluster address) e = equal-by actor sub e
+    written actor (mark_at node mark) e = eqb-true actor sub e
+    written actor (entry_at level cluster address) e = eqb-true actor sub e
 
 move-visit : (sub : ℕ) (seen : History) (o : Option Visit) → moves_by sub seen o ≡ true
     → (v : Visit) × (o ≡ Some v) × (is_put_for sub v.act ≡ true)
 move-visit sub seen None is = let bad : false ≡ true = is in cc
-move-visit sub seen (Some v) is = (v, refl, and-left (is_put_for sub v.act) _ is)
+move-visit sub seen (Some v) is = (v, refl, (and_parts (is_put_for sub v.act) _ is).0)
 
 -- a visit of a move is one of its subscriber
 pub move-own : (setting : Setting) (scripts : Scripts) (history : History) (sub t : ℕ)
@@ -137,14 +129,10 @@ rows-any test lines from (suc count) actor low high one =
     ∙ elim (cases_eq actor from) [
       | inl same ↦ ap (λ b. b || list_any test (flat_map lines (numbers_from (suc from) count)))
           (ap (λ k. list_any test (lines k)) (sym same) ∙ one)
-      | inr other ↦ later (list_any test (lines from)) (rows-any test lines (suc from) count actor
+      | inr other ↦ or_right (list_any test (lines from)) _ (rows-any test lines (suc from) count actor
           (strict other low) (omega (arith, high)) one)
     ]
   where
-    later : (b : Bool) {x : Bool} → x ≡ true → (b || x) ≡ true
-    later true e = refl
-    later false e = e
-
     strict : (actor ≡ from → ⊥) → from ≤ actor → suc from ≤ actor
     strict differs le = omega (arith, differs, le)
 

@@ -1,8 +1,8 @@
 -- Writes of a move: one is the commit, the next one the confirm, and none says that its subscriber
 -- is off.
-use Rattle.std.proofs.Common.{◌≡◌, ℕ, zero, suc, ◌+◌, ◌<◌, ◌≤◌, Bool, true, false, cond, List, [], ◌∷◌, ◌++◌, length, take, map, fold, Option, Some, None, refl, ap, ◌∙◌, arith}
+use Rattle.std.proofs.Common.{◌≡◌, ℕ, zero, suc, ◌<◌, ◌≤◌, Bool, true, false, cond, List, [], ◌∷◌, ◌++◌, length, take, map, fold, Some, None, refl, ap, ◌∙◌, arith}
 use Rattle.std.specs.Prelude.{slice_get, filter_map}
-use Rattle.std.specs.List.{cons_option, last_or}
+use Rattle.std.specs.List.{cons_option}
 use Rattle.std.proofs.lemmas.List.{length-map, take-append-le}
 use Rattle.entry_word.specs.declared.mark.PresenceMark.TheVariants.{Coming, Empty, Gone, Here}
 use Rattle.directory.specs.Settings.{Setting}
@@ -11,6 +11,7 @@ use Rattle.directory.specs.Standing.{Commit, commit_by}
 use Rattle.directory.specs.States.{write_commit, write_off}
 use Rattle.directory.specs.Writes.{Write, erasure_writes, mark_at, move_writes, new_address, numbers_from, purge_writes}
 use Rattle.own_reports.proofs.StepRuns.{length-numbers}
+use Rattle.directory.specs.ListLaws.{slice_get-right}
 
 -- writes that are no commit and say nothing of being off
 abbrev pub ArePlain : List Write → Type 0
@@ -117,28 +118,10 @@ move-on k setting course move =
     still-on k (front_of setting move) (back_of setting course move) (commit_write move) (plain-front setting move) refl
     (plain-back setting course move)
 
--- an entry behind others
-pub get-add : {A : Type 0} (xs ys : List A) (k i : ℕ) → k ≡ length xs + i → slice_get (xs ++ ys) k ≡ slice_get ys i
-get-add [] ys k i e = ap (slice_get ys) (let s : k ≡ i = omega (arith, e) in s)
-get-add (x ∷ xs) ys zero i e = absurd (omega (arith, e))
-get-add (x ∷ xs) ys (suc k) i e = get-add xs ys k i (omega (arith, e))
-
--- an entry in front of others
-pub get-front : {A : Type 0} (xs ys : List A) (k : ℕ) (x : A) → slice_get xs k ≡ Some x
-    → slice_get (xs ++ ys) k ≡ Some x
-get-front [] ys k x is = let bad : None ≡ Some x = is in cc
-get-front (y ∷ xs) ys zero x is = is
-get-front (y ∷ xs) ys (suc k) x is = get-front xs ys k x is
-
 -- the confirm comes next behind the commit
 pub move-confirm : (setting : Setting) (course : Course) (move : Move)
     → slice_get (move_writes setting course move) (suc (suc (suc move.renewed)))
     ≡ Some (mark_at move.to (Here move.number))
 move-confirm setting course move =
-    get-add (front_of setting move) (commit_write move ∷ back_of setting course move) (suc (suc (suc move.renewed))) 1
-    (omega (arith, front-length setting move))
-
--- the last of a list
-pub last-push : {A : Type 0} (o : Option A) (xs : List A) (x : A) → last_or o (xs ++ x ∷ []) ≡ Some x
-last-push o [] x = refl
-last-push o (y ∷ xs) x = last-push (Some y) xs x
+    slice_get-right (front_of setting move) (commit_write move ∷ back_of setting course move)
+    (suc (suc (suc move.renewed))) 1 (omega (arith, front-length setting move))

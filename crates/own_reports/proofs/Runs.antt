@@ -1,8 +1,8 @@
 -- The runs of an actor's calls: each has the tickets from behind the end of the call before to its
 -- own end.
-use Rattle.std.proofs.Common.{◌≡◌, inl, inr, ℕ, zero, suc, ◌+◌, ◌<◌, ◌≤◌, ◌&&◌, Bool, true, false, cond, ltb, leb, List, [], ◌∷◌, ◌++◌, length, append_assoc, Option, Some, None, refl, ap, sym, ◌∙◌, arith, subst}
+use Rattle.std.proofs.Common.{◌≡◌, inl, inr, ℕ, zero, suc, ◌+◌, ◌<◌, ◌≤◌, true, false, cond, ltb, leb, List, [], ◌∷◌, ◌++◌, length, append_assoc, Option, Some, None, refl, ap, sym, ◌∙◌, arith, subst}
 use Rattle.std.specs.Prelude.{slice_get, slice_index, flat_map}
-use Rattle.std.proofs.lemmas.Bool.{cases_lt}
+use Rattle.std.proofs.lemmas.Bool.{cases_lt, and_from}
 use Rattle.std.proofs.lemmas.Bool.Decides.{nat_tests}
 use Rattle.std.proofs.lemmas.Option.{slice_get-get_or, slice_get_past}
 use Rattle.directory.specs.declared.answers.Done.{Done}
@@ -35,9 +35,6 @@ HaveRuns actor seen p (call ∷ later) =
     (e : ℕ) × (e < length seen) × (actor_of call ≡ actor) × IsRun seen p e call
     × HaveRuns actor seen (suc e) later
 
-both : (a b : Bool) → a ≡ true → b ≡ true → (a && b) ≡ true
-both a b p q = ap (λ x. x && b) p ∙ q
-
 is-self : (n m : ℕ) → n ≡ m → is_number n (Some m) ≡ true
 is-self n m e = grind (arith, nat_tests)
 
@@ -56,10 +53,10 @@ has-ends : (order seen : List ℕ) (actor p e first last : ℕ) (before : Option
     → next_ticket order actor before ≡ slice_get seen p → e < length seen → HasEnds seen p e first last
     → has_tickets order before actor first last ≡ true
 has-ends order seen actor p e first last before are next low ends =
-    both (is_number first (next_ticket order actor before)) _
+    and_from (is_number first (next_ticket order actor before)) _
     (ap (is_number first) (next ∙ slice_get-get_or seen p 0 (omega (arith, low, ends.0)))
     ∙ is-self first (slice_index seen p) ends.1)
-    (both (is_ticket order actor last) _
+    (and_from (is_ticket order actor last) _
     (ap (is_ticket order actor) ends.2 ∙ are.own e low)
     (le-true first last (omega (arith, ends.1, ends.2, in-order seen p e are.rise ends.0 low))))
 
@@ -72,10 +69,10 @@ run-holds order seen actor p e before (Moved a n from to w first commit last) ar
     let goes : next_ticket order a before ≡ slice_get seen p =
     subst (λ k. next_ticket order k before ≡ slice_get seen p) (sym same) next in
     let commits : commit ≡ slice_index seen run.0 = run.3 in (
-      both (has_tickets order before a first last) _ (has-ends order seen a p e first last before here goes low ends)
-          (both (is_ticket order a commit) _
+      and_from (has_tickets order before a first last) _
+          (has-ends order seen a p e first last before here goes low ends) (and_from (is_ticket order a commit) _
           (ap (is_ticket order a) commits ∙ here.own run.0 (omega (arith, run.2, low)))
-          (both (ltb first commit) (ltb commit last)
+          (and_from (ltb first commit) (ltb commit last)
           (lt-true first commit (omega (arith, ends.1, commits, here.rise p run.0 run.1 (omega (arith, run.2, low)))))
           (lt-true commit last (omega (arith, ends.2, commits, here.rise run.0 e run.2 low))))),
       ends.2,
@@ -131,7 +128,7 @@ runs-hold order seen actor p before call [] rest are next runs others held =
     ∙ ap (λ k. next_ticket order actor (Some k)) here.1
     ∙ are.next runs.0 runs.1
     ∙ slice_get_past seen (suc runs.0) (omega (arith, runs.4)) in (
-      both (tickets_hold order before call) _ here.0
+      and_from (tickets_hold order before call) _ here.0
           (ap (λ b. cond b (none_left order call) true) last ∙ ap is_missing behind),
       subst (λ o. HaveTickets order o rest) (sym (ap (λ b. cond b None (Some (end_of call))) last)) held,
     )
@@ -141,7 +138,7 @@ runs-hold order seen actor p before call (other ∷ later) rest are next runs ot
     same-last actor call other (later ++ rest) runs.2 runs.4.2 in
     let deep = runs-hold order seen actor (suc runs.0) (Some (end_of call)) other later rest are
     (ap (λ k. next_ticket order actor (Some k)) here.1 ∙ are.next runs.0 runs.1) runs.4 others held in (
-      both (tickets_hold order before call) _ here.0 (ap (λ b. cond b (none_left order call) true) last),
+      and_from (tickets_hold order before call) _ here.0 (ap (λ b. cond b (none_left order call) true) last),
       subst (λ o. HaveTickets order o (other ∷ later ++ rest)) (sym (ap (λ b. cond b None (Some (end_of call))) last))
           deep,
     )

@@ -13,9 +13,6 @@ use Rattle.directory.specs.declared.answers.Found.{Found}
 use Rattle.directory.specs.declared.answers.Found.TheVariants.{At, Off as OffAt, Again}
 use Rattle.report_check.specs.Parts.{is_switch_at, next_ticket, open_passage, told_before, unconfirmed}
 
-pub equal-by : (a b : ℕ) → (a == b) ≡ true → a ≡ b
-equal-by a b e = grind (arith, nat_tests)
-
 pub same-true : (a b : ℕ) → a ≡ b → (a == b) ≡ true
 same-true a b e = grind (arith, nat_tests)
 
@@ -38,10 +35,6 @@ finds-no-switch t caller seen (answer ∷ answers) =
     (found-no-switch t caller answer.call answer.found (slice_index seen answer.first) (slice_index seen answer.last))
     ∙ finds-no-switch t caller seen answers
 
-pub none-where : (b : Bool) → (b ≡ true → ⊥) → b ≡ false
-none-where true never = absurd (never refl)
-none-where false never = refl
-
 -- what is told is a node, a number and a state
 pub told-true : (off : Bool) (n node q number : ℕ) (o : Bool) → n ≡ node → q ≡ number → o ≡ off
     → (eqb n node && (eqb q number && cond off o (not o))) ≡ true
@@ -49,17 +42,6 @@ told-true true n node q number true a b c = grind (arith, nat_tests)
 told-true true n node q number false a b c = let bad : false ≡ true = c in cc
 told-true false n node q number true a b c = let bad : true ≡ false = c in cc
 told-true false n node q number false a b c = grind (arith, nat_tests)
-
-pub any-at : {A : Type 0} (test : A → Bool) (xs : List A) (i : ℕ) (x : A) → slice_get xs i ≡ Some x → test x ≡ true
-    → list_any test xs ≡ true
-any-at test [] i x is passes = let bad : None ≡ Some x = is in cc
-any-at test (y ∷ xs) zero x is passes =
-    let same : y ≡ x = cc in ap (λ b. b || list_any test xs) (ap test same ∙ passes)
-any-at test (y ∷ xs) (suc i) x is passes = behind (test y) (any-at test xs i x is passes)
-  where
-    behind : (b : Bool) → list_any test xs ≡ true → (b || list_any test xs) ≡ true
-    behind true e = refl
-    behind false e = e
 
 pub get-take : {A : Type 0} (xs : List A) (k i : ℕ) → i < k → slice_get (take k xs) i ≡ slice_get xs i
 get-take xs zero i low = absurd (omega (arith, low))

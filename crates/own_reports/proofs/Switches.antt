@@ -3,7 +3,7 @@ use Rattle.std.proofs.Common.{◌≡◌, ◌⊎◌, inl, inr, ℕ, zero, suc, �
 use Rattle.std.specs.Prelude.{slice_get, slice_index, option_map, unwrap_or}
 use Rattle.std.specs.List.{list_any}
 use Rattle.std.proofs.lemmas.List.{drop-drop, length-map, take_all, take-append-le}
-use Rattle.std.proofs.lemmas.Option.{slice_get-get_or, slice_get-map}
+use Rattle.std.proofs.lemmas.Option.{slice_get-get_or, slice_get-map, same_Some}
 use Rattle.entry_word.specs.Marks.{mark_in, mark_word, says_here, says_off}
 use Rattle.entry_word.specs.declared.mark.PresenceMark.{PresenceMark}
 use Rattle.entry_word.specs.declared.mark.PresenceMark.TheVariants.{Here, Off as OffMark}
@@ -20,11 +20,12 @@ use Rattle.directory.specs.States.{AreSmall, IsSmallWrite}
 use Rattle.directory.specs.Writes.{Write, mark_at, step_writes, visit_of, writes}
 use Rattle.report_check.specs.Parts.{is_switch_at}
 use Rattle.own_reports.proofs.Cuts.{IsOver, Laws, all_writes, cut-below, cut-past, legal-before, made-before, made_before, off-before}
-use Rattle.own_reports.proofs.Signs.{equal-by}
 use Rattle.own_reports.proofs.Order.{tickets-are}
-use Rattle.own_reports.proofs.Plain.{get-add, off_by}
+use Rattle.own_reports.proofs.Plain.{off_by}
 use Rattle.own_reports.proofs.StepRuns.{all-made, part-at, some-writes}
 use Rattle.own_reports.proofs.Tellings.{off-after}
+use Rattle.std.proofs.lemmas.Bool.{eqb-true, or_cases}
+use Rattle.directory.specs.ListLaws.{slice_get-right}
 
 -- ---- the lines of switches
 
@@ -39,10 +40,6 @@ IsSwitchWrite all i =
 abbrev pub IsSwitchTicket : List ℕ → List Write → ℕ → Type 0
 IsSwitchTicket seen all t = (i : ℕ) × (i < length seen) × (t ≡ slice_index seen i) × IsSwitchWrite all i
 
-or-cases : (a b : Bool) → (a || b) ≡ true → (a ≡ true) ⊎ (b ≡ true)
-or-cases true b e = inl refl
-or-cases false b e = inr e
-
 module _ (setting : Setting) (sub t : ℕ) (seen : List ℕ) (all : List Write) where
   pub switch-lines : (course : Course) (steps : List Step) (p : ℕ) (done : List Write) → MaySteps setting course steps
       → length done ≡ p → p + length (writes setting course steps) ≡ length seen
@@ -56,7 +53,7 @@ module _ (setting : Setting) (sub t : ℕ) (seen : List ℕ) (all : List Write) 
       let next : Course = after_step setting course step in
       let later : List Write = writes setting next steps in
       let split : length (ws ++ later) ≡ length ws + length later = length-append ws later in
-      elim (or-cases (is_switch_at t (step_line setting sub course step (take (length ws) (drop p seen)))) _ found) [
+      elim (or_cases (is_switch_at t (step_line setting sub course step (take (length ws) (drop p seen)))) _ found) [
         | inl here ↦ at_step step may.0 (omega (arith, ends, split, some-writes setting course step)) all_is here
         | inr behind ↦
             switch-lines next steps (p + length ws) (done ++ ws) may.1 (omega (arith, length-append done ws, place))
@@ -78,22 +75,22 @@ module _ (setting : Setting) (sub t : ℕ) (seen : List ℕ) (all : List Write) 
       at_step switch_off may low is found = (
         p,
         low,
-        sym (equal-by _ t found) ∙ place-of p,
+        sym (eqb-true _ t found) ∙ place-of p,
         (
           last_stop course,
           length course.moves,
-          inl (ap (λ (xs : List Write). slice_get xs p) is ∙ get-add done _ p 0 (omega (arith, place))),
+          inl (ap (λ (xs : List Write). slice_get xs p) is ∙ slice_get-right done _ p 0 (omega (arith, place))),
         ),
       )
       at_step switch_on may low is found = (
         p,
         low,
-        sym (equal-by _ t found) ∙ place-of p,
+        sym (eqb-true _ t found) ∙ place-of p,
         (
           last_stop course,
           length course.moves,
           inr (
-            ap (λ (xs : List Write). slice_get xs p) is ∙ get-add done _ p 0 (omega (arith, place)),
+            ap (λ (xs : List Write). slice_get xs p) is ∙ slice_get-right done _ p 0 (omega (arith, place)),
             ap (λ (xs : List Write). off_by false (take p xs)) is
                 ∙ ap (off_by false) (take-append-le p done _ (omega (arith, place))
                 ∙ take_all p done (omega (arith, place)))
@@ -107,13 +104,10 @@ module _ (setting : Setting) (sub t : ℕ) (seen : List ℕ) (all : List Write) 
 unwrapped : (o : Option PresenceMark) (x d : PresenceMark) → o ≡ Some x → unwrap_or o d ≡ x
 unwrapped o x d e = ap (λ p. unwrap_or p d) e
 
-some-is : {A : Type 0} (x y : A) → Some x ≡ Some y → x ≡ y
-some-is x y e = cc
-
 small-at : (ws : List Write) (i : ℕ) (w : Write) → AreSmall ws → slice_get ws i ≡ Some w → IsSmallWrite w
 unfolding AreSmall
 small-at [] i w small is = let bad : None ≡ Some w = is in cc
-small-at (x ∷ ws) zero w small is = subst IsSmallWrite (some-is x w is) small.0
+small-at (x ∷ ws) zero w small is = subst IsSmallWrite (same_Some x w is) small.0
 small-at (x ∷ ws) (suc i) w small is = small-at ws i w small.1 is
 
 never : (p q r : Bool) → q ≡ true → (p && not (p && (q || r))) ≡ false
@@ -150,7 +144,7 @@ module _ (laws : Laws) (setting : Setting) (scripts : Scripts) (history : Histor
   pub visit-at : (i : ℕ) (w : Write) → i < length seen → slice_get all i ≡ Some w
       → slice_get history (slice_index seen i) ≡ Some (visit_of sub w)
   visit-at i w low is =
-      some-is (slice_get history (slice_index seen i)) (Some (visit_of sub w))
+      same_Some (slice_get history (slice_index seen i)) (Some (visit_of sub w))
       (sym (ap (option_map (slice_get history)) (slice_get-get_or seen i 0 low))
       ∙ sym (slice_get-map (slice_get history) seen i)
       ∙ ap (λ (xs : List (Option Visit)). slice_get xs i) (laws.visits sub history ∙ ap (map Some) own-all)

@@ -19,8 +19,9 @@ use Rattle.directory.specs.Writes.{Write, mark_at, move_writes, step_writes, wri
 use Rattle.directory.specs.declared.answers.Done.{Done}
 use Rattle.directory.specs.declared.answers.Done.TheVariants.{Moved, Switched}
 use Rattle.report_check.specs.Parts.{at_home, tell, told_before}
-use Rattle.own_reports.proofs.Plain.{commits_in, get-add, get-front, last-push, move-commits, move-confirm, move-on, move-waits, off_by}
+use Rattle.own_reports.proofs.Plain.{commits_in, move-commits, move-confirm, move-on, move-waits, off_by}
 use Rattle.own_reports.proofs.StepRuns.{move-long, part-at}
+use Rattle.directory.specs.ListLaws.{slice_get-right, slice_get-left, last_or-push}
 
 test-now : (sub commit ticket : ℕ) → commit < ticket → (eqb sub sub && ltb commit ticket) ≡ true
 test-now sub commit ticket low = grind (arith, nat_tests)
@@ -71,7 +72,7 @@ module _ (setting : Setting) (homes : List ℕ) (sub ticket : ℕ) (seen : List 
             (told.is_off ∙ sym (fold-append (λ (last : Bool) write. write_off write) false made more ∙ still));
         last = rw (joined, test-now sub commit ticket low)
             (subst (λ o. IsLast setting seen all o (Some commit) move.weight)
-            (sym (ap (last_or None) grown ∙ last-push None (commits_in made) (commit_by move))) is);
+            (sym (ap (last_or None) grown ∙ last_or-push None (commits_in made) (commit_by move))) is);
       }
 
   -- a move that wasn't committed before the ticket
@@ -179,8 +180,8 @@ module _ (setting : Setting) (homes : List ℕ) (sub ticket : ℕ) (seen : List 
             let more : i < m = count.below i (omega (arith, inside)) low in
             let confirm : slice_get all (suc i) ≡ Some (mark_at move.to (Here move.number)) =
             ap (λ (xs : List Write). slice_get xs (suc i)) amid.all_is
-            ∙ get-add done (ws ++ later) (suc i) (suc (suc (suc move.renewed))) (omega (arith, amid.place))
-            ∙ get-front ws later (suc (suc (suc move.renewed))) (mark_at move.to (Here move.number))
+            ∙ slice_get-right done (ws ++ later) (suc i) (suc (suc (suc move.renewed))) (omega (arith, amid.place))
+            ∙ slice_get-left ws later (suc (suc (suc move.renewed))) (mark_at move.to (Here move.number))
             (move-confirm setting course move) in
             told-moved lines (take m done) (take (m - p) ws) move (slice_index chunk 0)
             (slice_index chunk (suc (suc move.renewed))) (slice_index chunk (length chunk - 1)) told

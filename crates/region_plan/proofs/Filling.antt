@@ -2,7 +2,7 @@
 use Rattle.std.proofs.Common.{◌≡◌, inl, inr, ℕ, zero, suc, ◌+◌, ◌-◌, ◌<◌, ◌≤◌, Bool, true, List}
 use Rattle.std.proofs.Common.{length, take, drop, set, get_or, sym, ◌∙◌, ap, subst, arith, add-zero, zero-add}
 use Rattle.std.specs.Prelude.{slice_range}
-use Rattle.std.proofs.lemmas.Bool.{cases_Bool, cases_eq, cases_lt}
+use Rattle.std.proofs.lemmas.Bool.{cases_Bool, cases_eq}
 use Rattle.std.proofs.lemmas.Grind.{same_number_lists}
 use Rattle.std.proofs.lemmas.List.{get_or-set_same, get_or-set_other, get_or-drop, get_or-take, length-drop, length-set}
 use Rattle.std.proofs.lemmas.List.{length-take-le}
@@ -14,6 +14,7 @@ use Rattle.region_plan.specs.Kept.{IsTable}
 use Rattle.region_plan.specs.Readers.{AreCounts, AreFilled, HaveRoom, IsCounted, readers_below}
 use Rattle.region_plan.specs.Regions.{clusters_with}
 use Rattle.region_plan.proofs.Gathering.{uncounted}
+use Rattle.net_graph.specs.StartLaws.{places_within, places_apart, starts_rise}
 
 -- ---- one reader
 
@@ -76,38 +77,9 @@ next_free clusters number i members old taken listed ascending below short node 
 -- ---- the places of the nodes
 
 module _ (n : ℕ) (clusters : List PlanCluster) (starts : List ℕ) (room : HaveRoom n clusters starts) where
-  rise_by : (v k : ℕ) → v + k ≤ n → get_or starts v 0 ≤ get_or starts (v + k) 0
-  rise_by v zero short = subst (λ (i : ℕ). get_or starts v 0 ≤ get_or starts i 0) (sym (add-zero v)) (omega arith)
-  rise_by v (suc k) short =
-      let e : v + k + 1 ≡ v + suc k = omega arith in
-      subst (λ (i : ℕ). get_or starts v 0 ≤ get_or starts i 0) e
-      (omega (arith, rise_by v k (omega arith), room.each (v + k) (omega arith)))
-
-  starts_rise : (u v : ℕ) → u ≤ v → v ≤ n → get_or starts u 0 ≤ get_or starts v 0
-  starts_rise u v order short =
-      let e : u + (v - u) ≡ v = omega arith in
-      subst (λ (i : ℕ). get_or starts u 0 ≤ get_or starts i 0) e (rise_by u (v - u) (omega arith))
-
-  -- those of two nodes are different
-  apart : (u v i j : ℕ) → u < n → v < n → (u ≡ v → ⊥) → i < length (clusters_with clusters u)
-      → j < length (clusters_with clusters v) → get_or starts u 0 + i ≡ get_or starts v 0 + j → ⊥
-  apart u v i j u_below v_below other i_short j_short same = elim (cases_lt u v) [
-    | inl less ↦
-        omega (arith, same, room.each u u_below, starts_rise (u + 1) v (omega arith) (omega arith), i_short)
-    | inr over ↦
-        omega (
-          arith,
-          same,
-          room.each v v_below,
-          starts_rise (v + 1) u (omega (arith, over, other)) (omega arith),
-          j_short,
-        )
-  ]
-
   pub place_within : (m i : ℕ) → m < n → i < length (clusters_with clusters m)
       → get_or starts m 0 + i < get_or starts n 0
-  place_within m i below short =
-      omega (arith, room.each m below, starts_rise (m + 1) n (omega arith) (omega arith), short)
+  place_within = places_within n (λ v. length (clusters_with clusters v)) starts room
 
   module _ (m : ℕ) (taken : List ℕ) (below : m < n) (long : length taken ≡ n)
       (within : (v : ℕ) → v < length taken → get_or taken v 0 ≤ length (clusters_with clusters v))
@@ -128,8 +100,8 @@ module _ (n : ℕ) (clusters : List PlanCluster) (starts : List ℕ) (room : Hav
           let old : place < get_or taken v 0 =
           subst (λ k. place < k) (get_or-set_other taken m v (get_or taken m 0 + 1) 0 other) short in
           get_or-set_other xs (get_or starts m 0 + get_or taken m 0) (get_or starts v 0 + place) x 0
-          (apart v m place (get_or taken m 0) (omega (arith, v_below, long)) below other
-          (omega (arith, old, within v v_below)) next)
+          (places_apart n (λ u. length (clusters_with clusters u)) starts room v m place (get_or taken m 0)
+          (omega (arith, v_below, long)) below other (omega (arith, old, within v v_below)) next)
           ∙ before v place v_below old
     ]
       where
@@ -196,7 +168,7 @@ module _ (n : ℕ) (clusters : List PlanCluster) (starts : List ℕ) (room : Hav
           arith,
           length-drop (get_or starts v 0) readers,
           readers_whole,
-          starts_rise (v + 1) n (omega arith) (omega arith),
+          starts_rise n (λ u. length (clusters_with clusters u)) starts room (v + 1) n (omega arith) (omega arith),
         )) in
         same_number_lists (slice_range readers (get_or starts v 0) (get_or starts (v + 1) 0)) (clusters_with clusters v)
         (omega (arith, wide, room.each v below))
@@ -212,7 +184,11 @@ module _ (n : ℕ) (clusters : List PlanCluster) (starts : List ℕ) (room : Hav
       rows = record {
         count = room.count;
         order = λ v below. omega (arith, room.each v below);
-        within = λ v low. omega (arith, starts_rise v n low (omega arith), readers_whole);
+        within = λ v low. omega (
+          arith,
+          starts_rise n (λ u. length (clusters_with clusters u)) starts room v n low (omega arith),
+          readers_whole,
+        );
         each = row;
       };
       beside = record {

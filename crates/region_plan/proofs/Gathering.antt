@@ -2,28 +2,23 @@
 use Rattle.std.proofs.Common.{◌≡◌, inl, inr, ℕ, zero, suc, ◌+◌, ◌<◌, ◌≤◌, Bool, true, false, cond, ◌||◌, List, []}
 use Rattle.std.proofs.Common.{◌∷◌, ◌++◌, length, take, set, get_or, refl, sym, ◌∙◌, ap, subst, arith, add-zero, zero-add}
 use Rattle.std.specs.Prelude.{◌==◌, All}
-use Rattle.std.proofs.lemmas.Bool.{cases_eq, cases_lt, eq-eqb, ne_eqb}
+use Rattle.std.proofs.lemmas.Bool.{cases_eq, eq-eqb, ne_eqb}
 use Rattle.std.proofs.lemmas.Grind.{get_or_default_zero}
-use Rattle.std.proofs.lemmas.List.{get_or-set_same, get_or-set_other, get_or-take, get_or_append_left, get_or_push}
-use Rattle.std.proofs.lemmas.List.{length-set, length-take-le, length_push, take_more}
+use Rattle.std.proofs.lemmas.List.{get_or-set_same, get_or-set_other}
+use Rattle.std.proofs.lemmas.List.{length-set, take_more}
 use Rattle.node_set.specs.Ascending.{has, IsAscending, sift}
-use Rattle.node_set.specs.SetLaws.{below_each, length-cond, length-passing-add, length-passing-le}
+use Rattle.node_set.specs.SetLaws.{has-append, below_each, length-cond, length-passing-add, length-passing-le}
 use Rattle.region_plan.specs.Plan.{PlanCluster, cluster_in}
-use Rattle.region_plan.specs.Readers.{AreCounts, AreStarts, HaveRoom, IsCounted, readers_below}
+use Rattle.region_plan.specs.Readers.{AreCounts, HaveRoom, IsCounted, readers_below}
+use Rattle.std.proofs.Math.Bool.{or-false, or-true}
+use Rattle.net_graph.specs.Starts.{AreStarts}
+use Rattle.net_graph.specs.StartLaws.{places_made}
+use Rattle.region_plan.specs.Regions.{clusters_with}
 
 -- ---- one member more
 
 has_push : (x y : ℕ) (xs : List ℕ) → has x (xs ++ y ∷ []) ≡ (has x xs || x == y)
-has_push x y [] = at (x == y)
-  where
-    at : (b : Bool) → (b || false) ≡ b
-    at true = refl
-    at false = refl
-has_push x y (z ∷ zs) = ap (λ b. x == z || b) (has_push x y zs) ∙ at (x == z) (has x zs) (x == y)
-  where
-    at : (a b c : Bool) → (a || (b || c)) ≡ ((a || b) || c)
-    at true b c = refl
-    at false b c = refl
+has_push x y xs = has-append x xs (y ∷ []) ∙ ap (λ b. has x xs || b) (or-false (x == y))
 
 -- a number of an ascending list isn't among those before it
 fresh : (xs : List ℕ) (i : ℕ) → IsAscending xs → i < length xs → has (get_or xs i 0) (take i xs) ≡ false
@@ -47,18 +42,11 @@ module _ (members old counts : List ℕ) (i : ℕ) (short : i < length members)
   more v = ap (has v) (take_more members i 0 short) ∙ has_push v (get_or members i 0) (take i members)
 
   other_node : (v : ℕ) → (v ≡ m → ⊥) → has v (take (i + 1) members) ≡ has v (take i members)
-  other_node v other = more v ∙ ap (λ b. has v (take i members) || b) (ne_eqb v m other) ∙ none (has v (take i members))
-    where
-      none : (b : Bool) → (b || false) ≡ b
-      none true = refl
-      none false = refl
+  other_node v other = more v ∙ ap (λ b. has v (take i members) || b) (ne_eqb v m other)
+      ∙ or-false (has v (take i members))
 
   this_node : has m (take (i + 1) members) ≡ true
-  this_node = more m ∙ ap (λ b. has m (take i members) || b) (eq-eqb m m refl) ∙ one (has m (take i members))
-    where
-      one : (b : Bool) → (b || true) ≡ true
-      one true = refl
-      one false = refl
+  this_node = more m ∙ ap (λ b. has m (take i members) || b) (eq-eqb m m refl) ∙ or-true (has m (take i members))
 
   -- it isn't counted yet
   pub uncounted : IsAscending members → get_or members i 0 < length old
@@ -128,56 +116,7 @@ pub count_few : (counts : List ℕ) (i : ℕ) → i < length counts → All (λ 
     → get_or counts i 0 ≤ 1024
 count_few counts i short few = few i 0 short
 
-pub no_starts : (starts : List ℕ) → starts ≡ 0 ∷ [] → AreStarts [] starts
-no_starts starts are = record {
-  count = ap (length {A = ℕ}) are;
-  each = λ v below. absurd (omega arith);
-}
-
-module _ (counts starts new : List ℕ) (i sum : ℕ) (short : i < length counts)
-    (before : AreStarts (take i counts) starts) (now : new ≡ starts ++ (sum + get_or counts i 0) ∷ []) where
-  long : length starts ≡ i + 1
-  long = before.count ∙ ap (λ k. k + 1) (length-take-le i counts (omega arith))
-
-  old_start : (v : ℕ) → v ≤ i → get_or new v 0 ≡ get_or starts v 0
-  old_start v low = ap (λ (xs : List ℕ). get_or xs v 0) now
-      ∙ get_or_append_left starts ((sum + get_or counts i 0) ∷ []) 0 v (omega (arith, long))
-
-  pub last_start : get_or new (i + 1) 0 ≡ sum + get_or counts i 0
-  last_start = ap (λ (xs : List ℕ). get_or xs (i + 1) 0) now
-      ∙ get_or_push starts (sum + get_or counts i 0) 0 (i + 1) long
-
-  pub one_start : get_or starts i 0 ≡ sum → AreStarts (take (i + 1) counts) new
-  one_start last = record {
-    count = omega (
-      arith,
-      ap (length {A = ℕ}) now,
-      length_push starts (sum + get_or counts i 0),
-      long,
-      length-take-le (i + 1) counts (omega (arith, short)),
-    );
-    each = λ v below.
-        let low : v < i + 1 = omega (arith, below, length-take-le (i + 1) counts (omega (arith, short))) in
-        elim (cases_lt v i) [
-          | inl less ↦
-              old_start (v + 1) (omega (arith, less))
-              ∙ before.each v (omega (arith, less, short, length-take-le i counts (omega (arith, short))))
-              ∙ ap (λ k. get_or starts v 0 + k) (get_or-take i counts v 0 less
-              ∙ sym (get_or-take (i + 1) counts v 0 low))
-              ∙ ap (λ k. k + get_or (take (i + 1) counts) v 0) (sym (old_start v (omega (arith, less))))
-          | inr more ↦
-              let same : i ≡ v = omega (arith, more, low) in
-              subst (λ u. get_or new (u + 1) 0 ≡ get_or new u 0 + get_or (take (i + 1) counts) u 0) same
-              (last_start ∙ ap (λ k. k + get_or counts i 0) (sym (old_start i (omega arith) ∙ last))
-              ∙ ap (λ k. get_or new i 0 + k) (sym (get_or-take (i + 1) counts i 0 (omega arith))))
-        ];
-  }
-
 pub room_made : (clusters : List PlanCluster) (n : ℕ) (counts starts : List ℕ) → length counts ≡ n
     → AreCounts clusters (length clusters) counts → AreStarts counts starts → HaveRoom n clusters starts
-room_made clusters n counts starts long are sums = record {
-  count = sums.count ∙ ap (λ k. k + 1) long;
-  each = λ v below.
-      let short : v < length counts = omega (arith, below, long) in
-      sums.each v short ∙ ap (λ k. get_or starts v 0 + k) (are v short);
-}
+room_made clusters n counts starts long are sums = places_made n (λ v. length (clusters_with clusters v)) counts starts
+    long are sums

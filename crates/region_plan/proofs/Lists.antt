@@ -1,7 +1,7 @@
 -- Numbers from 0 on, and what stands beside a member.
-use Rattle.std.proofs.Common.{◌≡◌, ℕ, zero, suc, ◌+◌, ◌<◌, ◌≤◌, true, List, [], ◌∷◌, ◌++◌, drop, length, map, take}
+use Rattle.std.proofs.Common.{◌≡◌, ℕ, zero, suc, ◌+◌, ◌<◌, ◌≤◌, true, List, [], ◌∷◌, ◌++◌, drop, length, map}
 use Rattle.std.proofs.Common.{refl, sym, ◌∙◌, ap, subst, arith}
-use Rattle.std.proofs.Math.Seq.{drop-append_seam, take-append_seam}
+use Rattle.std.proofs.Math.Seq.{drop-append_seam}
 use Rattle.std.specs.Prelude.{All}
 use Rattle.std.proofs.lemmas.List.Elements.{All-drop}
 use Rattle.std.proofs.lemmas.List.{map_push}
@@ -30,11 +30,6 @@ map_same_range f g v (suc n) same =
 pub map_same : {X : Type 0} (f g : ℕ → X) (n : ℕ) → ((u : ℕ) → u < n → f u ≡ g u) → map f (centres n)
     ≡ map g (centres n)
 map_same f g n same = map_same_range f g 0 n (λ u low high. same u (omega arith))
-
--- a list that was written over whole
-pub written : {A : Type 0} (n : ℕ) (new old : List A) → length new ≡ length old → n ≡ length old
-    → take n (new ++ drop (length new) old) ≡ new
-written n new old same whole = let e : n ≡ length new = whole ∙ sym same in rw (e, take-append_seam) refl
 
 -- what holds of all holds of the one that comes next
 pub next_holds : {X : Type 0} (P : X → Type 0) (all before rest later : List X) (x : X) → all ≡ before ++ rest

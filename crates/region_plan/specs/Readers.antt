@@ -2,6 +2,7 @@
 -- them. Only the private functions of this crate speak of them.
 -- Key law: `ReaderLists::new` lays them as the plan has them (`IsTable`).
 use Rattle.std.specs.Prelude.{◌≡◌, ℕ, ◌+◌, ◌≤◌, ◌<◌, List, cond, length, slice_index}
+use Rattle.net_graph.specs.Starts.{HavePlaces}
 use Rattle.node_set.specs.Ascending.{has, sift}
 use Rattle.region_plan.specs.Plan.{PlanCluster, cluster_in, weight_in}
 use Rattle.region_plan.specs.Regions.{clusters_with}
@@ -21,17 +22,9 @@ pub record IsCounted (members old new : List ℕ) : Type 0 where
   pub each : (v : ℕ) → v < length old
       → slice_index new v ≡ slice_index old v + cond (has v members) 1 0
 
--- the sums of the counts before each node, and of all
-pub record AreStarts (counts starts : List ℕ) : Type 0 where
-  pub count : length starts ≡ length counts + 1
-  pub each : (v : ℕ) → v < length counts
-      → slice_index starts (v + 1) ≡ slice_index starts v + slice_index counts v
-
 -- from its start on each of n nodes has as many places as clusters contain it
-pub record HaveRoom (n : ℕ) (clusters : List PlanCluster) (starts : List ℕ) : Type 0 where
-  pub count : length starts ≡ n + 1
-  pub each : (v : ℕ) → v < n
-      → slice_index starts (v + 1) ≡ slice_index starts v + length (clusters_with clusters v)
+abbrev pub HaveRoom : ℕ → List PlanCluster → List ℕ → Type 0
+HaveRoom n clusters starts = HavePlaces n (λ v. length (clusters_with clusters v)) starts
 
 -- the first so many readers of each node are written, and the weights beside them
 pub record AreFilled (clusters : List PlanCluster) (starts taken readers weights : List ℕ) :

@@ -3,7 +3,8 @@
 ghost use Rattle.std.specs.Prelude.{◌≡◌, ◌+◌, ◌<◌, ◌≤◌, All, IfOk, length, slice_index};
 ghost use Rattle.node_set.specs.Ascending.{IsAscending};
 ghost use Rattle.region_plan.specs.Kept.{IsTable};
-ghost use Rattle.region_plan.specs.Readers.{AreCounts, AreFilled, AreStarts, HaveRoom, IsCounted};
+ghost use Rattle.net_graph.specs.Starts.{AreStarts};
+ghost use Rattle.region_plan.specs.Readers.{AreCounts, AreFilled, HaveRoom, IsCounted};
 
 use crate::clusters::Clusters;
 use net_graph::OutOfMemory;

@@ -3,6 +3,8 @@
 -- its node and its number; a find's its origin and its subscriber.
 -- Key law: `example_slots` computes those of an input.
 use Rattle.std.specs.Prelude.{ℕ, suc, true, false, List, [], ◌∷◌, ◌++◌, slice_index}
+use Rattle.directory.specs.Places.{place_after_step}
+use Rattle.scripts.specs.Scripts.{step_of}
 use Rattle.net_reader.specs.declared.said.Call.{Call}
 use Rattle.net_reader.specs.declared.said.Call.TheVariants as calls
 use Rattle.net_reader.specs.Input.{Contents}
@@ -18,10 +20,8 @@ slot_of actor place number calls.On = Switch actor false place number
 
 -- where an actor is after a call
 abbrev pub place_after : ℕ → Call → ℕ
-place_after place (calls.Move to) = to
-place_after place (calls.Find from sub) = place
-place_after place calls.Off = place
-place_after place calls.On = place
+place_after place call =
+    (place_after_step (record { node = place; is_off = false }) (step_of call)).node
 
 -- how many moves it has made after a call
 abbrev pub number_after : ℕ → Call → ℕ

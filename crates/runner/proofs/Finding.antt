@@ -39,6 +39,7 @@ use Rattle.runner.specs.Playing.{HasMadeNext, looks_after}
 use Rattle.runner.specs.PlayLaws.{caller-in}
 use Rattle.runner.specs.Roles.{HasLookedOn, IsFinder, IsSetFor}
 use Rattle.runner.specs.declared.finder.Finder.{Finder}
+use Rattle.directory.specs.ListLaws.{is_some-none}
 
 -- the walk of a caller's part
 pub walking-of : (input : Contents) (setup : Setup) (actor : ℕ) (seen : History) (spare : ℕ) (finder : Finder)
@@ -53,10 +54,6 @@ walking-of input setup actor seen spare finder walk its some =
 pub some-is : {A : Type 0} (o : Option A) → is_some o ≡ true → (x : A) × (o ≡ Some x)
 some-is None h = cc
 some-is (Some x) h = (x, refl)
-
-pub none-is : {A : Type 0} (o : Option A) → is_some o ≡ false → o ≡ None
-none-is None h = refl
-none-is (Some x) h = cc
 
 -- a find that has no answer looks at some cell next
 key-some : (call : FindCall) (stage : Stage) → answer_of stage ≡ None → (key : Key) × (key_of call stage ≡ Some key)

@@ -27,6 +27,7 @@ use Rattle.runner.specs.Roles.{IsSetFor}
 use Rattle.runner.specs.Runs.{AreWorkersOf, HasFinished, IsOutcomeOfRun, actors_of}
 use Rattle.runner.specs.Workers.{IsWorkerOf, MayServe}
 use Rattle.runner.specs.declared.worker.Worker.{Worker}
+use Rattle.std.proofs.lemmas.Option.{slice_get-get_or}
 
 get-map : {A B : Type 0} (f : A → B) (xs : List A) (k : ℕ) (x : A) → slice_get xs k ≡ Some x
     → slice_get (map f xs) k ≡ Some (f x)
@@ -113,12 +114,6 @@ outcome-of-run own_law played done setting scripts order outcome is =
           (sym (own_law setting scripts history (played setting scripts order) (done setting scripts order)));
       printed = ap (λ (o : Outcome). o.order) is;
     }
-
--- the element at a place of a list
-pub some-at : {A : Type 0} (xs : List A) (i : ℕ) (d : A) → i < length xs → slice_get xs i ≡ Some (get_or xs i d)
-some-at [] i d low = absurd (omega (arith, low))
-some-at (x ∷ xs) zero d low = refl
-some-at (x ∷ xs) (suc i) d low = some-at xs i d (omega (arith, low))
 
 -- it stands there whatever the default
 pub at-some : {A : Type 0} (xs : List A) (i : ℕ) (x : A) → slice_get xs i ≡ Some x

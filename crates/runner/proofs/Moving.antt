@@ -40,14 +40,7 @@ use Rattle.runner.specs.Playing.{HasMadeNext, next_of}
 use Rattle.runner.specs.PlayLaws.{own-next}
 use Rattle.runner.specs.Roles.{HasBegun, IsMover, IsSetFor, IsUnderWay}
 use Rattle.runner.specs.declared.mover.Mover.{Mover}
-
-some-of : {A B : Type 0} (f : A → B) (o : Option A) (y : B) → option_map f o ≡ Some y → (x : A) × (f x ≡ y)
-some-of f None y h = cc
-some-of f (Some x) y h = let e : f x ≡ y = cc in (x, e)
-
-pub none-is : {A : Type 0} (o : Option A) → is_some o ≡ false → o ≡ None
-none-is None h = refl
-none-is (Some x) h = cc
+use Rattle.directory.specs.ListLaws.{option_map-some, is_some-none}
 
 pub due-some : {A : Type 0} (o : Option A) → IsSome o → (x : A) × (o ≡ Some x)
 due-some None h = cc
@@ -57,7 +50,7 @@ due-some (Some x) h = (x, refl)
 due-actor : (setting : Setting) (handset : HandsetData) (visit : Visit) → due setting handset ≡ Some visit
     → visit ≡ record { actor = handset.sub; act = visit.act }
 due-actor setting handset visit is =
-    let found = some-of (visit_of handset.sub) (due_at setting handset handset.stage) visit is in
+    let found = option_map-some (visit_of handset.sub) (due_at setting handset handset.stage) visit is in
     subst (λ (v : Visit). v ≡ record { actor = handset.sub; act = v.act }) found.1 refl
 
 -- the next visit of a subscriber is what its handset writes next, once a step is begun where one is left

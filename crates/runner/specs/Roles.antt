@@ -31,7 +31,8 @@ use Rattle.runner.specs.declared.mover.Mover.{Mover}
 use Rattle.runner.specs.declared.role.Role.{Role}
 use Rattle.runner.specs.declared.role.Role.TheVariants as roles
 
--- a tracker was made for this plan, and the homes and the callers of an input to which it belongs
+-- a tracker was made for this plan, and for the subscribers and the callers of an input to which it
+-- belongs
 pub record IsSetFor (input : Contents) (setup : Setup) (plan : PlanData)
     (distances : DistanceTable) : Type 0 where
   pub together : BelongTogether input plan distances

@@ -1,7 +1,7 @@
 -- No history has more visits than the scripts have at most.
-use Rattle.std.proofs.Common.{◌≡◌, ◌⊎◌, inl, inr, ℕ, zero, suc, ◌+◌, ◌<◌, ◌≤◌, ◌==◌, Bool, true, false, cond, List, [], ◌∷◌, ◌++◌, length, map, take, get_or, refl, sym, ap, ◌∙◌, subst, arith}
+use Rattle.std.proofs.Common.{◌≡◌, inl, inr, ℕ, zero, suc, ◌+◌, ◌<◌, ◌≤◌, ◌==◌, Bool, true, false, cond, List, [], ◌∷◌, ◌++◌, length, map, take, get_or, refl, sym, ap, ◌∙◌, subst, arith}
 use Rattle.std.specs.Prelude.{All, None, Some, slice_get, sum_by}
-use Rattle.std.proofs.lemmas.Bool.{eqb-true, eq-eqb, ne_eqb, lt-ltb, le-ltb}
+use Rattle.std.proofs.lemmas.Bool.{eqb-true, eq-eqb, ne_eqb, lt-ltb, le-ltb, cases_lt}
 use Rattle.std.proofs.lemmas.Bool.Decides.{nat_tests}
 use Rattle.std.proofs.lemmas.List.{append-nil, length_push, length-map}
 use Rattle.std.proofs.lemmas.List.Sums.{sum_by-cons}
@@ -22,6 +22,7 @@ use Rattle.scripts.specs.Scripts.{IsSettingOf, most_in, scripts_of, step_of}
 use Rattle.scripts.specs.Laws.{VisitsAreFew}
 use Rattle.scripts.specs.MostLaws.{finds-most, steps-most}
 use Rattle.scripts.specs.ScriptLaws.{finds-are, steps-are, stranger-done}
+use Rattle.std.proofs.lemmas.Option.{slice_get-get_or}
 
 -- sums over so many numbers from one on
 total : (ℕ → ℕ) → ℕ → ℕ → ℕ
@@ -138,7 +139,7 @@ turns-most : MovesAreShort → (input : Contents) (setting : Setting) (actor : �
     → IsSettingOf input setting → actor < length input.scripts
     → most_turns setting (scripts_of input) actor ≤ most_in setting (get_or input.scripts actor [])
 turns-most short input setting actor valid over low =
-    elim (cases actor (subs setting)) as (λ _. most_turns setting (scripts_of input) actor
+    elim (cases_lt actor (subs setting)) as (λ _. most_turns setting (scripts_of input) actor
     ≤ most_in setting (get_or input.scripts actor [])) [
       | inl sub ↦ rw (lt-ltb actor (subs setting) sub)
           (omega (
@@ -162,30 +163,19 @@ turns-most short input setting actor valid over low =
     count : subs setting ≡ length input.homes
     count = ap length over.starts
 
-    cases : (a b : ℕ) → (a < b) ⊎ (b ≤ a)
-    cases a b = grind (arith, nat_tests)
-
 -- whoever made a visit is an actor of the input
 known : (input : Contents) (setting : Setting) (history : History) → IsValid input → IsSettingOf input setting
     → IsPlayed setting (scripts_of input) history → All (λ (v : Visit). v.actor < length input.scripts) history
 known input setting history valid over played t d low =
     let visit : Visit = get_or history t d in
-    elim (cases visit.actor (length input.scripts)) [
+    elim (cases_lt visit.actor (length input.scripts)) [
       | inl h ↦ h
       | inr high ↦
           let wants : next setting (scripts_of input) (take t history) visit.actor ≡ Some visit =
-          played t visit (get-some history t d low) in
+          played t visit (slice_get-get_or history t d low) in
           let none : next setting (scripts_of input) (take t history) visit.actor ≡ None =
           stranger-done input setting (take t history) visit.actor valid over.starts high in cc
     ]
-  where
-    cases : (a b : ℕ) → (a < b) ⊎ (b ≤ a)
-    cases a b = grind (arith, nat_tests)
-
-    get-some : (xs : List Visit) (i : ℕ) (e : Visit) → i < length xs → slice_get xs i ≡ Some (get_or xs i e)
-    get-some [] i e h = absurd (omega (arith, h))
-    get-some (x ∷ xs) zero e h = refl
-    get-some (x ∷ xs) (suc i) e h = get-some xs i e (omega (arith, h))
 
 pub visits-few : OwnGrow → TurnsAreFew → MovesAreShort → MoreIsPlayed → VisitsAreFew
 visits-few grow few short more input setting history valid over played =

@@ -2,8 +2,9 @@
 -- actor, and that they are few and short.
 -- Key laws: `steps-are` and `finds-are` (the script of a subscriber, and of a caller),
 -- `stranger-done` (an actor that the input doesn't have has no visit), `few-nodes` (a valid input
--- has few nodes), `calls-few` (and short scripts).
-use Rattle.std.proofs.Common.{◌≡◌, inl, inr, ℕ, zero, suc, ◌+◌, ◌-◌, ◌<◌, ◌≤◌, ◌^◌, List, [], ◌∷◌, length, map, take, drop, fold, get_or, ap, ◌∙◌, subst, arith}
+-- has few nodes), `calls-few` (and short scripts), `place-after_calls` and `off-after_calls` (what
+-- the reader keeps of a subscriber is where its steps lead).
+use Rattle.std.proofs.Common.{◌≡◌, inl, inr, ℕ, zero, suc, ◌+◌, ◌-◌, ◌<◌, ◌≤◌, ◌^◌, Bool, true, false, List, [], ◌∷◌, length, map, take, drop, fold, get_or, refl, ap, ◌∙◌, subst, arith}
 use Rattle.std.specs.Prelude.{None, option_map}
 use Rattle.std.proofs.lemmas.List.{get_or-map, get_or-take, get_or-drop, get_or_past, length-map, length-drop, length-take-le}
 use Rattle.directory.specs.Settings.{Setting, subs}
@@ -11,10 +12,13 @@ use Rattle.directory.specs.Histories.{History, words_read}
 use Rattle.directory.specs.HistoryLaws.{next-caller}
 use Rattle.directory.specs.Looks.{look_by}
 use Rattle.directory.specs.Orders.{Caller as Seeker, after_read, caller_at, finds_of, key_in, next, next_key, read_by, steps_of}
+use Rattle.directory.specs.Places.{place_after_step}
 use Rattle.net_reader.specs.declared.said.Call.{Call}
+use Rattle.net_reader.specs.declared.said.Call.TheVariants as calls
+use Rattle.net_reader.specs.Said.{off_after, place_after}
 use Rattle.net_reader.specs.Input.{Contents}
 use Rattle.net_reader.specs.Table.{most_calls, most_nodes}
-use Rattle.net_reader.specs.Valid.{IsValid, count_calls}
+use Rattle.net_reader.specs.Valid.{IsCourse, IsValid, count_calls}
 use Rattle.scripts.specs.Scripts.{find_of, scripts_of, step_of}
 
 -- a valid input has few nodes
@@ -102,3 +106,25 @@ stranger-done input setting history actor valid same high =
       length-map (drop (length input.homes) input.scripts) (map find_of),
       length-drop (length input.homes) input.scripts,
     ))))
+
+-- where the reader says that a subscriber is after its calls, its steps lead
+pub place-after_calls : (here : ℕ) (off : Bool) (script : List Call) → place_after here script
+    ≡ (fold place_after_step (record { node = here; is_off = off }) (map step_of script)).node
+place-after_calls here off [] = refl
+place-after_calls here off (calls.Move to ∷ script) = place-after_calls to off script
+place-after_calls here off (calls.Find from sub ∷ script) = place-after_calls here false script
+place-after_calls here off (calls.Off ∷ script) = place-after_calls here true script
+place-after_calls here off (calls.On ∷ script) = place-after_calls here false script
+
+-- and it is off after them just where the reader says so, since it makes no finds
+pub off-after_calls : (format n here node : ℕ) (off : Bool) (script : List Call)
+    → IsCourse format n here off script → off_after off script
+    ≡ (fold place_after_step (record { node = node; is_off = off }) (map step_of script)).is_off
+off-after_calls format n here node off [] its = refl
+off-after_calls format n here node off (calls.Move to ∷ script) its =
+    off-after_calls format n to to off script its.3
+off-after_calls format n here node off (calls.Find from sub ∷ script) its = absurd its
+off-after_calls format n here node off (calls.Off ∷ script) its =
+    off-after_calls format n here node true script its.2
+off-after_calls format n here node off (calls.On ∷ script) its =
+    off-after_calls format n here node false script its.2

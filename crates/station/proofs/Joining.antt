@@ -231,10 +231,10 @@ longer_is P one other a b = go (nat_lt (length one) (length other))
     go true = b
     go false = a
 
-pub longer_own : (actor : ℕ) (one other history : History) → IsFront one history → IsFront other history
+pub longer-own : (actor : ℕ) (one other history : History) → IsFront one history → IsFront other history
     → own actor history ≡ own actor one
     → own actor history ≡ own actor (longer one other)
-longer_own actor one other history f g same = dite (dec_le (length other) (length one))
+longer-own actor one other history f g same = dite (dec_le (length other) (length one))
     (λ h. subst (λ (c : Bool). own actor history ≡ own actor (if c then other else one)) (sym (le-ltb (length one)
     (length other) h)) same)
     (λ h. subst (λ (c : Bool). own actor history ≡ own actor (if c then other else one)) (sym (lt-ltb (length one)
@@ -278,7 +278,7 @@ hears setup id other v w low high out s o me ne at =
           seen = longer_is (λ (l : History). IsFront l o.history) v.seen w.seen was.has.seen note.has.seen;
           told = note.has.seen;
           had = was.has.seen;
-          visits = λ actor st. longer_own actor v.seen w.seen o.history was.has.seen note.has.seen
+          visits = λ actor st. longer-own actor v.seen w.seen o.history was.has.seen note.has.seen
               (was.has.visits actor st);
           kept = λ actor st. was.has.visits actor st;
         };

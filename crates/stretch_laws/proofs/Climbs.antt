@@ -12,7 +12,7 @@ use Rattle.directory.specs.Finds.{FindCall, Reader}
 use Rattle.directory.specs.Standing.{number, standing}
 use Rattle.trail_laws.specs.Trail.{entry_seen, IsLed, KnowsAtMost, mark_seen}
 use Rattle.trail_laws.specs.Within.{Affords, AffordsAddress, EntryAsks, WeighsAtMost}
-use Rattle.stretch_laws.proofs.Heights.{scaled-more, scaled-next}
+use Rattle.stretch_laws.proofs.Heights.{scaled-more, scaled_twice}
 use Rattle.node_set.specs.SetLaws.{has_head}
 
 -- what these clusters of a level, where they have an address, lead to, over ways of at most this weight
@@ -135,13 +135,7 @@ module _ (setting : Setting) (seen : History) (call : FindCall) (most reads chas
       ))
       (inl (λ w h. climb-affords width readers last few near pays found enough fuel (suc level) more w
       (omega (arith, count)) (omega (arith, within))
-      (omega (arith, h, so_far, row, next))))
+      (omega (arith, h, so_far, row, scaled_twice readers width level))))
     where
       row : length (setting.readers level call.from) * (width * 2 ^ level) ≤ readers * (width * 2 ^ level)
       row = mul-le-mul_right (width * 2 ^ level) (few level (omega (arith, count)))
-
-      turned : (a b : ℕ) → a * (2 * b) ≡ 2 * (a * b)
-      turned a b = grind arith
-
-      next : readers * (width * 2 ^ suc level) ≡ 2 * (readers * (width * 2 ^ level))
-      next = ap (λ n. readers * n) (scaled-next width level) ∙ turned readers (width * 2 ^ level)

@@ -16,7 +16,7 @@ use Rattle.trail_laws.specs.Ways.{LevelsStayNear, PassagesAreOpen, StandsInside}
 use Rattle.stretch_laws.specs.Costs.{AfterConfirm, AtRest, ClimbsEndEarly, Costs, CurrentAfterConfirm, InPassage, IsMet, NewBeforeCommit, OldBeforeCommit, ReadingIsBounded}
 use Rattle.stretch_laws.specs.Tracking.{IsTracking, radius}
 use Rattle.stretch_laws.proofs.Climbs.{one-more, tail-has}
-use Rattle.stretch_laws.proofs.Heights.{Ends, ends, scaled-next}
+use Rattle.stretch_laws.proofs.Heights.{Ends, ends, scaled_twice}
 use Rattle.node_set.specs.SetLaws.{has_head}
 
 -- what is used of the laws
@@ -214,25 +214,13 @@ rows-weight setting width readers call tracking inside (suc count) level high = 
   mul-le-mul_right (width * 2 ^ level) (tracking.few level call.from (omega (arith, high)) inside),
   rows-weight setting width readers call tracking inside count (suc level) (omega (arith, high)),
   ap (λ n. readers * (width * 2 ^ n)) (let e : count + suc level ≡ suc count + level = omega arith in e),
-  next,
+  scaled_twice readers width level,
 )
-  where
-    turned : (a b : ℕ) → a * (2 * b) ≡ 2 * (a * b)
-    turned a b = grind arith
-
-    next : readers * (width * 2 ^ suc level) ≡ 2 * (readers * (width * 2 ^ level))
-    next = ap (λ n. readers * n) (scaled-next width level) ∙ turned readers (width * 2 ^ level)
 
 pub reading-bounded : ReadingIsBounded
 reading-bounded setting width readers call last tracking inside low = omega (
   arith,
   rows-weight setting width readers call tracking inside (suc last) 0 (omega (arith, low)),
   ap (λ n. readers * (width * 2 ^ n)) (let e : suc last + 0 ≡ suc last = omega arith in e),
-  next,
+  scaled_twice readers width last,
 )
-  where
-    turned : (a b : ℕ) → a * (2 * b) ≡ 2 * (a * b)
-    turned a b = grind arith
-
-    next : readers * (width * 2 ^ suc last) ≡ 2 * (readers * (width * 2 ^ last))
-    next = ap (λ n. readers * n) (scaled-next width last) ∙ turned readers (width * 2 ^ last)

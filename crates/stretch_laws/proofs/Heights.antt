@@ -1,6 +1,6 @@
 -- The level at which a climb ends: its radius is less than four times the distance.
 use Rattle.std.proofs.Common.{◌≡◌, ◌⊎◌, inl, inr, ℕ, zero, suc, ◌+◌, ◌-◌, ◌*◌, ◌<◌, ◌≤◌, ◌^◌, ap, ◌∙◌, subst, arith}
-use Rattle.std.proofs.Math.Nat.{mul-le-mul_left}
+use Rattle.std.proofs.Math.Nat.{mul-le-mul_left, mul_left_comm}
 use Rattle.directory.specs.Settings.{Setting}
 use Rattle.stretch_laws.specs.Tracking.{radius, stretch}
 use Rattle.std.proofs.lemmas.Bool.{cases_lt}
@@ -40,10 +40,11 @@ ends setting d halves some = ends-from setting d halves setting.top 0 (omega ari
 
 -- a multiple of the radius of a level, and how it grows
 pub scaled-next : (w level : ℕ) → w * 2 ^ suc level ≡ 2 * (w * 2 ^ level)
-scaled-next w level = ap (λ n. w * n) (twice level) ∙ turned w (2 ^ level)
-  where
-    turned : (a b : ℕ) → a * (2 * b) ≡ 2 * (a * b)
-    turned a b = grind arith
+scaled-next w level = ap (λ n. w * n) (twice level) ∙ mul_left_comm w 2 (2 ^ level)
+
+pub scaled_twice : (readers width level : ℕ) → readers * (width * 2 ^ suc level) ≡ 2 * (readers * (width * 2 ^ level))
+scaled_twice readers width level = ap (λ n. readers * n) (scaled-next width level)
+    ∙ mul_left_comm readers 2 (width * 2 ^ level)
 
 scaled-by : (w i k : ℕ) → w * 2 ^ i ≤ w * 2 ^ (k + i)
 scaled-by w i zero = let e : 0 + i ≡ i = omega arith in rw e (omega arith)
@@ -65,14 +66,11 @@ within-stretch m w d r small = omega (
   spread m w d,
   by_width,
   mul-le-mul_left m by_width,
-  turned m (w * d),
+  mul_left_comm m 4 (w * d),
 )
   where
-    turned : (a b : ℕ) → a * (4 * b) ≡ 4 * (a * b)
-    turned a b = grind arith
-
     by_width : w * r ≤ 4 * (w * d)
-    by_width = omega (arith, mul-le-mul_left w (let h : r ≤ 4 * d = omega (arith, small) in h), turned w d)
+    by_width = omega (arith, mul-le-mul_left w (let h : r ≤ 4 * d = omega (arith, small) in h), mul_left_comm w 4 d)
 
 pub within-one : (m w d : ℕ) → d ≤ stretch w m * d
 within-one m w d = omega (arith, spread m w d)

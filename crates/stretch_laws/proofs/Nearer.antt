@@ -1,6 +1,6 @@
 -- Where its subscriber rests a quiet find travels less.
 use Rattle.std.proofs.Common.{◌≡◌, ◌⊎◌, inl, inr, ℕ, suc, ◌+◌, ◌*◌, ◌<◌, ◌≤◌, ◌^◌, sym, ap, ◌∙◌, subst, arith}
-use Rattle.std.proofs.Math.Nat.{mul-le-mul_left}
+use Rattle.std.proofs.Math.Nat.{mul-le-mul_left, mul_left_comm}
 use Rattle.entry_word.specs.declared.mark.PresenceMark.TheVariants.{Gone, Coming}
 use Rattle.directory.specs.Settings.{levels, Setting}
 use Rattle.directory.specs.Histories.{before, History}
@@ -27,15 +27,12 @@ within-resting m w d r small = omega (
   rest-spread m w d,
   by_width,
   mul-le-mul_left m by_width,
-  turned m (w * d),
+  mul_left_comm m 4 (w * d),
   small,
 )
   where
-    turned : (a b : ℕ) → a * (4 * b) ≡ 4 * (a * b)
-    turned a b = grind arith
-
     by_width : w * r ≤ 4 * (w * d)
-    by_width = omega (arith, mul-le-mul_left w (let h : r ≤ 4 * d = omega (arith, small) in h), turned w d)
+    by_width = omega (arith, mul-le-mul_left w (let h : r ≤ 4 * d = omega (arith, small) in h), mul_left_comm w 4 d)
 
 -- what is used beside
 pub record RestUsed : Type 0 where

@@ -2,8 +2,7 @@
 use Rattle.std.proofs.Common.{◌≡◌, ◌⊎◌, inl, inr, ℕ, zero, suc, ◌+◌, ◌*◌, ◌<◌, ◌≤◌, ◌^◌, true, false, cond, ◌&&◌, List, sym, ap, ◌∙◌, subst, arith}
 use Rattle.std.specs.Prelude.{nat_lt}
 use Rattle.std.proofs.Math.Nat.{mul-le-mul_right}
-use Rattle.std.proofs.lemmas.Bool.{lt-ltb}
-use Rattle.std.proofs.lemmas.Bool.Decides.{nat_tests}
+use Rattle.std.proofs.lemmas.Bool.{lt-ltb, cases_lt}
 use Rattle.node_set.specs.Ascending.{has}
 use Rattle.node_set.specs.SetLaws.{has-passing, passing_over}
 use Rattle.directory.specs.Histories.{before, History, through}
@@ -44,11 +43,8 @@ module _ (plan : PlanData) (starts : List ℕ) (bounds : BoundsFinds plan) where
   -- a cluster that a node reads contains it
   read-means : (i c v : ℕ) → i ≤ top_of plan → v < nodes_of plan → has c (readers plan i v) ≡ true
       → (c < clusters_of plan i) × (has v (members_of plan i c) ≡ true)
-  read-means i c v h g reads = at_place (cases c (clusters_of plan i))
+  read-means i c v h g reads = at_place (cases_lt c (clusters_of plan i))
     where
-      cases : (a b : ℕ) → (a < b) ⊎ (b ≤ a)
-      cases a b = grind (arith, nat_tests)
-
       listed : has c (clusters_with (level_at plan i).clusters v) ≡ true
       listed = ap (has c) (sym (bounds.matched.read i v (level-below i h) g)) ∙ reads
 

@@ -12,7 +12,8 @@ use Rattle.net_reader.specs.Valid.{IsValid}
 use Rattle.region_plan.specs.Matched.{BoundsFinds}
 use Rattle.region_plan.specs.Plan.{PlanData, nodes_of}
 use Rattle.directory.specs.Orders.{AreValid, steps_of}
-use Rattle.trail_laws.specs.Censuses.{CensusesEndByScripts, CensusesEndRight, Place, is_on_at, place_at_end, who_ends_at}
+use Rattle.directory.specs.Places.{Place, place_at_end}
+use Rattle.trail_laws.specs.Censuses.{CensusesEndByScripts, CensusesEndRight, is_on_at, who_ends_at}
 use Rattle.trail_laws.specs.Lines.{NumbersRise, OutcomesAreRight}
 use Rattle.stretch_laws.specs.Lines.{PlanOutcomesAreNear}
 use Rattle.trail_laws.specs.Lines.{TellInTurn}

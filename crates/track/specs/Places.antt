@@ -3,7 +3,7 @@
 -- order, the last census tells where the scripts lead.
 use Rattle.std.specs.Prelude.{◌≡◌, ℕ, ◌<◌, if◌then◌else◌, List, length, Option, Some, None, slice_index, slice_index_or}
 use Rattle.directory.specs.Orders.{steps_of}
-use Rattle.trail_laws.specs.Censuses.{Place, place_at_end}
+use Rattle.directory.specs.Places.{Place, place_at_end}
 use Rattle.scripts.specs.Scripts.{scripts_of}
 use Rattle.net_reader.specs.Input.{Contents}
 

@@ -3,7 +3,7 @@ ghost use Rattle.std.specs.Prelude.{◌≡◌, IfOk, map};
 ghost use Rattle.net_reader.specs.Seen.{seen_input};
 ghost use Rattle.net_reader.specs.Valid.{IsValid};
 ghost use Rattle.scripts.specs.Scripts.{step_of};
-ghost use Rattle.trail_laws.specs.Censuses.{place_at_end};
+ghost use Rattle.directory.specs.Places.{place_at_end};
 ghost use Rattle.track.specs.Results.{IsCensusText};
 ghost use Rattle.track.specs.Places.{AreLastPlaces, node_if_on};
 

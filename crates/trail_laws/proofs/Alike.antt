@@ -25,7 +25,7 @@ use Rattle.directory.specs.Legal.{ArePuts, IsLegal}
 use Rattle.directory.specs.Standing.{Commit, commit_of, commits, number, standing}
 use Rattle.directory.specs.States.{mark_left, writes_made}
 use Rattle.directory.specs.Parts.{known_after, lead}
-use Rattle.directory.specs.StepLaws.{puts-push, steps-append, visits_in, visits-append}
+use Rattle.directory.specs.StepLaws.{steps-append, visits_in, visits-append, puts-push_other, puts-push_own}
 use Rattle.directory.specs.Statements.{CellsOfPuts, MarksAreLeft, StepsBeginAtRest}
 use Rattle.trail_laws.specs.Trail.{answers, entry_seen, IsLed, mark_seen}
 use Rattle.trail_laws.proofs.Links.{stop-inside}
@@ -62,8 +62,7 @@ alike-other cells setting sub history visit other = record {
 }
   where
     same : puts_to sub (history ++ visit ∷ []) ≡ puts_to sub history
-    same = puts-push sub history visit ∙ (ap (λ b. puts_to sub history ++ cond b (visit ∷ []) []) other
-        ∙ append-nil (puts_to sub history))
+    same = puts-push_other sub history visit other
 
     kept : (key : Key) → key_sub key ≡ sub → cell setting (history ++ visit ∷ []) key ≡ cell setting history key
     kept key e = cells setting (history ++ visit ∷ []) key
@@ -178,7 +177,7 @@ alike-switch marks_left rests setting sub history visit low legal legal_more put
     puts = puts_to sub history
 
     more_puts : puts_to sub (history ++ visit ∷ []) ≡ puts ++ visit ∷ []
-    more_puts = puts-push sub history visit ∙ ap (λ b. puts ++ cond b (visit ∷ []) []) put
+    more_puts = puts-push_own sub history visit put
 
     legal_puts : ArePuts setting sub (puts ++ visit ∷ [])
     legal_puts = subst (ArePuts setting sub) more_puts legal_more

@@ -1,224 +1,19 @@
 -- Where the marks of a trail lead: the numbers rise from hop to hop, so that no node is met twice.
-use Rattle.std.proofs.Common.{◌≡◌, ◌≢◌, ◌⊎◌, inl, inr, ℕ, zero, suc, ◌+◌, ◌-◌, ◌*◌, ◌<◌, ◌≤◌, max, Bool, true, false, cond, ◌==◌, List, [], ◌∷◌, Option, Some, None, length, map, drop, refl, sym, ap, ◌∙◌, subst, arith}
-use Rattle.std.specs.Prelude.{nat_lt, nat_le, slice_get, slice_index, sum_by}
-use Rattle.std.proofs.lemmas.Bool.{eqb-true, eq-eqb}
+use Rattle.std.proofs.Common.{◌≡◌, ◌≢◌, ◌⊎◌, inl, inr, ℕ, zero, suc, ◌+◌, ◌*◌, ◌<◌, ◌≤◌, max, Bool, true, false, cond, List, Option, Some, None, length, refl, sym, ap, ◌∙◌, subst, arith}
+use Rattle.std.specs.Prelude.{nat_le}
+use Rattle.std.proofs.lemmas.Bool.{cases_eq}
 use Rattle.std.proofs.lemmas.Bool.Decides.{nat_tests}
-use Rattle.std.proofs.lemmas.List.Sums.{sum_by-cons}
-use Rattle.node_set.specs.Ascending.{sift}
 use Rattle.entry_word.specs.declared.mark.PresenceMark.{PresenceMark}
-use Rattle.entry_word.specs.declared.mark.PresenceMark.TheVariants.{Empty, Here, Gone, Coming, Off}
+use Rattle.entry_word.specs.declared.mark.PresenceMark.TheVariants.{Empty, Gone, Coming}
 use Rattle.directory.specs.Settings.{Setting}
-use Rattle.directory.specs.Courses.{Move, Course, address_node, base}
+use Rattle.directory.specs.Courses.{Move}
 use Rattle.directory.specs.Finds.{is_known, known_with}
 use Rattle.directory.specs.Parts.{known_after, lead}
 use Rattle.trail_laws.specs.Trail.{answers, IsLed, HasMetric, KnowsAtMost}
-use Rattle.trail_laws.proofs.Links.{AreLinked, base-low, IsSound}
+use Rattle.trail_laws.proofs.Links.{AreLinked}
 use Rattle.trail_laws.proofs.ClosedMarks.{trail_mark, there}
-use Rattle.node_set.specs.SetLaws.{length-passing_all}
-
--- ---- how many pass a test
-pub passing-fewer : (f g : ℕ → Bool) (v k : ℕ) → ((x : ℕ) → f x ≡ true → g x ≡ true)
-    → length (sift f v k) ≤ length (sift g v k)
-passing-fewer f g v zero h = omega arith
-passing-fewer f g v (suc k) h = at_tests (f v) (g v) (h v) (passing-fewer f g (suc v) k h)
-  where
-    at_tests : (a b : Bool) → (a ≡ true → b ≡ true) → length (sift f (suc v) k) ≤ length (sift g (suc v) k)
-        → length (cond a (v ∷ sift f (suc v) k) (sift f (suc v) k)) ≤ length
-        (cond b (v ∷ sift g (suc v) k) (sift g (suc v) k))
-    at_tests true true e more = omega (arith, more)
-    at_tests true false e more = let clash : false ≡ true = e refl in cc
-    at_tests false true e more = omega (arith, more)
-    at_tests false false e more = more
-
-pub passing-less : (f g : ℕ → Bool) (x v k : ℕ) → v ≤ x → x < v + k → ((y : ℕ) → f y ≡ true → g y ≡ true)
-    → f x ≡ false → g x ≡ true → length (sift f v k) < length (sift g v k)
-passing-less f g x v zero low high h out within = absurd (omega arith)
-passing-less f g x v (suc k) low high h out within = at_place (cases v x)
-    (λ l. passing-less f g x (suc v) k l (omega arith) h out within)
-  where
-    cases : (a b : ℕ) → (a ≡ b) ⊎ ((a == b) ≡ false)
-    cases a b = grind (arith, nat_tests)
-
-    at_tests : (a b : Bool) → (a ≡ true → b ≡ true) → length (sift f (suc v) k) < length (sift g (suc v) k)
-        → length (cond a (v ∷ sift f (suc v) k) (sift f (suc v) k)) < length
-        (cond b (v ∷ sift g (suc v) k) (sift g (suc v) k))
-    at_tests true true e more = omega (arith, more)
-    at_tests true false e more = let clash : false ≡ true = e refl in cc
-    at_tests false true e more = omega (arith, more)
-    at_tests false false e more = more
-
-    at_place : (v ≡ x) ⊎ ((v == x) ≡ false) → (suc v ≤ x
-        → length (sift f (suc v) k) < length (sift g (suc v) k))
-        → length (cond (f v) (v ∷ sift f (suc v) k) (sift f (suc v) k)) < length
-        (cond (g v) (v ∷ sift g (suc v) k) (sift g (suc v) k))
-    at_place (inl e) more = rw (ap f e ∙ out, ap g e ∙ within) (omega (arith, passing-fewer f g (suc v) k h))
-    at_place (inr e) more = at_tests (f v) (g v) (h v) (more (grind (arith, nat_tests)))
-
-pub some-out : (test : ℕ → Bool) (x n : ℕ) → x < n → test x ≡ false → suc (length (sift test 0 n)) ≤ n
-some-out test x n low out = omega (
-  arith,
-  passing-less test (λ y. true) x 0 n (omega arith) (omega arith)
-      (λ y e. refl) out refl,
-  length-passing_all 0 n,
-)
-
--- ---- how many nodes hold a Gone above a number
-abbrev pub gone_above : ℕ → PresenceMark → Bool
-gone_above number Empty = false
-gone_above number (Here q) = false
-gone_above number (Gone q to) = nat_lt number q
-gone_above number (Coming q from) = false
-gone_above number (Off q) = false
-
-abbrev pub above : Setting → (ℕ → PresenceMark) → ℕ → ℕ
-above setting marks number = length (sift (λ v. gone_above number (marks v)) 0 setting.nodes)
-
-gone_above-less : (p q : ℕ) (mark : PresenceMark) → q ≤ p → gone_above p mark ≡ true → gone_above q mark ≡ true
-gone_above-less p q Empty h e = cc
-gone_above-less p q (Here r) h e = cc
-gone_above-less p q (Gone r to) h e = grind (arith, nat_tests)
-gone_above-less p q (Coming r from) h e = cc
-gone_above-less p q (Off r) h e = cc
-
--- a node with a Gone counts for less than its number
-pub above-less : (setting : Setting) (marks : ℕ → PresenceMark) (v p q to : ℕ) → v < setting.nodes
-    → marks v ≡ Gone p to → q < p → above setting marks p < above setting marks q
-above-less setting marks v p q to low mark less =
-    passing-less (λ x. gone_above p (marks x)) (λ x. gone_above q (marks x)) v 0 setting.nodes (omega arith)
-    (omega arith)
-    (λ x e. gone_above-less p q (marks x) (omega arith) e)
-    (ap (gone_above p) mark ∙ (let e : nat_lt p p ≡ false = grind (arith, nat_tests) in e))
-    (ap (gone_above q) mark ∙ (let e : nat_lt q p ≡ true = grind (arith, nat_tests, less) in e))
-
--- ---- the stops of linked moves
-abbrev pub stop_at : ℕ → List Move → ℕ → ℕ
-stop_at from moves i = slice_index (from ∷ map (λ (move : Move). move.to) moves) i
-
--- the weight of the moves from one on
-abbrev pub weight_from : List Move → ℕ → ℕ
-weight_from moves i = sum_by (λ (move : Move). move.weight) (drop i moves)
-
-weight-step : (moves : List Move) (i : ℕ) (move : Move) → slice_get moves i ≡ Some move
-    → weight_from moves i ≡ move.weight + weight_from moves (suc i)
-weight-step [] i move h = cc
-weight-step (m ∷ moves) zero move h = let e : m ≡ move = cc in sum_by-cons (λ (x : Move). x.weight) m moves
-    ∙ ap (λ (x : Move). x.weight + sum_by (λ (y : Move). y.weight) moves) e
-weight-step (m ∷ moves) (suc i) move h = weight-step moves i move h
-
-weight-less : (moves : List Move) (i : ℕ) → weight_from moves (suc i) ≤ weight_from moves i
-weight-less [] zero = omega arith
-weight-less [] (suc i) = omega arith
-weight-less (m ∷ moves) zero = omega (arith, sum_by-cons (λ (x : Move). x.weight) m moves)
-weight-less (m ∷ moves) (suc i) = weight-less moves i
-
-weight-falls : (moves : List Move) (i k : ℕ) → weight_from moves (k + i) ≤ weight_from moves i
-weight-falls moves i zero = let e : 0 + i ≡ i = omega arith in rw e (omega arith)
-weight-falls moves i (suc k) = let e : suc k + i ≡ suc (k + i) = omega arith in rw e
-    (omega (arith, weight-less moves (k + i), weight-falls moves i k))
-
-pub weight-mono : (moves : List Move) (i j : ℕ) → i ≤ j → weight_from moves j ≤ weight_from moves i
-weight-mono moves i j h = let e : (j - i) + i ≡ j = omega arith in subst
-    (λ n. weight_from moves n ≤ weight_from moves i) e (weight-falls moves i (j - i))
-
--- the last move that left a node
-pub record IsLeft (setting : Setting) (from number : ℕ) (moves : List Move) (v : ℕ)
-    (mark : PresenceMark) : Type 0 where
-  pub place : ℕ
-  pub move : Move
-  pub is_move : slice_get moves place ≡ Some move
-  pub within : place < length moves
-  pub its_number : move.number ≡ suc (number + place)
-  pub its_from : move.from ≡ v
-  pub its_weight : move.weight ≡ setting.distance v move.to
-  pub inside : move.to < setting.nodes
-  pub mark_is : mark ≡ Gone move.number move.to
-  pub goes_on : stop_at from moves (suc place) ≡ move.to
-  pub last : (i : ℕ) → i < length moves → stop_at from moves i ≡ v → i ≤ place
-
--- the mark at a node that no move left stays
-NotLeft : ℕ → List Move → ℕ → PresenceMark → PresenceMark → Type 0
-NotLeft from moves v old new = (new ≡ old) × ((i : ℕ) → i < length moves → stop_at from moves i ≡ v → ⊥)
-
-pub last-left : (setting : Setting) (from number : ℕ) (moves : List Move) (v : ℕ) (mark : PresenceMark)
-    → AreLinked setting from number moves
-    → ((trail_mark moves v mark ≡ mark) × ((i : ℕ) → i < length moves → stop_at from moves i ≡ v → ⊥))
-    ⊎ IsLeft setting from number moves v (trail_mark moves v mark)
-unfolding AreLinked trail_mark
-last-left setting from number [] v mark linked = inl (refl, λ i low same. omega arith)
-last-left setting from number (m ∷ later) v mark (f0, f1, f2, f3, f4, f5, f6, f7) =
-    at_test (v == m.from) refl (λ x. last-left setting m.to (suc number) later v x f7)
-  where
-    its_mark : Bool → PresenceMark
-    its_mark b = cond b (Gone m.number m.to) mark
-
-    moved : IsLeft setting m.to (suc number) later v (trail_mark later v (its_mark (v == m.from)))
-        → IsLeft setting from number (m ∷ later) v (trail_mark later v (its_mark (v == m.from)))
-    moved h = record {
-      place = suc h.place;
-      move = h.move;
-      is_move = h.is_move;
-      within = omega (arith, h.within);
-      its_number = h.its_number ∙ (let e : suc (suc number + h.place)
-          ≡ suc (number + suc h.place) = omega arith in e);
-      its_from = h.its_from;
-      its_weight = h.its_weight;
-      inside = h.inside;
-      mark_is = h.mark_is;
-      goes_on = h.goes_on;
-      last = λ i low same. at_first i low same;
-    }
-      where
-        at_first : (i : ℕ) → i < length (m ∷ later) → stop_at from (m ∷ later) i ≡ v → i ≤ suc h.place
-        at_first zero low same = omega arith
-        at_first (suc i) low same = omega (arith, h.last i (omega arith) same)
-
-    at_test : (b : Bool) → (v == m.from) ≡ b
-        → ((x : PresenceMark) → ((trail_mark later v x ≡ x)
-        × ((i : ℕ) → i < length later → stop_at m.to later i ≡ v → ⊥))
-        ⊎ IsLeft setting m.to (suc number) later v (trail_mark later v x))
-        → ((trail_mark later v (its_mark (v == m.from)) ≡ mark)
-        × ((i : ℕ) → i < length (m ∷ later) → stop_at from (m ∷ later) i ≡ v → ⊥))
-        ⊎ IsLeft setting from number (m ∷ later) v (trail_mark later v (its_mark (v == m.from)))
-    at_test true e more = at_more (more (its_mark (v == m.from)))
-      where
-        at_more : ((trail_mark later v (its_mark (v == m.from)) ≡ its_mark (v == m.from))
-            × ((i : ℕ) → i < length later → stop_at m.to later i ≡ v → ⊥))
-            ⊎ IsLeft setting m.to (suc number) later v (trail_mark later v (its_mark (v == m.from)))
-            → ((trail_mark later v (its_mark (v == m.from)) ≡ mark)
-            × ((i : ℕ) → i < length (m ∷ later) → stop_at from (m ∷ later) i ≡ v → ⊥))
-            ⊎ IsLeft setting from number (m ∷ later) v (trail_mark later v (its_mark (v == m.from)))
-        at_more (inr h) = inr (moved h)
-        at_more (inl h) = inr (record {
-          place = 0;
-          move = m;
-          is_move = refl;
-          within = omega arith;
-          its_number = f0 ∙ (let n : suc number ≡ suc (number + 0) = omega arith in n);
-          its_from = sym (eqb-true v m.from e);
-          its_weight = f6 ∙ ap (λ x. setting.distance x m.to) (sym (eqb-true v m.from e));
-          inside = f3;
-          mark_is = h.0 ∙ ap its_mark e;
-          goes_on = refl;
-          last = at_first;
-        })
-          where
-            at_first : (i : ℕ) → i < length (m ∷ later) → stop_at from (m ∷ later) i ≡ v → i ≤ 0
-            at_first zero low same = omega arith
-            at_first (suc i) low same = absurd (h.1 i (omega arith) same)
-    at_test false e more = at_more (more (its_mark (v == m.from)))
-      where
-        at_more : ((trail_mark later v (its_mark (v == m.from)) ≡ its_mark (v == m.from))
-            × ((i : ℕ) → i < length later → stop_at m.to later i ≡ v → ⊥))
-            ⊎ IsLeft setting m.to (suc number) later v (trail_mark later v (its_mark (v == m.from)))
-            → ((trail_mark later v (its_mark (v == m.from)) ≡ mark)
-            × ((i : ℕ) → i < length (m ∷ later) → stop_at from (m ∷ later) i ≡ v → ⊥))
-            ⊎ IsLeft setting from number (m ∷ later) v (trail_mark later v (its_mark (v == m.from)))
-        at_more (inr h) = inr (moved h)
-        at_more (inl h) = inl (h.0 ∙ ap its_mark e, at_first)
-          where
-            at_first : (i : ℕ) → i < length (m ∷ later) → stop_at from (m ∷ later) i ≡ v → ⊥
-            at_first zero low same = let clash : (v == m.from) ≡ true = eq-eqb v m.from (sym same ∙ sym f1) in cc
-            at_first (suc i) low same = h.1 i (omega arith) same
+use Rattle.trail_laws.proofs.GoneCounts.{above, above-less}
+use Rattle.trail_laws.proofs.LinkedStops.{IsLeft, last-left, stop_at, way-short, weight-mono, weight-step, weight_from}
 
 -- ---- arrivals
 pub record Arrival (setting : Setting) (marks : ℕ → PresenceMark) (known : Option ℕ)
@@ -276,13 +71,6 @@ knows-less : (most number : ℕ) (known : Option ℕ) → KnowsAtMost most known
     → is_known number known ≡ false
 knows-less most number None h low = refl
 knows-less most number (Some k) h low = grind (arith, nat_tests)
-
-cases_eq : (a b : ℕ) → (a ≡ b) ⊎ (a ≢ b)
-cases_eq a b = at_test (a == b) refl
-  where
-    at_test : (t : Bool) → (a == b) ≡ t → (a ≡ b) ⊎ (a ≢ b)
-    at_test true e = inl (eqb-true a b e)
-    at_test false e = inr (λ same. let clash : (a == b) ≡ true = eq-eqb a b same in cc)
 
 -- where a trail is left: a node is one of its exits, from where the marks lead to the end, or its mark is that of the
 -- trail
@@ -393,34 +181,6 @@ rest-exits setting marks from number last moves most ends answered others i v kn
         at_end (inl l) = inr (others v inside other, l)
         at_end (inr e) = absurd (other (sym is_stop ∙ (ap (stop_at from moves) e ∙ ends)))
 
-pub stops-inside : (setting : Setting) (from number : ℕ) (moves : List Move) (i : ℕ)
-    → AreLinked setting from number moves → from < setting.nodes → i ≤ length moves
-    → stop_at from moves i < setting.nodes
-unfolding AreLinked
-stops-inside setting from number moves zero linked begins low = begins
-stops-inside setting from number [] (suc i) linked begins low = absurd (omega arith)
-stops-inside setting from number (m ∷ later) (suc i) (f0, f1, f2, f3, f4, f5, f6, f7) begins low = stops-inside
-    setting m.to (suc number) later i f7 f3 (omega arith)
-
--- the way to the end is no longer than the moves to it
-pub way-short : (setting : Setting) (from number : ℕ) (moves : List Move) (i : ℕ)
-    → AreLinked setting from number moves → from < setting.nodes → HasMetric setting → i ≤ length moves
-    → setting.distance (stop_at from moves i) (stop_at from moves (length moves)) ≤ weight_from moves i
-unfolding AreLinked
-way-short setting from number [] zero linked begins metric low = omega (arith, metric.none from begins)
-way-short setting from number [] (suc i) linked begins metric low = absurd (omega arith)
-way-short setting from number (m ∷ later) zero (f0, f1, f2, f3, f4, f5, f6, f7) begins metric low =
-    omega (
-      arith,
-      metric.detour from m.to (stop_at m.to later (length later)) begins f3
-          (stops-inside setting m.to (suc number) later (length later) f7 f3 (omega arith)),
-      way-short setting m.to (suc number) later 0 f7 f3 metric (omega arith),
-      f6 ∙ ap (λ x. setting.distance x m.to) f1,
-      sum_by-cons (λ (x : Move). x.weight) m later,
-    )
-way-short setting from number (m ∷ later) (suc i) (f0, f1, f2, f3, f4, f5, f6, f7) begins metric low = way-short
-    setting m.to (suc number) later i f7 f3 metric (omega arith)
-
 -- a Coming that isn't known to be committed leads back
 pub back-leads : (setting : Setting) (marks : ℕ → PresenceMark) (last most p to : ℕ) (known : Option ℕ) → most < p
     → KnowsAtMost most known → marks to ≡ Coming p last → ((k : Option ℕ) → answers k (marks last) ≡ true)
@@ -528,9 +288,3 @@ passing-exits setting marks from number left moves most p to ends above_all left
         at_end : (i < length moves) ⊎ (i ≡ length moves) → Goal
         at_end (inl l) = inr (others v inside off_left off_to, l)
         at_end (inr e) = absurd (off_left (sym is_stop ∙ (ap (stop_at from moves) e ∙ ends)))
-
--- the node of the address of a level is one
-pub old-inside : (setting : Setting) (course : Course) (level : ℕ) → IsSound setting course
-    → address_node course level < setting.nodes
-old-inside setting course level sound = stops-inside setting course.start 0 course.moves
-    (base level course.moves) sound.linked sound.begins (base-low setting course level sound)

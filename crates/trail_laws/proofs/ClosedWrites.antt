@@ -20,6 +20,7 @@ use Rattle.trail_laws.proofs.ClosedMarks.{IsNext, is-next, rest_mark, mark_comin
 use Rattle.trail_laws.proofs.ClosedEntries.{rest_entry, entry_written, entry_erased, new_entry, entered, entered-append, entered-levels, entered-purges, entries-rest}
 use Rattle.trail_laws.proofs.ClosedViews.{old_levels, purge_nodes, purged_nodes, renewed_levels}
 use Rattle.std.proofs.lemmas.Bool.{cases_lt}
+use Rattle.std.proofs.Math.Bool.{and-true}
 
 -- ---- the writes of a move, by lists of levels and nodes
 unfoldable pub coming_shape : Setting → Move → List ℕ → List Write
@@ -215,10 +216,6 @@ in-passing test x n = elim (cases_lt n x) as (λ _. has x (sift test 0 (suc n)) 
   | inl high ↦ let e : nat_le x n ≡ false = grind (arith, nat_tests, high) in rw e
       (passing_over test x 0 (suc n) (omega arith))
 ]
-
-and-true : (b : Bool) → (b && true) ≡ b
-and-true true = refl
-and-true false = refl
 
 pub in-levels : (level : ℕ) (move : Move) → has level (renewed_levels move) ≡ nat_le level move.renewed
 in-levels level move = in-passing (λ p. true) level move.renewed ∙ and-true (nat_le level move.renewed)

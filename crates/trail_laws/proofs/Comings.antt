@@ -16,7 +16,8 @@ use Rattle.trail_laws.proofs.ClosedMarks.{mark_coming, mark_erasing, mark_passin
 use Rattle.trail_laws.proofs.ClosedEntries.{entry_written, new_entry, rest_entry}
 use Rattle.trail_laws.proofs.ClosedViews.{clearing, coming, IsPhase, old_levels, passage, Phase, phase_commits, phase_entry, phase_mark, purged_nodes, renewed_levels, View, while_clearing}
 use Rattle.trail_laws.proofs.ClosedWrites.{in-levels}
-use Rattle.trail_laws.proofs.Chases.{Arrival, arrived, IsLeft, last-left, left-leads, longer, stop_at, old-inside}
+use Rattle.trail_laws.proofs.Chases.{Arrival, arrived, left-leads, longer}
+use Rattle.trail_laws.proofs.LinkedStops.{IsLeft, last-left, stop_at, old-inside}
 use Rattle.node_set.specs.SetLaws.{has-passing, passing_over}
 use Rattle.trail_laws.proofs.Addresses.{not-taken}
 use Rattle.trail_laws.proofs.Tells.{next-stands, rest-stands, stands}
@@ -36,16 +37,19 @@ trail-not_coming setting course v p u sound h = at_left
     at_left (inl none) = let clash : Empty ≡ Coming p u = sym none.0 ∙ h in cc
     at_left (inr left) = let clash : Gone left.move.number left.move.to ≡ Coming p u = sym left.mark_is ∙ h in cc
 
-rest-not_coming : (setting : Setting) (course : Course) (v p u : ℕ) → IsSound setting course
-    → rest_mark setting course v ≡ Coming p u → ⊥
-rest-not_coming setting course v p u sound h = at_place (v == last_stop course) h
+pub there-not_coming : (course : Course) (p u : ℕ) → there course ≡ Coming p u → ⊥
+there-not_coming course p u h = at_state course.is_off h
   where
     at_state : (b : Bool) → cond b (Off (length course.moves)) (Here (length course.moves)) ≡ Coming p u → ⊥
     at_state true g = cc
     at_state false g = cc
 
+rest-not_coming : (setting : Setting) (course : Course) (v p u : ℕ) → IsSound setting course
+    → rest_mark setting course v ≡ Coming p u → ⊥
+rest-not_coming setting course v p u sound h = at_place (v == last_stop course) h
+  where
     at_place : (b : Bool) → cond b (there course) (trail_mark (since_top setting course) v Empty) ≡ Coming p u → ⊥
-    at_place true g = at_state course.is_off g
+    at_place true g = there-not_coming course p u g
     at_place false g = trail-not_coming setting course v p u sound g
 
 coming-not : (setting : Setting) (course : Course) (move : Move) (v p u : ℕ) → IsSound setting course

@@ -16,6 +16,8 @@ use Rattle.trail_laws.specs.Ways.{StandsInside}
 use Rattle.trail_laws.proofs.ClosedMarks.{rest_mark}
 use Rattle.trail_laws.proofs.ClosedViews.{clearing, coming, passage, Phase, phase_commits, phase_mark, View}
 use Rattle.trail_laws.proofs.Laws.{HistoryView, Laws, view}
+use Rattle.directory.specs.ListLaws.{last_or-push}
+use Rattle.std.proofs.lemmas.Option.{same_Some}
 
 -- at most one move is begun that isn't committed
 pub view-counts : (setting : Setting) (from : ℕ) (marks : ℕ → PresenceMark) (entries : ℕ → ℕ → Option Address)
@@ -84,11 +86,7 @@ covers laws marks inside setting sub history low legal = at_count
 
 -- a move that isn't committed has its Coming where it goes
 last-is : (xs : List Move) (x y : Move) → last_or None (xs ++ x ∷ []) ≡ Some y → x ≡ y
-last-is xs x y h = at_end None xs h
-  where
-    at_end : (o : Option Move) (zs : List Move) → last_or o (zs ++ x ∷ []) ≡ Some y → x ≡ y
-    at_end o [] g = cc
-    at_end o (z ∷ zs) g = at_end (Some z) zs g
+last-is xs x y h = same_Some x y (sym (last_or-push None xs x) ∙ h)
 
 begun-shown : (setting : Setting) (from : ℕ) (marks : ℕ → PresenceMark) (entries : ℕ → ℕ → Option Address)
     (commits : List Commit) (off : Bool) (moves : List Move) (move : Move)

@@ -1,51 +1,22 @@
 -- Where the scripts lead, and that the censuses at the end of an order say so.
-use Rattle.std.proofs.Common.{◌≡◌, ◌<◌, ◌≤◌, ◌^◌, ◌∷◌, [], ℕ, List, Bool, true, false, refl, sym, ap, ◌∙◌, arith, eqb-true, eq-eqb}
-use Rattle.std.proofs.lemmas.List.Sums.{fold-append}
+use Rattle.std.proofs.Common.{◌≡◌, ◌<◌, ◌≤◌, ◌^◌, ℕ, Bool, true, false, refl, sym, ap, ◌∙◌, arith, eqb-true, eq-eqb}
 use Rattle.entry_word.specs.Marks.{mark_in, says_here}
 use Rattle.entry_word.specs.declared.visit.Key.TheVariants.{Presence}
-use Rattle.std.specs.Prelude.{◌==◌, ◌&&◌, not, fold, slice_index}
+use Rattle.std.specs.Prelude.{◌==◌, ◌&&◌, not, slice_index}
 use Rattle.node_set.specs.SetLaws.{has-passing, passing_same}
 use Rattle.directory.specs.Settings.{Setting, start, subs}
-use Rattle.directory.specs.Courses.{Course, Move, Step, after_step, after_steps, course_at, last_stop, move_to, next_move, switch_off, switch_on}
+use Rattle.directory.specs.Courses.{Course, after_steps, course_at, last_stop}
 use Rattle.directory.specs.Histories.{History, cell, puts_to}
 use Rattle.directory.specs.Legal.{IsLegal}
 use Rattle.directory.specs.Orders.{AreValid, IsDone, IsPlayed, Scripts, history_of, steps_of}
 use Rattle.directory.specs.Puts.{course_in}
 use Rattle.directory.specs.Standing.{off, standing}
 use Rattle.directory.specs.Statements.{DoneIsRest, DoneShowsScript, OrdersAreDone, OrdersArePlayed, PlayedIsLegal}
-use Rattle.trail_laws.specs.Censuses.{CensusesEndByScripts, CensusesEndRight, IsCounted, Place, is_on_at, place_after_step, place_at_end}
+use Rattle.directory.specs.Places.{Place, place_at_end}
+use Rattle.directory.specs.StepLaws.{place-after_steps}
+use Rattle.trail_laws.specs.Censuses.{CensusesEndByScripts, CensusesEndRight, IsCounted, is_on_at}
 use Rattle.trail_laws.specs.Phases.{RestEndsItsCourse}
-
--- the place of a course
-place_of : Course → Place
-place_of course = record { node = last_stop course; is_off = course.is_off }
-
-one-step : (setting : Setting) (course : Course) (step : Step)
-    → place_after_step (place_of course) step ≡ place_of (after_step setting course step)
-unfolding place_of
-one-step setting course (move_to node) =
-    ap (λ n. record { node = n; is_off = course.is_off })
-    (sym (fold-append (λ n (m : Move). m.to) course.start course.moves (next_move setting course node ∷ [])))
-one-step setting course switch_off = refl
-one-step setting course switch_on = refl
-
-all-steps : (setting : Setting) (course : Course) (steps : List Step)
-    → fold place_after_step (place_of course) steps ≡ place_of (after_steps setting course steps)
-all-steps setting course [] = refl
-all-steps setting course (step ∷ steps) =
-    ap (λ p. fold place_after_step p steps) (one-step setting course step)
-    ∙ all-steps setting (after_step setting course step) steps
-
-at-end : (setting : Setting) (sub : ℕ) (steps : List Step)
-    → place_at_end (start setting sub) steps ≡ place_of (after_steps setting (course_at (start setting sub)) steps)
-unfolding place_of
-at-end setting sub steps = all-steps setting (course_at (start setting sub)) steps
-
--- two tests that hold of the same
-same-tests : (a b : Bool) → (a ≡ true → b ≡ true) → (b ≡ true → a ≡ true) → a ≡ b
-same-tests true b to from = sym (to refl)
-same-tests false true to from = from refl
-same-tests false false to from = refl
+use Rattle.std.specs.Cmp.{both_ways}
 
 on-there : (node stands : ℕ) (is_off : Bool) → is_on_at node (record { node = stands; is_off = is_off }) ≡ true
     → (node ≡ stands) × (is_off ≡ false)
@@ -65,7 +36,6 @@ record AtEnd (setting : Setting) (scripts : Scripts) (history : History) (sub : 
 end-there : RestEndsItsCourse → DoneIsRest → DoneShowsScript → PlayedIsLegal → (setting : Setting) (scripts : Scripts)
     (history : History) (sub : ℕ) → setting.nodes ≤ 2 ^ 16 → AreValid setting scripts → sub < subs setting
     → IsPlayed setting scripts history → IsDone setting scripts history sub → AtEnd setting scripts history sub
-unfolding place_of
 end-there ends rests shows legal setting scripts history sub low valid known played done =
     let is_legal : IsLegal setting sub history = legal setting scripts history sub low valid known played in
     let its = ends setting sub history low is_legal (rests setting scripts history sub low valid known played done) in
@@ -73,7 +43,7 @@ end-there ends rests shows legal setting scripts history sub low valid known pla
     ≡ after_steps setting (course_at (start setting sub)) (steps_of scripts sub) =
     ap (after_steps setting (course_at (start setting sub)))
     (shows setting scripts history sub low valid known played done) in
-    let place = at-end setting sub (steps_of scripts sub) in
+    let place = place-after_steps setting (course_at (start setting sub)) (steps_of scripts sub) in
     record {
       stands = its.0 ∙ (ap last_stop course ∙ ap (λ (p : Place). p.node) (sym place));
       off_is = its.1 ∙ (ap (λ (c : Course). c.is_off) course ∙ ap (λ (p : Place). p.is_off) (sym place));
@@ -97,7 +67,7 @@ end-by_scripts right ends rests shows played done legal setting scripts order no
         known
         (played setting scripts order) (done setting scripts order sub) in
         let place : Place = place_at_end (start setting sub) (steps_of scripts sub) in
-        same-tests _ _
+        both_ways _ _
         (λ here. let on = counted.0 (listed ∙ here) in
         there-on node place.node place.is_off (on.0 ∙ end.stands) (sym end.off_is ∙ on.1))
         (λ there. let on = on-there node place.node place.is_off there in

@@ -10,7 +10,7 @@ use Rattle.directory.specs.Standing.{commit_by}
 use Rattle.trail_laws.specs.Trail.{answers, HasMetric}
 use Rattle.trail_laws.proofs.Links.{base-low, IsSound}
 use Rattle.trail_laws.proofs.ClosedMarks.{IsNext, mark_coming, mark_erasing, mark_passing}
-use Rattle.trail_laws.proofs.Chases.{weight_from}
+use Rattle.trail_laws.proofs.LinkedStops.{weight_from}
 use Rattle.trail_laws.proofs.Tells.{next-stands, rest-stands, stands}
 use Rattle.trail_laws.proofs.Leads.{coming-there, clearing-here, passing-at_to}
 use Rattle.trail_laws.proofs.Prices.{AreLazy, lazy-front, lazy-whole, price-clearing}

@@ -19,7 +19,8 @@ use Rattle.trail_laws.specs.Trail.{answers}
 use Rattle.trail_laws.proofs.ClosedViews.{View}
 use Rattle.trail_laws.proofs.Views.{legal-view}
 use Rattle.trail_laws.proofs.Tells.{mark-is, MarkIs}
-use Rattle.trail_laws.proofs.Addresses.{entry-placed, IsPlaced}
+use Rattle.trail_laws.proofs.Addresses.{entry-placed}
+use Rattle.trail_laws.proofs.PlacedPhases.{IsPlaced}
 use Rattle.trail_laws.proofs.Comings.{coming-leads_on, coming-one, top-has}
 use Rattle.directory.specs.StepLaws.{start-kept}
 

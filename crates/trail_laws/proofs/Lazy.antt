@@ -1,19 +1,19 @@
 -- After each move of a course each level has gathered less than its threshold.
-use Rattle.std.proofs.Common.{◌≡◌, ◌⊎◌, inl, inr, ℕ, zero, suc, ◌+◌, ◌-◌, ◌<◌, ◌≤◌, Bool, true, false, cond, List, [], ◌∷◌, ◌++◌, length, take, refl, sym, ap, ◌∙◌, subst, arith, length-append}
+use Rattle.std.proofs.Common.{◌≡◌, ◌⊎◌, inl, inr, ℕ, zero, suc, ◌+◌, ◌<◌, ◌≤◌, Bool, true, false, cond, List, [], ◌∷◌, ◌++◌, length, take, refl, sym, ap, ◌∙◌, subst, arith, length-append}
 use Rattle.std.specs.Prelude.{nat_le, sum_by}
 use Rattle.std.proofs.lemmas.Bool.Decides.{nat_tests}
-use Rattle.std.proofs.lemmas.List.{append-nil, take_all}
+use Rattle.std.proofs.lemmas.List.{take_all, take-append-le}
 use Rattle.std.proofs.Math.ListN.{drop_of_length-le}
 use Rattle.directory.specs.Settings.{levels, Setting, start}
 use Rattle.directory.specs.Histories.{History, puts_to}
 use Rattle.directory.specs.Courses.{after_step, after_steps, base, Course, course_at, gathered_weight, highest, MaySteps, Move, move_to, next_move, Step, switch_off, switch_on}
 use Rattle.directory.specs.Legal.{IsLegal}
 use Rattle.directory.specs.Puts.{course_in}
-use Rattle.directory.specs.StepLaws.{take-append}
 use Rattle.trail_laws.proofs.Links.{AreLinked, IsSound, base-low, sound-step}
 use Rattle.trail_laws.proofs.ClosedMarks.{base-with}
-use Rattle.trail_laws.proofs.Chases.{weight_from}
+use Rattle.trail_laws.proofs.LinkedStops.{weight_from}
 use Rattle.trail_laws.proofs.Prices.{AreLazy, weight-push}
+use Rattle.std.proofs.lemmas.Bool.{cases_lt}
 
 -- above the highest level that passes a test no level passes it
 highest-above : (test : ℕ → Bool) (limit level : ℕ) → highest test limit < level → level < limit → test level ≡ false
@@ -39,23 +39,14 @@ lazy-push : (setting : Setting) (moves : List Move) (move : Move) → AreLazy se
     → ((level : ℕ) → level ≤ setting.top
     → weight_from (moves ++ move ∷ []) (base level (moves ++ move ∷ [])) < setting.threshold level)
     → AreLazy setting (moves ++ move ∷ [])
-lazy-push setting moves move lazy whole k level low below = at_place (cases k (length moves))
+lazy-push setting moves move lazy whole k level low below = at_place (cases_lt (length moves) k)
   where
-    cases : (a b : ℕ) → (a ≤ b) ⊎ (b < a)
-    cases a b = grind (arith, nat_tests)
-
-    front : k ≤ length moves → take k (moves ++ move ∷ []) ≡ take k moves
-    front h =
-        take-append k moves (move ∷ [])
-        ∙ (let e : k - length moves ≡ 0 = omega (arith, h) in
-        ap (λ n. take k moves ++ take n (move ∷ [])) e ∙ append-nil (take k moves))
-
-    at_place : (k ≤ length moves) ⊎ (length moves < k)
+    at_place : (length moves < k) ⊎ (k ≤ length moves)
         → weight_from (take k (moves ++ move ∷ [])) (base level (take k (moves ++ move ∷ []))) < setting.threshold level
     at_place (inl h) = subst (λ (ms : List Move). weight_from ms (base level ms) < setting.threshold level)
-        (sym (front h)) (lazy k level h below)
-    at_place (inr h) = subst (λ (ms : List Move). weight_from ms (base level ms) < setting.threshold level)
         (sym (take_all k (moves ++ move ∷ []) (omega (arith, h, length-append moves (move ∷ []))))) (whole level below)
+    at_place (inr h) = subst (λ (ms : List Move). weight_from ms (base level ms) < setting.threshold level)
+        (sym (take-append-le k moves (move ∷ []) h)) (lazy k level h below)
 
 -- a move renews each level that reaches its threshold
 lazy-whole_move : (setting : Setting) (course : Course) (node level : ℕ) → IsSound setting course

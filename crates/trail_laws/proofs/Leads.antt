@@ -12,7 +12,9 @@ use Rattle.directory.specs.Courses.{Move, Course, base, last_stop}
 use Rattle.trail_laws.specs.Trail.{answers, KnowsAtMost}
 use Rattle.trail_laws.proofs.Links.{AreLinked, IsSound, base-low, linked-push, stop-inside}
 use Rattle.trail_laws.proofs.ClosedMarks.{IsNext, rest_mark, mark_coming, mark_passing, mark_erasing, since_top, there, trail_mark, trail_mark-push}
-use Rattle.trail_laws.proofs.Chases.{above, Arrival, back-leads, coming-exits, Exits, leads, longer, passing-exits, passing-leads, rest-exits, stop_at, stops-inside, weight_from}
+use Rattle.trail_laws.proofs.GoneCounts.{above}
+use Rattle.trail_laws.proofs.Chases.{Arrival, back-leads, coming-exits, Exits, leads, longer, passing-exits, passing-leads, rest-exits}
+use Rattle.trail_laws.proofs.LinkedStops.{stop_at, stops-inside, weight_from}
 use Rattle.trail_laws.proofs.Tells.{linked-drop, stop-drop}
 
 -- the end of linked moves

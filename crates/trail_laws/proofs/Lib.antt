@@ -5,6 +5,8 @@ mod ClosedEntries
 mod ClosedViews
 mod ClosedWrites
 mod Views
+mod GoneCounts
+mod LinkedStops
 mod Chases
 mod Tells
 mod Leads
@@ -13,6 +15,7 @@ mod Prices
 mod Fine
 mod Lazy
 mod Holders
+mod PlacedPhases
 mod Addresses
 mod Comings
 mod Nearby

@@ -17,7 +17,7 @@ use Rattle.trail_laws.proofs.ClosedMarks.{base-with, IsNext}
 use Rattle.trail_laws.proofs.ClosedEntries.{entry_written, new_entry, rest_entry}
 use Rattle.trail_laws.proofs.ClosedViews.{clearing, coming, IsPhase, old_levels, passage, Phase, phase_commits, phase_entry, purged_nodes, renewed_levels, View, while_clearing}
 use Rattle.trail_laws.proofs.ClosedWrites.{in-levels}
-use Rattle.trail_laws.proofs.Chases.{weight_from, old-inside}
+use Rattle.trail_laws.proofs.LinkedStops.{weight_from, old-inside}
 use Rattle.trail_laws.proofs.Tells.{next-stands, rest-stands, stands}
 use Rattle.trail_laws.proofs.Addresses.{not-taken}
 use Rattle.trail_laws.proofs.Comings.{rest-has, written-has}

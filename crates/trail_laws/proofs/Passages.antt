@@ -3,7 +3,6 @@ use Rattle.std.proofs.Common.{◌≡◌, ◌⊎◌, inl, inr, ℕ, zero, suc, �
 use Rattle.std.specs.Prelude.{filter_map, slice_get}
 use Rattle.std.specs.List.{cons_option, last_or, list_any}
 use Rattle.std.proofs.lemmas.Bool.{and_parts, eqb-true, eq-eqb}
-use Rattle.std.proofs.lemmas.List.{append-nil}
 use Rattle.std.proofs.lemmas.List.Folds.{list_any-append}
 use Rattle.std.proofs.lemmas.List.Sums.{fold-append}
 use Rattle.entry_word.specs.Marks.{mark_in}
@@ -19,7 +18,7 @@ use Rattle.directory.specs.Courses.{after_step, after_steps, Course, course_at, 
 use Rattle.directory.specs.Puts.{course_in, mark_put, mark_step, node_put, steps_from, steps_in}
 use Rattle.directory.specs.Legal.{IsLegal}
 use Rattle.directory.specs.Standing.{Commit, commit_of, commits, confirms, number, passage, passage_of, standing}
-use Rattle.directory.specs.StepLaws.{by_fronts, puts-push, steps-append, take-more}
+use Rattle.directory.specs.StepLaws.{by_fronts, steps-append, take-more, puts-push_other, puts-push_own}
 use Rattle.directory.specs.Statements.{CellsOfPuts, CommitsAreMoves, FrontsAreLegal}
 use Rattle.trail_laws.specs.Trail.{mark_seen, MarksTell, MarkTells}
 use Rattle.trail_laws.proofs.Passing.{front-legal}
@@ -157,8 +156,7 @@ past-step laws setting sub c history visit low inside legal legal_more past = at
         commit_by v = commit_of (node_put v.act) (mark_put v.act)
 
         same : puts_to sub (history ++ visit ∷ []) ≡ puts_to sub history
-        same = puts-push sub history visit ∙ (ap (λ b. puts_to sub history ++ cond b (visit ∷ []) []) e
-            ∙ append-nil (puts_to sub history))
+        same = puts-push_other sub history visit e
 
         kept : cell setting (history ++ visit ∷ []) (Presence c.to sub) ≡ cell setting history (Presence c.to sub)
         kept = laws.cells setting (history ++ visit ∷ []) (Presence c.to sub)
@@ -168,7 +166,7 @@ past-step laws setting sub c history visit low inside legal legal_more past = at
         (confirmed c visit) refl
       where
         longer : puts_to sub (history ++ visit ∷ []) ≡ puts_to sub history ++ visit ∷ []
-        longer = puts-push sub history visit ∙ ap (λ b. puts_to sub history ++ cond b (visit ∷ []) []) e
+        longer = puts-push_own sub history visit e
 
         either : (list_any (confirmed c) (puts_to sub history) || (confirmed c visit || false)) ≡ true
         either = sym (list_any-append (confirmed c) (puts_to sub history) (visit ∷ []))

@@ -2,7 +2,7 @@
 -- short.
 use Rattle.std.proofs.Common.{◌≡◌, ℕ, ◌+◌, ◌*◌, ◌<◌, ◌≤◌, List, [], ◌∷◌, ◌++◌, length, map, take, drop, refl, sym, ap, ◌∙◌, subst, arith, length-append}
 use Rattle.std.specs.Prelude.{sum_by}
-use Rattle.std.proofs.lemmas.List.{drop-append-le}
+use Rattle.std.proofs.lemmas.List.{drop-append-le, take_all, take_at}
 use Rattle.std.proofs.lemmas.List.Sums.{sum_by_push}
 use Rattle.directory.specs.Settings.{Setting}
 use Rattle.directory.specs.Courses.{Move, Course, address_node, base, last_stop}
@@ -10,7 +10,7 @@ use Rattle.directory.specs.Standing.{commit_by}
 use Rattle.trail_laws.specs.Trail.{HasMetric}
 use Rattle.trail_laws.proofs.Links.{IsSound, base-low, stop-inside}
 use Rattle.trail_laws.proofs.ClosedMarks.{IsNext}
-use Rattle.trail_laws.proofs.Chases.{way-short, weight_from, old-inside}
+use Rattle.trail_laws.proofs.LinkedStops.{way-short, weight_from, old-inside}
 use Rattle.trail_laws.proofs.Tells.{next-stands, stands}
 use Rattle.trail_laws.proofs.Leads.{stop-end}
 
@@ -20,25 +20,17 @@ AreLazy setting moves =
     (k level : ℕ) → k ≤ length moves → level ≤ setting.top
     → weight_from (take k moves) (base level (take k moves)) < setting.threshold level
 
-take-left : (xs ys : List Move) → take (length xs) (xs ++ ys) ≡ xs
-take-left [] ys = refl
-take-left (x ∷ xs) ys = ap (λ zs. x ∷ zs) (take-left xs ys)
-
-take-whole : (xs : List Move) → take (length xs) xs ≡ xs
-take-whole [] = refl
-take-whole (x ∷ xs) = ap (λ zs. x ∷ zs) (take-whole xs)
-
 pub lazy-whole : (setting : Setting) (moves : List Move) (level : ℕ) → level ≤ setting.top → AreLazy setting moves
     → weight_from moves (base level moves) < setting.threshold level
 lazy-whole setting moves level below lazy =
-    subst (λ (ms : List Move). weight_from ms (base level ms) < setting.threshold level) (take-whole moves)
-    (lazy (length moves) level (omega arith) below)
+    subst (λ (ms : List Move). weight_from ms (base level ms) < setting.threshold level)
+    (take_all (length moves) moves (omega arith)) (lazy (length moves) level (omega arith) below)
 
 pub lazy-front : (setting : Setting) (xs ys : List Move) (level : ℕ) → level ≤ setting.top
     → AreLazy setting (xs ++ ys) → weight_from xs (base level xs) < setting.threshold level
 lazy-front setting xs ys level below lazy =
-    subst (λ (ms : List Move). weight_from ms (base level ms) < setting.threshold level) (take-left xs ys)
-    (lazy (length xs) level (omega (arith, length-append xs ys)) below)
+    subst (λ (ms : List Move). weight_from ms (base level ms) < setting.threshold level)
+    (take_at xs ys (length xs) refl) (lazy (length xs) level (omega (arith, length-append xs ys)) below)
 
 pub weight-push : (moves : List Move) (move : Move) (b : ℕ) → b ≤ length moves
     → weight_from (moves ++ move ∷ []) b ≡ weight_from moves b + move.weight

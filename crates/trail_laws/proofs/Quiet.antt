@@ -1,7 +1,7 @@
 -- A quiet find has its answer: what it stands on stays while no visit of a move is made.
 use Rattle.std.proofs.Common.{◌≡◌, ◌≢◌, ◌⊎◌, inl, inr, ℕ, zero, suc, ◌+◌, ◌-◌, ◌*◌, ◌<◌, ◌≤◌, ◌^◌, Bool, true, false, cond, ◌==◌, ◌||◌, List, [], ◌∷◌, ◌++◌, Option, Some, None, map, fold, refl, sym, ap, ◌∙◌, subst, arith}
 use Rattle.std.specs.Prelude.{All, flat_map, is_some}
-use Rattle.std.proofs.lemmas.Bool.{eqb-true}
+use Rattle.std.proofs.lemmas.Bool.{eqb-true, cases_eq, cases_lt}
 use Rattle.std.proofs.lemmas.Bool.Decides.{nat_tests}
 use Rattle.std.proofs.lemmas.List.Elements.{All-head, All-tail}
 use Rattle.std.proofs.lemmas.Option.{slice_get_within}
@@ -197,12 +197,9 @@ from-level : (setting : Setting) (sub node : ℕ) (seen : History) (cluster firs
     → HasReader setting sub seen (flat_map (λ level. map (λ c. record { level = level; cluster = c })
     (setting.readers level node)) (numbers_from first count))
 from-level setting sub node seen cluster first zero low high h some = absurd (omega arith)
-from-level setting sub node seen cluster first (suc count) low high h some = at_place (cases first setting.top)
+from-level setting sub node seen cluster first (suc count) low high h some = at_place (cases_eq first setting.top)
     (λ less. from-level setting sub node seen cluster (suc first) count less (omega arith) h some)
   where
-    cases : (a b : ℕ) → (a ≡ b) ⊎ (a ≢ b)
-    cases a b = grind (arith, nat_tests)
-
     at_place : (first ≡ setting.top) ⊎ (first ≢ setting.top)
         → (suc first ≤ setting.top → HasReader setting sub seen
         (flat_map (λ level. map (λ c. record { level = level; cluster = c }) (setting.readers level node))
@@ -290,11 +287,8 @@ either-quiet sub history first (suc count) = at_more (moves_at sub history (firs
         ⊎ ((ticket : ℕ) × (first ≤ ticket) × (ticket < first + suc count) × (moves_at sub history ticket ≡ true))
     at_more b e (inr found) = inr (found.0, found.1, omega (arith, found.2), found.3)
     at_more true e (inl all) = inr (first + count, omega arith, omega arith, e)
-    at_more false e (inl all) = inl (λ u h g. at_place u h (cases u (first + count)) g)
+    at_more false e (inl all) = inl (λ u h g. at_place u h (cases_lt u (first + count)) g)
       where
-        cases : (a b : ℕ) → (a < b) ⊎ (b ≤ a)
-        cases a b = grind (arith, nat_tests)
-
         at_place : (u : ℕ) → first ≤ u → (u < first + count) ⊎ (first + count ≤ u) → u < first + suc count
             → moves_at sub history u ≡ false
         at_place u h (inl low) g = all u h low

@@ -8,7 +8,7 @@ use Rattle.entry_word.specs.declared.mark.PresenceMark.TheVariants.{Empty, Here,
 use Rattle.directory.specs.Settings.{Setting, start}
 use Rattle.directory.specs.Histories.{History, puts_to}
 use Rattle.directory.specs.Legal.{IsLegal}
-use Rattle.directory.specs.Courses.{Course, course_at, last_stop}
+use Rattle.directory.specs.Courses.{course_at, last_stop}
 use Rattle.directory.specs.Writes.{visit_of, visits, writes}
 use Rattle.directory.specs.Puts.{course_in, steps_in}
 use Rattle.directory.specs.Standing.{commit_by, commits, number, standing}
@@ -25,6 +25,7 @@ use Rattle.trail_laws.proofs.Holders.{IsOld, rest-some}
 use Rattle.trail_laws.proofs.Laws.{Laws, placed}
 use Rattle.trail_laws.proofs.Lazy.{legal-lazy}
 use Rattle.directory.specs.StepLaws.{start-kept}
+use Rattle.trail_laws.proofs.Comings.{there-not_coming}
 
 pub addresses-by_phase : Laws → AddressesLeadByPhase
 addresses-by_phase laws setting sub history low metric some legal level cluster address known below is_some knows =
@@ -43,13 +44,6 @@ addresses-by_phase laws setting sub history low metric some legal level cluster 
         current = λ is same. omega (arith, there.short metric, its.fine.current metric lazy is.0 is.1 same);
       },
     )
-
-not-coming : (course : Course) (p u : ℕ) → there course ≡ Coming p u → ⊥
-not-coming course p u h = at_state course.is_off h
-  where
-    at_state : (b : Bool) → cond b (Off (length course.moves)) (Here (length course.moves)) ≡ Coming p u → ⊥
-    at_state true g = cc
-    at_state false g = cc
 
 -- a subscriber that rests has made all writes of its steps, and committed all its moves
 all-made : (setting : Setting) (sub : ℕ) (history : History) → IsAtRest setting sub history
@@ -132,7 +126,7 @@ rest-settled laws setting sub history low legal rest = ((all, other), current, m
     marked = at_state (course_in setting sub (puts_to sub history)).is_off refl
 
     other : (from : ℕ) → mark_seen setting sub history (standing setting sub history) ≢ Coming (number sub history) from
-    other from comes = not-coming (course_in setting sub (puts_to sub history)) (number sub history) from
+    other from comes = there-not_coming (course_in setting sub (puts_to sub history)) (number sub history) from
         (sym its_mark ∙ (ap (mark_seen setting sub history) (sym stood) ∙ comes))
 
     current : (level cluster : ℕ) (address : Address) → level ≤ setting.top

@@ -18,7 +18,7 @@ use Rattle.trail_laws.specs.Trail.{GoesUp, MarksTell, MarkTells, NumbersGoUp, en
 use Rattle.trail_laws.proofs.Links.{AreLinked, IsSound}
 use Rattle.trail_laws.proofs.ClosedMarks.{IsNext, mark_coming, mark_erasing, mark_passing, rest_mark, since_top, there, trail_mark, trail_mark-push}
 use Rattle.trail_laws.proofs.ClosedViews.{Phase, View, coming, passage, clearing, phase_commits, phase_mark}
-use Rattle.trail_laws.proofs.Chases.{IsLeft, last-left, stop_at}
+use Rattle.trail_laws.proofs.LinkedStops.{IsLeft, last-left, stop_at}
 use Rattle.trail_laws.proofs.Leads.{first_of, low_of, stop-end, trail-count, trail-ends, trail-linked, trail-stops, with-linked, with-stops}
 use Rattle.trail_laws.proofs.Laws.{HistoryView, Laws, view}
 use Rattle.trail_laws.proofs.Stops.{stop_after, stop-listed, stops-told}

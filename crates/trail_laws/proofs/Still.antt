@@ -1,7 +1,6 @@
 -- While a find is quiet its subscriber stands still, and what passage is open stays so.
-use Rattle.std.proofs.Common.{◌≡◌, ℕ, zero, suc, ◌+◌, ◌-◌, ◌<◌, ◌≤◌, ◌^◌, Bool, true, false, cond, List, [], ◌∷◌, ◌++◌, Some, length, drop, refl, sym, ap, ◌∙◌, subst, arith}
+use Rattle.std.proofs.Common.{◌≡◌, ℕ, zero, suc, ◌+◌, ◌-◌, ◌<◌, ◌≤◌, ◌^◌, Bool, true, false, List, [], ◌∷◌, ◌++◌, Some, length, drop, refl, sym, ap, ◌∙◌, subst, arith}
 use Rattle.std.specs.Prelude.{slice_get}
-use Rattle.std.proofs.lemmas.List.{append-nil}
 use Rattle.std.proofs.lemmas.Option.{slice_get_within}
 use Rattle.std.proofs.Math.ListN.{drop_of_length-le}
 use Rattle.entry_word.specs.Marks.{mark_in}
@@ -15,7 +14,7 @@ use Rattle.directory.specs.Legal.{ArePuts, IsLegal}
 use Rattle.directory.specs.Looks.{AreLooks, last_of, look_by, moves_at, moves_by}
 use Rattle.directory.specs.Puts.{is_of_move, steps_in}
 use Rattle.directory.specs.Standing.{number, passage, standing}
-use Rattle.directory.specs.StepLaws.{puts-push, slice_get-within, take-more}
+use Rattle.directory.specs.StepLaws.{slice_get-within, take-more, puts-push_other, puts-push_own}
 use Rattle.directory.specs.Writes.{visits}
 use Rattle.trail_laws.specs.Trail.{mark_seen}
 use Rattle.trail_laws.specs.Phases.{RestIsSettled}
@@ -53,8 +52,7 @@ still-step used rested setting sub one history visit low legal legal_more quiet 
     at_put false e p u comes same = ap mark_in kept ∙ comes
       where
         as_before : puts_to sub (history ++ visit ∷ []) ≡ puts_to sub history
-        as_before = puts-push sub history visit ∙ (ap (λ b. puts_to sub history ++ cond b (visit ∷ []) []) e
-            ∙ append-nil (puts_to sub history))
+        as_before = puts-push_other sub history visit e
 
         kept : cell setting (history ++ visit ∷ []) (Presence (standing setting sub one) sub)
             ≡ cell setting history (Presence (standing setting sub one) sub)
@@ -69,7 +67,7 @@ still-step used rested setting sub one history visit low legal legal_more quiet 
 
         legal_puts : ArePuts setting sub (puts_to sub history ++ visit ∷ [])
         legal_puts = subst (ArePuts setting sub)
-            (puts-push sub history visit ∙ ap (λ b. puts_to sub history ++ cond b (visit ∷ []) []) e) legal_more
+            (puts-push_own sub history visit e) legal_more
 
         done : length (puts_to sub history) ≡ length (visits setting sub (steps_in (puts_to sub history)))
         done = used.rests setting sub (puts_to sub history) visit switch.step low legal legal_puts switch.begins

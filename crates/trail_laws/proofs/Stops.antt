@@ -10,7 +10,7 @@ use Rattle.directory.specs.Standing.{Commit, commit_by}
 use Rattle.trail_laws.proofs.Links.{AreLinked, IsSound, linked-push, stop-inside}
 use Rattle.trail_laws.proofs.ClosedMarks.{IsNext}
 use Rattle.trail_laws.proofs.ClosedViews.{View, Phase, clearing, coming, passage, phase_commits}
-use Rattle.trail_laws.proofs.Chases.{stop_at}
+use Rattle.trail_laws.proofs.LinkedStops.{stop_at}
 
 -- where a subscriber is after so many of its commits
 abbrev pub stop_after : ℕ → List Commit → ℕ → ℕ

@@ -1,6 +1,6 @@
 -- What marks tell.
 use Rattle.std.proofs.Common.{◌≡◌, ◌⊎◌, inl, inr, ℕ, zero, suc, ◌+◌, ◌-◌, ◌<◌, ◌≤◌, Bool, true, false, cond, ◌==◌, List, [], ◌∷◌, ◌++◌, Option, Some, length, map, drop, fold, refl, sym, ap, ◌∙◌, subst, arith}
-use Rattle.std.specs.Prelude.{slice_get}
+use Rattle.std.specs.Prelude.{slice_get, option_map}
 use Rattle.std.proofs.lemmas.Bool.{eqb-true, eq-eqb}
 use Rattle.std.proofs.lemmas.List.{append-nil, length-map, map-append}
 use Rattle.std.proofs.lemmas.List.Sums.{fold-append}
@@ -14,7 +14,9 @@ use Rattle.directory.specs.Standing.{Commit, commit_by}
 use Rattle.trail_laws.proofs.Links.{AreLinked, IsSound, base-low, stop-inside, moves-count}
 use Rattle.trail_laws.proofs.ClosedMarks.{IsNext, rest_mark, mark_coming, mark_passing, mark_erasing, since_top, there, trail_mark}
 use Rattle.trail_laws.proofs.ClosedViews.{clearing, coming, IsPhase, passage, Phase, phase_commits, phase_mark, View}
-use Rattle.trail_laws.proofs.Chases.{IsLeft, last-left, stop_at}
+use Rattle.trail_laws.proofs.LinkedStops.{IsLeft, last-left, stop_at}
+use Rattle.directory.specs.ListLaws.{slice_get-left}
+use Rattle.std.proofs.lemmas.Option.{slice_get-map}
 
 -- where commits say that a subscriber stands
 abbrev pub stands : ℕ → List Commit → ℕ
@@ -38,24 +40,11 @@ MarkIs nodes from marks commits off moves node (Coming p u) =
     (p ≡ length moves) × (u < nodes) × (off ≡ false) × (((p ≡ suc (length commits)) × (u ≡ stands from commits))
     ⊎ ((p ≡ length commits) × (node ≡ stands from commits) × (marks u ≡ Gone p node)))
 
--- a mark of the trail is none, or the Gone of a move
 slice_get-drop : (moves : List Move) (b i : ℕ) → slice_get (drop b moves) i ≡ slice_get moves (b + i)
 slice_get-drop moves zero i = let e : 0 + i ≡ i = omega arith in rw e refl
 slice_get-drop [] (suc b) i = refl
 slice_get-drop (m ∷ moves) (suc b) i = let e : suc b + i
     ≡ suc (b + i) = omega arith in rw e (slice_get-drop moves b i)
-
-slice_get-map : (moves : List Move) (i : ℕ) (move : Move) → slice_get moves i ≡ Some move
-    → slice_get (map commit_by moves) i ≡ Some (commit_by move)
-slice_get-map [] i move h = cc
-slice_get-map (m ∷ moves) zero move h = let e : m ≡ move = cc in ap (λ (x : Move). Some (commit_by x)) e
-slice_get-map (m ∷ moves) (suc i) move h = slice_get-map moves i move h
-
-slice_get-left : (xs ys : List Commit) (i : ℕ) (c : Commit) → slice_get xs i ≡ Some c
-    → slice_get (xs ++ ys) i ≡ Some c
-slice_get-left [] ys i c h = cc
-slice_get-left (x ∷ xs) ys zero c h = h
-slice_get-left (x ∷ xs) ys (suc i) c h = slice_get-left xs ys i c h
 
 pub linked-drop : (setting : Setting) (from number : ℕ) (moves : List Move) (b : ℕ)
     → AreLinked setting from number moves → b ≤ length moves
@@ -103,8 +92,8 @@ gone-is from marks off all setting course node mark more sound same =
         listed = ap (slice_get (map commit_by course.moves ++ more))
             (let e : left.move.number - 1 ≡ low + left.place = omega (arith, left.its_number) in e)
             ∙ (slice_get-left (map commit_by course.moves) more (low + left.place) (commit_by left.move)
-            (slice_get-map course.moves (low + left.place) left.move
-            (sym (slice_get-drop course.moves low left.place) ∙ left.is_move))
+            (slice_get-map commit_by course.moves (low + left.place)
+            ∙ ap (option_map commit_by) (sym (slice_get-drop course.moves low left.place) ∙ left.is_move))
             ∙ ap (λ f. Some (record { number = left.move.number; from = f; to = left.move.to })) left.its_from)
 
 -- at rest

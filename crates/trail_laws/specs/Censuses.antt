@@ -1,10 +1,10 @@
 -- Whom a census lists, after every legal history: subscribers that stand at its node and are on; of
 -- those that rest, each one; so that when an order is played to its end the censuses list just
 -- where everybody stands, which the scripts tell alone. Key law: `censuses_are_right`.
-use Rattle.std.specs.Prelude.{◌≡◌, ◌↔◌, ℕ, ◌<◌, ◌≤◌, ◌^◌, ◌==◌, ◌&&◌, Bool, true, false, not, List, fold, length, slice_index}
+use Rattle.std.specs.Prelude.{◌≡◌, ◌↔◌, ℕ, ◌<◌, ◌≤◌, ◌^◌, ◌==◌, ◌&&◌, Bool, true, false, not, List, length, slice_index}
 use Rattle.node_set.specs.Ascending.{has, sift}
 use Rattle.directory.specs.Settings.{Setting, subs}
-use Rattle.directory.specs.Courses.{Step, move_to, switch_off, switch_on}
+use Rattle.directory.specs.Places.{Place, place_at_end}
 use Rattle.directory.specs.Census.{census}
 use Rattle.directory.specs.Histories.{History}
 use Rattle.directory.specs.Legal.{IsLegal}
@@ -42,21 +42,6 @@ CensusesEndRight =
     (setting : Setting) (scripts : Scripts) (order : List ℕ) (sub node : ℕ)
     → setting.nodes ≤ 2 ^ 16 → AreValid setting scripts → sub < subs setting
     → node < setting.nodes → IsCounted setting (history_of setting scripts order) sub node
-
--- where a subscriber is by its steps, and whether it is off
-pub record Place : Type 0 where
-  pub node : ℕ
-  pub is_off : Bool
-
--- after one step more
-abbrev pub place_after_step : Place → Step → Place
-place_after_step place (move_to node) = record place { node = node }
-place_after_step place switch_off = record place { is_off = true }
-place_after_step place switch_on = record place { is_off = false }
-
--- after all steps from a node on, where it was on
-abbrev pub place_at_end : ℕ → List Step → Place
-place_at_end first steps = fold place_after_step (record { node = first; is_off = false }) steps
 
 -- whether it is at a node, and on
 abbrev pub is_on_at : ℕ → Place → Bool

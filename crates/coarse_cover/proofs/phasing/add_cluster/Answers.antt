@@ -1,13 +1,13 @@
-use Rattle.std.proofs.Common.{◌≡◌, ◌++◌, [], ◌∷◌, ℕ, List, cond, not, filter, length, take, drop, get_or, ap, arith}
+use Rattle.std.proofs.Common.{◌≡◌, ◌++◌, [], ◌∷◌, ℕ, List, cond, not, filter, length, take, drop, get_or, ap, arith, sym, ◌∙◌}
 use Rattle.std.proofs.Common.{refl, sym, ◌∙◌}
 use Rattle.node_set.specs.Ascending.{has}
 use Rattle.node_set.specs.Nodes.{Nodes}
 use Rattle.coarse_cover.specs.Coarsening.{cluster_of}
 use Rattle.coarse_cover.specs.declared.cover.Cluster.{Cluster}
-use Rattle.node_set.specs.LeadLaws.{written}
 use Rattle.coarse_cover.proofs.Steps.{as_cluster_is, filter_rest}
 use Rattle.node_set.specs.Balls.{touches, sets}
 use Rattle.coarse_cover.proofs.phasing.add_cluster.Goals as goal
+use Rattle.std.proofs.lemmas.List.{take_at}
 
 abbrev cluster_with : ℕ → Nodes → ℕ → Cluster
 cluster_with first members phase = record { first = first; members = members; phase = phase }
@@ -19,8 +19,8 @@ returns c =
     in
     let home : take c.args.cover.now.home.len
     (c.set_homes.new.home ++ drop (length c.set_homes.new.home) c.args.cover.now.home.items) ≡ c.set_homes.new.home =
-    written c.args.cover.now.home.len c.set_homes.new.home c.args.cover.now.home.items home_count
-    c.args.cover.now.home.ok.0
+    take_at c.set_homes.new.home (drop (length c.set_homes.new.home) c.args.cover.now.home.items)
+    c.args.cover.now.home.len (home_count ∙ sym c.args.cover.now.home.ok.0)
     in
     let number : c.len-number.result ≡ length c.args.cover.now.clusters.items =
     c.len-number.ensures ∙ c.args.cover.now.clusters.ok.0

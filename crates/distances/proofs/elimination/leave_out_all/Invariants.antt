@@ -1,10 +1,10 @@
 use Rattle.std.proofs.Common.{◌≡◌, ℕ, Bool, List, length}
 use Rattle.std.specs.List.{count_by}
-use Rattle.distances.specs.declared.elimination.Stage.{Stage}
+use Rattle.distances.specs.declared.elimination.LeftOut.{LeftOut}
 use Rattle.distances.proofs.LeavingOut.{IsLeavingSome}
 use Rattle.distances.proofs.elimination.leave_out_all.Given as goal
 
-pub record IsLeavingOut (n width : ℕ) (first : List ℕ) (left : List Bool) (stages : List Stage)
+pub record IsLeavingOut (n width : ℕ) (first : List ℕ) (left : List Bool) (stages : List LeftOut)
     (table mine : List ℕ) : Type 0 where
   pub leaving : IsLeavingSome n width first left stages table
   pub row : length mine ≡ n

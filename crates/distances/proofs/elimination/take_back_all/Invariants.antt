@@ -1,9 +1,9 @@
 use Rattle.std.proofs.Common.{◌≡◌, ℕ, List, length}
-use Rattle.distances.specs.declared.elimination.Stage.{Stage}
+use Rattle.distances.specs.declared.elimination.LeftOut.{LeftOut}
 use Rattle.distances.proofs.TakingBack.{IsFilling}
 use Rattle.distances.proofs.elimination.take_back_all.Given as goal
 
-pub record IsTakingBack (n width : ℕ) (all stages : List Stage) (back table mine : List ℕ) : Type 0 where
+pub record IsTakingBack (n width : ℕ) (all stages : List LeftOut) (back table mine : List ℕ) : Type 0 where
   pub filling : IsFilling n width all stages back table
   pub row : length mine ≡ n
 

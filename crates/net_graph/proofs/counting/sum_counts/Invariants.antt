@@ -1,5 +1,5 @@
 use Rattle.std.proofs.Common.{◌≡◌, get_or, take}
-use Rattle.net_graph.specs.Notes.{AreStarts}
+use Rattle.net_graph.specs.Starts.{AreStarts}
 use Rattle.net_graph.proofs.counting.sum_counts.Given as goal
 
 abbrev pub invariant-loop-count : goal.invariant-loop-count

@@ -4,8 +4,9 @@ use Rattle.node_set.specs.Balls.{sets, union_of}
 use Rattle.node_set.specs.BallLaws.{ascending-union_of}
 use Rattle.node_set.specs.Nodes.{Nodes}
 use Rattle.node_set.specs.SetLaws.{same_members}
-use Rattle.node_set.proofs.Leading.{same_filter, or_none}
+use Rattle.node_set.proofs.Leading.{same_filter}
 use Rattle.node_set.proofs.marks.touch.Goals as goal
+use Rattle.std.proofs.Math.Bool.{or-false}
 
 pub returns-clause-members : goal.returns-clause-members
 returns-clause-members c =
@@ -16,7 +17,7 @@ returns-clause-members c =
     (ascending-union_of (sets c.args.rows.now) c.args.nodes.now.members)
     (λ x. c.absorb_balls.ensures.members x
     ∙ ap (λ l. has x (union_of (sets c.args.rows.now) c.args.nodes.now.members) || has x l) none
-    ∙ or_none (has x (union_of (sets c.args.rows.now) c.args.nodes.now.members)))
+    ∙ or-false (has x (union_of (sets c.args.rows.now) c.args.nodes.now.members)))
     in
     c.keep.ensures.members
     ∙ ap (filter (λ v. has v c.args.waiting.now.members)) reached

@@ -1,7 +1,8 @@
 use Rattle.std.proofs.Common.{rules, ℕ, List, subst, arith}
 use Rattle.std.proofs.lemmas.List.{take_all}
-use Rattle.region_plan.specs.Readers.{AreStarts}
-use Rattle.region_plan.proofs.Gathering.{count_few, no_starts, one_start, last_start}
+use Rattle.net_graph.specs.Starts.{AreStarts}
+use Rattle.net_graph.specs.StartLaws.{no_starts, one_start, last_start}
+use Rattle.region_plan.proofs.Gathering.{count_few}
 use Rattle.region_plan.proofs.readers.sum_counts.Goals as goal
 
 pub loop-count-init : goal.loop-count-init
@@ -22,12 +23,12 @@ overflow_add-sum c = omega (
 
 pub loop-count-preserved : goal.loop-count-preserved
 loop-count-preserved c = record {
-  starts = one_start c.args.counts.now c.loop-count.starts.items c.push-in-loop-count.new.self.items
-      c.loop-count.count-index c.loop-count.sum c.loop-count-test.true c.loop-count.invariant.starts
-      c.in_ok-push-2.ensures.items c.loop-count.invariant.last;
-  last = last_start c.args.counts.now c.loop-count.starts.items c.push-in-loop-count.new.self.items
-      c.loop-count.count-index c.loop-count.sum c.loop-count-test.true c.loop-count.invariant.starts
-      c.in_ok-push-2.ensures.items;
+  starts = one_start c.args.counts.now c.loop-count.starts.items c.loop-count.count-index c.loop-count.sum
+      c.loop-count-test.true c.loop-count.invariant.starts c.loop-count.invariant.last
+      c.push-in-loop-count.new.self.items c.in_ok-push-2.ensures.items;
+  last = last_start c.args.counts.now c.loop-count.starts.items c.loop-count.count-index c.loop-count.sum
+      c.loop-count-test.true c.loop-count.invariant.starts c.loop-count.invariant.last
+      c.push-in-loop-count.new.self.items c.in_ok-push-2.ensures.items;
   few = omega (
     arith,
     c.loop-count.invariant.few,

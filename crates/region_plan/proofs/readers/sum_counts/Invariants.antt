@@ -1,5 +1,5 @@
 use Rattle.std.proofs.Common.{◌≡◌, ◌≤◌, ◌*◌, get_or, take}
-use Rattle.region_plan.specs.Readers.{AreStarts}
+use Rattle.net_graph.specs.Starts.{AreStarts}
 use Rattle.region_plan.proofs.readers.sum_counts.Given as goal
 
 abbrev pub invariant-loop-count : goal.invariant-loop-count

@@ -1,8 +1,8 @@
 use Rattle.std.proofs.Common.{◌≡◌, ◌++◌, ◌≤◌, ◌*◌, ℕ, List, take, drop, length, ap, ◌∙◌, sym, subst}
 use Rattle.std.specs.Prelude.{All, slice_index}
-use Rattle.region_plan.proofs.Lists.{written}
 use Rattle.region_plan.proofs.Spreading.{row_written}
 use Rattle.region_plan.proofs.spread.exponents_of.Goals as goal
+use Rattle.std.proofs.lemmas.List.{take_at}
 
 pub loop-u-preserved : goal.loop-u-preserved
 loop-u-preserved c =
@@ -10,8 +10,8 @@ loop-u-preserved c =
     c.write_exponents.auto.exponents ∙ ap (length {A = ℕ}) c.deref_mut.ensures.value in
     let whole : take c.loop-u.exponents.len (c.write_exponents.new.exponents
     ++ drop (length c.write_exponents.new.exponents) c.loop-u.exponents.items) ≡ c.write_exponents.new.exponents =
-    written c.loop-u.exponents.len c.write_exponents.new.exponents c.loop-u.exponents.items kept
-    c.loop-u.exponents.ok.0
+    take_at c.write_exponents.new.exponents (drop (length c.write_exponents.new.exponents) c.loop-u.exponents.items)
+    c.loop-u.exponents.len (kept ∙ sym c.loop-u.exponents.ok.0)
     in
     rw whole (record {
       count = kept ∙ c.loop-u.invariant.count;

@@ -1,6 +1,6 @@
 use Rattle.std.proofs.Common.{◌≡◌, map, take}
 use Rattle.scripts.specs.Scripts.{step_of}
-use Rattle.trail_laws.specs.Censuses.{place_at_end}
+use Rattle.directory.specs.Places.{place_at_end}
 use Rattle.track.proofs.census.last_place.Given as goal
 
 abbrev pub invariant-loop-call : goal.invariant-loop-call

@@ -3,7 +3,7 @@ use Rattle.std.specs.Prelude.{None, slice_index, slice_index_or}
 use Rattle.net_reader.specs.Seen.{seen_input}
 use Rattle.scripts.specs.Scripts.{scripts_of}
 use Rattle.directory.specs.Orders.{steps_of}
-use Rattle.trail_laws.specs.Censuses.{place_at_end}
+use Rattle.directory.specs.Places.{place_at_end}
 use Rattle.track.specs.Places.{node_if_on}
 use Rattle.track.proofs.census.last_places.Given as goal
 

@@ -3,8 +3,9 @@ use Rattle.net_graph.specs.declared.neighbours.Arc.{Arc}
 use Rattle.net_graph.specs.Notes.{AreCounts, AreRows, HaveRoom, JoinsOther, notes_of}
 use Rattle.net_graph.proofs.Rows.{laid_out_limits}
 use Rattle.net_graph.proofs.LayingOut.{all_rows, rows_same_walks}
-use Rattle.net_graph.proofs.Placing.{room_made, written}
+use Rattle.net_graph.proofs.Placing.{room_made}
 use Rattle.net_graph.proofs.neighbours.Neighbours.new.Goals as goal
+use Rattle.std.proofs.lemmas.List.{take_at}
 
 pub fill_arcs-requires-clause-room : goal.fill_arcs-requires-clause-room
 fill_arcs-requires-clause-room c =
@@ -28,8 +29,9 @@ fill_arcs-requires-clause-room c =
   where
     counts : c.deref.result.now ≡ c.count_arcs.new.counts
     counts = c.deref.ensures.value
-        ∙ written c.in_ok-counts.counts.len c.count_arcs.new.counts c.in_ok-counts.counts.items
-        (c.count_arcs.auto.counts ∙ ap (length {A = ℕ}) c.deref_mut.ensures.value) c.in_ok-counts.counts.ok.0
+        ∙ take_at c.count_arcs.new.counts (drop (length c.count_arcs.new.counts) c.in_ok-counts.counts.items)
+        c.in_ok-counts.counts.len (c.count_arcs.auto.counts ∙ ap (length {A = ℕ}) c.deref_mut.ensures.value
+        ∙ sym c.in_ok-counts.counts.ok.0)
 
 module _ (c : goal.After-arcs-3-1) where
   -- the rows of the network's nodes
@@ -44,8 +46,9 @@ module _ (c : goal.After-arcs-3-1) where
       ) in
       let arcs_are : take c.in_ok-arcs.arcs.len
       (c.fill_arcs.new.arcs ++ drop (length c.fill_arcs.new.arcs) c.in_ok-arcs.arcs.items) ≡ c.fill_arcs.new.arcs =
-      written c.in_ok-arcs.arcs.len c.fill_arcs.new.arcs c.in_ok-arcs.arcs.items
-      (c.fill_arcs.auto.arcs ∙ ap (length {A = Arc}) c.deref_mut-3.ensures.value) c.in_ok-arcs.arcs.ok.0 in
+      take_at c.fill_arcs.new.arcs (drop (length c.fill_arcs.new.arcs) c.in_ok-arcs.arcs.items)
+      c.in_ok-arcs.arcs.len (c.fill_arcs.auto.arcs ∙ ap (length {A = Arc}) c.deref_mut-3.ensures.value
+      ∙ sym c.in_ok-arcs.arcs.ok.0) in
       subst (λ (xs : List Arc). AreRows c.args.n (JoinsOther c.args.edges.now) c.in_ok-starts.starts.items xs)
       (sym arcs_are)
       (subst (λ (xs : List ℕ). AreRows c.args.n (JoinsOther c.args.edges.now) xs c.fill_arcs.new.arcs)

@@ -7,12 +7,12 @@ use Rattle.region_plan.specs.Meanings.{IsCoveredPlan}
 use Rattle.region_plan.specs.Kept.{IsSized, plan_with}
 use Rattle.region_plan.proofs.Covered.{reach_near}
 use Rattle.node_set.specs.Nodes.{Nodes}
-use Rattle.region_plan.proofs.Lists.{written}
 use Rattle.region_plan.proofs.Levels.{plan_built}
 use Rattle.region_plan.proofs.Matching.{plan_bounds}
 use Rattle.region_plan.proofs.Meaning.{plan_is_this}
 use Rattle.region_plan.proofs.plan.Plan.build_by.Goals as goal
 use Rattle.region_plan.proofs.plan.Plan.build_by.Goals.{After-drop-spread-3, After-reach}
+use Rattle.std.proofs.lemmas.List.{take_at}
 
 -- what is made of the levels is the plan of the network over the covering
 abbrev made : (c : After-reach) → PlanData
@@ -79,7 +79,8 @@ loop-i-preserved c =
     c.push_level.auto.sets ∙ ap (length {A = Nodes}) c.deref_mut.ensures.value in
     let whole : take c.loop-i.sets.len (c.push_level.new.sets ++ drop (length c.push_level.new.sets)
     c.loop-i.sets.items) ≡ c.push_level.new.sets =
-    written c.loop-i.sets.len c.push_level.new.sets c.loop-i.sets.items kept c.loop-i.sets.ok.0 in
+    take_at c.push_level.new.sets (drop (length c.push_level.new.sets) c.loop-i.sets.items)
+    c.loop-i.sets.len (kept ∙ sym c.loop-i.sets.ok.0) in
     rw whole (record {
       levels = c.in_ok-push_level.ensures.levels;
       count = kept ∙ c.loop-i.invariant.count;

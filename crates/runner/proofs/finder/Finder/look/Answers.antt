@@ -2,8 +2,9 @@ use Rattle.std.proofs.Common.{◌+◌, drop, map, subst, sym, ap, ◌∙◌, ref
 use Rattle.directory.specs.Finds.{answer_of, at_origin}
 use Rattle.machine.specs.Stands.{IsWalking}
 use Rattle.scripts.specs.Scripts.{find_of}
-use Rattle.runner.proofs.Finding.{done-low, look-room, looked, looked-on, looked-up, none-is, some-is, walk-known, walking-of}
+use Rattle.runner.proofs.Finding.{done-low, look-room, looked, looked-on, looked-up, some-is, walk-known, walking-of}
 use Rattle.runner.proofs.finder.Finder.look.Goals as goal
+use Rattle.directory.specs.ListLaws.{is_some-none}
 
 pub look_on-requires : goal.look_on-requires
 look_on-requires c =
@@ -70,7 +71,7 @@ returns-else-is_some c = record {
       c.args.self.now c.in-Some.walk c.look_on.new.walk set.homes its c.in-Some.is c.in_ok-look_on.ensures.looked in (
         at.made,
         looked-on input setup old new c.args.self.now _ c.look_on.new.walk its at
-            (sym (c.answer.ensures setup.plan at.goes) ∙ none-is c.answer.result
+            (sym (c.answer.ensures setup.plan at.goes) ∙ is_some-none c.answer.result
             (sym c.is_some.ensures ∙ c.if-is_some.false))
             refl refl refl refl,
       );

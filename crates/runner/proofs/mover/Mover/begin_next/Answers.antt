@@ -1,8 +1,9 @@
 use Rattle.std.proofs.Common.{length, subst, sym, ◌∙◌, arith, refl}
 use Rattle.directory.specs.Histories.{puts_to}
 use Rattle.machine.specs.Subscribers.{MayBegin}
-use Rattle.runner.proofs.Moving.{all-begun, begun-now, none-is, ready, still-due}
+use Rattle.runner.proofs.Moving.{all-begun, begun-now, ready, still-due}
 use Rattle.runner.proofs.mover.Mover.begin_next.Goals as goal
+use Rattle.directory.specs.ListLaws.{is_some-none}
 
 pub returns-then-is_some : goal.returns-then-is_some
 returns-then-is_some c = record {
@@ -23,8 +24,8 @@ pub begin_step-requires-clause-may : goal.begin_step-requires-clause-may
 begin_step-requires-clause-may c =
     let its = c.requires.its in
     let at = ready c.scripts_are_valid.ensures its.0 its.1 c.args.plan.now c.args.distances.now its.2 its.3
-    c.args.self.now c.index.result.now its.4 its.5 (none-is c.next.result (sym c.is_some.ensures ∙ c.if-is_some.false))
-    c.next.ensures.exact (omega (arith, c.if-self-len.false, c.len.ensures)) c.index.ensures in
+    c.args.self.now c.index.result.now its.4 its.5
+    (is_some-none c.next.result (sym c.is_some.ensures ∙ c.if-is_some.false)) c.next.ensures.exact (omega (arith, c.if-self-len.false, c.len.ensures)) c.index.ensures in
     subst (λ p. MayBegin p c.args.self.now.handset c.index.result.now) (sym its.4.plan_is) at.may
 
 pub returns : goal.returns
@@ -32,7 +33,7 @@ returns c = record {
   its = λ input setup view spare set part.
       begun-now input setup c.args.plan.now view spare c.args.self.now _ c.index.result.now set.plan_is part
       (ready c.scripts_are_valid.ensures input setup c.args.plan.now c.args.distances.now view spare c.args.self.now
-      c.index.result.now set part (none-is c.next.result (sym c.is_some.ensures ∙ c.if-is_some.false))
+      c.index.result.now set part (is_some-none c.next.result (sym c.is_some.ensures ∙ c.if-is_some.false))
       c.next.ensures.exact (omega (arith, c.if-self-len.false, c.len.ensures)) c.index.ensures)
       c.begin_step.ensures.goes c.begin_step.ensures.its
       (c.begin_step.ensures.stands setup.homes part.its.steps (length (puts_to view.low view.seen))) refl

@@ -1,0 +1,112 @@
+-- The lines of a subscriber are made by its visits: each step's by all the writes of the step.
+use Rattle.std.proofs.Common.{◌≡◌, ℕ, zero, suc, ◌<◌, ◌≤◌, List, [], ◌∷◌, ◌++◌, Option, Some, None, length, map, take, drop, refl, sym, ap, ◌∙◌, subst, arith, append_assoc}
+use Rattle.std.specs.Prelude.{slice_get, All}
+use Rattle.std.proofs.lemmas.List.{take_at, drop_at, take-map, drop-map, length-map, map-append, take_all}
+use Rattle.std.proofs.lemmas.List.Sums.{fold-append}
+use Rattle.std.proofs.lemmas.List.Elements.{All-cons, All-nil}
+use Rattle.node_set.specs.Ascending.{IsAscending}
+use Rattle.entry_word.specs.declared.visit.Visit.{Visit}
+use Rattle.directory.specs.Settings.{Setting, subs, start}
+use Rattle.directory.specs.Histories.{History, own, tickets}
+use Rattle.directory.specs.Courses.{Step, move_to, switch_off, switch_on, Course, course_at, after_step, after_steps}
+use Rattle.directory.specs.Writes.{Write, step_writes, visit_of, writes}
+use Rattle.directory.specs.Orders.{Scripts, steps_of, script_visits, IsPlayed, IsDone}
+use Rattle.directory.specs.Outcomes.{step_line, step_lines, sub_lines, IsStepLine, IsMade}
+use Rattle.directory.proofs.NextLaws.{played-own}
+use Rattle.directory.proofs.TicketLaws.{tickets-tell, tickets-ascend, ascending_take, ascending_drop}
+use Rattle.directory.specs.HistoryLaws.{next-sub}
+use Rattle.std.proofs.lemmas.Simd.{map-map}
+
+-- the first visits of some are those of the first writes, and the others those of the others
+parted : (history : History) (sub : ℕ) (seen : List ℕ) (xs ys : List Write)
+    → map (slice_get history) seen ≡ map (λ write. Some (visit_of sub write)) (xs ++ ys)
+    → (map (slice_get history) (take (length xs) seen) ≡ map (λ write. Some (visit_of sub write)) xs)
+    × (map (slice_get history) (drop (length xs) seen) ≡ map (λ write. Some (visit_of sub write)) ys)
+parted history sub seen xs ys h = (
+  sym (take-map (slice_get history) (length xs) seen) ∙ (ap (take (length xs)) whole
+      ∙ take_at (map told xs) (map told ys) (length xs) (length-map xs told)),
+  sym (drop-map (slice_get history) (length xs) seen) ∙ (ap (drop (length xs)) whole
+      ∙ drop_at (map told xs) (map told ys) (length xs) (length-map xs told)),
+)
+  where
+    told : Write → Option Visit
+    told write = Some (visit_of sub write)
+
+    whole : map (slice_get history) seen ≡ map told xs ++ map told ys
+    whole = h ∙ map-append told xs ys
+
+-- the lines of a subscriber
+step_made : (setting : Setting) (scripts : Scripts) (history : History) (sub : ℕ) (course : Course) (step : Step)
+    (seen : List ℕ)
+    → IsStepLine setting scripts history sub (step_line setting sub course step seen)
+    → IsMade setting scripts history (step_line setting sub course step seen)
+step_made setting scripts history sub course (move_to node) seen h = h
+step_made setting scripts history sub course switch_off seen h = h
+step_made setting scripts history sub course switch_on seen h = h
+
+steps_made : (setting : Setting) (scripts : Scripts) (history : History) (sub : ℕ) (done left : List Step)
+    (seen : List ℕ) → steps_of scripts sub ≡ done ++ left → IsAscending seen
+    → map (slice_get history) seen ≡ map (λ write. Some (visit_of sub write))
+    (writes setting (after_steps setting (course_at (start setting sub)) done) left)
+    → All (IsMade setting scripts history) (step_lines setting sub
+    (after_steps setting (course_at (start setting sub)) done) left seen)
+unfolding step_lines writes
+steps_made setting scripts history sub done [] seen script ascending made = All-nil (IsMade setting scripts history)
+steps_made setting scripts history sub done (step ∷ left) seen script ascending made =
+    All-cons (IsMade setting scripts history) _ _
+    (step_made setting scripts history sub course step (take count seen) (record {
+      before = done;
+      step = step;
+      later = left;
+      seen = take count seen;
+      script = script;
+      ascending = ascending_take count seen ascending;
+      made = parts.0;
+      tells = refl;
+    }))
+    (subst (λ (c : Course). All (IsMade setting scripts history) (step_lines setting sub c left (drop count seen)))
+    further
+    (steps_made setting scripts history sub (done ++ step ∷ []) left (drop count seen)
+    (script ∙ sym (append_assoc done (step ∷ []) left)) (ascending_drop count seen ascending)
+    (subst (λ (c : Course). map (slice_get history) (drop count seen)
+    ≡ map (λ write. Some (visit_of sub write)) (writes setting c left)) (sym further) parts.1)))
+  where
+    course : Course
+    course = after_steps setting (course_at (start setting sub)) done
+
+    count : ℕ
+    count = length (step_writes setting course step)
+
+    further : after_steps setting (course_at (start setting sub)) (done ++ step ∷ []) ≡ after_step setting course step
+    further = fold-append (after_step setting) (course_at (start setting sub)) done (step ∷ [])
+
+    parts : (map (slice_get history) (take count seen)
+        ≡ map (λ write. Some (visit_of sub write)) (step_writes setting course step))
+        × (map (slice_get history) (drop count seen) ≡ map (λ write. Some (visit_of sub write))
+        (writes setting (after_step setting course step) left))
+    parts = parted history sub seen (step_writes setting course step)
+        (writes setting (after_step setting course step) left) made
+
+get_none : (xs : List Visit) (i : ℕ) → slice_get xs i ≡ None → length xs ≤ i
+get_none [] i h = omega arith
+get_none (x ∷ xs) zero h = cc
+get_none (x ∷ xs) (suc i) h = omega (arith, get_none xs i h)
+
+-- a subscriber that is done has made all visits of its script
+pub own-all : (setting : Setting) (scripts : Scripts) (history : History) (sub : ℕ) → sub < subs setting
+    → IsPlayed setting scripts history → IsDone setting scripts history sub
+    → own sub history ≡ script_visits setting scripts sub
+own-all setting scripts history sub below played done =
+    played-own setting scripts history sub below played
+    ∙ take_all (length (own sub history)) (script_visits setting scripts sub)
+    (get_none (script_visits setting scripts sub) (length (own sub history))
+    (sym (next-sub setting scripts history sub below) ∙ done))
+
+pub sub_made : (setting : Setting) (scripts : Scripts) (history : History) (sub : ℕ) → sub < subs setting
+    → IsPlayed setting scripts history → IsDone setting scripts history sub
+    → All (IsMade setting scripts history) (sub_lines setting scripts history sub)
+sub_made setting scripts history sub below played done =
+    steps_made setting scripts history sub [] (steps_of scripts sub) (tickets sub history) refl
+    (tickets-ascend sub history)
+    (tickets-tell sub history ∙ (ap (map Some) (own-all setting scripts history sub below played done)
+    ∙ map-map Some (visit_of sub) (writes setting (course_at (start setting sub)) (steps_of scripts sub))))

@@ -1,0 +1,337 @@
+-- How far a caller is before a ticket: what it has looked at for its find, and that each find that was answered before
+-- has its looks.
+use Rattle.std.proofs.Common.{◌≡◌, ℕ, suc, ◌-◌, ◌<◌, ◌≤◌, Bool, true, false, ◌==◌, List, [], ◌∷◌, ◌++◌, Option, Some, None, length, map, take, drop, fold, refl, sym, ap, ◌∙◌, subst, arith, append_assoc, length-append}
+use Rattle.std.specs.Prelude.{slice_get, flat_map, All}
+use Rattle.std.proofs.lemmas.Bool.{eqb-true}
+use Rattle.std.proofs.lemmas.List.{append-nil, map-append, length_push, length-drop, length-take-le, take_all, take-append-le, drop-append-le}
+use Rattle.std.proofs.lemmas.List.Sums.{fold-append}
+use Rattle.std.proofs.Math.ListN.{drop_of_length-le}
+use Rattle.std.proofs.lemmas.List.Elements.{All-cons, All-nil, All-append, All-head, All-tail}
+use Rattle.std.proofs.lemmas.Option.{slice_get_within}
+use Rattle.entry_word.specs.declared.visit.Key.{Key}
+use Rattle.entry_word.specs.declared.visit.Visit.{Visit}
+use Rattle.directory.specs.Settings.{Setting, subs}
+use Rattle.directory.specs.Histories.{History, before, cell, tickets_from, tickets, words_of, words_by, words_at, words_after, words_read}
+use Rattle.directory.specs.Finds.{FindCall, Stage, at_origin, after_word, key_of, answer_of}
+use Rattle.directory.specs.Looks.{look_by, AreLooks, IsFind}
+use Rattle.directory.specs.Orders.{Scripts, finds_of, Answer, Caller, with_stage, read_by, caller_in, key_in, next_key, next, IsPlayed}
+use Rattle.directory.specs.Outcomes.{FollowEachOther}
+use Rattle.directory.specs.declared.answers.Found.{Found}
+use Rattle.directory.proofs.HistoryLaws.{words-push}
+use Rattle.directory.proofs.CallerLaws.{caller-look, caller-push}
+use Rattle.directory.proofs.TicketLaws.{tickets-push}
+use Rattle.directory.specs.StepLaws.{by_fronts}
+use Rattle.directory.specs.LookLaws.{stage_after, stage-step, answer-ends}
+
+unfoldable pub after_last : ℕ → List ℕ → ℕ
+after_last earliest [] = earliest
+after_last earliest (ticket ∷ later) = after_last (suc ticket) later
+
+words_at-look : (setting : Setting) (history : History) (actor ticket : ℕ) (key : Key)
+    → slice_get history ticket ≡ Some (look_by actor key)
+    → words_at setting history ticket ≡ cell setting (before ticket history) key ∷ []
+words_at-look setting history actor ticket key h = ap (words_by setting (before ticket history)) h
+
+flat_map-push : {A B : Type 0} (f : A → List B) (xs : List A) (x : A)
+    → flat_map f (xs ++ x ∷ []) ≡ flat_map f xs ++ f x
+flat_map-push f [] x = append-nil (f x)
+flat_map-push f (y ∷ xs) x = ap (λ zs. f y ++ zs) (flat_map-push f xs x)
+    ∙ sym (append_assoc (f y) (flat_map f xs) (f x))
+
+stage-push : (setting : Setting) (history : History) (actor : ℕ) (call : FindCall) (stage : Stage) (sofar : List ℕ)
+    (ticket : ℕ) (key : Key) → slice_get history ticket ≡ Some (look_by actor key)
+    → stage_after setting history call stage (sofar ++ ticket ∷ [])
+    ≡ after_word setting call (stage_after setting history call stage sofar)
+    (cell setting (before ticket history) key)
+stage-push setting history actor call stage sofar ticket key h =
+    ap (fold (after_word setting call) stage) (flat_map-push (words_at setting history) sofar ticket
+    ∙ ap (λ ws. flat_map (words_at setting history) sofar ++ ws)
+    (words_at-look setting history actor ticket key h))
+    ∙ fold-append (after_word setting call) stage (flat_map (words_at setting history) sofar)
+    (cell setting (before ticket history) key ∷ [])
+
+-- one look more
+looks-push : (setting : Setting) (history : History) (actor : ℕ) (call : FindCall) (sofar : List ℕ) (earliest : ℕ)
+    (stage : Stage) (ticket : ℕ) (key : Key)
+    → AreLooks setting history actor call earliest stage sofar → after_last earliest sofar ≤ ticket
+    → key_of call (stage_after setting history call stage sofar) ≡ Some key
+    → slice_get history ticket ≡ Some (look_by actor key)
+    → AreLooks setting history actor call earliest stage (sofar ++ ticket ∷ [])
+unfolding AreLooks after_last
+looks-push setting history actor call [] earliest stage ticket key looks low wanted is_look =
+    (low, (key, wanted, is_look, tt))
+looks-push setting history actor call (t ∷ sofar) earliest stage ticket key
+    (first, (k, is_wanted, its_look, rest)) low wanted is_look = (
+      first,
+      (
+        k,
+        is_wanted,
+        its_look,
+        looks-push setting history actor call sofar (suc t)
+            (after_word setting call stage (cell setting (before t history) k)) ticket key rest low
+            (subst (λ (s : Stage). key_of call s ≡ Some key)
+            (stage-step setting history actor call stage t k sofar its_look) wanted) is_look,
+      ),
+    )
+
+after_last-push : (earliest : ℕ) (sofar : List ℕ) (ticket : ℕ)
+    → after_last earliest (sofar ++ ticket ∷ []) ≡ suc ticket
+unfolding after_last
+after_last-push earliest [] ticket = refl
+after_last-push earliest (t ∷ sofar) ticket = after_last-push (suc t) sofar ticket
+
+-- a find that is at a stage: these looks were made, before this ticket
+pub record IsAt (setting : Setting) (history : History) (actor : ℕ) (call : FindCall) (now : ℕ) (stage : Stage)
+    (seen : List ℕ) : Type 0 where
+  pub looks : AreLooks setting history actor call 0 at_origin seen
+  pub reads : stage_after setting history call at_origin seen ≡ stage
+  pub low : after_last 0 seen ≤ now
+
+-- a find that was answered: its looks have the tickets from its first place to its last
+abbrev pub seen_of : List ℕ → Answer → List ℕ
+seen_of ticketed answer = take (suc answer.last - answer.first) (drop answer.first ticketed)
+
+pub record IsAnswered (setting : Setting) (history : History) (actor : ℕ) (ticketed : List ℕ)
+    (answer : Answer) : Type 0 where
+  pub within : answer.last < length ticketed
+  pub order : answer.first ≤ answer.last
+  pub find : IsFind setting history actor answer.call answer.found (seen_of ticketed answer)
+
+-- where the last of some answers ends
+unfoldable pub end_place : ℕ → List Answer → ℕ
+end_place place [] = place
+end_place place (answer ∷ later) = end_place (suc answer.last) later
+
+follow-push : (place : ℕ) (answers : List Answer) (answer : Answer) → FollowEachOther place answers
+    → end_place place answers ≤ answer.first → answer.first ≤ answer.last
+    → FollowEachOther place (answers ++ answer ∷ [])
+unfolding FollowEachOther end_place
+follow-push place [] answer follow low order = (low, order, tt)
+follow-push place (one ∷ answers) answer follow low order =
+    (follow.0, follow.1, follow-push (suc one.last) answers answer follow.2 low order)
+
+end_place-push : (place : ℕ) (answers : List Answer) (answer : Answer)
+    → end_place place (answers ++ answer ∷ []) ≡ suc answer.last
+unfolding end_place
+end_place-push place [] answer = refl
+end_place-push place (one ∷ answers) answer = end_place-push (suc one.last) answers answer
+
+-- how far a caller is, with these tickets, before this ticket
+pub record IsUnderWay (setting : Setting) (history : History) (actor : ℕ) (finds : List FindCall) (ticketed : List ℕ)
+    (now : ℕ) (caller : Caller) : Type 0 where
+  pub count : caller.next ≡ length ticketed
+  pub low : caller.first ≤ caller.next
+  pub done : All (IsAnswered setting history actor ticketed) caller.answers
+  pub script : finds ≡ map (λ (answer : Answer). answer.call) caller.answers ++ caller.calls
+  pub current : (call : FindCall) (later : List FindCall) → caller.calls ≡ call ∷ later
+      → IsAt setting history actor call now caller.stage (drop caller.first ticketed)
+  pub follow : FollowEachOther 0 caller.answers
+  pub ends : end_place 0 caller.answers ≤ caller.first
+
+later_than : (setting : Setting) (history : History) (actor : ℕ) (call : FindCall) (now more : ℕ) (stage : Stage)
+    (seen : List ℕ) → now ≤ more → IsAt setting history actor call now stage seen
+    → IsAt setting history actor call more stage seen
+later_than setting history actor call now more stage seen h far = record
+    { looks = far.looks; reads = far.reads; low = omega (arith, h, far.low) }
+
+-- the tickets of a find that was answered stay
+seen-more : (ticketed more : List ℕ) (answer : Answer) → answer.first ≤ answer.last → answer.last < length ticketed
+    → seen_of (ticketed ++ more) answer ≡ seen_of ticketed answer
+seen-more ticketed more answer order within =
+    ap (take (suc answer.last - answer.first)) (drop-append-le answer.first ticketed more (omega arith))
+    ∙ take-append-le (suc answer.last - answer.first) (drop answer.first ticketed) more
+    (omega (arith, length-drop answer.first ticketed))
+
+answered-more : (setting : Setting) (history : History) (actor : ℕ) (ticketed more : List ℕ) (answers : List Answer)
+    → All (IsAnswered setting history actor ticketed) answers
+    → All (IsAnswered setting history actor (ticketed ++ more)) answers
+answered-more setting history actor ticketed more [] all = All-nil
+    (IsAnswered setting history actor (ticketed ++ more))
+answered-more setting history actor ticketed more (answer ∷ answers) all =
+    All-cons (IsAnswered setting history actor (ticketed ++ more)) answer answers
+    (one (All-head (IsAnswered setting history actor ticketed) answer answers all))
+    (answered-more setting history actor ticketed more answers
+    (All-tail (IsAnswered setting history actor ticketed) answer answers all))
+  where
+    one : IsAnswered setting history actor ticketed answer
+        → IsAnswered setting history actor (ticketed ++ more) answer
+    one h = record {
+      within = omega (arith, h.within, length-append ticketed more);
+      order = h.order;
+      find = subst (λ seen. IsFind setting history actor answer.call answer.found seen)
+          (sym (seen-more ticketed more answer h.order h.within)) h.find;
+    }
+
+-- one look more of a caller
+look_more : (setting : Setting) (history : History) (actor : ℕ) (finds : List FindCall) (ticketed : List ℕ) (now : ℕ)
+    (caller : Caller) (call : FindCall) (later : List FindCall) (key : Key)
+    → IsUnderWay setting history actor finds ticketed now caller → caller.calls ≡ call ∷ later
+    → key_of call caller.stage ≡ Some key → slice_get history now ≡ Some (look_by actor key)
+    → (o : Option Found) → answer_of (after_word setting call caller.stage (cell setting (before now history) key))
+    ≡ o
+    → IsUnderWay setting history actor finds (ticketed ++ now ∷ []) (suc now)
+    (with_stage caller call later (after_word setting call caller.stage (cell setting (before now history) key))
+    o)
+unfolding AreLooks after_last
+look_more setting history actor finds ticketed now caller call later key far calls wanted is_look o answer = at_answer
+    o answer
+  where
+    stage : Stage
+    stage = after_word setting call caller.stage (cell setting (before now history) key)
+
+    so_far : IsAt setting history actor call now caller.stage (drop caller.first ticketed)
+    so_far = far.current call later calls
+
+    longer : drop caller.first (ticketed ++ now ∷ []) ≡ drop caller.first ticketed ++ now ∷ []
+    longer = drop-append-le caller.first ticketed (now ∷ []) (omega (arith, far.low, far.count))
+
+    pushed : IsAt setting history actor call (suc now) stage (drop caller.first ticketed ++ now ∷ [])
+    pushed = record {
+      looks = looks-push setting history actor call (drop caller.first ticketed) 0 at_origin now key so_far.looks
+          so_far.low (subst (λ (s : Stage). key_of call s ≡ Some key) (sym so_far.reads) wanted) is_look;
+      reads = stage-push setting history actor call at_origin (drop caller.first ticketed) now key is_look
+          ∙ ap (λ s. after_word setting call s (cell setting (before now history) key)) so_far.reads;
+      low = omega (arith, after_last-push 0 (drop caller.first ticketed) now);
+    }
+
+    counted : suc caller.next ≡ length (ticketed ++ now ∷ [])
+    counted = omega (arith, far.count, length_push ticketed now)
+
+    at_answer : (o : Option Found) → answer_of stage ≡ o
+        → IsUnderWay setting history actor finds (ticketed ++ now ∷ []) (suc now)
+        (with_stage caller call later stage o)
+    at_answer None e = record {
+      count = counted;
+      low = omega (arith, far.low);
+      done = answered-more setting history actor ticketed (now ∷ []) caller.answers far.done;
+      script = far.script;
+      current = λ c l same. let its : call ∷ later ≡ c ∷ l = sym calls ∙ same in let is_call : call ≡ c = cc in
+          subst (λ (x : FindCall). IsAt setting history actor x (suc now) stage
+          (drop caller.first (ticketed ++ now ∷ []))) is_call
+          (subst (λ seen. IsAt setting history actor call (suc now) stage seen) (sym longer) pushed);
+      follow = far.follow;
+      ends = far.ends;
+    }
+    at_answer (Some found) e = record {
+      count = counted;
+      low = omega arith;
+      done = All-append (IsAnswered setting history actor (ticketed ++ now ∷ [])) caller.answers (mine ∷ [])
+          (answered-more setting history actor ticketed (now ∷ []) caller.answers far.done)
+          (All-cons (IsAnswered setting history actor (ticketed ++ now ∷ [])) mine [] is_mine
+          (All-nil (IsAnswered setting history actor (ticketed ++ now ∷ []))));
+      script = far.script ∙ (ap (λ cs. map (λ (a : Answer). a.call) caller.answers ++ cs) calls
+          ∙ (sym (append_assoc (map (λ (a : Answer). a.call) caller.answers) (call ∷ []) later)
+          ∙ ap (λ cs. cs ++ later) (sym (map-append (λ (a : Answer). a.call) caller.answers (mine ∷ [])))));
+      current = λ c l same. subst (λ seen. IsAt setting history actor c (suc now) at_origin seen) (sym none_left)
+          (record { looks = tt; reads = refl; low = omega arith });
+      follow = follow-push 0 caller.answers mine far.follow far.ends far.low;
+      ends = omega (arith, end_place-push 0 caller.answers mine);
+    }
+      where
+        mine : Answer
+        mine = record { call = call; found = found; first = caller.first; last = caller.next }
+
+        all_seen : seen_of (ticketed ++ now ∷ []) mine ≡ drop caller.first ticketed ++ now ∷ []
+        all_seen = ap (take (suc caller.next - caller.first)) longer
+            ∙ take_all (suc caller.next - caller.first) (drop caller.first ticketed ++ now ∷ [])
+            (omega (
+              arith,
+              far.low,
+              far.count,
+              length_push (drop caller.first ticketed) now,
+              length-drop caller.first ticketed,
+            ))
+
+        is_mine : IsAnswered setting history actor (ticketed ++ now ∷ []) mine
+        is_mine = record {
+          within = omega (arith, counted);
+          order = far.low;
+          find = subst (λ seen. IsFind setting history actor call found seen) (sym all_seen)
+              (record { looks = pushed.looks; answer = pushed.reads ∙ answer-ends stage found e });
+        }
+
+        none_left : drop (suc caller.next) (ticketed ++ now ∷ []) ≡ []
+        none_left = drop_of_length-le (ticketed ++ now ∷ []) {i = suc caller.next} (omega (arith, counted))
+
+-- so it is for each caller in a history in which each visit was its actor's next one
+pub under_way : (setting : Setting) (scripts : Scripts) (history : History) (actor : ℕ) → subs setting ≤ actor
+    → IsPlayed setting scripts history
+    → IsUnderWay setting history actor (finds_of setting scripts actor) (tickets actor history) (length history)
+    (caller_in setting scripts history actor)
+unfolding words_after tickets_from AreLooks after_last FollowEachOther end_place
+under_way setting scripts history actor high played =
+    by_fronts (λ front. Under front) history
+    (record {
+      count = refl;
+      low = omega arith;
+      done = All-nil
+          (IsAnswered setting history actor []);
+      script = refl;
+      current = λ call later same. record
+          { looks = tt; reads = refl; low = omega arith };
+      follow = tt;
+      ends = omega arith;
+    })
+    (λ t visit h far. step t visit h far (visit.actor == actor) refl)
+  where
+    Under : History → Type 0
+    Under front = IsUnderWay setting history actor (finds_of setting scripts actor) (tickets actor front)
+        (length front) (caller_in setting scripts front actor)
+
+    step : (t : ℕ) (visit : Visit) → slice_get history t ≡ Some visit → Under (take t history) → (b : Bool)
+        → (visit.actor == actor) ≡ b → Under (take t history ++ visit ∷ [])
+    step t visit h far false e =
+        rw (words-push setting actor (take t history) visit, tickets-push actor (take t history) visit, e)
+        (rw (append-nil (words_read setting actor (take t history)), append-nil (tickets actor (take t history)))
+        (record {
+          count = far.count;
+          low = far.low;
+          done = far.done;
+          script = far.script;
+          current = λ call later same. later_than setting history actor call (length (take t history))
+              (length (take t history ++ visit ∷ [])) _ _ (omega (arith, length_push (take t history) visit))
+              (far.current call later same);
+          follow = far.follow;
+          ends = far.ends;
+        }))
+    step t visit h far true e = at_look (caller-look setting scripts (take t history) actor visit high
+        (ap (λ a. next setting scripts (take t history) a) (sym (eqb-true visit.actor actor e)) ∙ played t visit h))
+      where
+        here : length (take t history) ≡ t
+        here = length-take-le t history (omega (arith, slice_get_within history t visit h))
+
+        grown : length (take t history ++ visit ∷ []) ≡ suc t
+        grown = omega (arith, here, length_push (take t history) visit)
+
+        caller : Caller
+        caller = caller_in setting scripts (take t history) actor
+
+        at_look : (key : Key) × (next_key caller ≡ Some key) × (visit ≡ look_by actor key)
+            → Under (take t history ++ visit ∷ [])
+        at_look (key, wanted, is_look) =
+            rw (
+              words-push setting actor (take t history) visit,
+              tickets-push actor (take t history) visit,
+              e,
+              read,
+              grown,
+              here,
+              caller-push setting (finds_of setting scripts actor)
+                  (words_read setting actor (take t history)) (cell setting (take t history) key),
+            )
+            (at_calls caller.calls refl wanted)
+          where
+            read : words_of setting (take t history) visit.act ≡ cell setting (take t history) key ∷ []
+            read = ap (λ (v : Visit). words_of setting (take t history) v.act) is_look
+
+            at_calls : (calls : List FindCall) → caller.calls ≡ calls → key_in calls caller.stage ≡ Some key
+                → IsUnderWay setting history actor (finds_of setting scripts actor)
+                (tickets actor (take t history) ++ t ∷ []) (suc t)
+                (read_by setting caller calls (cell setting (take t history) key))
+            at_calls [] same k = cc
+            at_calls (call ∷ later) same k =
+                look_more setting history actor (finds_of setting scripts actor)
+                (tickets actor (take t history)) t caller call later key
+                (subst (λ n. IsUnderWay setting history actor (finds_of setting scripts actor)
+                (tickets actor (take t history)) n caller) here far) same k (h ∙ ap Some is_look)
+                (answer_of (after_word setting call caller.stage (cell setting (before t history) key))) refl

@@ -1,0 +1,83 @@
+-- How many nodes hold a Gone above a number: the measure by which a chase ends.
+use Rattle.std.proofs.Common.{◌≡◌, ◌⊎◌, inl, inr, ℕ, zero, suc, ◌+◌, ◌<◌, ◌≤◌, Bool, true, false, cond, ◌==◌, ◌∷◌, length, refl, ap, ◌∙◌, arith}
+use Rattle.std.specs.Prelude.{nat_lt}
+use Rattle.std.proofs.lemmas.Bool.Decides.{nat_tests}
+use Rattle.node_set.specs.Ascending.{sift}
+use Rattle.entry_word.specs.declared.mark.PresenceMark.{PresenceMark}
+use Rattle.entry_word.specs.declared.mark.PresenceMark.TheVariants.{Empty, Here, Gone, Coming, Off}
+use Rattle.directory.specs.Settings.{Setting}
+use Rattle.node_set.specs.SetLaws.{length-passing_all}
+
+-- ---- how many pass a test
+pub passing-fewer : (f g : ℕ → Bool) (v k : ℕ) → ((x : ℕ) → f x ≡ true → g x ≡ true)
+    → length (sift f v k) ≤ length (sift g v k)
+passing-fewer f g v zero h = omega arith
+passing-fewer f g v (suc k) h = at_tests (f v) (g v) (h v) (passing-fewer f g (suc v) k h)
+  where
+    at_tests : (a b : Bool) → (a ≡ true → b ≡ true) → length (sift f (suc v) k) ≤ length (sift g (suc v) k)
+        → length (cond a (v ∷ sift f (suc v) k) (sift f (suc v) k)) ≤ length
+        (cond b (v ∷ sift g (suc v) k) (sift g (suc v) k))
+    at_tests true true e more = omega (arith, more)
+    at_tests true false e more = let clash : false ≡ true = e refl in cc
+    at_tests false true e more = omega (arith, more)
+    at_tests false false e more = more
+
+pub passing-less : (f g : ℕ → Bool) (x v k : ℕ) → v ≤ x → x < v + k → ((y : ℕ) → f y ≡ true → g y ≡ true)
+    → f x ≡ false → g x ≡ true → length (sift f v k) < length (sift g v k)
+passing-less f g x v zero low high h out within = absurd (omega arith)
+passing-less f g x v (suc k) low high h out within = at_place (cases v x)
+    (λ l. passing-less f g x (suc v) k l (omega arith) h out within)
+  where
+    cases : (a b : ℕ) → (a ≡ b) ⊎ ((a == b) ≡ false)
+    cases a b = grind (arith, nat_tests)
+
+    at_tests : (a b : Bool) → (a ≡ true → b ≡ true) → length (sift f (suc v) k) < length (sift g (suc v) k)
+        → length (cond a (v ∷ sift f (suc v) k) (sift f (suc v) k)) < length
+        (cond b (v ∷ sift g (suc v) k) (sift g (suc v) k))
+    at_tests true true e more = omega (arith, more)
+    at_tests true false e more = let clash : false ≡ true = e refl in cc
+    at_tests false true e more = omega (arith, more)
+    at_tests false false e more = more
+
+    at_place : (v ≡ x) ⊎ ((v == x) ≡ false) → (suc v ≤ x
+        → length (sift f (suc v) k) < length (sift g (suc v) k))
+        → length (cond (f v) (v ∷ sift f (suc v) k) (sift f (suc v) k)) < length
+        (cond (g v) (v ∷ sift g (suc v) k) (sift g (suc v) k))
+    at_place (inl e) more = rw (ap f e ∙ out, ap g e ∙ within) (omega (arith, passing-fewer f g (suc v) k h))
+    at_place (inr e) more = at_tests (f v) (g v) (h v) (more (grind (arith, nat_tests)))
+
+pub some-out : (test : ℕ → Bool) (x n : ℕ) → x < n → test x ≡ false → suc (length (sift test 0 n)) ≤ n
+some-out test x n low out = omega (
+  arith,
+  passing-less test (λ y. true) x 0 n (omega arith) (omega arith)
+      (λ y e. refl) out refl,
+  length-passing_all 0 n,
+)
+
+-- ---- how many nodes hold a Gone above a number
+abbrev pub gone_above : ℕ → PresenceMark → Bool
+gone_above number Empty = false
+gone_above number (Here q) = false
+gone_above number (Gone q to) = nat_lt number q
+gone_above number (Coming q from) = false
+gone_above number (Off q) = false
+
+abbrev pub above : Setting → (ℕ → PresenceMark) → ℕ → ℕ
+above setting marks number = length (sift (λ v. gone_above number (marks v)) 0 setting.nodes)
+
+gone_above-less : (p q : ℕ) (mark : PresenceMark) → q ≤ p → gone_above p mark ≡ true → gone_above q mark ≡ true
+gone_above-less p q Empty h e = cc
+gone_above-less p q (Here r) h e = cc
+gone_above-less p q (Gone r to) h e = grind (arith, nat_tests)
+gone_above-less p q (Coming r from) h e = cc
+gone_above-less p q (Off r) h e = cc
+
+-- a node with a Gone counts for less than its number
+pub above-less : (setting : Setting) (marks : ℕ → PresenceMark) (v p q to : ℕ) → v < setting.nodes
+    → marks v ≡ Gone p to → q < p → above setting marks p < above setting marks q
+above-less setting marks v p q to low mark less =
+    passing-less (λ x. gone_above p (marks x)) (λ x. gone_above q (marks x)) v 0 setting.nodes (omega arith)
+    (omega arith)
+    (λ x e. gone_above-less p q (marks x) (omega arith) e)
+    (ap (gone_above p) mark ∙ (let e : nat_lt p p ≡ false = grind (arith, nat_tests) in e))
+    (ap (gone_above q) mark ∙ (let e : nat_lt q p ≡ true = grind (arith, nat_tests, less) in e))
