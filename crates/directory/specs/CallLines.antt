@@ -1,12 +1,20 @@
 -- What the line of a call tells: whose call it is, and the find that it tells of, which answers, on
 -- or off, or is to be made again.
 -- Key law: `Done::find` (it gives the line of a find, and none of a move or a switch).
-use Rattle.std.specs.Prelude.{Option, Some, None}
+use Rattle.std.specs.Prelude.{ℕ, Option, Some, None}
 use Rattle.directory.specs.Outcomes.{found_line}
 use Rattle.directory.specs.declared.answers.FindLine.{FindLine}
 use Rattle.directory.specs.declared.answers.Found.TheVariants.{At, Off as OffAt, Again}
 use Rattle.directory.specs.declared.answers.Done.{Done}
 use Rattle.directory.specs.declared.answers.Done.TheVariants.{Moved, Switched, Found as FoundBy, Off as OffBy, Again as AgainBy}
+
+-- the actor of a line
+abbrev pub actor_of : Done → ℕ
+actor_of (Moved actor number from to weight first commit last) = actor
+actor_of (Switched actor off node number ticket) = actor
+actor_of (FoundBy actor from sub node number level weight first last) = actor
+actor_of (OffBy actor from sub node number level weight first last) = actor
+actor_of (AgainBy actor from sub why weight first last) = actor
 
 -- the find that a line tells of
 abbrev pub find_of : Done → Option FindLine

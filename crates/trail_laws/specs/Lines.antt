@@ -9,7 +9,7 @@ use Rattle.directory.specs.Histories.{History}
 use Rattle.directory.specs.Looks.{moves_at}
 use Rattle.directory.specs.Orders.{AreValid, IsPlayed, Scripts, history_of}
 use Rattle.directory.specs.Outcomes.{outcome_in, outcome_of}
-use Rattle.directory.specs.CallLines.{find_of}
+use Rattle.directory.specs.CallLines.{actor_of, find_of}
 use Rattle.directory.specs.declared.answers.Found.{Found}
 use Rattle.directory.specs.declared.answers.Found.TheVariants.{At, Off as OffAt, Again}
 use Rattle.directory.specs.declared.answers.Done.{Done}
@@ -64,20 +64,12 @@ NumbersRise =
     (setting : Setting) (scripts : Scripts) (order : List ℕ) → setting.nodes ≤ 2 ^ 16
     → AreValid setting scripts → TellRisingNumbers (outcome_of setting scripts order).calls
 
--- the actor of a line
-abbrev pub line_actor : Done → ℕ
-line_actor (Moved actor n from to weight first commit last) = actor
-line_actor (Switched actor is_off node n ticket) = actor
-line_actor (FoundBy actor from sub node n level weight first last) = actor
-line_actor (OffBy actor from sub node n level weight first last) = actor
-line_actor (AgainBy actor from sub why weight first last) = actor
-
 -- of two lines of an actor that tell numbers, the one that comes later has no earlier last visit,
 -- so that along one actor's finds of a subscriber the numbers never fall
 abbrev pub TellInTurn : List Done → Type 0
 TellInTurn calls =
     (i j : ℕ) (one other : Done) → i ≤ j → slice_get calls i ≡ Some one
-    → slice_get calls j ≡ Some other → line_actor one ≡ line_actor other
+    → slice_get calls j ≡ Some other → actor_of one ≡ actor_of other
     → (sub s p q earlier later : ℕ) → TellsNumber one sub p earlier → TellsNumber other s q later
     → earlier ≤ later
 
