@@ -13,6 +13,7 @@ pub mod Parts
 pub mod Looks
 pub mod Orders
 pub mod Outcomes
+pub mod CallLines
 pub mod Census
 pub mod Amid
 pub mod ListLaws

@@ -12,7 +12,7 @@ mod outcomes;
 mod standing;
 mod states;
 
-pub use answers::{Done, Found, Outcome, Why};
+pub use answers::{Done, FindLine, Found, Outcome, Why};
 pub use courses::{
     base_after, levels_after_move, moves_are_short, moves_that_may_come, writes_joined,
 };

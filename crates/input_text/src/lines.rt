@@ -132,8 +132,8 @@ impl<'a> InputLines<'a> {
         })
     }
 
-    // Makes the next line, and answers whether there was one left.
-    fn advance(&mut self) -> bool
+    /// Makes the next line, and answers whether there was one left. It takes no memory.
+    pub fn advance(&mut self) -> bool
         ensures line { result ≡ true → self.old.left ≡ self.new.line ∷ self.new.left }
         ensures none { result ≡ false → (self.old.left ≡ []) × (self.new.left ≡ []) }
     {
@@ -157,8 +157,8 @@ impl<'a> InputLines<'a> {
         true
     }
 
-    // The line that was made last, with its line feed.
-    fn line(&self) -> &[u8]
+    /// The line that was made last, with its line feed.
+    pub fn line(&self) -> &[u8]
         ensures { result.now ≡ self.now.line }
     {
         self.line.bytes()

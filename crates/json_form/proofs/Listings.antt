@@ -10,7 +10,7 @@ use Rattle.json_form.specs.declared.fault.JsonFault.{JsonFault}
 use Rattle.json_form.specs.declared.fault.JsonFault.TheVariants as faults
 use Rattle.json_form.specs.declared.rows.Kind.{Kind}
 use Rattle.json_form.specs.declared.rows.Kind.TheVariants as kinds
-use Rattle.json_form.specs.Answers.{IsJson, IsJsonText}
+use Rattle.json_form.specs.TextOfJson.{IsJson, IsJsonText}
 use Rattle.json_form.specs.Left.{HasLines, HasNone, line_in}
 use Rattle.json_form.specs.Shapes.{InputValues, call_in, each_in, edge_in, list_in, listing_of_values, number_in, values_of}
 use Rattle.json_form.proofs.Each.{concat-append, each-map, option-map-none, option-map-some}

@@ -1,20 +1,35 @@
 -- The texts of calls and of whole reports are the texts of their values.
-use Rattle.std.proofs.Common.{◌≡◌, ℕ, ◌≤◌, ◌-◌, arith, get_or, take, drop, Bool, true, false, List, [], ◌∷◌, ◌++◌, Some, None, append_assoc, length, codes, refl, sym, ap, ◌∙◌}
+use Rattle.std.proofs.Common.{◌≡◌, ℕ, ◌≤◌, ◌-◌, arith, get_or, take, drop, Bool, true, false, List, [], ◌∷◌, ◌++◌, Option, Some, None, ◌⊎◌, inl, inr, append_assoc, length, codes, refl, sym, ap, ◌∙◌}
 use Rattle.std.proofs.lemmas.List.{take_all}
 use Rattle.std.specs.Fmt.{decimal}
 use Rattle.std.specs.List.{concat}
 use Rattle.directory.specs.declared.answers.Done.{Done}
 use Rattle.directory.specs.declared.answers.Done.TheVariants.{Moved, Switched, Found, Off, Again}
+use Rattle.directory.specs.CallLines.{line_of_find}
+use Rattle.directory.specs.declared.answers.FindLine.{FindLine}
+use Rattle.directory.specs.declared.answers.Found.TheVariants.{At, Off as OffAt}
 use Rattle.directory.specs.declared.answers.Why.TheVariants.{Empty, NoEntry, Chased}
 use Rattle.directory.specs.Outcomes.{Outcome}
 use Rattle.json.specs.Print.{escape_byte}
 use Rattle.serde_json.specs.Written.{compact_text}
-use Rattle.json_form.specs.Left.{calls_left, done_pieces, list_left, member_text, opening, order_left}
+use Rattle.json_form.specs.Left.{answer_pieces, calls_left, done_pieces, kind_text, list_left, member_text, opening, order_left}
 use Rattle.json_form.specs.Reports.{done_value, report_json_of}
 use Rattle.input_text.specs.Listing.{ListingValue}
 use Rattle.json_form.specs.Inputs.{call_value, edge_value, listing_value}
 use Rattle.json_form.specs.Values.{line_of_value, list_by, wholes}
 use Rattle.json_form.proofs.Pieces.{grown, list-more}
+
+-- the pieces of a find that answers, on or off
+abbrev pub place_pieces : FindLine → ℕ → ℕ → Option ℕ → ℕ → List (List ℕ)
+place_pieces find node number level weight =
+    member_text (codes "{\"actor\"") find.actor
+    ∷ answer_pieces (kind_text find.found) find.from find.sub node number level weight find.first find.last
+
+pub placed : (find : FindLine) (node number : ℕ) (level : Option ℕ) (weight : ℕ)
+    → (find.found ≡ At node number level weight) ⊎ (find.found ≡ OffAt node number level weight)
+    → place_pieces find node number level weight ≡ done_pieces (line_of_find find)
+placed find node number level weight (inl at) = rw at refl
+placed find node number level weight (inr off) = rw off refl
 
 -- what is written of a call is the text of its value
 pub done-is : (done : Done) → concat (done_pieces done) ≡ compact_text (done_value done)

@@ -4,7 +4,7 @@ use Rattle.std.specs.Prelude.{◌≡◌, ℕ, List, Ok}
 use Rattle.net_reader.specs.Input.{Contents, IsInput}
 use Rattle.net_reader.specs.Valid.{IsValid}
 use Rattle.input_text.specs.Listing.{ListingValue, input_text_of}
-use Rattle.json_form.specs.Answers.{IsListed, IsNoJson, IsShapeless, IsTextOfJson}
+use Rattle.json_form.specs.TextOfJson.{IsListed, IsNoJson, IsShapeless, IsTextOfJson}
 use Rattle.json_form.specs.Inputs.{input_json_of}
 
 -- the JSON of a valid input makes the input's own text, and that text reads as the input

@@ -6,6 +6,8 @@ use Rattle.std.specs.Fmt.{decimal}
 use Rattle.std.specs.List.{concat}
 use Rattle.directory.specs.declared.answers.Done.{Done}
 use Rattle.directory.specs.declared.answers.Done.TheVariants.{Moved, Switched, Found, Off, Again}
+use Rattle.directory.specs.declared.answers.Found.{Found as Answered}
+use Rattle.directory.specs.declared.answers.Found.TheVariants.{At, Off as OffAt, Again as AgainFor}
 use Rattle.directory.specs.declared.answers.Why.{Why}
 use Rattle.directory.specs.declared.answers.Why.TheVariants.{Empty, NoEntry, Chased}
 use Rattle.net_graph.specs.declared.edge.Edge.{Edge}
@@ -62,6 +64,12 @@ abbrev pub why_text : Why → List ℕ
 why_text (Empty node) = codes ",\"why\":\"empty\"}"
 why_text NoEntry = codes ",\"why\":\"none\"}"
 why_text Chased = codes ",\"why\":\"chased\"}"
+
+-- the kind of a find
+abbrev pub kind_text : Answered → List ℕ
+kind_text (At node number level weight) = codes ",\"kind\":\"find\""
+kind_text (OffAt node number level weight) = codes ",\"kind\":\"off\""
+kind_text (AgainFor why weight) = codes ",\"kind\":\"again\""
 
 -- the pieces of a find that answers, behind its actor
 abbrev pub answer_pieces : List ℕ → ℕ → ℕ → ℕ → ℕ → Option ℕ → ℕ → ℕ → ℕ → List (List ℕ)

@@ -2,6 +2,6 @@ pub mod Values
 pub mod Inputs
 pub mod Shapes
 pub mod Reports
-pub mod Answers
+pub mod TextOfJson
 pub mod Laws
 pub mod Left

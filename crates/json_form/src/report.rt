@@ -1,51 +1,21 @@
 //! The JSON of a report, part by part.
-ghost use Rattle.std.specs.Prelude.{◌≡◌, ◌≢◌, ◌<◌, ◌≤◌, ◌+◌, ◌++◌, [], length, true, false, IfOk, codes};
+ghost use Rattle.std.specs.Prelude.{◌≡◌, ◌≢◌, ◌<◌, ◌≤◌, ◌+◌, ◌++◌, [], length, true, false, IfOk, None, codes};
 ghost use Rattle.std.specs.List.{concat};
+ghost use Rattle.directory.specs.CallLines.{find_of, line_of_find};
 ghost use Rattle.directory.specs.Outcomes.{result_of};
+ghost use Rattle.directory.specs.declared.answers.Done.TheVariants.{Switched};
 ghost use Rattle.json_form.specs.declared.report.Stage.TheVariants as stages;
-ghost use Rattle.json_form.specs.Left.{answer_pieces, calls_left, done_pieces, null_text, off_text, order_left, text_left, why_node_text, why_text};
+ghost use Rattle.json_form.specs.Left.{calls_left, done_pieces, kind_text, null_text, off_text, order_left, text_left, why_node_text, why_text};
 ghost use Rattle.json_form.specs.Reports.{report_json_of};
 
 use crate::lists::{write_closing, write_member, write_numbers, write_opening, write_small};
-use directory::{Done, Outcome, Why};
+use directory::{Done, FindLine, Found, Outcome, Why};
 use std::alloc::{AllocError, Global};
 use std::marker::Model;
 use text_line::Line;
 
 // One field is made beforehand for so many visits, so that making them costs less than it saves.
 const VISITS_A_FIELD: usize = 8;
-
-// What a find answers, and which visits it made.
-#[derive(Clone, Copy, Debug)]
-struct Answer {
-    from: u32,
-    sub: u32,
-    node: u32,
-    number: u32,
-    level: Option<u32>,
-    weight: u64,
-    first: u64,
-    last: u64,
-}
-
-// A find that answers, behind its actor.
-fn write_answer(line: &mut Line, kind: &str, answer: Answer)
-    requires begun { length line.old ≤ 60 }
-    requires kind { length kind.now ≤ 20 }
-    ensures { line.new ≡ line.old ++ concat (answer_pieces kind.now answer.from answer.sub
-        answer.node answer.number answer.level answer.weight answer.first answer.last) }
-{
-    write_member(line, ",\"first\"", answer.first);
-    write_small(line, ",\"from\"", answer.from);
-    line.word(kind);
-    write_member(line, ",\"last\"", answer.last);
-    write_level(line, answer.level);
-    write_small(line, ",\"node\"", answer.node);
-    write_small(line, ",\"number\"", answer.number);
-    write_small(line, ",\"sub\"", answer.sub);
-    write_member(line, ",\"weight\"", answer.weight);
-    line.word("}");
-}
 
 // The level of a find that climbed, or null.
 fn write_level(line: &mut Line, level: Option<u32>)
@@ -96,9 +66,75 @@ fn write_off(line: &mut Line, off: bool)
     });
 }
 
-// What became of a call, behind what stands before it.
-fn write_done(line: &mut Line, call: &Done)
+// The kind of a find, behind what stands before it.
+fn kind_of(found: Found) -> &'static str
+    ensures text { result.now ≡ kind_text found }
+    ensures short { length result.now ≤ 20 }
+{
+    match found {
+        Found::At { .. } => ",\"kind\":\"find\"",
+        Found::Off { .. } => ",\"kind\":\"off\"",
+        Found::Again { .. } => ",\"kind\":\"again\"",
+    }
+}
+
+// What became of a find, behind what stands before it.
+fn write_find(line: &mut Line, find: FindLine)
     requires { length line.old ≤ 1 }
+    ensures { line.new ≡ line.old ++ concat (done_pieces (line_of_find find)) }
+{
+    write_small(line, "{\"actor\"", find.actor);
+    write_member(line, ",\"first\"", find.first);
+    write_small(line, ",\"from\"", find.from);
+    line.word(kind_of(find.found));
+    write_member(line, ",\"last\"", find.last);
+    match find.found {
+        Found::At {
+            node,
+            number,
+            level,
+            weight,
+        }
+        | Found::Off {
+            node,
+            number,
+            level,
+            weight,
+        } => {
+            write_level(line, level);
+            write_small(line, ",\"node\"", node);
+            write_small(line, ",\"number\"", number);
+            write_small(line, ",\"sub\"", find.sub);
+            write_member(line, ",\"weight\"", weight);
+            line.word("}");
+        }
+        Found::Again { why, weight } => {
+            write_why_node(line, why);
+            write_small(line, ",\"sub\"", find.sub);
+            write_member(line, ",\"weight\"", weight);
+            write_why(line, why);
+        }
+    }
+}
+
+// What became of a switch, behind what stands before it.
+fn write_switch(line: &mut Line, actor: u32, off: bool, node: u32, number: u32, ticket: u64)
+    requires { length line.old ≤ 1 }
+    ensures { line.new ≡ line.old ++ concat (done_pieces (Switched actor off node number ticket)) }
+{
+    write_small(line, "{\"actor\"", actor);
+    line.word(",\"kind\":\"switch\"");
+    write_small(line, ",\"node\"", node);
+    write_small(line, ",\"number\"", number);
+    write_off(line, off);
+    write_member(line, ",\"ticket\"", ticket);
+    line.word("}");
+}
+
+// What became of a move or of a switch, behind what stands before it.
+fn write_step(line: &mut Line, call: &Done)
+    requires begun { length line.old ≤ 1 }
+    requires step { find_of call.now ≡ None }
     ensures { line.new ≡ line.old ++ concat (done_pieces call.now) }
 {
     match *call {
@@ -129,82 +165,19 @@ fn write_done(line: &mut Line, call: &Done)
             node,
             number,
             ticket,
-        } => {
-            write_small(line, "{\"actor\"", actor);
-            line.word(",\"kind\":\"switch\"");
-            write_small(line, ",\"node\"", node);
-            write_small(line, ",\"number\"", number);
-            write_off(line, off);
-            write_member(line, ",\"ticket\"", ticket);
-            line.word("}");
-        }
-        Done::Found {
-            actor,
-            from,
-            sub,
-            node,
-            number,
-            level,
-            weight,
-            first,
-            last,
-        } => {
-            write_small(line, "{\"actor\"", actor);
-            let answer = Answer {
-                from,
-                sub,
-                node,
-                number,
-                level,
-                weight,
-                first,
-                last,
-            };
-            write_answer(line, ",\"kind\":\"find\"", answer);
-        }
-        Done::Off {
-            actor,
-            from,
-            sub,
-            node,
-            number,
-            level,
-            weight,
-            first,
-            last,
-        } => {
-            write_small(line, "{\"actor\"", actor);
-            let answer = Answer {
-                from,
-                sub,
-                node,
-                number,
-                level,
-                weight,
-                first,
-                last,
-            };
-            write_answer(line, ",\"kind\":\"off\"", answer);
-        }
-        Done::Again {
-            actor,
-            from,
-            sub,
-            why,
-            weight,
-            first,
-            last,
-        } => {
-            write_small(line, "{\"actor\"", actor);
-            write_member(line, ",\"first\"", first);
-            write_small(line, ",\"from\"", from);
-            line.word(",\"kind\":\"again\"");
-            write_member(line, ",\"last\"", last);
-            write_why_node(line, why);
-            write_small(line, ",\"sub\"", sub);
-            write_member(line, ",\"weight\"", weight);
-            write_why(line, why);
-        }
+        } => write_switch(line, actor, off, node, number, ticket),
+        Done::Found { .. } | Done::Off { .. } | Done::Again { .. } => unreachable!(),
+    }
+}
+
+// What became of a call, behind what stands before it.
+fn write_done(line: &mut Line, call: &Done)
+    requires { length line.old ≤ 1 }
+    ensures { line.new ≡ line.old ++ concat (done_pieces call.now) }
+{
+    match call.find() {
+        Some(find) => write_find(line, find),
+        None => write_step(line, call),
     }
 }
 

@@ -12,7 +12,7 @@ use Rattle.directory.specs.Outcomes.{answer_line, caller_lines, found_line}
 use Rattle.directory.specs.Statements.{CallersCount}
 use Rattle.directory.specs.declared.answers.Found.{Found}
 use Rattle.directory.specs.declared.answers.Found.TheVariants.{At, Off as OffAt, Again}
-use Rattle.report_check.specs.Parts.{actor_of}
+use Rattle.directory.specs.CallLines.{actor_of}
 use Rattle.own_reports.proofs.Runs.{HasEnds, HaveRuns, IsRun}
 use Rattle.directory.specs.ListLaws.{option_map-none}
 

@@ -9,7 +9,8 @@ use Rattle.std.proofs.lemmas.List.Sums.{fold-append}
 use Rattle.directory.specs.Writes.{numbers_from}
 use Rattle.directory.specs.declared.answers.Done.{Done}
 use Rattle.directory.specs.declared.answers.Done.TheVariants.{Moved, Switched, Found, Off, Again}
-use Rattle.report_check.specs.Parts.{actor_of, at_home, tell, told_before}
+use Rattle.directory.specs.CallLines.{actor_of}
+use Rattle.report_check.specs.Parts.{at_home, tell, told_before}
 use Rattle.own_reports.proofs.Runs.{HaveRuns}
 
 test-other : (actor sub commit ticket : ℕ) → actor ≢ sub → (eqb actor sub && ltb commit ticket) ≡ false

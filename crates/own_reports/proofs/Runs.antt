@@ -8,7 +8,8 @@ use Rattle.std.proofs.lemmas.Option.{slice_get-get_or, slice_get_past}
 use Rattle.directory.specs.declared.answers.Done.{Done}
 use Rattle.directory.specs.declared.answers.Done.TheVariants.{Moved, Switched, Found, Off, Again}
 use Rattle.directory.specs.Writes.{numbers_from}
-use Rattle.report_check.specs.Parts.{actor_of, end_of, has_tickets, is_missing, is_number, is_ticket, next_ticket, none_left, tickets_hold}
+use Rattle.directory.specs.CallLines.{actor_of}
+use Rattle.report_check.specs.Parts.{end_of, has_tickets, is_missing, is_number, is_ticket, next_ticket, none_left, tickets_hold}
 use Rattle.report_check.specs.Verdicts.{is_last}
 use Rattle.own_reports.specs.Reports.{HaveTickets}
 use Rattle.own_reports.proofs.Signs.{lt-true}

@@ -13,7 +13,7 @@ use Rattle.directory.specs.Orders.{IsDone, IsPlayed, Scripts, script_visits, ste
 use Rattle.directory.specs.Outcomes.{step_line, step_lines, sub_lines}
 use Rattle.directory.specs.StepLaws.{past-end}
 use Rattle.directory.specs.Statements.{ScriptsInOrder}
-use Rattle.report_check.specs.Parts.{actor_of}
+use Rattle.directory.specs.CallLines.{actor_of}
 use Rattle.own_reports.proofs.Runs.{HaveRuns, IsRun}
 
 pub length-numbers : (from count : ℕ) → length (numbers_from from count) ≡ count

@@ -16,7 +16,8 @@ use Rattle.report_check.specs.Lines.{done_of}
 use Rattle.report_check.specs.declared.told.Told.{Told}
 use Rattle.report_check.specs.Blocks.{AreBlocks, IsBlock, SwitchesAlike, TellsAlike, grown, is_switched, no_block}
 use Rattle.report_check.specs.Parts.{is_of}
-use Rattle.report_check.specs.Parts.{actor_of, is_switch_at, tell}
+use Rattle.directory.specs.CallLines.{actor_of}
+use Rattle.report_check.specs.Parts.{is_switch_at, tell}
 
 pub false-or : (a b : Bool) → (a || b) ≡ false → (a ≡ false) × (b ≡ false)
 false-or true b e = absurd (true-false e)

@@ -6,7 +6,8 @@ use Rattle.std.proofs.lemmas.List.{drop-append-le, drop-drop, drop_all, get_or-d
 use Rattle.std.proofs.lemmas.List.Folds.{list_any-append}
 use Rattle.directory.specs.declared.answers.Done.{Done}
 use Rattle.report_check.specs.Blocks.{AreBehind, IsBehind}
-use Rattle.report_check.specs.Parts.{actor_of, end_of, first_from, is_missing, none_left}
+use Rattle.directory.specs.CallLines.{actor_of}
+use Rattle.report_check.specs.Parts.{end_of, first_from, is_missing, none_left}
 use Rattle.report_check.proofs.Blocking.{false-or, or-false, not-same, swapped}
 
 -- ---- the last tickets

@@ -9,20 +9,13 @@
 -- Key laws: `check` finds the first flaw (`verdict_of`); `worked_reports` computes rows.
 use Rattle.std.specs.Prelude.{ℕ, suc, ◌+◌, ◌*◌, ◌==◌, ◌&&◌, ◌||◌, Bool, true, false, not, nat_lt, nat_le, if◌then◌else◌, fold, List, [], ◌∷◌, drop, slice_get, slice_index, Option, Some, None}
 use Rattle.std.specs.List.{list_any}
+use Rattle.directory.specs.CallLines.{actor_of}
 use Rattle.directory.specs.declared.answers.Done.{Done}
 use Rattle.directory.specs.declared.answers.Done.TheVariants.{Moved, Switched, Found, Off, Again}
 use Rattle.region_plan.specs.Measures.{stretch_of}
 use Rattle.region_plan.specs.Plan.{PlanData}
 use Rattle.region_plan.specs.Settings.{setting_of}
 use Rattle.report_check.specs.declared.told.Told.{Told}
-
--- whose line it is
-abbrev pub actor_of : Done → ℕ
-actor_of (Moved actor number from to weight first commit last) = actor
-actor_of (Switched actor off node number ticket) = actor
-actor_of (Found actor from sub node number level weight first last) = actor
-actor_of (Off actor from sub node number level weight first last) = actor
-actor_of (Again actor from sub why weight first last) = actor
 
 -- whether a line is an actor's
 abbrev pub is_of : ℕ → Done → Bool

@@ -15,7 +15,8 @@ use Rattle.report_check.specs.declared.verdict.Flaw.{Flaw}
 use Rattle.report_check.specs.declared.verdict.Flaw.TheVariants as flaws
 use Rattle.report_check.specs.declared.verdict.Verdict.{Verdict}
 use Rattle.report_check.specs.declared.verdict.Verdict.TheVariants.{Sound, Unsound}
-use Rattle.report_check.specs.Parts.{actor_of, again_holds, end_of, none_left, place_holds, tickets_hold, weight_holds}
+use Rattle.directory.specs.CallLines.{actor_of}
+use Rattle.report_check.specs.Parts.{again_holds, end_of, none_left, place_holds, tickets_hold, weight_holds}
 use Rattle.report_check.specs.Reading.{report_in}
 use Rattle.report_check.specs.Slots.{slots_for}
 

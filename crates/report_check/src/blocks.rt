@@ -4,7 +4,7 @@ ghost use Rattle.report_check.specs.Blocks.{AreBehind, AreBlocks, SwitchesAlike,
 ghost use Rattle.report_check.specs.Parts.{is_of};
 ghost use Rattle.report_check.specs.Lines.{done_of};
 ghost use Rattle.std.specs.List.{list_any};
-ghost use Rattle.report_check.specs.Parts.{actor_of};
+ghost use Rattle.directory.specs.CallLines.{actor_of};
 
 use crate::calls::Line;
 use std::alloc::{AllocError, Global};

@@ -3,6 +3,8 @@
 -- `PlanParts::advance`, by its clause `part` (so it is of the parts of a plan's text).
 use Rattle.std.specs.Prelude.{◌≡◌, ℕ, ◌+◌, ◌<◌, ◌≤◌, Bool, true, IfSome, vec_capacity, List, [], ◌∷◌, ◌++◌, map, length, drop, if◌then◌else◌, codes}
 use Rattle.directory.specs.declared.answers.Done.{Done}
+use Rattle.directory.specs.declared.answers.Found.{Found}
+use Rattle.directory.specs.declared.answers.Found.TheVariants.{At, Off, Again}
 use Rattle.region_plan.specs.Plan.{PlanData, clusters_of, level_at, levels_of, members_of, nodes_of}
 use Rattle.report_text.specs.PlanText.{clusters_text, homes_line, levels_text, plan_text_of}
 use Rattle.report_text.specs.ReportText.{call_line, last_line}
@@ -16,6 +18,12 @@ use Rattle.report_text.specs.declared.plan.Stage.TheVariants as stages
 abbrev pub lines_left : List Done → List ℕ → ℕ → Bool → List (List ℕ)
 lines_left calls order visits ended =
     map call_line calls ++ order_lines order ++ (if ended then [] else last_line visits ∷ [])
+
+-- the word that begins the line of a find
+abbrev pub word_of : Found → List ℕ
+word_of (At node number level weight) = codes "find"
+word_of (Off node number level weight) = codes "off"
+word_of (Again why weight) = codes "again"
 
 -- the lines of a report: the one that was made last, and those that are left
 pub record LinesState : Type 0 where

@@ -1,13 +1,15 @@
 //! The text of a report, line by line.
-ghost use Rattle.std.specs.Prelude.{◌≡◌, ◌≤◌, ◌+◌, ◌++◌, ◌∷◌, [], length, drop, true, false, IfOk, IfSome, IfNone};
+ghost use Rattle.std.specs.Prelude.{◌≡◌, ◌≤◌, ◌+◌, ◌++◌, ◌∷◌, [], length, drop, true, false, IfOk, IfSome, IfNone, None};
 ghost use types.Logic.{sem};
 ghost use mir.Syntax.{named};
 ghost use Rattle.std.specs.Io.BufRead.{Rests};
 ghost use Rattle.report_text.specs.contracts.report_lines.Lines.{the_row};
 ghost use Rattle.report_text.specs.ReportText.{call_line, place_fields, report_lines, report_of, visit_fields, why_field};
+ghost use Rattle.report_text.specs.Written.{word_of};
+ghost use Rattle.directory.specs.CallLines.{find_of, line_of_find};
 ghost use Rattle.directory.specs.Outcomes.{result_of};
 
-use directory::{Done, Outcome, Why};
+use directory::{Done, FindLine, Found, Outcome, Why};
 use std::alloc::{AllocError, Global};
 use std::marker::Model;
 use text_line::{Line, write_next_order};
@@ -53,9 +55,52 @@ fn write_why(line: &mut Line, why: Why)
     }
 }
 
-// The line of a call.
-fn write_call(line: &mut Line, call: &Done)
+// The word that begins the line of a find.
+fn word_of(found: Found) -> &'static str
+    ensures text { result.now ≡ word_of found }
+    ensures short { length result.now ≤ 5 }
+{
+    match found {
+        Found::At { .. } => "find",
+        Found::Off { .. } => "off",
+        Found::Again { .. } => "again",
+    }
+}
+
+// The line of a find.
+fn write_find(line: &mut Line, find: FindLine)
     requires { line.old ≡ [] }
+    ensures { line.new ≡ call_line (line_of_find find) }
+{
+    line.word(word_of(find.found));
+    line.numbers(&[find.actor, find.from, find.sub]);
+    match find.found {
+        Found::At {
+            node,
+            number,
+            level,
+            weight,
+        }
+        | Found::Off {
+            node,
+            number,
+            level,
+            weight,
+        } => {
+            write_place(line, node, number, level);
+            write_visits(line, weight, find.first, find.last);
+        }
+        Found::Again { why, weight } => {
+            write_why(line, why);
+            write_visits(line, weight, find.first, find.last);
+        }
+    }
+}
+
+// The line of a move or of a switch.
+fn write_step(line: &mut Line, call: &Done)
+    requires empty { line.old ≡ [] }
+    requires step { find_of call.now ≡ None }
     ensures { line.new ≡ call_line call.now }
 {
     match *call {
@@ -92,52 +137,18 @@ fn write_call(line: &mut Line, call: &Done)
             line.label_number(" ticket", ticket);
             line.word("\n");
         }
-        Done::Found {
-            actor,
-            from,
-            sub,
-            node,
-            number,
-            level,
-            weight,
-            first,
-            last,
-        } => {
-            line.word("find");
-            line.numbers(&[actor, from, sub]);
-            write_place(line, node, number, level);
-            write_visits(line, weight, first, last);
-        }
-        Done::Off {
-            actor,
-            from,
-            sub,
-            node,
-            number,
-            level,
-            weight,
-            first,
-            last,
-        } => {
-            line.word("off");
-            line.numbers(&[actor, from, sub]);
-            write_place(line, node, number, level);
-            write_visits(line, weight, first, last);
-        }
-        Done::Again {
-            actor,
-            from,
-            sub,
-            why,
-            weight,
-            first,
-            last,
-        } => {
-            line.word("again");
-            line.numbers(&[actor, from, sub]);
-            write_why(line, why);
-            write_visits(line, weight, first, last);
-        }
+        Done::Found { .. } | Done::Off { .. } | Done::Again { .. } => unreachable!(),
+    }
+}
+
+// The line of a call.
+fn write_call(line: &mut Line, call: &Done)
+    requires { line.old ≡ [] }
+    ensures { line.new ≡ call_line call.now }
+{
+    match call.find() {
+        Some(find) => write_find(line, find),
+        None => write_step(line, call),
     }
 }
 
@@ -176,8 +187,8 @@ impl<'a> Lines<'a> {
         })
     }
 
-    // Makes the next line, and answers whether there was one left.
-    fn advance(&mut self) -> bool
+    /// Makes the next line, and answers whether there was one left. It takes no memory.
+    pub fn advance(&mut self) -> bool
         ensures line { result ≡ true → self.old.left ≡ self.new.line ∷ self.new.left }
         ensures none { result ≡ false → (self.old.left ≡ []) × (self.new.left ≡ []) }
     {
@@ -198,8 +209,8 @@ impl<'a> Lines<'a> {
         true
     }
 
-    // The line that was made last, with its line feed.
-    fn line(&self) -> &[u8]
+    /// The line that was made last, with its line feed.
+    pub fn line(&self) -> &[u8]
         ensures { result.now ≡ self.now.line }
     {
         self.line.bytes()

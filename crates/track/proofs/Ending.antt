@@ -1,6 +1,9 @@
 -- How a call ends, by what its parts answered.
 use Rattle.std.proofs.Common.{◌≡◌, ◌⊎◌, inl, inr, ℕ, ◌<◌, ◌≤◌, true, List, ◌++◌, length, Option, Some, None, Result, Ok, Err, refl, sym, ap, subst, ◌∙◌, append-nil}
-use Rattle.std.specs.Prelude.{IfSome}
+use Rattle.std.specs.Prelude.{IfOk, IfSome}
+use Rattle.std.specs.declared.alloc.AllocError.{AllocError}
+use Rattle.track.specs.Bodies.{IsEnded, text_of}
+use Rattle.track.specs.declared.answer.Answer.{Answer}
 use Rattle.outside.specs.Bytes.{append_known, prepend_known, IsAtEnd}
 use Rattle.net_reader.specs.declared.fault.InputFault.{InputFault}
 use Rattle.net_reader.specs.Input.{Contents}
@@ -110,7 +113,7 @@ told command status before now (inr (inr e)) h =
     (subst (λ (s : Status). EndsDone command s before now) e h)
 
 -- the text of all bytes that were left was written
-pub done-bytes : (command : Command) (status : Status) (text bytes : List ℕ) (left left' : Option (List ℕ))
+done-bytes : (command : Command) (status : Status) (text bytes : List ℕ) (left left' : Option (List ℕ))
     (rf rf' : ℕ) (written written' : Option (List ℕ)) (wf wf' : ℕ) → left ≡ prepend_known bytes left'
     → IsAtEnd left' → rf' ≡ rf → IsShort command bytes → IsText command bytes status text
     → written' ≡ append_known written text → wf' ≡ wf
@@ -127,7 +130,7 @@ done-bytes command status text bytes left left' rf rf' written written' wf wf' p
     )
 
 -- a front of it was written
-pub begun-bytes : (command : Command) (status : Status) (stop : WriteStop) (text bytes : List ℕ)
+begun-bytes : (command : Command) (status : Status) (stop : WriteStop) (text bytes : List ℕ)
     (left left' : Option (List ℕ)) (rf rf' : ℕ) (written written' : Option (List ℕ)) (wf wf' : ℕ)
     → left ≡ prepend_known bytes left' → IsAtEnd left' → rf' ≡ rf → IsShort command bytes
     → IsText command bytes status text → StopsWriting stop text written written' wf wf'
@@ -144,27 +147,48 @@ begun-bytes command status writing.Failed text bytes left left' rf rf' written w
       calm,
     )
 
-pub done : (command : Command) → IsPlain command → (status : Status) (text shown : List ℕ) (reader : ReaderValue)
-    (left left' : Option
-    (List ℕ)) (rf rf' : ℕ) (written written' : Option (List ℕ)) (wf wf' : ℕ) → IsAllRead reader left left' rf rf'
-    → ((bytes : List ℕ) → StandsFor reader bytes → IsInputText command bytes status text) → shown ≡ text
-    → written' ≡ append_known written shown → wf' ≡ wf
-    → EndsAs command status (streams left rf written wf) (streams left' rf' written' wf')
-done command plain status text shown reader left left' rf rf' written written' wf wf' all right same w f =
-    done-bytes command status text all.bytes left left' rf rf' written written' wf wf' all.parts all.end all.no_fault
-    (plain.short all.bytes all.short) (plain.text all.bytes status text (right all.bytes all.stands))
-    (w ∙ ap (append_known written) same) f
-
--- the text wasn't written whole
-pub unwritten : (command : Command) → IsPlain command → (status : Status) (stop : WriteStop) (text : List ℕ)
-    (reader : ReaderValue)
+-- an answer that is right for all bytes that were left was written, or not whole
+ended-bytes : (command : Command) (answer : Result Answer AllocError) (status : Status) (bytes : List ℕ)
     (left left' : Option (List ℕ)) (rf rf' : ℕ) (written written' : Option (List ℕ)) (wf wf' : ℕ)
-    → IsAllRead reader left left' rf rf' → ((bytes : List ℕ) → StandsFor reader bytes
-    → IsInputText command bytes status text) → StopsWriting stop text written written' wf wf'
-    → EndsAs command (write_status stop) (streams left rf written wf) (streams left' rf' written' wf')
-unwritten command plain status stop text reader left left' rf rf' written written' wf wf' all right h =
-    begun-bytes command status stop text all.bytes left left' rf rf' written written' wf wf' all.parts all.end
-    all.no_fault (plain.short all.bytes all.short) (plain.text all.bytes status text (right all.bytes all.stands)) h
+    → left ≡ prepend_known bytes left' → IsAtEnd left' → rf' ≡ rf → IsShort command bytes
+    → IfOk answer (λ answer. IsText command bytes answer.status (text_of answer.body))
+    → IsEnded answer status written written' wf wf'
+    → EndsAs command status (streams left rf written wf) (streams left' rf' written' wf')
+ended-bytes command (Ok answer) status bytes left left' rf rf' written written' wf wf' parts end calm short right
+    (inl whole) =
+    subst (λ (s : Status). EndsAs command s (streams left rf written wf) (streams left' rf' written' wf'))
+    (sym whole.0)
+    (done-bytes command answer.status (text_of answer.body) bytes left left' rf rf' written written' wf wf' parts end
+    calm short right whole.1 whole.2)
+ended-bytes command (Ok answer) status bytes left left' rf rf' written written' wf wf' parts end calm short right
+    (inr begun) =
+    subst (λ (s : Status). EndsAs command s (streams left rf written wf) (streams left' rf' written' wf'))
+    (sym begun.1)
+    (begun-bytes command answer.status begun.0 (text_of answer.body) bytes left left' rf rf' written written' wf wf'
+    parts end calm short right begun.2)
+ended-bytes command (Err fault) status bytes left left' rf rf' written written' wf wf' parts end calm short right h =
+    subst (λ (s : Status). EndsAs command s (streams left rf written wf) (streams left' rf' written' wf'))
+    (sym h.0) ((h.1, h.2), calm)
+
+if-ok : {A E : Type 0} (P Q : A → Type 0) (r : Result A E) → ((a : A) → P a → Q a) → IfOk r P → IfOk r Q
+if-ok P Q (Ok a) on is = on a is
+if-ok P Q (Err e) on is = tt
+
+-- an answer to the bytes that a reader stands for
+pub ended : (command : Command) → IsPlain command → (answer : Result Answer AllocError) (status : Status)
+    (reader : ReaderValue) (left left' : Option (List ℕ)) (rf rf' : ℕ) (written written' : Option (List ℕ))
+    (wf wf' : ℕ) → IsAllRead reader left left' rf rf'
+    → IfOk answer (λ answer. (bytes : List ℕ) → StandsFor reader bytes
+    → IsInputText command bytes answer.status (text_of answer.body))
+    → IsEnded answer status written written' wf wf'
+    → EndsAs command status (streams left rf written wf) (streams left' rf' written' wf')
+ended command plain answer status reader left left' rf rf' written written' wf wf' all right is =
+    ended-bytes command answer status all.bytes left left' rf rf' written written' wf wf' all.parts all.end all.no_fault
+    (plain.short all.bytes all.short)
+    (if-ok (λ answer. (bytes : List ℕ) → StandsFor reader bytes
+    → IsInputText command bytes answer.status (text_of answer.body))
+    (λ answer. IsText command all.bytes answer.status (text_of answer.body)) answer
+    (λ answer right. plain.text all.bytes answer.status (text_of answer.body) (right all.bytes all.stands)) right) is
 
 -- ---- a text that has a report
 
@@ -203,23 +227,19 @@ judged-text bytes part report status text p r h =
     subst (λ (t : List ℕ). IsJudged (input_part bytes) t status text) r
     (subst (λ (t : List ℕ). IsJudged t report status text) p h)
 
-pub done-check : (bytes part report : List ℕ) (status : Status) (text : List ℕ) (left left' : Option (List ℕ))
-    (rf rf' : ℕ) (written written' : Option (List ℕ)) (wf wf' : ℕ)
-    → IsTextRead most_text_bytes bytes left left' rf rf' → part ≡ input_part bytes → report ≡ report_part bytes
-    → length part ≤ most_bytes → IsJudged part report status text → written' ≡ append_known written text → wf' ≡ wf
-    → EndsAs commands.Check status (streams left rf written wf) (streams left' rf' written' wf')
-done-check bytes part report status text left left' rf rf' written written' wf wf' all p r short h w f =
-    done-bytes commands.Check status text bytes left left' rf rf' written written' wf wf' all.parts all.end all.no_fault
-    (part-short bytes part p short all.short) (judged-text bytes part report status text p r h) w f
-
-pub begun-check : (bytes part report : List ℕ) (status : Status) (stop : WriteStop) (text : List ℕ)
+pub ended-check : (answer : Result Answer AllocError) (status : Status) (bytes part report : List ℕ)
     (left left' : Option (List ℕ)) (rf rf' : ℕ) (written written' : Option (List ℕ)) (wf wf' : ℕ)
     → IsTextRead most_text_bytes bytes left left' rf rf' → part ≡ input_part bytes → report ≡ report_part bytes
-    → length part ≤ most_bytes → IsJudged part report status text → StopsWriting stop text written written' wf wf'
-    → EndsAs commands.Check (write_status stop) (streams left rf written wf) (streams left' rf' written' wf')
-begun-check bytes part report status stop text left left' rf rf' written written' wf wf' all p r short h w =
-    begun-bytes commands.Check status stop text bytes left left' rf rf' written written' wf wf' all.parts all.end
-    all.no_fault (part-short bytes part p short all.short) (judged-text bytes part report status text p r h) w
+    → length part ≤ most_bytes
+    → IfOk answer (λ answer. IsJudged part report answer.status (text_of answer.body))
+    → IsEnded answer status written written' wf wf'
+    → EndsAs commands.Check status (streams left rf written wf) (streams left' rf' written' wf')
+ended-check answer status bytes part report left left' rf rf' written written' wf wf' all p r short right is =
+    ended-bytes commands.Check answer status bytes left left' rf rf' written written' wf wf' all.parts all.end
+    all.no_fault (part-short bytes part p short all.short)
+    (if-ok (λ answer. IsJudged part report answer.status (text_of answer.body))
+    (λ answer. IsText commands.Check bytes answer.status (text_of answer.body)) answer
+    (λ answer. judged-text bytes part report answer.status (text_of answer.body) p r) right) is
 
 -- ---- JSON
 
@@ -231,20 +251,12 @@ stopped-json reading.OutOfMemory left left' rf rf' written wf h = ((refl, refl),
 stopped-json reading.Failed left left' rf rf' written wf h = ((refl, refl), h)
 stopped-json reading.TooLong left left' rf rf' written wf h = ((refl, refl), h.1, h.0)
 
-pub done-json : (bytes : List ℕ) (status : Status) (text : List ℕ) (left left' : Option (List ℕ))
-    (rf rf' : ℕ) (written written' : Option (List ℕ)) (wf wf' : ℕ)
-    → IsTextRead most_bytes bytes left left' rf rf' → IsJsonAnswer bytes status text
-    → written' ≡ append_known written text → wf' ≡ wf
-    → EndsAs commands.FromJson status (streams left rf written wf) (streams left' rf' written' wf')
-done-json bytes status text left left' rf rf' written written' wf wf' all h w f =
-    done-bytes commands.FromJson status text bytes left left' rf rf' written written' wf wf' all.parts all.end
-    all.no_fault all.short h w f
-
-pub begun-json : (bytes : List ℕ) (status : Status) (stop : WriteStop) (text : List ℕ)
+pub ended-json : (answer : Result Answer AllocError) (status : Status) (bytes : List ℕ)
     (left left' : Option (List ℕ)) (rf rf' : ℕ) (written written' : Option (List ℕ)) (wf wf' : ℕ)
-    → IsTextRead most_bytes bytes left left' rf rf' → IsJsonAnswer bytes status text
-    → StopsWriting stop text written written' wf wf'
-    → EndsAs commands.FromJson (write_status stop) (streams left rf written wf) (streams left' rf' written' wf')
-begun-json bytes status stop text left left' rf rf' written written' wf wf' all h w =
-    begun-bytes commands.FromJson status stop text bytes left left' rf rf' written written' wf wf' all.parts all.end
-    all.no_fault all.short h w
+    → IsTextRead most_bytes bytes left left' rf rf'
+    → IfOk answer (λ answer. IsJsonAnswer bytes answer.status (text_of answer.body))
+    → IsEnded answer status written written' wf wf'
+    → EndsAs commands.FromJson status (streams left rf written wf) (streams left' rf' written' wf')
+ended-json answer status bytes left left' rf rf' written written' wf wf' all right is =
+    ended-bytes commands.FromJson answer status bytes left left' rf rf' written written' wf wf' all.parts all.end
+    all.no_fault all.short right is

@@ -1,6 +1,5 @@
 -- A text that is passed on piece by piece: what was written, and what waits.
-use Rattle.std.proofs.Common.{◌≡◌, ℕ, List, [], ◌∷◌, ◌++◌, drop, Option, Result, Ok, Err, sym, ap, subst, ◌∙◌, append_assoc, append-nil}
-use Rattle.std.specs.List.{concat}
+use Rattle.std.proofs.Common.{◌≡◌, ℕ, List, [], ◌++◌, Option, Result, Ok, Err, sym, ap, subst, ◌∙◌, append_assoc, append-nil}
 use Rattle.std.specs.Prelude.{IfErr}
 use Rattle.std.specs.Result.{IsErrAnd, OnOk}
 use Rattle.outside.specs.Bytes.{append_known, append_known-append}
@@ -94,20 +93,6 @@ ends-stopped (Err stop) before mid now total text waiting f g h failed same one 
     stopped-writing stop before mid now total text waiting [] [] f g h failed same one
     (subst (λ t. IsWrittenPart t mid now) (sym (append-nil waiting)) part)
     (whole ∙ sym (append-nil text))
-
--- a line more of those that are left
-pub line-more : (total text line : List ℕ) (left rest : List (List ℕ)) → total ≡ text ++ concat left
-    → left ≡ line ∷ drop 1 left → rest ≡ drop 1 left → total ≡ (text ++ line) ++ concat rest
-line-more total text line left rest whole first others =
-    whole ∙ ap (λ ls. text ++ concat ls) first ∙ sym (append_assoc text line (concat (drop 1 left)))
-    ∙ ap (λ ls. (text ++ line) ++ concat ls) (sym others)
-
-pub line-first : (total text line : List ℕ) (left : List (List ℕ)) → total ≡ text ++ concat left
-    → left ≡ line ∷ drop 1 left → total ≡ text ++ (line ++ concat (drop 1 left))
-line-first total text line left whole first = whole ∙ ap (λ ls. text ++ concat ls) first
-
-pub no-lines : (total text : List ℕ) (left : List (List ℕ)) → total ≡ text ++ concat left → left ≡ [] → total ≡ text
-no-lines total text left whole none = whole ∙ ap (λ ls. text ++ concat ls) none ∙ append-nil text
 
 -- a part more of what is left
 pub part-more : (total text part left rest : List ℕ) → total ≡ text ++ left → left ≡ part ++ rest

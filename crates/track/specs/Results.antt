@@ -32,7 +32,7 @@ use Rattle.move_cost.specs.Costs.{cost_lines}
 use Rattle.move_cost.specs.CostText.{costs_text_of}
 use Rattle.move_cost.specs.Plans.{IsWithinRate}
 use Rattle.input_text.specs.Listing.{ListingValue, listing_text}
-use Rattle.json_form.specs.Answers.{IsListed, IsNoJson, IsShapeless}
+use Rattle.json_form.specs.TextOfJson.{IsListed, IsNoJson, IsShapeless}
 use Rattle.json_form.specs.Inputs.{input_json_of}
 use Rattle.json_form.specs.Reports.{report_json_of}
 use Rattle.report_text.specs.PlanText.{plan_text_of}

@@ -8,6 +8,7 @@ mod json;
 mod judging;
 mod laws;
 mod outlet;
+mod pieces;
 mod run;
 mod status;
 mod stop;

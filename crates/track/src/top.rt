@@ -2,12 +2,13 @@
 ghost use Rattle.std.specs.Prelude.{◌≡◌, IfErr, IfSome, IsSome, OnOk, false, true};
 ghost use Rattle.word_line.specs.declared.command.Command.TheVariants.{Check, FromJson, Run};
 ghost use Rattle.word_line.specs.Forms.{bytes_of, command_of};
+ghost use Rattle.track.specs.Bodies.{IsEnded};
 ghost use Rattle.track.specs.Results.{HasLoad, is_made_alike, is_served, text_alone};
 ghost use Rattle.track.specs.Ends.{EndsAs, EndsIf, Tells, streams};
 ghost use Rattle.track.specs.Transfer.{IsEndOf, write_status};
 ghost use Rattle.track.specs.declared.status.Status.TheVariants.{BadWords, Done};
 
-use crate::answer::make_answer;
+use crate::answer::{Answer, make_answer};
 use crate::json::answer_json;
 use crate::judging::judge_parts;
 use crate::run::answer_by_threads;
@@ -28,6 +29,20 @@ use word_line::{Command, read_words};
 // How many bytes a text may have that has a report.
 const MAX_TEXT_BYTES: usize = 67_108_864;
 
+// Writes an answer, if there was memory for one, and tells the status to end with.
+fn write_answer<K: Sink>(alloc: Global, answer: Result<Answer, AllocError>, sink: &mut K) -> Status
+    ensures { IsEnded answer result
+        (K.written sink.old) (K.written sink.new) (K.faults sink.old) (K.faults sink.new) }
+{
+    match answer {
+        Ok(answer) => match write_body(alloc, &answer.body, sink) {
+            Ok(()) => answer.status,
+            Err(stop) => Status::from(stop),
+        },
+        Err(AllocError) => Status::OutOfMemory,
+    }
+}
+
 // Reads the input, and writes what answers it.
 fn perform<S: Source, K: Sink>(
     alloc: Global,
@@ -43,16 +58,8 @@ fn perform<S: Source, K: Sink>(
         (S.left source.new) (S.faults source.new) (K.written sink.new) (K.faults sink.new)) }
     ensures rest { IsEndOf (S.left source.old) (S.left source.new) }
 {
-    let reader = match read_all(alloc, source) {
-        Ok(reader) => reader,
-        Err(stop) => return Status::from(stop),
-    };
-    let answer = match make_answer(alloc, command, reader) {
-        Ok(answer) => answer,
-        Err(AllocError) => return Status::OutOfMemory,
-    };
-    match write_body(alloc, &answer.body, sink) {
-        Ok(()) => answer.status,
+    match read_all(alloc, source) {
+        Ok(reader) => write_answer(alloc, make_answer(alloc, command, reader), sink),
         Err(stop) => Status::from(stop),
     }
 }
@@ -74,14 +81,7 @@ fn perform_check<S: Source, K: Sink>(alloc: Global, source: &mut S, sink: &mut K
     if parts.input.len() > MAX_BYTES {
         return Status::TooLong;
     }
-    let answer = match judge_parts(alloc, parts.input, parts.report) {
-        Ok(answer) => answer,
-        Err(AllocError) => return Status::OutOfMemory,
-    };
-    match write_body(alloc, &answer.body, sink) {
-        Ok(()) => answer.status,
-        Err(stop) => Status::from(stop),
-    }
+    write_answer(alloc, judge_parts(alloc, parts.input, parts.report), sink)
 }
 
 // Reads JSON, and writes the text of the input that it tells.
@@ -93,16 +93,8 @@ fn perform_json<S: Source, K: Sink>(alloc: Global, source: &mut S, sink: &mut K)
         (S.left source.new) (S.faults source.new) (K.written sink.new) (K.faults sink.new)) }
     ensures rest { IsEndOf (S.left source.old) (S.left source.new) }
 {
-    let text = match read_text(alloc, source, MAX_BYTES) {
-        Ok(text) => text,
-        Err(stop) => return Status::from(stop),
-    };
-    let answer = match answer_json(alloc, &text) {
-        Ok(answer) => answer,
-        Err(AllocError) => return Status::OutOfMemory,
-    };
-    match write_body(alloc, &answer.body, sink) {
-        Ok(()) => answer.status,
+    match read_text(alloc, source, MAX_BYTES) {
+        Ok(text) => write_answer(alloc, answer_json(alloc, &text), sink),
         Err(stop) => Status::from(stop),
     }
 }
@@ -123,16 +115,11 @@ fn perform_by_threads<R: Threads + Sync, S: Source, K: Sink, G: Gate>(
         (S.left source.new) (S.faults source.new) (K.written sink.new) (K.faults sink.new)) }
     ensures rest { IsEndOf (S.left source.old) (S.left source.new) }
 {
-    let reader = match read_all(alloc, source) {
-        Ok(reader) => reader,
-        Err(stop) => return Status::from(stop),
-    };
-    let answer = match answer_by_threads(rt, alloc, reader, gate, tries) {
-        Ok(answer) => answer,
-        Err(AllocError) => return Status::OutOfMemory,
-    };
-    match write_body(alloc, &answer.body, sink) {
-        Ok(()) => answer.status,
+    match read_all(alloc, source) {
+        Ok(reader) => {
+            let answer = answer_by_threads(rt, alloc, reader, gate, tries);
+            write_answer(alloc, answer, sink)
+        }
         Err(stop) => Status::from(stop),
     }
 }

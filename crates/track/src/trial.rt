@@ -1,6 +1,5 @@
 //! What the commands write that read nothing: made inputs, and the summaries of their replays.
-ghost use Rattle.std.specs.Prelude.{◌≡◌, [], IfErr, IfOk, OnOk};
-ghost use Rattle.std.specs.List.{concat};
+ghost use Rattle.std.specs.Prelude.{◌≡◌, IfErr, IfOk, OnOk};
 ghost use Rattle.outside.specs.Bytes.{append_known};
 ghost use Rattle.make_load.specs.Load.{IsLoad, load_contents, load_text_of};
 ghost use Rattle.report_text.specs.SummaryText.{summary_of};
@@ -11,6 +10,7 @@ use crate::answer::replay;
 use crate::outlet::Outlet;
 use crate::stop::WriteStop;
 use crate::transfer::write_all;
+use crate::writing::write_pieces;
 use input_text::InputLines;
 use make_load::{Workload, loads_are_valid, make_input};
 use net_graph::{Graph, GraphFault};
@@ -51,25 +51,6 @@ pub(crate) fn write_trial<K: Sink>(alloc: Global, load: Load, sink: &mut K) -> R
     write_all(sink, &text)
 }
 
-// The lines of an input into the sink, through the outlet.
-fn write_input_lines<K: Sink>(
-    lines: &mut InputLines<'_>,
-    outlet: &mut Outlet,
-    sink: &mut K,
-) -> Result<(), WriteStop>
-    requires { outlet.old ≡ [] }
-    ensures all { OnOk result (K.written sink.new
-        ≡ append_known (K.written sink.old) (concat lines.old.left)) }
-    ensures no_fault { OnOk result (K.faults sink.new ≡ K.faults sink.old) }
-    ensures stops { IfErr result (λ stop. StopsWriting stop (concat lines.old.left)
-        (K.written sink.old) (K.written sink.new) (K.faults sink.old) (K.faults sink.new)) }
-{
-    'lines: while let Some(line) = lines.next_line() {
-        outlet.pass_on(sink, line)?;
-    }
-    outlet.flush(sink)
-}
-
 // A made input into the sink. All memory is taken before the first byte is written.
 pub(crate) fn write_made<K: Sink>(alloc: Global, load: Load, sink: &mut K) -> Result<(), WriteStop>
     requires { IsLoad load }
@@ -82,5 +63,5 @@ pub(crate) fn write_made<K: Sink>(alloc: Global, load: Load, sink: &mut K) -> Re
     let workload = Workload::new(alloc, load)?;
     let mut lines = InputLines::new(alloc, workload.listing())?;
     let mut outlet = Outlet::new(alloc)?;
-    write_input_lines(&mut lines, &mut outlet, sink)
+    write_pieces(&mut lines, &mut outlet, sink)
 }

@@ -10,10 +10,11 @@ use Rattle.directory.specs.Histories.{History, tickets, words_read}
 use Rattle.directory.specs.Orders.{Answer, Caller as Seeker, IsPlayed, Scripts, after_read, caller_at, caller_in, finds_of, read_by, steps_of, with_stage}
 use Rattle.directory.specs.Outcomes.{FollowEachOther, answer_line, caller_lines, found_line, step_line, step_lines, sub_lines}
 use Rattle.directory.specs.Writes.{numbers_from, step_writes}
+use Rattle.directory.specs.CallLines.{actor_of}
 use Rattle.directory.specs.declared.answers.Done.{Done}
 use Rattle.directory.specs.declared.answers.Found.{Found}
 use Rattle.directory.specs.declared.answers.Found.TheVariants.{At, Off as OffAt, Again}
-use Rattle.trail_laws.specs.Lines.{LinesAreInTurn, TellsNumber, line_actor}
+use Rattle.trail_laws.specs.Lines.{LinesAreInTurn, TellsNumber}
 use Rattle.node_set.specs.SetLaws.{below_each}
 
 -- where an element of joined lists lies
@@ -111,11 +112,11 @@ line-last caller call (At node number level weight) first last s q ticket told =
 line-last caller call (OffAt node number level weight) first last s q ticket told = told.2
 line-last caller call (Again why weight) first last s q ticket told = absurd told
 
-line-actor : (caller : ℕ) (call : FindCall) (found : Found) (first last : ℕ)
-    → line_actor (found_line caller call found first last) ≡ caller
-line-actor caller call (At node number level weight) first last = refl
-line-actor caller call (OffAt node number level weight) first last = refl
-line-actor caller call (Again why weight) first last = refl
+actor-found : (caller : ℕ) (call : FindCall) (found : Found) (first last : ℕ)
+    → actor_of (found_line caller call found first last) ≡ caller
+actor-found caller call (At node number level weight) first last = refl
+actor-found caller call (OffAt node number level weight) first last = refl
+actor-found caller call (Again why weight) first last = refl
 
 abbrev AreInTurn : Done → Done → Type 0
 AreInTurn one other = (sub s p q earlier later : ℕ) → TellsNumber one sub p earlier → TellsNumber other s q later
@@ -146,12 +147,12 @@ caller-in-turn follow count ascend setting scripts history played actor i j one 
     )
 
 line-of-caller : (setting : Setting) (scripts : Scripts) (history : History) (actor i : ℕ) (line : Done)
-    → slice_get (caller_lines setting scripts history actor) i ≡ Some line → line_actor line ≡ actor
+    → slice_get (caller_lines setting scripts history actor) i ≡ Some line → actor_of line ≡ actor
 line-of-caller setting scripts history actor i line at =
     let seen : List ℕ = tickets actor history in
     let a = map-at (answer_line actor seen) (caller_in setting scripts history actor).answers i line at in
-    sym (ap line_actor a.2)
-    ∙ line-actor actor a.0.call a.0.found (get_or seen a.0.first 0) (get_or seen a.0.last 0)
+    sym (ap actor_of a.2)
+    ∙ actor-found actor a.0.call a.0.found (get_or seen a.0.first 0) (get_or seen a.0.last 0)
 
 got-within : {A : Type 0} (xs : List A) (i : ℕ) (y : A) → slice_get xs i ≡ Some y → i < length xs
 got-within [] i y h = cc
@@ -160,7 +161,7 @@ got-within (x ∷ xs) (suc i) y h = omega (arith, got-within xs i y h)
 
 -- the lines of each actor lie together
 block-above : (f : ℕ → List Done) (x k : ℕ) → ((a i : ℕ) (y : Done) → x ≤ a → slice_get (f a) i ≡ Some y
-    → line_actor y ≡ a) → (i : ℕ) (y : Done) → slice_get (flat_map f (numbers_from x k)) i ≡ Some y → x ≤ line_actor y
+    → actor_of y ≡ a) → (i : ℕ) (y : Done) → slice_get (flat_map f (numbers_from x k)) i ≡ Some y → x ≤ actor_of y
 block-above f x zero each i y h = cc
 block-above f x (suc k) each i y h = elim (append-at (f x) (flat_map f (numbers_from (suc x) k)) i y h) [
   | inl here ↦ omega (arith, each x i y (omega arith) here)
@@ -169,11 +170,11 @@ block-above f x (suc k) each i y h = elim (append-at (f x) (flat_map f (numbers_
 ]
 
 all-in-turn : (f : ℕ → List Done) (x k : ℕ) → ((a i : ℕ) (y : Done) → x ≤ a → slice_get (f a) i ≡ Some y
-    → line_actor y ≡ a)
+    → actor_of y ≡ a)
     → ((a i j : ℕ) (one other : Done) → x ≤ a → i ≤ j → slice_get (f a) i ≡ Some one
     → slice_get (f a) j ≡ Some other → AreInTurn one other)
     → (i j : ℕ) (one other : Done) → i ≤ j → slice_get (flat_map f (numbers_from x k)) i ≡ Some one
-    → slice_get (flat_map f (numbers_from x k)) j ≡ Some other → line_actor one ≡ line_actor other → AreInTurn one other
+    → slice_get (flat_map f (numbers_from x k)) j ≡ Some other → actor_of one ≡ actor_of other → AreInTurn one other
 all-in-turn f x zero each order i j one other le at_one at_other same = cc
 all-in-turn f x (suc k) each order i j one other le at_one at_other same =
     at_parts (append-at (f x) (flat_map f (numbers_from (suc x) k)) i one at_one)

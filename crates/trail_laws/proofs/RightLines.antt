@@ -9,7 +9,7 @@ use Rattle.directory.specs.Finds.{FindCall}
 use Rattle.directory.specs.ScriptLaws.{call_of_valid}
 use Rattle.directory.specs.Looks.{first_of, last_of, IsFind}
 use Rattle.directory.specs.Orders.{AreValid, IsFindCall, Scripts, history_of}
-use Rattle.directory.specs.Outcomes.{IsMade, found_line, outcome_of}
+use Rattle.directory.specs.Outcomes.{IsFindLine, IsMade, found_line, outcome_of}
 use Rattle.directory.specs.Statements.{LinesAreMade, OrdersAreDone, OrdersArePlayed, PlayedIsLegal}
 use Rattle.directory.specs.declared.answers.Done.{Done}
 use Rattle.directory.specs.declared.answers.Done.TheVariants.{Moved, Switched, Found as FoundBy, Off as OffBy, Again as AgainBy}
@@ -18,23 +18,29 @@ use Rattle.directory.specs.declared.answers.Found.TheVariants.{At, Off as OffAt,
 use Rattle.trail_laws.specs.Rightness.{AgainHasItsCause, AnswersAreRight, HasNumber, NumbersNeverFall, ReadsTop}
 use Rattle.trail_laws.specs.Lines.{IsRightLine, NumbersRise, OutcomesAreRight, TellsNumber}
 
--- the line of a find is right
-right_line : AnswersAreRight → AgainHasItsCause → (setting : Setting) (history : History) (actor : ℕ)
-    (call : FindCall) (found : Found) (seen : List ℕ) (line : Done) → setting.nodes ≤ 2 ^ 16 → ReadsTop setting
+-- what is answered to a find is right
+right_find : AnswersAreRight → AgainHasItsCause → (setting : Setting) (history : History) (actor : ℕ)
+    (call : FindCall) (found : Found) (seen : List ℕ) → setting.nodes ≤ 2 ^ 16 → ReadsTop setting
     → IsFindCall setting call → IsLegal setting call.sub history → IsFind setting history actor call found seen
-    → line ≡ found_line actor call found (first_of seen) (last_of seen) → IsRightLine setting history line
-right_line right cause setting history actor call (At node n level weight) seen line low reads is legal find tells =
-    subst (IsRightLine setting history) (sym tells)
-    (right setting history actor call (At node n level weight) seen low is.inside legal find)
-right_line right cause setting history actor call (OffAt node n level weight) seen line low reads is legal find tells
-    =
-    subst (IsRightLine setting history) (sym tells)
-    (right setting history actor call (OffAt node n level weight) seen low is.inside legal find)
-right_line right cause setting history actor call (Again why weight) seen line low reads is legal find tells =
-    subst (IsRightLine setting history) (sym tells)
-    (cause setting history actor call why weight seen low reads is.inside legal find)
+    → IsRightLine setting history (found_line actor call found (first_of seen) (last_of seen))
+right_find right cause setting history actor call (At node n level weight) seen low reads is legal find =
+    right setting history actor call (At node n level weight) seen low is.inside legal find
+right_find right cause setting history actor call (OffAt node n level weight) seen low reads is legal find =
+    right setting history actor call (OffAt node n level weight) seen low is.inside legal find
+right_find right cause setting history actor call (Again why weight) seen low reads is legal find =
+    cause setting history actor call why weight seen low reads is.inside legal find
 
--- so each line of an outcome is
+-- so the line of a find is
+right_line : AnswersAreRight → AgainHasItsCause → (setting : Setting) (scripts : Scripts) (history : History)
+    → setting.nodes ≤ 2 ^ 16 → ReadsTop setting → AreValid setting scripts
+    → ((sub : ℕ) → sub < subs setting → IsLegal setting sub history) → (actor : ℕ) (call : FindCall) (line : Done)
+    → IsFindLine setting scripts history actor call line → IsRightLine setting history line
+right_line right cause setting scripts history low reads valid legal actor call line h =
+    let is : IsFindCall setting call = call_of_valid setting scripts actor h.before _ h.later valid h.script in
+    subst (IsRightLine setting history) (sym h.tells)
+    (right_find right cause setting history actor call h.found h.seen low reads is (legal call.sub is.known) h.find)
+
+-- and each line of an outcome
 made_right : AnswersAreRight → AgainHasItsCause → (setting : Setting) (scripts : Scripts) (history : History)
     → setting.nodes ≤ 2 ^ 16 → ReadsTop setting → AreValid setting scripts
     → ((sub : ℕ) → sub < subs setting → IsLegal setting sub history) → (line : Done)
@@ -45,22 +51,13 @@ made_right right cause setting scripts history low reads valid legal
 made_right right cause setting scripts history low reads valid legal (Switched actor is_off node n ticket) h = tt
 made_right right cause setting scripts history low reads valid legal
     (FoundBy actor from sub node n level weight first last) h =
-    let is : IsFindCall setting (record { from = from; sub = sub }) =
-    call_of_valid setting scripts actor h.before _ h.later valid h.script in
-    right_line right cause setting history actor (record { from = from; sub = sub }) h.found h.seen _ low reads is
-    (legal sub is.known) h.find h.tells
+    right_line right cause setting scripts history low reads valid legal actor (record { from = from; sub = sub }) _ h
 made_right right cause setting scripts history low reads valid legal
     (OffBy actor from sub node n level weight first last) h =
-    let is : IsFindCall setting (record { from = from; sub = sub }) =
-    call_of_valid setting scripts actor h.before _ h.later valid h.script in
-    right_line right cause setting history actor (record { from = from; sub = sub }) h.found h.seen _ low reads is
-    (legal sub is.known) h.find h.tells
+    right_line right cause setting scripts history low reads valid legal actor (record { from = from; sub = sub }) _ h
 made_right right cause setting scripts history low reads valid legal
     (AgainBy actor from sub why weight first last) h =
-    let is : IsFindCall setting (record { from = from; sub = sub }) =
-    call_of_valid setting scripts actor h.before _ h.later valid h.script in
-    right_line right cause setting history actor (record { from = from; sub = sub }) h.found h.seen _ low reads is
-    (legal sub is.known) h.find h.tells
+    right_line right cause setting scripts history low reads valid legal actor (record { from = from; sub = sub }) _ h
 
 pub outcomes-right : AnswersAreRight → AgainHasItsCause → OrdersArePlayed → OrdersAreDone → PlayedIsLegal
     → LinesAreMade → OutcomesAreRight

@@ -3,29 +3,34 @@
 -- a visit of a move of its subscriber within it. Key laws: `outcomes_are_right` (so it is for every
 -- order of valid scripts), `lines_are_in_turn` (a caller's lines come in the order of their last
 -- visits).
-use Rattle.std.specs.Prelude.{◌≡◌, ℕ, ◌≤◌, ◌^◌, true, false, All, List, Some, slice_get}
+use Rattle.std.specs.Prelude.{◌≡◌, ℕ, ◌≤◌, ◌^◌, true, All, IfSome, List, Some, slice_get}
 use Rattle.directory.specs.Settings.{Setting}
-use Rattle.directory.specs.Histories.{History, through}
+use Rattle.directory.specs.Histories.{History}
 use Rattle.directory.specs.Looks.{moves_at}
-use Rattle.directory.specs.Standing.{number, off, standing}
 use Rattle.directory.specs.Orders.{AreValid, IsPlayed, Scripts, history_of}
 use Rattle.directory.specs.Outcomes.{outcome_in, outcome_of}
+use Rattle.directory.specs.CallLines.{actor_of, find_of}
+use Rattle.directory.specs.declared.answers.Found.{Found}
+use Rattle.directory.specs.declared.answers.Found.TheVariants.{At, Off as OffAt, Again}
 use Rattle.directory.specs.declared.answers.Done.{Done}
 use Rattle.directory.specs.declared.answers.Done.TheVariants.{Moved, Switched, Found as FoundBy, Off as OffBy, Again as AgainBy}
-use Rattle.trail_laws.specs.Rightness.{ReadsTop}
+use Rattle.trail_laws.specs.Rightness.{IsRight, ReadsTop}
 
--- what a line says of its find holds in the history
-abbrev pub IsRightLine : Setting → History → Done → Type 0
-IsRightLine setting history (Moved actor n from to weight first commit last) = Unit {0}
-IsRightLine setting history (Switched actor is_off node n ticket) = Unit {0}
-IsRightLine setting history (FoundBy actor from sub node n level weight first last) =
-    (node ≡ standing setting sub (through last history))
-    × (n ≡ number sub (through last history)) × (off sub (through last history) ≡ false)
-IsRightLine setting history (OffBy actor from sub node n level weight first last) =
-    (node ≡ standing setting sub (through last history))
-    × (n ≡ number sub (through last history)) × (off sub (through last history) ≡ true)
-IsRightLine setting history (AgainBy actor from sub why weight first last) =
+-- what was answered to a find with this first visit and this last is right: an answer at the last
+-- visit; and where the find is to be made again, a visit of a move of its subscriber fell within it
+abbrev pub IsRightFind : Setting → History → ℕ → Found → ℕ → ℕ → Type 0
+IsRightFind setting history sub (At node n level weight) first last =
+    IsRight setting history sub (At node n level weight) last
+IsRightFind setting history sub (OffAt node n level weight) first last =
+    IsRight setting history sub (OffAt node n level weight) last
+IsRightFind setting history sub (Again why weight) first last =
     (ticket : ℕ) × (first ≤ ticket) × (ticket ≤ last) × (moves_at sub history ticket ≡ true)
+
+-- what a line says of its find, if it tells of one, is right
+abbrev pub IsRightLine : Setting → History → Done → Type 0
+IsRightLine setting history line =
+    IfSome (find_of line)
+    (λ find. IsRightFind setting history find.sub find.found find.first find.last)
 
 -- the lines of every order of valid scripts are right (`outcomes_are_right`)
 abbrev pub OutcomesAreRight : Type 0
@@ -59,20 +64,12 @@ NumbersRise =
     (setting : Setting) (scripts : Scripts) (order : List ℕ) → setting.nodes ≤ 2 ^ 16
     → AreValid setting scripts → TellRisingNumbers (outcome_of setting scripts order).calls
 
--- the actor of a line
-abbrev pub line_actor : Done → ℕ
-line_actor (Moved actor n from to weight first commit last) = actor
-line_actor (Switched actor is_off node n ticket) = actor
-line_actor (FoundBy actor from sub node n level weight first last) = actor
-line_actor (OffBy actor from sub node n level weight first last) = actor
-line_actor (AgainBy actor from sub why weight first last) = actor
-
 -- of two lines of an actor that tell numbers, the one that comes later has no earlier last visit,
 -- so that along one actor's finds of a subscriber the numbers never fall
 abbrev pub TellInTurn : List Done → Type 0
 TellInTurn calls =
     (i j : ℕ) (one other : Done) → i ≤ j → slice_get calls i ≡ Some one
-    → slice_get calls j ≡ Some other → line_actor one ≡ line_actor other
+    → slice_get calls j ≡ Some other → actor_of one ≡ actor_of other
     → (sub s p q earlier later : ℕ) → TellsNumber one sub p earlier → TellsNumber other s q later
     → earlier ≤ later
 

@@ -1,7 +1,6 @@
-use Rattle.std.proofs.Common.{◌++◌, ◌∷◌, [], List, ℕ, codes, count_by, length, ap, rules, ◌∙◌}
+use Rattle.std.proofs.Common.{codes, count_by, length, ap, rules, ◌∙◌}
 use Rattle.std.specs.List.{sum_by}
 use Rattle.report_text.specs.SummaryText.{is_again, is_answer, is_move, weight_moved, weight_travelled}
-use Rattle.outside.specs.Texts.{field}
 use Rattle.report_text.proofs.Summing.{pushed, six_pushed}
 use Rattle.report_text.proofs.sums.summary.Goals as goal
 

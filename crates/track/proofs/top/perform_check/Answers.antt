@@ -1,40 +1,17 @@
-use Rattle.std.proofs.Common.{ap, subst, sym, ◌∙◌}
+use Rattle.std.proofs.Common.{ap, ◌∙◌}
 use Rattle.report_check.specs.Cuts.{input_part, report_part}
-use Rattle.word_line.specs.declared.command.Command.TheVariants.{Check}
-use Rattle.track.specs.declared.status.Status.{Status}
-use Rattle.track.specs.Bodies.{text_of}
-use Rattle.track.specs.Ends.{EndsAs, streams}
-use Rattle.track.proofs.Ending.{begun-check, done-check}
+use Rattle.track.proofs.Ending.{ended-check}
 use Rattle.track.proofs.top.perform_check.Goals as goal
-
-pub returns-in-Ok-write_body-clause-ends : goal.returns-in-Ok-write_body-clause-ends
-returns-in-Ok-write_body-clause-ends g c =
-    let answer = c.in-Ok-judge_parts.answer in
-    let parts = c.cut_text-parts.result in
-    done-check c.in-Ok.text.items parts.input.now parts.report.now answer.status (text_of answer.body)
-    (g.S.Source.left c.args.source.now) (g.S.Source.left c.read_text.new.source) (g.S.Source.faults c.args.source.now)
-    (g.S.Source.faults c.read_text.new.source) (g.K.Sink.written c.args.sink.now)
-    (g.K.Sink.written c.write_body.new.sink) (g.K.Sink.faults c.args.sink.now) (g.K.Sink.faults c.write_body.new.sink)
-    c.in-Ok.ensures.all (c.cut_text-parts.ensures.input ∙ ap input_part c.deref.ensures.value)
-    (c.cut_text-parts.ensures.report ∙ ap report_part c.deref.ensures.value) c.if-parts-gt-MAX_BYTES.false
-    c.in-Ok-judge_parts.ensures c.in-Ok-write_body.ensures.all c.in-Ok-write_body.ensures.no_fault
 
 pub returns-clause-ends : goal.returns-clause-ends
 returns-clause-ends g c =
-    let answer = c.in-Ok-judge_parts.answer in
     let parts = c.cut_text-parts.result in
-    let left = g.S.Source.left c.args.source.now in
-    let left_now = g.S.Source.left c.read_text.new.source in
-    let reads = g.S.Source.faults c.args.source.now in
-    let reads_now = g.S.Source.faults c.read_text.new.source in
-    let written = g.K.Sink.written c.args.sink.now in
-    let written_now = g.K.Sink.written c.write_body.new.sink in
-    let writes = g.K.Sink.faults c.args.sink.now in
-    let writes_now = g.K.Sink.faults c.write_body.new.sink in
-    subst (λ (s : Status). EndsAs Check s (streams left reads written writes)
-    (streams left_now reads_now written_now writes_now)) (sym c.from-in-Err-write_body.ensures)
-    (begun-check c.in-Ok.text.items parts.input.now parts.report.now answer.status c.in-Err-write_body.stop
-    (text_of answer.body) left left_now reads reads_now written written_now writes writes_now c.in-Ok.ensures.all
+    ended-check c.judge_parts.result c.write_answer.result c.in-Ok.text.items parts.input.now parts.report.now
+    (g.S.Source.left c.args.source.now)
+    (g.S.Source.left c.read_text.new.source) (g.S.Source.faults c.args.source.now)
+    (g.S.Source.faults c.read_text.new.source)
+    (g.K.Sink.written c.args.sink.now) (g.K.Sink.written c.write_answer.new.sink) (g.K.Sink.faults c.args.sink.now)
+    (g.K.Sink.faults c.write_answer.new.sink) c.in-Ok.ensures.all
     (c.cut_text-parts.ensures.input ∙ ap input_part c.deref.ensures.value)
     (c.cut_text-parts.ensures.report ∙ ap report_part c.deref.ensures.value) c.if-parts-gt-MAX_BYTES.false
-    c.in-Ok-judge_parts.ensures c.in-Err-write_body.ensures.stops)
+    c.judge_parts.ensures c.write_answer.ensures
