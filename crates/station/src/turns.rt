@@ -95,10 +95,10 @@ impl Tracker {
             (λ held. Logs seat.old.me.0.turns (Lost actor node (suc held.by)) seat.new.me.0.turns) }
     {
         cell_numbers();
-        let word = node as usize + 1;
+        let place = self.lock_place(node);
         let mine = u64::from(actor) + 1;
         let shared = &self.table.shared;
-        let found = shared.compare_exchange_with::<Turn>(seat, word, 0, mine, act);
+        let found = shared.compare_exchange_with::<Turn>(seat, place, 0, mine, act);
         if found == 0 {
             return Ok(());
         }
@@ -123,7 +123,8 @@ impl Tracker {
             seat.new.me.0.turns }
     {
         cell_numbers();
-        self.table.shared.store::<Leave>(seat, node as usize + 1, 0);
+        let place = self.lock_place(node);
+        self.table.shared.store::<Leave>(seat, place, 0);
     }
 }
 
