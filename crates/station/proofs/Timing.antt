@@ -60,7 +60,7 @@ none-first actor event later e = go (event_actor event == actor) refl e
     )
 
 -- there is its own event in a log that has it
-some-mine : (actor : ℕ) (earlier : List TurnEvent) (event : TurnEvent) (later : List TurnEvent)
+pub some-mine : (actor : ℕ) (earlier : List TurnEvent) (event : TurnEvent) (later : List TurnEvent)
     → event_actor event ≡ actor
     → length (events_of actor earlier) < length (events_of actor (earlier ++ event ∷ later))
 some-mine actor earlier event later mine = omega (

@@ -1,9 +1,12 @@
 -- Short laws of logs of turns that go on, for the crates above: the events of an actor, the turns
 -- that were lost and won, and events that come one after another.
--- Key law: `logs-append` (events come into a log one after another in two parts).
-use Rattle.std.proofs.Common.{◌≡◌, ℕ, ◌==◌, eq-eqb, cond, List, [], ◌∷◌, ◌++◌, refl, sym, ap, ◌∙◌, subst}
+-- Key laws: `logs-append` (events come into a log one after another in two parts), `logs-at` (each
+-- of them stands in it, behind all that it had).
+use Rattle.std.proofs.Common.{◌≡◌, ℕ, ◌≤◌, ◌==◌, eq-eqb, cond, List, [], ◌∷◌, ◌++◌, length, refl, sym, ap, ◌∙◌, subst, arith, append_assoc, length-append}
+use Rattle.std.proofs.lemmas.List.{append-nil}
 use Rattle.std.proofs.lemmas.List.Elements.{filter-append}
-use Rattle.station.specs.Turns.{LogsAll, event_actor, events_of, losses, lost_in, won_in}
+use Rattle.station.specs.Moments.{IsLoggedAt}
+use Rattle.station.specs.Turns.{Logs, LogsAll, event_actor, events_of, losses, lost_in, won_in}
 use Rattle.station.specs.Views.{turn_at}
 use Rattle.station.specs.declared.view.NodeTurn.{NodeTurn}
 use Rattle.station.specs.declared.view.TurnEvent.{TurnEvent}
@@ -58,3 +61,45 @@ pub logs-append : (first second third : List TurnEvent) (xs ys : List TurnEvent)
 logs-append first second third [] ys h g = subst (λ l. LogsAll l ys third) h g
 logs-append first second third (x ∷ xs) ys h g =
     (h.0, h.1, logs-append h.0 second third xs ys h.2 g)
+
+-- events that come into a log leave it with what it had, and more
+logs-grow : (before : List TurnEvent) (events : List TurnEvent) (log : List TurnEvent)
+    → LogsAll before events log → (more : List TurnEvent) × (log ≡ before ++ more)
+logs-grow before [] log all = ([], all ∙ sym (append-nil before))
+logs-grow before (event ∷ later) log all =
+    let first = all.1 in
+    let rest = logs-grow all.0 later log all.2 in (
+      first.later ++ event ∷ rest.0,
+      rest.1 ∙ (ap (λ l. l ++ rest.0) first.goes_on
+          ∙ (append_assoc (before ++ first.later) (event ∷ []) rest.0
+          ∙ append_assoc before first.later (event ∷ rest.0))),
+    )
+
+-- where a log stands behind these when an event comes, it has the event then, and goes on
+logged-behind : (before : List TurnEvent) (event : TurnEvent) (inside : List TurnEvent)
+    (later : List TurnEvent) (log : List TurnEvent) → Logs before event inside
+    → LogsAll inside later log → (earlier : List TurnEvent) × (length before ≤ length earlier)
+    × IsLoggedAt earlier event log
+logged-behind before event inside later log first all =
+    let rest = logs-grow inside later log all in (
+      before ++ first.later,
+      omega (arith, length-append before first.later),
+      (
+        rest.0,
+        rest.1 ∙ (ap (λ l. l ++ rest.0) first.goes_on
+            ∙ append_assoc (before ++ first.later) (event ∷ []) rest.0),
+      ),
+    )
+
+-- each of the events that come into a log stands in it behind all that it had
+pub logs-at : (before front : List TurnEvent) (event : TurnEvent) (back log : List TurnEvent)
+    → LogsAll before (front ++ event ∷ back) log
+    → (earlier : List TurnEvent) × (length before ≤ length earlier) × IsLoggedAt earlier event log
+logs-at before [] event back log all = logged-behind before event all.0 back log all.1 all.2
+logs-at before (x ∷ front) event back log all =
+    let there = logs-at all.0 front event back log all.2 in
+    let longer = logs-grow before (x ∷ []) all.0 (all.0, all.1, refl) in (
+      there.0,
+      omega (arith, there.1, ap length longer.1, length-append before longer.0),
+      there.2,
+    )

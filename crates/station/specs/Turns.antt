@@ -3,8 +3,10 @@
 -- lost one. So the log tells whose turn it is at a node, at any time; and a turn is lost only while
 -- it is another's.
 --
--- What a view has logged is the log up to the last event of its own actors. So nobody else's event
--- can be put in later, or at another place, and one of its own only at the end.
+-- What a view has logged is a front of the log, and no event of its own actors stands behind it. So
+-- no step of a seat puts in, takes away or moves an event before the last one of another actor. Its
+-- own events behind that one a step could write anew, by the rule alone: that the seat only adds to
+-- them is what its calls tell (`Logs`, `LogsAll`).
 --
 -- Key law: `Tracker::witness`, by its clause `rule` (each lock word is as the log leaves it, and a
 -- pass has lost just the turns that the log has as lost by its actor).
