@@ -22,7 +22,7 @@ ghost use Rattle.station.specs.Views.{turn_at};
 ghost use Rattle.station.specs.declared.turns.Held.{Held};
 ghost use Rattle.station.specs.declared.view.View.{View};
 ghost use Rattle.tracker_calls.specs.Added.{HasAdded, KeepsHandsets};
-ghost use Rattle.tracker_calls.specs.Answers.{TellsRightly};
+ghost use Rattle.tracker_calls.specs.RightAnswers.{TellsRightly};
 ghost use Rattle.tracker_calls.specs.Finds.{HasFound, HasStopped};
 ghost use Rattle.tracker_calls.specs.Moves.{HasStepped};
 ghost use Rattle.worked_examples.specs.Examples.{find_from};
