@@ -100,6 +100,38 @@ fn two_finders<R: Threads + Wait + Sync>(
     )
 }
 
+// The crew after a round, and what its finders counted.
+fn gather(
+    tracker: &Tracker,
+    moved: (Result<(), Stop>, Pass, Handset),
+    far: (Result<Tally, Stop>, Pass),
+    middle: (Result<Tally, Stop>, Pass),
+    near: (Result<Tally, Stop>, Pass),
+) -> Result<(Crew, Tallies), Stop>
+    requires own { IsFree tracker.now 0 moved.1 }
+    requires its { IsHandsetOf tracker.now.setup moved.1.view moved.2 }
+    requires far { IsFree tracker.now 0 far.1 }
+    requires middle { IsFree tracker.now 0 middle.1 }
+    requires near { IsFree tracker.now 0 near.1 }
+    ensures crew { IfOk result (λ done. IsCrewOf tracker.now done.0) }
+{
+    let _ = tracker;
+    moved.0?;
+    let tallies = Tallies {
+        near: near.0?,
+        middle: middle.0?,
+        far: far.0?,
+    };
+    let crew = Crew {
+        own: moved.1,
+        handset: moved.2,
+        near: near.1,
+        middle: middle.1,
+        far: far.1,
+    };
+    Ok((crew, tallies))
+}
+
 /// A round: the mover notes what it has seen, and then all four run at once. Each finder hears a note
 /// in its own thread.
 pub fn round<R: Threads + Wait + Sync>(
@@ -148,18 +180,5 @@ pub fn round<R: Threads + Wait + Sync>(
             )
         },
     );
-    moved.0?;
-    let tallies = Tallies {
-        near: other.0?,
-        middle: one.0?,
-        far: found.0?,
-    };
-    let crew = Crew {
-        own: moved.1,
-        handset: moved.2,
-        near: other.1,
-        middle: one.1,
-        far: found.1,
-    };
-    Ok((crew, tallies))
+    gather(tracker, moved, found, one, other)
 }

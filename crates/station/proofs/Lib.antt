@@ -19,3 +19,4 @@ mod Joining
 mod Ending
 mod Logging
 mod Timing
+mod Coming

@@ -1,8 +1,7 @@
 -- The log of turns, as it goes on by one event more.
-use Rattle.std.proofs.Common.{◌≡◌, ◌≢◌, ◌⊎◌, ℕ, suc, ◌≤◌, ◌==◌, eq-eqb, ne_eqb, cond, List, [], ◌∷◌, ◌++◌, get_or, length, drop, set, refl, sym, ap, ◌∙◌, subst, inl, inr, ⊎_elim, arith, append_assoc, length-append}
+use Rattle.std.proofs.Common.{◌≡◌, ◌≢◌, ◌⊎◌, ℕ, suc, ◌≤◌, eq-eqb, ne_eqb, cond, List, [], ◌∷◌, ◌++◌, get_or, length, drop, set, refl, sym, ap, ◌∙◌, subst, inl, inr, ⊎_elim, arith, append_assoc, length-append}
 use Rattle.std.specs.Prelude.{if◌then◌else◌}
 use Rattle.std.proofs.lemmas.List.{append-nil}
-use Rattle.std.proofs.lemmas.List.Elements.{filter-append}
 use Rattle.std.proofs.lemmas.List.Sums.{fold-append}
 use mathlib.Core.Option.{some}
 use lib.ListN.{get_elem?}
@@ -12,9 +11,10 @@ use Rattle.entry_word.specs.declared.visit.Act.{Act}
 use Rattle.station.specs.Rule.{KeepsRule, IsViewOf}
 use Rattle.station.specs.Setup.{Setup}
 use Rattle.station.specs.Turns.{HasLogged, IsInTurn, IsLog, Logs, event_actor, events_of, lock_after, lock_in, lost_in}
-use Rattle.station.specs.Views.{StandsForActor, turn_at}
+use Rattle.station.specs.TurnLaws.{events-append, lost-append}
+use Rattle.station.specs.Views.{StandsForActor}
 use Rattle.station.specs.declared.view.TurnEvent.{TurnEvent}
-use Rattle.station.specs.declared.view.TurnEvent.TheVariants.{Won, GivenBack, Lost}
+use Rattle.station.specs.declared.view.TurnEvent.TheVariants.{Won, GivenBack}
 use Rattle.station.specs.declared.view.View.{View}
 
 module _ {A : Type 0} where
@@ -72,21 +72,14 @@ lock-back_else log actor x y ne = lock-push log (GivenBack actor x) y
 -- the events of an actor after one more
 by-mine : (actor : ℕ) (log : List TurnEvent) (event : TurnEvent) → event_actor event ≡ actor
     → events_of actor (log ++ event ∷ []) ≡ events_of actor log ++ event ∷ []
-by-mine actor log event mine = filter-append (λ (e : TurnEvent). event_actor e == actor) log (event ∷ [])
+by-mine actor log event mine = events-append actor log (event ∷ [])
     ∙ ap (λ b. events_of actor log ++ cond b (event ∷ []) []) (eq-eqb (event_actor event) actor mine)
 
 by-other : (actor : ℕ) (log : List TurnEvent) (event : TurnEvent) → event_actor event ≢ actor
     → events_of actor (log ++ event ∷ []) ≡ events_of actor log
-by-other actor log event other = filter-append (λ (e : TurnEvent). event_actor e == actor) log (event ∷ [])
+by-other actor log event other = events-append actor log (event ∷ [])
     ∙ (ap (λ b. events_of actor log ++ cond b (event ∷ []) []) (ne_eqb (event_actor event) actor other)
     ∙ append-nil (events_of actor log))
-
-lost-push : (log : List TurnEvent) (event : TurnEvent)
-    → lost_in (log ++ event ∷ []) ≡ lost_in log ++ lost_in (event ∷ [])
-lost-push [] event = refl
-lost-push (Won actor node ∷ later) event = lost-push later event
-lost-push (GivenBack actor node ∷ later) event = lost-push later event
-lost-push (Lost actor node word ∷ later) event = ap (λ l. turn_at node word ∷ l) (lost-push later event)
 
 -- a view that has logged the same, and lost the same, and stands for no others
 pub logged-same : (log : List TurnEvent) (v w : View) → w.turns ≡ v.turns → w.lost ≡ v.lost
@@ -117,11 +110,11 @@ logged-mine log event v w mine alone low high turns lost has =
     let actor = v.low in
     let stands : StandsForActor v actor = (omega arith, omega (arith, alone)) in
     let before : events_of actor log ≡ events_of actor v.turns = ap (events_of actor) has.goes_on
-    ∙ (filter-append (λ (e : TurnEvent). event_actor e == actor) v.turns has.later
+    ∙ (events-append actor v.turns has.later
     ∙ (ap (λ l. events_of actor v.turns ++ l) (has.by_others actor stands) ∙ append-nil (events_of actor v.turns))) in
     let whole : lost_in (events_of actor w.turns) ≡ lost_in (events_of actor v.turns) ++ lost_in (event ∷ []) =
     ap (λ l. lost_in (events_of actor l)) turns ∙ (ap lost_in (by-mine actor log event mine)
-    ∙ (lost-push (events_of actor log) event ∙ ap (λ l. lost_in l ++ lost_in (event ∷ [])) before)) in
+    ∙ (lost-append (events_of actor log) (event ∷ []) ∙ ap (λ l. lost_in l ++ lost_in (event ∷ [])) before)) in
     let all : w.lost ≡ lost_in (events_of actor w.turns) = lost
     ∙ (ap (λ l. l ++ lost_in (event ∷ [])) (has.lost actor stands) ∙ sym whole) in
     record {

@@ -1,7 +1,6 @@
 -- An event comes into the log behind all that was logged before its step.
 use Rattle.std.proofs.Common.{◌≡◌, ◌≢◌, ◌⊎◌, ℕ, suc, ◌<◌, ◌≤◌, ◌==◌, eq-eqb, ne_eqb, Bool, true, false, cond, List, [], ◌∷◌, ◌++◌, get_or, length, drop, set, refl, sym, ap, ◌∙◌, subst, inl, inr, ⊎_elim, arith, append_assoc, length-append, Some}
 use Rattle.std.proofs.lemmas.List.{append-nil}
-use Rattle.std.proofs.lemmas.List.Elements.{filter-append}
 use mathlib.Core.Logic.{dite}
 use mathlib.Core.Option.{some-injective}
 use native.Mathlib.Decide.{ℕ_discrete, dec_le}
@@ -13,6 +12,7 @@ use Rattle.station.specs.Moments.{EventsComeNow, HasLocks}
 use Rattle.station.specs.Rule.{KeepsRule, IsViewOf}
 use Rattle.station.specs.Setup.{Setup}
 use Rattle.station.specs.Turns.{HasLogged, Logs, event_actor, events_of, lock_in}
+use Rattle.station.specs.TurnLaws.{events-append, events-mine}
 use Rattle.station.specs.Views.{StandsForActor}
 use Rattle.station.specs.declared.view.TurnEvent.{TurnEvent}
 use Rattle.station.specs.declared.view.View.{View}
@@ -45,10 +45,6 @@ module _ {A : Type 0} where
   cancel [] ys zs e = e
   cancel (x ∷ xs) ys zs e = cancel xs ys zs (ap (drop 1) e)
 
--- the events of an actor in two parts of a log
-parts : (actor : ℕ) (xs ys : List TurnEvent) → events_of actor (xs ++ ys) ≡ events_of actor xs ++ events_of actor ys
-parts actor xs ys = filter-append (λ (e : TurnEvent). event_actor e == actor) xs ys
-
 -- where an actor has no event, neither the first is one nor a later
 none-first : (actor : ℕ) (event : TurnEvent) (later : List TurnEvent) → events_of actor (event ∷ later) ≡ []
     → (event_actor event ≢ actor) × (events_of actor later ≡ [])
@@ -63,21 +59,15 @@ none-first actor event later e = go (event_actor event == actor) refl e
       f,
     )
 
--- an actor's own event is among its events
-first-mine : (actor : ℕ) (event : TurnEvent) (later : List TurnEvent) → event_actor event ≡ actor
-    → events_of actor (event ∷ later) ≡ event ∷ events_of actor later
-first-mine actor event later mine =
-    ap (λ b. cond b (event ∷ events_of actor later) (events_of actor later)) (eq-eqb (event_actor event) actor mine)
-
 -- there is its own event in a log that has it
-some-mine : (actor : ℕ) (earlier : List TurnEvent) (event : TurnEvent) (later : List TurnEvent)
+pub some-mine : (actor : ℕ) (earlier : List TurnEvent) (event : TurnEvent) (later : List TurnEvent)
     → event_actor event ≡ actor
     → length (events_of actor earlier) < length (events_of actor (earlier ++ event ∷ later))
 some-mine actor earlier event later mine = omega (
   arith,
-  ap length (parts actor earlier (event ∷ later)),
+  ap length (events-append actor earlier (event ∷ later)),
   length-append (events_of actor earlier) (events_of actor (event ∷ later)),
-  ap length (first-mine actor event later mine),
+  ap length (events-mine actor event later mine),
 )
 
 -- a log in which nobody has an event
@@ -91,7 +81,7 @@ just-one : (actor : ℕ) (log : List TurnEvent) (event : TurnEvent)
     → log ≡ event ∷ []
 just-one actor [] event others mine = absurd (omega (arith, ap length mine))
 just-one actor (first ∷ later) event others mine = dite (ℕ_discrete (event_actor first) actor)
-    (λ e. let is : first ∷ events_of actor later ≡ event ∷ [] = sym (first-mine actor first later e) ∙ mine in
+    (λ e. let is : first ∷ events_of actor later ≡ event ∷ [] = sym (events-mine actor first later e) ∙ mine in
     let same : first ≡ event = ap (λ (l : List TurnEvent). get_or l 0 first) is in
     let rest : later ≡ [] = nobodys later (λ a. dite (ℕ_discrete a actor)
     (λ q. subst (λ (b : ℕ). events_of b later ≡ []) (sym q) (ap (drop 1) is))
@@ -119,7 +109,7 @@ whole log view front last has stands is = ⊎_elim
 -- all events of its actors are among those that a view has logged
 own-all : (log : List TurnEvent) (view : View) (actor : ℕ) → HasLogged log view → StandsForActor view actor
     → events_of actor log ≡ events_of actor view.turns
-own-all log view actor has st = ap (events_of actor) has.goes_on ∙ (parts actor view.turns has.later
+own-all log view actor has st = ap (events_of actor) has.goes_on ∙ (events-append actor view.turns has.later
     ∙ (ap (λ l. events_of actor view.turns ++ l) (has.by_others actor st) ∙ append-nil (events_of actor view.turns)))
 
 -- a step that brings an event into the log
@@ -200,7 +190,7 @@ module _ (setup : Setup) (old new : State Act View) (seat : ℕ) (before after :
 
   -- what the event comes behind has all own events that there were
   own_first : events_of before.low (before.turns ++ s.logs.later) ≡ events_of before.low s.was.turns
-  own_first = parts before.low before.turns s.logs.later
+  own_first = events-append before.low before.turns s.logs.later
       ∙ (ap (λ l. events_of before.low before.turns ++ l)
       (subst (λ (a : ℕ). events_of a s.logs.later ≡ []) s.mine s.logs.by_others)
       ∙ (append-nil (events_of before.low before.turns)
@@ -209,8 +199,9 @@ module _ (setup : Setup) (old new : State Act View) (seat : ℕ) (before after :
   -- and there is the one more
   own_then : events_of before.low s.is.turns ≡ events_of before.low s.was.turns ++ event ∷ []
   own_then = own-all s.is.turns after before.low (s.is.logged seat after its_seat) stands_then
-      ∙ (ap (events_of before.low) s.logs.goes_on ∙ (parts before.low (before.turns ++ s.logs.later) (event ∷ [])
-      ∙ (λ i. own_first i ++ first-mine before.low event [] s.mine i)))
+      ∙ (ap (events_of before.low) s.logs.goes_on ∙ (events-append before.low (before.turns ++ s.logs.later)
+      (event ∷ [])
+      ∙ (λ i. own_first i ++ events-mine before.low event [] s.mine i)))
 
   -- so the log has just the event more
   one_more : s.is.turns ≡ s.was.turns ++ event ∷ []
@@ -218,7 +209,7 @@ module _ (setup : Setup) (old new : State Act View) (seat : ℕ) (before after :
       let was = s.was.turns in
       let rest = log_first.0 in
       let split : (actor : ℕ) → events_of actor was ++ events_of actor rest ≡ events_of actor s.is.turns =
-      λ actor. sym (parts actor was rest) ∙ ap (events_of actor) (sym log_first.1) in
+      λ actor. sym (events-append actor was rest) ∙ ap (events_of actor) (sym log_first.1) in
       log_first.1 ∙ ap (λ l. was ++ l) (just-one before.low rest event
       (λ actor ne. cancel (events_of actor was) (events_of actor rest) [] (split actor
       ∙ (others_same actor ne ∙ sym (append-nil (events_of actor was)))))

@@ -10,6 +10,7 @@ pub mod Visits
 pub mod Handsets
 pub mod Closing
 pub mod TicketLaws
+pub mod TurnLaws
 pub mod HandsetLaws
 pub mod PutLaws
 pub mod StayLaws

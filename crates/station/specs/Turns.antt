@@ -3,12 +3,14 @@
 -- lost one. So the log tells whose turn it is at a node, at any time; and a turn is lost only while
 -- it is another's.
 --
--- What a view has logged is the log up to the last event of its own actors. So nobody else's event
--- can be put in later, or at another place, and one of its own only at the end.
+-- What a view has logged is a front of the log, and no event of its own actors stands behind it. So
+-- no step of a seat puts in, takes away or moves an event before the last one of another actor. Its
+-- own events behind that one a step could write anew, by the rule alone: that the seat only adds to
+-- them is what its calls tell (`Logs`, `LogsAll`).
 --
 -- Key law: `Tracker::witness`, by its clause `rule` (each lock word is as the log leaves it, and a
 -- pass has lost just the turns that the log has as lost by its actor).
-use Rattle.std.specs.Prelude.{◌≡◌, ◌≢◌, ℕ, suc, List, [], ◌∷◌, ◌++◌, ◌==◌, fold, if◌then◌else◌}
+use Rattle.std.specs.Prelude.{◌≡◌, ◌≢◌, ℕ, suc, List, [], ◌∷◌, ◌++◌, ◌==◌, fold, map, if◌then◌else◌}
 use Rattle.std.specs.List.{filter}
 use Rattle.station.specs.Views.{StandsForActor, turn_at}
 use Rattle.station.specs.declared.view.NodeTurn.{NodeTurn}
@@ -57,6 +59,17 @@ lost_in (Won actor node ∷ later) = lost_in later
 lost_in (GivenBack actor node ∷ later) = lost_in later
 lost_in (Lost actor node word ∷ later) = turn_at node word ∷ lost_in later
 
+-- the nodes at which turns were won
+abbrev pub won_in : List TurnEvent → List ℕ
+won_in [] = []
+won_in (Won actor node ∷ later) = node ∷ won_in later
+won_in (GivenBack actor node ∷ later) = won_in later
+won_in (Lost actor node word ∷ later) = won_in later
+
+-- the turns that an actor lost, as events
+abbrev pub losses : ℕ → List NodeTurn → List TurnEvent
+losses actor turns = map (λ turn. Lost actor turn.node turn.word) turns
+
 -- a view has logged all events of its actors: the log goes on from there by others alone; and it
 -- has lost just the turns that are logged as lost by its actor, in that order
 pub record HasLogged (log : List TurnEvent) (view : View) : Type 0 where
@@ -74,6 +87,12 @@ pub record Logs (before : List TurnEvent) (event : TurnEvent) (log : List TurnEv
   pub by_others : events_of (event_actor event) later ≡ []
   pub goes_on : log ≡ (before ++ later) ++ event ∷ []
   pub in_turn : IsLog log
+
+-- these events come into a log, each behind the one before it
+abbrev pub LogsAll : List TurnEvent → List TurnEvent → List TurnEvent → Type 0
+LogsAll before [] log = log ≡ before
+LogsAll before (event ∷ later) log =
+    (inside : List TurnEvent) × Logs before event inside × LogsAll inside later log
 
 -- an actor has had a turn at a node: it is logged as won, and then as given back, and nothing else
 -- of its own is logged since

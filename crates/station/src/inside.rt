@@ -2,14 +2,13 @@
 ghost use Rattle.std.specs.Prelude.{◌≡◌, ◌+◌, ◌<◌, None, Some, if◌then◌else◌, length, true, false, ℕ};
 ghost use Rattle.std.specs.Int.{bit_at};
 ghost use Rattle.node_set.specs.Ascending.{has};
-ghost use Rattle.entry_word.specs.declared.visit.Key.TheVariants.{Presence};
 ghost use Rattle.directory.specs.Census.{census};
 ghost use Rattle.directory.specs.Histories.{cell};
 ghost use Rattle.directory.specs.Keys.{key_node, key_sub};
 ghost use Rattle.entry_word.specs.Marks.{mark_in, says_here as here};
 ghost use Rattle.station.specs.Handsets.{Moves, moves_here as moves};
 ghost use Rattle.station.specs.Plays.{Draws, view_after_put, view_after_tally};
-ghost use Rattle.station.specs.Setup.{IsCellOf, cell_word, nodes_in, setting_in, subs_in};
+ghost use Rattle.station.specs.Setup.{IsCellOf, cell_word, lock_word, nodes_in, setting_in, tally_word};
 ghost use Rattle.station.specs.Visits.{HasTurn, MayDraw};
 
 use crate::rule::{DrawTicket, ReadCell, ReadTally, WriteCell, WriteTally};
@@ -46,6 +45,26 @@ impl Tracker {
         // The field tells the proof that cells lie at nodes.
         let _ = &self.nodes;
         key_node(plan, key)
+    }
+
+    // The place of the lock word of a node.
+    pub(crate) fn lock_place(&self, node: u32) -> usize
+        requires node { node < nodes_in self.now.setup }
+        ensures place { result ≡ lock_word node }
+        ensures inside { result < self.now.table.words }
+    {
+        // The field tells the proof that nodes are few.
+        let _ = &self.nodes;
+        node as usize + 1
+    }
+
+    // The place of the tally word of a node.
+    fn tally_place(&self, node: u32) -> usize
+        requires node { node < nodes_in self.now.setup }
+        ensures place { result ≡ tally_word self.now.setup node }
+        ensures inside { result < self.now.table.words }
+    {
+        self.nodes as usize + self.lock_place(node)
     }
 
     // The place of the word of a cell.
@@ -111,7 +130,7 @@ impl Tracker {
         ensures before { seat.old.me.0.owes ≡ true → result ≡ seat.old.me.0.tally }
     {
         same_key_means();
-        let place = self.nodes as usize + node as usize + 1;
+        let place = self.tally_place(node);
         self.table.shared.load::<ReadTally>(seat, place)
     }
 
@@ -129,7 +148,7 @@ impl Tracker {
     {
         cell_numbers();
         same_key_means();
-        let place = self.nodes as usize + node as usize + 1;
+        let place = self.tally_place(node);
         self.table.shared.store::<WriteTally>(seat, place, tally);
     }
 
@@ -149,32 +168,11 @@ impl Tracker {
     {
         let mut who = 0;
         for sub in 0..self.subs {
-            if says_here(self.read_mark(seat, node, sub)) {
+            if says_here(self.read_cell(seat, Key::Presence { node, sub })) {
                 who |= 1 << sub;
             }
         }
         who
-    }
-
-    // Reads the presence of a subscriber at a node.
-    fn read_mark(&self, seat: &mut Seat<Act, View>, node: u32, sub: u32) -> u64
-        requires table { seat.old.table_id ≡ self.now.table }
-        requires setup { seat.old.me.0.setup ≡ self.now.setup }
-        requires node { node < nodes_in self.now.setup }
-        requires sub { sub < subs_in self.now.setup }
-        requires turn { HasTurn seat.old.me.0 node }
-        requires unwritten { seat.old.me.0.unwritten ≡ None }
-        ensures table { seat.new.table_id ≡ seat.old.table_id }
-        ensures id { seat.new.id ≡ seat.old.id }
-        ensures same { seat.new.me ≡ seat.old.me }
-        ensures word { result ≡ cell (setting_in self.now.setup) seat.old.me.0.seen
-            (Presence node sub) }
-    {
-        cell_numbers();
-        same_key_means();
-        let number = node as usize * self.subs as usize + sub as usize;
-        let place = 2 * self.nodes as usize + number + 1;
-        self.table.shared.load::<ReadCell>(seat, place)
     }
 
     // How many subscribers are at a node, by its tally.

@@ -32,5 +32,5 @@ pub use net_graph::OutOfMemory;
 pub use notes::Note;
 pub use pass::Pass;
 pub use tracker::Tracker;
-pub use turns::{Held, Stay, events_come_now};
+pub use turns::{Held, Stay, events_come_now, events_come_within_calls};
 pub use visits::{CensusSeen, Looked};

@@ -2,7 +2,7 @@
 ghost use Rattle.std.specs.Prelude.{◌≡◌, ◌≢◌, ◌<◌, suc, false, Some, None, MatchResult};
 ghost use Rattle.entry_word.specs.declared.visit.Act.TheVariants.{Census};
 ghost use Rattle.station.specs.Passes.{IsPassOf, IsStayOf, actor_of};
-ghost use Rattle.station.specs.Moments.{EventsComeNow};
+ghost use Rattle.station.specs.Moments.{EventsComeNow, EventsComeWithinCalls};
 ghost use Rattle.station.specs.Turns.{Logs};
 ghost use Rattle.station.specs.declared.view.TurnEvent.TheVariants.{GivenBack, Lost, Won};
 ghost use Rattle.station.specs.Visits.{HasLost};
@@ -95,10 +95,10 @@ impl Tracker {
             (λ held. Logs seat.old.me.0.turns (Lost actor node (suc held.by)) seat.new.me.0.turns) }
     {
         cell_numbers();
-        let word = node as usize + 1;
+        let place = self.lock_place(node);
         let mine = u64::from(actor) + 1;
         let shared = &self.table.shared;
-        let found = shared.compare_exchange_with::<Turn>(seat, word, 0, mine, act);
+        let found = shared.compare_exchange_with::<Turn>(seat, place, 0, mine, act);
         if found == 0 {
             return Ok(());
         }
@@ -123,7 +123,8 @@ impl Tracker {
             seat.new.me.0.turns }
     {
         cell_numbers();
-        self.table.shared.store::<Leave>(seat, node as usize + 1, 0);
+        let place = self.lock_place(node);
+        self.table.shared.store::<Leave>(seat, place, 0);
     }
 }
 
@@ -132,4 +133,11 @@ impl Tracker {
 /// of its steps the lock word named the other actor, whose pass was inside the node.
 pub fn events_come_now()
     ensures { EventsComeNow }
+{}
+
+/// Each event that a pass has logged in a whole call came at one of the call's own steps, and just
+/// before that step the locks were as the event says: where the call tells that a turn was lost,
+/// the pass of the other actor was inside the node, and where it made a visit, no other pass was.
+pub fn events_come_within_calls()
+    ensures { EventsComeWithinCalls }
 {}

@@ -183,11 +183,11 @@ pub put-tried : (setup : Setup) (begun : PassData) (from : HandsetData) (to : �
     (pass tried : PassData) (handset : HandsetData) → HasTried pass tried
     → HasPut setup begun from to made pass handset → HasPut setup begun from to made tried handset
 put-tried setup begun from to made pass tried handset lost at =
-    subst (λ (q : PassData). HasPut setup begun from to made q handset) (sym lost.1) (record {
+    subst (λ (q : PassData). HasPut setup begun from to made q handset) (sym lost.is) (record {
       steps = at.steps;
       stood = at.stood;
       all = at.all;
-      added = subst (HasAdded setup begun made) lost.1 (added-tried setup begun pass tried made lost at.added);
+      added = subst (HasAdded setup begun made) lost.is (added-tried setup begun pass tried made lost at.added);
       put = at.put;
       count = at.count;
       visits_are = at.visits_are;

@@ -14,7 +14,7 @@ use Rattle.station.specs.Passes.{PassData}
 use Rattle.station.specs.Setup.{Setup, nodes_in, setting_in}
 use Rattle.stretch_laws.specs.Plans.{PlanFindsAreNear}
 use Rattle.trail_laws.specs.Rightness.{AnswersAreRight, HasNumber, IsRight, QuietFindsAnswer}
-use Rattle.tracker_calls.specs.Answers.{TellsRightly}
+use Rattle.tracker_calls.specs.RightAnswers.{TellsRightly}
 use Rattle.tracker_calls.proofs.Longer.{number-front}
 use Rattle.walk.specs.ReaderLaws.{reads-top}
 

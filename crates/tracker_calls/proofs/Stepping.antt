@@ -72,7 +72,7 @@ tried-put setup plan begun pass new handset held same left tried lost =
 pub own-tried : (setup : Setup) (begun tried : PassData) (handset : HandsetData) → HasTried begun tried
     → IsHandsetOf setup begun.view handset → IsHandsetOf setup tried.view handset
 own-tried setup begun tried handset lost its =
-    subst (λ (q : PassData). IsHandsetOf setup q.view handset) (sym lost.1) (record {
+    subst (λ (q : PassData). IsHandsetOf setup q.view handset) (sym lost.is) (record {
       goes = its.goes;
       sub = its.sub;
       steps = its.steps;

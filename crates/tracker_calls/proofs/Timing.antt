@@ -1,5 +1,5 @@
 -- Where a handset is in its move: until the commit its stage tells how many puts are made.
-use Rattle.std.proofs.Common.{◌≡◌, ℕ, suc, ◌-◌, ◌<◌, ◌==◌, Bool, true, false, true≢false, List, [], ◌∷◌, ◌++◌, Option, Some, None, length, refl, sym, ap, ◌∙◌, subst, arith, length-append}
+use Rattle.std.proofs.Common.{◌≡◌, ℕ, suc, ◌-◌, ◌<◌, ◌≤◌, ◌==◌, Bool, true, false, true≢false, List, [], ◌∷◌, ◌++◌, Option, Some, None, length, refl, sym, ap, ◌∙◌, subst, arith, length-append}
 use Rattle.std.specs.Prelude.{nat_lt, slice_index, if◌then◌else◌}
 use Rattle.std.proofs.lemmas.List.{get_or_append_left, get_or_push}
 use Rattle.std.proofs.lemmas.Bool.{ltb-false}
@@ -174,27 +174,51 @@ timed-as setting nodes move number handset made commit ticket next within busy t
     (timed-by setting nodes move number handset made commit ticket next timed.last handset.stage within busy
     timed.early timed.late)
 
--- until the number changes the put may be the commit, and no later one is
-pub timed-early : (setting : Setting) (nodes : ℕ) (move : Move) (number : ℕ) (handset : HandsetData) (made : List ℕ)
+-- the put whose number is one more is the commit
+pub timed-next : (setting : Setting) (nodes : ℕ) (move : Move) (number : ℕ) (handset : HandsetData) (made : List ℕ)
     (commit ticket : ℕ) → move.number ≡ suc number → IsMoveStage nodes handset.last handset.stage
-    → is_rest handset.stage ≡ false → handset.number ≡ number → IsTimed move number handset made commit
-    → IsTimed move number (after_write setting handset handset.stage) (made ++ ticket ∷ []) ticket
-timed-early setting nodes move number handset made commit ticket next within busy same timed =
+    → is_rest handset.stage ≡ false → IsTimed move number handset made commit → (commits : Bool)
+    → (after_write setting handset handset.stage).number ≡ (if commits then suc handset.number else handset.number)
+    → IsTimed move number (after_write setting handset handset.stage) (made ++ ticket ∷ [])
+    (if commits then ticket else commit)
+timed-next setting nodes move number handset made commit ticket next within busy timed =
     go (is_early handset.stage) refl
   where
-    go : (b : Bool) → is_early handset.stage ≡ b
-        → IsTimed move number (after_write setting handset handset.stage) (made ++ ticket ∷ []) ticket
-    go true is = timed-as setting nodes move number handset made commit ticket next within busy timed true is
-    go false is = absurd (omega (arith, same, (timed.late is).2))
+    after : HandsetData
+    after = after_write setting handset handset.stage
 
-pub timed-late : (setting : Setting) (nodes : ℕ) (move : Move) (number : ℕ) (handset : HandsetData) (made : List ℕ)
+    by : (b : Bool) → is_early handset.stage ≡ b
+        → IsTimed move number after (made ++ ticket ∷ []) (if b then ticket else commit)
+    by b is = timed-as setting nodes move number handset made commit ticket next within busy timed b is
+
+    low : (commit : ℕ) → IsTimed move number after (made ++ ticket ∷ []) commit → (b : Bool)
+        → is_early after.stage ≡ b → after.number ≤ suc number
+    low commit t true e = omega (arith, (t.early e).1)
+    low commit t false e = omega (arith, (t.late e).2)
+
+    go : (b : Bool) → is_early handset.stage ≡ b → (commits : Bool)
+        → after.number ≡ (if commits then suc handset.number else handset.number)
+        → IsTimed move number after (made ++ ticket ∷ []) (if commits then ticket else commit)
+    go true is true counted = by true is
+    go true is false counted =
+        let t = by true is in
+        record {
+          last = t.last;
+          early = t.early;
+          late = λ e. absurd (omega (arith, counted, (timed.early is).1, (t.late e).2));
+        }
+    go false is false counted = by false is
+    go false is true counted = absurd (omega (
+      arith,
+      counted,
+      (timed.late is).2,
+      low commit (by false is) (is_early after.stage) refl,
+    ))
+
+-- the first put
+pub timed-begun : (setting : Setting) (nodes : ℕ) (move : Move) (number : ℕ) (handset : HandsetData) (made : List ℕ)
     (commit ticket : ℕ) → move.number ≡ suc number → IsMoveStage nodes handset.last handset.stage
-    → is_rest handset.stage ≡ false → (handset.number ≡ number → ⊥) → IsTimed move number handset made commit
-    → IsTimed move number (after_write setting handset handset.stage) (made ++ ticket ∷ []) commit
-timed-late setting nodes move number handset made commit ticket next within busy other timed =
-    go (is_early handset.stage) refl
-  where
-    go : (b : Bool) → is_early handset.stage ≡ b
-        → IsTimed move number (after_write setting handset handset.stage) (made ++ ticket ∷ []) commit
-    go true is = absurd (other (timed.early is).1)
-    go false is = timed-as setting nodes move number handset made commit ticket next within busy timed false is
+    → is_rest handset.stage ≡ false → IsTimed move number handset made commit → is_early handset.stage ≡ true
+    → IsTimed move number (after_write setting handset handset.stage) (made ++ ticket ∷ []) ticket
+timed-begun setting nodes move number handset made commit ticket next within busy timed early =
+    timed-as setting nodes move number handset made commit ticket next within busy timed true early

@@ -53,8 +53,8 @@ seen-on setup pass new key ticket told visited handset its =
 tried-on : (setup : Setup) (pass tried : PassData) → HasTried pass tried → (handset : HandsetData)
     → IsHandsetOf setup pass.view handset → IsHandsetOf setup tried.view handset
 tried-on setup pass tried lost handset its =
-    subst (λ (q : PassData). IsHandsetOf setup q.view handset) (sym lost.1)
-    (handset-stays setup pass.view (record pass.view { turns = tried.view.turns; lost = tried.view.lost })
+    subst (λ (q : PassData). IsHandsetOf setup q.view handset) (sym lost.is)
+    (handset-stays setup pass.view (record pass.view { turns = tried.view.turns; lost = pass.view.lost ++ lost.turns })
     handset refl refl its)
 
 no-looks : (setting : Setting) (history : History) (actor : ℕ) (call : FindCall)
@@ -133,7 +133,7 @@ walked-on longer through fall setup begun call pass new walk moved key told at w
 pub walked-tried : (setup : Setup) (begun : PassData) (call : FindCall) (pass tried : PassData) (walk : WalkData)
     → HasTried pass tried → IsWalked setup begun call pass walk → IsWalked setup begun call tried walk
 walked-tried setup begun call pass tried walk lost at =
-    let seen : tried.view.seen ≡ pass.view.seen = ap (λ q. q.view.seen) lost.1 in
+    let seen : tried.view.seen ≡ pass.view.seen = ap (λ q. q.view.seen) lost.is in
     record {
       made = at.made;
       added = added-tried setup begun pass tried at.made lost at.added;
@@ -145,7 +145,7 @@ walked-tried setup begun call pass tried walk lost at =
       late = at.late;
       goes = at.goes;
       its = at.its;
-      room = omega (arith, at.room, ap (λ q. q.spare) lost.1);
+      room = omega (arith, at.room, ap (λ q. q.spare) lost.is);
     }
 
 -- a walk that has its answer has made its find

@@ -1,24 +1,33 @@
 -- A whole move so far, with the tickets that its answer tells.
-use Rattle.std.proofs.Common.{◌≡◌, ℕ, suc, ◌≤◌, true, false, None, Option, Some, [], ◌∷◌, ◌++◌, List, length, refl, sym, ap, ◌∙◌, subst, arith, length-append}
+use Rattle.std.proofs.Common.{◌≡◌, ℕ, suc, ◌+◌, ◌^◌, ◌≤◌, Bool, true, false, None, take, Option, Some, [], ◌∷◌, ◌++◌, List, length, refl, sym, ap, ◌∙◌, subst, arith, length-append}
+use Rattle.std.specs.List.{cons_option}
 use Rattle.std.specs.Option.{is_some}
+use Rattle.std.specs.Prelude.{if◌then◌else◌}
+use Rattle.std.proofs.lemmas.List.Elements.{filter_map-append}
 use Rattle.std.proofs.lemmas.List.{get_or_append_left}
 use Rattle.entry_word.specs.declared.visit.Visit.{Visit}
-use Rattle.directory.specs.Histories.{own}
+use Rattle.directory.specs.Histories.{own, puts_to}
+use Rattle.directory.specs.Puts.{mark_put, node_put}
+use Rattle.directory.specs.Standing.{Commit, commit_of}
+use Rattle.directory.specs.Writes.{visits}
 use Rattle.directory.specs.Looks.{first_of, last_of}
 use Rattle.handset.specs.Beginning.{begin_move, is_rest, journey_to}
-use Rattle.handset.specs.Kept.{HandsetData}
+use Rattle.handset.specs.Kept.{GoesWith, HandsetData}
 use Rattle.handset.specs.Progress.{due}
-use Rattle.region_plan.specs.Plan.{PlanData}
+use Rattle.handset.specs.Stands.{commits_in, is_commit}
+use Rattle.region_plan.specs.Plan.{PlanData, nodes_of}
 use Rattle.region_plan.specs.Settings.{setting_of}
+use Rattle.station.specs.Handsets.{IsHandsetOf}
 use Rattle.station.specs.Passes.{PassData, actor_of}
 use Rattle.station.specs.Setup.{Setup, nodes_in, setting_in}
+use Rattle.station.specs.declared.view.View.{View}
 use Rattle.tracker_calls.specs.Added.{HasTried}
 use Rattle.tracker_calls.specs.Moves.{HasStepped}
 use Rattle.tracker_calls.specs.WholeMoves.{HasMoved}
 use Rattle.tracker_calls.specs.declared.whole_moves.Moved.{Moved}
 use Rattle.tracker_calls.proofs.Adding.{last-push}
 use Rattle.tracker_calls.proofs.Moving.{HasPut, none-rests, put-all, put-more, put-room, put-tried, some-busy}
-use Rattle.tracker_calls.proofs.Timing.{IsTimed, is_early, timed-early, timed-first, timed-late}
+use Rattle.tracker_calls.proofs.Timing.{IsTimed, is_early, timed-begun, timed-first, timed-next}
 use Rattle.directory.specs.Statements.{BeginsWithFront, BeginsThrough}
 use Rattle.handset.specs.StageLaws.{rest-means}
 
@@ -32,25 +41,50 @@ pub record IsMoving (setup : Setup) (begun : PassData) (from : HandsetData) (to 
   pub last : times.last ≡ last_of made
   pub some : 1 ≤ length made
 
--- a put, with the ticket of the commit where the number is still the old one
+-- the number of a handset after a put
+number-next : (setup : Setup) (old new : PassData) (handset moved : HandsetData) (ticket : ℕ)
+    → (stepped : HasStepped setup old handset ticket new moved) → IsHandsetOf setup old.view handset
+    → moved.number ≡ (if is_commit stepped.visit.act then suc handset.number else handset.number)
+number-next setup old new handset moved ticket stepped its =
+    let goes = stepped.goes_on its in
+    let visit = stepped.visit in
+    let puts = puts_to (actor_of old) old.view.seen in
+    let before : handset.number ≡ length (commits_in puts) = shown setup old.view handset its in
+    let after : moved.number ≡ length (commits_in (puts ++ visit ∷ [])) = shown setup new.view moved goes.own
+    ∙ ap (λ l. length (commits_in l)) goes.puts in
+    counted (commit_of (node_put visit.act) (mark_put visit.act))
+    (after ∙ (ap length (filter_map-append (λ (v : Visit). commit_of (node_put v.act) (mark_put v.act)) puts
+    (visit ∷ []))
+    ∙ (length-append (commits_in puts) (commits_in (visit ∷ []))
+    ∙ ap (λ n. n + length (commits_in (visit ∷ []))) (sym before))))
+  where
+    shown : (setup : Setup) (view : View) (handset : HandsetData) → (its : IsHandsetOf setup view handset)
+        → handset.number ≡ length (commits_in (puts_to view.low view.seen))
+    shown setup view handset its = its.stands.shows.number
+        ∙ ap (λ l. length (commits_in l)) (ap (λ a. take (length (puts_to view.low view.seen))
+        (visits (setting_in setup) a its.steps)) its.sub ∙ sym its.made)
+
+    counted : (o : Option Commit) → moved.number ≡ handset.number + length (cons_option o [])
+        → moved.number ≡ (if is_some o then suc handset.number else handset.number)
+    counted None e = omega (arith, e)
+    counted (Some commit) e = omega (arith, e)
+
+-- a put, with the ticket of the commit
 timed-step : (setup : Setup) (begun : PassData) (from : HandsetData) (to commit : ℕ) (made : List ℕ)
     (tried new : PassData) (handset moved : HandsetData) (ticket : ℕ)
-    → HasPut setup begun from to made tried handset → HasStepped setup tried handset ticket new moved
+    → HasPut setup begun from to made tried handset → (stepped : HasStepped setup tried handset ticket new moved)
     → IsTimed (journey_to (setting_in setup) from to) from.number handset made commit
-    → (handset.number ≡ from.number
-    → IsTimed (journey_to (setting_in setup) from to) from.number moved (made ++ ticket ∷ []) ticket)
-    × ((handset.number ≡ from.number → ⊥)
-    → IsTimed (journey_to (setting_in setup) from to) from.number moved (made ++ ticket ∷ []) commit)
+    → IsTimed (journey_to (setting_in setup) from to) from.number moved (made ++ ticket ∷ [])
+    (if is_commit stepped.visit.act then ticket else commit)
 timed-step setup begun from to commit made tried new handset moved ticket at stepped timed =
     let move = journey_to (setting_in setup) from to in
-    let busy : is_rest handset.stage ≡ false = some-busy (setting_in setup) handset (ap is_some stepped.next) in (
-      λ same. subst (λ h. IsTimed move from.number h (made ++ ticket ∷ []) ticket) (sym stepped.made)
-          (timed-early (setting_in setup) (nodes_in setup) move from.number handset made commit ticket refl
-          at.its.goes.stage busy same timed),
-      λ other. subst (λ h. IsTimed move from.number h (made ++ ticket ∷ []) commit) (sym stepped.made)
-          (timed-late (setting_in setup) (nodes_in setup) move from.number handset made commit ticket refl
-          at.its.goes.stage busy other timed),
-    )
+    let busy : is_rest handset.stage ≡ false = some-busy (setting_in setup) handset (ap is_some stepped.next) in
+    let commits = is_commit stepped.visit.act in
+    subst (λ h. IsTimed move from.number h (made ++ ticket ∷ []) (if commits then ticket else commit))
+    (sym stepped.made)
+    (timed-next (setting_in setup) (nodes_in setup) move from.number handset made commit ticket refl
+    at.its.goes.stage busy timed commits (sym (ap (λ h. h.number) stepped.made)
+    ∙ number-next setup tried new handset moved ticket stepped at.its))
 
 -- the first put of a move
 pub moving-first : BeginsWithFront → BeginsThrough → (setup : Setup) (begun : PassData) (from : HandsetData) (to : ℕ)
@@ -61,13 +95,16 @@ pub moving-first : BeginsWithFront → BeginsThrough → (setup : Setup) (begun 
     (record { number = suc from.number; first = ticket; commit = ticket; last = ticket }) new moved
 moving-first longer through setup begun from to tried new handset moved ticket told lost none is stepped =
     let at = put-tried setup begun from to [] begun tried handset lost none in
+    let move = journey_to (setting_in setup) from to in
     record {
       made = ticket ∷ [];
       put = put-more longer through setup begun from to [] tried new handset moved ticket
           (at.added.same.setup ∙ told) at stepped;
-      timed = (timed-step setup begun from to 0 [] tried new handset moved ticket at stepped
-          (subst (λ h. IsTimed (journey_to (setting_in setup) from to) from.number h [] 0) (sym is)
-          (timed-first (setting_in setup) from to))).0 (ap (λ h. h.number) is);
+      timed = subst (λ h. IsTimed move from.number h (ticket ∷ []) ticket) (sym stepped.made)
+          (timed-begun (setting_in setup) (nodes_in setup) move from.number handset [] 0 ticket refl
+          at.its.goes.stage (some-busy (setting_in setup) handset (ap is_some stepped.next))
+          (subst (λ h. IsTimed move from.number h [] 0) (sym is) (timed-first (setting_in setup) from to))
+          (ap (λ h. is_early h.stage) is));
       number = refl;
       first = refl;
       last = refl;
@@ -79,11 +116,8 @@ pub moving-on : BeginsWithFront → BeginsThrough
     → (setup : Setup) (begun : PassData) (from : HandsetData) (to : ℕ) (times : Moved)
     (pass tried new : PassData) (handset moved : HandsetData) (ticket : ℕ) → begun.view.setup ≡ setup
     → HasTried pass tried → IsMoving setup begun from to times pass handset
-    → HasStepped setup tried handset ticket new moved
-    → (handset.number ≡ from.number
-    → IsMoving setup begun from to (record times { commit = ticket; last = ticket }) new moved)
-    × ((handset.number ≡ from.number → ⊥)
-    → IsMoving setup begun from to (record times { last = ticket }) new moved)
+    → (stepped : HasStepped setup tried handset ticket new moved) → IsMoving setup begun from to
+    (record times { commit = if is_commit stepped.visit.act then ticket else times.commit; last = ticket }) new moved
 moving-on longer through setup begun from to times pass tried new handset moved ticket told lost moving stepped =
     let made = moving.made in
     let at = put-tried setup begun from to made pass tried handset lost moving.put in
@@ -92,26 +126,34 @@ moving-on longer through setup begun from to times pass tried new handset moved 
     let timed = timed-step setup begun from to times.commit made tried new handset moved ticket at stepped
     moving.timed in
     let first = moving.first ∙ sym (get_or_append_left made (ticket ∷ []) 0 0 moving.some) in
-    let some : 1 ≤ length (made ++ ticket ∷ []) = omega (arith, length-append made (ticket ∷ [])) in (
-      λ same. record {
-        made = made ++ ticket ∷ [];
-        put = put;
-        timed = timed.0 same;
-        number = moving.number;
-        first = first;
-        last = sym (last-push made ticket);
-        some = some;
-      },
-      λ other. record {
-        made = made ++ ticket ∷ [];
-        put = put;
-        timed = timed.1 other;
-        number = moving.number;
-        first = first;
-        last = sym (last-push made ticket);
-        some = some;
-      },
-    )
+    let some : 1 ≤ length (made ++ ticket ∷ []) = omega (arith, length-append made (ticket ∷ [])) in
+    record {
+      made = made ++ ticket ∷ [];
+      put = put;
+      timed = timed;
+      number = moving.number;
+      first = first;
+      last = sym (last-push made ticket);
+      some = some;
+    }
+
+-- the same, by whether the code tells that the put commits
+pub moving-by : BeginsWithFront → BeginsThrough
+    → (setup : Setup) (begun : PassData) (from : HandsetData) (to : ℕ) (times : Moved)
+    (pass tried new : PassData) (handset moved : HandsetData) (ticket : ℕ) → begun.view.setup ≡ setup
+    → HasTried pass tried → (moving : IsMoving setup begun from to times pass handset)
+    → HasStepped setup tried handset ticket new moved → (commits : Bool) → nodes_in setup ≤ 2 ^ 16
+    → ((plan : PlanData) (visit : Visit) → nodes_of plan ≤ 2 ^ 16 → GoesWith plan handset
+    → due (setting_of plan []) handset ≡ Some visit → commits ≡ is_commit visit.act)
+    → IsMoving setup begun from to
+    (record times { commit = if commits then ticket else times.commit; last = ticket }) new moved
+moving-by longer through setup begun from to times pass tried new handset moved ticket told lost moving stepped
+    commits small tells =
+    let is : commits ≡ is_commit stepped.visit.act =
+    tells setup.plan stepped.visit small moving.put.its.goes stepped.next in
+    subst (λ (b : Bool). IsMoving setup begun from to
+    (record times { commit = if b then ticket else times.commit; last = ticket }) new moved) (sym is)
+    (moving-on longer through setup begun from to times pass tried new handset moved ticket told lost moving stepped)
 
 -- room for the next put
 pub moving-room : (setup : Setup) (begun : PassData) (from : HandsetData) (to : ℕ) (times : Moved) (pass : PassData)

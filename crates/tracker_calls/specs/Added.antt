@@ -7,16 +7,22 @@ use Rattle.handset.specs.Kept.{HandsetData}
 use Rattle.station.specs.Handsets.{IsHandsetOf}
 use Rattle.station.specs.Passes.{PassData, actor_of}
 use Rattle.station.specs.Setup.{Setup, setting_in, subs_in}
+use Rattle.station.specs.Turns.{LogsAll, events_of, losses, lost_in, won_in}
 use Rattle.station.specs.Visits.{IsSamePass}
 use Rattle.station.specs.declared.view.NodeTurn.{NodeTurn}
+use Rattle.station.specs.declared.view.TurnEvent.{TurnEvent}
 
--- the turns that a pass has lost go on from those that it had lost
-abbrev pub KeepsLost : PassData → PassData → Type 0
-KeepsLost old new = (more : List NodeTurn) × (new.view.lost ≡ old.view.lost ++ more)
+-- a pass has logged these events more, its own actor's, and has lost more turns: just those that
+-- they tell as lost
+pub record HasLoggedMore (old : PassData) (events : List TurnEvent) (new : PassData)
+    : Type 0 where
+  pub mine : events_of (actor_of old) events ≡ events
+  pub logs : LogsAll old.view.turns events new.view.turns
+  pub lost : new.view.lost ≡ old.view.lost ++ lost_in events
 
 -- the pass has made visits with these tickets, its next own ones: what it has seen goes on from
 -- what it had seen, and is legal where it made one; each has used one of its spare; it is in no
--- node; and the turns that it had lost stay lost
+-- node; and it has logged these events more, with as many turns won as it made visits
 pub record HasAdded (setup : Setup) (old : PassData) (made : List ℕ) (new : PassData) : Type 0 where
   pub begins : IsFront old.view.seen new.view.seen
   pub visits : tickets (actor_of old) new.view.seen
@@ -25,7 +31,9 @@ pub record HasAdded (setup : Setup) (old : PassData) (made : List ℕ) (new : Pa
       → IsLegal (setting_in setup) sub new.view.seen
   pub spare : new.spare + length made ≡ old.spare
   pub outside : new.view.inside ≡ None
-  pub lost : KeepsLost old new
+  pub events : List TurnEvent
+  pub logged : HasLoggedMore old events new
+  pub won : length (won_in events) ≡ length made
   pub same : IsSamePass old new
 
 -- a handset that went with the pass still goes with it
@@ -33,9 +41,10 @@ abbrev pub KeepsHandsets : Setup → PassData → PassData → Type 0
 KeepsHandsets setup old new = (handset : HandsetData) → IsHandsetOf setup old.view handset
     → IsHandsetOf setup new.view handset
 
--- the pass has lost more turns, which are logged, and nothing else has changed
-abbrev pub HasTried : PassData → PassData → Type 0
-HasTried old new =
-    KeepsLost old new × (new ≡ record old {
-      view = record old.view { turns = new.view.turns; lost = new.view.lost };
-    })
+-- the pass has lost these turns more, each is logged so, and nothing else has changed
+pub record HasTried (old new : PassData) : Type 0 where
+  pub turns : List NodeTurn
+  pub logs : LogsAll old.view.turns (losses (actor_of old) turns) new.view.turns
+  pub is : new ≡ record old {
+    view = record old.view { turns = new.view.turns; lost = old.view.lost ++ turns };
+  }

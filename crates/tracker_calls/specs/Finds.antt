@@ -15,7 +15,7 @@ use Rattle.station.specs.Visits.{HasLost, HasVisited}
 use Rattle.station.specs.declared.turns.Held.{Held}
 use Rattle.walk.specs.Walks.{IsWalkOver, WalkData, call_of, stage_of}
 use Rattle.tracker_calls.specs.Added.{HasAdded, KeepsHandsets}
-use Rattle.tracker_calls.specs.Answers.{TellsRightly}
+use Rattle.tracker_calls.specs.RightAnswers.{TellsRightly}
 use Rattle.tracker_calls.specs.declared.finds.FindFault.{FindFault}
 use Rattle.tracker_calls.specs.declared.finds.FindFault.TheVariants.{NoNode, NoSubscriber, Unreserved, Held as HeldBy}
 use Rattle.tracker_calls.specs.declared.finds.FindRefusal.{FindRefusal}

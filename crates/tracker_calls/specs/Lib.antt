@@ -2,4 +2,4 @@ pub mod Added
 pub mod Moves
 pub mod WholeMoves
 pub mod Finds
-pub mod Answers
+pub mod RightAnswers

@@ -102,10 +102,10 @@ fn look_when_free<R: Wait>(
         × HasLookedOn tracker.now.setup tried walk.old key pass.new walk.new }
 {
     'tries: for _ in rt.forever() {
-        if look_on(tracker, pass, plan, distances, walk, key).is_ok() {
-            break;
+        match look_on(tracker, pass, plan, distances, walk, key) {
+            Ok(()) => break,
+            Err(_) => yield_now(),
         }
-        yield_now();
     }
 }
 

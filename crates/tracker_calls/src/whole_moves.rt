@@ -12,7 +12,7 @@ ghost use Rattle.tracker_calls.specs.WholeMoves.{HasMoved, IsMoveToFault, MayMov
 use directory::{histories_begin, moves_are_short};
 use distances::Distances;
 use handset::Handset;
-use region_plan::Plan;
+use region_plan::{Plan, plan_is_sound};
 use station::{Pass, Tracker};
 use std::sync::Wait;
 use std::thread::yield_now;
@@ -69,6 +69,7 @@ pub fn move_to<R: Wait>(
 {
     histories_begin();
     moves_are_short();
+    plan_is_sound(plan);
     may_move_to(pass, plan, handset, to)?;
     let number = handset.number();
     let Ok(()) = handset.begin(plan, distances, to) else {
@@ -82,9 +83,9 @@ pub fn move_to<R: Wait>(
         last: first,
     };
     'puts: while handset.next(plan).is_some() {
-        let committed = handset.number() != number;
+        let commits = handset.commits();
         moved.last = put_when_free(rt, tracker, pass, plan, handset);
-        if !committed {
+        if commits {
             moved.commit = moved.last;
         }
     }

@@ -6,7 +6,7 @@ ghost use Rattle.std.specs.Prelude.{◌≡◌, ◌<◌};
 ghost use Rattle.region_plan.specs.Plan.{nodes_of};
 ghost use Rattle.tracker_tests.specs.Ready.{IsOver};
 
-use crate::steps::Seen;
+use crate::steps::{Seen, census};
 use distances::Distances;
 use handset::Handset;
 use region_plan::Plan;
@@ -42,20 +42,7 @@ pub fn census_between(
     ensures own { IsHandsetOf tracker.now.setup pass.new.view handset.now }
 {
     let _ = handset;
-    if node >= plan.nodes() || pass.spare() == 0 {
-        return Seen::Nothing;
-    }
-    match tracker.visit_census(pass, node) {
-        Ok(seen) => Seen::Census {
-            ticket: seen.ticket,
-            who: seen.who,
-            count: seen.count,
-        },
-        Err(held) => Seen::Held {
-            node: held.node,
-            by: held.by,
-        },
-    }
+    census(tracker, pass, plan, node)
 }
 
 // It finds itself from a node.

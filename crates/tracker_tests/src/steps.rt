@@ -4,6 +4,7 @@
 ghost use Rattle.std.specs.Prelude.{◌≡◌};
 ghost use Rattle.station.specs.Handsets.{IsHandsetOf};
 ghost use Rattle.station.specs.Passes.{IsFree};
+ghost use Rattle.tracker_calls.specs.Added.{KeepsHandsets};
 ghost use Rattle.tracker_tests.specs.Ready.{IsOver};
 
 use directory::Found;
@@ -239,10 +240,11 @@ pub fn look(
 }
 
 // A census of a node.
-fn census(tracker: &Tracker, pass: &mut Pass, plan: &Plan, node: u32) -> Seen
+pub fn census(tracker: &Tracker, pass: &mut Pass, plan: &Plan, node: u32) -> Seen
     requires plan { plan.now ≡ tracker.now.setup.plan }
     requires free { IsFree tracker.now 0 pass.old }
     ensures free { IsFree tracker.now 0 pass.new }
+    ensures keeps { KeepsHandsets tracker.now.setup pass.old pass.new }
 {
     if node >= plan.nodes() || pass.spare() == 0 {
         return Seen::Nothing;

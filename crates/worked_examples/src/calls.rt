@@ -1,27 +1,34 @@
 //! What whole finds over a tracker, and steps of moves, don't do, whether they end well or not:
 //! each is wrong in one part.
-ghost use Rattle.std.specs.Prelude.{◌≡◌, ◌++◌, [], ◌∷◌, ℕ, List, Some, None, suc, slice_get};
+ghost use Rattle.std.specs.Prelude.{◌≡◌, ◌<◌, ◌++◌, [], ◌∷◌, ℕ, List, Some, None, suc, slice_get};
+ghost use Rattle.atomic_table.specs.Table.{State};
 ghost use Rattle.directory.specs.Finds.{FindCall};
 ghost use Rattle.directory.specs.Histories.{History};
 ghost use Rattle.directory.specs.Standing.{number};
 ghost use Rattle.directory.specs.declared.answers.Found.{Found};
 ghost use Rattle.directory.specs.declared.answers.Found.TheVariants.{At, Off as OffAt, Again};
 ghost use Rattle.directory.specs.declared.answers.Why.TheVariants.{NoEntry};
+ghost use Rattle.entry_word.specs.declared.visit.Act.{Act};
 ghost use Rattle.handset.specs.Kept.{HandsetData};
 ghost use Rattle.handset.specs.Progress.{due};
 ghost use Rattle.handset.specs.declared.stage.Stage.TheVariants.{Coming};
 ghost use Rattle.region_plan.specs.Examples.{line_of_four};
 ghost use Rattle.region_plan.specs.Matched.{BoundsFinds};
-ghost use Rattle.station.specs.Passes.{PassData};
-ghost use Rattle.station.specs.Setup.{Setup, setting_in};
+ghost use Rattle.station.specs.Moments.{AreOthersOut, GoesThrough};
+ghost use Rattle.station.specs.Passes.{PassData, actor_of};
+ghost use Rattle.station.specs.Rule.{IsViewOf};
+ghost use Rattle.station.specs.Setup.{Setup, nodes_in, setting_in};
 ghost use Rattle.station.specs.Views.{turn_at};
 ghost use Rattle.station.specs.declared.turns.Held.{Held};
+ghost use Rattle.station.specs.declared.view.View.{View};
 ghost use Rattle.tracker_calls.specs.Added.{HasAdded, KeepsHandsets};
-ghost use Rattle.tracker_calls.specs.Answers.{TellsRightly};
+ghost use Rattle.tracker_calls.specs.RightAnswers.{TellsRightly};
 ghost use Rattle.tracker_calls.specs.Finds.{HasFound, HasStopped};
 ghost use Rattle.tracker_calls.specs.Moves.{HasStepped};
 ghost use Rattle.worked_examples.specs.Examples.{find_from};
 ghost use Rattle.worked_examples.specs.Passes.{HasPass, count_by, line_setup};
+
+use station::events_come_within_calls;
 
 /// Answers of a find from node 2 whose subscriber rests at node 3: of another node, number or
 /// state; none at all; beyond the bound; or older than what the pass had seen.
@@ -61,7 +68,8 @@ pub fn wrong_additions()
 {}
 
 /// A find that lost a turn has it as its last lost turn, at the node of its next look and to
-/// another actor; what it did before were its looks.
+/// another actor; what it did before were its looks. Just before one of its steps another pass was
+/// inside that node.
 pub fn wrong_stops()
     ensures told { (setup : Setup) (old new : PassData) (call : FindCall)
         → HasStopped setup old call (record { node = 2; by = 5 }) new
@@ -79,7 +87,16 @@ pub fn wrong_stops()
     ensures keeps { (setup : Setup) (old new : PassData) (call : FindCall) (held : Held)
         (stopped : HasStopped setup old call held new)
         → KeepsHandsets setup old stopped.between }
-{}
+    ensures alone { (setup : Setup) (old new : PassData) (call : FindCall) (count : ℕ)
+        (states : ℕ → State Act View)
+        → HasStopped setup old call (record { node = 2; by = 5 }) new
+        → GoesThrough setup old.seat count states
+        → IsViewOf (states 0).views old.seat old.view
+        → IsViewOf (states count).views old.seat new.view → 2 < nodes_in setup
+        → ((step : ℕ) → step < count → AreOthersOut (states step) (actor_of old) 2) → ⊥ }
+{
+    events_come_within_calls();
+}
 
 /// A find that has its answer has used as many visits as it made looks, is in no node, and each of
 /// its tickets is that of a look; it tells of them rightly, and keeps what handsets stand for.

@@ -1,8 +1,10 @@
-use Rattle.std.proofs.Common.{◌≡◌, ℕ, arith, sym, ◌∙◌, subst, []}
+use Rattle.std.proofs.Common.{◌≡◌, ◌≤◌, ◌^◌, ℕ, Bool, arith, sym, ◌∙◌, subst, []}
+use Rattle.std.specs.Prelude.{if◌then◌else◌}
 use Rattle.handset.specs.Beginning.{begin_move}
+use Rattle.region_plan.specs.Plan.{nodes_of}
 use Rattle.region_plan.specs.Settings.{setting_of}
 use Rattle.tracker_calls.proofs.Moving.{put-begun}
-use Rattle.tracker_calls.proofs.WholeMove.{IsMoving, moving-first, moving-on, moving-out, none-due}
+use Rattle.tracker_calls.proofs.WholeMove.{IsMoving, moving-by, moving-first, moving-out, none-due}
 use Rattle.tracker_calls.proofs.whole_moves.move_to.Goals as goal
 
 pub put_when_free-first-requires-clause-handset : goal.put_when_free-first-requires-clause-handset
@@ -32,24 +34,38 @@ puts-init g c =
           put.2);
     }
 
-pub puts-preserved-then-not-committed : goal.puts-preserved-then-not-committed
-puts-preserved-then-not-committed g c =
-    let put = c.put_when_free.ensures.put in record {
-      moving = (moving-on c.histories_begin.ensures.longer c.histories_begin.ensures.through c.args.tracker.now.setup
-          c.args.pass.now c.args.handset.now c.args.to c.puts.moved c.puts.pass put.0 c.put_when_free.new.pass
-          c.puts.handset c.put_when_free.new.handset c.put_when_free.result c.requires.of.setup put.1
-          c.puts.invariant.moving put.2).0
-          (omega (arith, c.number.ensures.kept, c.number-number.ensures.kept, c.if-not-committed.true));
+pub puts-preserved-then-commits : goal.puts-preserved-then-commits
+puts-preserved-then-commits g c =
+    let put = c.put_when_free.ensures.put in
+    let times = c.puts.moved in
+    let ticket = c.put_when_free.result in
+    let setup = c.args.tracker.now.setup in record {
+      moving = subst (λ (b : Bool). IsMoving setup c.args.pass.now c.args.handset.now c.args.to
+          (record times { commit = if b then ticket else times.commit; last = ticket }) c.put_when_free.new.pass
+          c.put_when_free.new.handset) c.if-commits.true
+          (moving-by c.histories_begin.ensures.longer c.histories_begin.ensures.through setup c.args.pass.now
+          c.args.handset.now c.args.to times c.puts.pass put.0 c.put_when_free.new.pass c.puts.handset
+          c.put_when_free.new.handset ticket c.requires.of.setup put.1 c.puts.invariant.moving put.2
+          c.commits-commits.result
+          (subst (λ p. nodes_of p ≤ 2 ^ 16) c.requires.plan (omega (arith, c.plan_is_sound.ensures.sound.metric.few)))
+          c.commits-commits.ensures);
     }
 
 pub puts-preserved : goal.puts-preserved
 puts-preserved g c =
-    let put = c.put_when_free.ensures.put in record {
-      moving = (moving-on c.histories_begin.ensures.longer c.histories_begin.ensures.through c.args.tracker.now.setup
-          c.args.pass.now c.args.handset.now c.args.to c.puts.moved c.puts.pass put.0 c.put_when_free.new.pass
-          c.puts.handset c.put_when_free.new.handset c.put_when_free.result c.requires.of.setup put.1
-          c.puts.invariant.moving put.2).1
-          (λ same. omega (arith, same, c.number.ensures.kept, c.number-number.ensures.kept, c.if-not-committed.false));
+    let put = c.put_when_free.ensures.put in
+    let times = c.puts.moved in
+    let ticket = c.put_when_free.result in
+    let setup = c.args.tracker.now.setup in record {
+      moving = subst (λ (b : Bool). IsMoving setup c.args.pass.now c.args.handset.now c.args.to
+          (record times { commit = if b then ticket else times.commit; last = ticket }) c.put_when_free.new.pass
+          c.put_when_free.new.handset) c.if-commits.false
+          (moving-by c.histories_begin.ensures.longer c.histories_begin.ensures.through setup c.args.pass.now
+          c.args.handset.now c.args.to times c.puts.pass put.0 c.put_when_free.new.pass c.puts.handset
+          c.put_when_free.new.handset ticket c.requires.of.setup put.1 c.puts.invariant.moving put.2
+          c.commits-commits.result
+          (subst (λ p. nodes_of p ≤ 2 ^ 16) c.requires.plan (omega (arith, c.plan_is_sound.ensures.sound.metric.few)))
+          c.commits-commits.ensures);
     }
 
 pub returns : goal.returns

@@ -38,7 +38,7 @@ returns-in-Ok g c =
             c.visit_put.new.handset) same
             (stepped setup plan c.tries.pass c.visit_put.new.pass handset c.visit_put.new.handset c.in-Ok.ticket
             c.requires.plan (next-visit setup plan handset (due (setting_of plan []) handset) c.requires.plan refl left)
-            (omega (arith, c.requires.spare, ap (λ q. q.spare) c.tries.invariant.tried.1)) made.0 made.1 made.2
+            (omega (arith, c.requires.spare, ap (λ q. q.spare) c.tries.invariant.tried.is)) made.0 made.1 made.2
             c.in-Ok.ensures.goes_on),
       );
     }

@@ -10,13 +10,13 @@ use Rattle.station.proofs.tracker.Tracker.list_here.Goals.{then-says_here, else-
 pub loop-sub-preserved : goal.loop-sub-preserved
 loop-sub-preserved c =
     let was = c.loop-sub.invariant in
-    let now = c.read_mark.ensures in
+    let now = c.read_cell.ensures in
     let sub = c.loop-sub.sub in
     let small : sub < 64 = omega (arith, c.loop-sub-test.true, c.self.invariant.few_subs) in
     let f : ℕ → Bool = λ s. says_here (mark_in (cell (setting_in c.args.self.now.setup) c.args.seat.now.me.0.seen
     (Presence c.args.node s))) in
     let told : c.says_here.result ≡ f sub = c.says_here.ensures
-    ∙ ap (λ w. says_here (mark_in w)) (now.word
+    ∙ ap (λ w. says_here (mark_in w)) (now.word (ap (λ m. m.0.unwritten) was.same ∙ c.requires.unwritten)
     ∙ ap (λ m. cell (setting_in c.args.self.now.setup) m.0.seen (Presence c.args.node sub)) was.same) in
     let bits : AreBits f c.if-says_here.who (sub + 1) = elim c.if-says_here.branch [
       | then-says_here w ↦ hit_bit f c.loop-sub.who c.if-says_here.who sub small (sym told

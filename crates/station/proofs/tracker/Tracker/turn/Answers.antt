@@ -1,4 +1,4 @@
-use Rattle.std.proofs.Common.{rules, arith, subst, sym, ap, ◌∙◌, ◌≡◌, ◌≢◌, suc, ℕ, ◌+◌, ◌-◌, ◌<◌, refl}
+use Rattle.std.proofs.Common.{rules, arith, subst, sym, ap, ◌∙◌, ◌≡◌, ◌≢◌, suc, ℕ, ◌-◌, ◌<◌, refl}
 use Rattle.station.specs.Plays.{view_held}
 use Rattle.station.specs.Setup.{nodes_in}
 use Rattle.station.specs.Turns.{Logs}
@@ -13,36 +13,37 @@ compare_exchange_with-found-requires c =
     let view = c.self.view_is in
     let known : c.args.node < nodes_in setup = search rules in (
       search rules,
-      omega (arith, c.self.invariant.words, known),
+      search rules,
       turns_at c.cell_numbers.ensures.apart setup _ _
-          c.args.node (c.args.node + 1) _ m c.args.act.now known (omega (arith, c.requires.low, c.requires.high))
-          (record { out = c.requires.outside; unwritten = c.requires.unwritten }) (omega arith) (omega
-          (arith, c.requires.low)),
+          c.args.node c.lock_place-place.result _ m c.args.act.now known
+          (omega (arith, c.requires.low, c.requires.high))
+          (record { out = c.requires.outside; unwritten = c.requires.unwritten })
+          c.lock_place-place.ensures.place (omega (arith, c.requires.low)),
     )
 
 pub returns-then-found-eq0-clause-turn : goal.returns-then-found-eq0-clause-turn
 returns-then-found-eq0-clause-turn c = ((c.compare_exchange_with-found.ensures.2 c.args.node c.args.act.now
-    (omega arith) refl).0 c.if-found-eq0.true).0
+    c.lock_place-place.ensures.place refl).0 c.if-found-eq0.true).0
 
 pub returns-then-found-eq0-clause-logs : goal.returns-then-found-eq0-clause-logs
 returns-then-found-eq0-clause-logs c =
     let log = c.compare_exchange_with-found.new.seat.me.0.turns in
     subst (λ (a : ℕ). Logs c.args.seat.now.me.0.turns (Won a c.args.node) log) c.requires.low
-    ((c.compare_exchange_with-found.ensures.2 c.args.node c.args.act.now (omega arith) refl).0
+    ((c.compare_exchange_with-found.ensures.2 c.args.node c.args.act.now c.lock_place-place.ensures.place refl).0
     c.if-found-eq0.true).1
 
 pub overflow_cast-result : goal.overflow_cast-result
 overflow_cast-result c = omega (
   arith,
   ((c.compare_exchange_with-found.ensures.2 c.args.node c.args.act.now
-      (omega arith) refl).1 c.if-found-eq0.false).2,
+      c.lock_place-place.ensures.place refl).1 c.if-found-eq0.false).2,
 )
 
 pub returns-clause-turn : goal.returns-clause-turn
 returns-clause-turn c =
     let found = c.compare_exchange_with-found.result in
     let t = (c.compare_exchange_with-found.ensures.2 c.args.node c.args.act.now
-    (omega arith) refl).1 c.if-found-eq0.false in
+    c.lock_place-place.ensures.place refl).1 c.if-found-eq0.false in
     let some : found ≡ suc (found - 1) = up found c.if-found-eq0.false in (
       refl,
       (λ e. t.1 (some ∙ ap suc (e ∙ sym c.requires.low))),
@@ -63,7 +64,7 @@ returns-clause-logs c =
     let log = c.compare_exchange_with-found.new.seat.me.0.turns in
     let old = c.args.seat.now.me.0 in
     let t = (c.compare_exchange_with-found.ensures.2 c.args.node c.args.act.now
-    (omega arith) refl).1 c.if-found-eq0.false in
+    c.lock_place-place.ensures.place refl).1 c.if-found-eq0.false in
     let some : found ≡ suc (found - 1) = up found c.if-found-eq0.false in
     subst (λ (k : ℕ). Logs old.turns (Lost c.args.actor c.args.node k) log) some
     (subst (λ (a : ℕ). Logs old.turns (Lost a c.args.node found) log) c.requires.low t.3)

@@ -1,8 +1,8 @@
-use Rattle.std.proofs.Common.{rules, arith, subst, sym, ap, ◌∙◌, ◌≡◌, ◌+◌, ◌<◌, length}
+use Rattle.std.proofs.Common.{rules, subst, sym, ap, ◌∙◌, ◌≡◌, length}
 use Rattle.atomic_table.specs.Table.{Allows, step}
 use mathlib.Core.Option.{none}
 use Rattle.directory.specs.Census.{census}
-use Rattle.station.specs.Setup.{nodes_in, setting_in}
+use Rattle.station.specs.Setup.{setting_in, tally_word}
 use Rattle.station.specs.Rule.{KeepsRule}
 use Rattle.station.specs.Plays.{Tallies}
 use Rattle.station.proofs.Writing.{tallies}
@@ -16,15 +16,14 @@ store-requires c =
     let told = c.self.view_is in
     let back = sym c.requires.setup in
     let e : m.0.setup ≡ c.self.inside.table.shared.key = c.requires.setup ∙ sym (ap (λ t. t.setup) told) in
-    let place = c.self.inside.nodes + node + 1 in
-    let slots = c.self.inside.table.shared.table_id.slots in
-    let known : node < nodes_in c.self.inside.table.shared.key = search rules in
-    let nodes : c.self.inside.nodes ≡ nodes_in m.0.setup = c.self.invariant.nodes_are ∙ ap nodes_in (sym e) in (
+    let place = c.tally_place-place.result in
+    let slots = c.self.inside.table.shared.table_id.slots in (
       search rules,
-      omega (arith, c.self.invariant.words, c.self.invariant.nodes_are, known),
+      search rules,
       subst (λ k. Allows (KeepsRule k) slots c.args.seat.now.id m place (λ _. tally) (λ _. Tallies
           (step slots place tally 0 none) m tally)) e
           (tallies c.cell_numbers.ensures.apart c.same_key_means.ensures _ _ node place tally m c.requires.turn
-          (omega (arith, nodes)) (c.requires.tally ∙ ap (λ s. length (census
+          (c.tally_place-place.ensures.place ∙ ap (λ s. tally_word s node) back)
+          (c.requires.tally ∙ ap (λ s. length (census
           (setting_in s) m.0.seen node)) back)),
     )

@@ -1,0 +1,105 @@
+-- Short laws of logs of turns that go on, for the crates above: the events of an actor, the turns
+-- that were lost and won, and events that come one after another.
+-- Key laws: `logs-append` (events come into a log one after another in two parts), `logs-at` (each
+-- of them stands in it, behind all that it had).
+use Rattle.std.proofs.Common.{◌≡◌, ℕ, ◌≤◌, ◌==◌, eq-eqb, cond, List, [], ◌∷◌, ◌++◌, length, refl, sym, ap, ◌∙◌, subst, arith, append_assoc, length-append}
+use Rattle.std.proofs.lemmas.List.{append-nil}
+use Rattle.std.proofs.lemmas.List.Elements.{filter-append}
+use Rattle.station.specs.Moments.{IsLoggedAt}
+use Rattle.station.specs.Turns.{Logs, LogsAll, event_actor, events_of, losses, lost_in, won_in}
+use Rattle.station.specs.Views.{turn_at}
+use Rattle.station.specs.declared.view.NodeTurn.{NodeTurn}
+use Rattle.station.specs.declared.view.TurnEvent.{TurnEvent}
+use Rattle.station.specs.declared.view.TurnEvent.TheVariants.{Won, GivenBack, Lost}
+
+-- the events of an actor in two parts of a log
+pub events-append : (actor : ℕ) (xs ys : List TurnEvent)
+    → events_of actor (xs ++ ys) ≡ events_of actor xs ++ events_of actor ys
+events-append actor xs ys = filter-append (λ (e : TurnEvent). event_actor e == actor) xs ys
+
+-- an actor's own event is the first of its events
+pub events-mine : (actor : ℕ) (event : TurnEvent) (later : List TurnEvent)
+    → event_actor event ≡ actor
+    → events_of actor (event ∷ later) ≡ event ∷ events_of actor later
+events-mine actor event later mine =
+    ap (λ b. cond b (event ∷ events_of actor later) (events_of actor later))
+    (eq-eqb (event_actor event) actor mine)
+
+-- the turns that are lost in two parts of a log
+pub lost-append : (xs ys : List TurnEvent) → lost_in (xs ++ ys) ≡ lost_in xs ++ lost_in ys
+lost-append [] ys = refl
+lost-append (Won actor node ∷ xs) ys = lost-append xs ys
+lost-append (GivenBack actor node ∷ xs) ys = lost-append xs ys
+lost-append (Lost actor node word ∷ xs) ys = ap (λ l. turn_at node word ∷ l) (lost-append xs ys)
+
+-- and those that are won
+pub won-append : (xs ys : List TurnEvent) → won_in (xs ++ ys) ≡ won_in xs ++ won_in ys
+won-append [] ys = refl
+won-append (Won actor node ∷ xs) ys = ap (λ l. node ∷ l) (won-append xs ys)
+won-append (GivenBack actor node ∷ xs) ys = won-append xs ys
+won-append (Lost actor node word ∷ xs) ys = won-append xs ys
+
+-- losses are the actor's own, they lose just those turns, and win none
+pub losses-mine : (actor : ℕ) (turns : List NodeTurn)
+    → events_of actor (losses actor turns) ≡ losses actor turns
+losses-mine actor [] = refl
+losses-mine actor (turn ∷ turns) =
+    events-mine actor (Lost actor turn.node turn.word) (losses actor turns) refl
+    ∙ ap (λ l. Lost actor turn.node turn.word ∷ l) (losses-mine actor turns)
+
+pub losses-lost : (actor : ℕ) (turns : List NodeTurn) → lost_in (losses actor turns) ≡ turns
+losses-lost actor [] = refl
+losses-lost actor (turn ∷ turns) = ap (λ l. turn ∷ l) (losses-lost actor turns)
+
+pub losses-won : (actor : ℕ) (turns : List NodeTurn) → won_in (losses actor turns) ≡ []
+losses-won actor [] = refl
+losses-won actor (turn ∷ turns) = losses-won actor turns
+
+-- events come into a log one after another in two parts
+pub logs-append : (first second third : List TurnEvent) (xs ys : List TurnEvent)
+    → LogsAll first xs second → LogsAll second ys third → LogsAll first (xs ++ ys) third
+logs-append first second third [] ys h g = subst (λ l. LogsAll l ys third) h g
+logs-append first second third (x ∷ xs) ys h g =
+    (h.0, h.1, logs-append h.0 second third xs ys h.2 g)
+
+-- events that come into a log leave it with what it had, and more
+logs-grow : (before : List TurnEvent) (events : List TurnEvent) (log : List TurnEvent)
+    → LogsAll before events log → (more : List TurnEvent) × (log ≡ before ++ more)
+logs-grow before [] log all = ([], all ∙ sym (append-nil before))
+logs-grow before (event ∷ later) log all =
+    let first = all.1 in
+    let rest = logs-grow all.0 later log all.2 in (
+      first.later ++ event ∷ rest.0,
+      rest.1 ∙ (ap (λ l. l ++ rest.0) first.goes_on
+          ∙ (append_assoc (before ++ first.later) (event ∷ []) rest.0
+          ∙ append_assoc before first.later (event ∷ rest.0))),
+    )
+
+-- where a log stands behind these when an event comes, it has the event then, and goes on
+logged-behind : (before : List TurnEvent) (event : TurnEvent) (inside : List TurnEvent)
+    (later : List TurnEvent) (log : List TurnEvent) → Logs before event inside
+    → LogsAll inside later log → (earlier : List TurnEvent) × (length before ≤ length earlier)
+    × IsLoggedAt earlier event log
+logged-behind before event inside later log first all =
+    let rest = logs-grow inside later log all in (
+      before ++ first.later,
+      omega (arith, length-append before first.later),
+      (
+        rest.0,
+        rest.1 ∙ (ap (λ l. l ++ rest.0) first.goes_on
+            ∙ append_assoc (before ++ first.later) (event ∷ []) rest.0),
+      ),
+    )
+
+-- each of the events that come into a log stands in it behind all that it had
+pub logs-at : (before front : List TurnEvent) (event : TurnEvent) (back log : List TurnEvent)
+    → LogsAll before (front ++ event ∷ back) log
+    → (earlier : List TurnEvent) × (length before ≤ length earlier) × IsLoggedAt earlier event log
+logs-at before [] event back log all = logged-behind before event all.0 back log all.1 all.2
+logs-at before (x ∷ front) event back log all =
+    let there = logs-at all.0 front event back log all.2 in
+    let longer = logs-grow before (x ∷ []) all.0 (all.0, all.1, refl) in (
+      there.0,
+      omega (arith, there.1, ap length longer.1, length-append before longer.0),
+      there.2,
+    )
