@@ -17,7 +17,7 @@ use Rattle.node_set.specs.Ascending.{has, IsAscending}
 use Rattle.node_set.specs.SetLaws.{below-has}
 use Rattle.cluster_tree.specs.Tree.{within}
 use Rattle.cluster_tree.specs.PlaceLaws.{beside_map, has_place, member_place}
-use Rattle.cluster_tree.specs.Inside.{IsAppended, AreWeightsWritten, HasNearer, ComesBy, AreJoined}
+use Rattle.cluster_tree.specs.Inside.{IsAppended, AreWeightsWritten, HasNearer, ComesBy, AreJoined, KeepDistances}
 use Rattle.cluster_tree.proofs.Growing.{sound_tree}
 
 -- ---- members one after another
@@ -63,7 +63,7 @@ all_joined network members listed leader row i past so_far =
 
 -- ---- lists of distances
 
-has_contained : (v : ℕ) (xs : List ℕ) → has v xs ≡ true → Contains xs v
+pub has_contained : (v : ℕ) (xs : List ℕ) → has v xs ≡ true → Contains xs v
 has_contained v xs h = let place = member_place v xs h
     in (place.0, place.1, get_or_default xs place.0 v 0 place.1 ∙ place.2)
 
@@ -73,7 +73,7 @@ members_below set nodes n room k d short =
     subst (λ v. has v set.members ≡ true) (get_or_default set.members k 0 d short) (has_place set.members k short) in
     omega (arith, below-has set.room (get_or set.members k d) set.members nodes.below member, room)
 
-walk_anywhere : (edges : List Edge) (inside : ℕ → Bool) (u : ℕ) (steps : List Step) (v : ℕ)
+pub walk_anywhere : (edges : List Edge) (inside : ℕ → Bool) (u : ℕ) (steps : List Step) (v : ℕ)
     → IsWalk edges inside u steps v
     → IsWalk edges everywhere u steps v
 walk_anywhere edges inside u [] v walk = (refl, walk.1)
@@ -105,27 +105,27 @@ module _ (network : Network) (set : Nodes) (nodes : AreNodes set) (room : set.ro
         (join_turned network.edges v by.node by.weight by.joined))
   ]
 
-  least_inside : (v : ℕ) → has v set.members ≡ true
-      → IsLeastWeight network.edges (within set.members) leader v (slice_index row v)
-  least_inside v member = record {
+  pub joined_keep : KeepDistances network set.members leader row
+  joined_keep v member = record {
     attained = reached (slice_index row v + 1) v member (omega arith);
     least = λ steps walk. (distances.each v (member_below v member)).least steps
         (walk_anywhere network.edges (within set.members) leader steps v walk);
   }
 
-  pub distances_inside : (old new : List ℕ) → new ≡ old ++ map (slice_index row) set.members
-      → IsAppended network set.members leader old new
-  distances_inside old new is = record {
-    weights = map (slice_index row) set.members;
-    appended = is;
-    count = length-map set.members (slice_index row);
-    tree = record {
-      leader_is = refl;
-      members_are = refl;
-      each = λ v member. subst (λ w. IsLeastWeight network.edges (within set.members) leader v w)
-          (sym (beside_map (slice_index row) v set.members member)) (least_inside v member);
-    };
-  }
+pub distances_inside : (network : Network) (members : List ℕ) (leader : ℕ) (row old new : List ℕ)
+    → KeepDistances network members leader row → new ≡ old ++ map (slice_index row) members
+    → IsAppended network members leader old new
+distances_inside network members leader row old new keep is = record {
+  weights = map (slice_index row) members;
+  appended = is;
+  count = length-map members (slice_index row);
+  tree = record {
+    leader_is = refl;
+    members_are = refl;
+    each = λ v member. subst (λ w. IsLeastWeight network.edges (within members) leader v w)
+        (sym (beside_map (slice_index row) v members member)) (keep v member);
+  };
+}
 
 -- what is written, and its greatest weight
 pub is_written : (network : Network) (members : List ℕ) (leader : ℕ) (old new : List ℕ) (start depth : ℕ)

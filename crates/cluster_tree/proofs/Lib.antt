@@ -2,3 +2,4 @@ mod Places
 mod Gathering
 mod Growing
 mod Joining
+mod Rounding

@@ -1,13 +1,13 @@
 -- The weights inside a cluster, written after others in one flat list.
 -- Key law: `inside_weights`, by its clauses `written` and `kept`.
-use Rattle.std.specs.Prelude.{◌≡◌, ◌≢◌, ℕ, ◌+◌, ◌≤◌, true, List, ◌++◌, length, Contains}
+use Rattle.std.specs.Prelude.{◌≡◌, ◌≢◌, ℕ, suc, ◌+◌, ◌<◌, ◌≤◌, true, List, ◌++◌, length, Contains, nat_lt}
 use Rattle.std.specs.Prelude.{slice_index}
 use Rattle.net_graph.specs.declared.neighbours.Arc.{Arc}
 use Rattle.net_graph.specs.Layout.{make_arc}
-use Rattle.net_graph.specs.Walks.{Joins}
+use Rattle.net_graph.specs.Walks.{Joins, IsLeastWeight}
 use Rattle.net_graph.specs.Network.{Network}
-use Rattle.node_set.specs.Ascending.{has}
-use Rattle.cluster_tree.specs.Tree.{WeighedCluster, IsTreeOf, IsSoundTree}
+use Rattle.node_set.specs.Ascending.{has, sift}
+use Rattle.cluster_tree.specs.Tree.{WeighedCluster, IsTreeOf, IsSoundTree, within}
 
 -- the cluster of these members with these weights
 abbrev pub make_cluster : ℕ → List ℕ → List ℕ → WeighedCluster
@@ -34,6 +34,21 @@ pub record AreWeightsWritten (network : Network) (members : List ℕ) (leader : 
   pub appended : new ≡ old ++ weights
   pub tree : IsTreeOf network members leader (make_cluster leader members weights)
   pub sound : IsSoundTree (make_cluster leader members weights) depth
+
+-- the least weights inside, from the leader to each member, are the distances that the row has
+abbrev pub KeepDistances : Network → List ℕ → ℕ → List ℕ → Type 0
+KeepDistances network members leader row = (v : ℕ) → has v members ≡ true
+    → IsLeastWeight network.edges (within members) leader v (slice_index row v)
+
+-- the members are all nodes that are no farther than one of them, by a row of distances
+abbrev pub IsRound : List ℕ → List ℕ → Type 0
+IsRound members row = (u v : ℕ) → u < length row → has v members ≡ true
+    → slice_index row u ≤ slice_index row v → has u members ≡ true
+
+-- how many nodes are so far or nearer, by a row of distances
+abbrev pub count_within : List ℕ → ℕ → ℕ
+count_within row far =
+    length (sift (λ v. nat_lt (slice_index row v) (suc far)) 0 (length row))
 
 -- an arc leads to a member that is nearer by just the arc's weight; the row has the distances from
 -- the leader

@@ -8,9 +8,10 @@ ghost use Rattle.node_set.specs.Ascending.{IsAscending, has};
 ghost use Rattle.node_set.specs.Nodes.{AreNodes};
 ghost use Rattle.cluster_tree.specs.Faults.{IsTreeFault};
 ghost use Rattle.cluster_tree.specs.Inside.{AreJoined, HasNearer, IsAppended, AreWeightsWritten};
-ghost use Rattle.cluster_tree.specs.Inside.{StandBefore};
+ghost use Rattle.cluster_tree.specs.Inside.{KeepDistances, StandBefore};
 
 use crate::fault::TreeFault;
+use crate::round::is_round;
 use crate::weighing::{flags_of, weigh};
 use net_graph::{Arc, Graph, OutOfMemory, greatest_weight};
 use node_set::NodeSet;
@@ -22,8 +23,9 @@ use std::alloc::Global;
 /// from the leader. After an error the old weights stand, and some weights of this cluster may
 /// stand after them.
 ///
-/// A search is needed only where some member has no arc from a member that is nearer to the leader
-/// by just the arc's weight: else the weights inside are the distances.
+/// The weights inside are the distances where the cluster has each node that is no farther from
+/// the leader than its farthest member, as a ball has, and where each member has an arc from a
+/// member that is nearer to the leader by just the arc's weight. Only else is there a search.
 pub fn inside_weights(
     alloc: Global,
     graph: &Graph,
@@ -47,7 +49,7 @@ pub fn inside_weights(
     Ok(greatest_weight(&weights[start..]))
 }
 
-// Appends the weight of each member: its distance, where the members are joined to nearer ones.
+// Appends the weight of each member: its distance, where the cluster keeps distances.
 fn push_inside(
     alloc: Global,
     graph: &Graph,
@@ -68,7 +70,7 @@ fn push_inside(
     ensures kept { OnErr result (StandBefore weights.old.items weights.new.items) }
 {
     members_ascend(cluster);
-    if are_joined(graph, row, cluster, members, leader) {
+    if keeps_distances(graph, row, cluster, members, leader) {
         push_distances(row, members, weights)?;
         return Ok(());
     }
@@ -80,6 +82,26 @@ fn members_ascend(cluster: &NodeSet)
     ensures { AreNodes cluster.now }
 {
     cluster.room();
+}
+
+// Whether the weights inside are known to be the distances.
+fn keeps_distances(
+    graph: &Graph,
+    row: &[u32],
+    cluster: &NodeSet,
+    members: &[u32],
+    leader: u32,
+) -> bool
+    requires room { cluster.now.room ≡ graph.now.nodes }
+    requires members { members.now ≡ cluster.now.members }
+    requires sound { AreNodes cluster.now }
+    requires leader { IsTrue (has leader cluster.now.members) }
+    requires row { AreDistancesFrom graph.now leader row.now }
+    ensures { result ≡ true → KeepDistances graph.now cluster.now.members leader row.now }
+{
+    // The call tells the proof that edges join nodes of the network.
+    let _nodes = graph.nodes();
+    is_round(row, members) || are_joined(graph, row, cluster, members, leader)
 }
 
 // Whether each member but the leader has an arc from a member that is nearer to the leader by just

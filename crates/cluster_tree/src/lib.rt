@@ -3,6 +3,7 @@
 
 mod fault;
 mod inside;
+mod round;
 mod tree;
 mod weighing;
 

@@ -1,0 +1,30 @@
+use Rattle.std.proofs.Common.{ℕ, List, refl, subst}
+use Rattle.cluster_tree.specs.Inside.{AreJoined, IsRound}
+use Rattle.cluster_tree.proofs.Joining.{members_below, joined_keep}
+use Rattle.cluster_tree.proofs.Rounding.{round_keeps}
+use Rattle.cluster_tree.proofs.inside.keeps_distances.Goals as goal
+
+pub is_round-requires-clause-members : goal.is_round-requires-clause-members
+is_round-requires-clause-members c =
+    rw (c.requires.members, c.requires.row.count)
+    (members_below c.args.cluster.now c.requires.sound c.args.graph.now.nodes c.requires.room)
+
+pub are_joined-requires-clause-members : goal.are_joined-requires-clause-members
+are_joined-requires-clause-members c =
+    rw c.requires.members
+    (members_below c.args.cluster.now c.requires.sound c.args.graph.now.nodes c.requires.room)
+
+pub returns-then-is_round : goal.returns-then-is_round
+returns-then-is_round c = λ _.
+    round_keeps c.args.graph.now c.nodes-nodes.ensures.sound c.args.cluster.now.members c.args.leader c.requires.leader
+    c.args.row.now c.requires.row
+    (subst (λ (xs : List ℕ). IsRound xs c.args.row.now) c.requires.members (c.if-is_round.ensures refl))
+    (rw c.requires.row.count
+    (members_below c.args.cluster.now c.requires.sound c.args.graph.now.nodes c.requires.room))
+
+pub returns-else-is_round : goal.returns-else-is_round
+returns-else-is_round c = λ same.
+    joined_keep c.args.graph.now c.args.cluster.now c.requires.sound c.requires.room c.args.leader
+    c.requires.leader c.args.row.now c.requires.row
+    (subst (λ (xs : List ℕ). AreJoined c.args.graph.now c.args.cluster.now.members xs c.args.leader c.args.row.now)
+    c.requires.members (c.are_joined.ensures same))

@@ -1,0 +1,30 @@
+use Rattle.std.proofs.Common.{◌∙◌, ◌≡◌, ◌+◌, ap, arith, length, sym, suc, slice_index, subst}
+use Rattle.std.specs.Prelude.{nat_lt}
+use Rattle.node_set.specs.Ascending.{sift}
+use Rattle.cluster_tree.proofs.Rounding.{within_takes, within_skips}
+use Rattle.cluster_tree.proofs.round.count_within.Goals as goal
+use Rattle.cluster_tree.proofs.round.count_within.Goals.{then-distance-far, else-distance-far}
+
+pub overflow_add-count : goal.overflow_add-count
+overflow_add-count c = omega (arith, c.loop-distance.invariant.0, c.loop-distance-test.true, c.requires)
+
+pub loop-distance-preserved : goal.loop-distance-preserved
+loop-distance-preserved c = elim c.if-distance-far.branch [
+  | then-distance-far w ↦ (
+    omega (arith, c.loop-distance.invariant.0, w.count-is),
+    w.count-is ∙ ap (λ n. n + 1) c.loop-distance.invariant.1
+        ∙ sym (within_takes c.args.row.now c.args.far c.loop-distance.distance-index w.if-distance-far.true),
+  )
+  | else-distance-far w ↦ (
+    omega (arith, c.loop-distance.invariant.0, w.count-is),
+    w.count-is ∙ c.loop-distance.invariant.1
+        ∙ sym (within_skips c.args.row.now c.args.far c.loop-distance.distance-index
+        (omega (arith, w.if-distance-far.false))),
+  )
+]
+
+pub returns : goal.returns
+returns c =
+    subst (λ i. c.loop-distance.count ≡ length (sift (λ v. nat_lt (slice_index c.args.row.now v)
+    (suc c.args.far)) 0 i)) (omega (arith, c.loop-distance-test.false, c.loop-distance.auto))
+    c.loop-distance.invariant.1
