@@ -13,8 +13,8 @@ ghost use Rattle.cluster_tree.specs.Inside.{KeepDistances, StandBefore};
 use crate::fault::TreeFault;
 use crate::round::is_round;
 use crate::weighing::{flags_of, weigh};
-use net_graph::{Arc, Graph, OutOfMemory, greatest_weight};
-use node_set::NodeSet;
+use net_graph::{Arc, Graph, OutOfMemory, graph_is_sound, greatest_weight};
+use node_set::{NodeSet, set_is_sound};
 use std::alloc::Global;
 
 /// Appends to `weights` the weight inside a cluster from its leader to each member, in the order of
@@ -69,19 +69,12 @@ fn push_inside(
     ensures fault { IfErr result (IsTreeFault graph.now members.now leader) }
     ensures kept { OnErr result (StandBefore weights.old.items weights.new.items) }
 {
-    members_ascend(cluster);
+    set_is_sound(cluster);
     if keeps_distances(graph, row, cluster, members, leader) {
         push_distances(row, members, weights)?;
         return Ok(());
     }
     push_found(alloc, graph, cluster, leader, weights)
-}
-
-// The members of a set ascend, and lie below its room.
-fn members_ascend(cluster: &NodeSet)
-    ensures { AreNodes cluster.now }
-{
-    cluster.room();
 }
 
 // Whether the weights inside are known to be the distances.
@@ -99,8 +92,7 @@ fn keeps_distances(
     requires row { AreDistancesFrom graph.now leader row.now }
     ensures { result ≡ true → KeepDistances graph.now cluster.now.members leader row.now }
 {
-    // The call tells the proof that edges join nodes of the network.
-    let _nodes = graph.nodes();
+    graph_is_sound(graph);
     is_round(row, members) || are_joined(graph, row, cluster, members, leader)
 }
 

@@ -10,7 +10,7 @@ ghost use Rattle.node_set.specs.Turned.{AreTurned};
 
 use crate::cover::{Cluster, Cover};
 use crate::growing::grow;
-use node_set::{NodeSet, OutOfMemory, Workspace, set_homes};
+use node_set::{NodeSet, OutOfMemory, Workspace, set_homes, set_is_sound};
 use std::alloc::Global;
 
 // Adds the cluster that `first` leads.
@@ -91,8 +91,8 @@ pub fn make_phase(
     ensures sized { OnOk result (IsWorkspace (length balls.now) work.new) }
     ensures home_count { OnOk result (length cover.new.home.items ≡ length balls.now) }
 {
-    // The call tells the proof that no more balls are left than there are.
-    let _room = work.left.room();
+    // No more balls are left than there are.
+    set_is_sound(&work.left);
     work.waiting.assign(&work.left);
     let r = work.left.count();
     let mut from = 0;

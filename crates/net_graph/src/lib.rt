@@ -16,7 +16,7 @@ mod weights;
 
 pub use edge::{Edge, MAX_NODES, MAX_WEIGHT};
 pub use fault::{GraphFault, OutOfMemory};
-pub use graph::Graph;
+pub use graph::{Graph, graph_is_sound};
 pub use laws::{
     all_allowed_is_everywhere, least_weight_is_bounded, least_weight_is_found, least_weight_is_one,
     least_weight_is_positive, least_weight_is_reached, least_weight_of_a_step,

@@ -13,6 +13,6 @@ mod workspace;
 
 pub use lanes::{lanes_absorb, lanes_meet};
 pub use marks::{absorb_balls, fill_all, set_homes, touch};
-pub use set::{NodeSet, OutOfMemory};
+pub use set::{NodeSet, OutOfMemory, set_is_sound};
 pub use turning::{balls_are_inside, rows_of};
 pub use workspace::{Growth, Workspace, empty_set};

@@ -6,7 +6,7 @@ ghost use Rattle.node_set.specs.Ascending.{has, IsAscending};
 ghost use Rattle.node_set.specs.Nodes.{AreNodes, Nodes};
 ghost use Rattle.node_set.specs.Balls.{centres as all_centres, union_of, sets};
 
-use crate::set::NodeSet;
+use crate::set::{NodeSet, set_is_sound};
 
 /// Makes the set that of all balls.
 pub fn fill_all(set: &mut NodeSet)
@@ -25,8 +25,8 @@ pub fn set_homes(taken: &NodeSet, number: u32, home: &mut [u32])
     ensures { (v : ℕ) → v < length home.old
         → slice_index home.new v ≡ cond (has v taken.now.members) number (slice_index home.old v) }
 {
-    // The call tells the proof that numbers of balls are small.
-    let _room = taken.room();
+    // Numbers of balls are small.
+    set_is_sound(taken);
     let mut from = 0;
     'ball: while let Some(v) = taken.next_from(from) {
         home[v as usize] = number;
@@ -43,8 +43,7 @@ pub fn absorb_balls(balls: &[NodeSet], centres: &NodeSet, nodes: &mut NodeSet)
     ensures members { (x : ℕ) → has x nodes.new.members
         ≡ (has x (union_of (sets balls.now) centres.now.members) || has x nodes.old.members) }
 {
-    // The call tells the proof that the centres ascend.
-    let _room = centres.room();
+    set_is_sound(centres);
     let mut from = 0;
     'ball: while let Some(v) = centres.next_from(from) {
         nodes.absorb(&balls[v as usize]);
@@ -64,9 +63,8 @@ pub fn touch(rows: &[NodeSet], waiting: &NodeSet, nodes: &NodeSet, touched: &mut
     ensures members { touched.new.members
         ≡ filter (λ v. has v (union_of (sets rows.now) nodes.now.members)) waiting.now.members }
 {
-    // The calls tell the proof that nodes and balls ascend, and are below their number.
-    let _balls = waiting.room();
-    let _nodes = nodes.room();
+    set_is_sound(waiting);
+    set_is_sound(nodes);
     touched.clear();
     absorb_balls(rows, nodes, touched);
     touched.keep(waiting);

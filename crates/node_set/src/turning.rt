@@ -6,7 +6,7 @@ ghost use Rattle.node_set.specs.Nodes.{Nodes};
 ghost use Rattle.node_set.specs.Balls.{AreInside, ball, sets};
 ghost use Rattle.node_set.specs.Turned.{AreTurned};
 
-use crate::set::{NodeSet, OutOfMemory};
+use crate::set::{NodeSet, OutOfMemory, set_is_sound};
 use std::alloc::Global;
 
 // The centres of the balls that have the node.
@@ -50,8 +50,7 @@ pub fn balls_are_inside(balls: &[NodeSet])
     requires { All (λ (b : Nodes). b.room ≡ length balls.now) balls.now }
     ensures { AreInside (sets balls.now) }
 {
-    // The calls tell the proof that the nodes of a set are below its room.
     for u in 0..balls.len() {
-        let _room = balls[u].room();
+        set_is_sound(&balls[u]);
     }
 }

@@ -8,7 +8,7 @@ ghost use Rattle.region_plan.specs.Regions.{balls_of};
 ghost use Rattle.region_plan.specs.Meanings.{IsTop};
 ghost use Rattle.region_plan.specs.Spread.{AreExponents};
 
-use distances::Distances;
+use distances::{Distances, distances_are_sound};
 use net_graph::OutOfMemory;
 use node_set::NodeSet;
 use std::alloc::Global;
@@ -19,8 +19,8 @@ pub fn top_for(distances: &Distances) -> u32
     ensures few { result ≤ 30 }
     ensures metric { IsMetric distances.now }
 {
-    // The call tells the proof that distances are bounded.
-    let _nodes = distances.nodes();
+    // Distances are bounded.
+    distances_are_sound(distances);
     least_exponent(distances.diameter())
 }
 

@@ -15,9 +15,9 @@ ghost use Rattle.region_plan.specs.Flat.{IsWholeAlone};
 
 use cluster_tree::{TreeFault, inside_weights};
 use coarse_cover::Cluster;
-use distances::Distances;
+use distances::{Distances, distances_are_sound};
 use net_graph::{Graph, OutOfMemory, greatest_weight};
-use node_set::{NodeSet, Workspace};
+use node_set::{NodeSet, Workspace, set_is_sound};
 use std::alloc::{AllocError, Global};
 use std::marker::Model;
 
@@ -137,8 +137,7 @@ impl Clusters {
     pub fn whole(alloc: Global, distances: &Distances) -> Result<Clusters, OutOfMemory>
         ensures { IfOk result (IsWholeAlone distances.now) }
     {
-        // The call tells the proof that distances are a metric.
-        let _nodes = distances.nodes();
+        distances_are_sound(distances);
         let members = distances.ball(alloc, 0, distances.diameter())?;
         let mut nodes = Vec::with_capacity(alloc, members.count() as usize)?;
         push_members(&members, &mut nodes)?;
@@ -260,8 +259,8 @@ fn push_members(set: &NodeSet, list: &mut Vec<u32>) -> Result<(), OutOfMemory>
     ensures sound { AreNodes set.now }
     ensures pushed { OnOk result (list.new.items ≡ list.old.items ++ set.now.members) }
 {
-    // The call tells the proof that the numbers ascend.
-    let _room = set.room();
+    // The numbers ascend.
+    set_is_sound(set);
     let mut from = 0;
     'member: while let Some(v) = set.next_from(from) {
         list.push(v)?;

@@ -27,7 +27,7 @@ use crate::laws::{covered_plan_means, mean_plan_is_small, plan_is_sparse};
 use crate::sharing::Levels;
 use crate::spread::Spread;
 use distances::{Distances, distances_are_one};
-use net_graph::{Graph, OutOfMemory, least_weight_is_one};
+use net_graph::{Graph, OutOfMemory, graph_is_sound, least_weight_is_one};
 use node_set::Workspace;
 use std::alloc::Global;
 use std::marker::Model;
@@ -122,9 +122,7 @@ impl Plan {
         ensures bounding { IfOk result BoundsFinds }
         ensures sparse { IfOk result HasFewReaders }
     {
-        // The calls tell the proof that the network is connected and within the limits, and what
-        // covers keep.
-        let _nodes = graph.nodes();
+        graph_is_sound(graph);
         plan_is_sparse();
         Ok(Plan::build_by(alloc, graph, distances, Covering::Phased(k))?)
     }
@@ -146,8 +144,7 @@ impl Plan {
         ensures bounding { IfOk result BoundsFinds }
         ensures small_sum { IfOk result HasSmallSum }
     {
-        // The calls tell the proof the same.
-        let _nodes = graph.nodes();
+        graph_is_sound(graph);
         mean_plan_is_small();
         Ok(Plan::build_by(alloc, graph, distances, Covering::Mean(k))?)
     }

@@ -16,7 +16,7 @@ are_joined-requires-clause-members c =
 
 pub returns-then-is_round : goal.returns-then-is_round
 returns-then-is_round c = λ _.
-    round_keeps c.args.graph.now c.nodes-nodes.ensures.sound c.args.cluster.now.members c.args.leader c.requires.leader
+    round_keeps c.args.graph.now c.graph_is_sound.ensures c.args.cluster.now.members c.args.leader c.requires.leader
     c.args.row.now c.requires.row
     (subst (λ (xs : List ℕ). IsRound xs c.args.row.now) c.requires.members (c.if-is_round.ensures refl))
     (rw c.requires.row.count

@@ -34,8 +34,8 @@ first-init c =
       small = omega (
         arith,
         c.count-r.ensures,
-        members_few c.args.work.now.left c.room-room.ensures.sound,
-        c.room-room.ensures.sound.small,
+        members_few c.args.work.now.left c.set_is_sound.ensures,
+        c.set_is_sound.ensures.small,
       );
     }
 

@@ -33,4 +33,4 @@ pub returns-clause-members : goal.returns-clause-members
 returns-clause-members c = λ x.
     c.ball.invariant.so_far x
     ∙ ap (λ l. has x (union_of (sets c.args.balls.now) l) || has x c.args.nodes.now.members)
-    (none_left c.args.centres.now.members c.ball.from c.room-room.ensures.sound.ascending c.in_default.ensures.none)
+    (none_left c.args.centres.now.members c.ball.from c.set_is_sound.ensures.ascending c.in_default.ensures.none)

@@ -22,4 +22,4 @@ returns-clause-members c =
     c.keep.ensures.members
     ∙ ap (filter (λ v. has v c.args.waiting.now.members)) reached
     ∙ same_filter (union_of (sets c.args.rows.now) c.args.nodes.now.members) c.args.waiting.now.members
-    (ascending-union_of (sets c.args.rows.now) c.args.nodes.now.members) c.room-balls.ensures.sound.ascending
+    (ascending-union_of (sets c.args.rows.now) c.args.nodes.now.members) c.set_is_sound.ensures.ascending

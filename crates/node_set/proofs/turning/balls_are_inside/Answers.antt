@@ -25,9 +25,8 @@ loop-u-preserved c = λ v x below h. elim (cases_lt v c.loop-u.u) [
       omega (
         arith,
         room,
-        below-has c.index-balls-u.result.room x c.index-balls-u.result.members c.room-room.ensures.sound.below
+        below-has c.index-balls-u.result.room x c.index-balls-u.result.members c.set_is_sound.ensures.below
             (ap (has x) (sym at) ∙ ap (λ u. has x (ball (sets c.args.balls.now) u)) (sym same) ∙ h),
-        c.room-room.ensures.value,
       )
 ]
 

@@ -16,4 +16,4 @@ pub returns-clause-pushed : goal.returns-clause-pushed
 returns-clause-pushed c =
     c.member.invariant
     ∙ ap (λ (xs : List ℕ). c.args.list.now.items ++ xs)
-    (none_left c.args.set.now.members c.member.from c.room-room.ensures.sound.ascending c.in_default.ensures.none)
+    (none_left c.args.set.now.members c.member.from c.set_is_sound.ensures.ascending c.in_default.ensures.none)

@@ -24,7 +24,7 @@ invariant_of-result c =
     subst (λ (xs : List ℕ). 0 < length xs → Contains xs c.greatest_weight-depth.result) c.deref.ensures.value
     c.greatest_weight-depth.ensures.attained in
     let count : length weights ≡ length nodes =
-    whole_count c.args.distances.now c.nodes-nodes.ensures.metric c.diameter.result c.diameter.ensures weights
+    whole_count c.args.distances.now c.distances_are_sound.ensures c.diameter.result c.diameter.ensures weights
     c.greatest_weight-depth.result nodes listed row bound attained in
     alone_laid lists c.greatest_weight-depth.result c.len.result (search rules)
     (omega (arith, c.len.ensures, c.push_members.new.list.ok.0)) count
@@ -47,7 +47,7 @@ returns c =
     subst (λ (xs : List ℕ). 0 < length xs → Contains xs c.greatest_weight-depth.result) c.deref.ensures.value
     c.greatest_weight-depth.ensures.attained in
     let count : length weights ≡ length nodes =
-    whole_count c.args.distances.now c.nodes-nodes.ensures.metric c.diameter.result c.diameter.ensures weights
+    whole_count c.args.distances.now c.distances_are_sound.ensures c.diameter.result c.diameter.ensures weights
     c.greatest_weight-depth.result nodes listed row bound attained in
     record {
       cluster = record {
@@ -59,6 +59,6 @@ returns c =
       };
       alone = alone_read lists c.greatest_weight-depth.result c.len.result (search rules)
           (omega (arith, c.len.ensures, c.push_members.new.list.ok.0)) count;
-      whole = whole_is c.args.distances.now c.nodes-nodes.ensures.metric c.diameter.result c.diameter.ensures weights
+      whole = whole_is c.args.distances.now c.distances_are_sound.ensures c.diameter.result c.diameter.ensures weights
           c.greatest_weight-depth.result nodes listed row bound attained;
     }
