@@ -1,24 +1,20 @@
 //! Whole runs of a few actors: what becomes of their calls, and whose turns are idle.
 
-ghost use Rattle.std.specs.Prelude.{◌≡◌, ◌<◌, ℕ, [], IfOk, length};
+ghost use Rattle.std.specs.Prelude.{◌≡◌, ◌<◌, ℕ, [], length};
 ghost use Rattle.directory.specs.Orders.{IsDone};
 ghost use Rattle.directory.specs.Histories.{History};
-ghost use Rattle.net_reader.specs.Seen.{seen_input};
-ghost use Rattle.net_reader.specs.Valid.{IsValid};
 ghost use Rattle.region_plan.specs.Cells.{IsCell};
-ghost use Rattle.region_plan.specs.Plan.{nodes_of};
 ghost use Rattle.machine.specs.Machines.{HasHistory, scripts_at, setting_at};
 
 use directory::{Done, Why, all_scripts_done};
-use distances::Distances;
 use entry_word::{Key, PresenceMark, pack_mark};
 use machine::{Machine, Outcome, Turn};
-use net_graph::Graph;
-use net_reader::{Input, MAX_BYTES, inputs_are_valid, read_input};
+use net_reader::Input;
 use region_plan::Plan;
-use std::alloc::{AllocError, Global};
+use std::alloc::Global;
 use std::process::Abort;
 use std::test::Fail;
+use test_networks::{input_of, plan_of};
 
 // The line 0 - 1 - 2 - 3 of unit weights, with one subscriber at 3 and one caller, actor 1.
 const LINE: &str = "nodes 4\nk 2\nedge 0 1 1\nedge 1 2 1\nedge 2 3 1\nsub 3\ncallers 1\n";
@@ -33,35 +29,6 @@ const PAIR: &str = "nodes 2\nk 2\nedge 0 1 1\nsub 1\ncallers 1\n";
 // one subscriber at 0 and one caller, actor 1.
 const PATH: &str = "nodes 8\nk 1\nedge 0 1 1\nedge 1 2 1\nedge 2 3 1\nedge 3 4 1\nedge 4 5 1\n\
                     edge 5 6 1\nedge 6 7 1\nsub 0\ncallers 1\n";
-
-// The input of a text.
-fn input_of(alloc: Global, text: &[u8]) -> Result<Input, Fail>
-    ensures { IfOk result (λ input. IsValid (seen_input input)) }
-{
-    inputs_are_valid();
-    if text.len() > MAX_BYTES {
-        return Err(AllocError.into());
-    }
-    match read_input(alloc, text) {
-        Ok(input) => Ok(input),
-        Err(_) => Err(AllocError.into()),
-    }
-}
-
-// The plan of an input, and its distances.
-fn plan_of(alloc: Global, input: &Input) -> Result<(Plan, Distances), Fail>
-    requires { IsValid (seen_input input.now) }
-    ensures copy { IfOk result (λ pair. pair.0.distances ≡ pair.1) }
-    ensures nodes { IfOk result (λ pair. nodes_of pair.0 ≡ input.now.nodes) }
-{
-    let graph = match Graph::new(alloc, input.nodes, &input.edges) {
-        Ok(graph) => graph,
-        Err(_) => return Err(AllocError.into()),
-    };
-    let distances = Distances::new(alloc, &graph)?;
-    let plan = Plan::build(alloc, &graph, &distances, input.k)?;
-    Ok((plan, distances))
-}
 
 // The turns of an order, and the visits that are left.
 fn play(machine: &mut Machine<'_>, order: &[u32])
