@@ -60,7 +60,9 @@ as_many p q v (suc k) follows count x low high passes =
     at false true p_is q_is h long fewer behind = absurd (omega (arith, long, fewer))
     at false false p_is q_is h long fewer behind = elim (cases_lt v x) [
       | inl past ↦ behind fewer past
-      | inr here ↦ let same : x ≡ v = omega (arith, low, here) in absurd (false≢true (sym q_is ∙ ap q (sym same) ∙ passes))
+      | inr here ↦
+          let same : x ≡ v = omega (arith, low, here) in
+          absurd (false≢true (sym q_is ∙ ap q (sym same) ∙ passes))
     ]
 
 -- ---- a round cluster
@@ -135,7 +137,11 @@ module _ (network : Network) (sound : IsNetwork network) (members : List ℕ) (l
 
   lies_in : (v : ℕ) → has v members ≡ true → v < network.nodes
   lies_in v member =
-      omega (arith, All-contains (λ x. x < length row) members v below (has_contained v members member), distances.count)
+      omega (
+        arith,
+        All-contains (λ x. x < length row) members v below (has_contained v members member),
+        distances.count,
+      )
 
   pub round_keeps : KeepDistances network members leader row
   round_keeps v member =

@@ -1,8 +1,9 @@
 -- Coarsening: balls are merged into clusters, phase by phase, so that few clusters overlap and no
 -- cluster grows far.
 -- Key laws: `cluster_shape` (each cluster grows at most k - 1 times from its leader's ball),
--- `home_means` (each ball finds a home), `covers_are_sparse` (few clusters overlap), and the clauses
--- of `coarsen`: `apart` (clusters of one phase are disjoint), `homes` (each ball lies in its home).
+-- `home_means` (each ball finds a home), `covers_are_sparse` (few clusters overlap), and the
+-- clauses of `coarsen`: `apart` (clusters of one phase are disjoint), `homes` (each ball lies in
+-- its home).
 use Rattle.std.specs.Prelude.{◌≡◌, ℕ, zero, suc, ◌*◌, ◌^◌, ◌<◌, Bool, true, not, List, [], ◌∷◌, slice_index_or}
 use Rattle.std.specs.Prelude.{◌++◌, ◌≤◌, count_by, length, filter, nat_le, All}
 use Rattle.node_set.specs.Ascending.{has}

@@ -132,8 +132,8 @@ fn gather(
     Ok((crew, tallies))
 }
 
-/// A round: the mover notes what it has seen, and then all four run at once. Each finder hears a note
-/// in its own thread.
+/// A round: the mover notes what it has seen, and then all four run at once. Each finder hears a
+/// note in its own thread.
 pub fn round<R: Threads + Wait + Sync>(
     rt: &R,
     tracker: &Tracker,
@@ -173,7 +173,8 @@ pub fn round<R: Threads + Wait + Sync>(
             requires { IsSync R.row × IsReady tracker.now plan.now distances.now
                 × IsFree tracker.now 0 middle × IsNoteOf tracker.now second
                 × IsFree tracker.now 0 near × IsNoteOf tracker.now third }
-            ensures { IsFree tracker.entry.now 0 result.0.1 × IsFree tracker.entry.now 0 result.1.1 }
+            ensures { IsFree tracker.entry.now 0 result.0.1
+                × IsFree tracker.entry.now 0 result.1.1 }
         {
             two_finders(
                 rt, tracker, plan, distances, known, middle, second, near, third,

@@ -20,8 +20,8 @@ impl Tally {
         }
     }
 
-    /// With one answer more. The mover begins at node 3 and goes to and fro, so that it stands there
-    /// after an even number of moves, and at node 0 after an odd one. Numbers never fall.
+    /// With one answer more. The mover begins at node 3 and goes to and fro, so that it stands
+    /// there after an even number of moves, and at node 0 after an odd one. Numbers never fall.
     pub fn with(self, found: Found) -> Tally {
         let Found::At { node, number, .. } = found else {
             return self;

@@ -1,7 +1,7 @@
--- The entries that a handset writes, one behind the other: where it is among them, apart from it, and
--- the write of each that has another of its kind behind it. New addresses and erasures are two kinds.
--- Key law: `Handset::entry_write`, by its clauses `exact`, `due` and `after` (the write at an entry is
--- the one that comes next, and its `next` is where the handset is then).
+-- The entries that a handset writes, one behind the other: where it is among them, apart from it,
+-- and the write of each that has another of its kind behind it. New addresses and erasures are two
+-- kinds. Key law: `Handset::entry_write`, by its clauses `exact`, `due` and `after` (the write at
+-- an entry is the one that comes next, and its `next` is where the handset is then).
 use Rattle.std.specs.Prelude.{ℕ, suc, ◌-◌, nat_lt, if◌then◌else◌, Option, Some, None, option_map, slice_index}
 use Rattle.entry_word.specs.Addresses.{address_word}
 use Rattle.entry_word.specs.declared.visit.Act.TheVariants.{Put}

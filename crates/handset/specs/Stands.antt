@@ -2,8 +2,8 @@
 -- visits it has made. It keeps the node and the weight of each level, and the trail, as the
 -- course of the steps has them; and the visits that are left are the writes of its stage and
 -- those after it.
--- Key laws: `Handset::new`, `begin`, `switch` and `made`, by their clauses `stands`; `commits` tells
--- the write that commits a move.
+-- Key laws: `Handset::new`, `begin`, `switch` and `made`, by their clauses `stands`; `commits`
+-- tells the write that commits a move.
 use Rattle.std.specs.Prelude.{◌≡◌, ℕ, ◌<◌, ◌≤◌, Bool, true, false, List, [], ◌∷◌, ◌++◌, drop, filter_map, fold, length, map, slice_index, slice_index_or, take}
 use Rattle.std.specs.Option.{is_some}
 use Rattle.node_set.specs.Ascending.{has}

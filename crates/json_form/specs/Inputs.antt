@@ -1,7 +1,7 @@
 -- The JSON of an input: an object whose keys ascend. Edges are triples, and each call is a row that
 -- begins with its word.
--- Key laws: `input_json` (it writes this value), `inputs_return` (what it writes has this shape, and
--- makes the text of the input again), `example_input` (computed).
+-- Key laws: `input_json` (it writes this value), `inputs_return` (what it writes has this shape,
+-- and makes the text of the input again), `example_input` (computed).
 use Rattle.std.specs.Prelude.{ℕ, List, [], ◌∷◌, codes}
 use Rattle.net_graph.specs.declared.edge.Edge.{Edge}
 use Rattle.net_reader.specs.declared.said.Call.{Call}

@@ -255,7 +255,8 @@ fn write_part(line: &mut Line, left: &mut Left<'_>, stage: Stage) -> Stage
     }
 }
 
-/// The parts of a report's JSON, one after another. It takes its memory at once, and keeps one part.
+/// The parts of a report's JSON, one after another. It takes its memory at once, and keeps one
+/// part.
 #[derive(Debug, Drop)]
 pub struct ReportParts<'a> {
     stage: Stage,

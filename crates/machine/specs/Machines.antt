@@ -1,8 +1,8 @@
 -- What a machine stands for: a history in which each visit was its actor's next one. Its cells hold
 -- what the history leaves; each subscriber and each caller is as far as the history says; and it
 -- keeps the actor of each ticket.
--- Key laws: `Machine::new` (it stands for no visits), `turn` (for a turn more), `turns` (for so many
--- turns more), `finish` (for all visits) and `outcome`, by their clauses.
+-- Key laws: `Machine::new` (it stands for no visits), `turn` (for a turn more), `turns` (for so
+-- many turns more), `finish` (for all visits) and `outcome`, by their clauses.
 use Rattle.std.specs.Prelude.{◌≡◌, ℕ, ◌+◌, ◌<◌, ◌≤◌, [], None, length, map, replicate, slice_index_or, vec_capacity}
 use Rattle.directory.specs.Settings.{Setting}
 use Rattle.directory.specs.Histories.{History}

@@ -18,7 +18,8 @@ size_after balls waiting a j = length (union_of balls (growth balls waiting a j)
 -- power k, by more than the number of balls
 unfoldable pub is_last : List (List ℕ) → ℕ → List ℕ → ℕ → ℕ → Bool
 is_last balls k waiting a j =
-    nat_le (size_after balls waiting a (suc j) ^ k) (length balls * size_after balls waiting a j ^ k)
+    nat_le (size_after balls waiting a (suc j) ^ k)
+    (length balls * size_after balls waiting a j ^ k)
 
 -- the cluster that a leads, with its last growth: fewer than k growths come before that
 unfoldable pub mean_cluster : List (List ℕ) → ℕ → List ℕ → ℕ → GrownCluster

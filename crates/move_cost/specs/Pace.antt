@@ -2,8 +2,8 @@
 -- has gathered about half of its radius, and clusters are so many radii wide. A move then writes
 -- in proportion to what its highest level has gathered, and what a level has gathered is spent at
 -- its renewal, so that nothing is spent twice.
--- Key laws: `written_is_bounded`, `purged_is_bounded`, and `plans_are_paced` (a plan that bounds its
--- finds is such a setting).
+-- Key laws: `written_is_bounded`, `purged_is_bounded`, and `plans_are_paced` (a plan that bounds
+-- its finds is such a setting).
 use Rattle.std.specs.Prelude.{◌≡◌, ◌≢◌, ℕ, suc, ◌+◌, ◌*◌, ◌^◌, ◌<◌, ◌≤◌, List, length, filter, sum_by, count_by}
 use Rattle.directory.specs.Amid.{course_of}
 use Rattle.directory.specs.Settings.{Setting, levels}

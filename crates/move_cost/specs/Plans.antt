@@ -24,8 +24,8 @@ pub record GoTogether (input : Contents) (plan : PlanData) (distances : Distance
     pub nodes : nodes_of plan ≡ input.nodes
     pub belongs : plan.distances ≡ distances
 
--- with clusters of this width and so many levels, what is written is at most the rate times the way,
--- and no more is purged than moves are made
+-- with clusters of this width and so many levels, what is written is at most the rate times the
+-- way, and no more is purged than moves are made
 pub record IsWithinRate (width count : ℕ) (line : CostLine) : Type 0 where
   pub written : line.written ≤ writing_rate width count * line.moved
   pub purged : line.purged ≤ line.moves

@@ -118,8 +118,8 @@ fn first_apart(weights: &[Option<u64>]) -> Option<u32>
     None
 }
 
-/// What every graph is: within the limits, and connected. The call does nothing, and its clause is a
-/// law.
+/// What every graph is: within the limits, and connected. The call does nothing, and its clause is
+/// a law.
 pub fn graph_is_sound(graph: &Graph)
     ensures { IsNetwork graph.now }
 {

@@ -310,8 +310,8 @@ impl Known {
         Ok(())
     }
 
-    /// What a line of the order says whose numbers stand here up to its end, and what stands behind;
-    /// none, and nothing is said, where it isn't one that can be taken.
+    /// What a line of the order says whose numbers stand here up to its end, and what stands
+    /// behind; none, and nothing is said, where it isn't one that can be taken.
     pub(crate) fn order_line<'a>(&mut self, piece: &'a [u8]) -> Result<Option<&'a [u8]>, AllocError>
         requires { KeepsLimits self.old }
         ensures heard { IfOk result (λ found. IfSome found (λ rest. HearsOrder self.old self.new

@@ -11,7 +11,8 @@ use Rattle.node_set.specs.FilterLaws.{filter-has}
 use Rattle.node_set.specs.SetLaws.{same_members, share_gives}
 
 -- a ball that touches others is there
-pub touching_below : (balls : List (List ℕ)) (nodes : List ℕ) (v : ℕ) → touches balls nodes v ≡ true → v < length balls
+pub touching_below : (balls : List (List ℕ)) (nodes : List ℕ) (v : ℕ) → touches balls nodes v ≡ true
+    → v < length balls
 touching_below balls nodes v h = elim (cases_lt v (length balls)) [
   | inl below ↦ below
   | inr past ↦
@@ -27,7 +28,8 @@ module _ (balls : List (List ℕ)) (a : ℕ) (waiting rest : List ℕ) (leads : 
 
   -- each ball of a growth waited
   pub growth_waiting : (j v : ℕ) → has v (growth balls waiting a j) ≡ true → has v waiting ≡ true
-  growth_waiting j v = subst (λ (l : List ℕ). has v (growth balls l a j) ≡ true → has v l ≡ true) (sym leads)
+  growth_waiting j v = subst (λ (l : List ℕ). has v (growth balls l a j) ≡ true
+      → has v l ≡ true) (sym leads)
       (growth_waits balls a rest j v)
 
   -- and is in the next growth
@@ -42,13 +44,15 @@ module _ (balls : List (List ℕ)) (a : ℕ) (waiting rest : List ℕ) (leads : 
   -- the union of one growth more, from the one before
   pub next_union : HoldCentres balls waiting → (j : ℕ) (nodes : List ℕ) → IsAscending nodes →
       ((x : ℕ) → has x nodes ≡ (has x (union_of balls (growth balls waiting a (suc j))) || has x
-      (union_of balls (growth balls waiting a j)))) → nodes ≡ union_of balls (growth balls waiting a (suc j))
+      (union_of balls (growth balls waiting a j))))
+      → nodes ≡ union_of balls (growth balls waiting a (suc j))
   next_union hold j nodes ascending either =
       same_members nodes (union_of balls (growth balls waiting a (suc j))) ascending
       (ascending-union_of balls (growth balls waiting a (suc j)))
       (λ x. either x ∙ at (has x (union_of balls (growth balls waiting a (suc j))))
       (has x (union_of balls (growth balls waiting a j)))
-      (union_more balls x (growth balls waiting a j) (growth balls waiting a (suc j)) (growth_kept hold j)))
+      (union_more balls x (growth balls waiting a j) (growth balls waiting a (suc j))
+      (growth_kept hold j)))
     where
       at : (b c : Bool) → (c ≡ true → b ≡ true) → (b || c) ≡ b
       at true c follows = refl

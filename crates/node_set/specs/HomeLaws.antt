@@ -8,11 +8,13 @@ use Rattle.node_set.specs.Ascending.{has}
 use Rattle.node_set.specs.Balls.{GrownCluster, is_homed, home_of}
 
 -- the balls of a cluster, and those of the later ones
-pub homed_here : (c : GrownCluster) (cs : List GrownCluster) (v : ℕ) → has v c.homed ≡ true → is_homed (c ∷ cs) v ≡ true
+pub homed_here : (c : GrownCluster) (cs : List GrownCluster) (v : ℕ) → has v c.homed ≡ true
+    → is_homed (c ∷ cs) v ≡ true
 unfolding is_homed
 homed_here c cs v h = rw h refl
 
-pub homed_later : (c : GrownCluster) (cs : List GrownCluster) (v : ℕ) → is_homed cs v ≡ true → is_homed (c ∷ cs) v ≡ true
+pub homed_later : (c : GrownCluster) (cs : List GrownCluster) (v : ℕ) → is_homed cs v ≡ true
+    → is_homed (c ∷ cs) v ≡ true
 unfolding is_homed
 homed_later c cs v h = at (has v c.homed)
   where
@@ -36,7 +38,8 @@ unfolding is_homed home_of
 home_within [] v h = absurd (false≢true h)
 home_within (c ∷ cs) v h = at (has v c.homed) h (home_within cs v)
   where
-    at : (b : Bool) → cond b true (is_homed cs v) ≡ true → (is_homed cs v ≡ true → home_of cs v < length cs)
+    at : (b : Bool) → cond b true (is_homed cs v) ≡ true
+        → (is_homed cs v ≡ true → home_of cs v < length cs)
         → cond b 0 (suc (home_of cs v)) < suc (length cs)
     at true h rest = omega arith
     at false h rest = omega (arith, rest h)
@@ -56,10 +59,13 @@ home_has (c ∷ cs) v d h = at (has v c.homed) refl h (home_has cs v d)
 
 -- ---- one cluster more
 
--- homes that are known so far: h where the ball is in the new cluster, b where it had no home before
+-- homes that are known so far: h where the ball is in the new cluster, b where it had no home
+-- before
 pub home_step : (b h : Bool) (old new len more rest f : ℕ) → (h ≡ true → b ≡ true) → more ≡ len + 1
-    → cond b (len + cond h 0 (suc rest)) old ≡ f → new ≡ cond h len old → cond (b && not h) (more + rest) new ≡ f
+    → cond b (len + cond h 0 (suc rest)) old ≡ f → new ≡ cond h len old
+    → cond (b && not h) (more + rest) new ≡ f
 home_step true true old new len more rest f inside next before now = omega arith
 home_step true false old new len more rest f inside next before now = omega arith
-home_step false true old new len more rest f inside next before now = absurd (false≢true (inside refl))
+home_step false true old new len more rest f inside next before now = absurd
+    (false≢true (inside refl))
 home_step false false old new len more rest f inside next before now = omega arith

@@ -1,6 +1,6 @@
--- Laws of the first of the balls that wait, and of sets that are written over, for proofs of covers.
--- Key laws: `lead` (the list begins with its least member), `nothing_at`, `none_waits` (none is
--- below the next), `members_few`.
+-- Laws of the first of the balls that wait, and of sets that are written over, for proofs of
+-- covers. Key laws: `lead` (the list begins with its least member), `nothing_at`, `none_waits`
+-- (none is below the next), `members_few`.
 use Rattle.std.proofs.Common.{◌≡◌, inl, inr, ℕ, ◌<◌, ◌≤◌, true, false, List, [], ◌∷◌, length, refl, sym, ◌∙◌, ap, subst, arith}
 use Rattle.std.proofs.lemmas.Bool.{cases_lt, false≢true, or_cases, eqb-true}
 use Rattle.std.specs.Prelude.{◌==◌}
@@ -19,7 +19,8 @@ above x a (y ∷ ys) below h = elim (or_cases (a == y) (has a ys) h) [
 ]
 
 -- an ascending list begins with its least member
-pub lead : (xs : List ℕ) (a : ℕ) → IsAscending xs → has a xs ≡ true → ((v : ℕ) → v < a → has v xs ≡ false)
+pub lead : (xs : List ℕ) (a : ℕ) → IsAscending xs → has a xs ≡ true
+    → ((v : ℕ) → v < a → has v xs ≡ false)
     → (rest : List ℕ) × (xs ≡ a ∷ rest)
 lead [] a ascending h none = absurd (false≢true h)
 lead (x ∷ xs) a ascending h none = elim (or_cases (a == x) (has a xs) h) [
@@ -35,10 +36,12 @@ nothing_at (x ∷ xs) none = absurd (false≢true (sym (none x) ∙ has_head x x
 -- a set has no more members than room
 pub members_few : (set : Nodes) → AreNodes set → length set.members ≤ set.room
 members_few set sound =
-    subst (λ l. length l ≤ set.room) (all_members set sound) (length-passing-le (λ x. has x set.members) 0 set.room)
+    subst (λ l. length l ≤ set.room) (all_members set sound)
+    (length-passing-le (λ x. has x set.members) 0 set.room)
 
 -- none waits below the next
-pub none_waits : (waiting : List ℕ) (from a : ℕ) → ((v : ℕ) → v < from → has v waiting ≡ false) → IsNext waiting from a
+pub none_waits : (waiting : List ℕ) (from a : ℕ) → ((v : ℕ) → v < from → has v waiting ≡ false)
+    → IsNext waiting from a
     → (v : ℕ) → v < a → has v waiting ≡ false
 none_waits waiting from a before next v below = elim (cases_lt v from) [
   | inl less ↦ before v less

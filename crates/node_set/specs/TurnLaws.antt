@@ -18,10 +18,12 @@ touches_turned balls rows nodes v turned within below =
     both_ways (touches balls nodes v) (has v (union_of rows nodes))
     (λ h.
     let x = share_gives (ball balls v) nodes h in
-    union_has rows v x.0 nodes x.2 (turned v x.0 below (below-has (length balls) x.0 nodes within x.2) ∙ x.1))
+    union_has rows v x.0 nodes x.2
+    (turned v x.0 below (below-has (length balls) x.0 nodes within x.2) ∙ x.1))
     (λ h.
     let x = union_from rows v nodes h in
-    share_from x.0 (ball balls v) nodes (sym (turned v x.0 below (below-has (length balls) x.0 nodes within x.1)) ∙ x.2)
+    share_from x.0 (ball balls v) nodes
+    (sym (turned v x.0 below (below-has (length balls) x.0 nodes within x.1)) ∙ x.2)
     x.1)
 
 pub touched_balls : (balls rows : List (List ℕ)) (nodes waiting : List ℕ) → AreTurned balls rows
@@ -30,7 +32,8 @@ pub touched_balls : (balls rows : List (List ℕ)) (nodes waiting : List ℕ) �
     → filter (λ v. has v (union_of rows nodes)) waiting ≡ filter (touches balls nodes) waiting
 touched_balls balls rows nodes waiting turned within below =
     filter_same (λ v. has v (union_of rows nodes)) (touches balls nodes) waiting
-    (λ v h. sym (touches_turned balls rows nodes v turned within (below-has (length balls) v waiting below h)))
+    (λ v h. sym (touches_turned balls rows nodes v turned within
+    (below-has (length balls) v waiting below h)))
 
 -- the same of sets
 pub touched_grown : (balls rows : List Nodes) (nodes waiting : Nodes) (touched : List ℕ)

@@ -1,7 +1,7 @@
 -- The line of four nodes, 0 - 1 - 2 - 3 with weights of 1, and its plans with the trade-off 2, in
 -- phases and over mean covers: three levels, of which the lowest has two clusters.
--- Key laws: `line_has_its_plan` and `line_has_its_mean_plan` (they are the plans of its network, and
--- bound their finds, so that what is said of such plans is said of some).
+-- Key laws: `line_has_its_plan` and `line_has_its_mean_plan` (they are the plans of its network,
+-- and bound their finds, so that what is said of such plans is said of some).
 use Rattle.std.specs.Prelude.{ℕ, List, [], ◌∷◌}
 use Rattle.net_graph.specs.declared.edge.Edge.{Edge}
 use Rattle.net_graph.specs.Network.{Network}

@@ -76,8 +76,8 @@ abbrev pub PlansHaveFewReaders : Type 0
 PlansHaveFewReaders = (network : Network) (k : ℕ) → IsNetwork network → 1 ≤ k
     → HasFewReaders (plan_of network k)
 
--- the clusters of a plan are small in the sum: the sum t of the sizes of a level's clusters has t ^ k
--- ≤ n ^ (k + 1)
+-- the clusters of a plan are small in the sum: the sum t of the sizes of a level's clusters has t ^
+-- k ≤ n ^ (k + 1)
 abbrev pub HasSmallSum : PlanData → Type 0
 HasSmallSum plan = (i : ℕ) → i < levels_of plan
     → sum_by (λ (c : PlanCluster). length c.members) (level_at plan i).clusters ^ plan.k

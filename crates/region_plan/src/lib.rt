@@ -2,10 +2,10 @@
 //!
 //! [`Plan::build`] makes the plan of a network and a trade-off `k`, from the graph and its
 //! distances; [`Plan::build_mean`] makes one over covers that are small in the sum, and
-//! [`Plan::build_by`] either; [`Plan::flat`] makes one of a single level. Nodes, levels and clusters are numbered
-//! from 0. Weights, distances, radii and thresholds have the unit of the network's edges; level `i`
-//! has the radius 2^exponent, and the exponent of a level of `build` is `i`. Accessors ask for
-//! numbers that there are.
+//! [`Plan::build_by`] either; [`Plan::flat`] makes one of a single level. Nodes, levels and
+//! clusters are numbered from 0. Weights, distances, radii and thresholds have the unit of the
+//! network's edges; level `i` has the radius 2^exponent, and the exponent of a level of `build` is
+//! `i`. Accessors ask for numbers that there are.
 //!
 //! Every plan keeps what callers above lean on (`specs/Kept.antt`): it is within its sizes
 //! (`IsKept`) and matched (`IsMatched`), and its clusters are within its reach (`IsWithinReach`).

@@ -1,9 +1,8 @@
 -- How the lines of a report are read from the front of its text, step by step: words just as they
--- stand, and numbers without leading zeros. The calls of a report are those of the input's slots, in
--- their order; then come the lines of the order, of which a line that isn't full is the last, and
--- the number of visits, behind which nothing stands.
--- Key laws: `words_are_text`, `numbers_are_text` and `calls_are_text` (what is read is the text that
--- report_text writes of it).
+-- stand, and numbers without leading zeros. The calls of a report are those of the input's slots,
+-- in their order; then come the lines of the order, of which a line that isn't full is the last,
+-- and the number of visits, behind which nothing stands. Key laws: `words_are_text`,
+-- `numbers_are_text` and `calls_are_text` (what is read is the text that report_text writes of it).
 use Rattle.std.specs.Prelude.{ℕ, suc, zero, ◌+◌, ◌-◌, ◌*◌, ◌/◌, ◌%◌, ◌^◌, ◌==◌, Bool, true, false, nat_lt, if◌then◌else◌, List, [], ◌∷◌, ◌++◌, length, Option, Some, None, Result, Ok, Err, codes}
 use Rattle.std.specs.Char.{is_ascii_digit}
 use Rattle.outside.specs.Texts.{fields}

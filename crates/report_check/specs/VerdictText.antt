@@ -1,5 +1,6 @@
 -- The line that tells a verdict.
--- Key laws: `verdict_line` (it writes this line), `example_verdicts` (lines of each kind, computed).
+-- Key laws: `verdict_line` (it writes this line), `example_verdicts` (lines of each kind,
+-- computed).
 use Rattle.std.specs.Prelude.{ℕ, List, [], ◌∷◌, codes}
 use Rattle.outside.specs.Texts.{◌then◌, field}
 use Rattle.report_check.specs.declared.verdict.Verdict.{Verdict}

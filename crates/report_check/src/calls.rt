@@ -73,7 +73,8 @@ pub(crate) enum Line {
 impl<'a> Cursor<'a> {
     // What a find weighs, its first ticket and its last, and the line's end.
     fn visits(&mut self) -> Option<Visits>
-        ensures some { IfSome result (λ v. visits_in self.old.rest.now ≡ Some (v, self.new.rest.now)) }
+        ensures some { IfSome result (λ v. visits_in self.old.rest.now
+            ≡ Some (v, self.new.rest.now)) }
         ensures none { IfNone result (visits_in self.old.rest.now ≡ None) }
     {
         let weight = self.labelled(" weight", MOST)?;
@@ -89,7 +90,8 @@ impl<'a> Cursor<'a> {
 
     // A number below a small limit.
     fn small(&mut self, limit: u32) -> Option<u32>
-        ensures some { IfSome result (λ n. number_in limit self.old.rest.now ≡ Some (n, self.new.rest.now)) }
+        ensures some { IfSome result (λ n. number_in limit self.old.rest.now
+            ≡ Some (n, self.new.rest.now)) }
         ensures none { IfNone result (number_in limit self.old.rest.now ≡ None) }
     {
         let number = self.number(u64::from(limit))?;
@@ -98,7 +100,8 @@ impl<'a> Cursor<'a> {
 
     // The level of a find that climbed, or a dash.
     fn level(&mut self, levels: u32) -> Option<Option<u32>>
-        ensures some { IfSome result (λ level. level_in levels self.old.rest.now ≡ Some (level, self.new.rest.now)) }
+        ensures some { IfSome result (λ level. level_in levels self.old.rest.now
+            ≡ Some (level, self.new.rest.now)) }
         ensures none { IfNone result (level_in levels self.old.rest.now ≡ None) }
     {
         let before = *self;
@@ -112,7 +115,8 @@ impl<'a> Cursor<'a> {
 
     // Where a find answers.
     fn place(&mut self, bounds: Bounds) -> Option<Place>
-        ensures some { IfSome result (λ place. place_in bounds self.old.rest.now ≡ Some (place, self.new.rest.now)) }
+        ensures some { IfSome result (λ place. place_in bounds self.old.rest.now
+            ≡ Some (place, self.new.rest.now)) }
         ensures none { IfNone result (place_in bounds self.old.rest.now ≡ None) }
     {
         self.word(" at")?;
@@ -129,7 +133,8 @@ impl<'a> Cursor<'a> {
 
     // Why a find has to be made again.
     fn why(&mut self, bounds: Bounds) -> Option<Why>
-        ensures some { IfSome result (λ why. why_in bounds self.old.rest.now ≡ Some (why, self.new.rest.now)) }
+        ensures some { IfSome result (λ why. why_in bounds self.old.rest.now
+            ≡ Some (why, self.new.rest.now)) }
         ensures none { IfNone result (why_in bounds self.old.rest.now ≡ None) }
     {
         if self.word(" empty").is_some() {
@@ -145,7 +150,8 @@ impl<'a> Cursor<'a> {
 
     // The line of a move.
     fn moved(&mut self, actor: u32, number: u32, from: u32, to: u32) -> Option<Line>
-        ensures some { IfSome result (λ line. move_in actor number from to self.old.rest.now ≡ Some (done_of line, self.new.rest.now)) }
+        ensures some { IfSome result (λ line. move_in actor number from to self.old.rest.now
+            ≡ Some (done_of line, self.new.rest.now)) }
         ensures none { IfNone result (move_in actor number from to self.old.rest.now ≡ None) }
     {
         self.word("move")?;
@@ -169,7 +175,8 @@ impl<'a> Cursor<'a> {
 
     // The line of a switch.
     fn switched(&mut self, actor: u32, off: bool, node: u32, number: u32) -> Option<Line>
-        ensures some { IfSome result (λ line. switch_in actor off node number self.old.rest.now ≡ Some (done_of line, self.new.rest.now)) }
+        ensures some { IfSome result (λ line. switch_in actor off node number self.old.rest.now
+            ≡ Some (done_of line, self.new.rest.now)) }
         ensures none { IfNone result (switch_in actor off node number self.old.rest.now ≡ None) }
     {
         self.word("switch")?;
@@ -191,8 +198,10 @@ impl<'a> Cursor<'a> {
 
     // The line of a find that answers, behind its first word.
     fn answer(&mut self, bounds: Bounds, off: bool, actor: u32, from: u32, sub: u32) -> Option<Line>
-        ensures some { IfSome result (λ line. answer_in bounds off actor from sub self.old.rest.now ≡ Some (done_of line, self.new.rest.now)) }
-        ensures none { IfNone result (answer_in bounds off actor from sub self.old.rest.now ≡ None) }
+        ensures some { IfSome result (λ line. answer_in bounds off actor from sub self.old.rest.now
+            ≡ Some (done_of line, self.new.rest.now)) }
+        ensures none { IfNone result (answer_in bounds off actor from sub self.old.rest.now
+            ≡ None) }
     {
         self.all_given(&[actor, from, sub])?;
         let place = self.place(bounds)?;
@@ -209,7 +218,8 @@ impl<'a> Cursor<'a> {
 
     // The line of a find that is to be made again, behind its first word.
     fn again(&mut self, bounds: Bounds, actor: u32, from: u32, sub: u32) -> Option<Line>
-        ensures some { IfSome result (λ line. again_in bounds actor from sub self.old.rest.now ≡ Some (done_of line, self.new.rest.now)) }
+        ensures some { IfSome result (λ line. again_in bounds actor from sub self.old.rest.now
+            ≡ Some (done_of line, self.new.rest.now)) }
         ensures none { IfNone result (again_in bounds actor from sub self.old.rest.now ≡ None) }
     {
         self.all_given(&[actor, from, sub])?;
@@ -226,7 +236,8 @@ impl<'a> Cursor<'a> {
 
     // The line of a find.
     fn find(&mut self, bounds: Bounds, actor: u32, from: u32, sub: u32) -> Option<Line>
-        ensures some { IfSome result (λ line. find_in bounds actor from sub self.old.rest.now ≡ Some (done_of line, self.new.rest.now)) }
+        ensures some { IfSome result (λ line. find_in bounds actor from sub self.old.rest.now
+            ≡ Some (done_of line, self.new.rest.now)) }
         ensures none { IfNone result (find_in bounds actor from sub self.old.rest.now ≡ None) }
     {
         if self.word("find").is_some() {
@@ -241,7 +252,8 @@ impl<'a> Cursor<'a> {
 
     // The line of a call.
     pub(crate) fn call(&mut self, bounds: Bounds, slot: Slot) -> Option<Line>
-        ensures some { IfSome result (λ line. call_in bounds slot self.old.rest.now ≡ Some (done_of line, self.new.rest.now)) }
+        ensures some { IfSome result (λ line. call_in bounds slot self.old.rest.now
+            ≡ Some (done_of line, self.new.rest.now)) }
         ensures none { IfNone result (call_in bounds slot self.old.rest.now ≡ None) }
     {
         match slot {

@@ -22,10 +22,11 @@ fn starts_with_digit(text: &[u8]) -> bool
     }
 }
 
-// A number of one to three digits behind a blank, where more bytes stand behind it and no digit, and
-// how many bytes it takes.
+// A number of one to three digits behind a blank, where more bytes stand behind it and no digit,
+// and how many bytes it takes.
 fn short_number(text: &[u8]) -> Option<(u64, usize)>
-    ensures some { IfSome result (λ found. number_in most text.now ≡ Some (found.0, drop found.1 text.now)) }
+    ensures some { IfSome result (λ found. number_in most text.now
+        ≡ Some (found.0, drop found.1 text.now)) }
     ensures within { IfSome result (λ found. found.1 ≤ length text.now) }
 {
     let [blank, a, b, c, d, ..] = text else {
@@ -55,7 +56,8 @@ fn short_number(text: &[u8]) -> Option<(u64, usize)>
 impl<'a> Cursor<'a> {
     // Goes behind the line's end, where it comes next.
     pub(crate) fn line_end(&mut self) -> Option<()>
-        ensures some { IfSome result (λ done. word_in (10 ∷ []) self.old.rest.now ≡ Some self.new.rest.now) }
+        ensures some { IfSome result (λ done. word_in (10 ∷ []) self.old.rest.now
+            ≡ Some self.new.rest.now) }
         ensures none { IfNone result (word_in (10 ∷ []) self.old.rest.now ≡ None) }
         ensures still { IfNone result (self.new.rest.now ≡ self.old.rest.now) }
     {
@@ -71,7 +73,8 @@ impl<'a> Cursor<'a> {
 
     // Goes behind these bytes, where they come next.
     pub(crate) fn bytes(&mut self, word: &[u8]) -> Option<()>
-        ensures some { IfSome result (λ done. word_in word.now self.old.rest.now ≡ Some self.new.rest.now) }
+        ensures some { IfSome result (λ done. word_in word.now self.old.rest.now
+            ≡ Some self.new.rest.now) }
         ensures none { IfNone result (word_in word.now self.old.rest.now ≡ None) }
         ensures still { IfNone result (self.new.rest.now ≡ self.old.rest.now) }
     {
@@ -93,7 +96,8 @@ impl<'a> Cursor<'a> {
 
     // The same of a word.
     pub(crate) fn word(&mut self, word: &str) -> Option<()>
-        ensures some { IfSome result (λ done. word_in word.now self.old.rest.now ≡ Some self.new.rest.now) }
+        ensures some { IfSome result (λ done. word_in word.now self.old.rest.now
+            ≡ Some self.new.rest.now) }
         ensures none { IfNone result (word_in word.now self.old.rest.now ≡ None) }
         ensures still { IfNone result (self.new.rest.now ≡ self.old.rest.now) }
     {
@@ -103,7 +107,8 @@ impl<'a> Cursor<'a> {
     // Digits that go on with a number.
     fn digits_from(&mut self, limit: u64, value: u64) -> Option<u64>
         requires { value < limit }
-        ensures some { IfSome result (λ n. digits_from limit value self.old.rest.now ≡ Some (n, self.new.rest.now)) }
+        ensures some { IfSome result (λ n. digits_from limit value self.old.rest.now
+            ≡ Some (n, self.new.rest.now)) }
         ensures none { IfNone result (digits_from limit value self.old.rest.now ≡ None) }
         ensures small { IfSome result (λ n. n < limit) }
     {
@@ -127,7 +132,8 @@ impl<'a> Cursor<'a> {
 
     // A number below this limit, without leading zeros.
     fn digits(&mut self, limit: u64) -> Option<u64>
-        ensures some { IfSome result (λ n. digits_in limit self.old.rest.now ≡ Some (n, self.new.rest.now)) }
+        ensures some { IfSome result (λ n. digits_in limit self.old.rest.now
+            ≡ Some (n, self.new.rest.now)) }
         ensures none { IfNone result (digits_in limit self.old.rest.now ≡ None) }
         ensures small { IfSome result (λ n. n < limit) }
     {
@@ -152,7 +158,8 @@ impl<'a> Cursor<'a> {
 
     // A blank, and a number below this limit.
     pub(crate) fn number(&mut self, limit: u64) -> Option<u64>
-        ensures some { IfSome result (λ n. number_in limit self.old.rest.now ≡ Some (n, self.new.rest.now)) }
+        ensures some { IfSome result (λ n. number_in limit self.old.rest.now
+            ≡ Some (n, self.new.rest.now)) }
         ensures none { IfNone result (number_in limit self.old.rest.now ≡ None) }
         ensures small { IfSome result (λ n. n < limit) }
     {
@@ -162,7 +169,8 @@ impl<'a> Cursor<'a> {
 
     // A blank and a number of a list, most of which are short.
     pub(crate) fn listed(&mut self) -> Option<u64>
-        ensures some { IfSome result (λ n. number_in most self.old.rest.now ≡ Some (n, self.new.rest.now)) }
+        ensures some { IfSome result (λ n. number_in most self.old.rest.now
+            ≡ Some (n, self.new.rest.now)) }
         ensures none { IfNone result (number_in most self.old.rest.now ≡ None) }
     {
         match short_number(self.rest) {
@@ -177,7 +185,8 @@ impl<'a> Cursor<'a> {
 
     // A label, a blank, and a number below this limit.
     pub(crate) fn labelled(&mut self, label: &str, limit: u64) -> Option<u64>
-        ensures some { IfSome result (λ n. labelled_in label.now limit self.old.rest.now ≡ Some (n, self.new.rest.now)) }
+        ensures some { IfSome result (λ n. labelled_in label.now limit self.old.rest.now
+            ≡ Some (n, self.new.rest.now)) }
         ensures none { IfNone result (labelled_in label.now limit self.old.rest.now ≡ None) }
         ensures small { IfSome result (λ n. n < limit) }
     {
@@ -187,7 +196,8 @@ impl<'a> Cursor<'a> {
 
     // A blank, and this number.
     fn given(&mut self, number: u32) -> Option<()>
-        ensures some { IfSome result (λ done. word_in (field number) self.old.rest.now ≡ Some self.new.rest.now) }
+        ensures some { IfSome result (λ done. word_in (field number) self.old.rest.now
+            ≡ Some self.new.rest.now) }
         ensures none { IfNone result (word_in (field number) self.old.rest.now ≡ None) }
     {
         self.word(" ")?;
@@ -197,7 +207,8 @@ impl<'a> Cursor<'a> {
 
     // These numbers, each behind a blank.
     pub(crate) fn all_given(&mut self, numbers: &[u32]) -> Option<()>
-        ensures some { IfSome result (λ done. word_in (fields numbers.now) self.old.rest.now ≡ Some self.new.rest.now) }
+        ensures some { IfSome result (λ done. word_in (fields numbers.now) self.old.rest.now
+            ≡ Some self.new.rest.now) }
         ensures none { IfNone result (word_in (fields numbers.now) self.old.rest.now ≡ None) }
     {
         'numbers: for number in numbers {

@@ -218,7 +218,8 @@ fn is_light(
     requires ground { IsGroundAlone ground.now }
     requires blocks { AreBlocks lines.now }
     ensures { (plan : PlanData) → IsGround plan ground.now
-        → result ≡ is_light plan ground.now.homes.now (map done_of lines.now.calls.now) order.now from sub
+        → result ≡ is_light plan ground.now.homes.now (map done_of lines.now.calls.now) order.now
+        from sub
         place.node visits.weight visits.first visits.last }
 {
     if meets_move(lines, order, sub, visits.first, visits.last) {
@@ -234,7 +235,8 @@ fn weight_holds(ground: &Ground<'_>, lines: &Lines<'_>, order: &[u64], line: &Li
     requires ground { IsGroundAlone ground.now }
     requires blocks { AreBlocks lines.now }
     ensures { (plan : PlanData) → IsGround plan ground.now
-        → result ≡ weight_holds plan ground.now.homes.now (map done_of lines.now.calls.now) order.now
+        → result ≡ weight_holds plan ground.now.homes.now (map done_of lines.now.calls.now)
+        order.now
         (done_of line.now) }
 {
     match *line {
@@ -269,7 +271,8 @@ fn flaw_of(
     requires blocks { AreBlocks lines.now }
     requires behind { AreBehind order.now behind.now }
     ensures { (plan : PlanData) → IsGround plan ground.now
-        → result ≡ flaw_of plan ground.now.homes.now (map done_of lines.now.calls.now) order.now before last
+        → result ≡ flaw_of plan ground.now.homes.now (map done_of lines.now.calls.now) order.now
+        before last
         (done_of line.now) }
 {
     if !tickets_hold(order, before, line) {

@@ -59,7 +59,8 @@ impl Mover {
     // Begins the next step where none is under way, and tells whether a visit is left.
     pub fn prepare(&mut self, plan: &Plan, distances: &Distances) -> bool
         requires its { (input : Contents) × (setup : Setup) × (view : View) × (spare : ℕ)
-            × IsSetFor input setup plan.now distances.now × IsMover input setup view spare self.old }
+            × IsSetFor input setup plan.now distances.now
+            × IsMover input setup view spare self.old }
         ensures left { (result ≡ false) ↔ (due (setting_of plan.now []) self.new.handset ≡ None) }
         ensures its { (input : Contents) (setup : Setup) (view : View) (spare : ℕ)
             → IsSetFor input setup plan.now distances.now → IsMover input setup view spare self.old
@@ -73,7 +74,8 @@ impl Mover {
     // Begins the next step, if one is left and none is under way.
     fn begin_next(&mut self, plan: &Plan, distances: &Distances)
         requires its { (input : Contents) × (setup : Setup) × (view : View) × (spare : ℕ)
-            × IsSetFor input setup plan.now distances.now × IsMover input setup view spare self.old }
+            × IsSetFor input setup plan.now distances.now
+            × IsMover input setup view spare self.old }
         ensures its { (input : Contents) (setup : Setup) (view : View) (spare : ℕ)
             → IsSetFor input setup plan.now distances.now → IsMover input setup view spare self.old
             → IsUnderWay input setup view spare self.new }

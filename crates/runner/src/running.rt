@@ -174,9 +174,12 @@ fn play_all<R: Threads + Sync, G: Gate>(
         workers,
         threads,
         &|_, worker: &mut Worker|
-            requires { (input : Contents) × MayPlay input tracker.now plan.now distances.now worker.old }
-            ensures { (input : Contents) → MayPlay input tracker.entry.now plan.entry.now distances.entry.now worker.old
-                → IsWorkerOf input tracker.entry.now worker.new × (actor_of worker.new.pass ≡ actor_of worker.old.pass) }
+            requires { (input : Contents)
+                × MayPlay input tracker.now plan.now distances.now worker.old }
+            ensures { (input : Contents)
+                → MayPlay input tracker.entry.now plan.entry.now distances.entry.now worker.old
+                → IsWorkerOf input tracker.entry.now worker.new
+                × (actor_of worker.new.pass ≡ actor_of worker.old.pass) }
         {
             let _ = worker.play(tracker, plan, distances, gate, tries);
         },

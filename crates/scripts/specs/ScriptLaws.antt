@@ -68,9 +68,11 @@ pub calls-few : (input : Contents) (a : ℕ) → IsValid input
     → length (get_or input.scripts a []) < 2 ^ 32 - 1
 calls-few input a valid = elim valid.format as (λ _. length (get_or input.scripts a []) < 2 ^ 32 -
     1) [
-      | inl one ↦ few 8192 (subst (λ f. count_calls input.scripts ≤ most_calls f) one valid.few_calls)
+      | inl one ↦ few 8192
+          (subst (λ f. count_calls input.scripts ≤ most_calls f) one valid.few_calls)
           (omega arith)
-      | inr two ↦ few 16384 (subst (λ f. count_calls input.scripts ≤ most_calls f) two valid.few_calls)
+      | inr two ↦ few 16384
+          (subst (λ f. count_calls input.scripts ≤ most_calls f) two valid.few_calls)
           (omega arith)
     ]
   where

@@ -1,5 +1,5 @@
-//! Networks, inputs and plans for the crates of tests: the line 0 - 1 - 2 - 3 of unit weights, paths,
-//! networks where all nodes are neighbours, and what a text says.
+//! Networks, inputs and plans for the crates of tests: the line 0 - 1 - 2 - 3 of unit weights,
+//! paths, networks where all nodes are neighbours, and what a text says.
 #![tactic(auto)]
 
 mod inputs;

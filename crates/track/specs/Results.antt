@@ -1,11 +1,10 @@
 -- The text that answers bytes, by the command: that of the plan of the input's network, the report
 -- of what becomes of its calls under its order, or under one that threads made, the census at their
--- end, what its moves cost, the input or its report as JSON, or the line that refuses the input; the
--- plan and the report are there over mean covers too. To a text that has an input and a report the
--- verdict on it answers, and to JSON the input that it tells. And the text of a command that reads
--- nothing: a made input, or the summary of its replay.
--- Key laws: `bytes_have_one_text`, `runs_are_replayed` (a replay under the order that a run printed
--- writes the same).
+-- end, what its moves cost, the input or its report as JSON, or the line that refuses the input;
+-- the plan and the report are there over mean covers too. To a text that has an input and a report
+-- the verdict on it answers, and to JSON the input that it tells. And the text of a command that
+-- reads nothing: a made input, or the summary of its replay. Key laws: `bytes_have_one_text`,
+-- `runs_are_replayed` (a replay under the order that a run printed writes the same).
 use Rattle.std.specs.Prelude.{◌≡◌, ◌⊎◌, ℕ, ◌+◌, ◌-◌, ◌*◌, ◌++◌, ◌∷◌, [], Bool, true, false, All, List, Option, Some, None, Result, Ok, Err, ◌<◌, codes, length}
 use Rattle.net_graph.specs.Network.{Network}
 use Rattle.net_reader.specs.declared.fault.InputFault.{InputFault}

@@ -66,8 +66,8 @@ pub fn reports_tell()
 
 /// What the texts of other commands tell: a plan over mean covers has its reach, bounds its finds
 /// and is small in the sum; a census lists whom the scripts leave at a node, each just where it
-/// stands; costs are within the rate; a report as JSON is that of a report; and the checker finds no
-/// flaw in the report of a run.
+/// stands; costs are within the rate; a report as JSON is that of a report; and the checker finds
+/// no flaw in the report of a run.
 pub fn texts_tell()
     ensures mean_reach { (contents : Contents) (text : List ℕ) → IsMeanPlanText contents text
         → (mean_plan_for contents).reach ≡ 2 * contents.k + 1 }

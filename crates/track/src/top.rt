@@ -210,17 +210,17 @@ fn serve_by_threads<R: Threads + Sync, S: Source, K: Sink, G: Gate>(
 ///
 /// docs/FORMATS.md tells the forms of the words, the input, the texts and the statuses. `cover`
 /// writes the plan of the input's network, `replay` the report of what becomes of its calls under
-/// its order, `census` tells who is where at their end, and `costs` what its moves cost; `meancover`
-/// and `meanreplay` write the plan and the report over mean covers, `tojson` and `replayjson` the
-/// input and its report as JSON, and `fromjson` the input that JSON tells. `check` reads an input
-/// and a report of it, and writes the verdict. `make` and `trial` read nothing: the one writes a
-/// made input, the other the summary of its replay. `run` needs threads ([`command_with_threads`]),
-/// and ends here as words that are no form do. Nothing is written before the source answered its
-/// end, and the first fault of the source or the sink ends the work. Status 0 comes with the whole
-/// text, and 1 with the line that refuses the input; 2 are words that read and write nothing; 3 is
-/// want of memory; 4 a fault of the source; 5 a fault of the sink, where what was written begins the
-/// text; 6 an input, or a text with a report, that is too long; 8 comes with the line that tells a
-/// report's first flaw.
+/// its order, `census` tells who is where at their end, and `costs` what its moves cost;
+/// `meancover` and `meanreplay` write the plan and the report over mean covers, `tojson` and
+/// `replayjson` the input and its report as JSON, and `fromjson` the input that JSON tells. `check`
+/// reads an input and a report of it, and writes the verdict. `make` and `trial` read nothing: the
+/// one writes a made input, the other the summary of its replay. `run` needs threads
+/// ([`command_with_threads`]), and ends here as words that are no form do. Nothing is written
+/// before the source answered its end, and the first fault of the source or the sink ends the work.
+/// Status 0 comes with the whole text, and 1 with the line that refuses the input; 2 are words that
+/// read and write nothing; 3 is want of memory; 4 a fault of the source; 5 a fault of the sink,
+/// where what was written begins the text; 6 an input, or a text with a report, that is too long; 8
+/// comes with the line that tells a report's first flaw.
 pub fn command<S: Source, K: Sink>(
     alloc: Global,
     words: &[String],

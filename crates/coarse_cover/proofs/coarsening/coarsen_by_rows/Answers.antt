@@ -62,11 +62,13 @@ returns-clause-phases c =
     phases_bounded c.covers_are_sparse.ensures (sets c.args.balls.now) c.args.k (length c.args.balls.now) c.phase.cover
     c.requires.low c.requires.centred (sym (length-sets c.args.balls.now))
     (cover_is c.args.balls.now c.args.k c.phase.work.left.members c.phase.cover
-    (subst (λ (n : ℕ). n ≤ 0) c.count.ensures c.phase-test.false) c.phase.invariant.between c.phase.invariant.home_count)
+    (subst (λ (n : ℕ). n ≤ 0) c.count.ensures c.phase-test.false) c.phase.invariant.between
+    c.phase.invariant.home_count)
 
 pub returns-clause-overlap : goal.returns-clause-overlap
 returns-clause-overlap c = λ x.
     overlap c.covers_are_sparse.ensures (sets c.args.balls.now) c.args.k (length c.args.balls.now) c.phase.cover x
     c.requires.low c.requires.centred
     (cover_is c.args.balls.now c.args.k c.phase.work.left.members c.phase.cover
-    (subst (λ (n : ℕ). n ≤ 0) c.count.ensures c.phase-test.false) c.phase.invariant.between c.phase.invariant.home_count)
+    (subst (λ (n : ℕ). n ≤ 0) c.count.ensures c.phase-test.false) c.phase.invariant.between
+    c.phase.invariant.home_count)

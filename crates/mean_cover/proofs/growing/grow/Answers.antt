@@ -131,7 +131,8 @@ loop-step-preserved c =
       members = next_members c.before.before;
       size = next_size c.before.before;
       none = goes_on (sets c.args.balls.now) c.args.k c.args.first c.args.waiting.now.members c.loop-step._step
-          c.count-more.result c.loop-step.size (next_size c.before.before) c.loop-step.invariant.size c.loop-step.invariant.none
+          c.count-more.result c.loop-step.size (next_size c.before.before) c.loop-step.invariant.size
+          c.loop-step.invariant.none
           (λ fits. false≢true (sym c.if-at_most.false ∙ c.at_most.ensures.1
           (subst (λ (n : ℕ). c.count-more.result ^ c.args.k ≤ n * c.loop-step.size ^ c.args.k)
           (length-sets c.args.balls.now) fits)));

@@ -25,7 +25,9 @@ begin_step-requires-clause-may c =
     let its = c.requires.its in
     let at = ready c.scripts_are_valid.ensures its.0 its.1 c.args.plan.now c.args.distances.now its.2 its.3
     c.args.self.now c.index.result.now its.4 its.5
-    (is_some-none c.next.result (sym c.is_some.ensures ∙ c.if-is_some.false)) c.next.ensures.exact (omega (arith, c.if-self-len.false, c.len.ensures)) c.index.ensures in
+    (is_some-none c.next.result (sym c.is_some.ensures ∙ c.if-is_some.false)) c.next.ensures.exact
+    (omega (arith, c.if-self-len.false, c.len.ensures)) c.index.ensures
+    in
     subst (λ p. MayBegin p c.args.self.now.handset c.index.result.now) (sym its.4.plan_is) at.may
 
 pub returns : goal.returns

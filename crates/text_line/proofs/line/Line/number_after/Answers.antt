@@ -10,7 +10,13 @@ returns-clause-text c =
     let before = c.self.inside in
     let now = c.self-2.inside in
     let at : length c.args.self.now ≡ before.end =
-    omega (arith, ap length c.self.view_is, length-take before.end before.bytes.items, c.self.invariant.0, c.self.invariant.1) in
+    omega (
+      arith,
+      ap length c.self.view_is,
+      length-take before.end before.bytes.items,
+      c.self.invariant.0,
+      c.self.invariant.1,
+    ) in
     let longer : length c.number.new.self ≡ length c.args.self.now + length (field c.args.number) =
     ap length c.number.ensures.text ∙ length-append c.args.self.now (field c.args.number) in
     let below : before.end < now.end =
