@@ -24,8 +24,9 @@ use std::alloc::Global;
 /// stand after them.
 ///
 /// The weights inside are the distances where the cluster has each node that is no farther from
-/// the leader than its farthest member, as a ball has, and where each member has an arc from a
-/// member that is nearer to the leader by just the arc's weight. Only else is there a search.
+/// the leader than its farthest member, as a ball has; and also where each member has an arc from
+/// a member that is nearer to the leader by just the arc's weight. Where neither holds, there is a
+/// search.
 pub fn inside_weights(
     alloc: Global,
     graph: &Graph,

@@ -1,5 +1,5 @@
 -- The laws of the JSON of inputs, as named statements.
--- Key laws: `inputs_return` (`InputsReturn`), `one_text` (`OneListing`, `NoListing`).
+-- Key laws: `inputs_return` (`InputsReturn`), `one_text` (`OneListing`).
 use Rattle.std.specs.Prelude.{◌≡◌, ℕ, List, Ok}
 use Rattle.net_reader.specs.Input.{Contents, IsInput}
 use Rattle.net_reader.specs.Valid.{IsValid}

@@ -10,7 +10,7 @@ use Rattle.directory.specs.Writes.{numbers_from}
 use Rattle.directory.specs.declared.answers.Done.{Done}
 use Rattle.directory.specs.declared.answers.Done.TheVariants.{Moved, Switched, Found, Off, Again}
 use Rattle.directory.specs.CallLines.{actor_of}
-use Rattle.report_check.specs.Parts.{at_home, tell, told_before}
+use Rattle.report_check.specs.Parts.{at_start, tell, told_before}
 use Rattle.own_reports.proofs.Runs.{HaveRuns}
 
 test-other : (actor sub commit ticket : ℕ) → actor ≢ sub → (eqb actor sub && ltb commit ticket) ≡ false
@@ -34,22 +34,22 @@ module _ (homes : List ℕ) (sub ticket : ℕ) where
       → told_before homes (before ++ call ∷ []) sub ticket ≡ told_before homes before sub ticket
   told-other before (Moved actor number from to weight first commit last) other =
       rw (
-        fold-append (tell sub ticket) (at_home (slice_index homes sub)) before
+        fold-append (tell sub ticket) (at_start (slice_index homes sub)) before
             (Moved actor number from to weight first commit last ∷ []),
         test-other actor sub commit ticket other,
       ) refl
   told-other before (Switched actor off node number at) other =
       rw (
-        fold-append (tell sub ticket) (at_home (slice_index homes sub)) before
+        fold-append (tell sub ticket) (at_start (slice_index homes sub)) before
             (Switched actor off node number at ∷ []),
         test-other actor sub at ticket other,
       ) refl
   told-other before (Found actor from other node number level weight first last) differs =
-      fold-append (tell sub ticket) (at_home (slice_index homes sub)) before _
+      fold-append (tell sub ticket) (at_start (slice_index homes sub)) before _
   told-other before (Off actor from other node number level weight first last) differs =
-      fold-append (tell sub ticket) (at_home (slice_index homes sub)) before _
+      fold-append (tell sub ticket) (at_start (slice_index homes sub)) before _
   told-other before (Again actor from other why weight first last) differs =
-      fold-append (tell sub ticket) (at_home (slice_index homes sub)) before _
+      fold-append (tell sub ticket) (at_start (slice_index homes sub)) before _
 
   -- the lines of another actor tell nothing
   told-skip : (actor : ℕ) (seen : List ℕ) (p : ℕ) (before calls : List Done) → actor ≢ sub
@@ -101,7 +101,7 @@ module _ (homes : List ℕ) (sub ticket : ℕ) where
           ∙ rows-skip (suc from) count (before ++ lines from)
           (λ actor more less. runs actor (omega (arith, more)) (omega (arith, less))) (inl (omega (arith, same)))
           ∙ ap (λ k. told_before homes (before ++ lines k) sub ticket) same
-          ∙ fold-append (tell sub ticket) (at_home (slice_index homes sub)) before (lines sub)
+          ∙ fold-append (tell sub ticket) (at_start (slice_index homes sub)) before (lines sub)
           ∙ ap (λ told. fold (tell sub ticket) told (lines sub)) none
       | inr other ↦
           ap (λ (ls : List Done). told_before homes ls sub ticket)

@@ -18,7 +18,7 @@ use Rattle.directory.specs.StepLaws.{take-append}
 use Rattle.directory.specs.Writes.{Write, mark_at, move_writes, step_writes, writes}
 use Rattle.directory.specs.declared.answers.Done.{Done}
 use Rattle.directory.specs.declared.answers.Done.TheVariants.{Moved, Switched}
-use Rattle.report_check.specs.Parts.{at_home, tell, told_before}
+use Rattle.report_check.specs.Parts.{at_start, tell, told_before}
 use Rattle.own_reports.proofs.Plain.{commits_in, move-commits, move-confirm, move-on, move-waits, off_by}
 use Rattle.own_reports.proofs.StepRuns.{move-long, part-at}
 use Rattle.directory.specs.ListLaws.{slice_get-right, slice_get-left, last_or-push}
@@ -61,7 +61,7 @@ module _ (setting : Setting) (homes : List ℕ) (sub ticket : ℕ) (seen : List 
       let line : Done = Moved sub move.number move.from move.to move.weight first commit last in
       let grown : commits_in (made ++ more) ≡ commits_in made ++ commit_by move ∷ [] =
       filter_map-append write_commit made more ∙ ap (λ cs. commits_in made ++ cs) one in
-      let joined = fold-append (tell sub ticket) (at_home (slice_index homes sub)) lines (line ∷ []) in record {
+      let joined = fold-append (tell sub ticket) (at_start (slice_index homes sub)) lines (line ∷ []) in record {
         node = rw (joined, test-now sub commit ticket low)
             (sym (ap (fold (λ node (c : Commit). c.to) (slice_index homes sub)) grown
             ∙ fold-append (λ node (c : Commit). c.to) (slice_index homes sub) (commits_in made) (commit_by move ∷ [])));
@@ -85,7 +85,7 @@ module _ (setting : Setting) (homes : List ℕ) (sub ticket : ℕ) (seen : List 
       let line : Done = Moved sub number from to weight first commit last in
       let same : commits_in (made ++ more) ≡ commits_in made =
       filter_map-append write_commit made more ∙ ap (λ cs. commits_in made ++ cs) none ∙ append-nil (commits_in made) in
-      let joined = fold-append (tell sub ticket) (at_home (slice_index homes sub)) lines (line ∷ []) in record {
+      let joined = fold-append (tell sub ticket) (at_start (slice_index homes sub)) lines (line ∷ []) in record {
         node = rw (joined, test-later sub commit ticket far)
             (told.node ∙ sym (ap (fold (λ node (c : Commit). c.to) (slice_index homes sub)) same));
         number = rw (joined, test-later sub commit ticket far) (told.number ∙ sym (ap length same));
@@ -105,7 +105,7 @@ module _ (setting : Setting) (homes : List ℕ) (sub ticket : ℕ) (seen : List 
       let line : Done = Switched sub off node number at in
       let same : commits_in (made ++ more) ≡ commits_in made =
       filter_map-append write_commit made more ∙ ap (λ cs. commits_in made ++ cs) none ∙ append-nil (commits_in made) in
-      let joined = fold-append (tell sub ticket) (at_home (slice_index homes sub)) lines (line ∷ []) in record {
+      let joined = fold-append (tell sub ticket) (at_start (slice_index homes sub)) lines (line ∷ []) in record {
         node = rw (joined, test-now sub at ticket low)
             (told.node ∙ sym (ap (fold (λ node (c : Commit). c.to) (slice_index homes sub)) same));
         number = rw (joined, test-now sub at ticket low) (told.number ∙ sym (ap length same));
@@ -123,7 +123,7 @@ module _ (setting : Setting) (homes : List ℕ) (sub ticket : ℕ) (seen : List 
   told-unswitched lines made more off node number at told far none =
       let line : Done = Switched sub off node number at in
       let same : made ++ more ≡ made = ap (λ (ws : List Write). made ++ ws) none ∙ append-nil made in
-      let joined = fold-append (tell sub ticket) (at_home (slice_index homes sub)) lines (line ∷ []) in
+      let joined = fold-append (tell sub ticket) (at_start (slice_index homes sub)) lines (line ∷ []) in
       subst (IsToldBy setting homes sub ticket seen all (lines ++ line ∷ [])) (sym same) (record {
         node = rw (joined, test-later sub at ticket far) told.node;
         number = rw (joined, test-later sub at ticket far) told.number;

@@ -83,9 +83,9 @@ is_missing (Some ticket) = false
 abbrev pub none_left : List ℕ → Done → Bool
 none_left order call = is_missing (next_ticket order (actor_of call) (Some (end_of call)))
 
--- a subscriber at home, before its moves
-abbrev pub at_home : ℕ → Told
-at_home home = record { node = home; number = 0; is_off = false; commit = None; weight = 0 }
+-- a subscriber where it starts, before its moves
+abbrev pub at_start : ℕ → Told
+at_start node = record { node = node; number = 0; is_off = false; commit = None; weight = 0 }
 
 -- what a line more tells of a subscriber before a ticket: its moves that were committed before it,
 -- and its switches
@@ -107,7 +107,7 @@ tell sub ticket told (Again actor from other why weight first last) = told
 
 -- what the lines tell of a subscriber before a ticket
 abbrev pub told_before : List ℕ → List Done → ℕ → ℕ → Told
-told_before homes calls sub ticket = fold (tell sub ticket) (at_home (slice_index homes sub)) calls
+told_before homes calls sub ticket = fold (tell sub ticket) (at_start (slice_index homes sub)) calls
 
 -- Place: the node and the number are those of the last move, and the state that of the last switch
 abbrev pub is_told : Told → Bool → ℕ → ℕ → Bool

@@ -1,7 +1,7 @@
 -- What an input says of the lines of its report: a slot for each call, by actor and in the order of
 -- its script. A move's slot has its number, from where and to where it goes; a switch's its state,
 -- its node and its number; a find's its origin and its subscriber.
--- Key law: `example_slots` computes those of an input.
+-- Key call: `check`, which reads the calls of a report by these slots.
 use Rattle.std.specs.Prelude.{ℕ, suc, true, false, List, [], ◌∷◌, ◌++◌, slice_index}
 use Rattle.directory.specs.Places.{place_after_step}
 use Rattle.scripts.specs.Scripts.{step_of}

@@ -3,7 +3,7 @@ ghost use Rattle.std.specs.Prelude.{◌≡◌, ◌-◌, ◌<◌, ◌^◌, Some, 
 ghost use Rattle.std.specs.List.{list_any};
 ghost use Rattle.report_check.specs.Blocks.{AreBlocks};
 ghost use Rattle.report_check.specs.Lines.{done_of};
-ghost use Rattle.report_check.specs.Parts.{at_home, first_from, is_of_move, is_switch_at, meets_from, meets_move, next_ticket, tell, told_before};
+ghost use Rattle.report_check.specs.Parts.{at_start, first_from, is_of_move, is_switch_at, meets_from, meets_move, next_ticket, tell, told_before};
 
 use crate::blocks::Lines;
 use crate::calls::Line;
@@ -64,12 +64,12 @@ fn tell(sub: u32, ticket: u64, told: Told, line: &Line) -> Told
     }
 }
 
-// A subscriber at home, before its moves.
-fn at_home(home: u32) -> Told
-    ensures { result ≡ at_home home }
+// A subscriber where it starts, before its moves.
+fn at_start(node: u32) -> Told
+    ensures { result ≡ at_start node }
 {
     Told {
-        node: home,
+        node,
         number: 0,
         is_off: false,
         commit: None,
@@ -79,9 +79,9 @@ fn at_home(home: u32) -> Told
 
 // What some lines tell of a subscriber before a ticket.
 fn told_before(home: u32, calls: &[Line], sub: u32, ticket: u64) -> Told
-    ensures { result ≡ fold (tell sub ticket) (at_home home) (map done_of calls.now) }
+    ensures { result ≡ fold (tell sub ticket) (at_start home) (map done_of calls.now) }
 {
-    let mut told = at_home(home);
+    let mut told = at_start(home);
     'lines: for line in calls {
         told = tell(sub, ticket, told, line);
     }
@@ -91,7 +91,7 @@ fn told_before(home: u32, calls: &[Line], sub: u32, ticket: u64) -> Told
 // What all lines tell of a subscriber before a ticket, by those among which its own stand.
 pub(crate) fn told_of(lines: &Lines<'_>, home: u32, sub: u32, ticket: u64) -> Told
     requires { AreBlocks lines.now }
-    ensures { result ≡ fold (tell sub ticket) (at_home home) (map done_of lines.now.calls.now) }
+    ensures { result ≡ fold (tell sub ticket) (at_start home) (map done_of lines.now.calls.now) }
 {
     told_before(home, lines.of_actor(sub), sub, ticket)
 }

@@ -2,7 +2,7 @@ use Rattle.std.proofs.Common.{◌≡◌, ◌∙◌, ◌+◌, ◌*◌, ◌||◌, 
 use Rattle.region_plan.specs.Measures.{stretch_of}
 use Rattle.region_plan.specs.Settings.{setting_of}
 use Rattle.report_check.specs.Lines.{done_of}
-use Rattle.report_check.specs.Parts.{at_home, open_passage, tell, told_before}
+use Rattle.report_check.specs.Parts.{at_start, open_passage, tell, told_before}
 use Rattle.report_check.proofs.judge.is_light.Goals as goal
 
 pub returns : goal.returns
@@ -11,7 +11,7 @@ returns c = λ plan is.
     let homes = c.args.ground.now.homes.now in
     let weight = c.args.visits.weight in
     let told : c.told_of-told.result ≡ told_before homes calls c.args.sub c.args.visits.last =
-    c.told_of-told.ensures ∙ ap (λ h. fold (tell c.args.sub c.args.visits.last) (at_home h) calls) c.home_of.ensures in
+    c.told_of-told.ensures ∙ ap (λ h. fold (tell c.args.sub c.args.visits.last) (at_start h) calls) c.home_of.ensures in
     let passage : c.open_passage-passage.result
     ≡ open_passage c.args.order.now c.args.sub c.args.visits.last
     (told_before homes calls c.args.sub c.args.visits.last)
