@@ -94,7 +94,12 @@ fn keeps_distances(
     ensures { result ≡ true → KeepDistances graph.now cluster.now.members leader row.now }
 {
     graph_is_sound(graph);
-    is_round(row, members) || are_joined(graph, row, cluster, members, leader)
+    // Where members have few arcs, to look at all of these takes less than a count of the row.
+    let arcs = members.len().saturating_mul(graph.arcs_of(leader).len());
+    if arcs > row.len() / 4 && is_round(row, members) {
+        return true;
+    }
+    are_joined(graph, row, cluster, members, leader)
 }
 
 // Whether each member but the leader has an arc from a member that is nearer to the leader by just

@@ -1,8 +1,18 @@
-use Rattle.std.proofs.Common.{ℕ, List, refl, subst}
+use Rattle.std.proofs.Common.{arith, ℕ, List, refl, subst}
+use Rattle.node_set.specs.SetLaws.{below-has}
 use Rattle.cluster_tree.specs.Inside.{AreJoined, IsRound}
 use Rattle.cluster_tree.proofs.Joining.{members_below, joined_keep}
 use Rattle.cluster_tree.proofs.Rounding.{round_keeps}
 use Rattle.cluster_tree.proofs.inside.keeps_distances.Goals as goal
+
+pub arcs_of-requires : goal.arcs_of-requires
+arcs_of-requires c =
+    omega (
+      arith,
+      below-has c.args.cluster.now.room c.args.leader c.args.cluster.now.members c.requires.sound.below
+          c.requires.leader,
+      c.requires.room,
+    )
 
 pub is_round-requires-clause-members : goal.is_round-requires-clause-members
 is_round-requires-clause-members c =
@@ -22,8 +32,8 @@ returns-then-is_round c = λ _.
     (rw c.requires.row.count
     (members_below c.args.cluster.now c.requires.sound c.args.graph.now.nodes c.requires.room))
 
-pub returns-else-is_round : goal.returns-else-is_round
-returns-else-is_round c = λ same.
+pub returns : goal.returns
+returns c = λ same.
     joined_keep c.args.graph.now c.args.cluster.now c.requires.sound c.requires.room c.args.leader
     c.requires.leader c.args.row.now c.requires.row
     (subst (λ (xs : List ℕ). AreJoined c.args.graph.now c.args.cluster.now.members xs c.args.leader c.args.row.now)
