@@ -4,52 +4,24 @@ ghost use Rattle.handset.specs.Kept.{GoesWith};
 
 use distances::Distances;
 use entry_word::{Act, Address, Key, PresenceMark, Visit, pack_address, pack_mark};
-use handset::{EntryWrite, Handset, MoveFault, SwitchFault};
+use handset::{Handset, MoveFault, SwitchFault};
 use region_plan::{Plan, plan_is_sound};
 use std::alloc::Global;
 use std::process::Abort;
 use std::test::Fail;
 use test_networks::{line_of_four, plan_of_most_nodes, plan_past_two_words};
 
-// Makes the write that comes next: an entry of every other move in its short way, a write that
-// commits in two calls, all others in one.
+// Makes the write that comes next: one that commits in two calls, all others in one.
 fn write(handset: &mut Handset, plan: &Plan) -> Option<Visit>
     requires { GoesWith plan.now handset.old }
     ensures { GoesWith plan.now handset.new }
 {
-    if handset.number() % 2 == 0 {
-        let entry = write_entry(handset, plan);
-        if entry.is_some() {
-            return entry;
-        }
-    }
     if !handset.commits() {
         return handset.write(plan);
     }
     let visit = handset.next(plan)?;
     handset.made(plan);
     Some(visit)
-}
-
-// Makes the write of an entry that has another of its kind behind it.
-fn write_entry(handset: &mut Handset, plan: &Plan) -> Option<Visit>
-    requires { GoesWith plan.now handset.old }
-    ensures { GoesWith plan.now handset.new }
-{
-    let at = handset.entry_stage()?;
-    let EntryWrite {
-        level,
-        cluster,
-        word,
-        next,
-    } = handset.entry_write(plan, at)?;
-    handset.go_to(next);
-    let key = Key::Entry {
-        level,
-        cluster,
-        sub: 0,
-    };
-    put(key, word)
 }
 
 // Begins a switch.

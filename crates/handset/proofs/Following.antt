@@ -5,12 +5,11 @@ use Rattle.std.proofs.lemmas.Bool.Decides.{nat_tests}
 use Rattle.directory.specs.Settings.{Setting}
 use Rattle.region_plan.specs.Plan.{PlanData}
 use Rattle.region_plan.specs.Settings.{setting_of}
-use Rattle.handset.specs.Entries.{at_entry, entry_put, entry_write, erasure_to, stage_at}
+use Rattle.handset.specs.Entries.{EntryWrite, at_entry, entry_put, entry_write, erasure_to, stage_at}
 use Rattle.handset.specs.Kept.{GoesWith, HandsetData}
 use Rattle.handset.specs.Progress.{after_write, due, erasing_at, first_with, go_on, is_old}
 use Rattle.handset.specs.declared.entries.EntryStage.{EntryStage}
 use Rattle.handset.specs.declared.entries.EntryStage.TheVariants as entries
-use Rattle.handset.specs.declared.entries.EntryWrite.{EntryWrite}
 use Rattle.handset.specs.declared.stage.Stage.TheVariants.{Renewing, Committing, Erasing}
 use Rattle.handset.proofs.Going.{goes-late}
 use Rattle.handset.proofs.Lists.{first-inside}

@@ -1,7 +1,8 @@
 -- The entries that a handset writes, one behind the other: where it is among them, apart from it,
 -- and the write of each that has another of its kind behind it. New addresses and erasures are two
--- kinds. Key law: `Handset::entry_write`, by its clauses `exact`, `due` and `after` (the write at
--- an entry is the one that comes next, and its `next` is where the handset is then).
+-- kinds. Key law: `entry_writes_are_next` (the write at an entry is the one that comes next, and
+-- its
+-- `next` is where the handset is then).
 use Rattle.std.specs.Prelude.{ℕ, suc, ◌-◌, nat_lt, if◌then◌else◌, Option, Some, None, option_map, slice_index}
 use Rattle.entry_word.specs.Addresses.{address_word}
 use Rattle.entry_word.specs.declared.visit.Act.TheVariants.{Put}
@@ -12,9 +13,16 @@ use Rattle.handset.specs.Kept.{HandsetData}
 use Rattle.handset.specs.Progress.{first_with, is_old}
 use Rattle.handset.specs.declared.entries.EntryStage.{EntryStage}
 use Rattle.handset.specs.declared.entries.EntryStage.TheVariants as entries
-use Rattle.handset.specs.declared.entries.EntryWrite.{EntryWrite}
 use Rattle.handset.specs.declared.stage.Stage.{Stage}
-use Rattle.handset.specs.declared.stage.Stage.TheVariants.{Resting, Coming, Renewing, Committing, Confirming, Erasing, Purging, Switching}
+use Rattle.handset.specs.declared.stage.Stage.TheVariants.{Renewing, Erasing}
+
+-- the write of an entry, by the level and the cluster of its cell and the word, and the entry that
+-- is written next
+pub record EntryWrite : Type 0 where
+  pub level : ℕ
+  pub cluster : ℕ
+  pub word : ℕ
+  pub next : EntryStage
 
 -- a subscriber's write of an entry
 abbrev pub entry_put : ℕ → EntryWrite → Visit
@@ -29,17 +37,6 @@ stage_at (entries.Erasing level) = Erasing level
 -- a handset at an entry
 abbrev pub at_entry : HandsetData → EntryStage → HandsetData
 at_entry handset at = record handset { stage = stage_at at }
-
--- the entry that a stage writes, if it writes one
-abbrev pub entry_stage : Stage → Option EntryStage
-entry_stage Resting = None
-entry_stage Coming = None
-entry_stage (Renewing level) = Some (entries.Renewing level)
-entry_stage Committing = None
-entry_stage Confirming = None
-entry_stage (Erasing level) = Some (entries.Erasing level)
-entry_stage (Purging node) = None
-entry_stage (Switching off) = None
 
 -- the new address of a level, if one of the level above comes next
 abbrev pub renewal_write : Setting → HandsetData → ℕ → Option EntryWrite

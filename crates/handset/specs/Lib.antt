@@ -5,3 +5,4 @@ pub mod Stands
 pub mod Trails
 pub mod StageLaws
 pub mod Entries
+pub mod NextEntries

@@ -10,6 +10,6 @@ mod trail;
 mod visits;
 mod writes;
 
-pub use entries::{EntryStage, EntryWrite};
+pub use entries::{EntryStage, Erasures, Renewals, entry_writes_are_next};
 pub use fault::{MoveFault, SwitchFault};
 pub use handset::Handset;

@@ -15,3 +15,4 @@ mod Passing
 mod Playing
 mod Ending
 mod RightOutcome
+mod MovedEntries

@@ -9,7 +9,9 @@ ghost use Rattle.net_reader.specs.Seen.{seen_input};
 ghost use Rattle.region_plan.specs.Plan.{PlanData, nodes_of};
 ghost use Rattle.region_plan.specs.Settings.{setting_of};
 ghost use Rattle.handset.specs.Kept.{GoesWith};
+ghost use Rattle.handset.specs.NextEntries.{erasures_from, renewals_from};
 ghost use Rattle.handset.specs.Progress.{due};
+ghost use Rattle.handset.specs.declared.stage.Stage.{Stage};
 ghost use Rattle.handset.specs.Stands.{StandsForSteps, switch_to};
 ghost use Rattle.visit_log.specs.Cells.{GoWith, Hold};
 ghost use Rattle.scripts.specs.Scripts.{step_of};
@@ -19,8 +21,8 @@ ghost use Rattle.machine.specs.Subscribers.{HavePut, MakesTurns, MayBegin, begun
 use crate::turn::Turn;
 use directory::{Done, each_visit_is_next, next_is_own, own_after, tickets_tell};
 use distances::Distances;
-use entry_word::{Act, Key, Visit, mark_words};
-use handset::{EntryWrite, Handset};
+use entry_word::{Act, Key, Visit, mark_words, pack_address};
+use handset::{EntryStage, Erasures, Handset, Renewals, entry_writes_are_next};
 use net_reader::{Call, Input};
 use region_plan::{Plan, plan_is_sound};
 use scripts::scripts_are_valid;
@@ -223,33 +225,98 @@ fn make_entries<const ALONE: bool>(
     ensures few { result ≤ most }
     ensures made { HavePut plan.now handset.old cells.old result handset.new cells.new }
 {
+    if let Some(renewals) = handset.renewals(plan) {
+        return renew(handset, plan, cells, renewals, most);
+    }
+    match handset.erasures() {
+        Some(erasures) => erase(handset, plan, cells, erasures, most),
+        None => 0,
+    }
+}
+
+// Makes the new addresses that come next, at most so many.
+fn renew(
+    handset: &mut Handset,
+    plan: &Plan,
+    cells: &mut PlainCells,
+    renewals: Renewals,
+    most: usize,
+) -> usize
+    requires stage { handset.old.stage ≡ Stage.Renewing renewals.level }
+    requires they { renewals ≡ renewals_from handset.old renewals.level }
+    requires goes { GoesWith plan.now handset.old }
+    requires cells { GoWith plan.now cells.old }
+    requires known { handset.old.sub < cells.old.subs }
+    ensures few { result ≤ most }
+    ensures made { HavePut plan.now handset.old cells.old result handset.new cells.new }
+{
     // Each home is a cluster of its level.
     plan_is_sound(plan);
-    let Some(mut at) = handset.entry_stage() else {
-        return 0;
-    };
+    entry_writes_are_next();
     let sub = handset.sub();
-    let mut made = 0;
-    'entries: while made < most {
-        let Some(write) = handset.entry_write(plan, at) else {
-            break;
-        };
-        let EntryWrite {
-            level,
-            cluster,
-            word,
-            next,
-        } = write;
+    let Renewals {
+        level,
+        end,
+        node,
+        word,
+    } = renewals;
+    let last = level + most.min((end - level) as usize) as u32;
+    for level in level..last {
         let key = Key::Entry {
             level,
-            cluster,
+            cluster: plan.home(level, node),
             sub,
         };
         cells.put(plan, key, word);
-        at = next;
-        made += 1;
     }
-    handset.go_to(at);
+    handset.go_to(EntryStage::Renewing { level: last });
+    (last - level) as usize
+}
+
+// Makes the erasures that come next, at most so many.
+fn erase(
+    handset: &mut Handset,
+    plan: &Plan,
+    cells: &mut PlainCells,
+    erasures: Erasures,
+    most: usize,
+) -> usize
+    requires stage { handset.old.stage ≡ Stage.Erasing erasures.level }
+    requires they { erasures ≡ erasures_from handset.old erasures.level }
+    requires goes { GoesWith plan.now handset.old }
+    requires cells { GoWith plan.now cells.old }
+    requires known { handset.old.sub < cells.old.subs }
+    ensures few { result ≤ most }
+    ensures made { HavePut plan.now handset.old cells.old result handset.new cells.new }
+{
+    // Each home is a cluster of its level.
+    plan_is_sound(plan);
+    entry_writes_are_next();
+    let sub = handset.sub();
+    let word = pack_address(None);
+    let Erasures { level, last, node } = erasures;
+    let addresses = handset.addresses();
+    let mut at = level;
+    let mut cluster = plan.home(level, addresses[level as usize]);
+    let mut made = 0;
+    for above in level + 1..last + 1 {
+        if made == most {
+            break;
+        }
+        let old = plan.home(above, addresses[above as usize]);
+        if old != plan.home(above, node) {
+            let key = Key::Entry {
+                level: at,
+                cluster,
+                sub,
+            };
+            cells.put(plan, key, word);
+            at = above;
+            cluster = old;
+            made += 1;
+        }
+    }
+    handset.go_to(EntryStage::Erasing { level: at });
     made
 }
 
