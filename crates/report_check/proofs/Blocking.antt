@@ -10,7 +10,7 @@ use Rattle.std.proofs.lemmas.List.Sums.{fold-append}
 use Rattle.directory.specs.declared.answers.Done.{Done}
 use Rattle.directory.specs.declared.answers.Done.TheVariants.{Moved, Switched, Found, Off, Again}
 use Rattle.report_check.specs.declared.blocks.Block.{Block}
-use Rattle.report_check.specs.declared.blocks.Lines.{Lines}
+use Rattle.report_check.specs.declared.blocks.LinesByActor.{LinesByActor}
 use Rattle.report_check.specs.declared.calls.Line.{Line}
 use Rattle.report_check.specs.Lines.{done_of}
 use Rattle.report_check.specs.declared.told.Told.{Told}
@@ -209,7 +209,7 @@ switch-lines lines block is ticket =
     ap (list_any (is_switch_at ticket)) (between-map lines block.start block.end)
     ∙ switches-alike (map done_of lines) block is ticket
 
-pub actor-lines : (lines : Lines) (actor : ℕ) (block : Block) → AreBlocks lines → actor < length lines.blocks.now
+pub actor-lines : (lines : LinesByActor) (actor : ℕ) (block : Block) → AreBlocks lines → actor < length lines.blocks.now
     → slice_index_or lines.blocks.now actor no_block ≡ block
     → TellsAlike actor (map done_of lines.calls.now)
     (map done_of (take (block.end - block.start) (drop block.start lines.calls.now)))
@@ -219,7 +219,7 @@ actor-lines lines actor block are low same ticket told =
     ap (fold (tell actor ticket) told) (between-map lines.calls.now block.start block.end)
     ∙ tells-alike actor (map done_of lines.calls.now) block is ticket told
 
-pub actor-any : (lines : Lines) (actor : ℕ) (block : Block) → AreBlocks lines → actor < length lines.blocks.now
+pub actor-any : (lines : LinesByActor) (actor : ℕ) (block : Block) → AreBlocks lines → actor < length lines.blocks.now
     → slice_index_or lines.blocks.now actor no_block ≡ block
     → list_any (is_of actor) (map done_of (take (block.end - block.start) (drop block.start lines.calls.now)))
     ≡ list_any (is_of actor) (map done_of lines.calls.now)
