@@ -64,8 +64,10 @@ fn moves_on_the_line_of_four(rt: HostRuntime) -> Result<(), Fail> {
             ),
             (
                 "track 2\n",
-                "sub 3\nsub 0\ncallers 1\nmove 1 3\noff 1\non 1\nmove 1 0\nmove 0 2\nmove 0 1\nmove 0 2\n",
-                "cost 0 moves 3 moved 3 written 30 purged 2\ncost 1 moves 2 moved 6 written 36 purged 2\nend\n",
+                "sub 3\nsub 0\ncallers 1\nmove 1 3\noff 1\non 1\n\
+                    move 1 0\nmove 0 2\nmove 0 1\nmove 0 2\n",
+                "cost 0 moves 3 moved 3 written 30 purged 2\n\
+                    cost 1 moves 2 moved 6 written 36 purged 2\nend\n",
             ),
             (
                 "track 1\n",
@@ -94,8 +96,10 @@ fn moves_past_a_word_of_nodes(rt: HostRuntime) -> Result<(), Fail> {
         &network,
         &[(
             "track 1\n",
-            "sub 69\nsub 0\ncallers 0\nmove 0 68\nmove 0 66\nmove 0 60\nmove 0 64\nmove 0 2\nmove 0 69\nmove 1 69\nmove 1 1\n",
-            "cost 0 moves 6 moved 284 written 5058 purged 6\ncost 1 moves 2 moved 275 written 4964 purged 2\nend\n",
+            "sub 69\nsub 0\ncallers 0\nmove 0 68\nmove 0 66\nmove 0 60\nmove 0 64\nmove 0 2\n\
+                move 0 69\nmove 1 69\nmove 1 1\n",
+            "cost 0 moves 6 moved 284 written 5058 purged 6\n\
+                cost 1 moves 2 moved 275 written 4964 purged 2\nend\n",
         )],
     )
 }

@@ -111,10 +111,6 @@ pub option-map-some : {A B : Type 0} (f : A → B) (o : Option A) (b : B) → op
 option-map-some f None b e = absurd cc
 option-map-some f (Some a) b e = (a, refl, some-injective (f a) b e)
 
-pub option-map-none : {A B : Type 0} (f : A → B) (o : Option A) → option_map f o ≡ None → o ≡ None
-option-map-none f None e = refl
-option-map-none f (Some a) e = absurd cc
-
 map-cons : {A B : Type 0} (f : A → B) (x : Option A) (ys : Option (List A))
     → cons (option_map f x) (option_map (map f) ys) ≡ option_map (map f) (cons x ys)
 map-cons f None ys = refl
@@ -136,11 +132,6 @@ pub concat-more : (pieces : List (List ℕ)) (piece : List ℕ)
 concat-more [] piece = append-nil piece
 concat-more (first ∷ pieces) piece =
     ap (λ (l : List ℕ). first ++ l) (concat-more pieces piece) ∙ sym (append_assoc first (concat pieces) piece)
-
-pub concat-append : (xs ys : List (List ℕ)) → concat (xs ++ ys) ≡ concat xs ++ concat ys
-concat-append [] ys = refl
-concat-append (x ∷ xs) ys =
-    ap (λ (l : List ℕ). x ++ l) (concat-append xs ys) ∙ sym (append_assoc x (concat xs) (concat ys))
 
 pub fields-more : (ns : List ℕ) (n : ℕ) → fields (ns ++ n ∷ []) ≡ fields ns ++ field n
 fields-more [] n = append-nil (field n)

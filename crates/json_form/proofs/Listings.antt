@@ -1,6 +1,8 @@
 -- Values that are lists of items, and the text of a listing line by line.
 use Rattle.std.proofs.Common.{◌≡◌, ◌⊎◌, inl, inr, ℕ, List, [], ◌∷◌, ◌++◌, map, Option, Some, None, Result, Ok, Err, Vec, Global, IfOk, IfErr, codes, option_map, option_and_then, append-nil, refl, sym, ap, ◌∙◌}
 use Rattle.std.specs.List.{concat}
+use Rattle.std.proofs.lemmas.List.Folds.{concat-append}
+use Rattle.directory.specs.ListLaws.{option_map-none}
 use Rattle.input_text.specs.Listing.{ListingValue, call_line, edge_line, home_line, line_of, listing_text}
 use Rattle.serde_json.specs.Data.{Data, Items, Members}
 use Rattle.serde_json.specs.Find.{as_array, as_object}
@@ -13,7 +15,7 @@ use Rattle.json_form.specs.declared.rows.Kind.TheVariants as kinds
 use Rattle.json_form.specs.TextOfJson.{IsJson, IsJsonText}
 use Rattle.json_form.specs.Left.{HasLines, HasNone, line_in}
 use Rattle.json_form.specs.Shapes.{InputValues, call_in, each_in, edge_in, list_in, listing_of_values, number_in, values_of}
-use Rattle.json_form.proofs.Each.{concat-append, each-map, option-map-none, option-map-some}
+use Rattle.json_form.proofs.Each.{each-map, option-map-some}
 use Rattle.json_form.proofs.Pieces.{grown, grown-is}
 
 list-map-at : {A B : Type 0} (read : Data → Option A) (f : A → B) (o : Option Items)
@@ -39,12 +41,12 @@ lines-known kinds.Call value pieces is =
 
 pub lines-none : (kind : Kind) (value : Data) → list_in (line_in kind) value ≡ None → HasNone kind value
 lines-none kinds.Edge value is =
-    option-map-none (map edge_line) (list_in edge_in value) (sym (list-map-at edge_in edge_line (as_array value)) ∙ is)
+    option_map-none (map edge_line) (list_in edge_in value) (sym (list-map-at edge_in edge_line (as_array value)) ∙ is)
 lines-none kinds.Sub value is =
-    option-map-none (map home_line) (list_in number_in value)
+    option_map-none (map home_line) (list_in number_in value)
     (sym (list-map-at number_in home_line (as_array value)) ∙ is)
 lines-none kinds.Call value is =
-    option-map-none (map call_line) (list_in call_in value) (sym (list-map-at call_in call_line (as_array value)) ∙ is)
+    option_map-none (map call_line) (list_in call_in value) (sym (list-map-at call_in call_line (as_array value)) ∙ is)
 
 -- the parts of a listing's text
 pub text-is : (listing : ListingValue)

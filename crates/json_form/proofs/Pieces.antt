@@ -4,7 +4,7 @@ use Rattle.std.specs.Fmt.{decimal}
 use Rattle.std.specs.List.{concat}
 use Rattle.serde_json.specs.Data.{Data}
 use Rattle.serde_json.specs.Written.{compact_text}
-use Rattle.json_form.specs.Left.{closing, list_left, opening}
+use Rattle.json_form.specs.Left.{list_left, opening}
 use Rattle.json_form.specs.Values.{whole}
 
 -- a text that pieces were put behind, one after another
@@ -21,29 +21,6 @@ pub list-more : {A : Type 0} (begun : Bool) (value : A → Data) (x : A) (xs : L
     → list_left begun value (x ∷ xs) ≡ opening begun ++ (compact_text (value x) ++ list_left true value xs)
 list-more true value x xs = refl
 list-more false value x xs = refl
-
--- no item is left
-pub list-none : {A : Type 0} (begun : Bool) (value : A → Data) → list_left begun value [] ≡ closing begun
-list-none true value = refl
-list-none false value = refl
-
--- one item more was written
-pub list-step : {A : Type 0} (begun : Bool) (value : A → Data) (x : A) (xs : List A) (text now whole_text : List ℕ)
-    → now ≡ text ++ (opening begun ++ compact_text (value x)) → text ++ list_left begun value (x ∷ xs) ≡ whole_text
-    → now ++ list_left true value xs ≡ whole_text
-list-step begun value x xs text now whole_text is so_far =
-    let rest = list_left true value xs in
-    ap (λ (t : List ℕ). t ++ rest) is
-    ∙ append_assoc text (opening begun ++ compact_text (value x)) rest
-    ∙ ap (λ (t : List ℕ). text ++ t) (append_assoc (opening begun) (compact_text (value x)) rest ∙ sym (list-more begun
-    value x xs))
-    ∙ so_far
-
--- the last bracket was written
-pub list-end : {A : Type 0} (begun : Bool) (value : A → Data) (text now whole_text : List ℕ)
-    → now ≡ text ++ closing begun → text ++ list_left begun value [] ≡ whole_text → now ≡ whole_text
-list-end begun value text now whole_text is so_far =
-    is ∙ ap (λ (t : List ℕ). text ++ t) (sym (list-none begun value)) ∙ so_far
 
 -- numbers, each behind a comma
 pub numbers-more : (xs ys : List ℕ)

@@ -18,8 +18,8 @@ use Rattle.serde_json.specs.Data.{Data}
 use Rattle.serde_json.specs.View.{items_of, view}
 use Rattle.serde_json.specs.Written.{compact_text, items_text}
 use Rattle.json_form.specs.declared.report.Left.{Left}
-use Rattle.json_form.specs.declared.report.Stage.{Stage}
-use Rattle.json_form.specs.declared.report.Stage.TheVariants as stages
+use Rattle.json_form.specs.declared.report.NextPart.{NextPart}
+use Rattle.json_form.specs.declared.report.NextPart.TheVariants as parts
 use Rattle.json_form.specs.declared.values.InputValues.{InputValues as Kept}
 use Rattle.json_form.specs.declared.rows.Kind.{Kind}
 use Rattle.json_form.specs.declared.rows.Kind.TheVariants as kinds
@@ -115,14 +115,14 @@ abbrev pub calls_left : Bool → List Done → List ℕ → ℕ → List ℕ
 calls_left begun calls order visits =
     list_left begun done_value calls then codes ",\"order\":" then order_left false order visits
 
--- what is left of a report's JSON, from a stage on
-abbrev pub text_left : Stage → Left → List ℕ
-text_left stages.Open left =
+-- what is left of a report's JSON, from a part on
+abbrev pub text_left : NextPart → Left → List ℕ
+text_left parts.Open left =
     codes "{\"calls\":" then calls_left false left.calls.now left.order.now left.visits
-text_left (stages.Calls begun) left =
+text_left (parts.Calls begun) left =
     calls_left begun left.calls.now left.order.now left.visits
-text_left (stages.Order begun) left = order_left begun left.order.now left.visits
-text_left stages.Done left = []
+text_left (parts.Order begun) left = order_left begun left.order.now left.visits
+text_left parts.Done left = []
 
 -- the JSON of a report: the part that was made last, and what is left
 pub record PartsState : Type 0 where

@@ -55,6 +55,7 @@ pub fn example_shapes()
       order = [];
     }) }
     ensures none { listing_in (object no_members) ≡ None }
-    ensures more { listing_in (lone_value (whole 1) (member (codes "zone") null no_members)) ≡ None }
+    ensures more { listing_in
+        (lone_value (whole 1) (member (codes "zone") null no_members)) ≡ None }
     ensures long { listing_in (lone_value (whole 1000000000000000000) no_members) ≡ None }
 {}

@@ -4,7 +4,7 @@ ghost use Rattle.std.specs.List.{concat};
 ghost use Rattle.directory.specs.CallLines.{find_of, line_of_find};
 ghost use Rattle.directory.specs.Outcomes.{result_of};
 ghost use Rattle.directory.specs.declared.answers.Done.TheVariants.{Switched};
-ghost use Rattle.json_form.specs.declared.report.Stage.TheVariants as stages;
+ghost use Rattle.json_form.specs.declared.report.NextPart.TheVariants as parts;
 ghost use Rattle.json_form.specs.Left.{calls_left, done_pieces, kind_text, null_text, off_text, order_left, text_left, why_node_text, why_text};
 ghost use Rattle.json_form.specs.Reports.{report_json_of};
 
@@ -184,7 +184,7 @@ fn write_done(line: &mut Line, call: &Done)
 // What comes next: the head, a call or the end of their list, some tickets or the end of theirs, or
 // nothing. A list is begun where its bracket was written.
 #[derive(Clone, Copy, Debug, PartialEq, Eq)]
-enum Stage {
+enum NextPart {
     Open,
     Calls { begun: bool },
     Order { begun: bool },
@@ -200,7 +200,7 @@ struct Left<'a> {
 }
 
 // The next call, or the end of their list.
-fn write_calls(line: &mut Line, left: &mut Left<'_>, begun: bool) -> Stage
+fn write_calls(line: &mut Line, left: &mut Left<'_>, begun: bool) -> NextPart
     requires { line.old ≡ [] }
     ensures text { calls_left begun left.old.calls.now left.old.order.now left.old.visits
         ≡ line.new ++ text_left result left.new }
@@ -210,16 +210,16 @@ fn write_calls(line: &mut Line, left: &mut Left<'_>, begun: bool) -> Stage
         write_opening(line, begun);
         write_done(line, call);
         left.calls = calls;
-        Stage::Calls { begun: true }
+        NextPart::Calls { begun: true }
     } else {
         write_closing(line, begun);
         line.word(",\"order\":");
-        Stage::Order { begun: false }
+        NextPart::Order { begun: false }
     }
 }
 
 // The next tickets, or the end of their list and of the report.
-fn write_order(line: &mut Line, left: &mut Left<'_>, begun: bool) -> Stage
+fn write_order(line: &mut Line, left: &mut Left<'_>, begun: bool) -> NextPart
     requires { line.old ≡ [] }
     ensures text { order_left begun left.old.order.now left.old.visits
         ≡ line.new ++ text_left result left.new }
@@ -229,29 +229,29 @@ fn write_order(line: &mut Line, left: &mut Left<'_>, begun: bool) -> Stage
         write_closing(line, begun);
         write_member(line, ",\"visits\"", left.visits);
         line.word("}\n");
-        Stage::Done
+        NextPart::Done
     } else {
         let order = write_numbers(line, begun, left.order);
         left.order = order;
-        Stage::Order { begun: true }
+        NextPart::Order { begun: true }
     }
 }
 
 // One part more, and what comes next.
-fn write_part(line: &mut Line, left: &mut Left<'_>, stage: Stage) -> Stage
+fn write_part(line: &mut Line, left: &mut Left<'_>, next: NextPart) -> NextPart
     requires empty { line.old ≡ [] }
-    requires going { stage ≢ stages.Done }
-    ensures text { text_left stage left.old ≡ line.new ++ text_left result left.new }
+    requires going { next ≢ parts.Done }
+    ensures text { text_left next left.old ≡ line.new ++ text_left result left.new }
     ensures some { 0 < length line.new }
 {
-    match stage {
-        Stage::Open => {
+    match next {
+        NextPart::Open => {
             line.word("{\"calls\":");
-            Stage::Calls { begun: false }
+            NextPart::Calls { begun: false }
         }
-        Stage::Calls { begun } => write_calls(line, left, begun),
-        Stage::Order { begun } => write_order(line, left, begun),
-        Stage::Done => unreachable!(),
+        NextPart::Calls { begun } => write_calls(line, left, begun),
+        NextPart::Order { begun } => write_order(line, left, begun),
+        NextPart::Done => unreachable!(),
     }
 }
 
@@ -259,7 +259,7 @@ fn write_part(line: &mut Line, left: &mut Left<'_>, stage: Stage) -> Stage
 /// part.
 #[derive(Debug, Drop)]
 pub struct ReportParts<'a> {
-    stage: Stage,
+    next: NextPart,
     left: Left<'a>,
     part: Line,
 }
@@ -269,7 +269,7 @@ impl<'a> Model for ReportParts<'a> {
 
     ghost Value = { PartsState };
 
-    ghost view = { λ p. record { part = p.part; left = text_left p.stage p.left } };
+    ghost view = { λ p. record { part = p.part; left = text_left p.next p.left } };
 }
 
 impl<'a> ReportParts<'a> {
@@ -279,7 +279,7 @@ impl<'a> ReportParts<'a> {
     {
         let visits = outcome.order.len();
         Ok(ReportParts {
-            stage: Stage::Open,
+            next: NextPart::Open,
             left: Left {
                 calls: &outcome.calls,
                 order: &outcome.order,
@@ -297,10 +297,10 @@ impl<'a> ReportParts<'a> {
         ensures none { result ≡ false → (self.old.left ≡ []) × (self.new.left ≡ []) }
     {
         self.part.clear();
-        if let Stage::Done = self.stage {
+        if let NextPart::Done = self.next {
             return false;
         }
-        self.stage = write_part(&mut self.part, &mut self.left, self.stage);
+        self.next = write_part(&mut self.part, &mut self.left, self.next);
         true
     }
 

@@ -103,14 +103,15 @@ fn calls_of_each_kind(rt: HostRuntime) -> Result<(), Fail> {
 }
 
 const WHOLE: &str = "{\"calls\":[\
-        {\"actor\":0,\"commit\":3,\"first\":0,\"from\":3,\"kind\":\"move\",\"last\":5,\"number\":1,\"to\":2,\"weight\":1},\
+        {\"actor\":0,\"commit\":3,\"first\":0,\"from\":3,\"kind\":\"move\",\"last\":5,\"number\":1,\
+        \"to\":2,\"weight\":1},\
         {\"actor\":0,\"kind\":\"switch\",\"node\":2,\"number\":1,\"off\":true,\"ticket\":7},\
-        {\"actor\":1,\"first\":0,\"from\":2,\"kind\":\"find\",\"last\":3,\"level\":0,\"node\":3,\"number\":0,\"sub\":0,\
-        \"weight\":5},\
-        {\"actor\":1,\"first\":10,\"from\":2,\"kind\":\"off\",\"last\":10,\"level\":null,\"node\":3,\"number\":0,\
-        \"sub\":0,\"weight\":18446744073709551615},\
-        {\"actor\":1,\"first\":6,\"from\":3,\"kind\":\"again\",\"last\":16,\"node\":null,\"sub\":0,\"weight\":300,\
-        \"why\":\"chased\"}],\"order\":[1],\"visits\":1}\n";
+        {\"actor\":1,\"first\":0,\"from\":2,\"kind\":\"find\",\"last\":3,\"level\":0,\"node\":3,\
+        \"number\":0,\"sub\":0,\"weight\":5},\
+        {\"actor\":1,\"first\":10,\"from\":2,\"kind\":\"off\",\"last\":10,\"level\":null,\
+        \"node\":3,\"number\":0,\"sub\":0,\"weight\":18446744073709551615},\
+        {\"actor\":1,\"first\":6,\"from\":3,\"kind\":\"again\",\"last\":16,\"node\":null,\
+        \"sub\":0,\"weight\":300,\"why\":\"chased\"}],\"order\":[1],\"visits\":1}\n";
 
 #[test]
 fn report_as_json(rt: HostRuntime) -> Result<(), Fail> {

@@ -128,11 +128,6 @@ Follows plan node old first handset line =
     → IsLeft plan starts old steps made later
     → IsFollowed plan starts node steps made later first handset line
 
-pub none-followed : (plan : PlanData) (node : ℕ) (handset : HandsetData) (line : CostLine)
-    → Follows plan node handset line handset line
-none-followed plan node handset line starts steps made later its =
-    record { now = made; rest = later; left = its; all = refl; told = refl; few = omega arith }
-
 -- what the calls say of the next write
 pub record Makes (plan : PlanData) (old new : HandsetData) (visit : Visit) : Type 0 where
   pub next : (starts : List ℕ) (steps : List Step) (made : ℕ)

@@ -19,9 +19,6 @@ last-after setting course node =
     fold-append (λ n (m : Move). m.to) course.start course.moves (next_move setting course node ∷ [])
 
 module _ (setting : Setting) (course : Course) (move : Move) where
-  erasure : ℕ → Write
-  erasure level = entry_at level (old_home setting course level) None
-
   -- the parts of a sum over the writes of a move
   pub parts-of-sum : (f : Write → ℕ) → sum_by f (move_writes setting course move)
       ≡ f (mark_at move.to (Coming move.number move.from))

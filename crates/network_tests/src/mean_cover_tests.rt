@@ -1,5 +1,5 @@
-//! Mean covers: of the line 0 - 1 - 2 - 3 of unit weights, by its balls of radius 1; of longer paths;
-//! and of balls that don't hold each other's centres.
+//! Mean covers: of the line 0 - 1 - 2 - 3 of unit weights, by its balls of radius 1; of longer
+//! paths; and of balls that don't hold each other's centres.
 ghost use Rattle.std.specs.Prelude.{◌≤◌, ◌<◌};
 
 use crate::cover_tests::{ball, balls_on_path};

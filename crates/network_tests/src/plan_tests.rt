@@ -85,8 +85,8 @@ fn plan_of_the_heaviest_edge(rt: HostRuntime) -> Result<(), Fail> {
     ask_path(&rt, rt.alloc(), 2, MAX_WEIGHT, Made::With(8), &rows)
 }
 
-// A level repeats the one below it where no distance lies between their radii: so do those below the
-// weight of the only edge. On the line each radius takes another distance in.
+// A level repeats the one below it where no distance lies between their radii: so do those below
+// the weight of the only edge. On the line each radius takes another distance in.
 #[test]
 fn levels_that_repeat(rt: HostRuntime) -> Result<(), Fail> {
     let heavy: [(Asked, &[u64]); 1] = [(

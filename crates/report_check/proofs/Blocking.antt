@@ -2,15 +2,17 @@
 use Rattle.std.proofs.Common.{◌≡◌, ◌≢◌, ℕ, suc, ◌+◌, ◌-◌, ◌<◌, ◌≤◌, Bool, true, false, cond, eqb, ltb, fold, map, List, [], ◌∷◌, ◌++◌, length, take, drop, get_or, set, length-set, length-take, Some, refl, ap, sym, subst, ◌∙◌, arith}
 use Rattle.std.specs.Prelude.{◌&&◌, ◌||◌, slice_index_or}
 use Rattle.std.specs.List.{between, list_any}
+use Rattle.std.proofs.lemmas.Bool.{or_from, or_parts}
 use Rattle.std.proofs.lemmas.Bool.Decides.{Decides-eqb, nat_tests}
-use Rattle.std.proofs.lemmas.List.{drop-append-le, drop-map, drop_all, get_or-map, get_or-set_other, get_or-set_same, length-map, take-map, take_all, take_more}
+use Rattle.std.proofs.lemmas.List.{drop-append-le, drop-map, drop_all, get_or-map, get_or-set_other, get_or-set_same, length-map, take-map, take_more}
 use Rattle.std.proofs.lemmas.List.Edits.{split_between}
 use Rattle.std.proofs.lemmas.List.Folds.{list_any-append}
 use Rattle.std.proofs.lemmas.List.Sums.{fold-append}
+use mathlib.Core.Bool.{or-false}
 use Rattle.directory.specs.declared.answers.Done.{Done}
 use Rattle.directory.specs.declared.answers.Done.TheVariants.{Moved, Switched, Found, Off, Again}
 use Rattle.report_check.specs.declared.blocks.Block.{Block}
-use Rattle.report_check.specs.declared.blocks.Lines.{Lines}
+use Rattle.report_check.specs.declared.blocks.LinesByActor.{LinesByActor}
 use Rattle.report_check.specs.declared.calls.Line.{Line}
 use Rattle.report_check.specs.Lines.{done_of}
 use Rattle.report_check.specs.declared.told.Told.{Told}
@@ -18,16 +20,6 @@ use Rattle.report_check.specs.Blocks.{AreBlocks, IsBlock, SwitchesAlike, TellsAl
 use Rattle.report_check.specs.Parts.{is_of}
 use Rattle.directory.specs.CallLines.{actor_of}
 use Rattle.report_check.specs.Parts.{is_switch_at, tell}
-
-pub false-or : (a b : Bool) → (a || b) ≡ false → (a ≡ false) × (b ≡ false)
-false-or true b e = absurd (true-false e)
-  where
-    true-false : true ≡ false → ⊥
-    true-false e = cc
-false-or false b e = (refl, e)
-
-pub or-false : (a b : Bool) → a ≡ false → b ≡ false → (a || b) ≡ false
-or-false a b e f = ap (λ t. t || b) e ∙ f
 
 -- ---- blocks while they are made
 
@@ -37,10 +29,6 @@ pub record IsSoFar (counts : Done → Bool) (calls : List Done) (place : ℕ) (b
   pub high : block.end ≤ place
   pub before : list_any counts (take block.start calls) ≡ false
   pub behind : list_any counts (drop block.end (take place calls)) ≡ false
-
--- no line was seen
-pub block-none : (counts : Done → Bool) (calls : List Done) → IsSoFar counts calls 0 no_block
-block-none counts calls = record { low = omega arith; high = omega arith; before = refl; behind = refl }
 
 taken : (calls : List Done) (place : ℕ) → place < length calls → length (take place calls) ≡ place
 taken calls place low = omega (arith, length-take place calls, low)
@@ -61,9 +49,9 @@ block-other counts calls place block d low is no-line =
       before = is.before;
       behind = ap (list_any counts) more
           ∙ list_any-append counts (drop block.end (take place calls)) (get_or calls place d ∷ [])
-          ∙ or-false (list_any counts (drop block.end (take place calls)))
+          ∙ or_from (list_any counts (drop block.end (take place calls)))
           (list_any counts (get_or calls place d ∷ [])) is.behind
-          (or-false (counts (get_or calls place d)) false no-line refl);
+          (or_from (counts (get_or calls place d)) false no-line refl);
     }
 
 nothing-behind : (counts : Done → Bool) (calls : List Done) (place : ℕ)
@@ -102,16 +90,6 @@ block-line counts calls place block is =
         (cond b (record { start = place; end = place + 1 }) (record { start = block.start; end = place + 1 }))) (sym e)
         (grown-at counts calls place block first e is)
 
--- all lines were seen
-pub block-done : (counts : Done → Bool) (calls : List Done) (place : ℕ) (block : Block) → place ≡ length calls
-    → IsSoFar counts calls place block → IsBlock counts calls block
-block-done counts calls place block end is = record {
-  low = is.low;
-  high = omega (arith, is.high, end);
-  before = is.before;
-  behind = ap (λ cs. list_any counts (drop block.end cs)) (sym (take_all place calls (omega (arith, end)))) ∙ is.behind;
-}
-
 -- ---- what a block tells
 
 parted : (calls : List Done) (start end : ℕ) → start ≤ end
@@ -138,7 +116,7 @@ tell-others : (actor ticket : ℕ) (told : Told) (calls : List Done) → list_an
     → fold (tell actor ticket) told calls ≡ told
 tell-others actor ticket told [] e = refl
 tell-others actor ticket told (call ∷ calls) e =
-    let both = false-or (is_of actor call) (list_any (is_of actor) calls) e in
+    let both = or_parts (is_of actor call) (list_any (is_of actor) calls) e in
     ap (λ t. fold (tell actor ticket) t calls) (tell-other actor ticket told call both.0)
     ∙ tell-others actor ticket told calls both.1
 
@@ -165,13 +143,9 @@ switch-others : (ticket : ℕ) (calls : List Done) → list_any is_switched call
     → list_any (is_switch_at ticket) calls ≡ false
 switch-others ticket [] e = refl
 switch-others ticket (call ∷ calls) e =
-    let both = false-or (is_switched call) (list_any is_switched calls) e in
-    or-false (is_switch_at ticket call) (list_any (is_switch_at ticket) calls) (switch-other ticket call both.0)
+    let both = or_parts (is_switched call) (list_any is_switched calls) e in
+    or_from (is_switch_at ticket call) (list_any (is_switch_at ticket) calls) (switch-other ticket call both.0)
     (switch-others ticket calls both.1)
-
-or-none : (a : Bool) → (a || false) ≡ a
-or-none true = refl
-or-none false = refl
 
 pub switches-alike : (calls : List Done) (block : Block) → IsBlock is_switched calls block → (ticket : ℕ)
     → list_any (is_switch_at ticket) (between block.start block.end calls) ≡ list_any (is_switch_at ticket) calls
@@ -182,7 +156,7 @@ switches-alike calls block is ticket =
     let c = drop block.end calls in
     sym (ap (list_any p) (parted calls block.start block.end is.low) ∙ list_any-append p a (b ++ c)
     ∙ ap (λ t. t || list_any p (b ++ c)) (switch-others ticket a is.before) ∙ list_any-append p b c
-    ∙ ap (λ t. list_any p b || t) (switch-others ticket c is.behind) ∙ or-none (list_any p b))
+    ∙ ap (λ t. list_any p b || t) (switch-others ticket c is.behind) ∙ or-false (list_any p b))
 
 -- one of the lines of a block counts where one of all does
 pub any-alike : (counts : Done → Bool) (calls : List Done) (block : Block) → IsBlock counts calls block
@@ -193,7 +167,7 @@ any-alike counts calls block is =
     let c = drop block.end calls in
     sym (ap (list_any counts) (parted calls block.start block.end is.low) ∙ list_any-append counts a (b ++ c)
     ∙ ap (λ t. t || list_any counts (b ++ c)) is.before ∙ list_any-append counts b c
-    ∙ ap (λ t. list_any counts b || t) is.behind ∙ or-none (list_any counts b))
+    ∙ ap (λ t. list_any counts b || t) is.behind ∙ or-false (list_any counts b))
 
 -- ---- lines as the code keeps them
 
@@ -209,7 +183,7 @@ switch-lines lines block is ticket =
     ap (list_any (is_switch_at ticket)) (between-map lines block.start block.end)
     ∙ switches-alike (map done_of lines) block is ticket
 
-pub actor-lines : (lines : Lines) (actor : ℕ) (block : Block) → AreBlocks lines → actor < length lines.blocks.now
+pub actor-lines : (lines : LinesByActor) (actor : ℕ) (block : Block) → AreBlocks lines → actor < length lines.blocks.now
     → slice_index_or lines.blocks.now actor no_block ≡ block
     → TellsAlike actor (map done_of lines.calls.now)
     (map done_of (take (block.end - block.start) (drop block.start lines.calls.now)))
@@ -219,7 +193,7 @@ actor-lines lines actor block are low same ticket told =
     ap (fold (tell actor ticket) told) (between-map lines.calls.now block.start block.end)
     ∙ tells-alike actor (map done_of lines.calls.now) block is ticket told
 
-pub actor-any : (lines : Lines) (actor : ℕ) (block : Block) → AreBlocks lines → actor < length lines.blocks.now
+pub actor-any : (lines : LinesByActor) (actor : ℕ) (block : Block) → AreBlocks lines → actor < length lines.blocks.now
     → slice_index_or lines.blocks.now actor no_block ≡ block
     → list_any (is_of actor) (map done_of (take (block.end - block.start) (drop block.start lines.calls.now)))
     ≡ list_any (is_of actor) (map done_of lines.calls.now)

@@ -2,13 +2,14 @@
 use Rattle.std.proofs.Common.{◌≡◌, ◌≢◌, ℕ, zero, suc, ◌+◌, ◌-◌, ◌<◌, ◌≤◌, Bool, true, false, cond, eqb, leb, List, [], ◌∷◌, ◌++◌, length, take, drop, get_or, set, length-set, length-take, length-drop, Some, None, refl, ap, sym, subst, ◌∙◌, arith}
 use Rattle.std.specs.List.{list_any}
 use Rattle.std.proofs.lemmas.Bool.Decides.{Decides-eqb, nat_tests}
-use Rattle.std.proofs.lemmas.List.{drop-append-le, drop-drop, drop_all, get_or-drop, get_or-set_other, get_or-set_same, take_all, take_more}
+use Rattle.std.proofs.lemmas.List.{drop-append-le, drop-drop, drop_all, get_or-drop, get_or-set_other, get_or-set_same, take_more}
 use Rattle.std.proofs.lemmas.List.Folds.{list_any-append}
 use Rattle.directory.specs.declared.answers.Done.{Done}
 use Rattle.report_check.specs.Blocks.{AreBehind, IsBehind}
 use Rattle.directory.specs.CallLines.{actor_of}
 use Rattle.report_check.specs.Parts.{end_of, first_from, is_missing, none_left}
-use Rattle.report_check.proofs.Blocking.{false-or, or-false, not-same, swapped}
+use Rattle.std.proofs.lemmas.Bool.{or_from, or_parts}
+use Rattle.report_check.proofs.Blocking.{not-same, swapped}
 
 -- ---- the last tickets
 
@@ -17,7 +18,7 @@ first-never : (actor ticket : ℕ) (later : List ℕ) → list_any (λ other. eq
 unfolding first_from
 first-never actor ticket [] e = refl
 first-never actor ticket (other ∷ later) e =
-    let both = false-or (eqb other actor) (list_any (λ x. eqb x actor) later) e in
+    let both = or_parts (eqb other actor) (list_any (λ x. eqb x actor) later) e in
     ap (λ b. cond b (Some ticket) (first_from actor (suc ticket) later)) both.0
     ∙ first-never actor (suc ticket) later both.1
 
@@ -42,9 +43,6 @@ pub record IsBehindSoFar (order : List ℕ) (ticket actor n : ℕ) : Type 0 wher
   pub none : list_any (λ other. eqb other actor) (drop n (take ticket order)) ≡ false
   pub last : n ≢ 0 → get_or order (n - 1) 0 ≡ actor
 
-pub behind-none : (order : List ℕ) (actor : ℕ) → IsBehindSoFar order 0 actor 0
-behind-none order actor = record { few = omega arith; none = refl; last = λ some. absurd (some refl) }
-
 behind-other : (order : List ℕ) (ticket actor n : ℕ) → ticket < length order → IsBehindSoFar order ticket actor n
     → eqb (get_or order ticket 0) actor ≡ false → IsBehindSoFar order (ticket + 1) actor n
 behind-other order ticket actor n low is other =
@@ -56,8 +54,8 @@ behind-other order ticket actor n low is other =
     record {
       few = omega (arith, is.few);
       none = ap (list_any p) more ∙ list_any-append p (drop n (take ticket order)) (get_or order ticket 0 ∷ [])
-          ∙ or-false (list_any p (drop n (take ticket order))) (list_any p (get_or order ticket 0 ∷ [])) is.none
-          (or-false (eqb (get_or order ticket 0) actor) false other refl);
+          ∙ or_from (list_any p (drop n (take ticket order))) (list_any p (get_or order ticket 0 ∷ [])) is.none
+          (or_from (eqb (get_or order ticket 0) actor) false other refl);
       last = is.last;
     }
 
@@ -108,15 +106,6 @@ behind-past order behind ticket actor low whose unknown is a few =
     apart : (x y : ℕ) → x < y → eqb x y ≡ false
     apart x y h = grind (arith, nat_tests)
 
-pub behind-done : (order : List ℕ) (ticket actor n : ℕ) → ticket ≡ length order
-    → IsBehindSoFar order ticket actor n → IsBehind order actor n
-behind-done order ticket actor n end is = record {
-  few = omega (arith, is.few, end);
-  none = ap (λ os. list_any (λ other. eqb other actor) (drop n os)) (sym (take_all ticket order (omega (arith, end))))
-      ∙ is.none;
-  last = is.last;
-}
-
 within : (m n : ℕ) → leb m n ≡ true → m ≤ n
 within m n e = grind (arith, nat_tests, e)
 
@@ -126,7 +115,7 @@ over m n e = grind (arith, nat_tests, e)
 any-behind : (p : ℕ → Bool) (xs : List ℕ) (k : ℕ) → list_any p xs ≡ false → list_any p (drop k xs) ≡ false
 any-behind p xs zero e = e
 any-behind p [] (suc k) e = e
-any-behind p (x ∷ xs) (suc k) e = any-behind p xs k (false-or (p x) (list_any p xs) e).1
+any-behind p (x ∷ xs) (suc k) e = any-behind p xs k (or_parts (p x) (list_any p xs) e).1
 
 -- the test of whether an actor has a ticket behind another
 pub none-behind : (order : List ℕ) (actor n end : ℕ) → IsBehind order actor n

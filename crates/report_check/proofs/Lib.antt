@@ -1,3 +1,4 @@
+mod Judged
 mod Steps
 mod ReadBack
 mod ReportRead

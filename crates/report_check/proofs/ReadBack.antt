@@ -1,5 +1,6 @@
 -- What report_text writes of an outcome of the form of reports is read as the outcome.
-use Rattle.std.proofs.Common.{◌≡◌, ℕ, zero, suc, ◌+◌, ◌-◌, ◌*◌, ◌^◌, ◌<◌, ◌≤◌, ◌&&◌, Bool, true, false, cond, eqb, ltb, List, [], ◌∷◌, ◌++◌, length, get_or, Option, Some, None, refl, ap, ◌∙◌, arith, codes, rules, append_assoc, append-nil}
+use Rattle.std.proofs.Common.{◌≡◌, ℕ, zero, suc, ◌+◌, ◌-◌, ◌*◌, ◌^◌, ◌<◌, ◌≤◌, Bool, true, false, cond, eqb, ltb, List, [], ◌∷◌, ◌++◌, length, get_or, Option, Some, None, refl, ap, ◌∙◌, arith, codes, rules, append_assoc, append-nil}
+use Rattle.std.proofs.lemmas.Bool.{and_parts}
 use Rattle.std.proofs.lemmas.Bool.Decides.{nat_tests}
 use Rattle.std.proofs.lemmas.Fmt.{digits_decimal, digits_value-decimal, first_decimal, decimal_digit, decimal_nonempty}
 use Rattle.std.proofs.lemmas.Str.Parse.{IsNumeralModel, numerals_by_fold}
@@ -28,22 +29,17 @@ word-reads [] rest = refl
 word-reads (w ∷ ws) rest = same-byte w (word_in ws (ws ++ rest)) ∙ word-reads ws rest
 
 -- the number that digits write behind another
-abbrev read_on : ℕ → List ℕ → ℕ
+abbrev pub read_on : ℕ → List ℕ → ℕ
 read_on n [] = n
 read_on n (c ∷ cs) = read_on (10 * n + (c - 48)) cs
 
-own : IsNumeralModel (λ ds. list_all is_ascii_digit ds ≡ true) (read_on 0)
-own = numerals_by_fold _ (search rules) read_on (search rules)
+pub reads_numerals : IsNumeralModel (λ ds. list_all is_ascii_digit ds ≡ true) (read_on 0)
+reads_numerals = numerals_by_fold _ (search rules) read_on (search rules)
 
 -- a number isn't below what it goes on from
 grows : (n : ℕ) (ds : List ℕ) → n ≤ read_on n ds
 grows n [] = omega arith
 grows n (c ∷ cs) = omega (arith, grows (10 * n + (c - 48)) cs)
-
-and-parts : (a b : Bool) → (a && b) ≡ true → (a ≡ true) × (b ≡ true)
-and-parts true true e = (refl, refl)
-and-parts true false e = let bad : false ≡ true = e in cc
-and-parts false b e = let bad : false ≡ true = e in cc
 
 goes : (limit next b : ℕ) (some : Option (ℕ × List ℕ)) (none : Option (ℕ × List ℕ)) → is_ascii_digit b ≡ true
     → next < limit → cond (is_ascii_digit b) (cond (ltb next limit) some None) none ≡ some
@@ -64,7 +60,7 @@ digits-go limit value [] (b ∷ rest) all low stop =
     ap (λ t. cond t (cond (ltb (10 * value + (b - 48)) limit)
     (digits_from limit (10 * value + (b - 48)) rest) None) (Some (value, b ∷ rest))) stop
 digits-go limit value (c ∷ cs) rest all low stop =
-    let both = and-parts (is_ascii_digit c) (list_all is_ascii_digit cs) all in
+    let both = and_parts (is_ascii_digit c) (list_all is_ascii_digit cs) all in
     goes limit (10 * value + (c - 48)) c (digits_from limit (10 * value + (c - 48)) (cs ++ rest))
     (Some (value, c ∷ cs ++ rest)) both.0 (omega (arith, low, grows (10 * value + (c - 48)) cs))
     ∙ digits-go limit (10 * value + (c - 48)) cs rest both.1 low stop
@@ -80,7 +76,7 @@ some-digits limit n [] rest some high all is low stop = absurd (omega (arith, so
 some-digits limit n (b ∷ ds) rest some high all is low stop =
     other-byte b _ _ high
     ∙ ap (λ t. cond t (digits_from limit 0 (b ∷ ds ++ rest)) None)
-    (and-parts (is_ascii_digit b) (list_all is_ascii_digit ds) all).0
+    (and_parts (is_ascii_digit b) (list_all is_ascii_digit ds) all).0
     ∙ digits-go limit 0 (b ∷ ds) rest all (omega (arith, is, low)) stop
     ∙ ap (λ k. Some (k, rest)) is
 
@@ -98,8 +94,8 @@ decimal-reads limit zero rest low few stop =
 decimal-reads limit (suc m) rest low few stop =
     let small : suc m < 2 ^ 64 = omega (arith, low, few) in
     some-digits limit (suc m) (decimal (suc m)) rest (decimal_nonempty (suc m) small)
-    (first_decimal (suc m) (omega arith) small) (digits_decimal own (suc m) small)
-    (digits_value-decimal own (suc m) small) low stop
+    (first_decimal (suc m) (omega arith) small) (digits_decimal reads_numerals (suc m) small)
+    (digits_value-decimal reads_numerals (suc m) small) low stop
 
 some-limit : (limit n : ℕ) (found : Option (ℕ × List ℕ)) → n < limit → cond (ltb 0 limit) found None ≡ found
 some-limit limit n found low = let some : 0 < limit = omega (arith, low) in grind (arith, nat_tests)

@@ -2,6 +2,7 @@
 use Rattle.std.proofs.Common.{◌≡◌, ◌⊎◌, inl, inr, ℕ, zero, suc, ◌+◌, ◌%◌, ◌^◌, ◌<◌, ◌≤◌, Bool, true, false, cond, eqb, List, [], ◌∷◌, ◌++◌, length, take, drop, map, Option, Some, None, Result, Ok, refl, ap, sym, ◌∙◌, arith, codes, append_assoc, append-nil, length-append}
 use Rattle.std.specs.Prelude.{All}
 use Rattle.std.specs.List.{concat}
+use Rattle.std.proofs.lemmas.List.Folds.{concat-append}
 use Rattle.std.proofs.lemmas.Bool.Decides.{nat_tests}
 use Rattle.std.proofs.lemmas.Bool.{cases_lt}
 use Rattle.std.proofs.lemmas.List.{drop_all, length-drop, length-take, take-append-drop}
@@ -15,11 +16,6 @@ use Rattle.report_check.specs.declared.calls.Bounds.{Bounds}
 use Rattle.report_check.specs.Forms.{IsCallBelow, ReportsAreRead, slot_told}
 use Rattle.report_check.specs.Reading.{◌>>=◌, and_then, call_in, calls_in, ends_with, in_order, lines_before_end, lines_more, most, number_in, numbers_in, or_lines, order_in, order_line_count, orders_in, report_end, report_in, starts_with_digit, word_in}
 use Rattle.report_check.proofs.ReadBack.{call-reads, label-then, number-reads, word-reads, word-then}
-
-pub concat-append : (xs ys : List (List ℕ)) → concat (xs ++ ys) ≡ concat xs ++ concat ys
-concat-append [] ys = refl
-concat-append (x ∷ xs) ys =
-    ap (λ (l : List ℕ). x ++ l) (concat-append xs ys) ∙ sym (append_assoc x (concat xs) (concat ys))
 
 -- ---- the calls
 

@@ -1,12 +1,12 @@
 -- What is read is the text that report_text writes of it.
-use Rattle.std.proofs.Common.{◌≡◌, ◌≢◌, ℕ, ◌+◌, ◌-◌, ◌*◌, ◌^◌, ◌<◌, ◌≤◌, ◌&&◌, Bool, true, false, cond, eqb, ltb, List, [], ◌∷◌, ◌++◌, Option, Some, None, refl, ap, sym, ◌∙◌, arith, subst, codes, rules}
+use Rattle.std.proofs.Common.{◌≡◌, ◌≢◌, ℕ, ◌+◌, ◌-◌, ◌*◌, ◌^◌, ◌<◌, ◌≤◌, ◌&&◌, Bool, true, false, cond, eqb, ltb, List, [], ◌∷◌, ◌++◌, Option, Some, None, refl, ap, sym, ◌∙◌, arith, subst, codes}
 use Rattle.std.proofs.lemmas.Bool.Decides.{nat_tests}
 use Rattle.std.proofs.lemmas.Fmt.{decimal-digits_value, decimal_digit}
-use Rattle.std.proofs.lemmas.Str.Parse.{IsNumeralModel, numerals_by_fold}
 use Rattle.std.specs.Char.{is_ascii_digit}
 use Rattle.std.specs.Fmt.{decimal}
 use Rattle.std.specs.List.{list_all}
 use Rattle.outside.specs.Texts.{field}
+use Rattle.report_check.proofs.ReadBack.{read_on, reads_numerals}
 use Rattle.report_check.specs.Reading.{◌>>=◌, digits_from, digits_in, digits_of, number_in, starts_with_digit, word_in}
 
 -- how a reading that goes on went so far
@@ -29,14 +29,6 @@ unfolding word_in
 word-text [] text rest e = let same : Some text ≡ Some rest = e in cc
 word-text (w ∷ ws) [] rest e = let bad : None ≡ Some rest = e in cc
 word-text (w ∷ ws) (b ∷ text) rest e = same-byte w b ws text rest (eqb w b) refl e (word-text ws text rest)
-
--- the number that digits write behind another
-abbrev read_on : ℕ → List ℕ → ℕ
-read_on n [] = n
-read_on n (c ∷ cs) = read_on (10 * n + (c - 48)) cs
-
-own : IsNumeralModel (λ ds. list_all is_ascii_digit ds ≡ true) (read_on 0)
-own = numerals_by_fold _ (search rules) read_on (search rules)
 
 -- digits that were read
 record IsRun (limit value : ℕ) (text : List ℕ) (n : ℕ) (rest : List ℕ) : Type 0 where
@@ -112,7 +104,7 @@ first-digit limit b n text rest true high other digit small e =
     ap (λ c. c && list_all is_ascii_digit run.ds) digit ∙ run.digits in
     let low : read_on 0 (b ∷ run.ds) < 2 ^ 64 = omega (arith, run.low below, high, value) in
     let written : decimal (read_on 0 (b ∷ run.ds)) ≡ b ∷ run.ds =
-    decimal-digits_value own (b ∷ run.ds) all (omega arith) (λ zero. absurd (other zero)) low in
+    decimal-digits_value reads_numerals (b ∷ run.ds) all (omega arith) (λ zero. absurd (other zero)) low in
     ap (λ (xs : List ℕ). b ∷ xs) run.parts
     ∙ ap (λ (xs : List ℕ). xs ++ rest) (sym written ∙ ap decimal (sym value))
 first-digit limit b n text rest false high other digit small e = let bad : None ≡ Some (n, rest) = e in cc

@@ -6,7 +6,7 @@ use Rattle.std.specs.List.{list_any}
 use Rattle.directory.specs.declared.answers.Done.{Done}
 use Rattle.directory.specs.declared.answers.Done.TheVariants.{Moved, Switched, Found, Off, Again}
 use Rattle.report_check.specs.declared.blocks.Block.{Block}
-use Rattle.report_check.specs.declared.blocks.Lines.{Lines}
+use Rattle.report_check.specs.declared.blocks.LinesByActor.{LinesByActor}
 use Rattle.report_check.specs.Lines.{done_of}
 use Rattle.report_check.specs.declared.told.Told.{Told}
 use Rattle.report_check.specs.Parts.{is_of, is_switch_at, tell}
@@ -37,7 +37,7 @@ grown block place =
     else record { start = block.start; end = place + 1 }
 
 -- the blocks of the actors and of the switches are so
-pub record AreBlocks (lines : Lines) : Type 0 where
+pub record AreBlocks (lines : LinesByActor) : Type 0 where
   pub actors : (actor : ℕ) → actor < length lines.blocks.now
       → IsBlock (is_of actor) (map done_of lines.calls.now)
       (slice_index_or lines.blocks.now actor no_block)

@@ -18,7 +18,7 @@ pub(crate) struct Block {
 
 /// The lines of calls, the block of each actor's, and that of the switches.
 #[derive(Clone, Copy)]
-pub(crate) struct Lines<'a> {
+pub(crate) struct LinesByActor<'a> {
     pub(crate) calls: &'a [Line],
     pub(crate) blocks: &'a [Block],
     pub(crate) switches: Block,
@@ -134,7 +134,7 @@ pub(crate) fn behind_tickets(
     Ok(behind)
 }
 
-impl<'a> Lines<'a> {
+impl<'a> LinesByActor<'a> {
     /// The lines of an actor, and some of others; all lines where the actor is unknown.
     pub(crate) fn of_actor(&self, actor: u32) -> &'a [Line]
         requires { AreBlocks self.now }

@@ -4,7 +4,7 @@ ghost use Rattle.net_reader.specs.Seen.{seen_input};
 ghost use Rattle.net_reader.specs.Valid.{IsValid};
 ghost use Rattle.report_check.specs.Verdicts.{most_bytes, verdict_of};
 
-use crate::blocks::{Lines, behind_tickets, blocks_of, switch_block};
+use crate::blocks::{LinesByActor, behind_tickets, blocks_of, switch_block};
 use crate::calls::Bounds;
 use crate::judge::{Ground, judge, line_behind};
 use crate::report::read_report;
@@ -51,7 +51,7 @@ pub fn check(
             let actors = input.scripts.len();
             let blocks = blocks_of(alloc, actors, &found.calls)?;
             let behind = behind_tickets(alloc, actors, &found.order)?;
-            let lines = Lines {
+            let lines = LinesByActor {
                 calls: &found.calls,
                 blocks: &blocks,
                 switches: switch_block(&found.calls),

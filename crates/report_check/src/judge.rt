@@ -9,7 +9,7 @@ ghost use Rattle.report_check.specs.Verdicts.{flaw_of, has_call, is_last_at, jud
 ghost use Rattle.report_check.specs.Blocks.{AreBehind, AreBlocks};
 ghost use Rattle.report_check.specs.Grounds.{IsGround, IsGroundAlone};
 
-use crate::blocks::{Lines, actor_of};
+use crate::blocks::{LinesByActor, actor_of};
 use crate::calls::{Line, Place, Visits};
 use crate::told::{Told, meets_move, next_ticket, told_of};
 use crate::verdict::{Flaw, Verdict};
@@ -131,7 +131,7 @@ fn home_of(homes: &[u32], sub: u32) -> u32
     }
 }
 
-fn place_holds(ground: &Ground<'_>, lines: &Lines<'_>, line: &Line) -> bool
+fn place_holds(ground: &Ground<'_>, lines: &LinesByActor<'_>, line: &Line) -> bool
     requires { AreBlocks lines.now }
     ensures { result ≡ place_holds ground.now.homes.now (map done_of lines.now.calls.now)
         (done_of line.now) }
@@ -151,7 +151,7 @@ fn place_holds(ground: &Ground<'_>, lines: &Lines<'_>, line: &Line) -> bool
     }
 }
 
-fn again_holds(lines: &Lines<'_>, order: &[u64], line: &Line) -> bool
+fn again_holds(lines: &LinesByActor<'_>, order: &[u64], line: &Line) -> bool
     requires { AreBlocks lines.now }
     ensures { result ≡ again_holds (map done_of lines.now.calls.now) order.now (done_of line.now) }
 {
@@ -208,7 +208,7 @@ fn is_within(weight: u64, stretch: u64, distance: u64, passage: u64) -> bool
 // Whether a find that met no move weighs what is promised at most.
 fn is_light(
     ground: &Ground<'_>,
-    lines: &Lines<'_>,
+    lines: &LinesByActor<'_>,
     order: &[u64],
     from: u32,
     sub: u32,
@@ -231,7 +231,7 @@ fn is_light(
     is_within(visits.weight, ground.stretch, way, passage)
 }
 
-fn weight_holds(ground: &Ground<'_>, lines: &Lines<'_>, order: &[u64], line: &Line) -> bool
+fn weight_holds(ground: &Ground<'_>, lines: &LinesByActor<'_>, order: &[u64], line: &Line) -> bool
     requires ground { IsGroundAlone ground.now }
     requires blocks { AreBlocks lines.now }
     ensures { (plan : PlanData) → IsGround plan ground.now
@@ -260,7 +260,7 @@ fn weight_holds(ground: &Ground<'_>, lines: &Lines<'_>, order: &[u64], line: &Li
 // The first part that a line breaks; the end of the actor's call before is handed in.
 fn flaw_of(
     ground: &Ground<'_>,
-    lines: &Lines<'_>,
+    lines: &LinesByActor<'_>,
     order: &[u64],
     behind: &[u64],
     before: Option<u64>,
@@ -348,7 +348,7 @@ fn end_before(last: bool, line: &Line) -> Option<u64>
 pub(crate) fn judge(
     ground: &Ground<'_>,
     scripts: &[Vec<Call>],
-    lines: &Lines<'_>,
+    lines: &LinesByActor<'_>,
     order: &[u64],
     behind: &[u64],
 ) -> Verdict

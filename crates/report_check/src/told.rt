@@ -5,7 +5,7 @@ ghost use Rattle.report_check.specs.Blocks.{AreBlocks};
 ghost use Rattle.report_check.specs.Lines.{done_of};
 ghost use Rattle.report_check.specs.Parts.{at_start, first_from, is_of_move, is_switch_at, meets_from, meets_move, next_ticket, tell, told_before};
 
-use crate::blocks::Lines;
+use crate::blocks::LinesByActor;
 use crate::calls::Line;
 
 /// Where a subscriber is, how many moves it has made, whether it is off, and the commit and the
@@ -89,7 +89,7 @@ fn told_before(home: u32, calls: &[Line], sub: u32, ticket: u64) -> Told
 }
 
 // What all lines tell of a subscriber before a ticket, by those among which its own stand.
-pub(crate) fn told_of(lines: &Lines<'_>, home: u32, sub: u32, ticket: u64) -> Told
+pub(crate) fn told_of(lines: &LinesByActor<'_>, home: u32, sub: u32, ticket: u64) -> Told
     requires { AreBlocks lines.now }
     ensures { result ≡ fold (tell sub ticket) (at_start home) (map done_of lines.now.calls.now) }
 {
@@ -119,7 +119,7 @@ fn is_switch(calls: &[Line], ticket: u64) -> bool
 }
 
 // The same by the lines among which the switches stand.
-fn is_switch_among(lines: &Lines<'_>, ticket: u64) -> bool
+fn is_switch_among(lines: &LinesByActor<'_>, ticket: u64) -> bool
     requires { AreBlocks lines.now }
     ensures { result ≡ list_any (is_switch_at ticket) (map done_of lines.now.calls.now) }
 {
@@ -127,7 +127,7 @@ fn is_switch_among(lines: &Lines<'_>, ticket: u64) -> bool
 }
 
 // Whether an actor's ticket is of a move of a subscriber.
-fn is_of_move(lines: &Lines<'_>, sub: u32, ticket: u64, actor: u64) -> bool
+fn is_of_move(lines: &LinesByActor<'_>, sub: u32, ticket: u64, actor: u64) -> bool
     requires { AreBlocks lines.now }
     ensures { result ≡ is_of_move (map done_of lines.now.calls.now) sub ticket actor }
 {
@@ -162,7 +162,13 @@ pub(crate) fn next_ticket(order: &[u64], actor: u32, before: Option<u64>) -> Opt
 }
 
 // Whether a ticket of a move of a subscriber comes between two tickets.
-pub(crate) fn meets_move(lines: &Lines<'_>, order: &[u64], sub: u32, first: u64, last: u64) -> bool
+pub(crate) fn meets_move(
+    lines: &LinesByActor<'_>,
+    order: &[u64],
+    sub: u32,
+    first: u64,
+    last: u64,
+) -> bool
     requires { AreBlocks lines.now }
     ensures { result ≡ meets_move (map done_of lines.now.calls.now) order.now sub first last }
 {
@@ -170,7 +176,7 @@ pub(crate) fn meets_move(lines: &Lines<'_>, order: &[u64], sub: u32, first: u64,
 }
 
 // The same of a subscriber that has a line.
-fn meets_later(lines: &Lines<'_>, order: &[u64], sub: u32, first: u64, last: u64) -> bool
+fn meets_later(lines: &LinesByActor<'_>, order: &[u64], sub: u32, first: u64, last: u64) -> bool
     requires { AreBlocks lines.now }
     ensures { result ≡ meets_from (map done_of lines.now.calls.now) sub last (suc first)
         (drop (suc first) order.now) }

@@ -4,9 +4,9 @@ use Rattle.std.proofs.lemmas.List.{append_cancel_right, length-append}
 use Rattle.region_plan.specs.Plan.{PlanData, Level, Repeats, level_at}
 use Rattle.outside.specs.Texts.{fields}
 use Rattle.report_text.specs.PlanText.{clusters_text, homes_line}
-use Rattle.report_text.specs.Written.{IsStageOf, IsStep, KeepsBody, clusters_left, levels_left, plan_left}
-use Rattle.report_text.specs.declared.kept.Kept.{Kept}
-use Rattle.report_text.specs.declared.plan.Stage.{Stage}
+use Rattle.report_text.specs.Written.{IsInPlan, IsStep, KeepsBody, clusters_left, levels_left, plan_left}
+use Rattle.report_text.specs.declared.kept.KeptBody.{KeptBody}
+use Rattle.report_text.specs.declared.plan.NextPart.{NextPart}
 
 -- a level that repeats the one below has its body
 pub again : (plan : PlanData) (i : ℕ) (body : List ℕ) → body ++ levels_left plan i ≡ clusters_left plan (i - 1) 0
@@ -36,8 +36,8 @@ again plan i body whole same =
     )
 
 -- a part after which the kept body isn't to be written
-pub plain_step : (plan : PlanData) (before after : Stage) (kept : Kept) (part : List ℕ) → kept.waits ≡ false
-    → plan_left plan before ≡ part ++ plan_left plan after → 0 < length part → IsStageOf plan after
+pub plain_step : (plan : PlanData) (before after : NextPart) (kept : KeptBody) (part : List ℕ) → kept.waits ≡ false
+    → plan_left plan before ≡ part ++ plan_left plan after → 0 < length part → IsInPlan plan after
     → KeepsBody plan after kept → IsStep plan before after kept part
 plain_step plan before after kept part still text some sound keeps = record {
   text = subst (λ b. plan_left plan before ≡ part ++ (cond b kept.body.items [] ++ plan_left plan after)) (sym still)

@@ -10,9 +10,9 @@ use Rattle.report_text.specs.PlanText.{clusters_text, homes_line, levels_text, p
 use Rattle.report_text.specs.ReportText.{call_line, last_line}
 use Rattle.text_line.specs.OrderLines.{order_lines}
 use Rattle.outside.specs.Texts.{◌then◌, fields}
-use Rattle.report_text.specs.declared.kept.Kept.{Kept}
-use Rattle.report_text.specs.declared.plan.Stage.{Stage}
-use Rattle.report_text.specs.declared.plan.Stage.TheVariants as stages
+use Rattle.report_text.specs.declared.kept.KeptBody.{KeptBody}
+use Rattle.report_text.specs.declared.plan.NextPart.{NextPart}
+use Rattle.report_text.specs.declared.plan.NextPart.TheVariants as parts
 
 -- the lines of these calls and of these tickets, and the last one where it isn't written yet
 abbrev pub lines_left : List Done → List ℕ → ℕ → Bool → List (List ℕ)
@@ -40,52 +40,52 @@ clusters_left plan i c =
     clusters_text c (drop c (level_at plan i).clusters)
     then homes_line (level_at plan i) then levels_left plan (i + 1)
 
--- the text of a plan from a stage on
-abbrev pub plan_left : PlanData → Stage → List ℕ
-plan_left plan stages.Measures = plan_text_of plan
-plan_left plan (stages.Level i) = levels_left plan i
-plan_left plan (stages.Cluster i c) = clusters_left plan i c
-plan_left plan (stages.Members i c from) =
+-- the text of a plan from a part on
+abbrev pub plan_left : PlanData → NextPart → List ℕ
+plan_left plan parts.Measures = plan_text_of plan
+plan_left plan (parts.Level i) = levels_left plan i
+plan_left plan (parts.Cluster i c) = clusters_left plan i c
+plan_left plan (parts.Members i c from) =
     fields (drop from (members_of plan i c)) then 10 ∷ [] then clusters_left plan i (c + 1)
-plan_left plan (stages.Homes i from) =
+plan_left plan (parts.Homes i from) =
     fields (drop from (level_at plan i).homes) then 10 ∷ [] then levels_left plan (i + 1)
-plan_left plan stages.Done = []
+plan_left plan parts.Done = []
 
--- a stage names what the plan has
-abbrev pub IsStageOf : PlanData → Stage → Type 0
-IsStageOf plan stages.Measures = Unit {0}
-IsStageOf plan (stages.Level i) = Unit {0}
-IsStageOf plan (stages.Cluster i c) = i < levels_of plan
-IsStageOf plan (stages.Members i c from) =
+-- a part is one of the plan
+abbrev pub IsInPlan : PlanData → NextPart → Type 0
+IsInPlan plan parts.Measures = Unit {0}
+IsInPlan plan (parts.Level i) = Unit {0}
+IsInPlan plan (parts.Cluster i c) = i < levels_of plan
+IsInPlan plan (parts.Members i c from) =
     (i < levels_of plan) × (c < clusters_of plan i) × (from ≤ length (members_of plan i c))
-IsStageOf plan (stages.Homes i from) = (i < levels_of plan) × (from ≤ nodes_of plan)
-IsStageOf plan stages.Done = Unit {0}
+IsInPlan plan (parts.Homes i from) = (i < levels_of plan) × (from ≤ nodes_of plan)
+IsInPlan plan parts.Done = Unit {0}
 
--- the text from a stage on, before which the kept body may have to be written
-abbrev pub text_left : PlanData → Stage → Kept → List ℕ
-text_left plan stage kept =
-    (if kept.waits then kept.body.items else []) ++ plan_left plan stage
+-- the text from a part on, before which the kept body may have to be written
+abbrev pub text_left : PlanData → NextPart → KeptBody → List ℕ
+text_left plan next kept =
+    (if kept.waits then kept.body.items else []) ++ plan_left plan next
 
 -- what is kept of the body of a level: with what stands behind it, it is the text from the body on
-pub record KeepsBody (plan : PlanData) (stage : Stage) (kept : Kept) : Type 0 where
+pub record KeepsBody (plan : PlanData) (next : NextPart) (kept : KeptBody) : Type 0 where
   pub room : 65536 ≤ vec_capacity kept.body
   pub whole : IfSome kept.level
-      (λ i. kept.body.items ++ plan_left plan stage ≡ clusters_left plan i 0)
+      (λ i. kept.body.items ++ plan_left plan next ≡ clusters_left plan i 0)
   pub some : kept.waits ≡ true → 0 < length kept.body.items
 
--- the part leads from a stage to another, and to what is kept then
-pub record IsStep (plan : PlanData) (before after : Stage) (kept : Kept) (part : List ℕ) : Type 0
-  where
-    pub text : plan_left plan before ≡ part ++ text_left plan after kept
-    pub some : 0 < length part
-    pub sound : IsStageOf plan after
-    pub keeps : KeepsBody plan after kept
+-- what is written leads from a part to another, and to what is kept then
+pub record IsStep (plan : PlanData) (before after : NextPart) (kept : KeptBody) (part : List ℕ)
+    : Type 0 where
+  pub text : plan_left plan before ≡ part ++ text_left plan after kept
+  pub some : 0 < length part
+  pub sound : IsInPlan plan after
+  pub keeps : KeepsBody plan after kept
 
--- the part leads from one stage to another
-pub record IsPart (plan : PlanData) (before after : Stage) (part : List ℕ) : Type 0 where
+-- what is written leads from one part to another
+pub record IsPart (plan : PlanData) (before after : NextPart) (part : List ℕ) : Type 0 where
   pub text : plan_left plan before ≡ part ++ plan_left plan after
   pub some : 0 < length part
-  pub sound : IsStageOf plan after
+  pub sound : IsInPlan plan after
 
 -- the text of a plan: the part that was made last, and what is left
 pub record PartsState : Type 0 where

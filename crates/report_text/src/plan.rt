@@ -4,11 +4,11 @@ ghost use Rattle.region_plan.specs.Plan.{level_at, cluster_at, members_of, nodes
 ghost use Rattle.region_plan.specs.Kept.{IsKept};
 ghost use Rattle.outside.specs.Texts.{fields};
 ghost use Rattle.report_text.specs.PlanText.{cluster_head, level_line, plan_line, plan_text_of};
-ghost use Rattle.report_text.specs.Written.{IsPart, IsStageOf, IsStep, KeepsBody};
+ghost use Rattle.report_text.specs.Written.{IsPart, IsInPlan, IsStep, KeepsBody};
 ghost use Rattle.report_text.specs.Written.{clusters_left, levels_left};
-ghost use Rattle.report_text.specs.declared.plan.Stage.TheVariants.{Measures, Level, Cluster, Members, Homes, Done};
+ghost use Rattle.report_text.specs.declared.plan.NextPart.TheVariants.{Measures, Level, Cluster, Members, Homes, Done};
 
-use crate::kept::Kept;
+use crate::kept::KeptBody;
 use region_plan::Plan;
 use std::alloc::{AllocError, Global};
 use std::marker::Model;
@@ -19,7 +19,7 @@ const MOST_IN_A_PART: usize = 64;
 
 /// What the next part begins with.
 #[derive(Clone, Copy, Debug)]
-enum Stage {
+enum NextPart {
     Measures,
     Level {
         level: u32,
@@ -41,7 +41,7 @@ enum Stage {
 }
 
 // The line that measures the plan.
-fn write_measures(line: &mut Line, plan: &Plan) -> Stage
+fn write_measures(line: &mut Line, plan: &Plan) -> NextPart
     requires { line.old ≡ [] }
     ensures { IsPart plan.now Measures result line.new }
 {
@@ -51,7 +51,7 @@ fn write_measures(line: &mut Line, plan: &Plan) -> Stage
     line.label_number(" degree", u64::from(plan.degree()));
     line.label_number(" stretch", plan.stretch());
     line.word("\n");
-    Stage::Level { level: 0 }
+    NextPart::Level { level: 0 }
 }
 
 // The line that begins a level.
@@ -69,7 +69,7 @@ fn write_level(line: &mut Line, plan: &Plan, level: u32)
 }
 
 // Whether the kept body is that of a level too.
-fn is_body_of(kept: &Kept, plan: &Plan, level: u32) -> bool
+fn is_body_of(kept: &KeptBody, plan: &Plan, level: u32) -> bool
     requires level { level < levels_of plan.now }
     requires keeps { KeepsBody plan.now (Level level) kept.now }
     ensures { result ≡ true → (kept.now.body.items ++ levels_left plan.now (level + 1)
@@ -85,7 +85,7 @@ fn is_body_of(kept: &Kept, plan: &Plan, level: u32) -> bool
 }
 
 // Begins a level, or ends the text.
-fn begin_level(line: &mut Line, plan: &Plan, level: u32, kept: &mut Kept) -> Stage
+fn begin_level(line: &mut Line, plan: &Plan, level: u32, kept: &mut KeptBody) -> NextPart
     requires empty { line.old ≡ [] }
     requires sound { IsKept plan.now }
     requires keeps { KeepsBody plan.now (Level level) kept.old }
@@ -95,17 +95,17 @@ fn begin_level(line: &mut Line, plan: &Plan, level: u32, kept: &mut Kept) -> Sta
     if level >= plan.levels() {
         line.word("end\n");
         kept.level = None;
-        return Stage::Done;
+        return NextPart::Done;
     }
     write_level(line, plan, level);
     if is_body_of(kept, plan, level) {
         kept.level = Some(level);
         kept.waits = true;
-        return Stage::Level { level: level + 1 };
+        return NextPart::Level { level: level + 1 };
     }
     kept.body.clear();
     kept.level = Some(level);
-    Stage::Cluster { level, cluster: 0 }
+    NextPart::Cluster { level, cluster: 0 }
 }
 
 // What stands before a cluster's members.
@@ -123,26 +123,26 @@ fn write_cluster(line: &mut Line, plan: &Plan, level: u32, cluster: u32)
 }
 
 // What stands before a cluster's members, or before the homes.
-fn write_cluster_or_homes(line: &mut Line, plan: &Plan, level: u32, cluster: u32) -> Stage
+fn write_cluster_or_homes(line: &mut Line, plan: &Plan, level: u32, cluster: u32) -> NextPart
     requires empty { line.old ≡ [] }
     requires level { level < levels_of plan.now }
     ensures { IsPart plan.now (Cluster level cluster) result line.new }
 {
     if cluster < plan.clusters(level) {
         write_cluster(line, plan, level, cluster);
-        Stage::Members {
+        NextPart::Members {
             level,
             cluster,
             from: 0,
         }
     } else {
         line.word("homes");
-        Stage::Homes { level, from: 0 }
+        NextPart::Homes { level, from: 0 }
     }
 }
 
 // Some members of a cluster, and the line's end behind the last.
-fn write_members(line: &mut Line, plan: &Plan, level: u32, cluster: u32, from: usize) -> Stage
+fn write_members(line: &mut Line, plan: &Plan, level: u32, cluster: u32, from: usize) -> NextPart
     requires empty { line.old ≡ [] }
     requires level { level < levels_of plan.now }
     requires cluster { cluster < clusters_of plan.now level }
@@ -154,14 +154,14 @@ fn write_members(line: &mut Line, plan: &Plan, level: u32, cluster: u32, from: u
     let count = rest.len().min(MOST_IN_A_PART);
     line.numbers(rest.split_at(count).0);
     if count < rest.len() {
-        return Stage::Members {
+        return NextPart::Members {
             level,
             cluster,
             from: from + count,
         };
     }
     line.word("\n");
-    Stage::Cluster {
+    NextPart::Cluster {
         level,
         cluster: cluster + 1,
     }
@@ -185,7 +185,7 @@ fn push_homes(line: &mut Line, plan: &Plan, level: u32, from: u32, to: u32)
 }
 
 // The homes of some nodes, and the line's end behind the last.
-fn write_homes(line: &mut Line, plan: &Plan, nodes: u32, level: u32, from: u32) -> Stage
+fn write_homes(line: &mut Line, plan: &Plan, nodes: u32, level: u32, from: u32) -> NextPart
     requires empty { line.old ≡ [] }
     requires kept { IsKept plan.now }
     requires level { level < levels_of plan.now }
@@ -196,52 +196,58 @@ fn write_homes(line: &mut Line, plan: &Plan, nodes: u32, level: u32, from: u32) 
     let to = from + (nodes - from).min(MOST_IN_A_PART as u32);
     push_homes(line, plan, level, from, to);
     if to < nodes {
-        return Stage::Homes { level, from: to };
+        return NextPart::Homes { level, from: to };
     }
     line.word("\n");
-    Stage::Level { level: level + 1 }
+    NextPart::Level { level: level + 1 }
 }
 
 // One part of the measures or of the body of a level, and what the next part begins with.
-fn write_body_part(line: &mut Line, plan: &Plan, nodes: u32, stage: Stage) -> Stage
+fn write_body_part(line: &mut Line, plan: &Plan, nodes: u32, next: NextPart) -> NextPart
     requires empty { line.old ≡ [] }
     requires sound { IsKept plan.now }
     requires nodes { nodes ≡ nodes_of plan.now }
-    requires stage { IsStageOf plan.now stage }
-    requires going { stage ≢ Done }
-    requires begun { (i : ℕ) → stage ≢ Level i }
-    ensures { IsPart plan.now stage result line.new }
+    requires names { IsInPlan plan.now next }
+    requires going { next ≢ Done }
+    requires begun { (i : ℕ) → next ≢ Level i }
+    ensures { IsPart plan.now next result line.new }
 {
-    match stage {
-        Stage::Measures => write_measures(line, plan),
-        Stage::Cluster { level, cluster } => write_cluster_or_homes(line, plan, level, cluster),
-        Stage::Members {
+    match next {
+        NextPart::Measures => write_measures(line, plan),
+        NextPart::Cluster { level, cluster } => write_cluster_or_homes(line, plan, level, cluster),
+        NextPart::Members {
             level,
             cluster,
             from,
         } => write_members(line, plan, level, cluster, from),
-        Stage::Homes { level, from } => write_homes(line, plan, nodes, level, from),
-        Stage::Level { .. } | Stage::Done => unreachable!(),
+        NextPart::Homes { level, from } => write_homes(line, plan, nodes, level, from),
+        NextPart::Level { .. } | NextPart::Done => unreachable!(),
     }
 }
 
 // One part more, and what the next one begins with.
-fn write_part(line: &mut Line, plan: &Plan, nodes: u32, stage: Stage, kept: &mut Kept) -> Stage
+fn write_part(
+    line: &mut Line,
+    plan: &Plan,
+    nodes: u32,
+    next: NextPart,
+    kept: &mut KeptBody,
+) -> NextPart
     requires empty { line.old ≡ [] }
     requires sound { IsKept plan.now }
     requires nodes { nodes ≡ nodes_of plan.now }
-    requires stage { IsStageOf plan.now stage }
-    requires going { stage ≢ Done }
-    requires keeps { KeepsBody plan.now stage kept.old }
+    requires names { IsInPlan plan.now next }
+    requires going { next ≢ Done }
+    requires keeps { KeepsBody plan.now next kept.old }
     requires still { kept.old.waits ≡ false }
-    ensures { IsStep plan.now stage result kept.new line.new }
+    ensures { IsStep plan.now next result kept.new line.new }
 {
-    if let Stage::Level { level } = stage {
+    if let NextPart::Level { level } = next {
         return begin_level(line, plan, level, kept);
     }
-    let next = write_body_part(line, plan, nodes, stage);
+    let behind = write_body_part(line, plan, nodes, next);
     kept.keep(line.bytes());
-    next
+    behind
 }
 
 /// The parts of a plan's text, one after another. It takes its memory at once, and keeps one part
@@ -250,9 +256,9 @@ fn write_part(line: &mut Line, plan: &Plan, nodes: u32, stage: Stage, kept: &mut
 pub struct PlanParts<'a> {
     plan: &'a Plan,
     nodes: u32,
-    stage: Stage,
+    next: NextPart,
     part: Line,
-    kept: Kept,
+    kept: KeptBody,
     is_body: bool,
 }
 
@@ -260,17 +266,17 @@ impl<'a> Model for PlanParts<'a> {
     ghost use Rattle.std.specs.Prelude.{◌≡◌, if◌then◌else◌};
     ghost use Rattle.region_plan.specs.Plan.{nodes_of};
     ghost use Rattle.region_plan.specs.Kept.{IsKept};
-    ghost use Rattle.report_text.specs.Written.{IsStageOf, KeepsBody, PartsState, text_left};
+    ghost use Rattle.report_text.specs.Written.{IsInPlan, KeepsBody, PartsState, text_left};
 
     ghost Value = { PartsState };
 
     ghost view = { λ p. record {
       part = if p.is_body then p.kept.body.items else p.part;
-      left = text_left p.plan.now p.stage p.kept;
+      left = text_left p.plan.now p.next p.kept;
     } };
 
     ghost invariant = { λ p. (p.nodes ≡ nodes_of p.plan.now) × IsKept p.plan.now
-        × IsStageOf p.plan.now p.stage × KeepsBody p.plan.now p.stage p.kept };
+        × IsInPlan p.plan.now p.next × KeepsBody p.plan.now p.next p.kept };
 }
 
 impl<'a> PlanParts<'a> {
@@ -281,9 +287,9 @@ impl<'a> PlanParts<'a> {
         Ok(PlanParts {
             plan,
             nodes: plan.nodes(),
-            stage: Stage::Measures,
+            next: NextPart::Measures,
             part: Line::new(alloc, plan.nodes() as usize)?,
-            kept: Kept::new(alloc)?,
+            kept: KeptBody::new(alloc)?,
             is_body: false,
         })
     }
@@ -301,14 +307,14 @@ impl<'a> PlanParts<'a> {
             self.kept.waits = false;
             return true;
         }
-        if let Stage::Done = self.stage {
+        if let NextPart::Done = self.next {
             return false;
         }
-        self.stage = write_part(
+        self.next = write_part(
             &mut self.part,
             self.plan,
             self.nodes,
-            self.stage,
+            self.next,
             &mut self.kept,
         );
         true

@@ -55,44 +55,6 @@ pub some-is : {A : Type 0} (o : Option A) → is_some o ≡ true → (x : A) × 
 some-is None h = cc
 some-is (Some x) h = (x, refl)
 
--- a find that has no answer looks at some cell next
-key-some : (call : FindCall) (stage : Stage) → answer_of stage ≡ None → (key : Key) × (key_of call stage ≡ Some key)
-key-some call at_origin none = (_, refl)
-key-some call (climbs known weight reader later) none = (_, refl)
-key-some call (chases chase node) none = (_, refl)
-key-some call (ended found) none = cc
-
--- without a walk the caller is done
-pub walk-none : (input : Contents) (setup : Setup) (actor : ℕ) (seen : History) (spare : ℕ) (finder : Finder)
-    → setup.homes ≡ input.homes → IsFinder input setup actor seen spare finder → finder.walk ≡ None
-    → next (setting_in setup) (scripts_of input) seen actor ≡ None
-walk-none input setup actor seen spare finder homes its none =
-    let setting = setting_in setup in
-    let seeker = caller_in setting (scripts_of input) seen actor in
-    let idle : next_key seeker ≡ None = idle-done setup.plan seeker.calls seeker.stage finder.walk none its.walk in
-    next-caller setting (scripts_of input) seen actor (omega (arith, its.high, ap length homes))
-    ∙ ap (λ o. option_map (look_by actor) o) idle
-
--- with one it looks at a cell next
-pub walk-some : (input : Contents) (setup : Setup) (actor : ℕ) (seen : History) (spare : ℕ) (finder : Finder)
-    (walk : WalkData) → setup.homes ≡ input.homes → IsFinder input setup actor seen spare finder
-    → finder.walk ≡ Some walk
-    → (key : Key) × (key_of (call_of walk) (stage_of setup.plan walk) ≡ Some key)
-    × (next (setting_in setup) (scripts_of input) seen actor ≡ Some (look_by actor key))
-walk-some input setup actor seen spare finder walk homes its some =
-    let setting = setting_in setup in
-    let seeker = caller_in setting (scripts_of input) seen actor in
-    let at = walking setup.plan seeker.calls seeker.stage finder.walk walk some its.walk in
-    let found = key-some at.call seeker.stage at.unanswered in
-    let wants : key_of (call_of walk) (stage_of setup.plan walk) ≡ Some found.0 =
-    ap (λ s. key_of (call_of walk) s) at.so_far ∙ (ap (λ c. key_of c seeker.stage) at.its ∙ found.1) in
-    let is_next : next_key seeker ≡ Some found.0 = ap (λ cs. key_in cs seeker.stage) at.calls_are ∙ found.1 in (
-      found.0,
-      wants,
-      next-caller setting (scripts_of input) seen actor (omega (arith, its.high, ap length homes))
-          ∙ ap (λ o. option_map (look_by actor) o) is_next,
-    )
-
 -- the setting of a tracker is one of the input that it is set for
 pub set-setting : (input : Contents) (setup : Setup) (plan : PlanData) (distances : DistanceTable)
     → IsSetFor input setup plan distances → IsSettingOf input (setting_in setup)
@@ -342,15 +304,6 @@ looked-up input setup old new first last moved found its at some script subs don
       room = room-of setting new.spare _ _ _ _ finds stage
           (omega (arith, at.fewer, visited.spare, looks-origin setting at.later));
     })
-
--- a turn is lost
-pub finder-held : (input : Contents) (setup : Setup) (old new : PassData) (place : ℕ) (held : Held)
-    (first last : Finder) → HasLost old place held new
-    → IsFinder input setup old.view.low old.view.seen old.spare first → last ≡ first
-    → IsFinder input setup new.view.low new.view.seen new.spare last
-finder-held input setup old new place held first last lost its same =
-    subst (λ (p : PassData). IsFinder input setup p.view.low p.view.seen p.spare last) (sym lost.turn)
-    (subst (IsFinder input setup old.view.low old.view.seen old.spare) (sym same) its)
 
 -- the word of a look names nodes of the plan
 pub word-seen : MarksTell → EntriesTell → HistoryFrontsAreLegal → (setup : Setup) (plan : PlanData)

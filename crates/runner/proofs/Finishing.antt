@@ -187,11 +187,6 @@ all-of input tracker workers passes are same k d low =
     ∙ ap pass (at-some workers k found.0 found.1).1) in
     subst (IsPassOf tracker) (sym here) (are.each k found.0 found.1).0.of
 
--- what follows from an answer
-pub if-more : {A E : Type 0} (P Q : A → Type 0) (r : Result A E) → ((x : A) → P x → Q x) → IfOk r P → IfOk r Q
-if-more P Q (Ok x) more h = more x h
-if-more P Q (Err e) more h = tt
-
 -- a list put back into its place
 pub put-back : {A : Type 0} (xs ys : List A) (n : ℕ) → n ≡ length ys → length xs ≡ length ys
     → take n (xs ++ drop (length xs) ys) ≡ xs

@@ -23,6 +23,7 @@ use Rattle.scripts.specs.Laws.{ScriptsAreValid}
 use Rattle.scripts.specs.MostLaws.{finds-most, steps-most}
 use Rattle.scripts.specs.ScriptLaws.{finds-are, steps-are}
 use Rattle.scripts.specs.Scripts.{find_of, most_in, scripts_of, step_of}
+use Rattle.station.specs.HandsetLaws.{no-steps}
 use Rattle.station.specs.Setup.{Setup, setting_in}
 use Rattle.station.specs.declared.view.View.{View}
 use Rattle.runner.specs.PlayLaws.{caller-in}
@@ -65,10 +66,6 @@ begin-inside input plan actor script may same k d low =
           (script-searches input plan actor script (length input.homes) may.together.valid may.together.nodes high
           may.known same refl k d low)
     ]
-
-no-steps : (setting : Setting) (course : Course) → MaySteps setting course []
-unfolding MaySteps
-no-steps setting course = tt
 
 -- a new subscriber's part
 pub mover-at : ScriptsAreValid → MovesAreShort → (input : Contents) (plan : PlanData) (actor visits : ℕ)

@@ -1,5 +1,5 @@
 -- A ticket is drawn: the history has one visit more.
-use Rattle.std.proofs.Common.{◌≡◌, ◌≢◌, ◌⊎◌, ℕ, zero, suc, ◌+◌, ◌*◌, ◌%◌, ◌^◌, ◌<◌, ◌≤◌, ◌==◌, eq-eqb, ne_eqb, Bool, true, false, not, cond, [], ◌∷◌, ◌++◌, length, drop, refl, sym, ap, ◌∙◌, inl, inr, arith, Some, None}
+use Rattle.std.proofs.Common.{◌≡◌, ◌≢◌, ◌⊎◌, ℕ, zero, suc, ◌+◌, ◌*◌, ◌%◌, ◌^◌, ◌<◌, ◌≤◌, ◌==◌, eq-eqb, ne_eqb, Bool, true, false, not, cond, [], ◌∷◌, ◌++◌, length, drop, refl, sym, ap, ◌∙◌, inl, inr, arith, Some}
 use Rattle.std.specs.Prelude.{if◌then◌else◌}
 use Rattle.std.proofs.lemmas.List.Elements.{filter-append}
 use Rattle.std.proofs.lemmas.List.Sums.{fold-append}
@@ -36,15 +36,6 @@ word-unput law key word (Put other new) ne = go (same_key key other) refl
     go true e = absurd (ne (ap (λ (k : Key). Some k) (sym ((law key other).0 e))))
     go false e = refl
 word-unput law key word (Census node) ne = refl
-
--- a look and a census change no cell
-pub word-same : (key : Key) (word : ℕ) (act : Act) → key_put act ≡ None → word_after key word act ≡ word
-word-same key word (Look other) e = refl
-word-same key word (Put other new) e = absurd (nothing other e)
-  where
-    nothing : (k : Key) → Some k ≡ None → ⊥
-    nothing k e = cc
-word-same key word (Census node) e = refl
 
 -- the census stays where an act is elsewhere, or changes nobody's being here
 here-same : SameKey → (setting : Setting) (history : History) (node sub : ℕ) (act : Act)

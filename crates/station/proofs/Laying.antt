@@ -1,8 +1,6 @@
 -- The words of the opening, laid one after another.
 use Rattle.std.proofs.Common.{◌≡◌, ◌≢◌, ◌⊎◌, ℕ, zero, suc, ◌+◌, ◌*◌, ◌<◌, ◌≤◌, ◌==◌, eqb, eq-eqb, ne_eqb, Bool, true, false, cond, List, [], ◌∷◌, ◌++◌, length, take, get_or, refl, sym, ap, ◌∙◌, subst, inl, inr, ⊎_elim, arith, length-append, add-one}
-use Rattle.std.specs.Prelude.{slice_index, nat_lt, sum_by, ◌&&◌, if◌then◌else◌}
-use Rattle.std.proofs.lemmas.List.{take_all}
-use Rattle.std.proofs.lemmas.List.Sums.{sum_by_more}
+use Rattle.std.specs.Prelude.{slice_index, nat_lt, ◌&&◌, if◌then◌else◌}
 use Rattle.std.proofs.Common.{lt-ltb}
 use Rattle.node_set.specs.Ascending.{sift}
 use Rattle.entry_word.specs.declared.visit.Key.{Key}
@@ -12,8 +10,7 @@ use Rattle.entry_word.specs.declared.mark.PresenceMark.TheVariants.{Empty, Here}
 use Rattle.directory.specs.Settings.{Setting, subs, start}
 use Rattle.directory.specs.Histories.{cell}
 use Rattle.directory.specs.Census.{census}
-use Rattle.region_plan.specs.Plan.{PlanData, Level, levels_of, clusters_of, no_level}
-use Rattle.visit_log.specs.Numbers.{cell_number, clusters_below, cluster_count, NumbersApart}
+use Rattle.visit_log.specs.Numbers.{cell_number, NumbersApart}
 use Rattle.station.specs.Setup.{Setup, setting_in, nodes_in, subs_in, IsCellOf, lock_word, tally_word, cell_word}
 use Rattle.station.specs.Opening.{AreLaid}
 use Rattle.station.proofs.Apart.{behind, behind_tally, same_number}
@@ -45,30 +42,8 @@ laid_push setup ws x o first lock tally cell_is =
           ∙ cell_is key known t.0) (at_push ws x (cell_word setup key) h);
     }
 
-pub laid_nil : (setup : Setup) → AreLaid setup []
-laid_nil setup = record {
-  ticket = λ h. absurd (omega arith);
-  locks = λ node known h. absurd (omega arith);
-  tallies = λ node known h. absurd (omega arith);
-  cells = λ key known h. absurd (none (2 * nodes_in setup + cell_number setup.plan (subs_in setup) key) h);
-}
-  where
-    none : (k : ℕ) → suc k < 0 → ⊥
-    none k h = omega arith
-
 zero_cell : (n c : ℕ) → 0 ≡ suc (2 * n + c) → ⊥
 zero_cell n c e = omega arith
-
-pub laid_ticket : (setup : Setup) (ws : List ℕ) → length ws ≡ 0 → AreLaid setup ws → AreLaid setup (ws ++ 0 ∷ [])
-laid_ticket setup ws none o = laid_push setup ws 0 o (λ _. refl) (λ node known e. absurd (omega arith))
-    (λ node known e. absurd (omega arith))
-    (λ key known e. absurd (zero_cell (nodes_in setup) (cell_number setup.plan (subs_in setup) key) (sym none ∙ e)))
-
-pub laid_lock : (setup : Setup) (ws : List ℕ) (k : ℕ) → k < nodes_in setup → length ws ≡ suc k → AreLaid setup ws
-    → AreLaid setup (ws ++ 0 ∷ [])
-laid_lock setup ws k known at o = laid_push setup ws 0 o (λ _. refl) (λ node _ e. refl) (λ node _ e. absurd
-    (omega arith))
-    (λ key _ e. absurd (behind (nodes_in setup) k (cell_number setup.plan (subs_in setup) key) known (sym e ∙ at)))
 
 pub laid_tally : (setup : Setup) (ws : List ℕ) (k x : ℕ) → k < nodes_in setup → length ws ≡ suc (nodes_in setup + k)
     → x ≡ length (census (setting_in setup) [] k) → AreLaid setup ws → AreLaid setup (ws ++ x ∷ [])
@@ -130,12 +105,3 @@ count-more setting node sub count known is =
     let more = passing-more f 0 sub in
     subst (λ (k : ℕ). count + cond (node == start setting sub) 1 0 ≡ length (sift f 0 k)) (sym (add-one sub))
     (omega (arith, is, more, ap {B = ℕ} (λ b. cond b 1 0) here))
-
--- the clusters below the next level
-pub clusters-more : (plan : PlanData) (level : ℕ) → level < levels_of plan
-    → clusters_below plan (level + 1) ≡ clusters_below plan level + clusters_of plan level
-clusters-more plan level known = sum_by_more (λ (l : Level). length l.clusters) plan.levels level no_level known
-
-pub clusters-all : (plan : PlanData) (level : ℕ) → levels_of plan ≤ level
-    → clusters_below plan level ≡ cluster_count plan
-clusters-all plan level known = ap (sum_by (λ (l : Level). length l.clusters)) (take_all level plan.levels known)

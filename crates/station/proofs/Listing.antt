@@ -3,7 +3,7 @@ use Rattle.std.proofs.Common.{◌≡◌, ℕ, ◌+◌, ◌*◌, ◌%◌, ◌^◌
 use Rattle.std.specs.Prelude.{◌||◌, if◌then◌else◌}
 use Rattle.std.specs.Int.{bit_at}
 use Rattle.std.proofs.lemmas.List.{append-nil}
-use Rattle.std.proofs.lemmas.Nat.Bits.{bit_at-zero, bit_at_set_same, bit_at_set_other}
+use Rattle.std.proofs.lemmas.Nat.Bits.{bit_at_set_same, bit_at_set_other}
 use mathlib.Core.Logic.{dite}
 use native.Mathlib.Decide.{ℕ_discrete}
 use Rattle.node_set.specs.Ascending.{has, sift}
@@ -11,9 +11,6 @@ use Rattle.node_set.specs.SetLaws.{passing_grows, has-append}
 
 abbrev pub AreBits : (ℕ → Bool) → ℕ → ℕ → Type 0
 AreBits f who limit = (s : ℕ) → bit_at who s ≡ (if has s (sift f 0 limit) then 1 else 0)
-
-pub no_bits : (f : ℕ → Bool) → AreBits f 0 0
-no_bits f s = bit_at-zero s
 
 pub miss_bit : (f : ℕ → Bool) (who sub : ℕ) → f sub ≡ false → AreBits f who sub → AreBits f who (sub + 1)
 miss_bit f who sub off all s =

@@ -27,10 +27,6 @@ St = State Act View
 abbrev pub with : List ℕ → St → ℕ → View → St
 with ws s j w = record { words = ws; homes = s.homes; views = set s.views j w }
 
--- the view of a seat after one of them is replaced
-pub seat_apart : (s : St) (j k : ℕ) (w u : View) → k ≢ j → IsViewOf (set s.views j w) k u → IsViewOf s.views k u
-seat_apart s j k w u ne at = sym (set_else s.views j k w ne) ∙ at
-
 -- each actor keeps its seat
 pub owned : (s : St) (owner : ℕ → ℕ) (j actor : ℕ) (v w : View) → IsViewOf s.views j v → w.low ≡ v.low → w.high ≡ v.high
     → j < length s.views → IsOwned s.views owner actor → IsOwned (set s.views j w) owner actor

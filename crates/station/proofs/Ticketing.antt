@@ -8,8 +8,8 @@ use Rattle.entry_word.specs.declared.visit.Act.{Act}
 use Rattle.entry_word.specs.declared.visit.Visit.{Visit}
 use Rattle.directory.specs.Histories.{History, IsFront, before, own, tickets, tickets_from}
 use Rattle.directory.specs.Legal.{IsLegal}
-use Rattle.station.specs.Setup.{Setup, setting_in, subs_in}
-use Rattle.station.specs.Plays.{Draws, view_with_ticket, view_inside, view_outside, visit_by, key_put, MayDo}
+use Rattle.station.specs.Setup.{setting_in, subs_in}
+use Rattle.station.specs.Plays.{Draws, view_inside, view_outside, visit_by, key_put, MayDo}
 use Rattle.station.specs.Passes.{IsPass, PassData, actor_of}
 use Rattle.station.specs.Turns.{HasHadTurn, Logs}
 use Rattle.station.specs.declared.view.TurnEvent.TheVariants.{GivenBack, Won}
@@ -82,59 +82,52 @@ left_by there new e unwritten clear = subst (λ (v : View). HasLeft there v) (sy
 }
 
 -- from the pass before to the pass after a whole visit
-pub pass_done : (me one two new : Me Act View) (actor seen spare left node ticket : ℕ) (kept : List ℕ) (room : ℕ)
+pub pass_done : (me two new : Me Act View) (actor seen spare left node ticket : ℕ) (kept : List ℕ) (room : ℕ)
     (act : Act)
-    → IsPass me actor seen spare kept room → left + 1 ≡ spare → one ≡ (view_inside me.0 node act one.0.turns, me.1)
-    → Draws one.0 node act ticket two.0 → HasLeft two.0 new.0 → new.1 ≡ me.1
+    → IsPass me actor seen spare kept room → left + 1 ≡ spare
+    → Draws (view_inside me.0 node act two.0.turns) node act ticket two.0 → HasLeft two.0 new.0 → new.1 ≡ me.1
     → IsPass new actor (suc ticket) left (kept ++ ticket ∷ []) room
-pass_done me one two new actor seen spare left node ticket kept room act p less turn d gone_by slots =
-    let v = me.0 in
-    let there : two.0 ≡ view_with_ticket (view_inside v node act one.0.turns) node act d.earlier = d.view
-    ∙ ap (λ (m : Me Act View). view_with_ticket m.0 node act d.earlier) turn in
-    pass_after me new actor seen spare left ticket kept room d.earlier act p less d.count
-    (subst (λ (l : History). IsFront l d.earlier) (ap (λ (m : Me Act View). m.0.seen) turn) d.seen)
-    (subst (λ (m : Me Act View). own m.0.low d.earlier ≡ own m.0.low m.0.seen) turn d.visits)
+pass_done me two new actor seen spare left node ticket kept room act p less d gone_by slots =
+    pass_after me new actor seen spare left ticket kept room d.earlier act p less d.count d.seen d.visits
     (slots ∙ p.slots)
-    (gone_by.low ∙ ap (λ (x : View). x.low) there)
-    (gone_by.high ∙ ap (λ (x : View). x.high) there)
-    (gone_by.real ∙ ap (λ (x : View). x.is_spent) there)
+    (gone_by.low ∙ ap (λ (x : View). x.low) d.view)
+    (gone_by.high ∙ ap (λ (x : View). x.high) d.view)
+    (gone_by.real ∙ ap (λ (x : View). x.is_spent) d.view)
     gone_by.undrawn gone_by.unwritten gone_by.clear
-    (gone_by.seen ∙ ap (λ (x : View). x.seen) there)
+    (gone_by.seen ∙ ap (λ (x : View). x.seen) d.view)
 
--- a pass that has its turn at a node may draw the ticket of an act that puts nothing
-pub may_draw : (me one : Me Act View) (actor seen spare : ℕ) (kept : List ℕ) (room node : ℕ) (act : Act)
-    → IsPass me actor seen spare kept room → 1 ≤ spare → one ≡ (view_inside me.0 node act one.0.turns, me.1)
-    → act_node (setting_in one.0.setup) act ≡ node → ((key : Key) → key_put act ≡ Some key → ⊥) → MayDo one.0 act
-    → MayDraw one.0 node act
-may_draw me one actor seen spare kept room node act p some turn at none may = record {
-  inside = ap (λ (m : Me Act View). m.0.inside) turn;
-  intended = ap (λ (m : Me Act View). m.0.intended) turn;
-  undrawn = ap (λ (m : Me Act View). m.0.has_drawn) turn ∙ p.undrawn;
-  unwritten = ap (λ (m : Me Act View). m.0.unwritten) turn ∙ p.unwritten;
-  clear = ap (λ (m : Me Act View). m.0.owes) turn ∙ p.clear;
+-- a pass that takes its turn at a node may then draw the ticket of an act that puts nothing
+pub may_draw : (me : Me Act View) (actor seen spare : ℕ) (kept : List ℕ) (room node : ℕ) (act : Act)
+    (log : List TurnEvent)
+    → IsPass me actor seen spare kept room → 1 ≤ spare → act_node (setting_in me.0.setup) act ≡ node
+    → ((key : Key) → key_put act ≡ Some key → ⊥) → MayDo (view_inside me.0 node act log) act
+    → MayDraw (view_inside me.0 node act log) node act
+may_draw me actor seen spare kept room node act log p some at none may = record {
+  inside = refl;
+  intended = refl;
+  undrawn = p.undrawn;
+  unwritten = p.unwritten;
+  clear = p.clear;
   at = at;
-  few = subst (λ (m : Me Act View). length (own m.0.low m.0.seen) < 2 ^ 56) (sym turn)
-      (own_few me actor seen spare kept room p some);
+  few = own_few me actor seen spare kept room p some;
   cell = λ key e. absurd (none key e);
   may = may;
 }
 
 -- a pass that has drawn the ticket of a look, and has looked, leaves the node with its visit made
-pub look_done : (me one two there new : Me Act View) (actor seen spare left node ticket : ℕ) (kept : List ℕ)
+pub look_done : (me two there new : Me Act View) (actor seen spare left node ticket : ℕ) (kept : List ℕ)
     (room : ℕ) (act : Act)
-    → IsPass me actor seen spare kept room → left + 1 ≡ spare → one ≡ (view_inside me.0 node act one.0.turns, me.1)
-    → Draws one.0 node act ticket two.0 → two.1 ≡ one.1 → there ≡ two
+    → IsPass me actor seen spare kept room → left + 1 ≡ spare
+    → Draws (view_inside me.0 node act two.0.turns) node act ticket two.0 → two.1 ≡ me.1 → there ≡ two
     → new ≡ (view_outside there.0 new.0.turns, there.1)
     → two.0.unwritten ≡ None → two.0.owes ≡ false
     → IsPass new actor (suc ticket) left (kept ++ ticket ∷ []) room
-look_done me one two there new actor seen spare left node ticket kept room act p less turn d slots same gone unwritten
-    clear =
-    pass_done me one two new actor seen spare left node ticket kept room act p less turn d
+look_done me two there new actor seen spare left node ticket kept room act p less d slots same gone unwritten clear =
+    pass_done me two new actor seen spare left node ticket kept room act p less d
     (left_by two.0 new.0 (ap (λ (m : Me Act View). m.0) gone
     ∙ ap (λ (m : Me Act View). view_outside m.0 new.0.turns) same)
     unwritten clear)
-    (ap (λ (m : Me Act View). m.1) gone ∙ (ap (λ (m : Me Act View). m.1) same
-    ∙ (slots ∙ ap (λ (m : Me Act View). m.1) turn)))
+    (ap (λ (m : Me Act View). m.1) gone ∙ (ap (λ (m : Me Act View). m.1) same ∙ slots))
 
 -- that a seat has won its turn, told of its pass
 pub pass_wins : (old pass : PassData) (actor node : ℕ) (log : List TurnEvent) → old ≡ pass → old.view.low ≡ actor
@@ -143,39 +136,36 @@ pass_wins old pass actor node log told low wins =
     subst (λ (q : PassData). Logs q.view.turns (Won (actor_of q) node) log) told
     (subst (λ (a : ℕ). Logs old.view.turns (Won a node) log) (sym low) wins)
 
-pub visit_done : (old new : PassData) (one two : Me Act View) (node ticket : ℕ) (act : Act)
-    → one.0 ≡ view_inside old.view node act one.0.turns → Draws one.0 node act ticket two.0 → HasLeft two.0 new.view
+pub visit_done : (old new : PassData) (two : View) (node ticket : ℕ) (act : Act)
+    → Draws (view_inside old.view node act two.turns) node act ticket two → HasLeft two new.view
     → act_node (setting_in old.view.setup) act ≡ node
-    → Logs old.view.turns (Won (actor_of old) node) one.0.turns
-    → Logs two.0.turns (GivenBack two.0.low node) new.view.turns
+    → Logs old.view.turns (Won (actor_of old) node) two.turns
+    → Logs two.turns (GivenBack two.low node) new.view.turns
     → new.table ≡ old.table → new.seat ≡ old.seat → new.spare + 1 ≡ old.spare → HasVisited old act ticket new
-visit_done old new one two node ticket act turn d gone_by at wins back table seat less =
+visit_done old new two node ticket act d gone_by at wins back table seat less =
     let v = old.view in
-    let there : two.0 ≡ view_with_ticket (view_inside v node act one.0.turns) node act d.earlier = d.view
-    ∙ ap (λ (m : View). view_with_ticket m node act d.earlier) turn in
-    let setup : one.0.setup ≡ v.setup = ap (λ (x : View). x.setup) turn in
     record {
       earlier = d.earlier;
       count = d.count;
-      begins = subst (λ (l : History). IsFront l d.earlier) (ap (λ (x : View). x.seen) turn) d.seen;
-      visits = subst (λ (x : View). own x.low d.earlier ≡ own x.low x.seen) turn d.visits;
-      seen = gone_by.seen ∙ ap (λ (x : View). x.seen) there;
+      begins = d.seen;
+      visits = d.visits;
+      seen = gone_by.seen ∙ ap (λ (x : View). x.seen) d.view;
       legal = subst (λ (l : History). (sub : ℕ) → sub < subs_in v.setup
-          → IsLegal (setting_in v.setup) sub l) (sym gone_by.seen)
-          (subst (λ (s : Setup). (sub : ℕ) → sub < subs_in s → IsLegal (setting_in s) sub two.0.seen) setup d.legal);
+          → IsLegal (setting_in v.setup) sub l) (sym gone_by.seen) d.legal;
       outside = gone_by.inside;
       turn = subst (λ (n : ℕ). HasHadTurn v.low n v.turns new.view.turns) (sym at) record {
-        inside = one.0.turns;
+        inside = two.turns;
         won = wins;
-        given_back = subst (λ (x : View). Logs x.turns (GivenBack x.low node) new.view.turns) there back;
+        given_back = subst (λ (a : ℕ). Logs two.turns (GivenBack a node) new.view.turns)
+            (ap (λ (x : View). x.low) d.view) back;
       };
-      lost = gone_by.lost ∙ ap (λ (x : View). x.lost) there;
+      lost = gone_by.lost ∙ ap (λ (x : View). x.lost) d.view;
       spare = less;
       same = record {
         table = table;
         seat = seat;
-        setup = gone_by.setup ∙ ap (λ (x : View). x.setup) there;
-        actor = gone_by.low ∙ ap (λ (x : View). x.low) there;
+        setup = gone_by.setup ∙ ap (λ (x : View). x.setup) d.view;
+        actor = gone_by.low ∙ ap (λ (x : View). x.low) d.view;
       };
     }
 
@@ -193,16 +183,10 @@ pub before_last : (earlier seen : History) (visit : Visit) (ticket : ℕ) → le
 before_last earlier seen visit ticket count is = ap (λ (k : ℕ). take k seen) (sym count)
     ∙ (ap (take (length earlier)) is ∙ take-append_seam earlier (visit ∷ []))
 
--- what a visit has seen before its own ticket
-pub before_own : (old new : PassData) (act : Act) (ticket : ℕ) → (h : HasVisited old act ticket new)
-    → before ticket new.view.seen ≡ h.earlier
-before_own old new act ticket h = before_last h.earlier new.view.seen (visit_by old.view act) ticket h.count h.seen
-
-pub seen_done : (v one two new : View) (node ticket : ℕ) (act : Act) → one ≡ view_inside v node act one.turns
-    → (d : Draws one node act ticket two)
+pub seen_done : (v two new : View) (node ticket : ℕ) (act : Act)
+    → (d : Draws (view_inside v node act two.turns) node act ticket two)
     → HasLeft two new → new.seen ≡ d.earlier ++ visit_by v act ∷ []
-seen_done v one two new node ticket act turn d left = left.seen ∙ (ap (λ (x : View). x.seen) d.view
-    ∙ ap (λ (x : View). d.earlier ++ visit_by x act ∷ []) turn)
+seen_done v two new node ticket act d left = left.seen ∙ ap (λ (x : View). x.seen) d.view
 
 -- tickets are those of visits
 from-below : (actor t : ℕ) (xs : History) (k d : ℕ) → k < length (tickets_from actor t xs)

@@ -24,7 +24,7 @@ use Rattle.station.specs.declared.view.View.{View}
 use Rattle.handset.specs.StageLaws.{rest-means, IsRestAfter, rest-after}
 
 -- no steps may always be made
-no-steps : (setting : Setting) (course : Course) → MaySteps setting course []
+pub no-steps : (setting : Setting) (course : Course) → MaySteps setting course []
 unfolding MaySteps
 no-steps setting course = tt
 

@@ -3,17 +3,18 @@
 use Rattle.std.specs.Prelude.{◌≡◌, ◌≢◌, ℕ, suc, ◌+◌, ◌^◌, ◌<◌, ◌≤◌, true, false, List, [], ◌∷◌, ◌++◌, length, if◌then◌else◌, Some, None}
 use Rattle.std.specs.Int.{bit_at}
 use Rattle.node_set.specs.Ascending.{has}
+use Rattle.atomic_table.specs.Table.{Me}
 use Rattle.entry_word.specs.declared.visit.Key.{Key}
 use Rattle.entry_word.specs.declared.visit.Act.{Act}
 use Rattle.directory.specs.Keys.{act_node}
 use Rattle.directory.specs.Histories.{History, IsFront, own}
 use Rattle.directory.specs.Legal.{IsLegal}
 use Rattle.station.specs.Setup.{setting_in, subs_in, IsCellOf}
-use Rattle.station.specs.Plays.{Draws, MayDo, key_put, longer, visit_by, view_held}
+use Rattle.station.specs.Plays.{Draws, MayDo, key_put, longer, visit_by, view_held, view_inside}
 use Rattle.station.specs.Passes.{NoteData, PassData, actor_of}
 use Rattle.station.specs.Turns.{HasHadTurn, Logs}
 use Rattle.station.specs.declared.turns.Held.{Held}
-use Rattle.station.specs.declared.view.TurnEvent.TheVariants.{GivenBack, Lost}
+use Rattle.station.specs.declared.view.TurnEvent.TheVariants.{GivenBack, Lost, Won}
 use Rattle.station.specs.declared.view.View.{View}
 
 -- a view may draw the ticket of an act at a node
@@ -27,6 +28,12 @@ pub record MayDraw (view : View) (node : ℕ) (act : Act) : Type 0 where
   pub few : length (own view.low view.seen) < 2 ^ 56
   pub cell : (key : Key) → key_put act ≡ Some key → IsCellOf view.setup key
   pub may : MayDo view act
+
+-- a seat has lost a turn at a node to another actor, and nothing else of it has changed
+abbrev pub LosesTurn : Me Act View → ℕ → ℕ → Held → Me Act View → Type 0
+LosesTurn old actor node held new =
+    (held.node ≡ node) × (held.by ≢ actor)
+    × (new ≡ (view_held old.0 node (suc held.by) new.0.turns, old.1))
 
 -- a view has drawn its ticket at a node, and has seen nothing since
 pub record HasTurn (view : View) (node : ℕ) : Type 0 where
@@ -47,13 +54,14 @@ pub record HasLeft (there new : View) : Type 0 where
   pub unwritten : new.unwritten ≡ None
   pub clear : new.owes ≡ false
 
--- from inside the node: the ticket is drawn, what the act says is done, and the node is left, and
--- its turn is logged as given back
+-- from outside a node: its turn is won, the ticket is drawn, what the act says is done, and the
+-- node is left, and its turn is logged as given back
 pub record Makes (before : View) (node : ℕ) (act : Act) (ticket : ℕ) (after : View) : Type 0 where
   pub there : View
-  pub draws : Draws before node act ticket there
+  pub won : Logs before.turns (Won before.low node) there.turns
+  pub draws : Draws (view_inside before node act there.turns) node act ticket there
   pub left : HasLeft there after
-  pub logs : Logs there.turns (GivenBack there.low node) after.turns
+  pub given_back : Logs there.turns (GivenBack there.low node) after.turns
 
 -- two states of one pass, but for what it has seen and lost
 pub record IsSamePass (old new : PassData) : Type 0 where

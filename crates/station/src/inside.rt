@@ -7,11 +7,11 @@ ghost use Rattle.directory.specs.Histories.{cell};
 ghost use Rattle.directory.specs.Keys.{key_node, key_sub};
 ghost use Rattle.entry_word.specs.Marks.{mark_in, says_here as here};
 ghost use Rattle.station.specs.Handsets.{Moves, moves_here as moves};
-ghost use Rattle.station.specs.Plays.{Draws, view_after_put, view_after_tally};
+ghost use Rattle.station.specs.Plays.{view_after_put, view_after_tally};
 ghost use Rattle.station.specs.Setup.{IsCellOf, cell_word, lock_word, nodes_in, setting_in, tally_word};
-ghost use Rattle.station.specs.Visits.{HasTurn, MayDraw};
+ghost use Rattle.station.specs.Visits.{HasTurn};
 
-use crate::rule::{DrawTicket, ReadCell, ReadTally, WriteCell, WriteTally};
+use crate::rule::{ReadCell, ReadTally, WriteCell, WriteTally};
 use crate::tracker::Tracker;
 use crate::view::View;
 use atomic_table::Seat;
@@ -21,20 +21,6 @@ use region_plan::Plan;
 use visit_log::{cell_numbers, key_node};
 
 impl Tracker {
-    // Draws the ticket of an act at a node.
-    pub(crate) fn draw(&self, seat: &mut Seat<Act, View>, _node: u32, _act: &Act) -> u64
-        requires table { seat.old.table_id ≡ self.now.table }
-        requires setup { seat.old.me.0.setup ≡ self.now.setup }
-        requires may { MayDraw seat.old.me.0 _node _act.now }
-        ensures table { seat.new.table_id ≡ seat.old.table_id }
-        ensures id { seat.new.id ≡ seat.old.id }
-        ensures slots { seat.new.me.1 ≡ seat.old.me.1 }
-        ensures drawn { Draws seat.old.me.0 _node _act.now result seat.new.me.0 }
-    {
-        same_key_means();
-        self.table.shared.fetch_add::<DrawTicket>(seat, 0, 1)
-    }
-
     // The node at which a cell lies.
     pub(crate) fn node_of(&self, plan: &Plan, key: Key) -> u32
         requires plan { plan.now ≡ self.now.setup.plan }

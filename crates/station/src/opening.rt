@@ -1,5 +1,5 @@
 //! The words of the table at the opening.
-ghost use Rattle.std.specs.Prelude.{◌≡◌, ◌+◌, ◌*◌, ◌<◌, ◌≤◌, [], ℕ, All, OnOk, IfOk, length, suc};
+ghost use Rattle.std.specs.Prelude.{◌≡◌, ◌+◌, ◌*◌, ◌^◌, ◌<◌, ◌≤◌, [], ℕ, All, OnOk, IfOk, length, suc};
 ghost use Rattle.directory.specs.Census.{census};
 ghost use Rattle.region_plan.specs.Plan.{PlanData, clusters_of, levels_of, nodes_of};
 ghost use Rattle.region_plan.specs.Settings.{setting_of};
@@ -29,6 +29,13 @@ pub fn opening_words(alloc: Global, plan: &Plan, homes: &[u32]) -> Result<Vec<u6
     lay_presences(&mut words, plan, homes, &cells)?;
     lay_entries(&mut words, plan, homes, &cells)?;
     Ok(words)
+}
+
+// Tells the proof that words in memory can be numbered.
+pub fn words_are_few(words: &[u64])
+    ensures { length words.now < 2 ^ 64 }
+{
+    let _ = words.len();
 }
 
 // A free lock word for each node.

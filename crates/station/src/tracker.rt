@@ -6,7 +6,7 @@ ghost use Rattle.station.specs.Opening.{setup_of};
 ghost use Rattle.station.specs.Passes.{AreFresh, IsPassOf};
 ghost use Rattle.station.specs.Plays.{IsWitnessed, first_view};
 
-use crate::opening::opening_words;
+use crate::opening::{opening_words, words_are_few};
 use crate::pass::Pass;
 use crate::rule::{Deal, Watch, Witness};
 use crate::view::{About, View};
@@ -69,8 +69,7 @@ impl Tracker {
         plan_is_sound(plan);
         let words = opening_words(alloc, plan, homes)?;
         let places = Places::new(alloc, plan)?;
-        // The call tells the proof that words can be numbered.
-        let _count = words.len();
+        words_are_few(&words);
         let starts = Vec::from_slice(alloc, homes)?;
         let subs = homes.len() as u32;
         let actors = subs + callers;

@@ -1,19 +1,21 @@
 //! The turn at a node: it is won or lost, and given back.
-ghost use Rattle.std.specs.Prelude.{◌≡◌, ◌≢◌, ◌<◌, suc, false, Some, None, MatchResult};
+ghost use Rattle.std.specs.Prelude.{◌≡◌, ◌<◌, List, suc, false, Some, None, MatchResult};
 ghost use Rattle.entry_word.specs.declared.visit.Act.TheVariants.{Census};
 ghost use Rattle.station.specs.Passes.{IsPassOf, IsStayOf, actor_of};
 ghost use Rattle.station.specs.Moments.{EventsComeNow, EventsComeWithinCalls};
 ghost use Rattle.station.specs.Turns.{Logs};
+ghost use Rattle.station.specs.declared.view.TurnEvent.{TurnEvent};
 ghost use Rattle.station.specs.declared.view.TurnEvent.TheVariants.{GivenBack, Lost, Won};
-ghost use Rattle.station.specs.Visits.{HasLost};
-ghost use Rattle.station.specs.Plays.{view_held, view_inside, view_outside};
+ghost use Rattle.station.specs.Visits.{HasLost, LosesTurn, MayDraw};
+ghost use Rattle.station.specs.Plays.{Draws, view_inside, view_outside};
 ghost use Rattle.station.specs.Setup.{nodes_in};
 
 use crate::pass::Pass;
-use crate::rule::{Leave, Turn};
+use crate::rule::{DrawTicket, Leave, Turn};
 use crate::tracker::Tracker;
 use crate::view::View;
 use atomic_table::Seat;
+use directory::same_key_means;
 use entry_word::Act;
 use visit_log::cell_numbers;
 
@@ -85,11 +87,7 @@ impl Tracker {
               view_inside seat.old.me.0 node act.now seat.new.me.0.turns,
               seat.old.me.1,
             ))
-            (λ held. (held.node ≡ node) × (held.by ≢ actor)
-            × (seat.new.me ≡ (
-              view_held seat.old.me.0 node (suc held.by) seat.new.me.0.turns,
-              seat.old.me.1,
-            ))) }
+            (λ held. LosesTurn seat.old.me actor node held seat.new.me) }
         ensures logs { MatchResult result
             (λ _. Logs seat.old.me.0.turns (Won actor node) seat.new.me.0.turns)
             (λ held. Logs seat.old.me.0.turns (Lost actor node (suc held.by)) seat.new.me.0.turns) }
@@ -106,6 +104,40 @@ impl Tracker {
             node,
             by: (found - 1) as u32,
         })
+    }
+
+    // Takes the turn at a node, and draws the ticket of an act there.
+    pub(crate) fn draw(
+        &self,
+        seat: &mut Seat<Act, View>,
+        actor: u32,
+        node: u32,
+        act: &Act,
+    ) -> Result<u64, Held>
+        requires table { seat.old.table_id ≡ self.now.table }
+        requires setup { seat.old.me.0.setup ≡ self.now.setup }
+        requires node { node < nodes_in self.now.setup }
+        requires low { seat.old.me.0.low ≡ actor }
+        requires high { seat.old.me.0.high ≡ suc actor }
+        requires outside { seat.old.me.0.inside ≡ None }
+        requires unwritten { seat.old.me.0.unwritten ≡ None }
+        requires may { (log : List TurnEvent)
+            → MayDraw (view_inside seat.old.me.0 node act.now log) node act.now }
+        ensures table { seat.new.table_id ≡ seat.old.table_id }
+        ensures id { seat.new.id ≡ seat.old.id }
+        ensures slots { seat.new.me.1 ≡ seat.old.me.1 }
+        ensures drawn { MatchResult result
+            (λ ticket. Draws
+            (view_inside seat.old.me.0 node act.now seat.new.me.0.turns) node act.now ticket
+            seat.new.me.0)
+            (λ held. LosesTurn seat.old.me actor node held seat.new.me) }
+        ensures logs { MatchResult result
+            (λ _. Logs seat.old.me.0.turns (Won actor node) seat.new.me.0.turns)
+            (λ held. Logs seat.old.me.0.turns (Lost actor node (suc held.by)) seat.new.me.0.turns) }
+    {
+        same_key_means();
+        self.turn(seat, actor, node, act)?;
+        Ok(self.table.shared.fetch_add::<DrawTicket>(seat, 0, 1))
     }
 
     // Gives the turn at a node back.

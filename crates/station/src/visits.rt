@@ -1,5 +1,5 @@
 //! Visits: a ticket is drawn inside a node, and what the act says is done there.
-ghost use Rattle.std.specs.Prelude.{◌≡◌, ◌≤◌, [], ◌<◌, ◌++◌, ◌∷◌, None, Some, IfSome, IsSome, MatchResult, OnOk, length, slice_get};
+ghost use Rattle.std.specs.Prelude.{◌≡◌, ◌≤◌, [], ◌<◌, ◌++◌, ◌∷◌, List, None, Some, IfSome, IsSome, MatchResult, OnOk, length, slice_get, suc};
 ghost use Rattle.entry_word.specs.declared.visit.Act.TheVariants.{Census, Look, Put};
 ghost use Rattle.directory.specs.Census.{census};
 ghost use Rattle.directory.specs.Histories.{before, cell, puts_to};
@@ -12,7 +12,11 @@ ghost use Rattle.region_plan.specs.Settings.{setting_of};
 ghost use Rattle.station.specs.Handsets.{HandsetGoesOn, IsHandsetOf, put_of};
 ghost use Rattle.station.specs.Passes.{IsPassOf};
 ghost use Rattle.station.specs.Setup.{IsCellOf, nodes_in, setting_in, subs_in};
-ghost use Rattle.station.specs.Visits.{HasLost, HasVisited, IsCensus, Makes, MayDraw};
+ghost use Rattle.station.specs.Visits.{HasLost, HasVisited, IsCensus, LosesTurn, Makes, MayDraw};
+ghost use Rattle.station.specs.Plays.{view_inside};
+ghost use Rattle.station.specs.Turns.{Logs};
+ghost use Rattle.station.specs.declared.view.TurnEvent.{TurnEvent};
+ghost use Rattle.station.specs.declared.view.TurnEvent.TheVariants.{Lost};
 ghost use Rattle.station.specs.declared.view.View.{View};
 
 use crate::pass::{Pass, keep_ticket};
@@ -57,10 +61,8 @@ impl Tracker {
             (λ held. HasLost pass.old (key_node (setting_in self.now.setup) key) held pass.new) }
     {
         let node = self.node_of(plan, key);
-        let act = Act::Look(key);
         let actor = pass.actor;
-        self.turn(&mut pass.seat, actor, node, &act)?;
-        let ticket = self.draw(&mut pass.seat, node, &act);
+        let ticket = self.draw(&mut pass.seat, actor, node, &Act::Look(key))?;
         let word = self.read_cell(&mut pass.seat, key);
         self.give_back(&mut pass.seat, node);
         keep_ticket(&mut pass.tickets, &mut pass.seen, &mut pass.spare, ticket);
@@ -97,10 +99,8 @@ impl Tracker {
     {
         let (key, word) = self.next_put(plan, handset);
         let node = self.node_of(plan, key);
-        let act = Act::Put(key, word);
         let actor = pass.actor;
-        self.turn(&mut pass.seat, actor, node, &act)?;
-        let ticket = self.make_put(&mut pass.seat, node, key, word);
+        let ticket = self.make_put(&mut pass.seat, actor, node, key, word)?;
         keep_ticket(&mut pass.tickets, &mut pass.seen, &mut pass.spare, ticket);
         handset.made(plan);
         Ok(ticket)
@@ -119,10 +119,8 @@ impl Tracker {
             (before seen.ticket pass.new.view.seen) node) seen.who seen.count)
             (λ held. HasLost pass.old node held pass.new) }
     {
-        let act = Act::Census(node);
         let actor = pass.actor;
-        self.turn(&mut pass.seat, actor, node, &act)?;
-        let ticket = self.draw(&mut pass.seat, node, &act);
+        let ticket = self.draw(&mut pass.seat, actor, node, &Act::Census(node))?;
         let who = self.list_here(&mut pass.seat, node);
         let count = self.count_here(&mut pass.seat, node);
         self.give_back(&mut pass.seat, node);
@@ -160,23 +158,38 @@ impl Tracker {
         (key, word)
     }
 
-    // Makes a put inside its node, and leaves the node.
-    fn make_put(&self, seat: &mut Seat<Act, View>, node: u32, key: Key, word: u64) -> u64
+    // Makes a put at its node, from its turn there to the turn given back.
+    fn make_put(
+        &self,
+        seat: &mut Seat<Act, View>,
+        actor: u32,
+        node: u32,
+        key: Key,
+        word: u64,
+    ) -> Result<u64, Held>
         requires table { seat.old.table_id ≡ self.now.table }
         requires setup { seat.old.me.0.setup ≡ self.now.setup }
         requires cell { IsCellOf self.now.setup key }
         requires node { node ≡ key_node (setting_in self.now.setup) key }
         requires inside { node < nodes_in self.now.setup }
-        requires may { MayDraw seat.old.me.0 node (Put key word) }
+        requires low { seat.old.me.0.low ≡ actor }
+        requires high { seat.old.me.0.high ≡ suc actor }
+        requires outside { seat.old.me.0.inside ≡ None }
+        requires unwritten { seat.old.me.0.unwritten ≡ None }
+        requires may { (log : List TurnEvent) → MayDraw
+            (view_inside seat.old.me.0 node (Put key word) log) node (Put key word) }
         ensures table { seat.new.table_id ≡ seat.old.table_id }
         ensures id { seat.new.id ≡ seat.old.id }
         ensures slots { seat.new.me.1 ≡ seat.old.me.1 }
-        ensures made { Makes seat.old.me.0 node (Put key word) result seat.new.me.0 }
+        ensures made { MatchResult result
+            (λ ticket. Makes seat.old.me.0 node (Put key word) ticket seat.new.me.0)
+            (λ held. LosesTurn seat.old.me actor node held seat.new.me
+            × Logs seat.old.me.0.turns (Lost actor node (suc held.by)) seat.new.me.0.turns) }
     {
         same_key_means();
-        let ticket = self.draw(seat, node, &Act::Put(key, word));
+        let ticket = self.draw(seat, actor, node, &Act::Put(key, word))?;
         self.put_there(seat, node, key, word);
         self.give_back(seat, node);
-        ticket
+        Ok(ticket)
     }
 }

@@ -15,22 +15,6 @@ front_written bytes text at k count within few =
     ∙ take-append-add (take at bytes) (text ++ drop k (drop at bytes)) count
     ∙ ap (λ xs. take at bytes ++ xs) (take-append-le count text (drop k (drop at bytes)) few)
 
--- one more short field
-pub one_more_short : (shorts more : List (List ℕ)) (short : List ℕ) → AreShort shorts → IsShort (length shorts) short
-    → more ≡ shorts ++ short ∷ [] → AreShort more
-one_more_short shorts more short so_far is grown = subst AreShort (sym grown) (λ number below.
-    elim (cases_lt number (length shorts)) [
-      | inl earlier ↦ subst (IsShort number) (sym (get_or_append_left shorts (short ∷ []) [] number earlier))
-          (so_far number earlier)
-      | inr later ↦
-          let last : number ≡ length shorts = omega (arith, length-append shorts (short ∷ [])) in
-          let found : get_or (shorts ++ short ∷ []) (length shorts) [] ≡ short =
-          get_or-append_right shorts (short ∷ []) (length shorts) (length shorts) [] refl (omega arith)
-          ∙ ap (λ i. get_or (short ∷ []) i []) (let e : length shorts - length shorts ≡ 0 = omega arith in e) in
-          subst (λ i. IsShort i (get_or (shorts ++ short ∷ []) i [])) (sym last)
-          (subst (IsShort (length shorts)) (sym found) is)
-    ])
-
 -- the blank of a field that was written, and another byte in its place
 pub other_byte : (line bytes text : List ℕ) (at end byte : ℕ) → length line ≡ at → at < end
     → take end bytes ≡ line ++ 32 ∷ text → take end (set bytes at byte) ≡ line ++ byte ∷ text

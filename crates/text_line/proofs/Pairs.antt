@@ -1,6 +1,6 @@
 -- Numbers as pairs of digits.
 use Rattle.std.proofs.Common.{◌≡◌, inl, inr, ℕ, zero, suc, ◌+◌, ◌-◌, ◌*◌, ◌/◌, ◌%◌, ◌^◌, ◌<◌, ◌≤◌, Bool, true, ◌&&◌, T, eqb, eqb→eq, eq-zero-or-pos, List, [], ◌∷◌, ◌++◌, get_or, append_assoc, ap, sym, ◌∙◌, arith}
-use Rattle.std.proofs.lemmas.Fmt.{decimal_digit, decimal_step}
+use Rattle.itoa.proofs.Decimal.{decimal_four, decimal_pair}
 use Rattle.std.specs.Fmt.{decimal}
 use lib.Ieee.Fits.{and_l, and_r}
 use Rattle.text_line.specs.declared.digits.TheConstants.{PAIRS}
@@ -27,37 +27,13 @@ below (suc n) p t h =
 pub pair-at : (p : ℕ) → p < 100 → (get_or PAIRS (2 * p) 0 ≡ 48 + p / 10) × (get_or PAIRS (2 * p + 1) 0 ≡ 48 + p % 10)
 pair-at p h = below 100 p tt h
 
--- one digit is a number below ten, and two are one below a hundred
-pub one-digit : (n : ℕ) → n < 10 → decimal n ≡ (48 + n) ∷ []
-one-digit n low = decimal_digit n low
-
-pub two-digits : (n : ℕ) → 10 ≤ n → n < 100 → decimal n ≡ pair n
-two-digits n low high = rw (decimal_step n low (omega arith), decimal_digit (n / 10) (omega arith))
-
--- the last two digits, behind the others
-pub last-pair : (n : ℕ) → 100 ≤ n → n < 2 ^ 64 → decimal n ≡ decimal (n / 100) ++ pair (n % 100)
-last-pair n low high =
-    let a : n / 10 / 10 ≡ n / 100 = omega arith in
-    let b : n / 10 % 10 ≡ n % 100 / 10 = omega arith in
-    let c : n % 10 ≡ n % 100 % 10 = omega arith in
-    rw (decimal_step n (omega arith) high, decimal_step (n / 10) (omega arith) (omega arith), append_assoc, a, b, ← c)
-
--- the last four
-pub last-four : (n : ℕ) → 10000 ≤ n → n < 2 ^ 64
-    → decimal n ≡ decimal (n / 10000) ++ (pair (n % 10000 / 100) ++ pair (n % 10000 % 100))
-last-four n low high =
-    let a : n / 100 / 100 ≡ n / 10000 = omega arith in
-    let b : n / 100 % 100 ≡ n % 10000 / 100 = omega arith in
-    let c : n % 10000 % 100 ≡ n % 100 = omega arith in
-    rw (last-pair n (omega arith) high, last-pair (n / 100) (omega arith) (omega arith), append_assoc, a, b, c)
-
 -- a line, a number's first digits, and its last two
 pub line-pair : (line before now : List ℕ) (n : ℕ) → 100 ≤ n → n < 2 ^ 64 → before ≡ line ++ decimal (n / 100)
     → now ≡ before ++ pair (n % 100) → now ≡ line ++ decimal n
 line-pair line before now n low high others is =
     is ∙ ap (λ (ds : List ℕ). ds ++ pair (n % 100)) others
     ∙ append_assoc line (decimal (n / 100)) (pair (n % 100))
-    ∙ ap (λ (ds : List ℕ). line ++ ds) (sym (last-pair n low high))
+    ∙ ap (λ (ds : List ℕ). line ++ ds) (sym (decimal_pair n low high))
 
 -- and its last four
 pub line-four : (line before middle now : List ℕ) (n : ℕ) → 10000 ≤ n → n < 2 ^ 64
@@ -69,4 +45,4 @@ line-four line before middle now n low high first others is =
     is ∙ ap (λ (ds : List ℕ). ds ++ fourth) (others ∙ ap (λ (ds : List ℕ). ds ++ third) first)
     ∙ append_assoc (line ++ decimal (n / 10000)) third fourth
     ∙ append_assoc line (decimal (n / 10000)) (third ++ fourth)
-    ∙ ap (λ (ds : List ℕ). line ++ ds) (sym (last-four n low high))
+    ∙ ap (λ (ds : List ℕ). line ++ ds) (sym (decimal_four n low high))

@@ -1,9 +1,9 @@
-//! A report by hand, of moves, switches and finds on the line 0 - 1 - 2 - 3 of unit weights, and how
-//! each rule that a report keeps is broken once. The verdicts were worked out by hand.
+//! A report by hand, of moves, switches and finds on the line 0 - 1 - 2 - 3 of unit weights, and
+//! how each rule that a report keeps is broken once. The verdicts were worked out by hand.
 //!
 //! The first find has a ticket of a move within it; the second looks for a subscriber that is off;
-//! the third has its last ticket while a move of weight 2 is committed and not yet confirmed, so that
-//! it may weigh 144 times its distance of 1, and 4 more.
+//! the third has its last ticket while a move of weight 2 is committed and not yet confirmed, so
+//! that it may weigh 144 times its distance of 1, and 4 more.
 
 /// The place of a line, from 1 on, what stands there in its stead, and the verdict. The lines from
 /// the eighth on are one place; at place 0 the report is as it was.

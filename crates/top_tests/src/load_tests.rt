@@ -1,4 +1,5 @@
-//! Made inputs and the summaries of their replays: worked texts, what reads nothing, and the limits.
+//! Made inputs and the summaries of their replays: worked texts, what reads nothing, and the
+//! limits.
 use crate::runs::{ROOM, Run, ends, perform};
 use crate::same::same_numbers;
 use std::alloc::Global;

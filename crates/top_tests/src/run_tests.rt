@@ -70,7 +70,8 @@ fn worked_mean_plans(rt: HostRuntime) -> Result<(), Fail> {
     play(&rt, rt.alloc(), &["meancover"], &[1, 7, 64], &rows)
 }
 
-// Over mean covers a find on two nodes has one reader, where over phases it asks an empty one first.
+// Over mean covers a find on two nodes has one reader, where over phases it asks an empty one
+// first.
 #[test]
 fn worked_mean_reports(rt: HostRuntime) -> Result<(), Fail> {
     let far = "find 1 0 0 at 3 number 0 level 1 weight 3 first 0 last 3\norder 1 1 1 1\nend 4\n";

@@ -1,5 +1,5 @@
 -- A graph's plan is the plan of the edges that it was made of.
-use Rattle.std.proofs.Common.{Result, Ok, Err, IfOk, ◌≡◌, ℕ, ◌<◌, ◌≤◌, Bool, true, false, List, subst, arith}
+use Rattle.std.proofs.Common.{◌≡◌, ℕ, ◌<◌, ◌≤◌, Bool, true, false, List, subst, arith}
 use Rattle.std.specs.Prelude.{◌==◌, if◌then◌else◌}
 use Rattle.net_graph.specs.declared.edge.Edge.{Edge}
 use Rattle.net_graph.specs.declared.edge.TheConstants.{MAX_NODES}
@@ -60,11 +60,6 @@ pub covered_of_graph : CoveredPlansOfSameWalks → (covering : Covering) (conten
 covered_of_graph same covering contents network valid graph low =
     same covering network (network_of contents) graph.sound (network-valid contents valid) graph.nodes graph.same low
 
--- what follows from a result
-pub if_ok : {X E : Type 0} (r : Result X E) (P Q : X → Type 0) → ((x : X) → P x → Q x) → IfOk r P → IfOk r Q
-if_ok (Ok x) P Q on h = on x h
-if_ok (Err e) P Q on h = tt
-
 -- a network that is connected isn't apart
 pub not_apart : (n : ℕ) (edges given : List Edge) (node : ℕ) → given ≡ edges
     → ((v : ℕ) → v < n → IsReached edges everywhere 0 v) → IsFirstApart n given node → ⊥
@@ -72,8 +67,3 @@ not_apart n edges given node same connected apart =
     let is : IsFirstApart n edges node = subst (λ (es : List Edge). IsFirstApart n es node) same apart in
     let reached = connected node is.below in
     is.apart reached.steps reached.walk
-
--- the graph of the edges that are given is that of the edges
-pub graph_of : (n : ℕ) (edges given : List Edge) (network : Network) → given ≡ edges → IsGraphOf n given network
-    → IsGraphOf n edges network
-graph_of n edges given network same h = subst (λ (es : List Edge). IsGraphOf n es network) same h

@@ -1,5 +1,6 @@
 -- How a call ends, by what its parts answered.
 use Rattle.std.proofs.Common.{◌≡◌, ◌⊎◌, inl, inr, ℕ, ◌<◌, ◌≤◌, true, List, ◌++◌, length, Option, Some, None, Result, Ok, Err, refl, sym, ap, subst, ◌∙◌, append-nil}
+use Rattle.std.proofs.lemmas.Result.{IfOk-weaker}
 use Rattle.std.specs.Prelude.{IfOk, IfSome}
 use Rattle.std.specs.declared.alloc.AllocError.{AllocError}
 use Rattle.track.specs.Bodies.{IsEnded, text_of}
@@ -170,10 +171,6 @@ ended-bytes command (Err fault) status bytes left left' rf rf' written written' 
     subst (λ (s : Status). EndsAs command s (streams left rf written wf) (streams left' rf' written' wf'))
     (sym h.0) ((h.1, h.2), calm)
 
-if-ok : {A E : Type 0} (P Q : A → Type 0) (r : Result A E) → ((a : A) → P a → Q a) → IfOk r P → IfOk r Q
-if-ok P Q (Ok a) on is = on a is
-if-ok P Q (Err e) on is = tt
-
 -- an answer to the bytes that a reader stands for
 pub ended : (command : Command) → IsPlain command → (answer : Result Answer AllocError) (status : Status)
     (reader : ReaderValue) (left left' : Option (List ℕ)) (rf rf' : ℕ) (written written' : Option (List ℕ))
@@ -185,25 +182,12 @@ pub ended : (command : Command) → IsPlain command → (answer : Result Answer 
 ended command plain answer status reader left left' rf rf' written written' wf wf' all right is =
     ended-bytes command answer status all.bytes left left' rf rf' written written' wf wf' all.parts all.end all.no_fault
     (plain.short all.bytes all.short)
-    (if-ok (λ answer. (bytes : List ℕ) → StandsFor reader bytes
+    (IfOk-weaker answer (λ answer. (bytes : List ℕ) → StandsFor reader bytes
     → IsInputText command bytes answer.status (text_of answer.body))
-    (λ answer. IsText command all.bytes answer.status (text_of answer.body)) answer
+    (λ answer. IsText command all.bytes answer.status (text_of answer.body))
     (λ answer right. plain.text all.bytes answer.status (text_of answer.body) (right all.bytes all.stands)) right) is
 
 -- ---- a text that has a report
-
--- reading stopped
-pub stopped-check : (stop : ReadStop) (left left' : Option (List ℕ)) (rf rf' : ℕ) (written : Option (List ℕ)) (wf : ℕ)
-    → StopsReading most_text_bytes stop left rf rf'
-    → EndsAs commands.Check (read_status stop) (streams left rf written wf) (streams left' rf' written wf)
-stopped-check reading.OutOfMemory left left' rf rf' written wf h = ((refl, refl), h)
-stopped-check reading.Failed left left' rf rf' written wf h = ((refl, refl), h)
-stopped-check reading.TooLong left left' rf rf' written wf h = ((refl, refl), h.1, long-check left h.0)
-  where
-    long-check : (left : Option (List ℕ)) → IfSome left (λ bytes. most_text_bytes < length bytes)
-        → IfSome left (λ bytes. IsLong commands.Check bytes)
-    long-check None long = tt
-    long-check (Some bytes) long = inl long
 
 -- the input part is too long
 pub long-part : (bytes part : List ℕ) (left left' : Option (List ℕ)) (rf rf' : ℕ) (written : Option (List ℕ)) (wf : ℕ)
@@ -237,19 +221,11 @@ pub ended-check : (answer : Result Answer AllocError) (status : Status) (bytes p
 ended-check answer status bytes part report left left' rf rf' written written' wf wf' all p r short right is =
     ended-bytes commands.Check answer status bytes left left' rf rf' written written' wf wf' all.parts all.end
     all.no_fault (part-short bytes part p short all.short)
-    (if-ok (λ answer. IsJudged part report answer.status (text_of answer.body))
-    (λ answer. IsText commands.Check bytes answer.status (text_of answer.body)) answer
+    (IfOk-weaker answer (λ answer. IsJudged part report answer.status (text_of answer.body))
+    (λ answer. IsText commands.Check bytes answer.status (text_of answer.body))
     (λ answer. judged-text bytes part report answer.status (text_of answer.body) p r) right) is
 
 -- ---- JSON
-
--- reading stopped
-pub stopped-json : (stop : ReadStop) (left left' : Option (List ℕ)) (rf rf' : ℕ) (written : Option (List ℕ)) (wf : ℕ)
-    → StopsReading most_bytes stop left rf rf'
-    → EndsAs commands.FromJson (read_status stop) (streams left rf written wf) (streams left' rf' written wf)
-stopped-json reading.OutOfMemory left left' rf rf' written wf h = ((refl, refl), h)
-stopped-json reading.Failed left left' rf rf' written wf h = ((refl, refl), h)
-stopped-json reading.TooLong left left' rf rf' written wf h = ((refl, refl), h.1, h.0)
 
 pub ended-json : (answer : Result Answer AllocError) (status : Status) (bytes : List ℕ)
     (left left' : Option (List ℕ)) (rf rf' : ℕ) (written written' : Option (List ℕ)) (wf wf' : ℕ)

@@ -69,20 +69,6 @@ pub err-then : (result : Result (Unit {0}) WriteStop) (P Q : WriteStop → Type 
 err-then (Ok done) P Q h on = tt
 err-then (Err stop) P Q h on = on stop h
 
--- at the end what waits is written
-pub ends-all : {E : Type 0} (result : Result (Unit {0}) E) (before mid now : Option (List ℕ))
-    (total text waiting : List ℕ) → IsOnItsWay before mid text waiting → total ≡ text
-    → OnOk result (now ≡ append_known mid waiting) → OnOk result (now ≡ append_known before total)
-ends-all (Ok done) before mid now total text waiting one whole is =
-    is ∙ ap (λ o. append_known o waiting) one.written ∙ sym (append_known-append before one.front waiting)
-    ∙ ap (append_known before) (sym one.parts ∙ sym whole)
-ends-all (Err fault) before mid now total text waiting one whole is = tt
-
-pub ends-no_fault : {E : Type 0} (result : Result (Unit {0}) E) (f g h : ℕ) → g ≡ f → OnOk result (h ≡ g)
-    → OnOk result (h ≡ f)
-ends-no_fault (Ok done) f g h same is = is ∙ same
-ends-no_fault (Err fault) f g h same is = tt
-
 pub ends-stopped : (result : Result (Unit {0}) WriteStop) (before mid now : Option (List ℕ))
     (total text waiting : List ℕ) (f g h : ℕ)
     → IfErr result (λ stop. (stop ≡ Failed) × HasFaultedOnce g h) → g ≡ f

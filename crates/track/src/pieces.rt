@@ -35,18 +35,11 @@ impl<'a> Pieces for Lines<'a> {
 
     ghost size = { λ l. length l.left };
 
-    fn make_next(&mut self) -> bool
-        ensures more { result ≡ true
-            → concat self.old.left ≡ self.new.line ++ concat self.new.left }
-        ensures less { result ≡ true → length self.new.left < length self.old.left }
-        ensures none { result ≡ false → concat self.old.left ≡ [] }
-    {
+    fn make_next(&mut self) -> bool {
         self.advance()
     }
 
-    fn made(&self) -> &[u8]
-        ensures { result.now ≡ self.now.line }
-    {
+    fn made(&self) -> &[u8] {
         self.line()
     }
 }
@@ -58,18 +51,11 @@ impl<'a> Pieces for InputLines<'a> {
 
     ghost size = { λ l. length l.left };
 
-    fn make_next(&mut self) -> bool
-        ensures more { result ≡ true
-            → concat self.old.left ≡ self.new.line ++ concat self.new.left }
-        ensures less { result ≡ true → length self.new.left < length self.old.left }
-        ensures none { result ≡ false → concat self.old.left ≡ [] }
-    {
+    fn make_next(&mut self) -> bool {
         self.advance()
     }
 
-    fn made(&self) -> &[u8]
-        ensures { result.now ≡ self.now.line }
-    {
+    fn made(&self) -> &[u8] {
         self.line()
     }
 }
@@ -81,17 +67,11 @@ impl<'a> Pieces for PlanParts<'a> {
 
     ghost size = { λ p. length p.left };
 
-    fn make_next(&mut self) -> bool
-        ensures more { result ≡ true → self.old.left ≡ self.new.part ++ self.new.left }
-        ensures less { result ≡ true → length self.new.left < length self.old.left }
-        ensures none { result ≡ false → self.old.left ≡ [] }
-    {
+    fn make_next(&mut self) -> bool {
         self.advance()
     }
 
-    fn made(&self) -> &[u8]
-        ensures { result.now ≡ self.now.part }
-    {
+    fn made(&self) -> &[u8] {
         self.part()
     }
 }
@@ -103,17 +83,11 @@ impl<'a> Pieces for ReportParts<'a> {
 
     ghost size = { λ p. length p.left };
 
-    fn make_next(&mut self) -> bool
-        ensures more { result ≡ true → self.old.left ≡ self.new.part ++ self.new.left }
-        ensures less { result ≡ true → length self.new.left < length self.old.left }
-        ensures none { result ≡ false → self.old.left ≡ [] }
-    {
+    fn make_next(&mut self) -> bool {
         self.advance()
     }
 
-    fn made(&self) -> &[u8]
-        ensures { result.now ≡ self.now.part }
-    {
+    fn made(&self) -> &[u8] {
         self.part()
     }
 }

@@ -233,8 +233,8 @@ pub fn command<S: Source, K: Sink>(
         (streams
         (S.left source.new) (S.faults source.new) (K.written sink.new) (K.faults sink.new)) }
     ensures untouched { result ≡ 2 → (source.new ≡ source.old) × (sink.new ≡ sink.old) }
-    ensures unread { IfSome (command_of (bytes_of words.now)) (λ command. IsSome (text_alone command))
-        → source.new ≡ source.old }
+    ensures unread { IfSome (command_of (bytes_of words.now))
+        (λ command. IsSome (text_alone command)) → source.new ≡ source.old }
     ensures rest { IsEndOf (S.left source.old) (S.left source.new) }
 {
     words_are_loads();
@@ -265,8 +265,8 @@ pub fn command_with_threads<R: Threads + Sync, S: Source, K: Sink, G: Gate>(
         (streams
         (S.left source.new) (S.faults source.new) (K.written sink.new) (K.faults sink.new)) }
     ensures untouched { result ≡ 2 → (source.new ≡ source.old) × (sink.new ≡ sink.old) }
-    ensures unread { IfSome (command_of (bytes_of words.now)) (λ command. IsSome (text_alone command))
-        → source.new ≡ source.old }
+    ensures unread { IfSome (command_of (bytes_of words.now))
+        (λ command. IsSome (text_alone command)) → source.new ≡ source.old }
     ensures rest { IsEndOf (S.left source.old) (S.left source.new) }
 {
     words_are_loads();

@@ -42,18 +42,6 @@ due-rests setting handset (Erasing level) = refl
 due-rests setting handset (Purging node) = refl
 due-rests setting handset (Switching off) = refl
 
--- some write is left where one is due
-some-left : (setting : Setting) (handset : HandsetData) (stage : Stage) → is_rest stage ≡ false
-    → 1 ≤ length (left_at setting handset stage)
-some-left setting handset Resting busy = cc
-some-left setting handset Coming busy = omega arith
-some-left setting handset (Renewing level) busy = omega arith
-some-left setting handset Committing busy = omega arith
-some-left setting handset Confirming busy = omega arith
-some-left setting handset (Erasing level) busy = omega arith
-some-left setting handset (Purging node) busy = omega arith
-some-left setting handset (Switching off) busy = omega arith
-
 mapped : {A B : Type 0} (f : A → B) (o : Option A) → is_some (option_map f o) ≡ is_some o
 mapped f None = refl
 mapped f (Some x) = refl
@@ -273,23 +261,6 @@ stands-for setup begun from to made pass handset at = (
       (subst (λ ss. StandsForSteps (setting_in setup) handset ss (length (puts_to pass.view.low pass.view.seen)))
       at.steps_are at.its.stands),
 )
-
--- there is room for a put that is left
-pub put-room : (setup : Setup) (begun : PassData) (from : HandsetData) (to : ℕ) (made : List ℕ) (pass : PassData)
-    (handset : HandsetData) → HasPut setup begun from to made pass handset → is_rest handset.stage ≡ false
-    → 1 ≤ pass.spare
-put-room setup begun from to made pass handset at busy =
-    let stands = stands-for setup begun from to made pass handset at in
-    let all = visits (setting_in setup) handset.sub (at.steps ++ move_to to ∷ []) in
-    omega (
-      arith,
-      at.room,
-      ap (λ a. length (visits (setting_in setup) a (at.steps ++ move_to to ∷ []))) stands.0,
-      ap length stands.1.left,
-      length-drop (length (puts_to (actor_of begun) pass.view.seen)) all,
-      length-map (left_at (setting_in setup) handset handset.stage) (visit_of handset.sub),
-      some-left (setting_in setup) handset handset.stage busy,
-    )
 
 -- once nothing is left, these are all puts of the move
 pub put-all : (setup : Setup) (begun : PassData) (from : HandsetData) (to : ℕ) (made : List ℕ) (pass : PassData)

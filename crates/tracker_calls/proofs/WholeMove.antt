@@ -26,7 +26,7 @@ use Rattle.tracker_calls.specs.Moves.{HasStepped}
 use Rattle.tracker_calls.specs.WholeMoves.{HasMoved}
 use Rattle.tracker_calls.specs.declared.whole_moves.Moved.{Moved}
 use Rattle.tracker_calls.proofs.Adding.{last-push}
-use Rattle.tracker_calls.proofs.Moving.{HasPut, none-rests, put-all, put-more, put-room, put-tried, some-busy}
+use Rattle.tracker_calls.proofs.Moving.{HasPut, none-rests, put-all, put-more, put-tried, some-busy}
 use Rattle.tracker_calls.proofs.Timing.{IsTimed, is_early, timed-begun, timed-first, timed-next}
 use Rattle.directory.specs.Statements.{BeginsWithFront, BeginsThrough}
 use Rattle.handset.specs.StageLaws.{rest-means}
@@ -154,13 +154,6 @@ moving-by longer through setup begun from to times pass tried new handset moved 
     subst (λ (b : Bool). IsMoving setup begun from to
     (record times { commit = if b then ticket else times.commit; last = ticket }) new moved) (sym is)
     (moving-on longer through setup begun from to times pass tried new handset moved ticket told lost moving stepped)
-
--- room for the next put
-pub moving-room : (setup : Setup) (begun : PassData) (from : HandsetData) (to : ℕ) (times : Moved) (pass : PassData)
-    (handset : HandsetData) → IsMoving setup begun from to times pass handset
-    → is_some (due (setting_in setup) handset) ≡ true → 1 ≤ pass.spare
-moving-room setup begun from to times pass handset moving left =
-    put-room setup begun from to moving.made pass handset moving.put (some-busy (setting_in setup) handset left)
 
 -- a move that has nothing left is made
 pub moving-out : (setup : Setup) (begun : PassData) (from : HandsetData) (to : ℕ) (times : Moved) (pass : PassData)

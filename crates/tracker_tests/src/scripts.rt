@@ -141,8 +141,8 @@ fn same_order(rt: &impl Abort, order: &[u32], wanted: &[u32]) {
     assert_eq!(rt; order, wanted, "the actors of the tickets");
 }
 
-// Plays a script over the line 0 - 1 - 2 - 3 with the subscriber at node 3, where each pass has room
-// for so many visits, and compares the actors of the tickets.
+// Plays a script over the line 0 - 1 - 2 - 3 with the subscriber at node 3, where each pass has
+// room for so many visits, and compares the actors of the tickets.
 pub fn play_on_line<R: Wait + Abort>(
     rt: &R,
     alloc: Global,

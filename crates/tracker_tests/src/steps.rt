@@ -1,5 +1,5 @@
-//! The steps that a script takes over a tracker with one subscriber and two callers, and what is seen
-//! of each.
+//! The steps that a script takes over a tracker with one subscriber and two callers, and what is
+//! seen of each.
 
 ghost use Rattle.std.specs.Prelude.{◌≡◌};
 ghost use Rattle.station.specs.Handsets.{IsHandsetOf};

@@ -1,7 +1,7 @@
 use Rattle.std.proofs.Common.{◌++◌, None, Some, [], codes, length, ap, sym, ◌∙◌, arith}
 use Rattle.std.proofs.lemmas.Bool.{false≢true}
 use Rattle.report_text.specs.Written.{clusters_left}
-use Rattle.report_text.specs.declared.plan.Stage.TheVariants.{Level, Cluster, Done}
+use Rattle.report_text.specs.declared.plan.NextPart.TheVariants.{Level, Cluster, Done}
 use Rattle.report_text.proofs.Bodies.{plain_step}
 use Rattle.report_text.proofs.Parts.{level-part, levels-end}
 use Rattle.report_text.proofs.plan.begin_level.Goals as goal

@@ -5,9 +5,9 @@ use Rattle.report_text.proofs.plan.write_part.Goals as goal
 
 pub returns : goal.returns
 returns c =
-    let part = c.write_body_part-next.ensures in
-    plain_step c.args.plan.now c.args.stage c.write_body_part-next.result c.keep.new.self
-    c.write_body_part-next.new.line c.keep.ensures.still part.text part.some part.sound
-    (c.keep.ensures.keeps c.args.plan.now c.args.stage c.write_body_part-next.result c.requires.keeps
+    let part = c.write_body_part-behind.ensures in
+    plain_step c.args.plan.now c.args.next c.write_body_part-behind.result c.keep.new.self
+    c.write_body_part-behind.new.line c.keep.ensures.still part.text part.some part.sound
+    (c.keep.ensures.keeps c.args.plan.now c.args.next c.write_body_part-behind.result c.requires.keeps
     (part.text
-    ∙ ap (λ line. line ++ plan_left c.args.plan.now c.write_body_part-next.result) (sym c.bytes.ensures)))
+    ∙ ap (λ line. line ++ plan_left c.args.plan.now c.write_body_part-behind.result) (sym c.bytes.ensures)))

@@ -6,7 +6,8 @@ use Rattle.scripts.specs.Scripts.{scripts_of}
 use Rattle.station.specs.Closing.{IsOrder}
 use Rattle.station.specs.Passes.{PassData}
 use Rattle.runner.specs.Runs.{HasFinished, IsOutcomeOfRun}
-use Rattle.runner.proofs.Finishing.{all-of, finished, if-more, outcome-of-run}
+use Rattle.std.proofs.lemmas.Result.{IfOk-weaker}
+use Rattle.runner.proofs.Finishing.{all-of, finished, outcome-of-run}
 use Rattle.runner.proofs.running.finish_run.Goals as goal
 
 pub close-requires : goal.close-requires
@@ -18,10 +19,10 @@ close-requires c = record {
 pub returns-clause-finished : goal.returns-clause-finished
 returns-clause-finished c =
     let input = seen_input c.args.input.now in
-    if-more
+    IfOk-weaker c.complete.result
     (λ outcome. result_of outcome
     ≡ outcome_of (setting_over input c.args.plan.now) (scripts_of input) c.deref.result.now)
-    (λ outcome. HasFinished input c.args.tracker.setup c.args.workers.items (result_of outcome)) c.complete.result
+    (λ outcome. HasFinished input c.args.tracker.setup c.args.workers.items (result_of outcome))
     (λ outcome is. finished c.order_of_history.ensures.completed input c.args.tracker c.args.plan.now
     c.args.distances.now c.args.workers.items c.in-Ok.order.items (result_of outcome) c.requires.set c.requires.workers
     (subst (λ (ps : List PassData). IsOrder c.args.tracker.setup ps c.in-Ok.order.items) c.in_ok-passes.ensures
@@ -32,11 +33,10 @@ returns-clause-finished c =
 pub returns-clause-outcome : goal.returns-clause-outcome
 returns-clause-outcome c =
     let input = seen_input c.args.input.now in
-    if-more
+    IfOk-weaker c.complete.result
     (λ outcome. result_of outcome
     ≡ outcome_of (setting_over input c.args.plan.now) (scripts_of input) c.deref.result.now)
     (λ outcome. IsOutcomeOfRun (setting_over input c.args.plan.now) (scripts_of input) (result_of outcome))
-    c.complete.result
     (λ outcome is. outcome-of-run c.order_of_history.ensures.done c.each_visit_is_next.ensures.order
     c.all_scripts_done.ensures.done (setting_over input c.args.plan.now) (scripts_of input) c.deref.result.now
     (result_of outcome) is)

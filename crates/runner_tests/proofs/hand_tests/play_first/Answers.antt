@@ -18,5 +18,5 @@ returns c = λ input set are.
       set = set;
       worker_is = (are.each 0 c.index_mut.result.now there).0;
     }) in
-    first-played input c.args.tracker.now c.args.workers.now.items c.index_mut.result.now c.play.new.self played.lost are
-    there played.gone
+    first-played input c.args.tracker.now c.args.workers.now.items c.index_mut.result.now c.play.new.self played.lost
+    are there played.gone

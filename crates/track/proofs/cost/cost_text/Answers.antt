@@ -1,4 +1,5 @@
 use Rattle.std.proofs.Common.{◌≡◌, ◌∙◌, ap, refl}
+use Rattle.std.proofs.lemmas.Result.{IfOk-weaker}
 use Rattle.directory.specs.Orders.{AreValid}
 use Rattle.net_reader.specs.Seen.{seen_input}
 use Rattle.region_plan.specs.Plan.{PlanData}
@@ -7,7 +8,7 @@ use Rattle.scripts.specs.Scripts.{scripts_of}
 use Rattle.move_cost.specs.Costs.{cost_lines}
 use Rattle.move_cost.specs.CostText.{costs_text_of}
 use Rattle.track.specs.Results.{network_of, plan_for, setting_for}
-use Rattle.track.proofs.Answering.{if_ok, network-valid, plan-nodes, plan_of_graph}
+use Rattle.track.proofs.Answering.{network-valid, plan-nodes, plan_of_graph}
 use Rattle.track.proofs.cost.cost_text.Goals as goal
 
 pub returns : goal.returns
@@ -21,7 +22,7 @@ returns c =
       nodes = plan-nodes c.plan_means.ensures contents c.requires.valid;
       starts = refl;
     }) in
-    if_ok c.costs_text.result _ _ (λ text is. record {
+    IfOk-weaker c.costs_text.result _ _ (λ text is. record {
       text_is = is ∙ ap costs_text_of (c.deref.ensures.value ∙ c.in_ok-lines.ensures.lines
           ∙ ap (λ (p : PlanData). cost_lines (setting_of p contents.homes) (scripts_of contents)) same);
       within = c.network_lines_are_within_rate.ensures (network_of contents) contents.k contents.homes

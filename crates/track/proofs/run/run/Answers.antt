@@ -1,4 +1,5 @@
 use Rattle.std.proofs.Common.{◌≡◌, ◌∙◌, sym, subst, ap}
+use Rattle.std.proofs.lemmas.Result.{IfOk-weaker}
 use Rattle.directory.specs.Orders.{history_of}
 use Rattle.directory.specs.Outcomes.{Outcome, result_of}
 use Rattle.net_reader.specs.Seen.{seen_input}
@@ -10,7 +11,7 @@ use Rattle.runner.specs.Runs.{IsOutcomeOfRun}
 use Rattle.scripts.specs.Scripts.{scripts_of}
 use Rattle.trail_laws.specs.Lines.{TellInTurn}
 use Rattle.track.specs.Results.{IsRunReport, in_order, outcome_for, plan_for, setting_for}
-use Rattle.track.proofs.Answering.{if_ok, plan-nodes, plan_of_graph}
+use Rattle.track.proofs.Answering.{plan-nodes, plan_of_graph}
 use Rattle.track.proofs.Replaying.{report-says, sound-text}
 use Rattle.track.proofs.run.run.Goals as goal
 
@@ -22,7 +23,7 @@ returns g c =
     ∙ plan_of_graph c.plan_of_same_walks.ensures contents c.args.graph.now c.requires.valid c.requires.graph in
     let bounds : BoundsFinds (plan_for contents) =
     subst (λ (p : PlanData). BoundsFinds p) same c.in_ok-plan.ensures.bounding in
-    if_ok c.run_workers.result
+    IfOk-weaker c.run_workers.result
     (λ made. IsOutcomeOfRun (setting_of plan contents.homes) (scripts_of contents) (result_of made))
     (λ made. IsRunReport contents (report_of (result_of made)))
     (λ made told.

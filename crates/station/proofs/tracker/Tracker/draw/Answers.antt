@@ -1,24 +1,53 @@
 use Rattle.std.proofs.Common.{rules, arith, subst, sym, ap, ◌∙◌, ◌≡◌, ◌%◌, ◌+◌, ◌^◌}
-use Rattle.atomic_table.specs.Table.{Allows, step}
+use Rattle.atomic_table.specs.Table.{Allows, Me, step}
 use mathlib.Core.Option.{none}
+use Rattle.entry_word.specs.declared.visit.Act.{Act}
 use Rattle.station.specs.Rule.{KeepsRule}
-use Rattle.station.specs.Plays.{DrawsTicket}
+use Rattle.station.specs.Plays.{Draws, DrawsTicket, view_inside}
+use Rattle.station.specs.Turns.{Logs}
+use Rattle.station.specs.declared.view.TurnEvent.TheVariants.{Won}
+use Rattle.station.specs.declared.view.View.{View}
+use Rattle.station.specs.Visits.{MayDraw}
 use Rattle.station.proofs.Drawing.{draws}
 use Rattle.station.proofs.tracker.Tracker.draw.Goals as goal
 
 pub fetch_add-requires : goal.fetch_add-requires
 fetch_add-requires c =
-    let m = c.args.seat.now.me in
+    let m = c.turn.new.seat.me in
     let told = c.self.view_is in
-    let e : m.0.setup ≡ c.self.inside.table.shared.key = c.requires.setup ∙ sym (ap (λ t. t.setup) told) in (
+    let turn = c.in_ok-turn.ensures.turn in
+    let e : m.0.setup ≡ c.self.inside.table.shared.key =
+    ap (λ (x : Me Act View). x.0.setup) turn ∙ (c.requires.setup ∙ sym (ap (λ t. t.setup) told)) in (
       search rules,
       omega (arith, c.self.invariant.words),
       subst (λ k. Allows
-          (KeepsRule k) c.self.inside.table.shared.table_id.slots c.args.seat.now.id m 0 (λ y. (y + 1) % 2 ^ 64)
+          (KeepsRule k) c.self.inside.table.shared.table_id.slots c.turn.new.seat.id m 0 (λ y. (y + 1) % 2 ^ 64)
           (DrawsTicket (step c.self.inside.table.shared.table_id.slots 0 1 0 none) m)) e
-          (draws c.same_key_means.ensures _ _ c.args._node m c.args._act.now c.requires.may),
+          (draws c.same_key_means.ensures _ _ c.args.node m c.args.act.now
+          (subst (λ (v : View). MayDraw v c.args.node c.args.act.now) (sym (ap (λ (x : Me Act View). x.0) turn))
+          (c.requires.may m.0.turns))),
     )
 
+-- what the step at the ticket tells of the act that the turn was taken for
+drawn : (c : goal.After-fetch_add) → Draws c.turn.new.seat.me.0 c.args.node c.args.act.now c.fetch_add.result
+    c.fetch_add.new.seat.me.0 × (c.fetch_add.new.seat.me.1 ≡ c.turn.new.seat.me.1)
+drawn c =
+    let turn = c.in_ok-turn.ensures.turn in
+    c.fetch_add.ensures.2 c.args.node c.args.act.now (ap (λ (x : Me Act View). x.0.inside) turn)
+    (ap (λ (x : Me Act View). x.0.intended) turn)
+
 pub returns-clause-slots : goal.returns-clause-slots
-returns-clause-slots c = (c.fetch_add.ensures.2 c.args._node c.args._act.now c.requires.may.inside
-    c.requires.may.intended).1
+returns-clause-slots c = (drawn c).1 ∙ ap (λ (x : Me Act View). x.1) c.in_ok-turn.ensures.turn
+
+pub returns-clause-drawn : goal.returns-clause-drawn
+returns-clause-drawn c =
+    let old : View = c.args.seat.now.me.0 in
+    let d = (drawn c).0 in
+    subst (λ (v : View). Draws v c.args.node c.args.act.now c.fetch_add.result c.fetch_add.new.seat.me.0)
+    (ap (λ (x : Me Act View). x.0) c.in_ok-turn.ensures.turn
+    ∙ ap (λ log. view_inside old c.args.node c.args.act.now log) (sym (ap (λ (v : View). v.turns) d.view))) d
+
+pub returns-clause-logs : goal.returns-clause-logs
+returns-clause-logs c =
+    subst (λ log. Logs c.args.seat.now.me.0.turns (Won c.args.actor c.args.node) log)
+    (sym (ap (λ (v : View). v.turns) (drawn c).0.view)) c.in_ok-turn.ensures.logs

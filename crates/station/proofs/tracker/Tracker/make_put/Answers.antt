@@ -9,8 +9,8 @@ use Rattle.station.proofs.tracker.Tracker.make_put.Goals as goal
 pub put_there-requires-clause-moves : goal.put_there-requires-clause-moves
 put_there-requires-clause-moves c =
     let m = c.args.seat.now.me in
-    let d = c.draw-ticket.ensures.drawn in
-    let there : View = c.draw-ticket.new.seat.me.0 in
+    let d = c.in_ok-ticket.ensures.drawn in
+    let there : View = c.draw.new.seat.me.0 in
     let back = sym c.requires.setup in
     subst (λ (s : Setup). Moves s there c.args.node c.args.key there.before c.args.word) c.requires.setup
     (moves m.0.setup there d.earlier c.args.node there.before c.args.word m.0.low c.args.key

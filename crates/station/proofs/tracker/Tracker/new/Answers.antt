@@ -14,8 +14,8 @@ pub of_words-requires : goal.of_words-requires
 of_words-requires c =
     let plan = c.args.plan.now in let homes = c.args.homes.now in let actors = length homes + c.args.callers in
     let e : setup_of plan homes actors ≡ c.new-about.result = search rules in
-    let words : c.in_ok-words.words.items ≡ c.deref.result.now = search rules in
-    subst (λ (s : Setup). KeepsRule s (opening c.deref.result.now [] (first_view s))) e
+    let words : c.in_ok-words.words.items ≡ c.deref-2.result.now = search rules in
+    subst (λ (s : Setup). KeepsRule s (opening c.deref-2.result.now [] (first_view s))) e
     (subst (λ (ws : List ℕ). KeepsRule (setup_of plan homes actors) (opening ws [] (first_view
     (setup_of plan homes actors)))) words
     (opens c.cell_numbers.ensures.below (setup_of plan homes actors) c.in_ok-words.words.items
@@ -30,7 +30,8 @@ invariant_of-tracker c =
     let e : c.new-about.result ≡ setup_of plan homes actors = search rules in
     let table = c.in_ok-table.table.shared in
     let key : setup_of plan homes actors ≡ table.key = sym (c.in_ok-table.ensures.5 ∙ e) in
-    let words : c.deref.result.now ≡ c.in_ok-words.words.items = search rules in
+    let words : c.deref-2.result.now ≡ c.in_ok-words.words.items = search rules in
+    let few : length c.in_ok-words.words.items < 2 ^ 64 = search rules in
     let sound : IsKept plan = c.nodes.ensures.sound in
     subst (λ (s : Setup). IsTracker table.table_id s c.nodes.result (length homes) actors c.in_ok-places.places) key
     record {
@@ -40,8 +41,7 @@ invariant_of-tracker c =
       subs_are = refl;
       actors_are = refl;
       few_nodes = omega (arith, c.nodes.ensures.count, sound.metric.few);
-      few_words = subst (λ (k : ℕ). k < 2 ^ 64) (c.in_ok-words.ensures.opening actors).size (omega
-          (arith, c.len-count.type_inv, c.len-count.ensures, c.in_ok-words.words.ok));
+      few_words = subst (λ (k : ℕ). k < 2 ^ 64) (c.in_ok-words.ensures.opening actors).size few;
       few_subs = c.requires.few;
       some_actors = omega (arith, c.requires.some);
       few_actors = omega (arith, c.requires.few, c.requires.callers);

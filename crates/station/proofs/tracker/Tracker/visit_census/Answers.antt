@@ -4,7 +4,8 @@ use Rattle.node_set.specs.Ascending.{has}
 use Rattle.entry_word.specs.declared.visit.Act.TheVariants.{Census}
 use Rattle.directory.specs.Census.{census}
 use Rattle.directory.specs.Histories.{before}
-use Rattle.station.specs.Plays.{view_inside, view_outside, visit_by}
+use Rattle.station.specs.Passes.{PassData}
+use Rattle.station.specs.Plays.{Draws, view_inside, view_outside, visit_by}
 use Rattle.station.specs.Setup.{setting_in}
 use Rattle.station.specs.Turns.{Logs}
 use Rattle.station.specs.declared.view.TurnEvent.TheVariants.{GivenBack}
@@ -16,24 +17,24 @@ use Rattle.station.proofs.Turning.{no_key}
 use Rattle.station.proofs.Ticketing.{before_last, left_by, look_done, may_draw, pass_is, pass_wins, seen_done, visit_done}
 use Rattle.station.proofs.tracker.Tracker.visit_census.Goals as goal
 
-pub draw-ticket-requires-clause-may : goal.draw-ticket-requires-clause-may
-draw-ticket-requires-clause-may c =
-    may_draw c.pass.inside.seat.me c.turn.new.seat.me _ _ _ _ _ c.args.node (Census c.args.node) c.pass.invariant
-    (omega (arith, c.requires.spare, ap (λ q. q.spare) c.pass.view_is)) c.in_ok-turn.ensures.turn
+pub draw-requires-clause-may : goal.draw-requires-clause-may
+draw-requires-clause-may c =
+    λ log. may_draw c.pass.inside.seat.me _ _ _ _ _ c.args.node (Census c.args.node) log c.pass.invariant
+    (omega (arith, c.requires.spare, ap (λ q. q.spare) c.pass.view_is))
     refl (λ key e. no_key key e) tt
 
 pub keep_ticket-requires-clause-small : goal.keep_ticket-requires-clause-small
-keep_ticket-requires-clause-small c = c.draw-ticket.ensures.drawn.few
+keep_ticket-requires-clause-small c = c.in_ok-ticket.ensures.drawn.few
 
 pub invariant_of-pass-2 : goal.invariant_of-pass-2
 invariant_of-pass-2 c =
-    let d = c.draw-ticket.ensures.drawn in
+    let d = c.in_ok-ticket.ensures.drawn in
     let kept = c.keep_ticket.ensures in
     pass_is c.give_back.new.seat.me _ _ _ _ _ _ _ _
-    (look_done c.pass.inside.seat.me c.turn.new.seat.me c.draw-ticket.new.seat.me _ c.give_back.new.seat.me
+    (look_done c.pass.inside.seat.me c.draw.new.seat.me _ c.give_back.new.seat.me
     c.pass.inside.actor c.pass.inside.seen c.pass.inside.spare c.keep_ticket.new.spare
-    c.args.node c.draw-ticket.result c.pass.inside.tickets.items _
-    (Census c.args.node) c.pass.invariant kept.spare c.in_ok-turn.ensures.turn d c.draw-ticket.ensures.slots
+    c.args.node c.in_ok-ticket.ticket c.pass.inside.tickets.items _
+    (Census c.args.node) c.pass.invariant kept.spare d c.draw.ensures.slots
     (c.count_here-count.ensures.same ∙ c.list_here-who.ensures.same) c.give_back.ensures.left
     (ap (λ (x : View). x.unwritten) d.view) (ap (λ (x : View). x.owes) d.view))
     kept.seen kept.tickets kept.room
@@ -44,30 +45,30 @@ returns c =
     let act = Census node in
     let setting = setting_in c.args.self.now.setup in
     let told = c.pass.view_is in
-    let t = c.in_ok-turn.ensures in
-    let d = c.draw-ticket.ensures.drawn in
-    let one = c.turn.new.seat.me in
-    let two = c.draw-ticket.new.seat.me in
+    let t = c.in_ok-ticket.ensures in
+    let ticket = c.in_ok-ticket.ticket in
+    let two = c.draw.new.seat.me in
+    let d = subst (λ (q : PassData). Draws (view_inside q.view node act two.0.turns) node act ticket two.0) told
+    t.drawn in
     let new : View = c.give_back.new.seat.me.0 in
     let same = c.count_here-count.ensures.same ∙ c.list_here-who.ensures.same in
-    let turn = ap (λ m. m.0) t.turn ∙ ap (λ q. view_inside q.view node act one.0.turns) told in
     let left = left_by two.0 new (ap (λ m. m.0) c.give_back.ensures.left
     ∙ ap (λ m. view_outside m.0 new.turns) same) (ap (λ (x : View). x.unwritten) d.view)
     (ap (λ (x : View). x.owes) d.view) in
     let table = c.give_back.ensures.table ∙ (c.count_here-count.ensures.table ∙ (c.list_here-who.ensures.table
-    ∙ (c.draw-ticket.ensures.table ∙ (t.table ∙ ap (λ q. q.table) told)))) in
+    ∙ (c.draw.ensures.table ∙ ap (λ q. q.table) told))) in
     let seat = c.give_back.ensures.id ∙ (c.count_here-count.ensures.id ∙ (c.list_here-who.ensures.id
-    ∙ (c.draw-ticket.ensures.id ∙ (t.id ∙ ap (λ q. q.seat) told)))) in
+    ∙ (c.draw.ensures.id ∙ ap (λ q. q.seat) told))) in
     let old : View = c.args.pass.now.view in
-    let earlier : before c.draw-ticket.result new.seen ≡ d.earlier = before_last d.earlier new.seen
-    (visit_by old act) c.draw-ticket.result d.count (seen_done old one.0 two.0 new node _ act turn d left) in
-    let seen : census setting two.0.seen node ≡ census setting (before c.draw-ticket.result new.seen) node =
+    let earlier : before ticket new.seen ≡ d.earlier = before_last d.earlier new.seen
+    (visit_by old act) ticket d.count (seen_done old two.0 new node _ act d left) in
+    let seen : census setting two.0.seen node ≡ census setting (before ticket new.seen) node =
     ap (λ (x : View). census setting x.seen node) d.view
-    ∙ (census-counted setting d.earlier node one.0.low node ∙ sym (ap (λ h. census setting h node) earlier)) in
+    ∙ (census-counted setting d.earlier node old.low node ∙ sym (ap (λ h. census setting h node) earlier)) in
     record {
       seen = (
-        visit_done c.args.pass.now _ one two node c.draw-ticket.result act turn d left refl
-            (pass_wins _ c.args.pass.now c.pass.inside.actor node one.0.turns told c.pass.invariant.low t.logs)
+        visit_done c.args.pass.now _ two.0 node ticket act d left refl
+            (pass_wins _ c.args.pass.now c.pass.inside.actor node two.0.turns told c.pass.invariant.low t.logs)
             (subst (λ (m : Me Act View). Logs m.0.turns (GivenBack m.0.low node) new.turns) same
             c.give_back.ensures.logs) table seat
             (c.keep_ticket.ensures.spare ∙ ap (λ q. q.spare) told),

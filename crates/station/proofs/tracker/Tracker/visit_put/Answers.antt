@@ -8,16 +8,16 @@ use Rattle.handset.specs.Kept.{GoesWith}
 use Rattle.handset.specs.Stands.{StandsForSteps}
 use Rattle.region_plan.specs.Settings.{setting_of}
 use Rattle.station.specs.Setup.{Setup, setting_in, subs_in, IsCellOf}
-use Rattle.station.specs.Plays.{view_inside}
 use Rattle.station.specs.Handsets.{HandsetGoesOn, IsHandsetOf, put_of}
-use Rattle.station.specs.Visits.{HasVisited, MayDraw}
+use Rattle.station.specs.Passes.{PassData}
+use Rattle.station.specs.Visits.{HasVisited, Makes}
 use Rattle.station.specs.declared.view.View.{View}
 use Rattle.station.proofs.Putting.{may_put, handset_after, put_due, write-sub}
-use Rattle.station.proofs.Ticketing.{own_few, pass_done, visit_done, pass_is, pass_wins, seen_done}
+use Rattle.station.proofs.Ticketing.{own_few, pass_done, visit_done, pass_is, seen_done}
 use Rattle.station.proofs.tracker.Tracker.visit_put.Goals as goal
 
-pub make_put-ticket-requires-clause-may : goal.make_put-ticket-requires-clause-may
-make_put-ticket-requires-clause-may c =
+pub make_put-requires-clause-may : goal.make_put-requires-clause-may
+make_put-requires-clause-may c =
     let v : View = c.pass.inside.seat.me.0 in
     let key = c.next_put-key.result.0 in
     let word = c.next_put-key.result.1 in
@@ -32,28 +32,24 @@ make_put-ticket-requires-clause-may c =
     (λ q. q.view) told)) c.requires.handset in
     let known = c.next_put-key.ensures.cell (subst (λ (s : ℕ). s < subs_in c.args.self.now.setup)
     (sym h.sub) h.script.known) in
-    subst (λ (q : View). MayDraw q node (Put key word)) (sym (ap (λ m. m.0) c.in_ok-turn.ensures.turn))
-    (may_put v node key word c.turn.new.seat.me.0.turns c.pass.invariant.undrawn c.pass.invariant.unwritten
+    λ log. may_put v node key word log c.pass.invariant.undrawn c.pass.invariant.unwritten
     c.pass.invariant.clear
     (c.node_of-node.ensures.node ∙ ap (λ (s : Setup). key_node (setting_in s) key) back)
     (own_few c.pass.inside.seat.me _ _ _ _ _ c.pass.invariant spare)
     (subst (λ (s : Setup). IsCellOf s key) back known)
     (c.next_put-key.ensures.sub ∙ sub)
     (subst (λ (s : Setup). IsLegal (setting_in s) v.low (v.seen ++ put_of v.low key word ∷ [])) back
-    (c.next_put-key.ensures.legal v h)))
+    (c.next_put-key.ensures.legal v h))
 
 pub invariant_of-pass-2 : goal.invariant_of-pass-2
 invariant_of-pass-2 c =
-    let made = c.make_put-ticket.ensures.made in
+    let made = c.in_ok-ticket.ensures.made in
     let kept = c.keep_ticket.ensures in
-    let slots = c.make_put-ticket.ensures.slots ∙ ap (λ m. m.1) c.in_ok-turn.ensures.turn in
-    pass_is c.make_put-ticket.new.seat.me _ _ _ _ _ _ _ _
-    (pass_done c.pass.inside.seat.me c.turn.new.seat.me
-    (made.there, []) c.make_put-ticket.new.seat.me c.pass.inside.actor c.pass.inside.seen c.pass.inside.spare
-    c.keep_ticket.new.spare
-    c.node_of-node.result c.make_put-ticket.result c.pass.inside.tickets.items _
-    (Put c.next_put-key.result.0 c.next_put-key.result.1) c.pass.invariant kept.spare c.in_ok-turn.ensures.turn
-    made.draws made.left slots)
+    pass_is c.make_put.new.seat.me _ _ _ _ _ _ _ _
+    (pass_done c.pass.inside.seat.me (made.there, []) c.make_put.new.seat.me c.pass.inside.actor
+    c.pass.inside.seen c.pass.inside.spare c.keep_ticket.new.spare c.node_of-node.result c.in_ok-ticket.ticket
+    c.pass.inside.tickets.items _ (Put c.next_put-key.result.0 c.next_put-key.result.1) c.pass.invariant kept.spare
+    made.draws made.left c.make_put.ensures.slots)
     kept.seen kept.tickets kept.room
 
 pub returns : goal.returns
@@ -64,27 +60,23 @@ returns c =
     let old = c.args.pass.now in
     let told = c.pass.view_is in
     let h = c.requires.handset in
-    let made = c.make_put-ticket.ensures.made in
-    let turn = ap (λ m. m.0) c.in_ok-turn.ensures.turn
-    ∙ ap (λ q. view_inside q.view c.node_of-node.result (Put key word) c.turn.new.seat.me.0.turns) told in
-    let table = c.make_put-ticket.ensures.table ∙ (c.in_ok-turn.ensures.table ∙ ap (λ q. q.table) told) in
-    let seat = c.make_put-ticket.ensures.id ∙ (c.in_ok-turn.ensures.id ∙ ap (λ q. q.seat) told) in
+    let ticket = c.in_ok-ticket.ticket in
+    let made = subst (λ (q : PassData). Makes q.view c.node_of-node.result (Put key word) ticket
+    c.make_put.new.seat.me.0) told c.in_ok-ticket.ensures.made in
+    let table = c.make_put.ensures.table ∙ ap (λ q. q.table) told in
+    let seat = c.make_put.ensures.id ∙ ap (λ q. q.seat) told in
     let less = c.keep_ticket.ensures.spare ∙ ap (λ q. q.spare) told in
-    let visited = visit_done old _ c.turn.new.seat.me
-    (made.there, []) c.node_of-node.result c.make_put-ticket.result
-    (Put key word) turn made.draws made.left
+    let visited = visit_done old _ made.there c.node_of-node.result ticket (Put key word) made.draws made.left
     (ap (λ (s : Setup). key_node (setting_in s) key) c.requires.of.setup ∙ sym c.node_of-node.ensures.node)
-    (pass_wins _ old c.pass.inside.actor c.node_of-node.result c.turn.new.seat.me.0.turns told c.pass.invariant.low
-    c.in_ok-turn.ensures.logs) made.logs table seat less in
+    made.won made.given_back table seat less in
     let made_count = length (puts_to old.view.low old.view.seen) in
     let low = subst (λ (s : Setup). old.view.low < subs_in s) (sym c.requires.of.setup) h.script.known in
-    let puts = subst (λ (v : View). v.low < subs_in v.setup
-    → puts_to v.low made.draws.earlier ≡ puts_to v.low v.seen) turn made.draws.puts low in
+    let puts = made.draws.puts low in
     let made_by = λ (own : IsHandsetOf setup old.view c.args.handset.now).
-    handset_after setup old.view c.make_put-ticket.new.seat.me.0 c.args.handset.now c.made.new.self key word
+    handset_after setup old.view c.make_put.new.seat.me.0 c.args.handset.now c.made.new.self key word
     made.draws.earlier own (c.next_put-key.ensures.next old.view own
     ∙ ap (λ (a : ℕ). Some (put_of a key word)) own.sub) (c.next_put-key.ensures.sub ∙ own.sub)
-    visited.same.actor (seen_done old.view _ _ _ _ _ _ turn made.draws made.left) puts (subst
+    visited.same.actor (seen_done old.view _ _ _ _ _ made.draws made.left) puts (subst
     (λ p. GoesWith p c.made.new.self) c.requires.plan c.made.ensures.goes)
     (ap (λ q. q.sub) c.made.ensures.exact ∙ write-sub
     (setting_of c.args.plan.now []) c.args.handset.now c.args.handset.now.stage)
@@ -95,10 +87,10 @@ returns c =
     c.next_put-key.ensures.due h.sub in
     record {
       made = (
-        is_due (λ (visit : Visit). HasVisited old visit.act c.make_put-ticket.result _) visited,
+        is_due (λ (visit : Visit). HasVisited old visit.act ticket _) visited,
         c.made.ensures.exact,
         (made_by h).own,
       );
       goes_on = is_due (λ (visit : Visit). (own : IsHandsetOf setup old.view c.args.handset.now)
-          → HandsetGoesOn setup old.view c.make_put-ticket.new.seat.me.0 c.made.new.self own.steps visit) made_by;
+          → HandsetGoesOn setup old.view c.make_put.new.seat.me.0 c.made.new.self own.steps visit) made_by;
     }

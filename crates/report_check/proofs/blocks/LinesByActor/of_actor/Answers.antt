@@ -1,6 +1,6 @@
 use Rattle.std.proofs.Common.{rules}
 use Rattle.report_check.proofs.Blocking.{actor-any, actor-lines}
-use Rattle.report_check.proofs.blocks.Lines.of_actor.Goals as goal
+use Rattle.report_check.proofs.blocks.LinesByActor.of_actor.Goals as goal
 
 pub returns-in-Some-clause-tells : goal.returns-in-Some-clause-tells
 returns-in-Some-clause-tells c =
