@@ -2,10 +2,14 @@
 //! and up to the most nodes.
 
 use crate::asking::{Asked, Made, ask_path};
+use crate::same::same_numbers;
 use distances::Distances;
 use net_graph::{MAX_NODES, MAX_WEIGHT};
 use region_plan::Plan;
+use std::alloc::Global;
+use std::process::Abort;
 use std::test::Fail;
+use test_networks::path;
 
 #[test]
 fn levels_of_a_line(rt: HostRuntime) -> Result<(), Fail> {
@@ -243,5 +247,54 @@ fn shares<T: Sync>() {}
 fn threads_may_share_them(_rt: HostRuntime) -> Result<(), Fail> {
     shares::<Plan>();
     shares::<Distances>();
+    Ok(())
+}
+
+// How many levels the plan of two nodes has whose edge has this weight.
+fn levels_at(alloc: Global, weight: u64) -> Result<u64, Fail> {
+    if weight == 0 || weight > MAX_WEIGHT {
+        return Err("an edge has this weight".into());
+    }
+    let (graph, distances) = path(alloc, 2, weight)?;
+    let plan = Plan::build(alloc, &graph, &distances, 2)?;
+    Ok(u64::from(plan.levels()))
+}
+
+// So many levels are there at each diameter from the first one to the last.
+fn have_levels(
+    rt: &impl Abort,
+    alloc: Global,
+    first: u64,
+    last: u64,
+    levels: u64,
+) -> Result<(), Fail> {
+    for diameter in first..=last {
+        let found = levels_at(alloc, diameter)?;
+        same_numbers(rt, diameter as usize, &[found], &[levels]);
+    }
+    Ok(())
+}
+
+// Whatever the diameter is, there is a plan, with a level for each power of two below it, and one
+// whose radius reaches it.
+#[test]
+fn a_plan_at_each_diameter(rt: HostRuntime) -> Result<(), Fail> {
+    let rows = [
+        (1, 1, 1),
+        (2, 2, 2),
+        (3, 4, 3),
+        (5, 8, 4),
+        (9, 16, 5),
+        (17, 32, 6),
+        (33, 64, 7),
+        (65, 128, 8),
+        (129, 256, 9),
+        (257, 512, 10),
+        (1_048_500, 1_048_576, 21),
+    ];
+    for place in 0..rows.len() {
+        let (first, last, levels) = rows[place];
+        have_levels(&rt, rt.alloc(), first, last, levels)?;
+    }
     Ok(())
 }

@@ -3,3 +3,4 @@ pub mod PlayLaws
 pub mod Roles
 pub mod Workers
 pub mod Runs
+pub mod Examples

@@ -71,10 +71,11 @@ HasAttempted input tracker old new Held =
     HasGoneOn input tracker old new 1 × (new.pass.spare ≡ old.pass.spare)
 HasAttempted input tracker old new Kept = new ≡ old
 
--- what an answer says of a play that has lost so many turns: no visit is left, or one is, and the
--- tries are used up
+-- what an answer says of a play that has lost so many turns: no visit is left, and each lost turn
+-- was a try; or one is left, and the tries are used up
 abbrev pub Says : Contents → Setup → ℕ → ℕ → PassData → Played → Type 0
-Says input setup tries lost pass Finished = next_of input setup pass.view ≡ None
+Says input setup tries lost pass Finished =
+    (next_of input setup pass.view ≡ None) × (lost ≤ tries)
 Says input setup tries lost pass (Stopped held kept) =
     (next_of input setup pass.view ≢ None) × (held + kept ≡ tries) × (lost ≡ held)
 

@@ -22,7 +22,9 @@ mod role;
 mod room;
 mod running;
 mod worker;
+mod wrong;
 
 pub use gate::{Gate, OpenGate};
 pub use running::{RUN_TRIES, finish_run, open_run, run_workers};
 pub use worker::{Played, Worker, WorkerRefused};
+pub use wrong::{wrong_plays, wrong_runs, wrong_workers};

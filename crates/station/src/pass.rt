@@ -1,5 +1,5 @@
 //! The token of one actor.
-ghost use Rattle.std.specs.Prelude.{◌≡◌, ◌+◌, ◌<◌, ◌≤◌, ◌^◌, ◌++◌, ◌∷◌, [], if◌then◌else◌, length, max, slice_index, slice_set, suc, OnErr, OnOk, ℕ};
+ghost use Rattle.std.specs.Prelude.{◌≡◌, ◌+◌, ◌<◌, ◌≤◌, ◌^◌, ◌++◌, ◌∷◌, [], if◌then◌else◌, length, max, slice_index, slice_set, suc, IsOk, OnErr, OnOk, ℕ};
 ghost use Rattle.node_set.specs.Ascending.{has};
 ghost use Rattle.std.specs.Vec.{vec_capacity};
 ghost use Rattle.directory.specs.Histories.{own, tickets};
@@ -93,14 +93,16 @@ impl Pass {
         }
     }
 
-    /// Sees to room for so many visits from here on; room that is there counts. Without memory the
-    /// pass is as before. A find wants `Plan::most_looks` of its node, a move `Plan::most_writes`,
-    /// a switch and a census 1 each. A visit takes 8 bytes until the tracker is closed.
+    /// Sees to room for so many visits from here on; room that is there counts, and takes no
+    /// memory. Without memory the pass is as before. A find wants `Plan::most_looks` of its node, a
+    /// move `Plan::most_writes`, a switch and a census 1 each. A visit takes 8 bytes until the
+    /// tracker is closed.
     pub fn reserve(&mut self, visits: u64) -> Result<(), OutOfMemory>
         requires few { length (own (actor_of self.old) self.old.view.seen) + visits ≤ 2 ^ 56 }
         ensures room { OnOk result (self.new
             ≡ record self.old { spare = max self.old.spare visits }) }
         ensures refused { OnErr result (self.new ≡ self.old) }
+        ensures there { visits ≤ self.old.spare → IsOk result }
     {
         if self.spare < visits {
             self.tickets.reserve(visits as usize)?;

@@ -35,18 +35,54 @@ pub fn wrong_ends()
         (streams None 0 None 0) → ⊥ }
     ensures no_verdict { EndsAs Replay Unsound (streams (Some []) 0 None 0)
         (streams None 0 None 0) → ⊥ }
+    ensures bad_words { EndsAs Cover BadWords (streams None 0 None 0)
+        (streams None 0 None 0) → ⊥ }
+    ensures memory_write_fault { EndsAs Cover OutOfMemory (streams None 0 None 0)
+        (streams None 0 None 1) → ⊥ }
+    ensures both_faults { EndsAs Cover WriteFailed (streams None 0 None 0)
+        (streams None 1 None 1) → ⊥ }
+    ensures long_spoke { EndsAs Cover TooLong (streams None 0 (Some []) 0)
+        (streams None 0 (Some (1 ∷ [])) 0) → ⊥ }
+    ensures long_fault { EndsAs Cover TooLong (streams None 0 None 0)
+        (streams None 1 None 0) → ⊥ }
+    ensures no_form { Ends false None Done (streams None 0 None 0)
+        (streams None 0 None 0) → ⊥ }
     ensures touched { Ends false None BadWords (streams None 0 (Some []) 0)
         (streams None 0 (Some (1 ∷ [])) 0) → ⊥ }
     ensures run { Ends false (Some Run) Done (streams None 0 None 0)
         (streams None 0 None 0) → ⊥ }
-    ensures alone_silent { EndsAlone (1 ∷ []) Done (streams None 0 (Some []) 0)
+{}
+
+/// The same of a command that reads nothing; and a status that it never has.
+pub fn wrong_ends_alone()
+    ensures silent { EndsAlone (1 ∷ []) Done (streams None 0 (Some []) 0)
         (streams None 0 (Some []) 0) → ⊥ }
-    ensures alone_read { EndsAlone [] Done (streams (Some (1 ∷ [])) 0 None 0)
+    ensures read { EndsAlone [] Done (streams (Some (1 ∷ [])) 0 None 0)
         (streams (Some []) 0 None 0) → ⊥ }
-    ensures alone_fault { EndsAlone [] WriteFailed (streams None 0 None 0)
+    ensures no_fault { EndsAlone [] WriteFailed (streams None 0 None 0)
         (streams None 0 None 0) → ⊥ }
-    ensures alone_other { EndsAlone (1 ∷ []) WriteFailed (streams None 0 (Some []) 0)
+    ensures other { EndsAlone (1 ∷ []) WriteFailed (streams None 0 (Some []) 0)
         (streams None 0 (Some (2 ∷ [])) 1) → ⊥ }
+    ensures read_fault { EndsAlone [] Done (streams None 0 None 0)
+        (streams None 1 None 0) → ⊥ }
+    ensures write_fault { EndsAlone [] Done (streams None 0 None 0)
+        (streams None 0 None 1) → ⊥ }
+    ensures memory_spoke { EndsAlone [] OutOfMemory (streams None 0 (Some []) 0)
+        (streams None 0 (Some (1 ∷ [])) 0) → ⊥ }
+    ensures memory_read { EndsAlone [] OutOfMemory (streams (Some (1 ∷ [])) 0 None 0)
+        (streams (Some []) 0 None 0) → ⊥ }
+    ensures failed_read { EndsAlone [] WriteFailed (streams (Some (1 ∷ [])) 0 None 0)
+        (streams (Some []) 0 None 1) → ⊥ }
+    ensures refused { (text : List ℕ) (before now : Streams)
+        → EndsAlone text Refused before now → ⊥ }
+    ensures unsound { (text : List ℕ) (before now : Streams)
+        → EndsAlone text Unsound before now → ⊥ }
+    ensures bad_words { (text : List ℕ) (before now : Streams)
+        → EndsAlone text BadWords before now → ⊥ }
+    ensures read_failed { (text : List ℕ) (before now : Streams)
+        → EndsAlone text ReadFailed before now → ⊥ }
+    ensures long { (text : List ℕ) (before now : Streams)
+        → EndsAlone text TooLong before now → ⊥ }
 {}
 
 /// More bytes than a command may be given, and a text that was written for them, whole or in part.

@@ -1,6 +1,7 @@
-//! Passes with much room, and a tracker with as many actors and nodes as there may be.
+//! Passes with much room, a tracker with as many actors and nodes as there may be, and one of some
+//! thousand visits.
 
-ghost use Rattle.std.specs.Prelude.{◌≡◌, ◌≤◌, ◌^◌, [], IfOk};
+ghost use Rattle.std.specs.Prelude.{◌≡◌, ◌<◌, ◌≤◌, ◌^◌, [], IfOk};
 ghost use Rattle.region_plan.specs.Plan.{nodes_of};
 ghost use Rattle.station.specs.Passes.{AreFresh, IsFree, IsPassOf};
 ghost use Rattle.station.specs.Setup.{nodes_in, subs_in};
@@ -137,5 +138,60 @@ fn as_many_actors_as_there_may_be(rt: HostRuntime) -> Result<(), Fail> {
     let (plan, _) = plan_of_most_nodes(rt.alloc())?;
     let (seen, order) = visits_of_all(rt.alloc(), &plan)?;
     assert!(rt; seen == Some((everybody, 1, here)) && order.as_slice() == [127, 126].as_slice());
+    Ok(())
+}
+
+// So many censuses of a node by one pass; whether each was made.
+fn count_often(tracker: &Tracker, pass: &mut Pass, node: u32, times: u64) -> bool
+    requires node { node < nodes_in tracker.now.setup }
+    requires free { IsFree tracker.now times pass.old }
+    ensures of { IsPassOf tracker.now pass.new }
+{
+    for _step in 0..times {
+        if tracker.visit_census(pass, node).is_err() {
+            return false;
+        }
+    }
+    true
+}
+
+// The actors of the tickets where the caller counts so often, and then the subscriber.
+fn order_of_many(alloc: Global, plan: &Plan, times: u64) -> Result<Vec<u32>, Fail>
+    requires nodes { nodes_of plan.now ≡ 4 }
+    requires few { times ≤ 2 ^ 56 }
+{
+    let (tracker, mut passes) = Tracker::new(alloc, plan, &[3], 1)?;
+    let mut caller = next_pass(&tracker, &mut passes, 1, times)?;
+    let mut own = next_pass(&tracker, &mut passes, 0, times)?;
+    if !count_often(&tracker, &mut caller, 3, times) || !count_often(&tracker, &mut own, 0, times) {
+        return Err("nobody is inside a node".into());
+    }
+    close_all(alloc, tracker, passes, own, caller)
+}
+
+// Whether each of some numbers is this one.
+fn are_all(numbers: &[u32], wanted: u32) -> bool {
+    for number in numbers {
+        if *number != wanted {
+            return false;
+        }
+    }
+    true
+}
+
+// Whether an order is that: so many tickets of the caller, and as many of the subscriber.
+fn are_in_turn(order: &[u32], times: usize) -> bool {
+    if times > order.len() {
+        return false;
+    }
+    let (first, rest) = order.split_at(times);
+    rest.len() == times && are_all(first, 1) && are_all(rest, 0)
+}
+
+#[test]
+fn a_tracker_of_many_visits(rt: HostRuntime) -> Result<(), Fail> {
+    let (plan, _) = line_of_four(rt.alloc())?;
+    let order = order_of_many(rt.alloc(), &plan, 5_000)?;
+    assert!(rt; are_in_turn(&order, 5_000));
     Ok(())
 }

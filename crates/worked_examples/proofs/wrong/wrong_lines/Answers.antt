@@ -4,6 +4,7 @@ use Rattle.directory.specs.Courses.{highest, move_to}
 use Rattle.directory.specs.Writes.{writes, visits}
 use Rattle.directory.specs.Looks.{moves_at}
 use Rattle.region_plan.specs.Examples.{line_setting}
+use Rattle.worked_examples.specs.Passes.{count_by}
 use Rattle.worked_examples.proofs.wrong.wrong_lines.Goals as goal
 
 pub returns-clause-node : goal.returns-clause-node
@@ -19,6 +20,14 @@ pub returns-clause-off : goal.returns-clause-off
 unfolding writes highest
 returns-clause-off c = λ r. true≢false r.2
 
+pub returns-clause-off_node : goal.returns-clause-off_node
+unfolding writes highest
+returns-clause-off_node c = λ r. let e : ◌≡◌ {A = ℕ} 2 3 = r.0 in omega (arith, e)
+
+pub returns-clause-off_number : goal.returns-clause-off_number
+unfolding writes highest
+returns-clause-off_number c = λ r. let e : ◌≡◌ {A = ℕ} 1 0 = r.1 in omega (arith, e)
+
 later : (t : ℕ) → 6 ≤ t → moves_at 0 (visits line_setting 0 (move_to 2 ∷ [])) t ≡ false
 unfolding writes highest
 later zero h = absurd (omega arith)
@@ -32,8 +41,18 @@ later (suc (suc (suc (suc (suc (suc t)))))) h = refl
 pub returns-clause-early_cause : goal.returns-clause-early_cause
 returns-clause-early_cause c = λ r. true≢false (sym r.3 ∙ later r.0 r.1)
 
+first-no : (t : ℕ) → t ≤ 0 → moves_at 0 (count_by 1 0 ∷ visits line_setting 0 (move_to 2 ∷ [])) t ≡ false
+first-no zero h = refl
+first-no (suc t) h = absurd (omega (arith, h))
+
+pub returns-clause-late_cause : goal.returns-clause-late_cause
+returns-clause-late_cause c = λ r. true≢false (sym r.3 ∙ first-no r.0 r.2)
+
 pub returns-clause-heavy : goal.returns-clause-heavy
 returns-clause-heavy c = λ r. let e : 412 ≤ 137 * 3 + 2 * 0 = r (λ t a b. refl) in omega (arith, e)
+
+pub returns-clause-heavy_off : goal.returns-clause-heavy_off
+returns-clause-heavy_off c = λ r. let e : 412 ≤ 137 * 3 + 2 * 0 = r (λ t a b. refl) in omega (arith, e)
 
 pub returns-clause-quiet_again : goal.returns-clause-quiet_again
 returns-clause-quiet_again c = λ r. r (λ t a b. refl)
@@ -42,6 +61,14 @@ pub returns-clause-falling : goal.returns-clause-falling
 returns-clause-falling c = λ r. let e : 2 ≤ 1 = r 0 1 _ _ refl refl 0 2 1 3 5 (refl, refl, refl) (refl, refl, refl)
     (omega arith) in omega (arith, e)
 
+pub returns-clause-falling_off : goal.returns-clause-falling_off
+returns-clause-falling_off c = λ r. let e : 2 ≤ 1 = r 0 1 _ _ refl refl 0 2 1 3 5 (refl, refl, refl)
+    (refl, refl, refl) (omega arith) in omega (arith, e)
+
 pub returns-clause-out_of_turn : goal.returns-clause-out_of_turn
 returns-clause-out_of_turn c = λ r. let e : 5 ≤ 3 = r 0 1 _ _ (omega arith) refl refl refl 0 1 2 2 5 3
+    (refl, refl, refl) (refl, refl, refl) in omega (arith, e)
+
+pub returns-clause-off_out_of_turn : goal.returns-clause-off_out_of_turn
+returns-clause-off_out_of_turn c = λ r. let e : 5 ≤ 3 = r 0 1 _ _ (omega arith) refl refl refl 0 1 2 2 5 3
     (refl, refl, refl) (refl, refl, refl) in omega (arith, e)

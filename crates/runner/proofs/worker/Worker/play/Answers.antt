@@ -162,5 +162,5 @@ returns-clause-played g c = λ input may.
     record {
       lost = c.tries.held;
       gone = prepared-gone input tracker c.args.self.now c.tries.self c.prepare.new.self c.tries.held gone prepares.0;
-      says = prepares.2.0 c.tries-test.false;
+      says = (prepares.2.0 c.tries-test.false, omega (arith, c.tries.invariant.few));
     }

@@ -1,0 +1,109 @@
+use Rattle.std.proofs.Common.{◌≡◌, ◌≤◌, ℕ, List, [], ◌∷◌, Some, None, Option, refl, sym, ap, ◌∙◌, subst, arith}
+use Rattle.std.specs.Prelude.{slice_index}
+use Rattle.directory.specs.Histories.{History, IsFront, own, words_after}
+use Rattle.directory.specs.Orders.{IsPlayed, next}
+use Rattle.directory.specs.Outcomes.{Outcome, outcome_of, step_lines}
+use Rattle.directory.specs.Writes.{writes}
+use Rattle.directory.specs.declared.answers.Done.{Done}
+use Rattle.entry_word.specs.declared.visit.Visit.{Visit}
+use Rattle.scripts.specs.Scripts.{scripts_of}
+use Rattle.station.specs.Setup.{setting_in}
+use Rattle.runner.specs.Examples.{count_by, idle_input, line_setup, switching_input}
+use Rattle.runner.specs.Runs.{actors_of}
+use Rattle.runner.proofs.wrong.wrong_runs.Goals as goal
+
+none-no : (visit : Visit) → ◌≡◌ {A = Option Visit} None (Some visit) → ⊥
+none-no visit e = cc
+
+front-no : (visit : Visit) → IsFront (visit ∷ []) [] → ⊥
+front-no visit e = cc
+
+some-no : (visit : Visit) → ◌≡◌ {A = List Visit} (visit ∷ []) [] → ⊥
+some-no visit e = cc
+
+number-no : (n : ℕ) → ◌≡◌ {A = List ℕ} (n ∷ []) [] → ⊥
+number-no n e = cc
+
+line-no : (line : Done) → ◌≡◌ {A = List Done} [] (line ∷ []) → ⊥
+line-no line e = cc
+
+pub returns-clause-few : goal.returns-clause-few
+returns-clause-few c = λ tracker worker its. let e : ◌≡◌ {A = ℕ} 1 2 = its.count in omega (arith, e)
+
+pub returns-clause-swapped : goal.returns-clause-swapped
+returns-clause-swapped c = λ input tracker worker other seen its.
+    omega (arith, (its.each 0 worker refl).1, seen.low)
+
+pub returns-clause-serves : goal.returns-clause-serves
+returns-clause-serves c = λ input tracker worker other its. (its.each 1 other refl).0
+
+pub returns-clause-home : goal.returns-clause-home
+returns-clause-home c = λ setup plan distances set other.
+    let e : ◌≡◌ {A = ℕ} 2 3 = ap (λ (xs : List ℕ). slice_index xs 0) (sym other ∙ set.homes) in omega (arith, e)
+
+pub returns-clause-actors : goal.returns-clause-actors
+returns-clause-actors c = λ setup plan distances set three.
+    let two : setup.actors ≡ 2 = set.actors in omega (arith, two, three)
+
+pub returns-clause-unheard : goal.returns-clause-unheard
+returns-clause-unheard c = λ input setup worker outcome seen run none.
+    front-no (count_by 1)
+    (subst (λ (h : History). IsFront (count_by 1 ∷ []) h) none
+    (subst (λ (h : History). IsFront h run.history) seen.seen_is (run.seen 0 worker refl)))
+
+pub returns-clause-more : goal.returns-clause-more
+returns-clause-more c = λ input setup worker outcome seen run one.
+    let same : own 0 run.history ≡ own 0 worker.pass.view.seen = run.visits 0 worker refl in
+    let mine : own 0 run.history ≡ count_by 0 ∷ [] = ap (λ (h : History). own 0 h) one in
+    let none : own 0 worker.pass.view.seen ≡ [] = ap (λ (h : History). own 0 h) seen.seen_is in
+    some-no (count_by 0) (sym mine ∙ (same ∙ none))
+
+pub returns-clause-stranger : goal.returns-clause-stranger
+returns-clause-stranger c = λ input setup worker outcome run one.
+    let mine : own 1 run.history ≡ count_by 1 ∷ [] = ap (λ (h : History). own 1 h) one in
+    let at : 1 ≤ 1 = omega arith in
+    some-no (count_by 1) (sym mine ∙ run.known 1 at)
+
+idle-next : next (setting_in line_setup) (scripts_of idle_input) [] 1 ≡ None
+unfolding words_after
+idle-next = refl
+
+pub returns-clause-unplayed : goal.returns-clause-unplayed
+returns-clause-unplayed c = λ workers outcome run one.
+    let played = subst (λ (h : History). IsPlayed (setting_in line_setup) (scripts_of idle_input) h) one run.played in
+    none-no (count_by 1) (sym idle-next ∙ played 0 (count_by 1) refl)
+
+idle : (outcome_of (setting_in line_setup) (scripts_of idle_input) []).order ≡ []
+unfolding writes words_after
+idle = refl
+
+idle-still : (outcome_of (setting_in line_setup) (scripts_of idle_input) (1 ∷ [])).order ≡ []
+unfolding writes words_after
+idle-still = refl
+
+pub returns-clause-outcome : goal.returns-clause-outcome
+returns-clause-outcome c = λ workers outcome run none one.
+    let is : outcome ≡ outcome_of (setting_in line_setup) (scripts_of idle_input) [] =
+    run.outcome_is
+    ∙ ap (λ (h : History). outcome_of (setting_in line_setup) (scripts_of idle_input) (actors_of h)) none in
+    number-no 1 (sym one ∙ (ap (λ (o : Outcome). o.order) is ∙ idle))
+
+pub returns-clause-unmade : goal.returns-clause-unmade
+returns-clause-unmade c = λ its.
+    let e : ◌≡◌ {A = List ℕ} (1 ∷ []) (outcome_of (setting_in line_setup) (scripts_of idle_input) (1 ∷ [])).order =
+    ap (λ (o : Outcome). o.order) (its.is
+    ∙ ap (λ (order : List ℕ). outcome_of (setting_in line_setup) (scripts_of idle_input) order) (sym its.printed)) in
+    number-no 1 (e ∙ idle-still)
+
+switched : (line : Done) × ((outcome_of (setting_in line_setup) (scripts_of switching_input) (0 ∷ [])).calls
+    ≡ line ∷ [])
+unfolding writes step_lines words_after
+switched = (_, refl)
+
+pub returns-clause-left_out : goal.returns-clause-left_out
+returns-clause-left_out c = λ its.
+    let e : ◌≡◌ {A = List Done} [] (outcome_of (setting_in line_setup) (scripts_of switching_input) (0 ∷ [])).calls =
+    ap (λ (o : Outcome). o.calls) (its.is
+    ∙ ap (λ (order : List ℕ). outcome_of (setting_in line_setup) (scripts_of switching_input) order)
+    (sym its.printed)) in
+    line-no switched.0 (e ∙ switched.1)
