@@ -180,6 +180,74 @@ fn ask(rt: &impl Abort, alloc: Global, plan: &Plan, rows: &[(Asked, &[u64])]) ->
     Ok(())
 }
 
+// The number of a word, and 0 where there is no word.
+fn number_of(word: Option<&str>) -> u32 {
+    match word {
+        Some(word) => word.parse::<u32>().unwrap_or(0),
+        None => 0,
+    }
+}
+
+// What these words ask: the name of what is asked, and its numbers.
+fn asked_of(words: &str) -> Option<Asked> {
+    let mut words = words.split_ascii_whitespace();
+    let name = words.next()?;
+    let (first, second) = (number_of(words.next()), number_of(words.next()));
+    match name {
+        "whole" => Some(Asked::Whole),
+        "level" => Some(Asked::Level(first)),
+        "homes" => Some(Asked::Homes(first)),
+        "home" => Some(Asked::Home(first, second)),
+        "cluster" => Some(Asked::Cluster(first, second)),
+        "members" => Some(Asked::Members(first, second)),
+        "weights" => Some(Asked::Weights(first, second)),
+        "readers" => Some(Asked::Readers(first, second)),
+        "reader-weights" => Some(Asked::ReaderWeights(first, second)),
+        "looks" => Some(Asked::Looks(first)),
+        "repeats" => Some(Asked::Repeats),
+        _ => None,
+    }
+}
+
+fn numbers_of(alloc: Global, words: &str) -> Result<Vec<u64>, Fail> {
+    let mut numbers = Vec::new(alloc);
+    for word in words.split_ascii_whitespace() {
+        let Ok(number) = word.parse::<u64>() else {
+            return Err("an answer is numbers".into());
+        };
+        numbers.push(number)?;
+    }
+    Ok(numbers)
+}
+
+// A row `ASKED = NUMBERS` is answered so.
+fn ask_row(
+    rt: &impl Abort,
+    alloc: Global,
+    place: usize,
+    plan: &Plan,
+    row: &str,
+) -> Result<(), Fail> {
+    let Some((words, numbers)) = row.split_once('=') else {
+        return Err("a row is a question and its answer".into());
+    };
+    let Some(asked) = asked_of(words) else {
+        return Err("that can't be asked".into());
+    };
+    let wanted = numbers_of(alloc, numbers)?;
+    same_numbers(rt, place, &answer(alloc, plan, asked)?, &wanted);
+    Ok(())
+}
+
+// A table that is one text: the prover takes a table of tuples apart, value by value, and a text at
+// once. Behind each row stands `|`.
+fn ask_rows(rt: &impl Abort, alloc: Global, plan: &Plan, rows: &str) -> Result<(), Fail> {
+    for (place, row) in rows.split_terminator('|').enumerate() {
+        ask_row(rt, alloc, place, plan, row)?;
+    }
+    Ok(())
+}
+
 /// How a plan is made: built with a trade-off, over mean covers with one, or flat.
 #[derive(Clone, Copy)]
 pub enum Made {
@@ -227,4 +295,21 @@ pub fn ask_path(
     requires light { weight ≤ MAX_WEIGHT }
 {
     ask(rt, alloc, &plan_of(alloc, n, weight, made)?, rows)
+}
+
+/// Asks the plan of a path of `n` nodes, whose edges have this weight, by a table that is one text.
+pub fn ask_path_rows(
+    rt: &impl Abort,
+    alloc: Global,
+    n: u32,
+    weight: u64,
+    made: Made,
+    rows: &str,
+) -> Result<(), Fail>
+    requires some { 1 ≤ n }
+    requires few { n ≤ MAX_NODES }
+    requires positive { 1 ≤ weight }
+    requires light { weight ≤ MAX_WEIGHT }
+{
+    ask_rows(rt, alloc, &plan_of(alloc, n, weight, made)?, rows)
 }

@@ -43,11 +43,14 @@ fn parts_of(alloc: Global, cover: &Cover, place: usize) -> Result<Vec<u64>, Fail
         return Err("the cluster is there".into());
     }
     let cluster = &cover.clusters[place];
-    let mut parts = Vec::new(alloc);
-    parts.push(u64::from(cluster.first))?;
-    parts.push(u64::from(cluster.phase))?;
-    parts.push(u64::from(cluster.members.room()))?;
-    for v in 0..cluster.members.room() {
+    let room = cluster.members.room();
+    let measures = [
+        u64::from(cluster.first),
+        u64::from(cluster.phase),
+        u64::from(room),
+    ];
+    let mut parts = Vec::from_slice(alloc, &measures)?;
+    for v in 0..room {
         if cluster.members.has(v) {
             parts.push(u64::from(v))?;
         }
@@ -57,9 +60,8 @@ fn parts_of(alloc: Global, cover: &Cover, place: usize) -> Result<Vec<u64>, Fail
 
 // The number of clusters, that of phases, and the home of each ball.
 fn homes_of(alloc: Global, cover: &Cover) -> Result<Vec<u64>, Fail> {
-    let mut homes = Vec::new(alloc);
-    homes.push(cover.clusters.len() as u64)?;
-    homes.push(u64::from(cover.phases))?;
+    let counts = [cover.clusters.len() as u64, u64::from(cover.phases)];
+    let mut homes = Vec::from_slice(alloc, &counts)?;
     for home in &cover.home {
         homes.push(u64::from(*home))?;
     }
@@ -81,6 +83,21 @@ fn is_cover(
     Ok(())
 }
 
+// The cover of the line has these homes and clusters.
+fn is_cover_of_line(
+    rt: &impl Abort,
+    alloc: Global,
+    k: u32,
+    homes: &[u64],
+    clusters: &[&[u64]],
+) -> Result<(), Fail>
+    requires low { 0 < k }
+    requires high { k < 9 }
+{
+    let cover = cover_of_line(alloc, k)?;
+    is_cover(rt, alloc, &cover, homes, clusters)
+}
+
 #[test]
 fn small_clusters(rt: HostRuntime) -> Result<(), Fail> {
     let clusters: [&[u64]; 4] = [
@@ -89,22 +106,19 @@ fn small_clusters(rt: HostRuntime) -> Result<(), Fail> {
         &[1, 1, 4, 0, 1, 2],
         &[2, 2, 4, 1, 2, 3],
     ];
-    let cover = cover_of_line(rt.alloc(), 1)?;
-    is_cover(&rt, rt.alloc(), &cover, &[4, 3, 0, 2, 3, 1], &clusters)
+    is_cover_of_line(&rt, rt.alloc(), 1, &[4, 3, 0, 2, 3, 1], &clusters)
 }
 
 #[test]
 fn larger_clusters(rt: HostRuntime) -> Result<(), Fail> {
     let clusters: [&[u64]; 2] = [&[0, 0, 4, 0, 1, 2, 3], &[3, 1, 4, 2, 3]];
-    let cover = cover_of_line(rt.alloc(), 2)?;
-    is_cover(&rt, rt.alloc(), &cover, &[2, 2, 0, 0, 0, 1], &clusters)
+    is_cover_of_line(&rt, rt.alloc(), 2, &[2, 2, 0, 0, 0, 1], &clusters)
 }
 
 #[test]
 fn the_largest_trade_off(rt: HostRuntime) -> Result<(), Fail> {
     let clusters: [&[u64]; 1] = [&[0, 0, 4, 0, 1, 2, 3]];
-    let cover = cover_of_line(rt.alloc(), 8)?;
-    is_cover(&rt, rt.alloc(), &cover, &[1, 1, 0, 0, 0, 0], &clusters)
+    is_cover_of_line(&rt, rt.alloc(), 8, &[1, 1, 0, 0, 0, 0], &clusters)
 }
 
 // Each node reaches itself and node 1 alone. So the row of node 1 has all centres.
@@ -119,6 +133,21 @@ fn cover_of_lopsided_balls(alloc: Global, k: u32) -> Result<Cover, AllocError>
     coarsen(alloc, &[zero, one, two, three], k)
 }
 
+// The cover of the lopsided balls has these homes and clusters.
+fn is_lopsided(
+    rt: &impl Abort,
+    alloc: Global,
+    k: u32,
+    homes: &[u64],
+    clusters: &[&[u64]],
+) -> Result<(), Fail>
+    requires low { 0 < k }
+    requires high { k < 9 }
+{
+    let cover = cover_of_lopsided_balls(alloc, k)?;
+    is_cover(rt, alloc, &cover, homes, clusters)
+}
+
 #[test]
 fn lopsided_balls(rt: HostRuntime) -> Result<(), Fail> {
     let clusters: [&[u64]; 4] = [
@@ -127,16 +156,9 @@ fn lopsided_balls(rt: HostRuntime) -> Result<(), Fail> {
         &[2, 2, 4, 1, 2],
         &[3, 3, 4, 1, 3],
     ];
-    let cover = cover_of_lopsided_balls(rt.alloc(), 1)?;
-    is_cover(&rt, rt.alloc(), &cover, &[4, 4, 0, 1, 2, 3], &clusters)?;
-    let cover = cover_of_lopsided_balls(rt.alloc(), 2)?;
-    is_cover(
-        &rt,
-        rt.alloc(),
-        &cover,
-        &[1, 1, 0, 0, 0, 0],
-        &[&[0, 0, 4, 0, 1, 2, 3]],
-    )
+    is_lopsided(&rt, rt.alloc(), 1, &[4, 4, 0, 1, 2, 3], &clusters)?;
+    let whole: [&[u64]; 1] = [&[0, 0, 4, 0, 1, 2, 3]];
+    is_lopsided(&rt, rt.alloc(), 2, &[1, 1, 0, 0, 0, 0], &whole)
 }
 
 // The nodes of a path at most `reach` away from `v`.
@@ -256,11 +278,15 @@ fn large_trade_offs_past_a_word(rt: HostRuntime) -> Result<(), Fail> {
     Ok(())
 }
 
+fn is_widest(rt: &impl Abort, cover: &Cover) {
+    is_large(rt, cover, 98, 2);
+    is_on_path(rt, cover, 1023, 97, [97, 1019, 1, 1014, 10]);
+    is_on_path(rt, cover, 0, 0, [0, 0, 0, 0, 16]);
+}
+
 #[test]
 fn as_many_balls_as_there_may_be(rt: HostRuntime) -> Result<(), Fail> {
     let cover = cover_of_path(rt.alloc(), 1024, 5, 8)?;
-    is_large(&rt, &cover, 98, 2);
-    is_on_path(&rt, &cover, 1023, 97, [97, 1019, 1, 1014, 10]);
-    is_on_path(&rt, &cover, 0, 0, [0, 0, 0, 0, 16]);
+    is_widest(&rt, &cover);
     Ok(())
 }

@@ -1,4 +1,6 @@
 //! Distances on paths, and where all nodes are neighbours.
+ghost use Rattle.std.specs.Prelude.{◌≤◌};
+
 use crate::same::same_numbers;
 use distances::Distances;
 use net_graph::{MAX_NODES, MAX_WEIGHT};
@@ -62,39 +64,66 @@ fn ball_of(alloc: Global, distances: &Distances, v: u32, radius: u64) -> Result<
     parts(alloc, &distances.ball(alloc, v, radius)?)
 }
 
+// The row of a node has these distances.
+fn is_row(
+    rt: &impl Abort,
+    alloc: Global,
+    distances: &Distances,
+    u: u32,
+    wanted: &[u64],
+) -> Result<(), Fail> {
+    same_numbers(rt, 0, &row_of(alloc, distances, u)?, wanted);
+    Ok(())
+}
+
+// The ball round a node has this room and these members.
+fn is_ball(
+    rt: &impl Abort,
+    alloc: Global,
+    distances: &Distances,
+    v: u32,
+    radius: u64,
+    wanted: &[u64],
+) -> Result<(), Fail> {
+    same_numbers(rt, 1, &ball_of(alloc, distances, v, radius)?, wanted);
+    Ok(())
+}
+
+// A copy has the distances of the line of four.
+fn is_copied(rt: &impl Abort, distances: &Distances, rows: &[(u32, u32, u64)]) -> Result<(), Fail> {
+    are_apart(rt, &distances.copy()?, 4, 3, rows);
+    Ok(())
+}
+
 #[test]
 fn distances_on_a_line(rt: HostRuntime) -> Result<(), Fail> {
     let (_, distances) = path(rt.alloc(), 4, 1)?;
     let rows = [(0, 3, 3), (2, 1, 1), (1, 1, 0)];
     are_apart(&rt, &distances, 4, 3, &rows);
-    are_apart(&rt, &distances.copy()?, 4, 3, &rows);
-    Ok(())
+    is_copied(&rt, &distances, &rows)
 }
 
 #[test]
 fn a_row_and_a_ball_on_a_line(rt: HostRuntime) -> Result<(), Fail> {
     let (_, distances) = path(rt.alloc(), 4, 1)?;
-    same_numbers(&rt, 0, &row_of(rt.alloc(), &distances, 2)?, &[2, 1, 0, 1]);
-    same_numbers(
-        &rt,
-        1,
-        &ball_of(rt.alloc(), &distances, 1, 1)?,
-        &[4, 0, 1, 2],
-    );
-    Ok(())
+    is_row(&rt, rt.alloc(), &distances, 2, &[2, 1, 0, 1])?;
+    is_ball(&rt, rt.alloc(), &distances, 1, 1, &[4, 0, 1, 2])
+}
+
+fn distances_of_neighbours(alloc: Global, n: u32) -> Result<Distances, Fail>
+    requires some { 1 ≤ n }
+    requires few { n ≤ MAX_NODES }
+{
+    let graph = complete(alloc, n)?;
+    Ok(Distances::new(alloc, &graph)?)
 }
 
 // Whole rows are lowered, sixteen weights at once and one by one.
 #[test]
 fn distances_where_all_are_neighbours(rt: HostRuntime) -> Result<(), Fail> {
-    let distances = Distances::new(rt.alloc(), &complete(rt.alloc(), 37)?)?;
-    are_apart(
-        &rt,
-        &distances,
-        37,
-        10,
-        &[(3, 9, 6), (36, 0, 10), (36, 26, 10)],
-    );
+    let distances = distances_of_neighbours(rt.alloc(), 37)?;
+    let rows = [(3, 9, 6), (36, 0, 10), (36, 26, 10)];
+    are_apart(&rt, &distances, 37, 10, &rows);
     Ok(())
 }
 
@@ -109,7 +138,6 @@ fn the_greatest_distance_that_there_is(rt: HostRuntime) -> Result<(), Fail> {
 #[test]
 fn a_ball_on_a_path(rt: HostRuntime) -> Result<(), Fail> {
     let (_, distances) = path(rt.alloc(), 130, 5)?;
-    let ball = ball_of(rt.alloc(), &distances, 128, 10)?;
-    same_numbers(&rt, 0, &ball, &[130, 126, 127, 128, 129]);
-    Ok(())
+    let members = [130, 126, 127, 128, 129];
+    is_ball(&rt, rt.alloc(), &distances, 128, 10, &members)
 }

@@ -4,11 +4,21 @@ ghost use Rattle.std.specs.Prelude.{◌≡◌, ◌<◌, ◌≤◌, All, IfOk, Is
 ghost use Rattle.net_graph.specs.Network.{IsEdge};
 ghost use Rattle.net_graph.specs.Walks.{among};
 
+use crate::same::same_numbers;
 use net_graph::{Edge, Graph, GraphFault, MAX_NODES, MAX_WEIGHT, greatest_weight};
 use std::alloc::Global;
 use std::process::Abort;
 use std::test::Fail;
 use test_networks::{edge, path, path_edges};
+
+// Stops with both lists where they differ.
+fn same_weights(rt: &impl Abort, found: &[Option<u64>], wanted: &[Option<u64>]) {
+    assert_eq!(rt; found, wanted);
+}
+
+fn same_parents(rt: &impl Abort, found: &[Option<u32>], wanted: &[Option<u32>]) {
+    assert_eq!(rt; found, wanted);
+}
 
 // The least walks from a root through the allowed nodes have these weights and parents.
 fn walks_are(
@@ -24,11 +34,42 @@ fn walks_are(
     requires root { IsTrue (among allowed.now root) }
 {
     let tree = graph.tree_from(alloc, allowed, root)?;
-    assert_eq!(rt; tree.weight.as_slice(), weights);
-    assert_eq!(rt; tree.parent.as_slice(), parents);
-    let found = graph.weights_from(alloc, allowed, root)?;
-    assert_eq!(rt; found.as_slice(), weights);
+    same_weights(rt, &tree.weight, weights);
+    same_parents(rt, &tree.parent, parents);
+    same_weights(rt, &graph.weights_from(alloc, allowed, root)?, weights);
     Ok(())
+}
+
+// The same in the network of these edges.
+fn walks_over(
+    rt: &impl Abort,
+    alloc: Global,
+    n: u32,
+    edges: &[Edge],
+    allowed: &[bool],
+    root: u32,
+    weights: &[Option<u64>],
+    parents: &[Option<u32>],
+) -> Result<(), Fail>
+    requires some { 1 ≤ n }
+    requires few { n ≤ MAX_NODES }
+    requires edges { All (IsEdge n) edges.now }
+    requires count { length allowed.now ≡ n }
+    requires root { IsTrue (among allowed.now root) }
+{
+    let graph = Graph::new(alloc, n, edges)?;
+    walks_are(rt, &graph, alloc, allowed, root, weights, parents)
+}
+
+// The nodes of a line of four, and the arcs of the first two.
+fn arcs_of_line(graph: &Graph) -> [u64; 3]
+    requires { graph.now.nodes ≡ 4 }
+{
+    [
+        u64::from(graph.nodes()),
+        graph.arcs_of(0).len() as u64,
+        graph.arcs_of(1).len() as u64,
+    ]
 }
 
 #[test]
@@ -37,23 +78,17 @@ fn a_line_of_four(rt: HostRuntime) -> Result<(), Fail> {
     let weights = [Some(0), Some(1), Some(2), Some(3)];
     let parents = [None, Some(0), Some(1), Some(2)];
     walks_are(&rt, &graph, rt.alloc(), &[true; 4], 0, &weights, &parents)?;
-    let arcs = (
-        graph.nodes(),
-        graph.arcs_of(0).len(),
-        graph.arcs_of(1).len(),
-    );
-    assert!(rt; arcs == (4, 1, 2));
+    same_numbers(&rt, 0, &arcs_of_line(&graph), &[4, 1, 2]);
     Ok(())
 }
 
 #[test]
 fn an_allowed_set_that_cuts(rt: HostRuntime) -> Result<(), Fail> {
     let edges = [edge(0, 1, 1), edge(1, 2, 1), edge(2, 3, 1), edge(0, 3, 9)];
-    let graph = Graph::new(rt.alloc(), 4, &edges)?;
     let allowed = [true, false, true, true];
     let weights = [Some(0), None, Some(10), Some(9)];
     let parents = [None, None, Some(3), Some(0)];
-    walks_are(&rt, &graph, rt.alloc(), &allowed, 0, &weights, &parents)
+    walks_over(&rt, rt.alloc(), 4, &edges, &allowed, 0, &weights, &parents)
 }
 
 // Node 3 is reached through nodes 1 and 2 alike, and its edge to node 0 is too heavy.
@@ -66,35 +101,59 @@ fn the_least_parent_of_a_least_walk(rt: HostRuntime) -> Result<(), Fail> {
         edge(1, 3, 1),
         edge(0, 3, 5),
     ];
-    let graph = Graph::new(rt.alloc(), 4, &edges)?;
     let weights = [Some(0), Some(1), Some(1), Some(2)];
     let parents = [None, Some(0), Some(0), Some(1)];
-    walks_are(&rt, &graph, rt.alloc(), &[true; 4], 0, &weights, &parents)
+    walks_over(
+        &rt,
+        rt.alloc(),
+        4,
+        &edges,
+        &[true; 4],
+        0,
+        &weights,
+        &parents,
+    )
 }
 
 #[test]
 fn the_lightest_edge_counts(rt: HostRuntime) -> Result<(), Fail> {
     let edges = [edge(0, 1, 5), edge(1, 0, 2), edge(0, 0, 9)];
-    let graph = Graph::new(rt.alloc(), 2, &edges)?;
     let weights = [Some(2), Some(0)];
-    walks_are(
+    let parents = [Some(1), None];
+    walks_over(
         &rt,
-        &graph,
         rt.alloc(),
+        2,
+        &edges,
         &[true; 2],
         1,
         &weights,
-        &[Some(1), None],
+        &parents,
     )
+}
+
+// The weight of the first node from the last, and the parent of the last but one.
+fn ends_of(
+    alloc: Global,
+    graph: &Graph,
+    allowed: &[bool],
+) -> Result<(Option<u64>, Option<u32>), Fail>
+    requires nodes { graph.now.nodes ≡ 1024 }
+    requires count { length allowed.now ≡ 1024 }
+    requires root { IsTrue (among allowed.now 1023) }
+{
+    let tree = graph.tree_from(alloc, allowed, 1023)?;
+    match (tree.weight.first(), tree.parent.get(1022)) {
+        (Some(weight), Some(parent)) => Ok((*weight, *parent)),
+        _ => Ok((None, None)),
+    }
 }
 
 #[test]
 fn the_heaviest_line_of_the_most_nodes(rt: HostRuntime) -> Result<(), Fail> {
     let (graph, _) = path(rt.alloc(), MAX_NODES, MAX_WEIGHT)?;
-    let allowed = vec![in rt.alloc(); true; 1024]?;
-    let tree = graph.tree_from(rt.alloc(), &allowed, 1023)?;
-    assert!(rt; matches!(tree.weight.first(), Some(Some(1_072_693_248))));
-    assert!(rt; matches!(tree.parent.get(1022), Some(Some(1023))));
+    let ends = ends_of(rt.alloc(), &graph, &[true; 1024])?;
+    assert!(rt; ends == (Some(1_072_693_248), Some(1023)));
     Ok(())
 }
 
@@ -173,12 +232,20 @@ fn plain_weights(alloc: Global, n: u32, edges: &[Edge]) -> Result<Vec<Option<u64
     Ok(found)
 }
 
+// The least weights of walks from node 0, by a search.
+fn searched_weights(alloc: Global, edges: &[Edge]) -> Result<Vec<Option<u64>>, Fail>
+    requires { All (IsEdge 256) edges.now }
+{
+    let graph = Graph::new(alloc, 256, edges)?;
+    let tree = graph.tree_from(alloc, &[true; 256], 0)?;
+    Ok(tree.weight)
+}
+
 #[test]
 fn a_search_and_a_plain_relaxation(rt: HostRuntime) -> Result<(), Fail> {
     let edges = made_edges(rt.alloc(), 256)?;
-    let graph = Graph::new(rt.alloc(), 256, &edges)?;
-    let tree = graph.tree_from(rt.alloc(), &[true; 256], 0)?;
+    let found = searched_weights(rt.alloc(), &edges)?;
     let weights = plain_weights(rt.alloc(), 256, &edges)?;
-    assert_eq!(rt; tree.weight.as_slice(), weights.as_slice());
+    same_weights(&rt, &found, &weights);
     Ok(())
 }

@@ -38,10 +38,10 @@ fn parts_of(alloc: Global, cover: &MeanCover, place: usize) -> Result<Vec<u64>, 
         return Err("the cluster is there".into());
     }
     let cluster = &cover.clusters[place];
-    let mut parts = Vec::new(alloc);
-    parts.push(u64::from(cluster.first))?;
-    parts.push(u64::from(cluster.members.room()))?;
-    for v in 0..cluster.members.room() {
+    let room = cluster.members.room();
+    let measures = [u64::from(cluster.first), u64::from(room)];
+    let mut parts = Vec::from_slice(alloc, &measures)?;
+    for v in 0..room {
         if cluster.members.has(v) {
             parts.push(u64::from(v))?;
         }
@@ -78,17 +78,30 @@ fn is_cover(
 fn homes_of_the_last_growth(rt: HostRuntime) -> Result<(), Fail> {
     let clusters: [&[u64]; 2] = [&[0, 4, 0, 1, 2, 3], &[3, 4, 2, 3]];
     for k in [1, 2] {
-        let cover = cover_of_line(rt.alloc(), k)?;
-        is_cover(&rt, rt.alloc(), &cover, &[2, 0, 0, 0, 1], &clusters)?;
+        is_cover_of_line(&rt, rt.alloc(), k, &[2, 0, 0, 0, 1], &clusters)?;
     }
     Ok(())
+}
+
+// The cover of the line has these homes and clusters.
+fn is_cover_of_line(
+    rt: &impl Abort,
+    alloc: Global,
+    k: u32,
+    homes: &[u64],
+    clusters: &[&[u64]],
+) -> Result<(), Fail>
+    requires low { 0 < k }
+    requires high { k < 9 }
+{
+    let cover = cover_of_line(alloc, k)?;
+    is_cover(rt, alloc, &cover, homes, clusters)
 }
 
 #[test]
 fn one_cluster_of_all(rt: HostRuntime) -> Result<(), Fail> {
     let clusters: [&[u64]; 1] = [&[0, 4, 0, 1, 2, 3]];
-    let cover = cover_of_line(rt.alloc(), 8)?;
-    is_cover(&rt, rt.alloc(), &cover, &[1, 0, 0, 0, 0], &clusters)
+    is_cover_of_line(&rt, rt.alloc(), 8, &[1, 0, 0, 0, 0], &clusters)
 }
 
 #[test]

@@ -1,7 +1,7 @@
 //! Plans of paths: of the line 0 - 1 - 2 - 3 of unit weights, of one and two nodes, and past a word
 //! and up to the most nodes.
 
-use crate::asking::{Asked, Made, ask_path};
+use crate::asking::{Asked, Made, ask_path, ask_path_rows};
 use crate::same::same_numbers;
 use distances::Distances;
 use net_graph::{MAX_NODES, MAX_WEIGHT};
@@ -13,142 +13,121 @@ use test_networks::path;
 
 #[test]
 fn levels_of_a_line(rt: HostRuntime) -> Result<(), Fail> {
-    let rows: [(Asked, &[u64]); 7] = [
-        (Asked::Whole, &[4, 2, 3, 2, 144, 13]),
-        (Asked::Level(0), &[0, 1, 2, 2]),
-        (Asked::Homes(0), &[0, 0, 0, 1]),
-        (Asked::Level(1), &[1, 1, 1, 1]),
-        (Asked::Homes(1), &[0, 0, 0, 0]),
-        (Asked::Level(2), &[2, 2, 1, 1]),
-        (Asked::Homes(2), &[0, 0, 0, 0]),
-    ];
-    ask_path(&rt, rt.alloc(), 4, 1, Made::With(2), &rows)
+    let rows = "whole = 4 2 3 2 144 13|\
+        level 0 = 0 1 2 2|\
+        homes 0 = 0 0 0 1|\
+        level 1 = 1 1 1 1|\
+        homes 1 = 0 0 0 0|\
+        level 2 = 2 2 1 1|\
+        homes 2 = 0 0 0 0|";
+    ask_path_rows(&rt, rt.alloc(), 4, 1, Made::With(2), rows)
 }
 
 #[test]
 fn clusters_of_a_line(rt: HostRuntime) -> Result<(), Fail> {
-    let rows: [(Asked, &[u64]); 11] = [
-        (Asked::Cluster(0, 0), &[0, 0, 3]),
-        (Asked::Members(0, 0), &[0, 1, 2, 3]),
-        (Asked::Weights(0, 0), &[0, 1, 2, 3]),
-        (Asked::Cluster(0, 1), &[1, 3, 1]),
-        (Asked::Members(0, 1), &[2, 3]),
-        (Asked::Weights(0, 1), &[1, 0]),
-        (Asked::Cluster(1, 0), &[0, 0, 3]),
-        (Asked::Weights(1, 0), &[0, 1, 2, 3]),
-        (Asked::Cluster(2, 0), &[0, 0, 3]),
-        (Asked::Members(2, 0), &[0, 1, 2, 3]),
-        (Asked::Weights(2, 0), &[0, 1, 2, 3]),
-    ];
-    ask_path(&rt, rt.alloc(), 4, 1, Made::With(2), &rows)
+    let rows = "cluster 0 0 = 0 0 3|\
+        members 0 0 = 0 1 2 3|\
+        weights 0 0 = 0 1 2 3|\
+        cluster 0 1 = 1 3 1|\
+        members 0 1 = 2 3|\
+        weights 0 1 = 1 0|\
+        cluster 1 0 = 0 0 3|\
+        weights 1 0 = 0 1 2 3|\
+        cluster 2 0 = 0 0 3|\
+        members 2 0 = 0 1 2 3|\
+        weights 2 0 = 0 1 2 3|";
+    ask_path_rows(&rt, rt.alloc(), 4, 1, Made::With(2), rows)
 }
 
 #[test]
 fn readers_on_a_line(rt: HostRuntime) -> Result<(), Fail> {
-    let rows: [(Asked, &[u64]); 7] = [
-        (Asked::Readers(0, 1), &[0]),
-        (Asked::Readers(0, 2), &[0, 1]),
-        (Asked::ReaderWeights(0, 2), &[2, 1]),
-        (Asked::Readers(0, 3), &[0, 1]),
-        (Asked::Readers(2, 2), &[0]),
-        (Asked::Looks(2), &[12]),
-        (Asked::Looks(0), &[11]),
-    ];
-    ask_path(&rt, rt.alloc(), 4, 1, Made::With(2), &rows)
+    let rows = "readers 0 1 = 0|\
+        readers 0 2 = 0 1|\
+        reader-weights 0 2 = 2 1|\
+        readers 0 3 = 0 1|\
+        readers 2 2 = 0|\
+        looks 2 = 12|\
+        looks 0 = 11|";
+    ask_path_rows(&rt, rt.alloc(), 4, 1, Made::With(2), rows)
 }
 
 #[test]
 fn plan_of_two_nodes(rt: HostRuntime) -> Result<(), Fail> {
-    let rows: [(Asked, &[u64]); 8] = [
-        (Asked::Whole, &[2, 1, 1, 2, 56, 7]),
-        (Asked::Level(0), &[0, 1, 2, 2]),
-        (Asked::Homes(0), &[0, 1]),
-        (Asked::Cluster(0, 0), &[0, 0, 1]),
-        (Asked::Weights(0, 0), &[0, 1]),
-        (Asked::Cluster(0, 1), &[1, 1, 1]),
-        (Asked::Weights(0, 1), &[1, 0]),
-        (Asked::Readers(0, 0), &[0, 1]),
-    ];
-    ask_path(&rt, rt.alloc(), 2, 1, Made::With(1), &rows)
+    let rows = "whole = 2 1 1 2 56 7|\
+        level 0 = 0 1 2 2|\
+        homes 0 = 0 1|\
+        cluster 0 0 = 0 0 1|\
+        weights 0 0 = 0 1|\
+        cluster 0 1 = 1 1 1|\
+        weights 0 1 = 1 0|\
+        readers 0 0 = 0 1|";
+    ask_path_rows(&rt, rt.alloc(), 2, 1, Made::With(1), rows)
 }
 
 #[test]
 fn plan_of_the_heaviest_edge(rt: HostRuntime) -> Result<(), Fail> {
-    let rows: [(Asked, &[u64]); 10] = [
-        (Asked::Whole, &[2, 8, 21, 1, 432, 47]),
-        (Asked::Level(0), &[0, 1, 1, 2]),
-        (Asked::Homes(0), &[0, 1]),
-        (Asked::Level(19), &[19, 262_144, 1, 2]),
-        (Asked::Homes(19), &[0, 1]),
-        (Asked::Cluster(19, 1), &[0, 1, 0]),
-        (Asked::Weights(19, 1), &[0]),
-        (Asked::Level(20), &[20, 524_288, 1, 1]),
-        (Asked::Homes(20), &[0, 0]),
-        (Asked::Weights(20, 0), &[0, 1_048_576]),
-    ];
-    ask_path(&rt, rt.alloc(), 2, MAX_WEIGHT, Made::With(8), &rows)
+    let rows = "whole = 2 8 21 1 432 47|\
+        level 0 = 0 1 1 2|\
+        homes 0 = 0 1|\
+        level 19 = 19 262144 1 2|\
+        homes 19 = 0 1|\
+        cluster 19 1 = 0 1 0|\
+        weights 19 1 = 0|\
+        level 20 = 20 524288 1 1|\
+        homes 20 = 0 0|\
+        weights 20 0 = 0 1048576|";
+    ask_path_rows(&rt, rt.alloc(), 2, MAX_WEIGHT, Made::With(8), rows)
 }
 
 // A level repeats the one below it where no distance lies between their radii: so do those below
 // the weight of the only edge. On the line each radius takes another distance in.
 #[test]
 fn levels_that_repeat(rt: HostRuntime) -> Result<(), Fail> {
-    let heavy: [(Asked, &[u64]); 1] = [(
-        Asked::Repeats,
-        &[
-            0, 1, 1, 1, 1, 1, 1, 1, 1, 1, 1, 1, 1, 1, 1, 1, 1, 1, 1, 1, 0,
-        ],
-    )];
-    ask_path(&rt, rt.alloc(), 2, MAX_WEIGHT, Made::With(8), &heavy)?;
-    ask_path(&rt, rt.alloc(), 2, MAX_WEIGHT, Made::Mean(8), &heavy)?;
-    let line: [(Asked, &[u64]); 1] = [(Asked::Repeats, &[0, 0, 0])];
-    ask_path(&rt, rt.alloc(), 4, 1, Made::With(2), &line)?;
-    ask_path(&rt, rt.alloc(), 4, 1, Made::Mean(2), &line)
+    let heavy = "repeats = 0 1 1 1 1 1 1 1 1 1 1 1 1 1 1 1 1 1 1 1 0|";
+    ask_path_rows(&rt, rt.alloc(), 2, MAX_WEIGHT, Made::With(8), heavy)?;
+    ask_path_rows(&rt, rt.alloc(), 2, MAX_WEIGHT, Made::Mean(8), heavy)?;
+    let line = "repeats = 0 0 0|";
+    ask_path_rows(&rt, rt.alloc(), 4, 1, Made::With(2), line)?;
+    ask_path_rows(&rt, rt.alloc(), 4, 1, Made::Mean(2), line)
 }
 
 #[test]
 fn plan_of_one_node(rt: HostRuntime) -> Result<(), Fail> {
-    let rows: [(Asked, &[u64]); 5] = [
-        (Asked::Whole, &[1, 1, 1, 1, 40, 6]),
-        (Asked::Level(0), &[0, 1, 1, 1]),
-        (Asked::Homes(0), &[0]),
-        (Asked::Cluster(0, 0), &[0, 0, 0]),
-        (Asked::Weights(0, 0), &[0]),
-    ];
-    ask_path(&rt, rt.alloc(), 1, 1, Made::With(1), &rows)
+    let rows = "whole = 1 1 1 1 40 6|\
+        level 0 = 0 1 1 1|\
+        homes 0 = 0|\
+        cluster 0 0 = 0 0 0|\
+        weights 0 0 = 0|";
+    ask_path_rows(&rt, rt.alloc(), 1, 1, Made::With(1), rows)
 }
 
 #[test]
 fn flat_plan_of_a_line(rt: HostRuntime) -> Result<(), Fail> {
-    let rows: [(Asked, &[u64]); 7] = [
-        (Asked::Whole, &[4, 1, 1, 1, 40, 9]),
-        (Asked::Level(0), &[2, 1, 1, 1]),
-        (Asked::Homes(0), &[0, 0, 0, 0]),
-        (Asked::Cluster(0, 0), &[0, 0, 3]),
-        (Asked::Weights(0, 0), &[0, 1, 2, 3]),
-        (Asked::Readers(0, 3), &[0]),
-        (Asked::Looks(1), &[9]),
-    ];
-    ask_path(&rt, rt.alloc(), 4, 1, Made::Flat, &rows)
+    let rows = "whole = 4 1 1 1 40 9|\
+        level 0 = 2 1 1 1|\
+        homes 0 = 0 0 0 0|\
+        cluster 0 0 = 0 0 3|\
+        weights 0 0 = 0 1 2 3|\
+        readers 0 3 = 0|\
+        looks 1 = 9|";
+    ask_path_rows(&rt, rt.alloc(), 4, 1, Made::Flat, rows)
 }
 
 #[test]
 fn mean_plan_of_a_line(rt: HostRuntime) -> Result<(), Fail> {
-    let rows: [(Asked, &[u64]); 12] = [
-        (Asked::Whole, &[4, 2, 3, 2, 232, 13]),
-        (Asked::Level(0), &[0, 1, 1, 2]),
-        (Asked::Homes(0), &[0, 0, 0, 1]),
-        (Asked::Cluster(0, 0), &[0, 0, 3]),
-        (Asked::Members(0, 0), &[0, 1, 2, 3]),
-        (Asked::Weights(0, 0), &[0, 1, 2, 3]),
-        (Asked::Cluster(0, 1), &[0, 3, 1]),
-        (Asked::Members(0, 1), &[2, 3]),
-        (Asked::Weights(0, 1), &[1, 0]),
-        (Asked::Readers(0, 2), &[0, 1]),
-        (Asked::Level(2), &[2, 2, 1, 1]),
-        (Asked::Homes(2), &[0, 0, 0, 0]),
-    ];
-    ask_path(&rt, rt.alloc(), 4, 1, Made::Mean(2), &rows)
+    let rows = "whole = 4 2 3 2 232 13|\
+        level 0 = 0 1 1 2|\
+        homes 0 = 0 0 0 1|\
+        cluster 0 0 = 0 0 3|\
+        members 0 0 = 0 1 2 3|\
+        weights 0 0 = 0 1 2 3|\
+        cluster 0 1 = 0 3 1|\
+        members 0 1 = 2 3|\
+        weights 0 1 = 1 0|\
+        readers 0 2 = 0 1|\
+        level 2 = 2 2 1 1|\
+        homes 2 = 0 0 0 0|";
+    ask_path_rows(&rt, rt.alloc(), 4, 1, Made::Mean(2), rows)
 }
 
 #[test]
@@ -176,20 +155,16 @@ fn all_trade_offs_of_mean_plans(rt: HostRuntime) -> Result<(), Fail> {
 
 #[test]
 fn mean_plans_at_the_limits(rt: HostRuntime) -> Result<(), Fail> {
-    let heavy: [(Asked, &[u64]); 6] = [
-        (Asked::Whole, &[256, 2, 29, 2, 232, 317]),
-        (Asked::Level(22), &[22, 2_097_152, 1, 29]),
-        (Asked::Home(22, 255), &[28]),
-        (Asked::Level(23), &[23, 4_194_304, 1, 16]),
-        (Asked::Home(23, 255), &[15]),
-        (Asked::Level(28), &[28, 134_217_728, 1, 1]),
-    ];
-    ask_path(&rt, rt.alloc(), 256, MAX_WEIGHT, Made::Mean(2), &heavy)?;
-    let most: [(Asked, &[u64]); 2] = [
-        (Asked::Whole, &[1024, 8, 11, 2, 760, 1049]),
-        (Asked::Level(2), &[2, 2, 1, 113]),
-    ];
-    ask_path(&rt, rt.alloc(), MAX_NODES, 1, Made::Mean(8), &most)
+    let heavy = "whole = 256 2 29 2 232 317|\
+        level 22 = 22 2097152 1 29|\
+        home 22 255 = 28|\
+        level 23 = 23 4194304 1 16|\
+        home 23 255 = 15|\
+        level 28 = 28 134217728 1 1|";
+    ask_path_rows(&rt, rt.alloc(), 256, MAX_WEIGHT, Made::Mean(2), heavy)?;
+    let most = "whole = 1024 8 11 2 760 1049|\
+        level 2 = 2 2 1 113|";
+    ask_path_rows(&rt, rt.alloc(), MAX_NODES, 1, Made::Mean(8), most)
 }
 
 #[test]
@@ -217,28 +192,24 @@ fn all_trade_offs_on_a_path(rt: HostRuntime) -> Result<(), Fail> {
 
 #[test]
 fn path_of_the_heaviest_edges(rt: HostRuntime) -> Result<(), Fail> {
-    let rows: [(Asked, &[u64]); 8] = [
-        (Asked::Whole, &[256, 2, 29, 9, 480, 317]),
-        (Asked::Level(19), &[19, 262_144, 1, 256]),
-        (Asked::Level(23), &[23, 4_194_304, 3, 17]),
-        (Asked::Home(19, 255), &[255]),
-        (Asked::Home(22, 255), &[115]),
-        (Asked::Level(28), &[28, 134_217_728, 1, 1]),
-        (Asked::Cluster(28, 0), &[0, 0, 267_386_880]),
-        (Asked::Level(29), &[0, 0, 0, 0]),
-    ];
-    ask_path(&rt, rt.alloc(), 256, MAX_WEIGHT, Made::With(2), &rows)
+    let rows = "whole = 256 2 29 9 480 317|\
+        level 19 = 19 262144 1 256|\
+        level 23 = 23 4194304 3 17|\
+        home 19 255 = 255|\
+        home 22 255 = 115|\
+        level 28 = 28 134217728 1 1|\
+        cluster 28 0 = 0 0 267386880|\
+        level 29 = 0 0 0 0|";
+    ask_path_rows(&rt, rt.alloc(), 256, MAX_WEIGHT, Made::With(2), rows)
 }
 
 #[test]
 fn as_many_nodes_as_there_may_be(rt: HostRuntime) -> Result<(), Fail> {
-    let built: [(Asked, &[u64]); 1] = [(Asked::Whole, &[1024, 8, 11, 3, 912, 1049])];
-    ask_path(&rt, rt.alloc(), MAX_NODES, 1, Made::With(8), &built)?;
-    let flat: [(Asked, &[u64]); 2] = [
-        (Asked::Level(0), &[10, 1, 1, 1]),
-        (Asked::Cluster(0, 0), &[0, 0, 1023]),
-    ];
-    ask_path(&rt, rt.alloc(), MAX_NODES, 1, Made::Flat, &flat)
+    let built = "whole = 1024 8 11 3 912 1049|";
+    ask_path_rows(&rt, rt.alloc(), MAX_NODES, 1, Made::With(8), built)?;
+    let flat = "level 0 = 10 1 1 1|\
+        cluster 0 0 = 0 0 1023|";
+    ask_path_rows(&rt, rt.alloc(), MAX_NODES, 1, Made::Flat, flat)
 }
 
 fn shares<T: Sync>() {}

@@ -53,35 +53,72 @@ fn has_all(
     numbers: &[u64],
 ) -> Result<(), Fail> {
     let measures = [u64::from(set.room()), u64::from(set.count())];
-    same_numbers(
-        rt,
-        place,
-        &measures,
-        &[u64::from(room), numbers.len() as u64],
-    );
+    let wanted = [u64::from(room), numbers.len() as u64];
+    same_numbers(rt, place, &measures, &wanted);
     same_numbers(rt, place, &numbers_it_has(alloc, set)?, numbers);
+    come_next(rt, alloc, place, set, numbers)
+}
+
+// The numbers of a set come one after another.
+fn come_next(
+    rt: &impl Abort,
+    alloc: Global,
+    place: usize,
+    set: &NodeSet,
+    numbers: &[u64],
+) -> Result<(), Fail> {
     same_numbers(rt, place, &numbers_by_next(alloc, set)?, numbers);
     Ok(())
 }
 
+// A set of this room that is made of some numbers has these.
+fn is_made(
+    rt: &impl Abort,
+    alloc: Global,
+    place: usize,
+    made_of: &[u32],
+    numbers: &[u64],
+) -> Result<(), Fail> {
+    let set = set_of(alloc, 130, made_of)?;
+    has_all(rt, alloc, place, &set, 130, numbers)
+}
+
 #[test]
 fn numbers_on_both_sides_of_a_word(rt: HostRuntime) -> Result<(), Fail> {
-    let set = set_of(rt.alloc(), 130, &[])?;
-    has_all(&rt, rt.alloc(), 0, &set, 130, &[])?;
-    let set = set_of(rt.alloc(), 130, &[63, 64, 129, 64])?;
-    has_all(&rt, rt.alloc(), 1, &set, 130, &[63, 64, 129])
+    is_made(&rt, rt.alloc(), 0, &[], &[])?;
+    is_made(&rt, rt.alloc(), 1, &[63, 64, 129, 64], &[63, 64, 129])
+}
+
+// One set absorbs the other; whether they met before.
+fn absorb(set: &mut NodeSet, other: &NodeSet) -> bool
+    requires { set.old.room ≡ other.now.room }
+    ensures { set.new.room ≡ set.old.room }
+{
+    let meets = set.meets(other);
+    set.absorb(other);
+    meets
+}
+
+// Both sets of the most room have these numbers.
+fn have_all(
+    rt: &impl Abort,
+    alloc: Global,
+    low: &NodeSet,
+    lows: &[u64],
+    high: &NodeSet,
+    highs: &[u64],
+) -> Result<(), Fail> {
+    has_all(rt, alloc, 0, low, 1024, lows)?;
+    has_all(rt, alloc, 1, high, 1024, highs)
 }
 
 #[test]
 fn the_last_word_meets_and_is_absorbed(rt: HostRuntime) -> Result<(), Fail> {
     let mut low = set_of(rt.alloc(), 1024, &[0])?;
     let high = set_of(rt.alloc(), 1024, &[1023])?;
-    let before = low.meets(&high);
-    low.absorb(&high);
-    has_all(&rt, rt.alloc(), 0, &low, 1024, &[0, 1023])?;
-    has_all(&rt, rt.alloc(), 1, &high, 1024, &[1023])?;
+    let before = absorb(&mut low, &high);
     assert!(rt; !before && low.meets(&high) && high.meets(&low));
-    Ok(())
+    have_all(&rt, rt.alloc(), &low, &[0, 1023], &high, &[1023])
 }
 
 // So many words, of which the last one is 1, and so many zeros.
@@ -114,11 +151,9 @@ fn lanes_of_every_length(rt: HostRuntime) -> Result<(), Fail> {
 fn no_room(rt: HostRuntime) -> Result<(), Fail> {
     let mut set = set_of(rt.alloc(), 0, &[])?;
     let other = set_of(rt.alloc(), 0, &[])?;
-    let meets = set.meets(&other);
-    set.absorb(&other);
-    has_all(&rt, rt.alloc(), 0, &set, 0, &[])?;
+    let meets = absorb(&mut set, &other);
     assert!(rt; !meets);
-    Ok(())
+    has_all(&rt, rt.alloc(), 0, &set, 0, &[])
 }
 
 #[test]
@@ -139,19 +174,35 @@ fn the_next_number(rt: HostRuntime) -> Result<(), Fail> {
     Ok(())
 }
 
+// A set takes the numbers of another, and then keeps those of a third.
+fn keeps(rt: &impl Abort, alloc: Global, set: &NodeSet, other: &NodeSet) -> Result<(), Fail>
+    requires room { set.now.room ≡ 130 }
+    requires other { other.now.room ≡ 130 }
+{
+    let mut kept = set_of(alloc, 130, &[2])?;
+    kept.assign(set);
+    has_all(rt, alloc, 0, &kept, 130, &[0, 63, 64, 129])?;
+    kept.keep(other);
+    has_all(rt, alloc, 1, &kept, 130, &[63, 129])
+}
+
+// A set loses the numbers of another, and then all.
+fn removes(rt: &impl Abort, alloc: Global, set: &mut NodeSet, other: &NodeSet) -> Result<(), Fail>
+    requires room { set.old.room ≡ 130 }
+    requires other { other.now.room ≡ 130 }
+{
+    set.remove(other);
+    has_all(rt, alloc, 2, set, 130, &[0, 64])?;
+    set.clear();
+    has_all(rt, alloc, 3, set, 130, &[])
+}
+
 #[test]
 fn what_is_kept_and_removed(rt: HostRuntime) -> Result<(), Fail> {
     let mut set = set_of(rt.alloc(), 130, &[0, 63, 64, 129])?;
     let other = set_of(rt.alloc(), 130, &[1, 63, 129])?;
-    let mut kept = set_of(rt.alloc(), 130, &[2])?;
-    kept.assign(&set);
-    has_all(&rt, rt.alloc(), 0, &kept, 130, &[0, 63, 64, 129])?;
-    kept.keep(&other);
-    has_all(&rt, rt.alloc(), 1, &kept, 130, &[63, 129])?;
-    set.remove(&other);
-    has_all(&rt, rt.alloc(), 2, &set, 130, &[0, 64])?;
-    set.clear();
-    has_all(&rt, rt.alloc(), 3, &set, 130, &[])?;
+    keeps(&rt, rt.alloc(), &set, &other)?;
+    removes(&rt, rt.alloc(), &mut set, &other)?;
     has_all(&rt, rt.alloc(), 4, &other, 130, &[1, 63, 129])
 }
 
@@ -187,12 +238,20 @@ fn places_within_a_limit(rt: HostRuntime) -> Result<(), Fail> {
     Ok(())
 }
 
-#[test]
-fn bytes_within_a_limit_past_two_words(rt: HostRuntime) -> Result<(), Fail> {
-    let mut bytes = vec![in rt.alloc(); 9u8; 130]?;
+// Bytes past two words of which the first, one and the last are low.
+fn bytes_of_nine(alloc: Global) -> Result<Vec<u8>, Fail>
+    ensures { IfOk result (λ bytes. length bytes.items ≡ 130) }
+{
+    let mut bytes = vec![in alloc; 9u8; 130]?;
     bytes[0] = 3;
     bytes[64] = 4;
     bytes[129] = 0;
+    Ok(bytes)
+}
+
+#[test]
+fn bytes_within_a_limit_past_two_words(rt: HostRuntime) -> Result<(), Fail> {
+    let bytes = bytes_of_nine(rt.alloc())?;
     let mut set = set_of(rt.alloc(), 130, &[1])?;
     set.fill_within(&bytes, 3);
     has_all(&rt, rt.alloc(), 0, &set, 130, &[0, 129])

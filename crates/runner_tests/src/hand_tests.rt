@@ -1,15 +1,19 @@
 //! Runs by hand: one worker plays alone, or nobody does, or a node is held.
 ghost use Rattle.std.specs.Prelude.{◌<◌, ℕ, IfSome};
+ghost use Rattle.machine.specs.Stands.{BelongTogether};
 ghost use Rattle.net_reader.specs.Input.{Contents};
+ghost use Rattle.net_reader.specs.Seen.{seen_input};
+ghost use Rattle.region_plan.specs.Plan.{nodes_of};
 ghost use Rattle.station.specs.Passes.{IsFree, IsPassOf, TrackerData};
 ghost use Rattle.station.specs.Setup.{nodes_in};
 ghost use Rattle.runner.specs.Roles.{IsSetFor};
 ghost use Rattle.runner.specs.Runs.{AreWorkersOf};
 ghost use Rattle.runner.specs.Workers.{IsWorkerOf};
 
-use crate::runs::{input_of_calls, plan_of};
+use crate::runs::{input_of_calls, plan_of, same_outcome};
 use directory::{Done, Outcome};
 use distances::Distances;
+use net_reader::Input;
 use region_plan::Plan;
 use runner::{OpenGate, Played, Worker, finish_run, open_run};
 use station::{Pass, Tracker};
@@ -38,14 +42,27 @@ fn play_first(
     Some(workers[0].play(tracker, plan, distances, &OpenGate, TRIES))
 }
 
-// How the worker of actor 0 ends, where it plays, and what becomes of all calls.
+// How the worker of actor 0 ends, where it plays, and what becomes of all calls over this plan.
+fn by_hand_over(
+    alloc: Global,
+    input: &Input,
+    plan: &Plan,
+    distances: &Distances,
+    plays: bool,
+) -> Result<(Option<Played>, Outcome), Fail>
+    requires together { BelongTogether (seen_input input.now) plan.now distances.now }
+{
+    let (tracker, mut workers) = open_run(alloc, input, plan)?;
+    let played = play_first(&mut workers, &tracker, plan, distances, plays);
+    let outcome = finish_run(alloc, input, plan, distances, tracker, workers)?;
+    Ok((played, outcome))
+}
+
+// The same over the line.
 fn by_hand(alloc: Global, calls: &str, plays: bool) -> Result<(Option<Played>, Outcome), Fail> {
     let input = input_of_calls(alloc, calls)?;
     let (plan, distances) = plan_of(alloc, &input)?;
-    let (tracker, mut workers) = open_run(alloc, &input, &plan)?;
-    let played = play_first(&mut workers, &tracker, &plan, &distances, plays);
-    let outcome = finish_run(alloc, &input, &plan, &distances, tracker, workers)?;
-    Ok((played, outcome))
+    by_hand_over(alloc, &input, &plan, &distances, plays)
 }
 
 // The workers of actors 0 and 1.
@@ -85,28 +102,51 @@ fn play_around(
     Some([first, second])
 }
 
+// The order of all tickets, once two passes are handed in.
+fn close_two(alloc: Global, tracker: Tracker, one: Pass, two: Pass) -> Result<Vec<u32>, Fail>
+    requires one { IsPassOf tracker one }
+    requires two { IsPassOf tracker two }
+{
+    let mut passes = Vec::with_capacity(alloc, 2)?;
+    passes.push_reserved(one);
+    passes.push_reserved(two);
+    match tracker.close(alloc, passes) {
+        Ok(order) => Ok(order),
+        Err(_) => Err(AllocError.into()),
+    }
+}
+
 // How the caller's plays end around a stay of the subscriber's pass, and the order of all tickets.
-fn around_a_stay(alloc: Global, calls: &str, node: u32) -> Result<([Played; 2], Vec<u32>), Fail> {
-    let input = input_of_calls(alloc, calls)?;
-    let (plan, distances) = plan_of(alloc, &input)?;
-    let (tracker, workers) = open_run(alloc, &input, &plan)?;
+fn around_a_stay_over(
+    alloc: Global,
+    input: &Input,
+    plan: &Plan,
+    distances: &Distances,
+    node: u32,
+) -> Result<([Played; 2], Vec<u32>), Fail>
+    requires together { BelongTogether (seen_input input.now) plan.now distances.now }
+    requires node { node < nodes_of plan.now }
+{
+    let (tracker, workers) = open_run(alloc, input, plan)?;
     let Some((subscriber, mut caller)) = first_two(workers) else {
         return Err(AllocError.into());
     };
+    let mut pass = subscriber.into_pass();
+    let Some(played) = play_around(&tracker, &mut pass, &mut caller, plan, distances, node) else {
+        return Err(AllocError.into());
+    };
+    let order = close_two(alloc, tracker, pass, caller.into_pass())?;
+    Ok((played, order))
+}
+
+// The same over the line.
+fn around_a_stay(alloc: Global, calls: &str, node: u32) -> Result<([Played; 2], Vec<u32>), Fail> {
+    let input = input_of_calls(alloc, calls)?;
+    let (plan, distances) = plan_of(alloc, &input)?;
     if node >= plan.nodes() {
         return Err(AllocError.into());
     }
-    let mut pass = subscriber.into_pass();
-    let Some(played) = play_around(&tracker, &mut pass, &mut caller, &plan, &distances, node) else {
-        return Err(AllocError.into());
-    };
-    let mut passes = Vec::with_capacity(alloc, 2)?;
-    passes.push(pass)?;
-    passes.push(caller.into_pass())?;
-    match tracker.close(alloc, passes) {
-        Ok(order) => Ok((played, order)),
-        Err(_) => Err(AllocError.into()),
-    }
+    around_a_stay_over(alloc, &input, &plan, &distances, node)
 }
 
 #[test]
@@ -124,9 +164,8 @@ fn one_worker_or_none_has_played(rt: HostRuntime) -> Result<(), Fail> {
     let ends = [(true, Some(Played::Finished)), (false, None)];
     'ends: for (plays, wanted) in ends {
         let (played, outcome) = by_hand(rt.alloc(), "callers 1\nmove 0 2\n", plays)?;
-        let calls = outcome.calls.as_slice();
-        assert!(rt; played == wanted && calls == moved.as_slice());
-        assert!(rt; outcome.order.as_slice() == [0; 6].as_slice());
+        assert!(rt; played == wanted);
+        same_outcome(&rt, &outcome, &moved, &[0; 6]);
     }
     Ok(())
 }

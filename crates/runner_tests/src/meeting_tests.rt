@@ -2,6 +2,7 @@
 ghost use Rattle.std.specs.Prelude.{false};
 
 use crate::runs::run;
+use directory::Outcome;
 use runner::Gate;
 use std::sync::atomic::{AtomicU64, Ordering};
 use std::test::Fail;
@@ -100,6 +101,22 @@ impl Gate for Meeting {
     }
 }
 
+// Whether each of the callers saw that the other had come, and whether each went on.
+fn told(gate: &Meeting) -> [bool; 4] {
+    [
+        is_set(&gate.first.saw),
+        is_set(&gate.second.saw),
+        is_set(&gate.first.went_on),
+        is_set(&gate.second.went_on),
+    ]
+}
+
+// Whether the first two tickets are one of each caller.
+fn begins_with_both(outcome: &Outcome) -> bool {
+    let order = outcome.order.as_slice();
+    order.starts_with(&[1, 2]) || order.starts_with(&[2, 1])
+}
+
 #[test]
 fn two_workers_meet(rt: HostRuntime) -> Result<(), Fail> {
     let gate = Meeting {
@@ -108,9 +125,6 @@ fn two_workers_meet(rt: HostRuntime) -> Result<(), Fail> {
     };
     let calls = "callers 2\nfind 1 0 0\nfind 2 0 0\n";
     let outcome = run(&rt, rt.alloc(), calls, &gate, TRIES)?;
-    assert!(rt; is_set(&gate.first.saw) && is_set(&gate.second.saw));
-    assert!(rt; is_set(&gate.first.went_on) && is_set(&gate.second.went_on));
-    let order = outcome.order.as_slice();
-    assert!(rt; order.starts_with(&[1, 2]) || order.starts_with(&[2, 1]));
+    assert!(rt; told(&gate) == [true; 4] && begins_with_both(&outcome));
     Ok(())
 }

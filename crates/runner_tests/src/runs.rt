@@ -4,13 +4,14 @@ ghost use Rattle.net_reader.specs.Seen.{seen_input};
 ghost use Rattle.net_reader.specs.Valid.{IsValid};
 ghost use Rattle.region_plan.specs.Plan.{nodes_of};
 
-use directory::Outcome;
+use directory::{Done, Outcome};
 use distances::Distances;
 use net_graph::Graph;
 use net_reader::{Input, MAX_BYTES, inputs_are_valid, read_input};
 use region_plan::Plan;
 use runner::{Gate, run_workers};
 use std::alloc::{AllocError, Global};
+use std::process::Abort;
 use std::test::Fail;
 use std::thread::Threads;
 
@@ -55,6 +56,25 @@ pub fn plan_of(alloc: Global, input: &Input) -> Result<(Plan, Distances), Fail>
     Ok((plan, distances))
 }
 
+/// Stops where the calls and the order of an outcome aren't these.
+pub fn same_outcome(rt: &impl Abort, outcome: &Outcome, calls: &[Done], order: &[u32]) {
+    assert!(rt; outcome.calls.as_slice() == calls && outcome.order.as_slice() == order);
+}
+
+// What becomes of an input's calls by workers.
+fn run_over<R: Threads + Sync, G: Gate>(
+    rt: &R,
+    alloc: Global,
+    input: &Input,
+    gate: &G,
+    tries: u64,
+) -> Result<Outcome, Fail>
+    requires { IsValid (seen_input input.now) }
+{
+    let (plan, distances) = plan_of(alloc, input)?;
+    Ok(run_workers(rt, alloc, input, &plan, &distances, gate, tries)?)
+}
+
 /// What becomes of these calls by workers on the line.
 pub fn run<R: Threads + Sync, G: Gate>(
     rt: &R,
@@ -64,7 +84,5 @@ pub fn run<R: Threads + Sync, G: Gate>(
     tries: u64,
 ) -> Result<Outcome, Fail> {
     let input = input_of_calls(alloc, calls)?;
-    let (plan, distances) = plan_of(alloc, &input)?;
-    let outcome = run_workers(rt, alloc, &input, &plan, &distances, gate, tries)?;
-    Ok(outcome)
+    run_over(rt, alloc, &input, gate, tries)
 }

@@ -33,14 +33,24 @@ const CENSUS: &str = "node 2 count 1 subs 0\nend 1\n";
 
 const COSTS: &str = "cost 0 moves 1 moved 1 written 12 purged 0\nend\n";
 
-// What each word writes for the line of four nodes with these calls.
-const TEXTS: [(&str, &str); 6] = [
-    ("replay", REPORT),
-    ("cover", PLAN),
-    ("census", CENSUS),
-    ("costs", COSTS),
-    ("meancover", MEAN_PLAN),
-    ("meanreplay", REPORT),
+// What each word writes for the line of four with these calls.
+fn text_by(word: &str) -> &'static str {
+    match word {
+        "replay" | "meanreplay" => REPORT,
+        "cover" => PLAN,
+        "meancover" => MEAN_PLAN,
+        "census" => CENSUS,
+        _ => COSTS,
+    }
+}
+
+const WORDS: [&str; 6] = [
+    "replay",
+    "cover",
+    "census",
+    "costs",
+    "meancover",
+    "meanreplay",
 ];
 
 // A run over an input at so many bytes a call, some of whose calls fail.
@@ -104,13 +114,14 @@ fn each_read_fails(rt: HostRuntime) -> Result<(), Fail> {
 #[test]
 fn a_later_read_would_fail(rt: HostRuntime) -> Result<(), Fail> {
     let input = text_of(rt.alloc(), CALLS)?;
-    for (word, text) in TEXTS {
+    for word in WORDS {
         let broken = Broken {
             word,
             most: 8,
             reads: &[13],
             writes: &[],
         };
+        let text = text_by(word);
         breaks(&rt, rt.alloc(), 13, broken, &input, 0, text.as_bytes())?;
     }
     Ok(())
@@ -149,60 +160,64 @@ fn write_fails<R: Threads + Sync + Abort>(
 #[test]
 fn each_write_fails(rt: HostRuntime) -> Result<(), Fail> {
     let input = text_of(rt.alloc(), CALLS)?;
-    for (word, text) in TEXTS {
-        write_fails(&rt, rt.alloc(), word, text.as_bytes(), &input)?;
+    for word in WORDS {
+        let text = text_by(word).as_bytes();
+        write_fails(&rt, rt.alloc(), word, text, &input)?;
     }
     Ok(())
 }
 
-// A row is which reads and which writes fail, at how many bytes a call, the status and the text.
-type Row<'a> = (&'a [u64], &'a [u64], usize, u8, &'a str);
-
-fn play<R: Threads + Sync + Abort>(
+// A replay at so many bytes a call, some of whose calls fail.
+fn replay_breaks<R: Threads + Sync + Abort>(
     rt: &R,
     alloc: Global,
-    lines: Lines<'_>,
-    rows: &[Row<'_>],
+    input: &[u8],
+    reads: &[u64],
+    writes: &[u64],
+    most: usize,
+    status: u8,
+    text: &str,
 ) -> Result<(), Fail> {
-    let input = text_of(alloc, lines)?;
-    for place in 0..rows.len() {
-        let (reads, writes, most, status, text) = rows[place];
-        let broken = Broken {
-            word: "replay",
-            most,
-            reads,
-            writes,
-        };
-        breaks(rt, alloc, place, broken, &input, status, text.as_bytes())?;
-    }
-    Ok(())
+    let broken = Broken {
+        word: "replay",
+        most,
+        reads,
+        writes,
+    };
+    breaks(rt, alloc, 0, broken, input, status, text.as_bytes())
 }
 
 // The second read of 64 bytes, which has the end of the input, and the third write of 10.
 #[test]
 fn one_call_fails(rt: HostRuntime) -> Result<(), Fail> {
-    let rows: [Row<'_>; 2] = [
-        (&[1], &[], 64, 4, ""),
-        (&[], &[2], 10, 5, "move 0 1 3 2 weight "),
-    ];
-    play(&rt, rt.alloc(), CALLS, &rows)
+    let input = text_of(rt.alloc(), CALLS)?;
+    replay_breaks(&rt, rt.alloc(), &input, &[1], &[], 64, 4, "")?;
+    replay_breaks(
+        &rt,
+        rt.alloc(),
+        &input,
+        &[],
+        &[2],
+        10,
+        5,
+        "move 0 1 3 2 weight ",
+    )
 }
 
 // A fault of reading comes before the length, that before the faults of the input.
 #[test]
 fn a_long_input_and_a_fault(rt: HostRuntime) -> Result<(), Fail> {
-    let rows: [Row<'_>; 2] = [(&[0], &[0], 100_000, 4, ""), (&[], &[0], 100_000, 6, "")];
-    play(&rt, rt.alloc(), Lines("", "", b"#", 4_194_305), &rows)
+    let input = text_of(rt.alloc(), Lines("", "", b"#", 4_194_305))?;
+    replay_breaks(&rt, rt.alloc(), &input, &[0], &[0], 100_000, 4, "")?;
+    replay_breaks(&rt, rt.alloc(), &input, &[], &[0], 100_000, 6, "")
 }
 
 // The faults of writing come last.
 #[test]
 fn a_refused_input_and_a_fault(rt: HostRuntime) -> Result<(), Fail> {
-    let rows: [Row<'_>; 4] = [
-        (&[0], &[0], 10, 4, ""),
-        (&[1], &[], 10, 4, ""),
-        (&[], &[0], 10, 5, ""),
-        (&[], &[1], 10, 5, "refused 1 "),
-    ];
-    play(&rt, rt.alloc(), Lines("track 3\n", "", b"", 0), &rows)
+    let input = text_of(rt.alloc(), Lines("track 3\n", "", b"", 0))?;
+    replay_breaks(&rt, rt.alloc(), &input, &[0], &[0], 10, 4, "")?;
+    replay_breaks(&rt, rt.alloc(), &input, &[1], &[], 10, 4, "")?;
+    replay_breaks(&rt, rt.alloc(), &input, &[], &[0], 10, 5, "")?;
+    replay_breaks(&rt, rt.alloc(), &input, &[], &[1], 10, 5, "refused 1 ")
 }

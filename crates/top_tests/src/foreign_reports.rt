@@ -4,10 +4,9 @@
 //! The first find has a ticket of a move within it; the second looks for a subscriber that is off;
 //! the third has its last ticket while a move of weight 2 is committed and not yet confirmed, so
 //! that it may weigh 144 times its distance of 1, and 4 more.
-
-/// The place of a line, from 1 on, what stands there in its stead, and the verdict. The lines from
-/// the eighth on are one place; at place 0 the report is as it was.
-pub(crate) type Change<'a> = (usize, &'a str, &'a str);
+//!
+//! A row of a table of changes is what stands in a line's stead, the line's place, from 1 on, and
+//! the verdict. The lines from the eighth on are one place; at place 0 the report is as it was.
 
 /// Two subscribers at 3 and 1, and two callers. Subscriber 0 moves twice, and 1 goes off and on.
 pub(crate) const INPUT: &str =
@@ -27,244 +26,63 @@ pub(crate) const REPORT: [&str; 8] = [
 ];
 
 /// Lines that may not stand where they stand; the first row changes nothing.
-pub(crate) const FORMS: [Change<'static>; 21] = [
-    (0, "", "yes\n"),
-    (
-        1,
-        "move 0 1 3 1 weight 1 first 0 commit 1 last 3\n",
-        "no 1 form\n",
-    ),
-    (
-        1,
-        "move 0 1 3 2 weight 1 first 0 commit 1 last 3\r\n",
-        "no 1 form\n",
-    ),
-    (
-        1,
-        "\nmove 0 1 3 2 weight 1 first 0 commit 1 last 3\n",
-        "no 1 form\n",
-    ),
-    (
-        2,
-        "move 0 3 2 0 weight 2 first 7 commit 8 last 11\n",
-        "no 2 form\n",
-    ),
-    (3, "switch 1 on 1 number 0 ticket 5\n", "no 3 form\n"),
-    (3, "switch 1 off 1 number 0 ticket 05\n", "no 3 form\n"),
-    (
-        4,
-        "switch 1 on 1 number 0 ticket 9223372036854775808\n",
-        "no 4 form\n",
-    ),
-    (
-        5,
-        "find 2 3 0  at 2 number 1 level - weight 9 first 2 last 4\n",
-        "no 5 form\n",
-    ),
-    (
-        5,
-        "find 2 3 0 at 4 number 1 level - weight 9 first 2 last 4\n",
-        "no 5 form\n",
-    ),
-    (
-        5,
-        "find 2 3 0 at 2 number 1 level 3 weight 9 first 2 last 4\n",
-        "no 5 form\n",
-    ),
-    (
-        5,
-        "again 2 3 0 empty 4 weight 9 first 2 last 4\n",
-        "no 5 form\n",
-    ),
-    (
-        6,
-        "off 2 1 1 at 1 number 0 level 2 weight 144 first 6 last 6\n",
-        "no 6 form\n",
-    ),
-    (7, "", "no 7 form\n"),
-    (
-        8,
-        "order 0 0 2 0 2 1 2\norder 0 0 3 3 0 1\nend 13\n",
-        "no 9 form\n",
-    ),
-    (8, "order\nend 13\n", "no 8 form\n"),
-    (8, "end 13\n", "no 8 form\n"),
-    (8, "order 0 0 2 0 2 1 2 0 0 3 3 0 1\n", "no 9 form\n"),
-    (
-        8,
-        "order 0 0 2 0 2 1 2 0 0 3 3 0 1\nend 12\n",
-        "no 9 form\n",
-    ),
-    (8, "order 0 0 2 0 2 1 2 0 0 3 3 0 1\nend 13", "no 9 form\n"),
-    (
-        8,
-        "order 0 0 2 0 2 1 2 0 0 3 3 0 1\nend 13\nend 13\n",
-        "no 10 form\n",
-    ),
-];
+pub(crate) const FORMS: &str = ">0 yes\n|\
+        move 0 1 3 1 weight 1 first 0 commit 1 last 3\n>1 no 1 form\n|\
+        move 0 1 3 2 weight 1 first 0 commit 1 last 3\r\n>1 no 1 form\n|\
+        \nmove 0 1 3 2 weight 1 first 0 commit 1 last 3\n>1 no 1 form\n|\
+        move 0 3 2 0 weight 2 first 7 commit 8 last 11\n>2 no 2 form\n|\
+        switch 1 on 1 number 0 ticket 5\n>3 no 3 form\n|\
+        switch 1 off 1 number 0 ticket 05\n>3 no 3 form\n|\
+        switch 1 on 1 number 0 ticket 9223372036854775808\n>4 no 4 form\n|\
+        find 2 3 0  at 2 number 1 level - weight 9 first 2 last 4\n>5 no 5 form\n|\
+        find 2 3 0 at 4 number 1 level - weight 9 first 2 last 4\n>5 no 5 form\n|\
+        find 2 3 0 at 2 number 1 level 3 weight 9 first 2 last 4\n>5 no 5 form\n|\
+        again 2 3 0 empty 4 weight 9 first 2 last 4\n>5 no 5 form\n|\
+        off 2 1 1 at 1 number 0 level 2 weight 144 first 6 last 6\n>6 no 6 form\n|\
+        >7 no 7 form\n|\
+        order 0 0 2 0 2 1 2\norder 0 0 3 3 0 1\nend 13\n>8 no 9 form\n|\
+        order\nend 13\n>8 no 8 form\n|\
+        end 13\n>8 no 8 form\n|\
+        order 0 0 2 0 2 1 2 0 0 3 3 0 1\n>8 no 9 form\n|\
+        order 0 0 2 0 2 1 2 0 0 3 3 0 1\nend 12\n>8 no 9 form\n|\
+        order 0 0 2 0 2 1 2 0 0 3 3 0 1\nend 13>8 no 9 form\n|\
+        order 0 0 2 0 2 1 2 0 0 3 3 0 1\nend 13\nend 13\n>8 no 10 form\n|";
 
 /// Tickets that a call doesn't have, and some that no call holds.
-pub(crate) const TICKETS: [Change<'static>; 19] = [
-    (
-        1,
-        "move 0 1 3 2 weight 1 first 1 commit 1 last 3\n",
-        "no 1 tickets\n",
-    ),
-    (
-        1,
-        "move 0 1 3 2 weight 1 first 0 commit 2 last 3\n",
-        "no 1 tickets\n",
-    ),
-    (
-        1,
-        "move 0 1 3 2 weight 1 first 0 commit 0 last 3\n",
-        "no 1 tickets\n",
-    ),
-    (
-        1,
-        "move 0 1 3 2 weight 1 first 0 commit 3 last 3\n",
-        "no 1 tickets\n",
-    ),
-    (
-        1,
-        "move 0 1 3 2 weight 1 first 0 commit 1 last 4\n",
-        "no 1 tickets\n",
-    ),
-    (
-        2,
-        "move 0 2 2 0 weight 2 first 7 commit 8 last 8\n",
-        "no 2 tickets\n",
-    ),
-    (
-        2,
-        "move 0 2 2 0 weight 2 first 3 commit 8 last 11\n",
-        "no 2 tickets\n",
-    ),
-    (3, "switch 1 off 1 number 0 ticket 12\n", "no 3 tickets\n"),
-    (4, "switch 1 on 1 number 0 ticket 5\n", "no 4 tickets\n"),
-    (
-        4,
-        "switch 1 on 1 number 0 ticket 9223372036854775807\n",
-        "no 4 tickets\n",
-    ),
-    (
-        5,
-        "find 2 3 0 at 2 number 1 level - weight 9 first 4 last 2\n",
-        "no 5 tickets\n",
-    ),
-    (
-        7,
-        "find 3 1 0 at 0 number 2 level 0 weight 148 first 9 last 9\n",
-        "no 7 tickets\n",
-    ),
-    (
-        8,
-        "order 0 0 2 0 2 1 2 0 0 3 3 0 3\nend 13\n",
-        "no 4 tickets\n",
-    ),
-    (
-        8,
-        "order 0 0 2 0 2 1 2 0 0 3 3 0 4\nend 13\n",
-        "no 4 tickets\n",
-    ),
-    (
-        8,
-        "order 0 0 2 0 2 1 2 0 0 3 3 0 1 0\nend 14\n",
-        "no 2 tickets\n",
-    ),
-    (
-        8,
-        "order 0 0 2 0 2 1 2 0 0 3 3 0 1 2\nend 14\n",
-        "no 6 tickets\n",
-    ),
-    (
-        8,
-        "order 0 0 2 0 2 1 2 0 0 3 3 0 1 4\nend 14\n",
-        "no 8 tickets\n",
-    ),
-    (
-        8,
-        "order 0 0 2 0 2 1 2 0 0 3 3 0 1 9223372036854775807\nend 14\n",
-        "no 8 tickets\n",
-    ),
-    (
-        8,
-        "order 0 0 2 0 2 1 2 0 0 3 3 0 1 9223372036854775808\nend 14\n",
-        "no 8 form\n",
-    ),
-];
+pub(crate) const TICKETS: &str = "move 0 1 3 2 weight 1 first 1 commit 1 last 3\n>1 no 1 tickets\n|\
+        move 0 1 3 2 weight 1 first 0 commit 2 last 3\n>1 no 1 tickets\n|\
+        move 0 1 3 2 weight 1 first 0 commit 0 last 3\n>1 no 1 tickets\n|\
+        move 0 1 3 2 weight 1 first 0 commit 3 last 3\n>1 no 1 tickets\n|\
+        move 0 1 3 2 weight 1 first 0 commit 1 last 4\n>1 no 1 tickets\n|\
+        move 0 2 2 0 weight 2 first 7 commit 8 last 8\n>2 no 2 tickets\n|\
+        move 0 2 2 0 weight 2 first 3 commit 8 last 11\n>2 no 2 tickets\n|\
+        switch 1 off 1 number 0 ticket 12\n>3 no 3 tickets\n|\
+        switch 1 on 1 number 0 ticket 5\n>4 no 4 tickets\n|\
+        switch 1 on 1 number 0 ticket 9223372036854775807\n>4 no 4 tickets\n|\
+        find 2 3 0 at 2 number 1 level - weight 9 first 4 last 2\n>5 no 5 tickets\n|\
+        find 3 1 0 at 0 number 2 level 0 weight 148 first 9 last 9\n>7 no 7 tickets\n|\
+        order 0 0 2 0 2 1 2 0 0 3 3 0 3\nend 13\n>8 no 4 tickets\n|\
+        order 0 0 2 0 2 1 2 0 0 3 3 0 4\nend 13\n>8 no 4 tickets\n|\
+        order 0 0 2 0 2 1 2 0 0 3 3 0 1 0\nend 14\n>8 no 2 tickets\n|\
+        order 0 0 2 0 2 1 2 0 0 3 3 0 1 2\nend 14\n>8 no 6 tickets\n|\
+        order 0 0 2 0 2 1 2 0 0 3 3 0 1 4\nend 14\n>8 no 8 tickets\n|\
+        order 0 0 2 0 2 1 2 0 0 3 3 0 1 9223372036854775807\nend 14\n>8 no 8 tickets\n|\
+        order 0 0 2 0 2 1 2 0 0 3 3 0 1 9223372036854775808\nend 14\n>8 no 8 form\n|";
 
 /// Where subscribers are, finds to be made again, and weights.
-pub(crate) const ANSWERS: [Change<'static>; 15] = [
-    (
-        5,
-        "find 2 3 0 at 3 number 1 level - weight 9 first 2 last 4\n",
-        "no 5 place\n",
-    ),
-    (
-        5,
-        "find 2 3 0 at 2 number 2 level - weight 9 first 2 last 4\n",
-        "no 5 place\n",
-    ),
-    (
-        5,
-        "find 2 3 0 at 0 number 2 level - weight 9 first 2 last 4\n",
-        "no 5 place\n",
-    ),
-    (
-        5,
-        "off 2 3 0 at 2 number 1 level - weight 9 first 2 last 4\n",
-        "no 5 place\n",
-    ),
-    (
-        6,
-        "find 2 0 1 at 1 number 0 level 2 weight 144 first 6 last 6\n",
-        "no 6 place\n",
-    ),
-    (
-        7,
-        "find 3 1 0 at 2 number 1 level 0 weight 148 first 9 last 10\n",
-        "no 7 place\n",
-    ),
-    (5, "again 2 3 0 chased weight 9 first 2 last 4\n", "yes\n"),
-    (
-        5,
-        "again 2 3 0 empty 1 weight 999 first 2 last 4\n",
-        "yes\n",
-    ),
-    (
-        6,
-        "again 2 0 1 none weight 0 first 6 last 6\n",
-        "no 6 again\n",
-    ),
-    (
-        7,
-        "again 3 1 0 chased weight 148 first 9 last 10\n",
-        "no 7 again\n",
-    ),
-    (
-        1,
-        "move 0 1 3 2 weight 2 first 0 commit 1 last 3\n",
-        "no 1 weight\n",
-    ),
-    (
-        2,
-        "move 0 2 2 0 weight 1 first 7 commit 8 last 11\n",
-        "no 2 weight\n",
-    ),
-    (
-        5,
-        "find 2 3 0 at 2 number 1 level - weight 9223372036854775807 first 2 last 4\n",
-        "yes\n",
-    ),
-    (
-        6,
-        "off 2 0 1 at 1 number 0 level 2 weight 145 first 6 last 6\n",
-        "no 6 weight\n",
-    ),
-    (
-        7,
-        "find 3 1 0 at 0 number 2 level 0 weight 149 first 9 last 10\n",
-        "no 7 weight\n",
-    ),
-];
+pub(crate) const ANSWERS: &str =
+    "find 2 3 0 at 3 number 1 level - weight 9 first 2 last 4\n>5 no 5 place\n|\
+        find 2 3 0 at 2 number 2 level - weight 9 first 2 last 4\n>5 no 5 place\n|\
+        find 2 3 0 at 0 number 2 level - weight 9 first 2 last 4\n>5 no 5 place\n|\
+        off 2 3 0 at 2 number 1 level - weight 9 first 2 last 4\n>5 no 5 place\n|\
+        find 2 0 1 at 1 number 0 level 2 weight 144 first 6 last 6\n>6 no 6 place\n|\
+        find 3 1 0 at 2 number 1 level 0 weight 148 first 9 last 10\n>7 no 7 place\n|\
+        again 2 3 0 chased weight 9 first 2 last 4\n>5 yes\n|\
+        again 2 3 0 empty 1 weight 999 first 2 last 4\n>5 yes\n|\
+        again 2 0 1 none weight 0 first 6 last 6\n>6 no 6 again\n|\
+        again 3 1 0 chased weight 148 first 9 last 10\n>7 no 7 again\n|\
+        move 0 1 3 2 weight 2 first 0 commit 1 last 3\n>1 no 1 weight\n|\
+        move 0 2 2 0 weight 1 first 7 commit 8 last 11\n>2 no 2 weight\n|\
+        find 2 3 0 at 2 number 1 level - weight 9223372036854775807 first 2 last 4\n>5 yes\n|\
+        off 2 0 1 at 1 number 0 level 2 weight 145 first 6 last 6\n>6 no 6 weight\n|\
+        find 3 1 0 at 0 number 2 level 0 weight 149 first 9 last 10\n>7 no 7 weight\n|";

@@ -15,6 +15,8 @@ mod load_tests;
 #[cfg(test)]
 mod reader_tests;
 #[cfg(test)]
+mod rows;
+#[cfg(test)]
 mod run_tests;
 #[cfg(test)]
 mod runs;

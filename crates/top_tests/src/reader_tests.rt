@@ -2,6 +2,7 @@
 ghost use Rattle.std.specs.Prelude.{◌≤◌, length};
 ghost use Rattle.net_reader.specs.Reading.{most_bytes};
 
+use crate::rows::parts_of;
 use crate::runs::{FOUR, Lines, text_of};
 use net_graph::{Arc, Graph};
 use net_reader::{Call, Input, InputCause, InputFault, MAX_BYTES, ReadRefusal, Reader, read_input};
@@ -24,17 +25,17 @@ fn fault_of(alloc: Global, text: &[u8]) -> Result<Option<InputFault>, Fail> {
     }
 }
 
-// A text, another behind it, and the fault of both, where there is one: its line and its cause.
-type Row<'a> = (Lines<'a>, &'a str, Option<(u32, InputCause)>);
-
-// The fault of each text is to be this.
-fn play(rt: &impl Abort, alloc: Global, rows: &[Row<'_>]) -> Result<(), Fail> {
-    for place in 0..rows.len() {
-        let (lines, after, wanted) = rows[place];
-        let mut text = text_of(alloc, lines)?;
-        text.extend_from_slice(after.as_bytes())?;
-        is_refused(rt, place, fault_of(alloc, &text)?, wanted);
-    }
+// A text with another behind it is an input, or has this fault.
+fn is_judged(
+    rt: &impl Abort,
+    alloc: Global,
+    lines: Lines<'_>,
+    after: &str,
+    wanted: Option<(u32, InputCause)>,
+) -> Result<(), Fail> {
+    let mut text = text_of(alloc, lines)?;
+    text.extend_from_slice(after.as_bytes())?;
+    is_refused(rt, 0, fault_of(alloc, &text)?, wanted);
     Ok(())
 }
 
@@ -75,13 +76,15 @@ const SCRIPTS: &[u8] =
 // The input has these scripts of two actors, and the order 0 1 1.
 fn is_read(rt: &impl Abort, input: &Input) {
     let measures = [input.format, input.nodes, input.k, input.callers];
-    assert!(rt; measures == [1, 2, 2, 1]);
-    assert!(rt; input.order.as_slice() == [0, 1, 1].as_slice());
+    assert!(rt; measures == [1, 2, 2, 1] && input.order.as_slice() == [0, 1, 1].as_slice());
+    assert!(rt; input.scripts.len() == 2);
+    have_scripts(rt, &input.scripts[0], &input.scripts[1]);
+}
+
+fn have_scripts(rt: &impl Abort, subscriber: &[Call], caller: &[Call]) {
     let moves = [Call::Move { to: 0 }, Call::Move { to: 1 }];
     let finds = [Call::Find { from: 0, sub: 0 }];
-    assert!(rt; input.scripts.len() == 2);
-    assert!(rt; input.scripts[0].as_slice() == moves.as_slice());
-    assert!(rt; input.scripts[1].as_slice() == finds.as_slice());
+    assert!(rt; subscriber == moves.as_slice() && caller == finds.as_slice());
 }
 
 #[test]
@@ -140,168 +143,147 @@ fn graph_of_the_most_nodes(rt: HostRuntime) -> Result<(), Fail> {
     Ok(())
 }
 
-// Each text is refused at this line.
-fn play_texts(
-    rt: &impl Abort,
-    alloc: Global,
-    texts: &[(&str, u32, InputCause)],
-) -> Result<(), Fail> {
-    for place in 0..texts.len() {
-        let (text, line, cause) = texts[place];
-        let fault = fault_of(alloc, text.as_bytes())?;
-        is_refused(rt, place, fault, Some((line, cause)));
+// The cause of this name. The test of a torn network has node 2 apart.
+fn cause_of(name: &str) -> Option<InputCause> {
+    match name {
+        "form" => Some(InputCause::Form),
+        "too-large" => Some(InputCause::TooLarge),
+        "unknown" => Some(InputCause::Unknown),
+        "nowhere" => Some(InputCause::Nowhere),
+        "switched" => Some(InputCause::Switched),
+        "unfinished" => Some(InputCause::Unfinished),
+        "apart" => Some(InputCause::Apart { node: 2 }),
+        _ => None,
+    }
+}
+
+// Each row is the end of a text behind `before`, and the line and the cause of its fault.
+fn play_texts(rt: &impl Abort, alloc: Global, before: &str, rows: &str) -> Result<(), Fail> {
+    for (place, row) in rows.split_terminator('|').enumerate() {
+        let Some((end, line, name)) = parts_of(row) else {
+            return Err("a row is a text, a line and a cause".into());
+        };
+        let text = text_of(alloc, Lines(before, end, b"", 0))?;
+        is_faulty(rt, place, fault_of(alloc, &text)?, line, name);
     }
     Ok(())
+}
+
+// The fault is of this line, and has a cause of this name.
+fn is_faulty(rt: &impl Abort, place: usize, fault: Option<InputFault>, line: u32, name: &str) {
+    let wanted = match cause_of(name) {
+        Some(cause) => Some((line, cause)),
+        None => None,
+    };
+    is_refused(rt, place, fault, wanted);
 }
 
 #[test]
 fn refused_texts(rt: HostRuntime) -> Result<(), Fail> {
-    let texts = [
-        ("", 0, InputCause::Unfinished),
-        ("track 1\n\r", 2, InputCause::Unfinished),
-        ("track 3", 1, InputCause::Form),
-        ("track\x001\n", 1, InputCause::Form),
-        ("track 1\nnodes 2\nnodes 2\n", 3, InputCause::Form),
-        ("track 1\nnodes 0\n", 2, InputCause::Form),
-        ("track 1\nnodes 2\nk 2\ncallers 0\n", 4, InputCause::Form),
-        ("track 1\nnodes 256\nk 8\n", 3, InputCause::Unfinished),
-        ("track 1\nnodes 257\n", 2, InputCause::TooLarge),
-        ("track 2\nnodes 1024\nk 2\n", 3, InputCause::Unfinished),
-        ("track 2\nnodes 1025\n", 2, InputCause::TooLarge),
-        ("track 2\nnodes 256\nk 1\n", 3, InputCause::Unfinished),
-        ("track 2\nnodes 257\nk 1\n", 3, InputCause::TooLarge),
-        ("track 1\nnodes 2\nk 9\n", 3, InputCause::TooLarge),
-    ];
-    play_texts(&rt, rt.alloc(), &texts)
+    let rows = ">0 unfinished|\
+        track 1\n\r>2 unfinished|\
+        track 3>1 form|\
+        track\01\n>1 form|\
+        track 1\nnodes 2\nnodes 2\n>3 form|\
+        track 1\nnodes 0\n>2 form|\
+        track 1\nnodes 2\nk 2\ncallers 0\n>4 form|\
+        track 1\nnodes 256\nk 8\n>3 unfinished|\
+        track 1\nnodes 257\n>2 too-large|\
+        track 2\nnodes 1024\nk 2\n>3 unfinished|\
+        track 2\nnodes 1025\n>2 too-large|\
+        track 2\nnodes 256\nk 1\n>3 unfinished|\
+        track 2\nnodes 257\nk 1\n>3 too-large|\
+        track 1\nnodes 2\nk 9\n>3 too-large|";
+    play_texts(&rt, rt.alloc(), "", rows)
 }
 
 #[test]
 fn refused_edges_and_callers(rt: HostRuntime) -> Result<(), Fail> {
-    let two = "track 1\nnodes 2\nk 2\n";
-    let one = "track 1\nnodes 1\nk 1\nsub 0\n";
-    let apart = "track 1\nnodes 3\nk 2\nedge 0 1 1\nsub 0\ncallers 64\n# the end";
-    let rows: [Row<'_>; 5] = [
-        (
-            Lines(two, "edge 0 1 000000000001048576\n", b"", 0),
-            "",
-            Some((4, InputCause::Unfinished)),
-        ),
-        (
-            Lines(two, "edge 0 1 1048577\n", b"", 0),
-            "",
-            Some((4, InputCause::TooLarge)),
-        ),
-        (
-            Lines(two, "edge 0 1 0000000000000000001\n", b"", 0),
-            "",
-            Some((4, InputCause::Form)),
-        ),
-        (
-            Lines(one, "callers 65\n", b"", 0),
-            "",
-            Some((5, InputCause::TooLarge)),
-        ),
-        (
-            Lines(apart, "", b"", 0),
-            "",
-            Some((7, InputCause::Apart { node: 2 })),
-        ),
-    ];
-    play(&rt, rt.alloc(), &rows)
-}
-
-// Each line behind a text is refused at this line.
-fn play_calls(
-    rt: &impl Abort,
-    alloc: Global,
-    before: &str,
-    rows: &[(&str, u32, InputCause)],
-) -> Result<(), Fail> {
-    for place in 0..rows.len() {
-        let (lines, line, cause) = rows[place];
-        let row = (Lines(before, lines, b"", 0), "", Some((line, cause)));
-        play(rt, alloc, &[row])?;
-    }
-    Ok(())
+    let rows = "track 1\nnodes 2\nk 2\nedge 0 1 000000000001048576\n>4 unfinished|\
+        track 1\nnodes 2\nk 2\nedge 0 1 1048577\n>4 too-large|\
+        track 1\nnodes 2\nk 2\nedge 0 1 0000000000000000001\n>4 form|\
+        track 1\nnodes 1\nk 1\nsub 0\ncallers 65\n>5 too-large|\
+        track 1\nnodes 3\nk 2\nedge 0 1 1\nsub 0\ncallers 64\n# the end>7 apart|";
+    play_texts(&rt, rt.alloc(), "", rows)
 }
 
 #[test]
 fn refused_calls(rt: HostRuntime) -> Result<(), Fail> {
-    let rows = [
-        ("off 0\n", 9, InputCause::Form),
-        ("edge 9 9 1048577\n", 9, InputCause::Form),
-        ("move 1 2\n", 9, InputCause::Unknown),
-        ("find 0 2 0\n", 9, InputCause::Unknown),
-        ("find 1 4 0\n", 9, InputCause::Unknown),
-        ("order 2\n", 9, InputCause::Unknown),
-        ("move 0 3\n", 9, InputCause::Nowhere),
-        ("move 0 2\nmove 0 2\n", 10, InputCause::Nowhere),
-    ];
-    play_calls(&rt, rt.alloc(), FOUR, &rows)
+    let rows = "off 0\n>9 form|\
+        edge 9 9 1048577\n>9 form|\
+        move 1 2\n>9 unknown|\
+        find 0 2 0\n>9 unknown|\
+        find 1 4 0\n>9 unknown|\
+        order 2\n>9 unknown|\
+        move 0 3\n>9 nowhere|\
+        move 0 2\nmove 0 2\n>10 nowhere|";
+    play_texts(&rt, rt.alloc(), FOUR, rows)
 }
 
 #[test]
 fn refused_switches(rt: HostRuntime) -> Result<(), Fail> {
-    let rows = [
-        ("off 0\nmove 0 2\n", 10, InputCause::Switched),
-        ("on 0\n", 9, InputCause::Switched),
-        ("off 1\n", 9, InputCause::Unknown),
-        ("off 0\nmove 0 4\n", 10, InputCause::Unknown),
-    ];
-    play_calls(&rt, rt.alloc(), SWITCHING, &rows)
+    let rows = "off 0\nmove 0 2\n>10 switched|\
+        on 0\n>9 switched|\
+        off 1\n>9 unknown|\
+        off 0\nmove 0 4\n>10 unknown|";
+    play_texts(&rt, rt.alloc(), SWITCHING, rows)
 }
 
 // What stands on one side of a limit is an input, and one line more is refused.
 #[test]
 fn limits_of_lines(rt: HostRuntime) -> Result<(), Fail> {
     let one = "track 1\nnodes 1\nk 1\n";
+    let many = InputCause::TooMany;
+    let subs = Lines(one, "", b"sub 0\n", 64);
+    is_judged(&rt, rt.alloc(), subs, "callers 64\n", None)?;
+    let subs = Lines(one, "", b"sub 0\n", 65);
+    is_judged(&rt, rt.alloc(), subs, "callers 64\n", Some((68, many)))?;
+    let edges = Lines(one, "", b"edge 0 0 1\n", 32_768);
+    is_judged(&rt, rt.alloc(), edges, "sub 0\ncallers 0\n", None)?;
+    let edges = Lines(one, "", b"edge 0 0 1\n", 32_769);
+    let wanted = Some((32_772, many));
+    is_judged(&rt, rt.alloc(), edges, "sub 0\ncallers 0\n", wanted)
+}
+
+#[test]
+fn limits_of_calls(rt: HostRuntime) -> Result<(), Fail> {
     let first = "track 1\nnodes 1\nk 1\nsub 0\ncallers 1\n";
     let second = "track 2\nnodes 1\nk 1\nsub 0\ncallers 1\n";
-    let network: &[u8] = b"edge 0 0 1\n";
     let find: &[u8] = b"find 1 0 0\n";
     let many = InputCause::TooMany;
-    let rows: [Row<'_>; 8] = [
-        (Lines(one, "", b"sub 0\n", 64), "callers 64\n", None),
-        (
-            Lines(one, "", b"sub 0\n", 65),
-            "callers 64\n",
-            Some((68, many)),
-        ),
-        (Lines(one, "", network, 32_768), "sub 0\ncallers 0\n", None),
-        (
-            Lines(one, "", network, 32_769),
-            "sub 0\ncallers 0\n",
-            Some((32_772, many)),
-        ),
-        (Lines(first, "", find, 8_192), "", None),
-        (Lines(first, "", find, 8_193), "", Some((8_198, many))),
-        (Lines(second, "", find, 16_384), "", None),
-        (Lines(second, "", find, 16_385), "", Some((16_390, many))),
-    ];
-    play(&rt, rt.alloc(), &rows)
+    is_judged(&rt, rt.alloc(), Lines(first, "", find, 8_192), "", None)?;
+    let more = Lines(first, "", find, 8_193);
+    is_judged(&rt, rt.alloc(), more, "", Some((8_198, many)))?;
+    is_judged(&rt, rt.alloc(), Lines(second, "", find, 16_384), "", None)?;
+    let more = Lines(second, "", find, 16_385);
+    is_judged(&rt, rt.alloc(), more, "", Some((16_390, many)))
 }
 
 #[test]
 fn lines_of_any_length(rt: HostRuntime) -> Result<(), Fail> {
+    let unfinished = Some((1, InputCause::Unfinished));
+    is_judged(
+        &rt,
+        rt.alloc(),
+        Lines("#", "", b" word", 200_000),
+        "",
+        unfinished,
+    )?;
+    let form = Some((1, InputCause::Form));
+    is_judged(&rt, rt.alloc(), Lines("t", "", b"rack", 200_000), "", form)?;
+    is_judged(
+        &rt,
+        rt.alloc(),
+        Lines(FOUR, "", b"# word\n", 100_000),
+        "",
+        None,
+    )
+}
+
+#[test]
+fn numbers_of_an_order(rt: HostRuntime) -> Result<(), Fail> {
     let order = "track 1\nnodes 1\nk 1\nsub 0\ncallers 0\norder";
-    let rows: [Row<'_>; 5] = [
-        (
-            Lines("#", "", b" word", 200_000),
-            "",
-            Some((1, InputCause::Unfinished)),
-        ),
-        (
-            Lines("t", "", b"rack", 200_000),
-            "",
-            Some((1, InputCause::Form)),
-        ),
-        (Lines(FOUR, "", b"# word\n", 100_000), "", None),
-        (Lines(order, "", b" 0", 64), "", None),
-        (
-            Lines(order, "", b" 0", 65),
-            "",
-            Some((6, InputCause::TooMany)),
-        ),
-    ];
-    play(&rt, rt.alloc(), &rows)
+    is_judged(&rt, rt.alloc(), Lines(order, "", b" 0", 64), "", None)?;
+    let many = Some((6, InputCause::TooMany));
+    is_judged(&rt, rt.alloc(), Lines(order, "", b" 0", 65), "", many)
 }

@@ -1,10 +1,12 @@
 //! Whole runs over sources and sinks in memory: worked inputs with their texts, and inputs and
 //! reports at the limits.
-use crate::runs::{FOUR, Lines, ROOM, Ran, Row, Run, perform, play, text_of};
+use crate::rows::play_rows;
+use crate::runs::{FOUR, Lines, ROOM, Ran, Row, Run, perform, play, play_words, text_of};
 use crate::same::{same_numbers, same_text};
 use std::alloc::Global;
 use std::process::Abort;
 use std::test::Fail;
+use std::thread::Threads;
 
 const TWO_AT_A_NODE: &str =
     "track 1\nnodes 4\nk 2\nedge 0 1 1\nedge 1 2 1\nedge 2 3 1\nsub 3\nsub 3\ncallers 1\n";
@@ -25,20 +27,34 @@ const ONE_CLUSTER: &str = "plan nodes 1 k 1 levels 1 degree 1 stretch 40\n\
 
 const APART: &str = "track 1\nnodes 3\nk 2\nedge 0 1 1\nsub 0\ncallers 0\n";
 
+// An input is to be answered so by a word, however many bytes come in a call.
+fn answers<R: Threads + Sync + Abort>(
+    rt: &R,
+    alloc: Global,
+    word: &str,
+    input: &str,
+    status: u8,
+    text: &str,
+) -> Result<(), Fail> {
+    play_words(
+        rt,
+        alloc,
+        0,
+        &[word],
+        &[1, 7, 64],
+        input.as_bytes(),
+        status,
+        text,
+    )
+}
+
 #[test]
 fn worked_plans(rt: HostRuntime) -> Result<(), Fail> {
-    let rows: [Row<'_>; 5] = [
-        (Lines(TWO_NODES, "", b"", 0), 0, TWO_PHASES),
-        (Lines(ONE_NODE, "", b"", 0), 0, ONE_CLUSTER),
-        (Lines("", "", b"", 0), 1, "refused 0 unfinished\n"),
-        (
-            Lines("track 1\n", "", b"nodes 2\n", 2),
-            1,
-            "refused 3 form\n",
-        ),
-        (Lines(APART, "", b"", 0), 1, "refused 6 apart 2\n"),
-    ];
-    play(&rt, rt.alloc(), &["cover"], &[1, 7, 64], &rows)
+    answers(&rt, rt.alloc(), "cover", TWO_NODES, 0, TWO_PHASES)?;
+    answers(&rt, rt.alloc(), "cover", ONE_NODE, 0, ONE_CLUSTER)?;
+    let refused = ">1 refused 0 unfinished\n|track 1\nnodes 2\nnodes 2\n>1 refused 3 form\n|";
+    play_rows(&rt, rt.alloc(), &["cover"], &[1, 7, 64], "", refused)?;
+    answers(&rt, rt.alloc(), "cover", APART, 1, "refused 6 apart 2\n")
 }
 
 // The plan of two nodes over mean covers: one cluster, where phases made two.
@@ -61,28 +77,30 @@ const FOUR_MEAN: &str = "plan nodes 4 k 2 levels 3 degree 2 stretch 232\n\
 
 #[test]
 fn worked_mean_plans(rt: HostRuntime) -> Result<(), Fail> {
-    let rows: [Row<'_>; 4] = [
-        (Lines(FOUR, "", b"", 0), 0, FOUR_MEAN),
-        (Lines(TWO_NODES, "", b"", 0), 0, TWO_NODES_MEAN),
-        (Lines(ONE_NODE, "", b"", 0), 0, ONE_NODE_MEAN),
-        (Lines(APART, "", b"", 0), 1, "refused 6 apart 2\n"),
-    ];
-    play(&rt, rt.alloc(), &["meancover"], &[1, 7, 64], &rows)
+    answers(&rt, rt.alloc(), "meancover", FOUR, 0, FOUR_MEAN)?;
+    answers(&rt, rt.alloc(), "meancover", TWO_NODES, 0, TWO_NODES_MEAN)?;
+    answers(&rt, rt.alloc(), "meancover", ONE_NODE, 0, ONE_NODE_MEAN)?;
+    answers(
+        &rt,
+        rt.alloc(),
+        "meancover",
+        APART,
+        1,
+        "refused 6 apart 2\n",
+    )
 }
 
 // Over mean covers a find on two nodes has one reader, where over phases it asks an empty one
 // first.
 #[test]
 fn worked_mean_reports(rt: HostRuntime) -> Result<(), Fail> {
-    let far = "find 1 0 0 at 3 number 0 level 1 weight 3 first 0 last 3\norder 1 1 1 1\nend 4\n";
-    let head = "track 1\nnodes 2\nk 1\nedge 0 1 1\nsub 1\ncallers 1\n";
-    let two = "find 1 0 0 at 1 number 0 level 0 weight 1 first 0 last 2\norder 1 1 1\nend 3\n";
-    let rows: [Row<'_>; 3] = [
-        (Lines(FOUR, "", b"find 1 0 0\n", 1), 0, far),
-        (Lines(head, "", b"find 1 0 0\n", 1), 0, two),
-        (Lines("", "", b"", 0), 1, "refused 0 unfinished\n"),
-    ];
-    play(&rt, rt.alloc(), &["meanreplay"], &[1, 7, 64], &rows)
+    let far = "find 1 0 0\n>0 find 1 0 0 at 3 number 0 level 1 weight 3 first 0 last 3\n\
+        order 1 1 1 1\nend 4\n|";
+    play_rows(&rt, rt.alloc(), &["meanreplay"], &[1, 7, 64], FOUR, far)?;
+    let rows = "track 1\nnodes 2\nk 1\nedge 0 1 1\nsub 1\ncallers 1\nfind 1 0 0\n\
+        >0 find 1 0 0 at 1 number 0 level 0 weight 1 first 0 last 2\norder 1 1 1\nend 3\n|\
+        >1 refused 0 unfinished\n|";
+    play_rows(&rt, rt.alloc(), &["meanreplay"], &[1, 7, 64], "", rows)
 }
 
 // An input may have 4,194,304 bytes and no more.
@@ -188,43 +206,33 @@ const LONE: &str = "track 2\nnodes 1\nk 1\nsub 0\n";
 
 const PAIR: &str = "track 2\nnodes 2\nk 1\nedge 0 1 1\nsub 0\n";
 
+// The report of an input has this status, this length and this end.
+fn ends_long(
+    rt: &impl Abort,
+    alloc: Global,
+    lines: Lines<'_>,
+    status: u8,
+    length: u64,
+    end: &[u8],
+) -> Result<(), Fail> {
+    let ran = report_of(alloc, lines, 1_300_000)?;
+    is_long(rt, 0, &ran, status, length, end);
+    Ok(())
+}
+
 // One script with as many calls as an input of format 2 may have, of each kind, and one call more.
 // The lengths are those of the reports that scripts/directory.py writes: a line for each call, one
 // for each 64 visits, and the end.
 #[test]
 fn longest_scripts(rt: HostRuntime) -> Result<(), Fail> {
-    let rows: [(Lines<'_>, u8, u64, &[u8]); 4] = [
-        (
-            Lines(PAIR, "callers 0\n", b"move 0 1\nmove 0 0\n", 8_192),
-            0,
-            1_204_981,
-            b"end 98304\n",
-        ),
-        (
-            Lines(LONE, "callers 0\n", b"off 0\non 0\n", 8_192),
-            0,
-            621_220,
-            b"end 16384\n",
-        ),
-        (
-            Lines(LONE, "callers 1\n", b"find 1 0 0\n", 16_384),
-            0,
-            1_077_054,
-            b"end 16384\n",
-        ),
-        (
-            Lines(LONE, "callers 1\n", b"find 1 0 0\n", 16_385),
-            1,
-            23,
-            b"refused 16390 too-many\n",
-        ),
-    ];
-    for place in 0..rows.len() {
-        let (lines, status, length, end) = rows[place];
-        let ran = report_of(rt.alloc(), lines, 1_300_000)?;
-        is_long(&rt, place, &ran, status, length, end);
-    }
-    Ok(())
+    let moves = Lines(PAIR, "callers 0\n", b"move 0 1\nmove 0 0\n", 8_192);
+    ends_long(&rt, rt.alloc(), moves, 0, 1_204_981, b"end 98304\n")?;
+    let switches = Lines(LONE, "callers 0\n", b"off 0\non 0\n", 8_192);
+    ends_long(&rt, rt.alloc(), switches, 0, 621_220, b"end 16384\n")?;
+    let finds = Lines(LONE, "callers 1\n", b"find 1 0 0\n", 16_384);
+    ends_long(&rt, rt.alloc(), finds, 0, 1_077_054, b"end 16384\n")?;
+    let more = Lines(LONE, "callers 1\n", b"find 1 0 0\n", 16_385);
+    ends_long(&rt, rt.alloc(), more, 1, 23, b"refused 16390 too-many\n")
 }
 
 // A sink that is full holds the beginning.

@@ -154,9 +154,24 @@ pub(crate) fn play<R: Threads + Sync + Abort>(
     for place in 0..rows.len() {
         let (lines, status, text) = rows[place];
         let input = text_of(alloc, lines)?;
-        for word in words {
-            play_word(rt, alloc, place, word, mosts, &input, status, text)?;
-        }
+        play_words(rt, alloc, place, words, mosts, &input, status, text)?;
+    }
+    Ok(())
+}
+
+/// An input is to be answered so by each of these words, however many bytes come in a call.
+pub(crate) fn play_words<R: Threads + Sync + Abort>(
+    rt: &R,
+    alloc: Global,
+    place: usize,
+    words: &[&str],
+    mosts: &[usize],
+    input: &[u8],
+    status: u8,
+    text: &str,
+) -> Result<(), Fail> {
+    for word in words {
+        play_word(rt, alloc, place, word, mosts, input, status, text)?;
     }
     Ok(())
 }

@@ -2,6 +2,7 @@
 //! an order that was printed, and two callers that have to meet.
 ghost use Rattle.std.specs.Prelude.{◌<◌, false};
 
+use crate::rows::play_rows;
 use crate::runs::{FOUR, Lines, ROOM, Ran, Run, perform, perform_by_threads, text_of};
 use crate::same::{same_numbers, same_text};
 use runner::{Gate, OpenGate, RUN_TRIES};
@@ -10,12 +11,6 @@ use std::process::Abort;
 use std::sync::atomic::{AtomicU64, Ordering};
 use std::test::Fail;
 use std::thread::Threads;
-
-// The words, the calls behind the line of four, which reads and writes fail, and what is wanted.
-type Row<'a> = (&'a [&'a str], &'a str, &'a [u64], &'a [u64], u8, &'a str);
-
-const FOUND: &str =
-    "find 1 0 0 at 3 number 0 level 1 weight 3 first 0 last 3\norder 1 1 1 1\nend 4\n";
 
 const MOVED: &str = "move 0 1 3 2 weight 1 first 0 commit 3 last 5\norder 0 0 0 0 0 0\nend 6\n";
 
@@ -30,83 +25,99 @@ fn run_of<'a>(words: &'a [&'a str], input: &'a [u8]) -> Run<'a> {
     }
 }
 
-fn play<R: Threads + Sync + Abort>(rt: &R, alloc: Global, rows: &[Row<'_>]) -> Result<(), Fail> {
-    for place in 0..rows.len() {
-        let (words, calls, failing_reads, failing_writes, status, text) = rows[place];
-        let input = text_of(alloc, Lines(FOUR, calls, b"", 0))?;
-        let run = Run {
-            failing_reads,
-            failing_writes,
-            ..run_of(words, &input)
-        };
-        let ran = perform_by_threads(rt, alloc, &run, &OpenGate, RUN_TRIES)?;
-        same_numbers(rt, place, &[u64::from(ran.status)], &[u64::from(status)]);
-        same_text(rt, place, &ran.written, text.as_bytes());
-    }
+// A run by threads of these words, some of whose calls fail, over the line of four and these calls.
+fn ends<R: Threads + Sync + Abort>(
+    rt: &R,
+    alloc: Global,
+    run: Run<'_>,
+    calls: &str,
+    status: u8,
+    text: &str,
+) -> Result<(), Fail> {
+    let input = text_of(alloc, Lines(FOUR, calls, b"", 0))?;
+    let run = Run {
+        input: &input,
+        ..run
+    };
+    let ran = perform_by_threads(rt, alloc, &run, &OpenGate, RUN_TRIES)?;
+    same_numbers(rt, 0, &[u64::from(ran.status)], &[u64::from(status)]);
+    same_text(rt, 0, &ran.written, text.as_bytes());
     Ok(())
 }
 
 // One actor alone has visits, so that there is one order.
 #[test]
 fn runs_of_one_actor(rt: HostRuntime) -> Result<(), Fail> {
-    let rows: [Row<'_>; 5] = [
-        (&["run"], "find 1 0 0\n", &[], &[], 0, FOUND),
-        (&["run"], "find 1 0 0\norder 0 1 0\n", &[], &[], 0, FOUND),
-        (&["run"], "move 0 2\n", &[], &[], 0, MOVED),
-        (&["run"], "", &[], &[], 0, "end 0\n"),
-        (&["replay"], "move 0 2\n", &[], &[], 0, MOVED),
-    ];
-    play(&rt, rt.alloc(), &rows)
+    let rows = "find 1 0 0\n>0 find 1 0 0 at 3 number 0 level 1 weight 3 first 0 last 3\n\
+        order 1 1 1 1\nend 4\n|\
+        find 1 0 0\norder 0 1 0\n>0 find 1 0 0 at 3 number 0 level 1 weight 3 first 0 last 3\n\
+        order 1 1 1 1\nend 4\n|\
+        move 0 2\n>0 move 0 1 3 2 weight 1 first 0 commit 3 last 5\norder 0 0 0 0 0 0\nend 6\n|\
+        >0 end 0\n|";
+    play_rows(&rt, rt.alloc(), &["run"], &[10], FOUR, rows)?;
+    ends(
+        &rt,
+        rt.alloc(),
+        run_of(&["replay"], b""),
+        "move 0 2\n",
+        0,
+        MOVED,
+    )
 }
 
-// What ends a run early: other words, a fault of the source or of the sink, a bad line.
+// Other words, and an input that is refused, end a run early.
+#[test]
+fn runs_that_are_refused(rt: HostRuntime) -> Result<(), Fail> {
+    let words = [&["run", "x"][..], &["Run"][..]];
+    'words: for words in words {
+        let run = Run {
+            failing_reads: &[0],
+            failing_writes: &[0],
+            ..run_of(words, b"")
+        };
+        ends(&rt, rt.alloc(), run, "find 1 0 0\n", 2, "")?;
+    }
+    let rows = "find 1 4 0\n>1 refused 9 unknown\n|\
+        find 0 1 0\n>1 refused 9 unknown\n|\
+        find 1 3>1 refused 9 form\n|\
+        order 9999999999999999999>1 refused 9 form\n|\
+        order 999999999999999999\n>1 refused 9 unknown\n|";
+    play_rows(&rt, rt.alloc(), &["run"], &[10], FOUR, rows)
+}
+
+// A run of a find, one of whose reads or writes fails.
+fn fails<R: Threads + Sync + Abort>(
+    rt: &R,
+    alloc: Global,
+    failing_reads: &[u64],
+    failing_writes: &[u64],
+    status: u8,
+    text: &str,
+) -> Result<(), Fail> {
+    let run = Run {
+        failing_reads,
+        failing_writes,
+        ..run_of(&["run"], b"")
+    };
+    ends(rt, alloc, run, "find 1 0 0\n", status, text)
+}
+
 #[test]
 fn runs_that_stop(rt: HostRuntime) -> Result<(), Fail> {
-    let rows: [Row<'_>; 11] = [
-        (&["run", "x"], "find 1 0 0\n", &[0], &[0], 2, ""),
-        (&["Run"], "find 1 0 0\n", &[0], &[0], 2, ""),
-        (&["run"], "find 1 0 0\n", &[0], &[0], 4, ""),
-        (&["run"], "find 1 0 0\n", &[6], &[], 4, ""),
-        (&["run"], "find 1 0 0\n", &[], &[0], 5, ""),
-        (
-            &["run"],
-            "find 1 0 0\n",
-            &[],
-            &[2],
-            5,
-            "find 1 0 0 at 3 numb",
-        ),
-        (&["run"], "find 1 4 0\n", &[], &[], 1, "refused 9 unknown\n"),
-        (&["run"], "find 0 1 0\n", &[], &[], 1, "refused 9 unknown\n"),
-        (&["run"], "find 1 3", &[], &[], 1, "refused 9 form\n"),
-        (
-            &["run"],
-            "order 9999999999999999999",
-            &[],
-            &[],
-            1,
-            "refused 9 form\n",
-        ),
-        (
-            &["run"],
-            "order 999999999999999999\n",
-            &[],
-            &[],
-            1,
-            "refused 9 unknown\n",
-        ),
-    ];
-    play(&rt, rt.alloc(), &rows)
+    fails(&rt, rt.alloc(), &[0], &[], 4, "")?;
+    fails(&rt, rt.alloc(), &[6], &[], 4, "")?;
+    fails(&rt, rt.alloc(), &[], &[0], 5, "")?;
+    fails(&rt, rt.alloc(), &[], &[2], 5, "find 1 0 0 at 3 numb")
 }
 
 // A run whose read fails: eight reads of 10 bytes take the input, and one more tells its end.
 fn read_fails<R: Threads + Sync + Abort>(rt: &R, alloc: Global, call: u64) -> Result<(), Fail> {
     let (status, text) = if call < 9 { (4, "") } else { (0, MOVED) };
-    play(
-        rt,
-        alloc,
-        &[(&["run"], "move 0 2\n", &[call], &[], status, text)],
-    )
+    let run = Run {
+        failing_reads: &[call],
+        ..run_of(&["run"], b"")
+    };
+    ends(rt, alloc, run, "move 0 2\n", status, text)
 }
 
 // A run whose write of 10 bytes fails: what was written before stays.

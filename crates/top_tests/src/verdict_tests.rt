@@ -1,6 +1,7 @@
 //! Checks of reports by the top call: worked rows, a report by hand whose rules are broken one by
 //! one, inputs that are refused, lengths at the limits, and faults of reading and writing.
-use crate::foreign_reports::{ANSWERS, Change, FORMS, INPUT, REPORT, TICKETS};
+use crate::foreign_reports::{ANSWERS, FORMS, INPUT, REPORT, TICKETS};
+use crate::rows::{parts_of, play_rows};
 use crate::runs::{FOUR, Lines, ROOM, Row, Run, ends, play, text_of};
 use std::alloc::Global;
 use std::process::Abort;
@@ -22,96 +23,49 @@ const END: &[u8] = b"order 0 0 0 0 0 0 1 1 1\nend 9\n";
 
 #[test]
 fn worked_verdicts(rt: HostRuntime) -> Result<(), Fail> {
-    let rows: [Row<'_>; 3] = [
-        (Lines(CALLS, FOUND, END, 1), 0, "yes\n"),
-        (Lines(CALLS, LATE, END, 1), 8, "no 1 tickets\n"),
-        (
-            Lines(CALLS, FOUND, b"order 0 0 0 0 0 0 1 1 1\n", 1),
-            8,
-            "no 4 form\n",
-        ),
-    ];
-    play(&rt, rt.alloc(), &["check"], &[1, 7, ROOM], &rows)
+    let rows = "report\nmove 0 1 3 2 weight 1 first 0 commit 3 last 5\n\
+        find 1 3 0 at 2 number 1 level 0 weight 5 first 6 last 8\norder 0 0 0 0 0 0 1 1 1\n\
+        end 9\n>0 yes\n|\
+        report\nmove 0 1 3 2 weight 1 first 0 commit 5 last 5\n\
+        find 1 3 0 at 2 number 1 level 0 weight 5 first 6 last 8\norder 0 0 0 0 0 0 1 1 1\n\
+        end 9\n>8 no 1 tickets\n|\
+        report\nmove 0 1 3 2 weight 1 first 0 commit 3 last 5\n\
+        find 1 3 0 at 2 number 1 level 0 weight 5 first 6 last 8\norder 0 0 0 0 0 0 1 1 1\n\
+        >8 no 4 form\n|";
+    play_rows(&rt, rt.alloc(), &["check"], &[1, 7, ROOM], CALLS, rows)
 }
 
 // The same with other lines of the find.
 #[test]
 fn worked_finds(rt: HostRuntime) -> Result<(), Fail> {
-    let rows: [Row<'_>; 4] = [
-        (
-            Lines(
-                CALLS,
-                MOVE,
-                b"find 1 3 0 at 3 number 1 level 0 weight 5 first 6 last 8\n\
-                order 0 0 0 0 0 0 1 1 1\nend 9\n",
-                1,
-            ),
-            8,
-            "no 2 place\n",
-        ),
-        (
-            Lines(
-                CALLS,
-                MOVE,
-                b"find 1 3 0 at 2 number 1 level 0 weight 144 first 6 last 8\n\
-                order 0 0 0 0 0 0 1 1 1\nend 9\n",
-                1,
-            ),
-            0,
-            "yes\n",
-        ),
-        (
-            Lines(
-                CALLS,
-                MOVE,
-                b"find 1 3 0 at 2 number 1 level 0 weight 145 first 6 last 8\n\
-                order 0 0 0 0 0 0 1 1 1\nend 9\n",
-                1,
-            ),
-            8,
-            "no 2 weight\n",
-        ),
-        (
-            Lines(
-                CALLS,
-                MOVE,
-                b"again 1 3 0 none weight 5 first 6 last 8\n\
-                order 0 0 0 0 0 0 1 1 1\nend 9\n",
-                1,
-            ),
-            8,
-            "no 2 again\n",
-        ),
-    ];
-    play(&rt, rt.alloc(), &["check"], &[ROOM], &rows)
+    let rows = "report\nmove 0 1 3 2 weight 1 first 0 commit 3 last 5\n\
+        find 1 3 0 at 3 number 1 level 0 weight 5 first 6 last 8\norder 0 0 0 0 0 0 1 1 1\n\
+        end 9\n>8 no 2 place\n|\
+        report\nmove 0 1 3 2 weight 1 first 0 commit 3 last 5\n\
+        find 1 3 0 at 2 number 1 level 0 weight 144 first 6 last 8\norder 0 0 0 0 0 0 1 1 1\n\
+        end 9\n>0 yes\n|\
+        report\nmove 0 1 3 2 weight 1 first 0 commit 3 last 5\n\
+        find 1 3 0 at 2 number 1 level 0 weight 145 first 6 last 8\norder 0 0 0 0 0 0 1 1 1\n\
+        end 9\n>8 no 2 weight\n|\
+        report\nmove 0 1 3 2 weight 1 first 0 commit 3 last 5\n\
+        again 1 3 0 none weight 5 first 6 last 8\norder 0 0 0 0 0 0 1 1 1\nend 9\n\
+        >8 no 2 again\n|";
+    play_rows(&rt, rt.alloc(), &["check"], &[ROOM], CALLS, rows)
 }
 
 // Where a text is cut, and input parts that are refused.
 #[test]
 fn cuts(rt: HostRuntime) -> Result<(), Fail> {
-    let rows: [Row<'_>; 8] = [
-        (Lines("", "", b"", 0), 1, "refused 0 unfinished\n"),
-        (
-            Lines("report\n", "", b"end 0\n", 1),
-            1,
-            "refused 0 unfinished\n",
-        ),
-        (Lines(FOUR, "", b"", 0), 8, "no 1 form\n"),
-        (Lines(FOUR, " \treport \r\n", b"end 0\n", 1), 0, "yes\n"),
-        (
-            Lines(FOUR, "report\r\r\n", b"end 0\n", 1),
-            1,
-            "refused 9 form\n",
-        ),
-        (Lines(FOUR, "report\n", b"report\n", 1), 8, "no 1 form\n"),
-        (Lines(FOUR, "report", b"", 0), 8, "no 1 form\n"),
-        (
-            Lines(FOUR, "edge 0 1 1\nreport\n", b"end 0\n", 1),
-            1,
-            "refused 9 form\n",
-        ),
-    ];
-    play(&rt, rt.alloc(), &["check"], &[1, 7, ROOM], &rows)
+    let whole = ">1 refused 0 unfinished\n|\
+        report\nend 0\n>1 refused 0 unfinished\n|";
+    play_rows(&rt, rt.alloc(), &["check"], &[1, 7, ROOM], "", whole)?;
+    let rows = ">8 no 1 form\n|\
+        \x20\treport \r\nend 0\n>0 yes\n|\
+        report\r\r\nend 0\n>1 refused 9 form\n|\
+        report\nreport\n>8 no 1 form\n|\
+        report>8 no 1 form\n|\
+        edge 0 1 1\nreport\nend 0\n>1 refused 9 form\n|";
+    play_rows(&rt, rt.alloc(), &["check"], &[1, 7, ROOM], FOUR, rows)
 }
 
 // Under the first format a subscriber is never off: such a line of a find has a form.
@@ -132,11 +86,11 @@ fn never_off(rt: HostRuntime) -> Result<(), Fail> {
 }
 
 // The input and its report, but for what stands at one place.
-fn changed(alloc: Global, place: usize, line: &str) -> Result<Vec<u8>, Fail> {
+fn changed(alloc: Global, place: u32, line: &str) -> Result<Vec<u8>, Fail> {
     let mut text = Vec::from_slice(alloc, INPUT.as_bytes())?;
     text.extend_from_slice(b"report\n")?;
     for index in 0..REPORT.len() {
-        let kept = if index + 1 == place {
+        let kept = if index + 1 == place as usize {
             line
         } else {
             REPORT[index]
@@ -168,10 +122,12 @@ fn told<R: Threads + Sync + Abort>(
 fn play_changes<R: Threads + Sync + Abort>(
     rt: &R,
     alloc: Global,
-    changes: &[Change<'_>],
+    changes: &str,
 ) -> Result<(), Fail> {
-    for at in 0..changes.len() {
-        let (place, line, verdict) = changes[at];
+    for (at, change) in changes.split_terminator('|').enumerate() {
+        let Some((line, place, verdict)) = parts_of(change) else {
+            return Err("a change is a line, its place and a verdict".into());
+        };
         let text = changed(alloc, place, line)?;
         told(rt, alloc, at, &text, verdict)?;
     }
@@ -180,17 +136,17 @@ fn play_changes<R: Threads + Sync + Abort>(
 
 #[test]
 fn broken_forms(rt: HostRuntime) -> Result<(), Fail> {
-    play_changes(&rt, rt.alloc(), &FORMS)
+    play_changes(&rt, rt.alloc(), FORMS)
 }
 
 #[test]
 fn broken_tickets(rt: HostRuntime) -> Result<(), Fail> {
-    play_changes(&rt, rt.alloc(), &TICKETS)
+    play_changes(&rt, rt.alloc(), TICKETS)
 }
 
 #[test]
 fn broken_answers(rt: HostRuntime) -> Result<(), Fail> {
-    play_changes(&rt, rt.alloc(), &ANSWERS)
+    play_changes(&rt, rt.alloc(), ANSWERS)
 }
 
 // An input part may have 4,194,304 bytes and no more.

@@ -1,12 +1,17 @@
 //! Visits, turns, notes and the end of a tracker over the line 0 - 1 - 2 - 3 of unit weights, with
 //! the subscriber at node 3. Passes 0, 1 and 2 are those of the subscriber and of two callers.
 
+ghost use Rattle.std.specs.Prelude.{◌≡◌};
+ghost use Rattle.region_plan.specs.Plan.{nodes_of};
+
 use crate::parties::{Parties, Task, close, open};
 use crate::scripts::play_on_line;
 use crate::steps::{Call, Seen, Step};
 use directory::Found;
 use entry_word::{PresenceMark, pack_mark};
+use region_plan::Plan;
 use station::{CloseCause, Note, Pass, Tracker};
+use std::alloc::Global;
 use std::test::Fail;
 use test_networks::line_of_four;
 
@@ -119,10 +124,11 @@ fn a_handset_goes_on(rt: HostRuntime) -> Result<(), Fail> {
     )
 }
 
-#[test]
-fn closed_before_any_visit(rt: HostRuntime) -> Result<(), Fail> {
-    let (plan, _) = line_of_four(rt.alloc())?;
-    let (tracker, parties) = open(rt.alloc(), &plan, 3, Task::Rest, 9)?;
+// Closes a tracker before any visit: what its passes tell, why the first try fails, and the order.
+fn close_at_once(alloc: Global, plan: &Plan) -> Result<([u64; 4], CloseCause, Vec<u32>), Fail>
+    requires { nodes_of plan.now ≡ 4 }
+{
+    let (tracker, parties) = open(alloc, plan, 3, Task::Rest, 9)?;
     let Parties {
         mut own,
         caller,
@@ -136,7 +142,14 @@ fn closed_before_any_visit(rt: HostRuntime) -> Result<(), Fail> {
         own.seen(),
         own.spare(),
     ];
-    let (cause, order) = close(rt.alloc(), tracker, other, caller, own)?;
+    let (cause, order) = close(alloc, tracker, other, caller, own)?;
+    Ok((counts, cause, order))
+}
+
+#[test]
+fn closed_before_any_visit(rt: HostRuntime) -> Result<(), Fail> {
+    let (plan, _) = line_of_four(rt.alloc())?;
+    let (counts, cause, order) = close_at_once(rt.alloc(), &plan)?;
     assert!(rt; cause == CloseCause::Missing { actor: 0 });
     assert!(rt; order.is_empty() && counts == [0, 2, 0, 9]);
     Ok(())
