@@ -1,7 +1,6 @@
 -- A subscriber's next step, as the code reads it.
-use Rattle.std.proofs.Common.{◌≡◌, ℕ, ◌-◌, ◌<◌, ◌≤◌, ◌^◌, Bool, true, List, [], ◌∷◌, ◌++◌, length, get_or, sym, ap, ◌∙◌, subst, arith, Vec, Global}
-use Rattle.std.specs.Prelude.{Option, Some, None, Result, Ok, Err, OnErr, OnSome, not, slice_get}
-use Rattle.std.specs.Option.{is_some}
+use Rattle.std.proofs.Common.{◌≡◌, ℕ, ◌-◌, ◌<◌, ◌≤◌, ◌^◌, true, List, [], ◌∷◌, ◌++◌, length, get_or, refl, sym, ap, ◌∙◌, subst, arith, Vec, Global}
+use Rattle.std.specs.Prelude.{Option, Some, None, Result, Ok, Err, OnErr, OnSome, slice_get}
 use Rattle.std.specs.Result.{is_err}
 use Rattle.std.proofs.lemmas.List.{length-map}
 use Rattle.entry_word.specs.declared.visit.Visit.{Visit}
@@ -13,19 +12,22 @@ use Rattle.net_reader.specs.declared.input.Input.{Input}
 use Rattle.net_reader.specs.declared.said.Call.{Call}
 use Rattle.net_reader.specs.Seen.{seen_input}
 use Rattle.region_plan.specs.Plan.{PlanData}
+use Rattle.handset.specs.Kept.{HandsetData}
 use Rattle.handset.specs.Progress.{due}
-use Rattle.machine.specs.declared.subscriber.Subscriber.{Subscriber}
+use Rattle.handset.specs.Stands.{StandsForSteps}
 use Rattle.scripts.specs.Scripts.{scripts_of, step_of}
 use Rattle.scripts.specs.Laws.{ScriptsAreValid}
+use Rattle.machine.specs.declared.ahead.Ahead.{Ahead}
+use Rattle.machine.specs.Owed.{HasNone}
 use Rattle.machine.specs.Stands.{BelongTogether, setting_over}
-use Rattle.machine.specs.Subscribers.{IsSubscriber, begun_steps}
+use Rattle.machine.specs.Subscribers.{IsShown, Shown, begun_steps}
 use Rattle.machine.proofs.Looking.{script-is}
 use Rattle.scripts.specs.ScriptLaws.{calls-few, steps-are}
 use Rattle.std.proofs.lemmas.List.{get_or_default}
 use Rattle.machine.proofs.Rests.{Begins, begins, first-visit}
 
 -- what is known where a step is left
-pub record Ready (input : Input) (plan : PlanData) (history : History) (sub : ℕ) (old : Subscriber) (script : List Call)
+pub record Ready (input : Input) (plan : PlanData) (history : History) (sub : ℕ) (old : Shown) (script : List Call)
     (place : ℕ) (default : Call) : Type 0 where
   pub begin : Begins (seen_input input) plan history sub old (get_or script place default)
   pub short : place < length script
@@ -43,10 +45,10 @@ script-of input plan distances sub held script together low reads same =
 
 pub ready : ScriptsAreValid → (input : Input) (plan : PlanData) (distances : DistanceTable) (history : History)
     (sub : ℕ)
-    (old : Subscriber)
+    (old : Shown)
     (held : Vec Call Global) (script : List Call) (place : ℕ) (default : Call)
     → BelongTogether (seen_input input) plan distances → sub < length input.homes.items
-    → IsSubscriber (seen_input input) plan history sub old
+    → IsShown (seen_input input) plan history sub old
     → due (setting_over (seen_input input) plan) old.handset ≡ None
     → held ≡ get_or input.scripts.items sub held → script ≡ held.items → place ≡ length old.lines.items
     → (place ≡ length script → ⊥) → Ready input plan history sub old script place default
@@ -80,13 +82,10 @@ pub on-err : {A E : Type 0} (P : Type 0) (r : Result A E) → is_err r ≡ true 
 on-err P (Ok x) e h = cc
 on-err P (Err x) e h = h
 
-pub never-none : {A : Type 0} (r : Option A) (x : A) (b : Bool) → r ≡ Some x → is_some r ≡ not b → b ≡ true → ⊥
-never-none r x b e h t = cc
-
 -- the first visit of the step that is begun
-pub its-visit : (input : Input) (plan : PlanData) (history : History) (sub : ℕ) (old : Subscriber) (script : List Call)
+pub its-visit : (input : Input) (plan : PlanData) (history : History) (sub : ℕ) (old : Shown) (script : List Call)
     (place subject : ℕ) (default : Call) (result : Option Visit)
-    → IsSubscriber (seen_input input) plan history sub old
+    → IsShown (seen_input input) plan history sub old
     → Ready input plan history sub old script place default → subject ≡ old.handset.sub
     → result ≡ slice_get (visits (setting_over (seen_input input) plan) subject
     (begun_steps (seen_input input) sub old ++ step_of (get_or script place default) ∷ [])) (length (own sub history))
@@ -100,3 +99,25 @@ its-visit input plan history sub old script place subject default result its at 
           (begun_steps (seen_input input) sub old ++ step_of (get_or script place default) ∷ []))
           (length (own sub history))) (same ∙ its.its) ∙ first.1),
     )
+
+-- so a write of it is ahead
+pub first-ahead : (input : Input) (plan : PlanData) (history : History) (sub : ℕ) (old : Shown) (script : List Call)
+    (place : ℕ) (default : Call) (begun : HandsetData) (ahead : List Ahead)
+    → IsShown (seen_input input) plan history sub old → Ready input plan history sub old script place default
+    → begun.sub ≡ old.handset.sub
+    → StandsForSteps (setting_over (seen_input input) plan) begun
+    (begun_steps (seen_input input) sub old ++ step_of (get_or script place default) ∷ []) (length (own sub history))
+    → (ahead ≡ [] → HasNone plan begun) → 0 < length ahead
+first-ahead input plan history sub old script place default begun [] its at same stands rests =
+    let found = its-visit input plan history sub old script place begun.sub default
+    (slice_get (visits (setting_over (seen_input input) plan) begun.sub
+    (begun_steps (seen_input input) sub old ++ step_of (get_or script place default) ∷ [])) (length (own sub history)))
+    its at same refl in
+    absurd (never-both found.1 ((rests refl).next (seen_input input).homes
+    (begun_steps (seen_input input) sub old ++ step_of (get_or script place default) ∷ []) (length (own sub history))
+    stands))
+  where
+    never-both : {r : Option Visit} {v : Visit} → r ≡ Some v → r ≡ None → ⊥
+    never-both h e = cc
+first-ahead input plan history sub old script place default begun (write ∷ writes) its at same stands rests =
+    omega arith

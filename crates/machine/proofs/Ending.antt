@@ -21,7 +21,7 @@ use Rattle.machine.specs.declared.subscriber.Subscriber.{Subscriber}
 use Rattle.machine.specs.declared.machine.Machine.{Machine}
 use Rattle.scripts.specs.Scripts.{scripts_of, step_of, find_of}
 use Rattle.machine.specs.Stands.{setting_over}
-use Rattle.machine.specs.Subscribers.{IsSubscriber, begun_steps}
+use Rattle.machine.specs.Subscribers.{IsSubscriber, begun_steps, shown_at}
 use Rattle.machine.specs.Machines.{HasHistory, input_at, scripts_at, setting_at}
 use Rattle.scripts.specs.ScriptLaws.{finds-are, steps-are}
 use Rattle.machine.specs.ScriptVisits.{some-write}
@@ -55,7 +55,7 @@ pub lines-done : (input : Contents) (plan : PlanData) (history : History) (sub :
     → IsDone (setting_over input plan) (scripts_of input) history sub
     → subscriber.lines.items ≡ sub_lines (setting_over input plan) (scripts_of input) history sub
 lines-done input plan history sub subscriber low is done =
-    is.lines ∙ ap
+    is.shown.lines ∙ ap
     (λ steps. step_lines (setting_over input plan) sub (course_at (start (setting_over input plan) sub)) steps
     (tickets sub history)) all_begun
   where
@@ -63,7 +63,7 @@ lines-done input plan history sub subscriber low is done =
     script = steps_of (scripts_of input) sub
 
     begun : List Step
-    begun = begun_steps input sub subscriber
+    begun = begun_steps input sub (shown_at is.handset subscriber)
 
     left : List Step
     left = drop (length subscriber.lines.items) script
@@ -80,7 +80,8 @@ lines-done input plan history sub subscriber low is done =
 
     few : length (own sub history) ≤ length (visits (setting_over input plan) sub begun)
     few = subst
-        (λ s. length (own sub history) ≤ length (visits (setting_over input plan) s begun)) is.its is.handset.few
+        (λ s. length (own sub history) ≤ length (visits (setting_over input plan) s begun)) is.shown.its
+        is.shown.handset.few
 
     nothing : left ≡ []
     nothing = none-left (setting_over input plan) course begun left (length (own sub history))
@@ -186,7 +187,7 @@ room-for_both machine history is =
       flat-few (λ (one : Subscriber). one.lines.items) machine.subscribers.items input.scripts
           (λ s d h. omega (
             arith,
-            (is.subscribers s d (omega (arith, h, is.subscribers_count))).few,
+            (is.subscribers s d (omega (arith, h, is.subscribers_count))).shown.few,
             ap length (steps-are input s is.together.valid (omega (arith, h, is.subscribers_count))),
             length-map (get_or input.scripts s []) step_of,
           ))

@@ -16,3 +16,6 @@ mod Playing
 mod Ending
 mod RightOutcome
 mod MovedEntries
+mod Owing
+mod Putting
+mod OwnCells

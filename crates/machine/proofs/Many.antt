@@ -5,7 +5,7 @@ use Rattle.std.proofs.lemmas.List.{get_or-set_same, length-set, length_push}
 use Rattle.entry_word.specs.Marks.{MarksUnpack}
 use Rattle.entry_word.specs.declared.visit.Visit.{Visit}
 use Rattle.directory.specs.Histories.{History, own, tickets}
-use Rattle.directory.specs.Courses.{Step, course_at}
+use Rattle.directory.specs.Courses.{course_at}
 use Rattle.directory.specs.Orders.{Scripts, next, steps_of}
 use Rattle.directory.specs.Outcomes.{step_lines}
 use Rattle.directory.specs.Settings.{Setting, start}
@@ -18,14 +18,13 @@ use Rattle.handset.specs.Kept.{GoesWith, HandsetData}
 use Rattle.handset.specs.Stands.{StandsForSteps}
 use Rattle.net_reader.specs.Input.{Contents}
 use Rattle.region_plan.specs.Plan.{PlanData}
-use Rattle.region_plan.specs.Settings.{setting_of}
 use Rattle.scripts.specs.Laws.{ScriptsAreValid}
 use Rattle.scripts.specs.Scripts.{scripts_of}
-use Rattle.visit_log.specs.Cells.{CellData}
+use Rattle.visit_log.specs.Cells.{CellData, GoWith, Hold}
 use Rattle.machine.specs.declared.subscriber.Subscriber.{Subscriber}
-use Rattle.machine.specs.declared.turn.Turn.TheVariants.{Visited}
 use Rattle.machine.specs.Stands.{AreMade, BelongTogether, Sees, setting_over}
-use Rattle.machine.specs.Subscribers.{HavePut, IsSubscriber, MakesTurns, MayTakeTurn, TakesTurn, begun_steps, line_after}
+use Rattle.machine.specs.Subscribers.{IsShown, IsSubscriber, MakesTurns, MayTakeTurn, Shown, begun_steps, line_after}
+use Rattle.machine.specs.Owed.{HavePut}
 use Rattle.machine.proofs.Making.{made-count, made-joined, made-none}
 use Rattle.machine.proofs.Written.{under-way, written-more, written-on}
 
@@ -42,7 +41,7 @@ lines-count lines line ticket (suc count) = length-set lines (length lines - 1)
     (line_after (get_or lines (length lines - 1) line) false (ticket + count))
 
 -- and the subscriber
-abbrev pub behind : Subscriber → HandsetData → Done → ℕ → ℕ → Subscriber
+abbrev pub behind : Shown → HandsetData → Done → ℕ → ℕ → Shown
 behind old handset line ticket count =
     record old {
       handset = handset;
@@ -53,9 +52,9 @@ behind old handset line ticket count =
     }
 
 -- a subscriber by its handset, its lines and the room for them
-its-same : (input : Contents) (plan : PlanData) (history : History) (sub : ℕ) (one other : Subscriber)
-    → IsSubscriber input plan history sub one → other.handset ≡ one.handset → other.lines.items ≡ one.lines.items
-    → vec_capacity one.lines ≤ vec_capacity other.lines → IsSubscriber input plan history sub other
+its-same : (input : Contents) (plan : PlanData) (history : History) (sub : ℕ) (one other : Shown)
+    → IsShown input plan history sub one → other.handset ≡ one.handset → other.lines.items ≡ one.lines.items
+    → vec_capacity one.lines ≤ vec_capacity other.lines → IsShown input plan history sub other
 its-same input plan history sub one other its handset lines room =
     let begun : begun_steps input sub one ≡ begun_steps input sub other =
     ap (λ (ls : List Done). take (length ls) (steps_of (scripts_of input) sub)) (sym lines) in
@@ -75,11 +74,11 @@ its-same input plan history sub one other its handset lines room =
 
 -- and so are many turns of it
 pub made-same : (input : Contents) (plan : PlanData) (cells : CellData) (history : History) (sub count : ℕ)
-    (one other : Subscriber)
-    → AreMade input plan cells history sub count (λ later. IsSubscriber input plan later sub one)
+    (one other : Shown)
+    → AreMade input plan cells history sub count (λ later. IsShown input plan later sub one)
     → other.handset ≡ one.handset → other.lines.items ≡ one.lines.items
     → vec_capacity one.lines ≤ vec_capacity other.lines
-    → AreMade input plan cells history sub count (λ later. IsSubscriber input plan later sub other)
+    → AreMade input plan cells history sub count (λ later. IsShown input plan later sub other)
 made-same input plan cells history sub count one other made handset lines room =
     record {
       visits = made.visits;
@@ -123,60 +122,33 @@ lines-more lines line ticket (suc count) some =
     ∙ (ap (set (set lines last before) last) (later-line (get_or lines last line) (ticket + count) (ticket + suc count))
     ∙ set-twice lines last before (line_after (get_or lines last line) false (ticket + suc count)))))
 
--- the visit of the first of them
-first-put : (plan : PlanData) (old : HandsetData) (cells : CellData) (count : ℕ) (new : HandsetData)
-    (after : CellData) → 0 < count → HavePut plan old cells count new after
-    → (visit : Visit) × ((starts : List ℕ) (steps : List Step) (made : ℕ)
-    → StandsForSteps (setting_of plan starts) old steps made
-    → slice_get (visits (setting_of plan starts) old.sub steps) made ≡ Some visit)
-first-put plan old cells zero new after some puts = absurd (omega (arith, some))
-first-put plan old cells (suc zero) new after some (handset, between, rest, entry) = (
-  entry.put.visit,
-  λ starts steps made stands.
-      ap (λ s. slice_get (visits (setting_of plan starts) s steps) made) (ap (λ (h : HandsetData). h.sub) (sym rest.0))
-      ∙ entry.put.next starts steps made
-      (subst (λ h. StandsForSteps (setting_of plan starts) h steps made) (sym rest.0) stands),
-)
-first-put plan old cells (suc (suc count)) new after some (handset, between, rest, entry) =
-    first-put plan old cells (suc count) handset between (omega arith) rest
-
--- a subscriber that makes some of them has a step under way
-pub some-line : MarksUnpack → TicketsAreOwn → ScriptsAreValid → (input : Contents) (plan : PlanData)
-    (distances : DistanceTable) (history : History) (sub : ℕ) (old : Subscriber) → BelongTogether input plan distances
-    → sub < length input.homes → IsSubscriber input plan history sub old → (cells : CellData) (count : ℕ)
-    (handset : HandsetData) (after : CellData) → 0 < count → HavePut plan old.handset cells count handset after
-    → 0 < length old.lines.items
-some-line unpack tell scripts input plan distances history sub old together low its cells count handset after some
-    puts =
-    let put = first-put plan old.handset cells count handset after some puts in
-    let way = under-way unpack tell scripts input plan distances history sub old put.0 together low its
-    (ap (λ s. slice_get (visits (setting_over input plan) s (begun_steps input sub old)) (length (own sub history)))
-    (sym its.its) ∙ put.1 input.homes (begun_steps input sub old) (length (own sub history)) its.handset) in
-    omega (arith, ap length way.are, length_push way.rows way.row)
-
 -- as many turns make them
 pub written-many : MarksUnpack → OwnGrow → TicketsGrow → TicketsAreOwn → ScriptsAreValid → MoreIsPlayed
     → ((setting : Setting) (scripts : Scripts) (history : History) (actor : ℕ) (visit : Visit)
     → next setting scripts history actor ≡ Some visit → visit.actor ≡ actor)
     → (input : Contents) (plan : PlanData) (distances : DistanceTable) (cells : CellData) (history : History)
-    (ticket sub : ℕ) (old : Subscriber) (line : Done)
+    (ticket sub : ℕ) (old : Shown) (line : Done)
     → BelongTogether input plan distances → sub < length input.homes → length history ≡ ticket
-    → Sees input plan cells history → IsSubscriber input plan history sub old
+    → Sees input plan cells history → IsShown input plan history sub old
     → (count : ℕ) (handset : HandsetData) (after : CellData) → HavePut plan old.handset cells count handset after
     → AreMade input plan after history sub count
-    (λ later. IsSubscriber input plan later sub (behind old handset line ticket count))
+    (λ later. IsShown input plan later sub (behind old handset line ticket count))
 written-many unpack own_law ticket_law tell scripts more mine input plan distances cells history ticket sub old line
     together low place sees its zero handset after puts =
     made-same input plan after history sub 0 old (behind old handset line ticket 0)
-    (subst (λ k. AreMade input plan k history sub 0 (λ later. IsSubscriber input plan later sub old)) (sym puts.1)
-    (made-none input plan cells history sub (λ later. IsSubscriber input plan later sub old) sees its))
+    (subst (λ k. AreMade input plan k history sub 0 (λ later. IsShown input plan later sub old)) (sym puts.1)
+    (made-none input plan cells history sub (λ later. IsShown input plan later sub old) sees its))
     puts.0 refl (omega arith)
 written-many unpack own_law ticket_law tell scripts more mine input plan distances cells history ticket sub old line
     together low place sees its (suc count) handset after (before, between, rest, entry) =
     let one : count + 1 ≡ suc count = omega arith in
-    let mid : Subscriber = behind old before line ticket count in
-    let new : Subscriber = behind old handset line ticket (suc count) in
-    let turn : TakesTurn input plan (ticket + count) sub mid new between after Visited =
+    let mid : Shown = behind old before line ticket count in
+    let new : Shown = behind old handset line ticket (suc count) in
+    let Mid : History → Type 0 = λ later. IsShown input plan later sub mid in
+    let New : History → Type 0 = λ later. IsShown input plan later sub new in
+    let turn : (later : History) → Sees input plan between later → length later ≡ ticket + count → Mid later
+    → (v : Visit) × (next (setting_over input plan) (scripts_of input) later sub ≡ Some v)
+    × New (later ++ v ∷ []) × GoWith plan after × Hold plan input.homes after (later ++ v ∷ []) =
     λ later sight at stands.
     let here = entry.put.next input.homes (begun_steps input sub mid) (length (own sub later)) stands.handset in
     let way = under-way unpack tell scripts input plan distances later sub mid entry.put.visit together low stands
@@ -192,8 +164,8 @@ written-many unpack own_law ticket_law tell scripts more mine input plan distanc
     (ap (λ b. line_after (get_or (lines_behind old.lines.items line ticket count)
     (length (lines_behind old.lines.items line ticket count) - 1) line) b (ticket + count)) (sym entry.plain))
     entry.over (entry.put.hold input.homes later sight.hold) in
-    subst (λ n. AreMade input plan after history sub n (λ later. IsSubscriber input plan later sub new)) one
-    (written-more more mine input plan between after history ticket sub count mid new place
+    subst (λ n. AreMade input plan after history sub n (λ later. IsShown input plan later sub new)) one
+    (written-more more mine input plan between after history ticket sub count Mid New place
     (written-many unpack own_law ticket_law tell scripts more mine input plan distances cells history ticket sub old
     line together low place sees its count before between rest) turn)
   where
@@ -242,16 +214,15 @@ may-turn input plan cells after ticket sub count old mid may then =
       made.its,
     )
 
--- no writes
-pub none-written : (input : Contents) (plan : PlanData) (cells after : CellData) (history : History) (sub : ℕ)
-    (old : Subscriber) (handset : HandsetData) (count : ℕ) → count ≡ 0 → Sees input plan cells history
-    → IsSubscriber input plan history sub old → HavePut plan old.handset cells count handset after
-    → AreMade input plan after history sub count (λ later. IsSubscriber input plan later sub
-    (record old { handset = handset }))
-none-written input plan cells after history sub old handset zero none sees its puts =
-    made-same input plan after history sub 0 old (record old { handset = handset })
-    (subst (λ k. AreMade input plan k history sub 0 (λ later. IsSubscriber input plan later sub old)) (sym puts.1)
-    (made-none input plan cells history sub (λ later. IsSubscriber input plan later sub old) sees its))
-    puts.0 refl (omega arith)
-none-written input plan cells after history sub old handset (suc count) none sees its puts = absurd
-    (omega (arith, none))
+-- what is known of the history behind many turns, by what is known else
+pub made-so : (input : Contents) (plan : PlanData) (cells : CellData) (history : History) (sub count : ℕ)
+    (First Then : History → Type 0) → AreMade input plan cells history sub count First
+    → ((later : History) → First later → Then later) → AreMade input plan cells history sub count Then
+made-so input plan cells history sub count First Then made so =
+    record {
+      visits = made.visits;
+      turns = made.turns;
+      actors = made.actors;
+      sees = made.sees;
+      its = so (history ++ made.visits) made.its;
+    }

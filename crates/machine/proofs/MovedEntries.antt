@@ -4,9 +4,10 @@ use Rattle.std.proofs.lemmas.Bool.{lt-ltb}
 use Rattle.entry_word.specs.Addresses.{address_word}
 use Rattle.region_plan.specs.Plan.{PlanData, home}
 use Rattle.region_plan.specs.Settings.{setting_of}
-use Rattle.handset.specs.Entries.{entry_write}
+use Rattle.handset.specs.Entries.{at_entry, entry_write, stage_at}
 use Rattle.handset.specs.Kept.{HandsetData}
 use Rattle.handset.specs.Progress.{first_with}
+use Rattle.handset.specs.declared.entries.EntryStage.{EntryStage}
 use Rattle.handset.specs.declared.entries.EntryStage.TheVariants as entries
 
 -- the next old level from one on is this one
@@ -48,3 +49,8 @@ renewal-at plan handset at cluster word below home_is word_is =
       word = address_word (Some (record { number = handset.last.number; node = handset.last.to }));
       next = entries.Renewing (suc at);
     })) None) (lt-ltb at handset.last.renewed below)))
+
+-- a handset that is at an entry
+pub at-stage : (handset : HandsetData) (at : EntryStage) → handset.stage ≡ stage_at at
+    → handset ≡ at_entry handset at
+at-stage handset at is = ap (λ s. record handset { stage = s }) is

@@ -23,21 +23,22 @@ use Rattle.machine.specs.declared.subscriber.Subscriber.{Subscriber}
 use Rattle.scripts.specs.Scripts.{find_of, scripts_of, step_of}
 use Rattle.machine.specs.Stands.{BeginInside, BeginsInside, IsWalking, setting_over}
 use Rattle.machine.specs.Callers.{IsCaller}
-use Rattle.machine.specs.Subscribers.{IsSubscriber, begun_steps}
+use Rattle.machine.specs.Owed.{Owes}
+use Rattle.machine.specs.Subscribers.{IsShown, IsSubscriber, Shown, begun_steps, shown_at}
 use Rattle.machine.proofs.Looked.{by-parts}
 use Rattle.scripts.specs.ScriptLaws.{finds-are, steps-are}
 
-pub sub-opens : (input : Contents) (plan : PlanData) (sub : ℕ) (subscriber : Subscriber) → IsValid input
-    → sub < length input.homes → StandsForSteps (setting_over input plan) subscriber.handset [] 0
-    → GoesWith plan subscriber.handset → subscriber.handset.sub ≡ sub → subscriber.lines.items ≡ []
-    → length (get_or input.scripts sub []) ≤ vec_capacity subscriber.lines
-    → IsSubscriber input plan [] sub subscriber
+shown-opens : (input : Contents) (plan : PlanData) (sub : ℕ) (shown : Shown) → IsValid input
+    → sub < length input.homes → StandsForSteps (setting_over input plan) shown.handset [] 0
+    → GoesWith plan shown.handset → shown.handset.sub ≡ sub → shown.lines.items ≡ []
+    → length (get_or input.scripts sub []) ≤ vec_capacity shown.lines
+    → IsShown input plan [] sub shown
 unfolding step_lines
-sub-opens input plan sub subscriber valid low stands goes its none room =
-    let begun : begun_steps input sub subscriber ≡ [] =
+shown-opens input plan sub shown valid low stands goes its none room =
+    let begun : begun_steps input sub shown ≡ [] =
     ap (λ n. take n (steps_of (scripts_of input) sub)) (ap length none) in
     record {
-      handset = subst (λ ss. StandsForSteps (setting_over input plan) subscriber.handset ss 0) (sym begun) stands;
+      handset = subst (λ ss. StandsForSteps (setting_over input plan) shown.handset ss 0) (sym begun) stands;
       goes = goes;
       its = its;
       lines = none
@@ -47,6 +48,27 @@ sub-opens input plan sub subscriber valid low stands goes its none room =
       under = λ before step split. absurd (omega (arith, ap length (sym begun ∙ split), length_push before step));
       room = omega
           (arith, room, ap length (steps-are input sub valid low), length-map (get_or input.scripts sub []) step_of);
+    }
+
+pub sub-opens : (input : Contents) (plan : PlanData) (sub : ℕ) (subscriber : Subscriber) → IsValid input
+    → sub < length input.homes → StandsForSteps (setting_over input plan) subscriber.handset [] 0
+    → GoesWith plan subscriber.handset → subscriber.handset.sub ≡ sub → subscriber.ahead.items ≡ []
+    → subscriber.made ≡ 0 → 1 ≤ vec_capacity subscriber.ahead → subscriber.lines.items ≡ []
+    → length (get_or input.scripts sub []) ≤ vec_capacity subscriber.lines
+    → IsSubscriber input plan [] sub subscriber
+sub-opens input plan sub subscriber valid low stands goes its empty none space no_lines room =
+    record {
+      handset = subscriber.handset;
+      shown = shown-opens input plan sub (shown_at subscriber.handset subscriber) valid low stands goes its no_lines
+          room;
+      owes = subst (λ writes. Owes plan (length input.homes) subscriber.handset subscriber.handset
+          (drop subscriber.made writes)) (sym empty)
+          (subst (λ n. Owes plan (length input.homes) subscriber.handset subscriber.handset (drop n []))
+          (sym none) refl);
+      goes = goes;
+      its = its;
+      within = omega (arith, none);
+      space = space;
     }
 
 pub caller-opens : (input : Contents) (plan : PlanData) (actor : ℕ) (caller : Caller) (script : List Call)

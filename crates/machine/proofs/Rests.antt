@@ -24,12 +24,11 @@ use Rattle.handset.specs.Kept.{GoesWith, HandsetData}
 use Rattle.handset.specs.Progress.{due}
 use Rattle.handset.specs.Stands.{StandsForSteps}
 use Rattle.visit_log.specs.Cells.{CellData, GoWith, Hold}
-use Rattle.machine.specs.declared.subscriber.Subscriber.{Subscriber}
 use Rattle.scripts.specs.Scripts.{scripts_of, step_of}
 use Rattle.scripts.specs.Laws.{ScriptsAreValid}
 use Rattle.machine.specs.RestLaws.{IsStep, course-steps, may-begin, rests}
 use Rattle.machine.specs.Stands.{BelongTogether, setting_over}
-use Rattle.machine.specs.Subscribers.{IsSubscriber, MayBegin, begun_line, begun_steps}
+use Rattle.machine.specs.Subscribers.{IsShown, MayBegin, Shown, begun_line, begun_steps}
 use Rattle.scripts.specs.ScriptLaws.{steps-are}
 use Rattle.machine.specs.ScriptVisits.{some-write, step-at}
 use Rattle.machine.proofs.Steps.{lines-partial}
@@ -39,7 +38,7 @@ use Rattle.directory.specs.Statements.{TicketsGrow, OwnGrow, TicketsAreOwn}
 use Rattle.handset.specs.StageLaws.{IsRestAfter}
 
 -- the call that a subscriber at rest begins
-pub record Begins (input : Contents) (plan : PlanData) (history : History) (sub : ℕ) (old : Subscriber)
+pub record Begins (input : Contents) (plan : PlanData) (history : History) (sub : ℕ) (old : Shown)
     (call : Call) : Type 0 where
   pub may : MayBegin plan old.handset call
   pub line : (ticket : ℕ) → begun_line plan old.handset call ticket
@@ -99,8 +98,8 @@ first-line plan starts handset steps made sub call ticket at same its =
         ∙ swap switch_on)
 
 pub begins : ScriptsAreValid → (input : Contents) (plan : PlanData) (distances : DistanceTable) (history : History)
-    (sub : ℕ) (old : Subscriber) (call : Call)
-    → BelongTogether input plan distances → sub < length input.homes → IsSubscriber input plan history sub old
+    (sub : ℕ) (old : Shown) (call : Call)
+    → BelongTogether input plan distances → sub < length input.homes → IsShown input plan history sub old
     → due (setting_over input plan) old.handset ≡ None → length old.lines.items < length (get_or input.scripts sub [])
     → call ≡ get_or (get_or input.scripts sub []) (length old.lines.items) call
     → Begins input plan history sub old call
@@ -135,8 +134,8 @@ begins scripts input plan distances history sub old call together low its none s
     }
 
 -- nothing is left where each step is done
-pub all-written : (input : Contents) (plan : PlanData) (history : History) (sub : ℕ) (old : Subscriber)
-    → IsValid input → sub < length input.homes → IsSubscriber input plan history sub old
+pub all-written : (input : Contents) (plan : PlanData) (history : History) (sub : ℕ) (old : Shown)
+    → IsValid input → sub < length input.homes → IsShown input plan history sub old
     → due (setting_over input plan) old.handset ≡ None → length old.lines.items ≡ length (get_or input.scripts sub [])
     → next (setting_over input plan) (scripts_of input) history sub ≡ None
 all-written input plan history sub old valid low its none same =
@@ -188,9 +187,9 @@ first-visit setting sub n steps step all =
     ))
 
 pub written-first : OwnGrow → TicketsGrow → TicketsAreOwn → (input : Contents) (plan : PlanData)
-    (after : CellData) (history : History) (sub ticket : ℕ) (old new : Subscriber) (call : Call) (visit : Visit)
+    (after : CellData) (history : History) (sub ticket : ℕ) (old new : Shown) (call : Call) (visit : Visit)
     (line : Done)
-    → sub < length input.homes → length history ≡ ticket → IsSubscriber input plan history sub old
+    → sub < length input.homes → length history ≡ ticket → IsShown input plan history sub old
     → Begins input plan history sub old call
     → slice_get (visits (setting_over input plan) old.handset.sub (begun_steps input sub old ++ step_of call ∷ []))
     (length (own sub history)) ≡ Some visit
@@ -201,7 +200,7 @@ pub written-first : OwnGrow → TicketsGrow → TicketsAreOwn → (input : Conte
     → line ≡ begun_line plan old.handset call ticket → length old.lines.items < length (steps_of (scripts_of input) sub)
     → GoWith plan after → Hold plan input.homes after (history ++ visit ∷ [])
     → (v : Visit) × (next (setting_over input plan) (scripts_of input) history sub ≡ Some v)
-    × IsSubscriber input plan (history ++ v ∷ []) sub new × GoWith plan after
+    × IsShown input plan (history ++ v ∷ []) sub new × GoWith plan after
     × Hold plan input.homes after (history ++ v ∷ [])
 written-first own_law ticket_law tell input plan after history sub ticket old new call visit line low place its begin at
     stands goes same

@@ -27,15 +27,15 @@ use Rattle.scripts.specs.Scripts.{scripts_of}
 use Rattle.scripts.specs.Laws.{VisitsAreFew}
 use Rattle.machine.specs.Stands.{Sees, over, setting_over}
 use Rattle.machine.specs.Callers.{IsCaller}
-use Rattle.machine.specs.Subscribers.{IsSubscriber, begun_steps}
+use Rattle.machine.specs.Subscribers.{IsShown, IsSubscriber, Shown, begun_steps, shown_at}
 use Rattle.machine.specs.Machines.{HasHistory, input_at, scripts_at, setting_at}
 use Rattle.machine.proofs.Looked.{by-parts}
 
--- a visit of another changes nothing of a subscriber
-sub-kept : OwnGrow → TicketsGrow → (input : Contents) (plan : PlanData) (history : History) (sub : ℕ)
-    (subscriber : Subscriber) (visit : Visit) → (visit.actor == sub) ≡ false
-    → IsSubscriber input plan history sub subscriber → IsSubscriber input plan (history ++ visit ∷ []) sub subscriber
-sub-kept own_law ticket_law input plan history sub subscriber visit other its =
+-- a visit of another changes nothing of what is seen of a subscriber
+shown-kept : OwnGrow → TicketsGrow → (input : Contents) (plan : PlanData) (history : History) (sub : ℕ)
+    (shown : Shown) (visit : Visit) → (visit.actor == sub) ≡ false
+    → IsShown input plan history sub shown → IsShown input plan (history ++ visit ∷ []) sub shown
+shown-kept own_law ticket_law input plan history sub shown visit other its =
     let same : own sub (history ++ visit ∷ []) ≡ own sub history =
     own_law sub history visit
     ∙ (ap (λ b. own sub history ++ cond b (visit ∷ []) []) other ∙ append-nil (own sub history)) in
@@ -44,18 +44,34 @@ sub-kept own_law ticket_law input plan history sub subscriber visit other its =
     ∙ (ap (λ b. tickets sub history ++ cond b (length history ∷ []) []) other ∙ append-nil (tickets sub history)) in
     record {
       handset = subst
-          (λ n. StandsForSteps (setting_over input plan) subscriber.handset (begun_steps input sub subscriber) n)
+          (λ n. StandsForSteps (setting_over input plan) shown.handset (begun_steps input sub shown) n)
           (sym (ap length same)) its.handset;
       goes = its.goes;
       its = its.its;
       lines = its.lines
           ∙ ap (step_lines (setting_over input plan) sub (course_at (start (setting_over input plan) sub))
-          (begun_steps input sub subscriber)) (sym seen);
+          (begun_steps input sub shown)) (sym seen);
       few = its.few;
       under = λ before step split. subst
           (λ n. length (writes (setting_over input plan) (course_at (start (setting_over input plan) sub)) before) < n)
           (sym (ap length same)) (its.under before step split);
       room = its.room;
+    }
+
+-- nor of the subscriber
+sub-kept : OwnGrow → TicketsGrow → (input : Contents) (plan : PlanData) (history : History) (sub : ℕ)
+    (subscriber : Subscriber) (visit : Visit) → (visit.actor == sub) ≡ false
+    → IsSubscriber input plan history sub subscriber → IsSubscriber input plan (history ++ visit ∷ []) sub subscriber
+sub-kept own_law ticket_law input plan history sub subscriber visit other its =
+    record {
+      handset = its.handset;
+      shown = shown-kept own_law ticket_law input plan history sub (shown_at its.handset subscriber) visit other
+          its.shown;
+      owes = its.owes;
+      goes = its.goes;
+      its = its.its;
+      within = its.within;
+      space = its.space;
     }
 
 -- nor of a caller

@@ -20,12 +20,12 @@ use Rattle.handset.specs.Kept.{GoesWith}
 use Rattle.handset.specs.Stands.{StandsForSteps}
 use Rattle.visit_log.specs.Cells.{CellData, GoWith, Hold}
 use Rattle.machine.specs.declared.subscriber.Subscriber.{Subscriber}
-use Rattle.machine.specs.declared.turn.Turn.TheVariants.{Finished, Visited}
+use Rattle.machine.specs.declared.turn.Turn.TheVariants.{Finished}
 use Rattle.scripts.specs.ScriptLaws.{few-nodes}
 use Rattle.scripts.specs.Scripts.{scripts_of}
 use Rattle.scripts.specs.Laws.{ScriptsAreValid}
 use Rattle.machine.specs.Stands.{AreMade, BelongTogether, Sees, setting_over}
-use Rattle.machine.specs.Subscribers.{IsSubscriber, TakesTurn, begun_steps, line_after}
+use Rattle.machine.specs.Subscribers.{IsShown, IsSubscriber, Shown, TakesTurn, begun_steps, line_after}
 use Rattle.handset.specs.Stands.{is_commit}
 use Rattle.machine.proofs.Steps.{line-grows, lines-partial}
 use Rattle.machine.proofs.Making.{made-count, made-joined, made-one}
@@ -34,7 +34,7 @@ use Rattle.directory.specs.HistoryLaws.{tickets-count}
 use Rattle.directory.specs.Statements.{MoreIsPlayed, TicketsGrow, OwnGrow, TicketsAreOwn}
 
 -- the lines of a subscriber with a step under way, now and a visit later
-pub record Under (input : Contents) (plan : PlanData) (history : History) (sub : ℕ) (old : Subscriber)
+pub record Under (input : Contents) (plan : PlanData) (history : History) (sub : ℕ) (old : Shown)
     (visit : Visit) : Type 0 where
   pub rows : List Done
   pub row : Done
@@ -45,8 +45,8 @@ pub record Under (input : Contents) (plan : PlanData) (history : History) (sub :
 
 pub under-way : MarksUnpack → TicketsAreOwn → ScriptsAreValid
     → (input : Contents) (plan : PlanData) (distances : DistanceTable) (history : History) (sub : ℕ)
-    (old : Subscriber) (visit : Visit) → BelongTogether input plan distances → sub < length input.homes
-    → IsSubscriber input plan history sub old
+    (old : Shown) (visit : Visit) → BelongTogether input plan distances → sub < length input.homes
+    → IsShown input plan history sub old
     → slice_get (visits (setting_over input plan) sub (begun_steps input sub old)) (length (own sub history))
     ≡ Some visit
     → Under input plan history sub old visit
@@ -109,10 +109,10 @@ under-way unpack own_law scripts input plan distances history sub old visit toge
 -- so a step goes on
 pub written-on : MarksUnpack → OwnGrow → TicketsGrow → TicketsAreOwn → ScriptsAreValid → (input : Contents)
     (plan : PlanData) (distances : DistanceTable) (after : CellData) (history : History) (sub ticket last : ℕ)
-    (old new : Subscriber)
+    (old new : Shown)
     (visit : Visit) (line default : Done)
     → BelongTogether input plan distances → sub < length input.homes → length history ≡ ticket
-    → IsSubscriber input plan history sub old
+    → IsShown input plan history sub old
     → slice_get (visits (setting_over input plan) old.handset.sub (begun_steps input sub old))
     (length (own sub history))
     ≡ Some visit
@@ -123,7 +123,7 @@ pub written-on : MarksUnpack → OwnGrow → TicketsGrow → TicketsAreOwn → S
     → line ≡ line_after (get_or old.lines.items last default) (is_commit visit.act) ticket
     → GoWith plan after → Hold plan input.homes after (history ++ visit ∷ [])
     → (v : Visit) × (next (setting_over input plan) (scripts_of input) history sub ≡ Some v)
-    × IsSubscriber input plan (history ++ v ∷ []) sub new × GoWith plan after
+    × IsShown input plan (history ++ v ∷ []) sub new × GoWith plan after
     × Hold plan input.homes after (history ++ v ∷ [])
 written-on unpack own_law ticket_law tell scripts input plan distances after history sub ticket last old new visit line
     default
@@ -167,18 +167,17 @@ written-on unpack own_law ticket_law tell scripts input plan distances after his
       hold,
     )
 
--- a write more
+-- a write more, whatever is known of the actor before it and behind it
 pub written-more : MoreIsPlayed
     → ((setting : Setting) (scripts : Scripts) (history : History) (actor : ℕ) (visit : Visit)
     → next setting scripts history actor ≡ Some visit → visit.actor ≡ actor)
     → (input : Contents) (plan : PlanData) (cells after : CellData) (history : History) (ticket sub count : ℕ)
-    (mid new : Subscriber) → length history ≡ ticket
-    → AreMade input plan cells history sub count (λ later. IsSubscriber input plan later sub mid)
-    → TakesTurn input plan (ticket + count) sub mid new cells after Visited
-    → AreMade input plan after history sub (count + 1) (λ later. IsSubscriber input plan later sub new)
-written-more more mine input plan cells after history ticket sub count mid new place made then =
-    let Mid : History → Type 0 = λ later. IsSubscriber input plan later sub mid in
-    let New : History → Type 0 = λ later. IsSubscriber input plan later sub new in
+    (Mid New : History → Type 0) → length history ≡ ticket → AreMade input plan cells history sub count Mid
+    → ((later : History) → Sees input plan cells later → length later ≡ ticket + count → Mid later
+    → (v : Visit) × (next (setting_over input plan) (scripts_of input) later sub ≡ Some v)
+    × New (later ++ v ∷ []) × GoWith plan after × Hold plan input.homes after (later ++ v ∷ []))
+    → AreMade input plan after history sub (count + 1) New
+written-more more mine input plan cells after history ticket sub count Mid New place made then =
     let now : History = history ++ made.visits in
     let done = then now made.sees (made-count input plan cells history sub count Mid made
     ∙ ap (λ n. n + count) place) made.its in
@@ -207,7 +206,7 @@ ended input plan cells after history ticket sub count most mid new place made th
         turns = made.turns;
         actors = made.actors;
         sees = subst (λ k. Sees input plan k (history ++ made.visits)) (sym done.2) made.sees;
-        its = subst (λ s. IsSubscriber input plan (history ++ made.visits) sub s) (sym done.1) made.its;
+        its = done.1;
       },
       λ fewer. done.0,
     )

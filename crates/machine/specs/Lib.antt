@@ -1,5 +1,6 @@
 pub mod Stands
 pub mod Callers
+pub mod Owed
 pub mod Subscribers
 pub mod Machines
 pub mod WalkingLaws

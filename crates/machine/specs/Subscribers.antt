@@ -1,14 +1,16 @@
--- A subscriber in a history: its handset has made its visits, and its lines are those of the steps
--- that it has begun, told by the tickets so far. A step that isn't done has the ticket of its last
--- visit so far as its last, and 0 as its commit before that comes.
+-- A subscriber in a history: its handset, before the writes that are ahead, has made its visits,
+-- and its lines are those of the steps that it has begun, told by the tickets so far. A step that
+-- isn't done has the ticket of its last visit so far as its last, and 0 as its commit before that
+-- comes.
 -- Key law: `Subscriber::write`, by its clause (so many turns make the subscriber's next visits, or
 -- none is left).
-use Rattle.std.specs.Prelude.{◌≡◌, ℕ, zero, suc, ◌-◌, ◌<◌, ◌≤◌, ◌^◌, ◌≢◌, Bool, true, false, if◌then◌else◌, List, [], ◌∷◌, ◌++◌, Some, None, length, slice_get, take, vec_capacity}
+use Rattle.std.specs.Global.{Vec}
+use Rattle.std.specs.Prelude.{drop, ◌≡◌, ℕ, suc, ◌-◌, ◌<◌, ◌≤◌, ◌^◌, ◌≢◌, Bool, true, false, if◌then◌else◌, List, [], ◌∷◌, ◌++◌, Some, None, length, take, vec_capacity}
 use Rattle.entry_word.specs.declared.visit.Visit.{Visit}
 use Rattle.directory.specs.Settings.{start}
 use Rattle.directory.specs.Courses.{Step, course_at}
 use Rattle.directory.specs.Histories.{History, own, tickets}
-use Rattle.directory.specs.Writes.{visits, writes}
+use Rattle.directory.specs.Writes.{writes}
 use Rattle.directory.specs.Orders.{next, steps_of}
 use Rattle.directory.specs.Outcomes.{step_lines}
 use Rattle.directory.specs.declared.answers.Done.{Done}
@@ -19,13 +21,13 @@ use Rattle.net_reader.specs.Input.{Contents}
 use Rattle.region_plan.specs.Plan.{PlanData, nodes_of}
 use Rattle.region_plan.specs.Settings.{setting_of}
 use Rattle.handset.specs.Kept.{GoesWith, HandsetData}
-use Rattle.handset.specs.Progress.{due}
-use Rattle.handset.specs.Stands.{StandsForSteps, is_commit}
+use Rattle.handset.specs.Stands.{StandsForSteps}
 use Rattle.visit_log.specs.Cells.{CellData, GoWith, Hold}
 use Rattle.machine.specs.declared.subscriber.Subscriber.{Subscriber}
 use Rattle.machine.specs.declared.turn.Turn.{Turn}
 use Rattle.machine.specs.declared.turn.Turn.TheVariants.{Visited, Finished}
 use Rattle.scripts.specs.Scripts.{scripts_of}
+use Rattle.machine.specs.Owed.{Owes}
 use Rattle.machine.specs.Stands.{AreMade, setting_over, Sees}
 
 -- the line of a step after one more of its visits, which commits or doesn't
@@ -62,65 +64,57 @@ begun_line plan handset calls.Off ticket =
 begun_line plan handset calls.On ticket =
     Switched handset.sub false handset.place handset.number ticket
 
+-- what is seen of a subscriber: its handset before the writes that are ahead, and its lines
+pub record Shown : Type 0 where
+  pub handset : HandsetData
+  pub lines : Vec Done
+
+-- that of a subscriber, with this handset
+abbrev pub shown_at : HandsetData → Subscriber → Shown
+shown_at handset subscriber = record { handset = handset; lines = subscriber.lines }
+
 -- the steps that a subscriber with so many lines has begun
-abbrev pub begun_steps : Contents → ℕ → Subscriber → List Step
-begun_steps input sub subscriber =
-    take (length subscriber.lines.items) (steps_of (scripts_of input) sub)
+abbrev pub begun_steps : Contents → ℕ → Shown → List Step
+begun_steps input sub shown =
+    take (length shown.lines.items) (steps_of (scripts_of input) sub)
+
+-- what is seen is as far as a history says
+pub record IsShown (input : Contents) (plan : PlanData) (history : History) (sub : ℕ)
+    (shown : Shown) : Type 0 where
+  pub handset : StandsForSteps (setting_over input plan) shown.handset
+      (begun_steps input sub shown) (length (own sub history))
+  pub goes : GoesWith plan shown.handset
+  pub its : shown.handset.sub ≡ sub
+  pub lines : shown.lines.items
+      ≡ step_lines (setting_over input plan) sub (course_at (start (setting_over input plan) sub))
+      (begun_steps input sub shown) (tickets sub history)
+  pub few : length shown.lines.items ≤ length (steps_of (scripts_of input) sub)
+  -- the step under way has made a visit
+  pub under : (before : List Step) (step : Step)
+      → begun_steps input sub shown ≡ before ++ step ∷ []
+      → length (writes (setting_over input plan)
+      (course_at (start (setting_over input plan) sub)) before)
+      < length (own sub history)
+  pub room : length (steps_of (scripts_of input) sub) ≤ vec_capacity shown.lines
 
 -- a subscriber is as far as a history says
 pub record IsSubscriber (input : Contents) (plan : PlanData) (history : History) (sub : ℕ)
     (subscriber : Subscriber) : Type 0 where
-  pub handset : StandsForSteps (setting_over input plan) subscriber.handset
-      (begun_steps input sub subscriber) (length (own sub history))
+  pub handset : HandsetData
+  pub shown : IsShown input plan history sub (shown_at handset subscriber)
+  pub owes : Owes plan (length input.homes) handset subscriber.handset
+      (drop subscriber.made subscriber.ahead.items)
   pub goes : GoesWith plan subscriber.handset
   pub its : subscriber.handset.sub ≡ sub
-  pub lines : subscriber.lines.items
-      ≡ step_lines (setting_over input plan) sub (course_at (start (setting_over input plan) sub))
-      (begun_steps input sub subscriber) (tickets sub history)
-  pub few : length subscriber.lines.items ≤ length (steps_of (scripts_of input) sub)
-  -- the step under way has made a visit
-  pub under : (before : List Step) (step : Step)
-      → begun_steps input sub subscriber ≡ before ++ step ∷ []
-      → length (writes (setting_over input plan)
-      (course_at (start (setting_over input plan) sub)) before)
-      < length (own sub history)
-  pub room : length (steps_of (scripts_of input) sub) ≤ vec_capacity subscriber.lines
+  pub within : subscriber.made ≤ length subscriber.ahead.items
+  pub space : 1 ≤ vec_capacity subscriber.ahead
 
--- a handset has made its next write, and cells hold it
-pub record HasPut (plan : PlanData) (old new : HandsetData) (cells after : CellData) : Type 0 where
-  pub visit : Visit
-  pub due : due (setting_of plan []) old ≡ Some visit
-  pub next : (starts : List ℕ) (steps : List Step) (made : ℕ)
-      → StandsForSteps (setting_of plan starts) old steps made
-      → slice_get (visits (setting_of plan starts) old.sub steps) made ≡ Some visit
-  pub stands : (starts : List ℕ) (steps : List Step) (made : ℕ)
-      → StandsForSteps (setting_of plan starts) old steps made
-      → StandsForSteps (setting_of plan starts) new steps (suc made)
-  pub hold : (starts : List ℕ) (history : History) → Hold plan starts cells history
-      → Hold plan starts after (history ++ visit ∷ [])
-
--- and the write doesn't commit a move
-pub record HasPutEntry (plan : PlanData) (old new : HandsetData) (cells after : CellData) : Type 0
-  where
-    pub put : HasPut plan old new cells after
-    pub plain : is_commit put.visit.act ≡ false
-    pub goes : GoesWith plan new
-    pub its : new.sub ≡ old.sub
-    pub over : GoWith plan after
-
--- a handset has made so many such writes, one behind the other, and cells hold them
-abbrev pub HavePut : PlanData → HandsetData → CellData → ℕ → HandsetData → CellData → Type 0
-HavePut plan old cells zero new after = (new ≡ old) × (after ≡ cells)
-HavePut plan old cells (suc count) new after =
-    (handset : HandsetData) × (between : CellData) × HavePut plan old cells count handset between
-    × HasPutEntry plan handset new between after
-
--- a turn makes its next visit, or none is left and nothing changes
+-- a turn makes its next visit, or none is left and the cells stay
 abbrev pub HasWritten : Contents → PlanData → History → ℕ → Subscriber → Subscriber → CellData
     → CellData → Turn → Type 0
 HasWritten input plan history sub old new cells after Finished =
-    (next (setting_over input plan) (scripts_of input) history sub ≡ None) × (new ≡ old)
-    × (after ≡ cells)
+    (next (setting_over input plan) (scripts_of input) history sub ≡ None)
+    × IsSubscriber input plan history sub new × (after ≡ cells)
 HasWritten input plan history sub old new cells after Visited =
     (visit : Visit) × (next (setting_over input plan) (scripts_of input) history sub ≡ Some visit)
     × IsSubscriber input plan (history ++ visit ∷ []) sub new × GoWith plan after

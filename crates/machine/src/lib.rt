@@ -17,6 +17,7 @@
 //! ```
 #![tactic(auto)]
 
+mod ahead;
 mod caller;
 mod lines;
 mod machine;

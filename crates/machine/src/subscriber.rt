@@ -5,34 +5,42 @@ ghost use Rattle.directory.specs.Settings.{Setting};
 ghost use Rattle.directory.specs.declared.answers.Done.TheVariants.{Switched};
 ghost use Rattle.directory.specs.Histories.{History};
 ghost use Rattle.directory.specs.Writes.{visits};
+ghost use Rattle.net_reader.specs.Input.{Contents};
 ghost use Rattle.net_reader.specs.Seen.{seen_input};
 ghost use Rattle.region_plan.specs.Plan.{PlanData, nodes_of};
 ghost use Rattle.region_plan.specs.Settings.{setting_of};
 ghost use Rattle.handset.specs.Kept.{GoesWith};
-ghost use Rattle.handset.specs.NextEntries.{erasures_from, renewals_from};
 ghost use Rattle.handset.specs.Progress.{due};
-ghost use Rattle.handset.specs.declared.stage.Stage.{Stage};
 ghost use Rattle.handset.specs.Stands.{StandsForSteps, switch_to};
-ghost use Rattle.visit_log.specs.Cells.{GoWith, Hold};
+ghost use Rattle.visit_log.specs.Cells.{GoWith};
 ghost use Rattle.scripts.specs.Scripts.{step_of};
 ghost use Rattle.machine.specs.Stands.{BelongTogether};
-ghost use Rattle.machine.specs.Subscribers.{HavePut, MakesTurns, MayBegin, begun_line, line_after, MayTakeTurn, TakesTurn, TakesTurns};
+ghost use Rattle.machine.specs.Owed.{HasNone};
+ghost use Rattle.machine.specs.Subscribers.{IsSubscriber, MakesTurns, MayBegin, begun_line, line_after, MayTakeTurn, TakesTurn, TakesTurns};
+ghost use Rattle.machine.specs.declared.turn.Turn.TheVariants.{Visited};
 
+use crate::ahead::{Ahead, fill, put_plain};
 use crate::turn::Turn;
 use directory::{Done, each_visit_is_next, next_is_own, own_after, tickets_tell};
 use distances::Distances;
-use entry_word::{Act, Key, Visit, mark_words, pack_address};
-use handset::{EntryStage, Erasures, Handset, Renewals, entry_writes_are_next};
+use entry_word::mark_words;
+use handset::Handset;
 use net_reader::{Call, Input};
-use region_plan::{Plan, plan_is_sound};
+use region_plan::Plan;
 use scripts::scripts_are_valid;
 use std::alloc::{AllocError, Global};
 use visit_log::PlainCells;
 
-/// A subscriber: its handset, and the lines of the steps that it has begun.
+// How many writes a subscriber has ahead at most.
+const MOST_AHEAD: usize = 128;
+
+/// A subscriber: its handset, which has made the writes that are ahead; how many of these are in
+/// their cells by now; and the lines of the steps that it has begun.
 #[derive(Drop)]
 pub struct Subscriber {
-    pub handset: Handset,
+    handset: Handset,
+    ahead: Vec<Ahead>,
+    made: usize,
     pub lines: Vec<Done>,
 }
 
@@ -51,11 +59,16 @@ impl Subscriber {
             → StandsForSteps (setting_of plan.now starts) subscriber.handset [] 0) }
         ensures goes { IfOk result (λ subscriber. GoesWith plan.now subscriber.handset) }
         ensures its { IfOk result (λ subscriber. subscriber.handset.sub ≡ sub) }
+        ensures ahead { IfOk result
+            (λ subscriber. (subscriber.ahead.items ≡ []) × (subscriber.made ≡ 0)) }
+        ensures space { IfOk result (λ subscriber. 1 ≤ vec_capacity subscriber.ahead) }
         ensures lines { IfOk result (λ subscriber. subscriber.lines.items ≡ []) }
         ensures room { IfOk result (λ subscriber. steps ≤ vec_capacity subscriber.lines) }
     {
         Ok(Subscriber {
             handset: Handset::new(alloc, sub, home, plan)?,
+            ahead: Vec::with_capacity(alloc, MOST_AHEAD)?,
+            made: 0,
             lines: Vec::with_capacity(alloc, steps)?,
         })
     }
@@ -87,15 +100,7 @@ impl Subscriber {
         let mut made = 0;
         'writes: while made < most {
             let at = ticket + made as u64;
-            made += self.write_entries::<ALONE>(
-                sub,
-                input,
-                plan,
-                distances,
-                cells,
-                at,
-                most - made,
-            );
+            made += self.write_plain::<ALONE>(sub, input, plan, distances, cells, at, most - made);
             if made == most {
                 return made;
             }
@@ -108,9 +113,9 @@ impl Subscriber {
         made
     }
 
-    // The writes of entries that come next, at most so many, and how many there were. One that has
-    // no other of its kind behind it is none of them.
-    fn write_entries<const ALONE: bool>(
+    // The visits ahead that come next and don't commit a move, at most so many, and how many there
+    // were. A turn alone leaves them to `write_one`.
+    fn write_plain<const ALONE: bool>(
         &mut self,
         sub: u32,
         input: &Input,
@@ -136,8 +141,13 @@ impl Subscriber {
         scripts_are_valid();
         each_visit_is_next();
         next_is_own();
-        let made = make_entries::<ALONE>(&mut self.handset, plan, cells, most);
+        if ALONE {
+            return 0;
+        }
+        let behind = put_plain(self.ahead.as_slice(), self.made, sub, cells, most);
+        let made = behind - self.made;
         if made > 0 {
+            self.made = behind;
             let last = self.lines.len() - 1;
             go_on(&mut self.lines[last], false, ticket + made as u64 - 1);
         }
@@ -145,6 +155,7 @@ impl Subscriber {
     }
 
     // The next visit, if one is left.
+    #[inline(always)]
     fn write_one(
         &mut self,
         sub: u32,
@@ -161,20 +172,72 @@ impl Subscriber {
         ensures { TakesTurn (seen_input input.now) plan.now ticket sub self.old self.new cells.old
             cells.new result }
     {
+        if !self.has_ahead(plan, cells) {
+            return self.begin(sub, input, plan, distances, cells, ticket);
+        }
+        self.put_one(sub, input, plan, distances, cells, ticket);
+        Turn::Visited
+    }
+
+    // Whether a write of the steps that are begun is ahead. Where all that were are in their cells,
+    // those that come next are ahead from now on.
+    #[inline(always)]
+    fn has_ahead(&mut self, plan: &Plan, cells: &PlainCells) -> bool
+        requires goes { GoesWith plan.now self.old.handset }
+        requires cells { GoWith plan.now cells.now }
+        requires known { self.old.handset.sub < cells.now.subs }
+        requires within { self.old.made ≤ length self.old.ahead.items }
+        requires space { 1 ≤ vec_capacity self.old.ahead }
+        ensures stands { (input : Contents) (history : History) (sub : ℕ)
+            → length input.homes ≡ cells.now.subs
+            → IsSubscriber input plan.now history sub self.old
+            → IsSubscriber input plan.now history sub self.new }
+        ensures some { result ≡ true → self.new.made < length self.new.ahead.items }
+        ensures none { result ≡ false
+            → (self.new.ahead.items ≡ []) × HasNone plan.now self.new.handset }
+    {
+        if self.made < self.ahead.len() {
+            return true;
+        }
+        self.ahead.clear();
+        self.made = 0;
+        fill(&mut self.ahead, &mut self.handset, plan, cells);
+        !self.ahead.is_empty()
+    }
+
+    // The visit ahead that comes next.
+    #[inline(always)]
+    fn put_one(
+        &mut self,
+        sub: u32,
+        input: &Input,
+        plan: &Plan,
+        distances: &Distances,
+        cells: &mut PlainCells,
+        ticket: u64,
+    )
+        requires together { BelongTogether (seen_input input.now) plan.now distances.now }
+        requires low { sub < length input.now.homes.items }
+        requires left { self.old.made < length self.old.ahead.items }
+        requires stands { MayTakeTurn (seen_input input.now) plan.now cells.old ticket sub
+            self.old }
+        ensures { TakesTurn (seen_input input.now) plan.now ticket sub self.old self.new cells.old
+            cells.new Visited }
+    {
         own_after();
         tickets_tell();
         mark_words();
         scripts_are_valid();
-        let commits = self.handset.commits();
-        let Some(_visit) = make(&mut self.handset, plan, cells) else {
-            return self.begin(sub, input, plan, distances, cells, ticket);
-        };
+        let write = self.ahead[self.made];
+        cells.put_at(sub, write.place, write.word);
+        self.made += 1;
         let last = self.lines.len() - 1;
-        go_on(&mut self.lines[last], commits, ticket);
-        Turn::Visited
+        go_on(&mut self.lines[last], write.commits, ticket);
     }
 
-    // The first visit of the next step, if one is left.
+    // The first visit of the next step, if one is left. It is apart from the visits ahead, so that
+    // these stay short.
+    #[inline(never)]
     fn begin(
         &mut self,
         sub: u32,
@@ -186,6 +249,7 @@ impl Subscriber {
     ) -> Turn
         requires together { BelongTogether (seen_input input.now) plan.now distances.now }
         requires low { sub < length input.now.homes.items }
+        requires none { self.old.ahead.items ≡ [] }
         requires rests { due (setting_of plan.now []) self.old.handset ≡ None }
         requires stands { MayTakeTurn (seen_input input.now) plan.now cells.old ticket sub
             self.old }
@@ -204,150 +268,12 @@ impl Subscriber {
         if self.lines.push(line).is_err() {
             unreachable!()
         }
-        if make(&mut self.handset, plan, cells).is_none() {
-            unreachable!()
-        }
+        fill(&mut self.ahead, &mut self.handset, plan, cells);
+        let write = self.ahead[0];
+        cells.put_at(sub, write.place, write.word);
+        self.made = 1;
         Turn::Visited
     }
-}
-
-// Makes the writes of entries that come next, at most so many, while each has another of its kind
-// behind it.
-fn make_entries<const ALONE: bool>(
-    handset: &mut Handset,
-    plan: &Plan,
-    cells: &mut PlainCells,
-    most: usize,
-) -> usize
-    requires goes { GoesWith plan.now handset.old }
-    requires cells { GoWith plan.now cells.old }
-    requires known { handset.old.sub < cells.old.subs }
-    ensures few { result ≤ most }
-    ensures made { HavePut plan.now handset.old cells.old result handset.new cells.new }
-{
-    if let Some(renewals) = handset.renewals(plan) {
-        return renew(handset, plan, cells, renewals, most);
-    }
-    match handset.erasures() {
-        Some(erasures) => erase(handset, plan, cells, erasures, most),
-        None => 0,
-    }
-}
-
-// Makes the new addresses that come next, at most so many.
-fn renew(
-    handset: &mut Handset,
-    plan: &Plan,
-    cells: &mut PlainCells,
-    renewals: Renewals,
-    most: usize,
-) -> usize
-    requires stage { handset.old.stage ≡ Stage.Renewing renewals.level }
-    requires they { renewals ≡ renewals_from handset.old renewals.level }
-    requires goes { GoesWith plan.now handset.old }
-    requires cells { GoWith plan.now cells.old }
-    requires known { handset.old.sub < cells.old.subs }
-    ensures few { result ≤ most }
-    ensures made { HavePut plan.now handset.old cells.old result handset.new cells.new }
-{
-    // Each home is a cluster of its level.
-    plan_is_sound(plan);
-    entry_writes_are_next();
-    let sub = handset.sub();
-    let Renewals {
-        level,
-        end,
-        node,
-        word,
-    } = renewals;
-    let last = level + most.min((end - level) as usize) as u32;
-    for level in level..last {
-        let key = Key::Entry {
-            level,
-            cluster: plan.home(level, node),
-            sub,
-        };
-        cells.put(plan, key, word);
-    }
-    handset.go_to(EntryStage::Renewing { level: last });
-    (last - level) as usize
-}
-
-// Makes the erasures that come next, at most so many.
-fn erase(
-    handset: &mut Handset,
-    plan: &Plan,
-    cells: &mut PlainCells,
-    erasures: Erasures,
-    most: usize,
-) -> usize
-    requires stage { handset.old.stage ≡ Stage.Erasing erasures.level }
-    requires they { erasures ≡ erasures_from handset.old erasures.level }
-    requires goes { GoesWith plan.now handset.old }
-    requires cells { GoWith plan.now cells.old }
-    requires known { handset.old.sub < cells.old.subs }
-    ensures few { result ≤ most }
-    ensures made { HavePut plan.now handset.old cells.old result handset.new cells.new }
-{
-    // Each home is a cluster of its level.
-    plan_is_sound(plan);
-    entry_writes_are_next();
-    let sub = handset.sub();
-    let word = pack_address(None);
-    let Erasures { level, last, node } = erasures;
-    let addresses = handset.addresses();
-    let mut at = level;
-    let mut cluster = plan.home(level, addresses[level as usize]);
-    let mut made = 0;
-    for above in level + 1..last + 1 {
-        if made == most {
-            break;
-        }
-        let old = plan.home(above, addresses[above as usize]);
-        if old != plan.home(above, node) {
-            let key = Key::Entry {
-                level: at,
-                cluster,
-                sub,
-            };
-            cells.put(plan, key, word);
-            at = above;
-            cluster = old;
-            made += 1;
-        }
-    }
-    handset.go_to(EntryStage::Erasing { level: at });
-    made
-}
-
-// Makes the write that comes next, if one is left.
-fn make(handset: &mut Handset, plan: &Plan, cells: &mut PlainCells) -> Option<Visit>
-    requires goes { GoesWith plan.now handset.old }
-    requires cells { GoWith plan.now cells.old }
-    requires known { handset.old.sub < cells.old.subs }
-    ensures exact { result ≡ due (setting_of plan.now []) handset.old }
-    ensures visit { (starts : List ℕ) (steps : List Step) (made : ℕ)
-        → StandsForSteps (setting_of plan.now starts) handset.old steps made
-        → result ≡ slice_get (visits (setting_of plan.now starts) handset.old.sub steps) made }
-    ensures rests { result ≡ None → (handset.new ≡ handset.old) × (cells.new ≡ cells.old) }
-    ensures goes { GoesWith plan.now handset.new }
-    ensures its { handset.new.sub ≡ handset.old.sub }
-    ensures cells { GoWith plan.now cells.new }
-    ensures stands { OnSome result ((starts : List ℕ) (steps : List Step) (made : ℕ)
-        → StandsForSteps (setting_of plan.now starts) handset.old steps made
-        → StandsForSteps (setting_of plan.now starts) handset.new steps (suc made)) }
-    ensures hold { OnSome result ((starts : List ℕ) (history : History)
-        → Hold plan.now starts cells.old history
-        → (visit : Visit) → result ≡ Some visit
-        → Hold plan.now starts cells.new (history ++ visit ∷ [])) }
-{
-    // Each home is a cluster of its level.
-    plan_is_sound(plan);
-    let visit = handset.write(plan)?;
-    if let Act::Put(key, word) = visit.act {
-        cells.put(plan, key, word);
-    }
-    Some(visit)
 }
 
 // Begins the step of a call, and gives its line with the ticket of its first visit.

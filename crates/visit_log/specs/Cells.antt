@@ -56,6 +56,12 @@ pub record Hold (plan : PlanData) (starts : List ℕ) (cells : CellData)
   pub words : (key : Key) → IsCell plan (length starts) key
       → word_at plan cells key ≡ cell (setting_of plan starts) history key
 
+-- a cell is that of a subscriber, of so many, at a place among its own
+pub record IsPlaceOf (plan : PlanData) (subs sub at : ℕ) (key : Key) : Type 0 where
+  pub cell : IsCell plan subs key
+  pub owner : key_sub key ≡ sub
+  pub place : at ≡ key_place plan key
+
 -- the word of a cell once a subscriber is put at its start node, and its address at the homes of
 -- that node below a level
 abbrev pub open_word : PlanData → ℕ → ℕ → ℕ → Key → ℕ → ℕ

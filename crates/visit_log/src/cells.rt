@@ -5,10 +5,11 @@ ghost use Rattle.entry_word.specs.declared.visit.Key.{Key};
 ghost use Rattle.entry_word.specs.declared.visit.Key.TheVariants.{Entry};
 ghost use Rattle.directory.specs.Histories.{History, cell};
 ghost use Rattle.directory.specs.Keys.{key_sub};
-ghost use Rattle.region_plan.specs.Plan.{clusters_of, levels_of, nodes_of};
+ghost use Rattle.region_plan.specs.Plan.{PlanData, clusters_of, levels_of, nodes_of};
 ghost use Rattle.region_plan.specs.Settings.{setting_of};
-ghost use Rattle.region_plan.specs.Cells.{IsCell};
-ghost use Rattle.visit_log.specs.Cells.{GoWith, Hold, open_word, slot_of, width_of, word_at};
+ghost use Rattle.region_plan.specs.Cells.{IsCell, IsPlace};
+ghost use Rattle.visit_log.specs.Cells.{GoWith, Hold, IsPlaceOf, open_word, slot_of, width_of, word_at};
+ghost use Rattle.visit_log.specs.Numbers.{key_place};
 
 use crate::places::Places;
 use directory::{cell_after, same_key_means};
@@ -109,6 +110,41 @@ impl PlainCells {
         self.set(plan, key, word);
     }
 
+    /// The place of a cell among those of its subscriber.
+    pub fn place(&self, plan: &Plan, key: Key) -> u32
+        requires goes { GoWith plan.now self.now }
+        requires place { IsPlace plan.now key }
+        ensures { result ≡ key_place plan.now key }
+    {
+        // The call tells the proof that there are few places.
+        let _width = self.places.width();
+        self.places.place(key)
+    }
+
+    /// Puts a word into the cell of a subscriber at a place; all others stay. It needs no plan:
+    /// what it does is told for each that the cells go with.
+    pub fn put_at(&mut self, sub: u32, place: u32, word: u64)
+        requires cell { (plan : PlanData) × (key : Key) × GoWith plan self.old
+            × IsPlaceOf plan self.old.subs sub place key }
+        ensures words { (plan : PlanData) (key : Key) → GoWith plan self.old
+            → IsPlaceOf plan self.old.subs sub place key
+            → self.new ≡ record self.old {
+              words = slice_set self.old.words (slot_of plan key) word;
+            } }
+        ensures goes { (plan : PlanData) → GoWith plan self.old → GoWith plan self.new }
+        ensures history { (plan : PlanData) (key : Key) → GoWith plan self.old
+            → IsPlaceOf plan self.old.subs sub place key
+            → (starts : List ℕ) (history : History) (actor : ℕ)
+            → Hold plan starts self.old history
+            → Hold plan starts self.new
+            (history ++ record { actor = actor; act = Put key word } ∷ []) }
+    {
+        cell_after();
+        same_key_means();
+        let index = sub as usize * self.places.width() as usize + place as usize;
+        self.replace(index, word);
+    }
+
     // Changes the word of a cell.
     fn set(&mut self, plan: &Plan, key: Key, word: u64)
         requires goes { GoWith plan.now self.old }
@@ -119,6 +155,14 @@ impl PlainCells {
         ensures goes { GoWith plan.now self.new }
     {
         let index = self.index(plan, key);
+        self.replace(index, word);
+    }
+
+    // Changes a word.
+    fn replace(&mut self, index: usize, word: u64)
+        requires { index < length self.old.words }
+        ensures { self.new ≡ record self.old { words = slice_set self.old.words index word } }
+    {
         self.words[index] = word;
     }
 

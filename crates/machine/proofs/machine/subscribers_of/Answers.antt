@@ -24,7 +24,8 @@ loop-sub-preserved c =
           (c.in_ok-new.ensures.handset c.args.input.now.homes.items
           (get_or_default c.args.input.now.homes.items c.loop-sub.sub 0 c.index-in-loop-sub.result.now low
           ∙ sym c.index-in-loop-sub.ensures))
-          c.in_ok-new.ensures.goes c.in_ok-new.ensures.its c.in_ok-new.ensures.lines
+          c.in_ok-new.ensures.goes c.in_ok-new.ensures.its c.in_ok-new.ensures.ahead.0
+          c.in_ok-new.ensures.ahead.1 c.in_ok-new.ensures.space c.in_ok-new.ensures.lines
           (omega (
             arith,
             c.in_ok-new.ensures.room,

@@ -1,0 +1,33 @@
+use Rattle.std.proofs.Common.{◌≡◌, refl, subst, sym}
+use Rattle.machine.specs.Owed.{HasNone, Owes}
+use Rattle.machine.proofs.Owing.{ahead-joined, ahead-more, ahead-none}
+use Rattle.machine.proofs.ahead.fill.Goals as goal
+
+pub writes-init : goal.writes-init
+writes-init c = record {
+  goes = c.requires.goes;
+  its = refl;
+  ahead = ahead-none c.args.plan.now c.args.cells.now.subs c.args.handset.now c.args.ahead.now c.requires.goes;
+}
+
+pub writes-preserved : goal.writes-preserved
+writes-preserved c =
+    let plan = c.args.plan.now in
+    let subs = c.args.cells.now.subs in
+    let old = c.args.handset.now in
+    let one = ahead-more plan subs old c.writes.handset c.next_ahead.new.handset c.in-Some.write c.args.ahead.now
+    c.writes.ahead c.push_reserved.new.self c.writes.invariant.ahead c.in-Some.ensures.next
+    c.push_reserved.ensures.items c.push_reserved.ensures.capacity in
+    let all = ahead-joined plan subs old c.next_ahead.new.handset c.push_entries.new.handset c.args.ahead.now
+    c.push_reserved.new.self c.push_entries.new.ahead one c.push_entries.ensures in
+    record { goes = all.goes; its = all.its; ahead = all }
+
+pub returns-in_default-clause-rests : goal.returns-in_default-clause-rests
+returns-in_default-clause-rests c = λ none.
+    let plan = c.args.plan.now in
+    let subs = c.args.cells.now.subs in
+    let old = c.args.handset.now in
+    let same : c.writes.handset ≡ old =
+    subst (Owes plan subs old c.writes.handset) none
+    (c.writes.invariant.ahead.owes old (subst (Owes plan subs old old) (sym c.requires.none) refl)) in
+    subst (HasNone plan) same c.in_default.ensures.rests

@@ -1,0 +1,204 @@
+//! The writes that a subscriber has ahead.
+ghost use Rattle.std.specs.Prelude.{◌≡◌, ◌≤◌, ◌<◌, ◌-◌, [], IfNone, IfSome, drop, length, vec_capacity, vec_len};
+ghost use Rattle.region_plan.specs.Plan.{PlanData};
+ghost use Rattle.handset.specs.Kept.{GoesWith, HandsetData};
+ghost use Rattle.handset.specs.NextEntries.{erasures_from, renewals_from};
+ghost use Rattle.handset.specs.declared.stage.Stage.{Stage};
+ghost use Rattle.visit_log.specs.Cells.{GoWith};
+ghost use Rattle.machine.specs.Owed.{HasCome, HasNone, IsAhead, IsNextAhead, MayPut, Owes};
+
+use entry_word::{Act, Key, pack_address};
+use handset::{EntryStage, Erasures, Handset, Renewals, entry_writes_are_next};
+use region_plan::{Plan, plan_is_sound};
+use visit_log::PlainCells;
+
+/// A write ahead: the place of its cell among those of the subscriber, whether it commits a move,
+/// and its word.
+#[derive(Clone, Copy, PartialEq, Eq, Debug)]
+pub struct Ahead {
+    pub place: u32,
+    pub commits: bool,
+    pub word: u64,
+}
+
+// Makes the writes of a handset that come next, as many as there is room for, and none of them in
+// a cell.
+#[inline(never)]
+pub fn fill(ahead: &mut Vec<Ahead>, handset: &mut Handset, plan: &Plan, cells: &PlainCells)
+    requires goes { GoesWith plan.now handset.old }
+    requires cells { GoWith plan.now cells.now }
+    requires known { handset.old.sub < cells.now.subs }
+    requires none { ahead.old.items ≡ [] }
+    requires room { 1 ≤ vec_capacity ahead.old }
+    ensures ahead { IsAhead plan.now cells.now.subs handset.old handset.new ahead.old ahead.new }
+    ensures rests { ahead.new.items ≡ [] → HasNone plan.now handset.old }
+{
+    'writes: while ahead.len() < ahead.capacity() {
+        let Some(write) = next_ahead(handset, plan, cells) else {
+            return;
+        };
+        ahead.push_reserved(write);
+        push_entries(ahead, handset, plan, cells);
+    }
+}
+
+// Makes the write that comes next, if one is left, but not in its cell.
+fn next_ahead(handset: &mut Handset, plan: &Plan, cells: &PlainCells) -> Option<Ahead>
+    requires goes { GoesWith plan.now handset.old }
+    requires cells { GoWith plan.now cells.now }
+    requires known { handset.old.sub < cells.now.subs }
+    ensures next { IfSome result (λ write.
+        IsNextAhead plan.now cells.now.subs handset.old handset.new write) }
+    ensures rests { IfNone result (HasNone plan.now handset.old) }
+    ensures still { IfNone result (handset.new ≡ handset.old) }
+{
+    // Each home is a cluster of its level.
+    plan_is_sound(plan);
+    let commits = handset.commits();
+    let Some(visit) = handset.write(plan) else {
+        return None;
+    };
+    let Act::Put(key, word) = visit.act else {
+        unreachable!()
+    };
+    Some(Ahead {
+        place: cells.place(plan, key),
+        commits,
+        word,
+    })
+}
+
+// Makes the writes of entries that come next, as many as there is room for, while each has another
+// of its kind behind it.
+fn push_entries(ahead: &mut Vec<Ahead>, handset: &mut Handset, plan: &Plan, cells: &PlainCells)
+    requires goes { GoesWith plan.now handset.old }
+    requires cells { GoWith plan.now cells.now }
+    requires known { handset.old.sub < cells.now.subs }
+    ensures { IsAhead plan.now cells.now.subs handset.old handset.new ahead.old ahead.new }
+{
+    if let Some(renewals) = handset.renewals(plan) {
+        return push_renewals(ahead, handset, plan, cells, renewals);
+    }
+    if let Some(erasures) = handset.erasures() {
+        push_erasures(ahead, handset, plan, cells, erasures);
+    }
+}
+
+// Makes the new addresses that come next, as many as there is room for.
+fn push_renewals(
+    ahead: &mut Vec<Ahead>,
+    handset: &mut Handset,
+    plan: &Plan,
+    cells: &PlainCells,
+    renewals: Renewals,
+)
+    requires stage { handset.old.stage ≡ Stage.Renewing renewals.level }
+    requires they { renewals ≡ renewals_from handset.old renewals.level }
+    requires goes { GoesWith plan.now handset.old }
+    requires cells { GoWith plan.now cells.now }
+    requires known { handset.old.sub < cells.now.subs }
+    ensures { IsAhead plan.now cells.now.subs handset.old handset.new ahead.old ahead.new }
+{
+    // Each home is a cluster of its level.
+    plan_is_sound(plan);
+    entry_writes_are_next();
+    let sub = handset.sub();
+    let Renewals {
+        level,
+        end,
+        node,
+        word,
+    } = renewals;
+    let room = ahead.capacity() - ahead.len();
+    let last = level + room.min((end - level) as usize) as u32;
+    for level in level..last {
+        let key = Key::Entry {
+            level,
+            cluster: plan.home(level, node),
+            sub,
+        };
+        ahead.push_reserved(Ahead {
+            place: cells.place(plan, key),
+            commits: false,
+            word,
+        });
+    }
+    handset.go_to(EntryStage::Renewing { level: last });
+}
+
+// Makes the erasures that come next, as many as there is room for.
+fn push_erasures(
+    ahead: &mut Vec<Ahead>,
+    handset: &mut Handset,
+    plan: &Plan,
+    cells: &PlainCells,
+    erasures: Erasures,
+)
+    requires stage { handset.old.stage ≡ Stage.Erasing erasures.level }
+    requires they { erasures ≡ erasures_from handset.old erasures.level }
+    requires goes { GoesWith plan.now handset.old }
+    requires cells { GoWith plan.now cells.now }
+    requires known { handset.old.sub < cells.now.subs }
+    ensures { IsAhead plan.now cells.now.subs handset.old handset.new ahead.old ahead.new }
+{
+    // Each home is a cluster of its level.
+    plan_is_sound(plan);
+    entry_writes_are_next();
+    let sub = handset.sub();
+    let word = pack_address(None);
+    let Erasures { level, last, node } = erasures;
+    let addresses = handset.addresses();
+    let mut at = level;
+    let mut cluster = plan.home(level, addresses[level as usize]);
+    for above in level + 1..last + 1 {
+        if ahead.len() == ahead.capacity() {
+            break;
+        }
+        let old = plan.home(above, addresses[above as usize]);
+        if old != plan.home(above, node) {
+            let key = Key::Entry {
+                level: at,
+                cluster,
+                sub,
+            };
+            ahead.push_reserved(Ahead {
+                place: cells.place(plan, key),
+                commits: false,
+                word,
+            });
+            at = above;
+            cluster = old;
+        }
+    }
+    handset.go_to(EntryStage::Erasing { level: at });
+}
+
+// Puts the writes ahead from a place on that don't commit a move, at most so many, into their
+// cells, and tells the place behind them.
+pub fn put_plain(
+    ahead: &[Ahead],
+    made: usize,
+    sub: u32,
+    cells: &mut PlainCells,
+    most: usize,
+) -> usize
+    requires within { made ≤ length ahead.now }
+    requires stands { (plan : PlanData) × (old : HandsetData) × (new : HandsetData)
+        × MayPut plan sub old new cells.old (drop made ahead.now) }
+    ensures on { made ≤ result }
+    ensures within { result ≤ length ahead.now }
+    ensures few { result - made ≤ most }
+    ensures puts { (plan : PlanData) (old new : HandsetData)
+        → MayPut plan sub old new cells.old (drop made ahead.now)
+        → HasCome plan sub old new cells.old cells.new (result - made) (drop result ahead.now) }
+{
+    let end = made + most.min(ahead.len() - made);
+    for place in made..end {
+        let write = ahead[place];
+        if write.commits {
+            return place;
+        }
+        cells.put_at(sub, write.place, write.word);
+    }
+    end
+}
