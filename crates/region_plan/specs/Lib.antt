@@ -12,3 +12,4 @@ pub mod Examples
 pub mod Settings
 pub mod Readers
 pub mod Cells
+pub mod ReaderLaws

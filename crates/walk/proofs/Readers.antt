@@ -1,57 +1,21 @@
 -- The readers of a node: clusters that contain it, few at each level, and one after another in the climb.
-use Rattle.std.proofs.Common.{◌≡◌, ℕ, suc, ◌+◌, ◌-◌, ◌*◌, ◌^◌, ◌<◌, ◌≤◌, true, List, [], ◌∷◌, ◌++◌, length, map, drop, refl, sym, ap, ◌∙◌, subst, arith, Option}
-use Rattle.std.proofs.Math.Nat.{mul-le-mul, pow-le-pow_right}
+use Rattle.std.proofs.Common.{◌≡◌, ℕ, suc, ◌+◌, ◌-◌, ◌<◌, ◌≤◌, true, List, [], ◌∷◌, ◌++◌, length, map, drop, refl, sym, ap, ◌∙◌, subst, arith, Option}
 use Rattle.std.proofs.lemmas.List.Sums.{fold-append}
 use Rattle.std.specs.Prelude.{get_or, Some, None, flat_map, ◌==◌}
 use Rattle.std.proofs.lemmas.Bool.Decides.{nat_tests}
 use Rattle.std.proofs.lemmas.List.{length-map, drop_all}
-use Rattle.node_set.specs.Ascending.{has}
 use Rattle.directory.specs.Settings.{Setting, levels}
 use Rattle.directory.specs.Writes.{numbers_from}
 use Rattle.entry_word.specs.Addresses.{address_in}
 use Rattle.entry_word.specs.declared.address.Address.{Address}
 use Rattle.entry_word.specs.declared.visit.Key.TheVariants.{Entry}
 use Rattle.directory.specs.Finds.{FindCall, Reader, after_entry, after_word, answer_of, at_origin, find, key_of}
-use Rattle.region_plan.specs.Plan.{PlanData, no_level, level_at, cluster_in, clusters_of, home, inside, levels_of, members_of, nodes_of, readers}
-use Rattle.region_plan.specs.Kept.{IsKept, IsSized}
-use Rattle.region_plan.specs.Matched.{IsMatched, IsWithinReach}
+use Rattle.region_plan.specs.Plan.{PlanData, inside, readers}
 use Rattle.region_plan.specs.Settings.{setting_of}
 use Rattle.walk.specs.declared.progress.Progress.{Progress}
 use Rattle.walk.specs.declared.progress.Progress.TheVariants.{AtOrigin, Chasing, Climbing, Ended}
 use Rattle.walk.specs.Walks.{IsWalkOver, IsProgressWithin, IsWordBelow, StandsForWords, WalkData, call_of, reader_in, readers_at, readers_above, stage_at, stage_of}
 use Rattle.walk.specs.ReaderLaws.{climb-here}
-use Rattle.node_set.specs.SetLaws.{has-passing, length-passing-le}
-
--- so there are few readers
-pub readers-few : (plan : PlanData) (level node : ℕ) → IsMatched plan → IsKept plan → level < levels_of plan
-    → node < nodes_of plan → length (readers plan level node) ≤ 1024
-readers-few plan level node matched kept h l =
-    let sized : IsSized (nodes_of plan) (level_at plan level) = kept.levels level no_level h in
-    subst (λ rs. length rs ≤ 1024) (sym (matched.read level node h l))
-    (omega (
-      arith,
-      length-passing-le (λ c. has node (cluster_in (level_at plan level).clusters c).members) 0 (length
-          (level_at plan level).clusters),
-      sized.clusters,
-      kept.metric.few,
-    ))
-
-has-some : (x : ℕ) (xs : List ℕ) → has x xs ≡ true → 1 ≤ length xs
-has-some x [] held = cc
-has-some x (y ∷ ys) held = omega arith
-
--- and there is one at each level: the home of the node
-pub readers-some : (plan : PlanData) (level node : ℕ) → IsMatched plan → level < levels_of plan
-    → node < nodes_of plan → 1 ≤ length (readers plan level node)
-readers-some plan level node matched h l =
-    let home_read : has (home plan level node) (readers plan level node) ≡ true =
-    rw (
-      matched.read level node h l,
-      has-passing (λ c. has node (cluster_in (level_at plan level).clusters c).members) (home plan level node) 0
-          (clusters_of plan level) (omega arith) (omega (arith, matched.homes level node h l)),
-    )
-    (matched.held level node h l) in
-    has-some (home plan level node) (readers plan level node) home_read
 
 -- the readers of a level and those above
 pub readers-spent : (setting : Setting) (node level index : ℕ) → length (setting.readers level node) ≤ index
@@ -136,17 +100,7 @@ find-more plan old new words word same stage stands =
 pub empty-means : (n : ℕ) → (n == 0) ≡ true → n ≡ 0
 empty-means n h = grind (arith, nat_tests)
 
--- weights inside clusters are light, and nothing names no node
-pub way-light : (plan : PlanData) (i c v : ℕ) → IsKept plan → IsWithinReach plan → i < levels_of plan
-    → c < clusters_of plan i → has v (members_of plan i c) ≡ true → inside plan i c v ≤ 2 ^ 35
-way-light plan i c v kept reached h l member =
-    let sized : IsSized (nodes_of plan) (level_at plan i) = kept.levels i no_level h in
-    let two : 0 < 2 = omega arith in
-    let power : 2 ^ (level_at plan i).exponent ≤ 2 ^ 30 = pow-le-pow_right {n = 2} two {i =
-    (level_at plan i).exponent} {j = 30} sized.exponent in
-    let product : plan.reach * 2 ^ (level_at plan i).exponent ≤ 17 * 2 ^ 30 = mul-le-mul kept.near power in
-    omega (arith, reached i c v h l member, product)
-
+-- nothing names no node
 pub nothing-below : (nodes : ℕ) (progress : Progress) → IsWordBelow nodes progress 0
 nothing-below nodes AtOrigin = tt
 nothing-below nodes (Climbing known weight level index) = tt

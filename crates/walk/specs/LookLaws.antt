@@ -22,7 +22,8 @@ use Rattle.region_plan.specs.Settings.{setting_of}
 use Rattle.region_plan.specs.Cells.{IsCell, IsPlace}
 use Rattle.walk.specs.declared.progress.Progress.{Progress}
 use Rattle.walk.specs.declared.progress.Progress.TheVariants.{AtOrigin, Chasing, Climbing, Ended}
-use Rattle.walk.specs.ReaderLaws.{climb-here, reader-held}
+use Rattle.region_plan.specs.ReaderLaws.{reader-held}
+use Rattle.walk.specs.ReaderLaws.{climb-here}
 use Rattle.walk.specs.Walks.{IsWalkOver, IsAddressBelow, IsMarkBelow, IsProgressWithin, IsWordBelow, WalkData, call_of, readers_above, stage_at, stage_of}
 
 -- the cell of a climb is the entry of its reader

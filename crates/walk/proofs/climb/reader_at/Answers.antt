@@ -1,8 +1,7 @@
 use Rattle.std.proofs.Common.{◌<◌, ap, subst, sym, ◌∙◌, get_or}
 use Rattle.node_set.specs.Ascending.{has}
 use Rattle.region_plan.specs.Plan.{clusters_of, members_of}
-use Rattle.walk.specs.ReaderLaws.{reader-held}
-use Rattle.walk.proofs.Readers.{readers-few}
+use Rattle.region_plan.specs.ReaderLaws.{reader-held, readers-few}
 use Rattle.walk.proofs.climb.reader_at.Goals as goal
 
 pub returns-clause-few : goal.returns-clause-few

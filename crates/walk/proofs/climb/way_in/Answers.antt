@@ -1,7 +1,6 @@
 use Rattle.std.proofs.Common.{◌≤◌, ◌^◌, subst, sym, get_or}
 use Rattle.region_plan.specs.Plan.{readers}
-use Rattle.walk.specs.ReaderLaws.{reader-held}
-use Rattle.walk.proofs.Readers.{readers-few, way-light}
+use Rattle.region_plan.specs.ReaderLaws.{reader-held, readers-few, way-light}
 use Rattle.walk.proofs.climb.way_in.Goals as goal
 
 pub returns-clause-light : goal.returns-clause-light
