@@ -19,12 +19,8 @@ use visit_log::{PlainCells, cell_count, cell_number, key_node};
 enum Step {
     Look(Key),
     Put(Key, u64),
-    /// How many entries of a subscriber at a level hold nothing, of these clusters in turn.
-    Empty {
-        level: u32,
-        sub: u32,
-        clusters: [u32; 2],
-    },
+    /// How many presences of a subscriber hold nothing, of those at two nodes in turn.
+    Empty { sub: u32, nodes: [u32; 2] },
     /// The number of a cell.
     Number(Key),
     /// The node of a cell.
@@ -72,26 +68,22 @@ fn word_in(
     Some(cells.look(plan, key))
 }
 
-// How many of two entries of a subscriber hold nothing, up to the first that holds an address.
-fn empty_entries(
+// How many of two presences of a subscriber hold nothing, up to the first that holds something.
+fn empty_presences(
     cells: &PlainCells,
     plan: &Plan,
     subs: u32,
-    level: u32,
     sub: u32,
-    clusters: [u32; 2],
+    nodes: [u32; 2],
 ) -> Option<u64>
     requires goes { GoWith plan.now cells.now }
     requires subs { cells.now.subs ≡ subs }
 {
-    if level >= plan.levels() || sub >= subs {
+    let [one, two] = nodes;
+    if sub >= subs || one >= plan.nodes() || two >= plan.nodes() {
         return None;
     }
-    let [one, two] = clusters;
-    if one >= plan.clusters(level) || two >= plan.clusters(level) {
-        return None;
-    }
-    Some(cells.count_empty(plan, level, sub, &[one, two]) as u64)
+    Some(cells.count_empty(sub, &[one, two]) as u64)
 }
 
 // The number and the node of a cell.
@@ -119,11 +111,7 @@ fn take(cells: &mut PlainCells, plan: &Plan, subs: u32, step: Step) -> Option<u6
     match step {
         Step::Look(key) => word_in(cells, plan, subs, key, None),
         Step::Put(key, word) => word_in(cells, plan, subs, key, Some(word)),
-        Step::Empty {
-            level,
-            sub,
-            clusters,
-        } => empty_entries(cells, plan, subs, level, sub, clusters),
+        Step::Empty { sub, nodes } => empty_presences(cells, plan, subs, sub, nodes),
         Step::Number(key) => place_of(plan, subs, key).map(|place| place.0),
         Step::Node(key) => place_of(plan, subs, key).map(|place| u64::from(place.1)),
         Step::Count => Some(cell_count(plan, subs)),
@@ -178,13 +166,9 @@ fn entry(level: u32, cluster: u32, sub: u32) -> Key {
     }
 }
 
-// How many of two entries of subscriber 0 at level 0 hold nothing.
-fn empty(clusters: [u32; 2]) -> Step {
-    Step::Empty {
-        level: 0,
-        sub: 0,
-        clusters,
-    }
+// How many presences of subscriber 0 at two nodes hold nothing.
+fn empty(nodes: [u32; 2]) -> Step {
+    Step::Empty { sub: 0, nodes }
 }
 
 // The word of a home's presence cell at the opening.
@@ -205,13 +189,14 @@ fn the_opening(rt: HostRuntime) -> Result<(), Fail> {
         (Step::Look(presence(3, 0)), here()),
         (Step::Look(presence(0, 0)), 0),
         (Step::Look(entry(0, 1, 0)), leads_to(3)),
-        (empty([0, 1]), 1),
-        (empty([1, 0]), 0),
+        (empty([0, 3]), 1),
+        (empty([3, 0]), 0),
         (empty([0, 0]), 2),
         (Step::Put(entry(0, 1, 0), 0), 0),
         (Step::Look(entry(0, 1, 0)), 0),
-        (empty([1, 0]), 2),
-        (Step::Look(presence(3, 0)), here()),
+        (Step::Put(presence(3, 0), 0), 0),
+        (empty([3, 0]), 2),
+        (Step::Look(presence(3, 0)), 0),
     ];
     let (plan, _) = line_of_four(rt.alloc())?;
     play_over(&rt, rt.alloc(), &plan, 3, 1, &script)

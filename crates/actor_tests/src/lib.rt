@@ -8,4 +8,6 @@ mod handset_tests;
 #[cfg(test)]
 mod machine_tests;
 #[cfg(test)]
+mod route_tests;
+#[cfg(test)]
 mod walk_tests;

@@ -118,9 +118,9 @@ fn go_to_and_fro(walk: &mut Walk, plan: &Plan, distances: &Distances, times: u32
 enum Step {
     Next,
     Answer,
-    Ahead,
-    /// Passes so many entries that hold nothing.
-    Pass(usize),
+    Climb,
+    /// Goes on where its climb is.
+    Resume,
     ReadNothing,
     ReadSubscriber,
     ReadComing,
@@ -134,37 +134,26 @@ enum Step {
 enum Seen {
     Next(Option<Key>),
     Answer(Option<Found>),
-    /// The level, and how many entries are left there.
-    Ahead(Option<(u32, usize)>),
-    /// There are too few entries ahead.
-    TooFew,
+    /// The level, the place among its readers and the weight.
+    Climb(Option<(u32, u32, u64)>),
     Read,
     NoSuchNode,
 }
 
-// What is ahead of a walk: its level, and how many entries are left there.
-fn ahead(walk: &Walk, plan: &Plan) -> Option<(u32, usize)>
-    requires goes { IsWalkOver plan.now walk.now }
-{
+// Where a walk climbs: the level, the place among its readers and the weight.
+fn climb_of(walk: &Walk) -> Option<(u32, u32, u64)> {
     let climb = walk.climb()?;
-    Some((climb.level, climb.readers(plan).len()))
+    Some((climb.level, climb.index, climb.weight))
 }
 
-// The walk passes so many entries, if so many are ahead, and a level above them if these are all.
-fn pass(walk: &mut Walk, plan: &Plan, count: usize) -> Seen
+// The walk goes on where its climb is.
+fn resume(walk: &mut Walk, plan: &Plan)
     requires goes { IsWalkOver plan.now walk.old }
     ensures { IsWalkOver plan.now walk.new }
 {
-    let Some(climb) = walk.climb() else {
-        return Seen::TooFew;
-    };
-    let left = climb.readers(plan).len();
-    let top = plan.levels() - 1;
-    if count > left || (count == left && climb.level >= top) {
-        return Seen::TooFew;
+    if let Some(climb) = walk.climb() {
+        walk.resume(climb);
     }
-    walk.resume(climb.past(plan, count));
-    Seen::Read
 }
 
 fn take(walk: &mut Walk, plan: &Plan, distances: &Distances, step: Step) -> Seen
@@ -175,8 +164,8 @@ fn take(walk: &mut Walk, plan: &Plan, distances: &Distances, step: Step) -> Seen
     match step {
         Step::Next => return Seen::Next(walk.next(plan)),
         Step::Answer => return Seen::Answer(walk.answer()),
-        Step::Ahead => return Seen::Ahead(ahead(walk, plan)),
-        Step::Pass(count) => return pass(walk, plan, count),
+        Step::Climb => return Seen::Climb(climb_of(walk)),
+        Step::Resume => resume(walk, plan),
         Step::ReadNothing => see_nothing(walk, plan, distances),
         Step::ReadSubscriber => see_subscriber(walk, plan, distances),
         Step::ReadComing => see_coming(walk, plan, distances),
@@ -273,42 +262,23 @@ fn no_entry(rt: HostRuntime) -> Result<(), Fail> {
     play_on_line(&rt, rt.alloc(), &script)
 }
 
-// Looks at once leave what they leave one after another.
 #[test]
-fn no_entry_at_once(rt: HostRuntime) -> Result<(), Fail> {
+fn where_it_climbs(rt: HostRuntime) -> Result<(), Fail> {
     let script = [
-        (Step::Ahead, Seen::Ahead(None)),
-        (Step::Pass(0), Seen::TooFew),
+        (Step::Climb, Seen::Climb(None)),
+        (Step::Resume, Seen::Read),
         (Step::ReadNothing, Seen::Read),
-        (Step::Ahead, Seen::Ahead(Some((0, 2)))),
-        (Step::Pass(3), Seen::TooFew),
-        (Step::Pass(0), Seen::Read),
-        (Step::Next, entry(0, 0, 0)),
-        (Step::Pass(1), Seen::Read),
+        (Step::Climb, Seen::Climb(Some((0, 0, 0)))),
+        (Step::ReadNothing, Seen::Read),
+        (Step::Resume, Seen::Read),
+        (Step::Climb, Seen::Climb(Some((0, 1, 6)))),
         (Step::Next, entry(0, 1, 0)),
-        (Step::Ahead, Seen::Ahead(Some((0, 1)))),
         (Step::ReadNothing, Seen::Read),
-        (Step::Next, entry(1, 0, 0)),
+        (Step::Climb, Seen::Climb(Some((1, 0, 6)))),
         (Step::ReadNothing, Seen::Read),
+        (Step::Climb, Seen::Climb(Some((2, 0, 12)))),
         (Step::ReadNothing, Seen::Read),
-        (Step::Answer, again(Why::NoEntry, 18)),
-    ];
-    play_on_line(&rt, rt.alloc(), &script)
-}
-
-// Whole levels are passed at once, but for the top level.
-#[test]
-fn no_entry_by_levels(rt: HostRuntime) -> Result<(), Fail> {
-    let script = [
-        (Step::ReadNothing, Seen::Read),
-        (Step::Pass(2), Seen::Read),
-        (Step::Next, entry(1, 0, 0)),
-        (Step::Ahead, Seen::Ahead(Some((1, 1)))),
-        (Step::Pass(1), Seen::Read),
-        (Step::Next, entry(2, 0, 0)),
-        (Step::Ahead, Seen::Ahead(Some((2, 1)))),
-        (Step::Pass(1), Seen::TooFew),
-        (Step::ReadNothing, Seen::Read),
+        (Step::Climb, Seen::Climb(None)),
         (Step::Answer, again(Why::NoEntry, 18)),
     ];
     play_on_line(&rt, rt.alloc(), &script)

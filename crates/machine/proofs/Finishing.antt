@@ -233,3 +233,12 @@ turns-all machine valid = ap (turns_of (setting_at machine) (scripts_at machine)
       length-drop (length input.homes) input.scripts,
       valid.scripts,
     )
+
+-- and so many visits more
+pub counted-once : (old new : Machine) (history : History) (actor count : ℕ) → count ≤ 1
+    → HasStridden old new history actor count
+    → length (after_turns (setting_at old) (scripts_at old) history (replicate 1 actor)) ≡ length history + count
+counted-once old new history actor zero few made =
+    ap length (turn-none (setting_at old) (scripts_at old) history actor (made.1 refl).0) ∙ omega arith
+counted-once old new history actor (suc zero) few made = made.0.made
+counted-once old new history actor (suc (suc count)) few made = absurd (omega (arith, few))

@@ -11,6 +11,8 @@ mod Beginning
 mod Sums
 mod Turning
 mod Opening
+mod Climbing
+mod ClimbCells
 mod Passing
 mod Playing
 mod Ending

@@ -1,6 +1,6 @@
 -- A caller's looks at entries that hold nothing, many at once: what as many turns make.
 use Rattle.std.proofs.Common.{◌≡◌, ℕ, zero, suc, ◌+◌, ◌<◌, ◌≤◌, false, [], ◌∷◌, ◌++◌, length, refl, sym, ap, ◌∙◌, subst, arith, None, Option}
-use Rattle.std.specs.Prelude.{All, Some, slice_index, unwrap_or}
+use Rattle.std.specs.Prelude.{Some, unwrap_or}
 use Rattle.std.specs.Option.{is_some}
 use Rattle.std.proofs.lemmas.List.{length-map, length-append, length-replicate}
 use Rattle.entry_word.specs.declared.visit.Key.{Key}
@@ -14,9 +14,8 @@ use Rattle.net_reader.specs.Input.{Contents}
 use Rattle.region_plan.specs.Plan.{PlanData}
 use Rattle.region_plan.specs.Cells.{IsCell}
 use Rattle.visit_log.specs.Cells.{CellData, word_at}
-use Rattle.region_plan.specs.Plan.{clusters_of}
 use Rattle.walk.specs.declared.progress.Climb.{Climb}
-use Rattle.walk.specs.Climbs.{IsClimbOf, IsClimbOver, PassesEntry, climb_past, past-none, readers_left, walk_at}
+use Rattle.walk.specs.Climbs.{IsClimbOf, PassesEntry, climb_past, cluster_at, walk_at}
 use Rattle.walk.specs.Walks.{WalkData}
 use Rattle.machine.specs.declared.caller.Caller.{Caller}
 use Rattle.scripts.specs.Scripts.{scripts_of}
@@ -33,17 +32,17 @@ behind walk old ticket climb zero = record old { walk = Some (walk_at walk climb
 behind walk old ticket climb (suc count) =
     record old { walk = Some (walk_at walk climb); first = Some (unwrap_or old.first ticket) }
 
--- what the looks at a level lean on
-pub record Passes (input : Contents) (plan : PlanData) (cells : CellData) (actor : ℕ) (walk : WalkData)
+-- what the looks at entries ahead lean on
+pub record LooksAhead (input : Contents) (plan : PlanData) (cells : CellData) (actor : ℕ) (walk : WalkData)
     (climb : Climb) (limit : ℕ) : Type 0 where
   pub high : length input.homes ≤ actor
-  pub over : IsClimbOver plan climb
-  pub left : limit ≤ length (readers_left plan climb)
-  pub inside : All (λ cluster. cluster < clusters_of plan climb.level) (readers_left plan climb)
-  pub known : walk.sub < cells.subs
-  pub each : (i : ℕ) → i < limit → PassesEntry plan walk climb i
+  pub each : (i : ℕ) → i < limit → PassesEntry plan walk (climb_past plan climb i)
+  pub cell : (i : ℕ) → i < limit
+      → IsCell plan cells.subs (Entry (climb_past plan climb i).level
+      (cluster_at plan (climb_past plan climb i)) walk.sub)
   pub empty : (i : ℕ) → i < limit
-      → word_at plan cells (Entry climb.level (slice_index (readers_left plan climb) i) walk.sub) ≡ 0
+      → word_at plan cells (Entry (climb_past plan climb i).level
+      (cluster_at plan (climb_past plan climb i)) walk.sub) ≡ 0
 
 -- the first ticket that a caller keeps
 first-kept : (walk : WalkData) (old : Caller) (ticket : ℕ) (climb : Climb) (count later : ℕ)
@@ -103,73 +102,59 @@ passed-one more input plan cells history actor new sees turned =
 
 -- a look more
 passed-more : TicketsGrow → CallersRead → CallerLinesGrow → CallersCount → MoreIsPlayed → (input : Contents)
-    (plan : PlanData) (cells : CellData) (history : History) (actor ticket made : ℕ) (old : Caller) (walk : WalkData)
+    (plan : PlanData) (cells : CellData) (history : History) (actor ticket : ℕ) (old : Caller) (walk : WalkData)
     (climb : Climb) (limit : ℕ) → length history ≡ ticket
-    → Passes input plan cells actor walk climb limit → (count : ℕ) → count < limit
-    → HasPassed input plan cells history actor (made + count)
-    (behind walk old ticket (climb_past plan climb count) (made + count))
-    → HasPassed input plan cells history actor (suc (made + count))
-    (behind walk old ticket (climb_past plan climb (suc count)) (suc (made + count)))
-passed-more grow read lines counts more input plan cells history actor ticket made old walk climb limit place at
+    → LooksAhead input plan cells actor walk climb limit → (count : ℕ) → count < limit
+    → HasPassed input plan cells history actor count
+    (behind walk old ticket (climb_past plan climb count) count)
+    → HasPassed input plan cells history actor (suc count)
+    (behind walk old ticket (climb_past plan climb (suc count)) (suc count))
+passed-more grow read lines counts more input plan cells history actor ticket old walk climb limit place at
     count low passed =
-    let n : ℕ = made + count in
     let here : Climb = climb_past plan climb count in
     let there : Climb = climb_past plan climb (suc count) in
     let now : History = history ++ passed.visits in
-    let key : Key = Entry climb.level (slice_index (readers_left plan climb) count) walk.sub in
-    let entry : PassesEntry plan walk climb count = at.each count low in
-    let is_cell : IsCell plan cells.subs key =
-    record {
-      place = (at.over.progress.0, at.inside count 0 (omega (arith, low, at.left)));
-      known = at.known;
-    } in
+    let key : Key = Entry here.level (cluster_at plan here) walk.sub in
+    let entry : PassesEntry plan walk here = at.each count low in
     let reads : 0 ≡ cell (setting_over input plan) now key =
-    sym (sym (passed.sees.hold.words key (subst (λ n. IsCell plan n key) passed.sees.hold.subs is_cell))
+    sym (sym (passed.sees.hold.words key (subst (λ n. IsCell plan n key) passed.sees.hold.subs (at.cell count low)))
     ∙ at.empty count low) in
-    let seen = looks grow input plan now actor (behind walk old ticket here n) (walk_at walk here)
-    (walk_at walk there) key 0 at.high passed.its (behind-walk walk old ticket here n) entry.key
+    let seen = looks grow input plan now actor (behind walk old ticket here count) (walk_at walk here)
+    (walk_at walk there) key 0 at.high passed.its (behind-walk walk old ticket here count) entry.key
     reads refl entry.stage in
-    let size : length passed.visits ≡ n =
-    sym (length-map passed.visits (λ (v : Visit). v.actor)) ∙ (ap length passed.actors ∙ length-replicate n actor) in
-    let tickets_at : n ≡ 0 → length now ≡ ticket =
+    let size : length passed.visits ≡ count =
+    sym (length-map passed.visits (λ (v : Visit). v.actor)) ∙ (ap length passed.actors ∙ length-replicate count actor)
+    in
+    let tickets_at : count ≡ 0 → length now ≡ ticket =
     λ none. omega (arith, none, size, place, length-append history passed.visits) in
     let turned = looked-on read lines counts input plan cells now actor (length now)
-    (behind walk old ticket here n) (behind walk old ticket there (suc n)) key (walk_at walk there)
+    (behind walk old ticket here count) (behind walk old ticket there (suc count)) key (walk_at walk there)
     at.high passed.sees refl passed.its seen entry.over (sym entry.on)
-    (behind-more walk old ticket here there n (unwrap_or (behind walk old ticket here n).first (length now))
-    (first-kept walk old ticket here n (length now) tickets_at)) in
-    let caller : Caller = behind walk old ticket there (suc n) in
-    let one : n + 1 ≡ suc n = omega arith in
+    (behind-more walk old ticket here there count (unwrap_or (behind walk old ticket here count).first (length now))
+    (first-kept walk old ticket here count (length now) tickets_at)) in
+    let caller : Caller = behind walk old ticket there (suc count) in
+    let one : count + 1 ≡ suc count = omega arith in
     subst (λ m. HasPassed input plan cells history actor m caller) one
-    (made-joined input plan cells cells history actor n 1 (λ later. IsCaller input plan later actor
-    (behind walk old ticket here n)) (λ later. IsCaller input plan later actor caller) passed
+    (made-joined input plan cells cells history actor count 1 (λ later. IsCaller input plan later actor
+    (behind walk old ticket here count)) (λ later. IsCaller input plan later actor caller) passed
     (passed-one more input plan cells now actor caller passed.sees turned))
 
 -- all of them
-pub passed-level : TicketsGrow → CallersRead → CallerLinesGrow → CallersCount → MoreIsPlayed → (input : Contents)
-    (plan : PlanData) (cells : CellData) (history : History) (actor ticket made : ℕ) (old : Caller) (walk : WalkData)
+pub passed-ahead : TicketsGrow → CallersRead → CallerLinesGrow → CallersCount → MoreIsPlayed → (input : Contents)
+    (plan : PlanData) (cells : CellData) (history : History) (actor ticket : ℕ) (old : Caller) (walk : WalkData)
     (climb : Climb) (limit : ℕ) → length history ≡ ticket
-    → Passes input plan cells actor walk climb limit
-    → HasPassed input plan cells history actor made (behind walk old ticket climb made)
+    → LooksAhead input plan cells actor walk climb limit
+    → HasPassed input plan cells history actor 0 (behind walk old ticket climb 0)
     → (count : ℕ) → count ≤ limit
-    → HasPassed input plan cells history actor (made + count)
-    (behind walk old ticket (climb_past plan climb count) (made + count))
-passed-level grow read lines counts more input plan cells history actor ticket made old walk climb limit place at
-    passed zero low =
-    let none : made ≡ made + 0 = omega arith in
-    subst (λ n. HasPassed input plan cells history actor n
-    (behind walk old ticket (climb_past plan climb 0) n)) none
-    (subst (λ c. HasPassed input plan cells history actor made (behind walk old ticket c made))
-    (sym (past-none plan climb at.over)) passed)
-passed-level grow read lines counts more input plan cells history actor ticket made old walk climb limit place at
+    → HasPassed input plan cells history actor count (behind walk old ticket (climb_past plan climb count) count)
+passed-ahead grow read lines counts more input plan cells history actor ticket old walk climb limit place at
+    passed zero low = passed
+passed-ahead grow read lines counts more input plan cells history actor ticket old walk climb limit place at
     passed (suc count) low =
-    let one : suc (made + count) ≡ made + suc count = omega arith in
-    subst (λ n. HasPassed input plan cells history actor n
-    (behind walk old ticket (climb_past plan climb (suc count)) n)) one
-    (passed-more grow read lines counts more input plan cells history actor ticket made old walk climb limit place at
+    passed-more grow read lines counts more input plan cells history actor ticket old walk climb limit place at
     count (omega (arith, low))
-    (passed-level grow read lines counts more input plan cells history actor ticket made old walk climb limit place at
-    passed count (omega (arith, low))))
+    (passed-ahead grow read lines counts more input plan cells history actor ticket old walk climb limit place at
+    passed count (omega (arith, low)))
 
 -- and where there are some, the caller keeps a walk and a first ticket
 pub behind-some : (walk after : WalkData) (old : Caller) (ticket : ℕ) (climb : Climb) (count first : ℕ) → 0 < count

@@ -158,6 +158,8 @@ sub-turned own_law ticket_law kept old history actor count visits subscriber cel
     sees its items pushed room =
     record {
       together = stands.together;
+      homes = stands.homes;
+      routes = stands.routes;
       sees = sees;
       order = pushed
           ∙ (ap (λ xs. xs ++ replicate count actor) stands.order
@@ -214,6 +216,8 @@ caller-turned own_law ticket_law kept old history actor place count visits calle
     its items pushed room =
     record {
       together = stands.together;
+      homes = stands.homes;
+      routes = stands.routes;
       sees = sees;
       order = pushed
           ∙ (ap (λ xs. xs ++ replicate count actor) stands.order

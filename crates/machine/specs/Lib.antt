@@ -6,3 +6,4 @@ pub mod Machines
 pub mod WalkingLaws
 pub mod RestLaws
 pub mod ScriptVisits
+pub mod Climbs

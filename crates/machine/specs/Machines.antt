@@ -15,6 +15,8 @@ use Rattle.machine.specs.declared.machine.Machine.{Machine}
 use Rattle.machine.specs.declared.subscriber.Subscriber.{Subscriber}
 use Rattle.scripts.specs.Scripts.{most_visits, scripts_of}
 use Rattle.machine.specs.Stands.{BelongTogether, Sees, setting_over}
+use Rattle.visit_log.specs.Homes.{AreHomes}
+use Rattle.visit_log.specs.Routes.{AreRoutes}
 use Rattle.machine.specs.Callers.{IsCaller}
 use Rattle.machine.specs.Subscribers.{IsSubscriber}
 
@@ -33,6 +35,8 @@ scripts_at machine = scripts_of (input_at machine)
 -- a machine stands for a history
 pub record HasHistory (machine : Machine) (history : History) : Type 0 where
   pub together : BelongTogether (input_at machine) machine.plan.now machine.distances.now
+  pub homes : AreHomes machine.plan.now machine.homes
+  pub routes : AreRoutes machine.plan.now machine.routes
   pub sees : Sees (input_at machine) machine.plan.now machine.cells history
   pub order : machine.order.items ≡ map (λ visit. visit.actor) history
   pub room : most_visits (setting_at machine) (input_at machine).scripts

@@ -1,16 +1,17 @@
 //! The writes that a subscriber has ahead.
-ghost use Rattle.std.specs.Prelude.{◌≡◌, ◌≤◌, ◌<◌, ◌-◌, [], IfNone, IfSome, drop, length, vec_capacity, vec_len};
+ghost use Rattle.std.specs.Prelude.{◌≡◌, ◌≤◌, ◌<◌, ◌-◌, [], ℕ, IfNone, IfSome, drop, length, vec_capacity, vec_len};
 ghost use Rattle.region_plan.specs.Plan.{PlanData};
 ghost use Rattle.handset.specs.Kept.{GoesWith, HandsetData};
 ghost use Rattle.handset.specs.NextEntries.{erasures_from, renewals_from};
 ghost use Rattle.handset.specs.declared.stage.Stage.{Stage};
 ghost use Rattle.visit_log.specs.Cells.{GoWith};
+ghost use Rattle.visit_log.specs.Homes.{AreHomes};
 ghost use Rattle.machine.specs.Owed.{HasCome, HasNone, IsAhead, IsNextAhead, MayPut, Owes};
 
-use entry_word::{Act, Key, pack_address};
+use entry_word::{Act, pack_address};
 use handset::{EntryStage, Erasures, Handset, Renewals, entry_writes_are_next};
 use region_plan::{Plan, plan_is_sound};
-use visit_log::PlainCells;
+use visit_log::{Homes, PlainCells};
 
 /// A write ahead: the place of its cell among those of the subscriber, whether it commits a move,
 /// and its word.
@@ -24,8 +25,15 @@ pub struct Ahead {
 // Makes the writes of a handset that come next, as many as there is room for, and none of them in
 // a cell.
 #[inline(never)]
-pub fn fill(ahead: &mut Vec<Ahead>, handset: &mut Handset, plan: &Plan, cells: &PlainCells)
+pub fn fill(
+    ahead: &mut Vec<Ahead>,
+    handset: &mut Handset,
+    plan: &Plan,
+    homes: &Homes,
+    cells: &PlainCells,
+)
     requires goes { GoesWith plan.now handset.old }
+    requires homes { AreHomes plan.now homes.now }
     requires cells { GoWith plan.now cells.now }
     requires known { handset.old.sub < cells.now.subs }
     requires none { ahead.old.items ≡ [] }
@@ -38,7 +46,7 @@ pub fn fill(ahead: &mut Vec<Ahead>, handset: &mut Handset, plan: &Plan, cells: &
             return;
         };
         ahead.push_reserved(write);
-        push_entries(ahead, handset, plan, cells);
+        push_entries(ahead, handset, plan, homes);
     }
 }
 
@@ -70,17 +78,17 @@ fn next_ahead(handset: &mut Handset, plan: &Plan, cells: &PlainCells) -> Option<
 
 // Makes the writes of entries that come next, as many as there is room for, while each has another
 // of its kind behind it.
-fn push_entries(ahead: &mut Vec<Ahead>, handset: &mut Handset, plan: &Plan, cells: &PlainCells)
+fn push_entries(ahead: &mut Vec<Ahead>, handset: &mut Handset, plan: &Plan, homes: &Homes)
     requires goes { GoesWith plan.now handset.old }
-    requires cells { GoWith plan.now cells.now }
-    requires known { handset.old.sub < cells.now.subs }
-    ensures { IsAhead plan.now cells.now.subs handset.old handset.new ahead.old ahead.new }
+    requires homes { AreHomes plan.now homes.now }
+    ensures { (subs : ℕ) → handset.old.sub < subs
+        → IsAhead plan.now subs handset.old handset.new ahead.old ahead.new }
 {
     if let Some(renewals) = handset.renewals(plan) {
-        return push_renewals(ahead, handset, plan, cells, renewals);
+        return push_renewals(ahead, handset, plan, homes, renewals);
     }
     if let Some(erasures) = handset.erasures() {
-        push_erasures(ahead, handset, plan, cells, erasures);
+        push_erasures(ahead, handset, plan, homes, erasures);
     }
 }
 
@@ -89,20 +97,19 @@ fn push_renewals(
     ahead: &mut Vec<Ahead>,
     handset: &mut Handset,
     plan: &Plan,
-    cells: &PlainCells,
+    homes: &Homes,
     renewals: Renewals,
 )
     requires stage { handset.old.stage ≡ Stage.Renewing renewals.level }
     requires they { renewals ≡ renewals_from handset.old renewals.level }
     requires goes { GoesWith plan.now handset.old }
-    requires cells { GoWith plan.now cells.now }
-    requires known { handset.old.sub < cells.now.subs }
-    ensures { IsAhead plan.now cells.now.subs handset.old handset.new ahead.old ahead.new }
+    requires homes { AreHomes plan.now homes.now }
+    ensures { (subs : ℕ) → handset.old.sub < subs
+        → IsAhead plan.now subs handset.old handset.new ahead.old ahead.new }
 {
     // Each home is a cluster of its level.
     plan_is_sound(plan);
     entry_writes_are_next();
-    let sub = handset.sub();
     let Renewals {
         level,
         end,
@@ -111,14 +118,10 @@ fn push_renewals(
     } = renewals;
     let room = ahead.capacity() - ahead.len();
     let last = level + room.min((end - level) as usize) as u32;
+    let places = homes.of(node);
     for level in level..last {
-        let key = Key::Entry {
-            level,
-            cluster: plan.home(level, node),
-            sub,
-        };
         ahead.push_reserved(Ahead {
-            place: cells.place(plan, key),
+            place: places[level as usize],
             commits: false,
             word,
         });
@@ -131,43 +134,38 @@ fn push_erasures(
     ahead: &mut Vec<Ahead>,
     handset: &mut Handset,
     plan: &Plan,
-    cells: &PlainCells,
+    homes: &Homes,
     erasures: Erasures,
 )
     requires stage { handset.old.stage ≡ Stage.Erasing erasures.level }
     requires they { erasures ≡ erasures_from handset.old erasures.level }
     requires goes { GoesWith plan.now handset.old }
-    requires cells { GoWith plan.now cells.now }
-    requires known { handset.old.sub < cells.now.subs }
-    ensures { IsAhead plan.now cells.now.subs handset.old handset.new ahead.old ahead.new }
+    requires homes { AreHomes plan.now homes.now }
+    ensures { (subs : ℕ) → handset.old.sub < subs
+        → IsAhead plan.now subs handset.old handset.new ahead.old ahead.new }
 {
     // Each home is a cluster of its level.
     plan_is_sound(plan);
     entry_writes_are_next();
-    let sub = handset.sub();
     let word = pack_address(None);
     let Erasures { level, last, node } = erasures;
     let addresses = handset.addresses();
+    let new = homes.of(node);
     let mut at = level;
-    let mut cluster = plan.home(level, addresses[level as usize]);
+    let mut place = homes.of(addresses[level as usize])[level as usize];
     for above in level + 1..last + 1 {
         if ahead.len() == ahead.capacity() {
             break;
         }
-        let old = plan.home(above, addresses[above as usize]);
-        if old != plan.home(above, node) {
-            let key = Key::Entry {
-                level: at,
-                cluster,
-                sub,
-            };
+        let old = homes.of(addresses[above as usize])[above as usize];
+        if old != new[above as usize] {
             ahead.push_reserved(Ahead {
-                place: cells.place(plan, key),
+                place,
                 commits: false,
                 word,
             });
             at = above;
-            cluster = old;
+            place = old;
         }
     }
     handset.go_to(EntryStage::Erasing { level: at });

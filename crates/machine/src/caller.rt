@@ -1,17 +1,17 @@
 //! A caller: its finds, one after another.
-ghost use Rattle.std.specs.Prelude.{◌≡◌, ◌≤◌, ◌<◌, ◌+◌, ◌^◌, ◌++◌, ◌∷◌, [], ℕ, All, IfOk, drop, length, map, slice_index, vec_capacity};
-ghost use Rattle.entry_word.specs.declared.visit.Key.TheVariants.{Entry};
-ghost use Rattle.directory.specs.Histories.{History};
+ghost use Rattle.std.specs.Prelude.{◌≡◌, ◌≤◌, ◌<◌, ◌+◌, ◌^◌, [], ℕ, All, IfOk, drop, length, map, vec_capacity};
 ghost use Rattle.directory.specs.Finds.{at_origin};
 ghost use Rattle.directory.specs.Outcomes.{found_line};
 ghost use Rattle.net_reader.specs.Seen.{seen_input};
 ghost use Rattle.net_reader.specs.Valid.{IsSearch};
-ghost use Rattle.region_plan.specs.Plan.{clusters_of, levels_of, nodes_of};
+ghost use Rattle.region_plan.specs.Plan.{nodes_of};
 ghost use Rattle.scripts.specs.Scripts.{find_of};
-ghost use Rattle.machine.specs.Stands.{BelongTogether, IsWalking, Sees};
-ghost use Rattle.machine.specs.Callers.{HasLooked, IsCaller, Looks, MakesLooks, MayLook, TakesLooks};
-ghost use Rattle.visit_log.specs.Cells.{GoWith, word_at};
-ghost use Rattle.walk.specs.Climbs.{IsClimbOver, readers_left};
+ghost use Rattle.machine.specs.Stands.{BelongTogether, IsWalking};
+ghost use Rattle.machine.specs.Callers.{Looks, MakesLooks, MayLook, TakesLooks};
+ghost use Rattle.machine.specs.Climbs.{Passes, rung_of};
+ghost use Rattle.visit_log.specs.Cells.{GoWith, word_beside};
+ghost use Rattle.visit_log.specs.Routes.{AreRoutes, IsRung, entry_place, rung_past};
+ghost use Rattle.walk.specs.Climbs.{IsClimbOver, climb_past};
 
 use crate::turn::Turn;
 use directory::{Done, Found, each_visit_is_next, every_order_is_legal, lines_grow, own_after};
@@ -21,8 +21,8 @@ use region_plan::{Plan, plan_is_sound};
 use scripts::scripts_are_valid;
 use std::alloc::{AllocError, Global};
 use trail_laws::{entries_tell, marks_tell};
-use visit_log::PlainCells;
-use walk::{Climb, Walk};
+use visit_log::{Height, PlainCells, Routes, cell_numbers};
+use walk::{Climb, Walk, climbs_go_on};
 
 /// A caller: the walk of the find that it is at, if one is left, the ticket of that find's first
 /// look, and the lines of the finds that are done.
@@ -57,12 +57,14 @@ impl Caller {
         actor: u32,
         input: &Input,
         plan: &Plan,
+        routes: &Routes,
         distances: &Distances,
         cells: &PlainCells,
         ticket: u64,
         most: usize,
     ) -> usize
         requires together { BelongTogether (seen_input input.now) plan.now distances.now }
+        requires routes { AreRoutes plan.now routes.now }
         requires high { length input.now.homes.items ≤ actor }
         requires low { actor < length input.now.scripts.items }
         requires stands { MayLook (seen_input input.now) plan.now cells.now ticket actor
@@ -76,7 +78,16 @@ impl Caller {
         let mut made = 0;
         'looks: while made < most {
             let at = ticket + made as u64;
-            made += self.pass::<ALONE>(actor, input, plan, distances, cells, at, most - made);
+            made += self.pass::<ALONE>(
+                actor,
+                input,
+                plan,
+                routes,
+                distances,
+                cells,
+                at,
+                most - made,
+            );
             if made == most {
                 return made;
             }
@@ -143,12 +154,14 @@ impl Caller {
         actor: u32,
         input: &Input,
         plan: &Plan,
+        routes: &Routes,
         distances: &Distances,
         cells: &PlainCells,
         ticket: u64,
         most: usize,
     ) -> usize
         requires together { BelongTogether (seen_input input.now) plan.now distances.now }
+        requires routes { AreRoutes plan.now routes.now }
         requires high { length input.now.homes.items ≤ actor }
         requires low { actor < length input.now.scripts.items }
         requires stands { MayLook (seen_input input.now) plan.now cells.now ticket actor
@@ -164,57 +177,72 @@ impl Caller {
         let Some(walk) = &mut self.walk else {
             return 0;
         };
-        let Some(mut climb) = walk.climb() else {
+        let Some(climb) = walk.climb() else {
             return 0;
         };
-        let mut made = 0;
-        'levels: while made < most {
-            let count = count_ahead::<ALONE>(plan, cells, walk.sub(), climb, most - made);
-            if count == 0 {
-                break;
-            }
-            climb = climb.past(plan, count);
-            made += count;
-        }
-        if made > 0 {
-            walk.resume(climb);
+        // Each entry ahead is a cell of the plan.
+        plan_is_sound(plan);
+        let count = count_ahead::<ALONE>(plan, routes, cells, walk.sub(), climb, most);
+        if count > 0 {
+            walk.resume(climb_past(plan, routes, climb, count));
             self.first = Some(self.first.unwrap_or(ticket));
         }
-        made
+        count
     }
 }
 
-// How many entries ahead of a climb at its level hold nothing, at most so many. The last one at the
-// top level isn't counted.
+// How many entries ahead of a climb hold nothing, at most so many. The last one at the top level
+// isn't counted.
 fn count_ahead<const ALONE: bool>(
     plan: &Plan,
+    routes: &Routes,
     cells: &PlainCells,
     sub: u32,
     climb: Climb,
     most: usize,
 ) -> usize
     requires goes { GoWith plan.now cells.now }
+    requires routes { AreRoutes plan.now routes.now }
     requires over { IsClimbOver plan.now climb }
     requires known { sub < cells.now.subs }
     ensures few { result ≤ most }
-    ensures left { result ≤ length (readers_left plan.now climb) }
-    ensures above { result ≡ length (readers_left plan.now climb)
-        → climb.level + 1 < levels_of plan.now }
-    ensures clusters { All (λ cluster. cluster < clusters_of plan.now climb.level)
-        (readers_left plan.now climb) }
-    ensures empty { (i : ℕ) → i < result → word_at plan.now cells.now
-        (Entry climb.level (slice_index (readers_left plan.now climb) i) sub) ≡ 0 }
+    ensures rungs { (i : ℕ) → i ≤ result
+        → IsRung plan.now climb.from (rung_past plan.now climb.from (rung_of climb) i) }
+    ensures empty { (i : ℕ) → i < result → word_beside cells.now sub (entry_place plan.now climb.from
+        (rung_past plan.now climb.from (rung_of climb) i)) ≡ 0 }
 {
-    // There is a level.
+    // Readers are clusters of their levels, and the place of each is one of a subscriber's.
     plan_is_sound(plan);
-    let top = plan.levels() - 1;
-    let clusters = climb.readers(plan);
-    let left = if climb.level < top {
-        clusters.len()
-    } else {
-        clusters.len() - 1
-    };
-    cells.count_empty(plan, climb.level, sub, &clusters[..left.min(most)])
+    cell_numbers();
+    let ahead = routes.ahead(climb.from, climb.level, climb.index);
+    let left = ahead.len() - 1;
+    cells.count_empty(sub, &ahead[..left.min(most)])
+}
+
+// A climb past so many entries ahead that hold nothing.
+fn climb_past(plan: &Plan, routes: &Routes, climb: Climb, count: usize) -> Climb
+    requires routes { AreRoutes plan.now routes.now }
+    requires over { IsClimbOver plan.now climb }
+    requires rungs { (i : ℕ) → i ≤ count
+        → IsRung plan.now climb.from (rung_past plan.now climb.from (rung_of climb) i) }
+    ensures exact { result ≡ climb_past plan.now climb count }
+    ensures from { result.from ≡ climb.from }
+    ensures over { IsClimbOver plan.now result }
+    ensures each { (i : ℕ) → i < count → Passes plan.now (climb_past plan.now climb i) }
+{
+    plan_is_sound(plan);
+    climbs_go_on();
+    let Height {
+        level,
+        index,
+        weight,
+    } = routes.past(climb.from, climb.level, climb.index, count);
+    Climb {
+        weight: climb.weight + weight,
+        level,
+        index,
+        ..climb
+    }
 }
 
 // The walk of the find at a place of a script, if there is one.

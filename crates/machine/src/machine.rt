@@ -30,7 +30,7 @@ use region_plan::{Plan, plan_is_sound};
 use scripts::{scripts_are_valid, visits_are_few};
 use std::alloc::{AllocError, Global};
 use trail_laws::{lines_are_in_turn, outcomes_are_right};
-use visit_log::PlainCells;
+use visit_log::{Homes, PlainCells, Routes};
 
 /// The actors of an input at work: the subscribers, then the callers, and the cells that they
 /// visit.
@@ -39,6 +39,8 @@ pub struct Machine<'a> {
     input: &'a Input,
     plan: &'a Plan,
     distances: &'a Distances,
+    homes: Homes,
+    routes: Routes,
     cells: PlainCells,
     subscribers: Vec<Subscriber>,
     callers: Vec<Caller>,
@@ -60,6 +62,8 @@ impl<'a> Machine<'a> {
             × (machine.distances.now ≡ distances.now)) }
         ensures stands { IfOk result (λ machine. HasHistory machine []) }
     {
+        let homes = Homes::new(alloc, plan)?;
+        let routes = Routes::new(alloc, plan)?;
         let cells = PlainCells::new(alloc, plan, &input.homes)?;
         let subscribers = subscribers_of(alloc, input, plan, distances)?;
         let callers = callers_of(alloc, input, plan, distances)?;
@@ -69,6 +73,8 @@ impl<'a> Machine<'a> {
             input,
             plan,
             distances,
+            homes,
+            routes,
             cells,
             subscribers,
             callers,
@@ -246,6 +252,7 @@ impl<'a> Machine<'a> {
             actor,
             self.input,
             self.plan,
+            &self.homes,
             self.distances,
             &mut self.cells,
             ticket,
@@ -277,6 +284,7 @@ impl<'a> Machine<'a> {
             actor,
             self.input,
             self.plan,
+            &self.routes,
             self.distances,
             &self.cells,
             ticket,

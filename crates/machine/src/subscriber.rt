@@ -13,6 +13,7 @@ ghost use Rattle.handset.specs.Kept.{GoesWith};
 ghost use Rattle.handset.specs.Progress.{due};
 ghost use Rattle.handset.specs.Stands.{StandsForSteps, switch_to};
 ghost use Rattle.visit_log.specs.Cells.{GoWith};
+ghost use Rattle.visit_log.specs.Homes.{AreHomes};
 ghost use Rattle.scripts.specs.Scripts.{step_of};
 ghost use Rattle.machine.specs.Stands.{BelongTogether};
 ghost use Rattle.machine.specs.Owed.{HasNone};
@@ -29,7 +30,7 @@ use net_reader::{Call, Input};
 use region_plan::Plan;
 use scripts::scripts_are_valid;
 use std::alloc::{AllocError, Global};
-use visit_log::PlainCells;
+use visit_log::{Homes, PlainCells};
 
 // How many writes a subscriber has ahead at most.
 const MOST_AHEAD: usize = 128;
@@ -80,12 +81,14 @@ impl Subscriber {
         sub: u32,
         input: &Input,
         plan: &Plan,
+        homes: &Homes,
         distances: &Distances,
         cells: &mut PlainCells,
         ticket: u64,
         most: usize,
     ) -> usize
         requires together { BelongTogether (seen_input input.now) plan.now distances.now }
+        requires homes { AreHomes plan.now homes.now }
         requires low { sub < length input.now.homes.items }
         requires stands { MayTakeTurn (seen_input input.now) plan.now cells.old ticket sub
             self.old }
@@ -105,7 +108,7 @@ impl Subscriber {
                 return made;
             }
             let at = ticket + made as u64;
-            match self.write_one(sub, input, plan, distances, cells, at) {
+            match self.write_one(sub, input, plan, homes, distances, cells, at) {
                 Turn::Visited => made += 1,
                 Turn::Finished => return made,
             }
@@ -161,19 +164,21 @@ impl Subscriber {
         sub: u32,
         input: &Input,
         plan: &Plan,
+        homes: &Homes,
         distances: &Distances,
         cells: &mut PlainCells,
         ticket: u64,
     ) -> Turn
         requires together { BelongTogether (seen_input input.now) plan.now distances.now }
+        requires homes { AreHomes plan.now homes.now }
         requires low { sub < length input.now.homes.items }
         requires stands { MayTakeTurn (seen_input input.now) plan.now cells.old ticket sub
             self.old }
         ensures { TakesTurn (seen_input input.now) plan.now ticket sub self.old self.new cells.old
             cells.new result }
     {
-        if !self.has_ahead(plan, cells) {
-            return self.begin(sub, input, plan, distances, cells, ticket);
+        if !self.has_ahead(plan, homes, cells) {
+            return self.begin(sub, input, plan, homes, distances, cells, ticket);
         }
         self.put_one(sub, input, plan, distances, cells, ticket);
         Turn::Visited
@@ -182,8 +187,9 @@ impl Subscriber {
     // Whether a write of the steps that are begun is ahead. Where all that were are in their cells,
     // those that come next are ahead from now on.
     #[inline(always)]
-    fn has_ahead(&mut self, plan: &Plan, cells: &PlainCells) -> bool
+    fn has_ahead(&mut self, plan: &Plan, homes: &Homes, cells: &PlainCells) -> bool
         requires goes { GoesWith plan.now self.old.handset }
+        requires homes { AreHomes plan.now homes.now }
         requires cells { GoWith plan.now cells.now }
         requires known { self.old.handset.sub < cells.now.subs }
         requires within { self.old.made ≤ length self.old.ahead.items }
@@ -201,7 +207,7 @@ impl Subscriber {
         }
         self.ahead.clear();
         self.made = 0;
-        fill(&mut self.ahead, &mut self.handset, plan, cells);
+        fill(&mut self.ahead, &mut self.handset, plan, homes, cells);
         !self.ahead.is_empty()
     }
 
@@ -243,11 +249,13 @@ impl Subscriber {
         sub: u32,
         input: &Input,
         plan: &Plan,
+        homes: &Homes,
         distances: &Distances,
         cells: &mut PlainCells,
         ticket: u64,
     ) -> Turn
         requires together { BelongTogether (seen_input input.now) plan.now distances.now }
+        requires homes { AreHomes plan.now homes.now }
         requires low { sub < length input.now.homes.items }
         requires none { self.old.ahead.items ≡ [] }
         requires rests { due (setting_of plan.now []) self.old.handset ≡ None }
@@ -268,7 +276,7 @@ impl Subscriber {
         if self.lines.push(line).is_err() {
             unreachable!()
         }
-        fill(&mut self.ahead, &mut self.handset, plan, cells);
+        fill(&mut self.ahead, &mut self.handset, plan, homes, cells);
         let write = self.ahead[0];
         cells.put_at(sub, write.place, write.word);
         self.made = 1;

@@ -1,5 +1,5 @@
 -- Places of cells: below the count, and different for different cells.
-use Rattle.std.proofs.Common.{◌≡◌, ℕ, suc, ◌+◌, ◌*◌, ◌<◌, ◌≤◌, Bool, true, false, List, length, take, refl, ap, ◌∙◌, subst, arith}
+use Rattle.std.proofs.Common.{◌≡◌, ℕ, suc, ◌+◌, ◌*◌, ◌<◌, ◌≤◌, Bool, true, false, List, length, take, refl, sym, ap, ◌∙◌, subst, arith}
 use Rattle.std.specs.Prelude.{get_or, nat_lt, sum_by}
 use Rattle.std.proofs.lemmas.Bool.Decides.{nat_tests}
 use Rattle.std.proofs.lemmas.List.{take-take}
@@ -9,7 +9,7 @@ use Rattle.entry_word.specs.declared.visit.Key.{Key}
 use Rattle.entry_word.specs.declared.visit.Key.TheVariants.{Presence, Entry}
 use Rattle.directory.specs.Keys.{key_sub}
 use Rattle.region_plan.specs.Plan.{PlanData, Level, no_level, nodes_of, levels_of, clusters_of}
-use Rattle.visit_log.specs.Cells.{CellData, GoWith, slot_of, width_of}
+use Rattle.visit_log.specs.Cells.{CellData, GoWith, IsPlaceOf, slot_of, width_of}
 use Rattle.region_plan.specs.Cells.{IsPlace, IsCell}
 use Rattle.visit_log.specs.Numbers.{clusters_below, cluster_count, key_place, NumbersBelow, NumbersApart}
 
@@ -130,3 +130,10 @@ slot-apart plan subs key other h l same =
     number-apart (key_sub key) (key_sub other) (width_of plan) (key_place plan key) (key_place plan other)
     (place-below plan key h.place) (place-below plan other l.place) same in
     same-key plan key other h.place l.place both.1 both.0
+
+-- where the word of a cell is, by its place
+pub slot-at : (plan : PlanData) (cells : CellData) (sub at width : ℕ) (key : Key) → GoWith plan cells
+    → width ≡ cells.width → IsPlaceOf plan cells.subs sub at key → sub * width + at ≡ slot_of plan key
+slot-at plan cells sub at width key goes wide its =
+    ap (λ n. sub * width + n) its.place ∙ (ap (λ w. sub * w + key_place plan key) (wide ∙ goes.width)
+    ∙ ap (λ s. s * width_of plan + key_place plan key) (sym its.owner))

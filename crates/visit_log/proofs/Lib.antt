@@ -1,4 +1,7 @@
 mod Apart
 mod Holding
 mod Opening
-mod Scanning
+mod Parts
+mod Going
+mod Reading
+mod Adding

@@ -49,6 +49,10 @@ HasHomes plan =
 abbrev pub word_at : PlanData → CellData → Key → ℕ
 word_at plan cells key = slice_index cells.words (slot_of plan key)
 
+-- the word of a subscriber's cell at a place
+abbrev pub word_beside : CellData → ℕ → ℕ → ℕ
+word_beside cells sub place = slice_index cells.words (sub * cells.width + place)
+
 -- plain cells hold what a history leaves in the cells of subscribers that start at these nodes
 pub record Hold (plan : PlanData) (starts : List ℕ) (cells : CellData)
     (history : History) : Type 0 where

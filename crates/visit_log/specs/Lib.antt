@@ -1,2 +1,4 @@
 pub mod Numbers
 pub mod Cells
+pub mod Routes
+pub mod Homes

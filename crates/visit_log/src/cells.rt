@@ -2,13 +2,12 @@
 ghost use Rattle.std.specs.Prelude.{◌≡◌, ◌+◌, ◌*◌, ◌<◌, ◌≤◌, ◌++◌, ◌∷◌, [], ◌≢◌, ℕ, List, All, IfOk, length, replicate, slice_index, slice_set};
 ghost use Rattle.entry_word.specs.declared.visit.Act.TheVariants.{Put};
 ghost use Rattle.entry_word.specs.declared.visit.Key.{Key};
-ghost use Rattle.entry_word.specs.declared.visit.Key.TheVariants.{Entry};
 ghost use Rattle.directory.specs.Histories.{History, cell};
 ghost use Rattle.directory.specs.Keys.{key_sub};
-ghost use Rattle.region_plan.specs.Plan.{PlanData, clusters_of, levels_of, nodes_of};
+ghost use Rattle.region_plan.specs.Plan.{PlanData, levels_of, nodes_of};
 ghost use Rattle.region_plan.specs.Settings.{setting_of};
 ghost use Rattle.region_plan.specs.Cells.{IsCell, IsPlace};
-ghost use Rattle.visit_log.specs.Cells.{GoWith, Hold, IsPlaceOf, open_word, slot_of, width_of, word_at};
+ghost use Rattle.visit_log.specs.Cells.{GoWith, Hold, IsPlaceOf, open_word, slot_of, width_of, word_at, word_beside};
 ghost use Rattle.visit_log.specs.Numbers.{key_place};
 
 use crate::places::Places;
@@ -70,26 +69,26 @@ impl PlainCells {
         self.words[self.index(plan, key)]
     }
 
-    /// How many of these clusters' entries of a subscriber hold nothing, up to the first that
-    /// holds an address.
-    pub fn count_empty(&self, plan: &Plan, level: u32, sub: u32, clusters: &[u32]) -> usize
-        requires goes { GoWith plan.now self.now }
-        requires level { level < levels_of plan.now }
+    /// How many of a subscriber's cells at these places hold nothing, up to the first that holds
+    /// something.
+    #[inline(always)]
+    pub fn count_empty(&self, sub: u32, places: &[u32]) -> usize
+        requires goes { (plan : PlanData) × GoWith plan self.now }
         requires known { sub < self.now.subs }
-        requires inside { All (λ cluster. cluster < clusters_of plan.now level) clusters.now }
-        ensures within { result ≤ length clusters.now }
-        ensures empty { (i : ℕ) → i < result → word_at plan.now self.now
-            (Entry level (slice_index clusters.now i) sub) ≡ 0 }
-        ensures held { result < length clusters.now → word_at plan.now self.now
-            (Entry level (slice_index clusters.now result) sub) ≢ 0 }
+        requires inside { All (λ place. place < self.now.width) places.now }
+        ensures within { result ≤ length places.now }
+        ensures empty { (i : ℕ) → i < result
+            → word_beside self.now sub (slice_index places.now i) ≡ 0 }
+        ensures held { result < length places.now
+            → word_beside self.now sub (slice_index places.now result) ≢ 0 }
     {
-        let first = sub as usize * self.places.width() as usize + self.places.first(level) as usize;
-        for i in 0..clusters.len() {
-            if self.words[first + clusters[i] as usize] != 0 {
+        let first = sub as usize * self.places.width() as usize;
+        for i in 0..places.len() {
+            if self.words[first + places[i] as usize] != 0 {
                 return i;
             }
         }
-        clusters.len()
+        places.len()
     }
 
     /// Puts a word into a cell; all others stay.

@@ -2,9 +2,13 @@
 #![tactic(auto)]
 
 mod cells;
+mod homes;
 mod numbers;
 mod places;
+mod routes;
 
 pub use cells::PlainCells;
+pub use homes::Homes;
 pub use numbers::{cell_count, cell_number, cell_numbers, key_node};
 pub use places::Places;
+pub use routes::{Height, Routes};

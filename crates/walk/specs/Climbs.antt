@@ -1,14 +1,15 @@
 -- A climb over entries that hold nothing: it goes from reader to reader, behind the last of a level
 -- to the first of the level above, and adds twice the weight inside each that it passes.
--- Key law: `Climb::past`, by its clauses `each` (each entry that is passed is the next look, and
--- what follows is what that look leaves when it reads nothing) and `stands`. `Walk::climb` and
--- `Walk::resume` say that a walk is where its climb is.
-use Rattle.std.specs.Prelude.{◌≡◌, ℕ, zero, suc, ◌+◌, ◌*◌, ◌<◌, Bool, true, false, List, [], Some, None, drop, length, slice_index, nat_lt, if◌then◌else◌}
-use Rattle.std.proofs.Common.{ap, arith, subst}
-use Rattle.std.proofs.lemmas.Bool.{lt-ltb}
+-- Key law: `climbs_go_on` (each entry that is passed is the next look, and what follows is what that
+-- look leaves when it reads nothing). `Walk::climb` and `Walk::resume` say that a walk is where its
+-- climb is.
+use Rattle.std.specs.Prelude.{◌≡◌, ℕ, zero, suc, ◌+◌, ◌*◌, ◌<◌, Bool, true, false, [], Some, None, length, slice_index, nat_lt, if◌then◌else◌}
+use Rattle.std.proofs.Common.{subst}
 use Rattle.entry_word.specs.declared.visit.Key.TheVariants.{Entry}
 use Rattle.directory.specs.Finds.{after_word, answer_of, key_of}
-use Rattle.region_plan.specs.Plan.{PlanData, inside, nodes_of, readers}
+use Rattle.region_plan.specs.Kept.{IsKept}
+use Rattle.region_plan.specs.Matched.{IsMatched, IsWithinReach}
+use Rattle.region_plan.specs.Plan.{PlanData, inside, levels_of, nodes_of, readers}
 use Rattle.region_plan.specs.Settings.{setting_of}
 use Rattle.walk.specs.declared.progress.Climb.{Climb}
 use Rattle.walk.specs.declared.progress.Progress.{Progress}
@@ -40,55 +41,48 @@ pub record IsClimbOver (plan : PlanData) (climb : Climb) : Type 0 where
   pub from : climb.from < nodes_of plan
   pub progress : IsProgressWithin plan climb.from (progress_of climb)
 
--- the readers of its origin that are left at its level
-abbrev pub readers_left : PlanData → Climb → List ℕ
-readers_left plan climb = drop climb.index (readers plan climb.level climb.from)
+-- the cluster that it looks at
+abbrev pub cluster_at : PlanData → Climb → ℕ
+cluster_at plan climb = slice_index (readers plan climb.level climb.from) climb.index
 
--- the weight of a climb past so many readers of a level, from one on
-abbrev pub weight_past : PlanData → ℕ → ℕ → ℕ → ℕ → ℕ → ℕ
-weight_past plan from level index weight zero = weight
-weight_past plan from level index weight (suc count) =
-    weight_past plan from level index weight count
-    + 2 * inside plan level (slice_index (readers plan level from) (index + count)) from
+-- its weight behind that entry, where it holds nothing
+abbrev pub weight_behind : PlanData → Climb → ℕ
+weight_behind plan climb =
+    climb.weight + 2 * inside plan climb.level (cluster_at plan climb) climb.from
 
--- the weight of a climb past so many entries of its level
-abbrev pub climb_weight : PlanData → Climb → ℕ → ℕ
-climb_weight plan climb count =
-    weight_past plan climb.from climb.level climb.index climb.weight count
+-- and where it is then: at the next reader of its level, or at the first of the level above
+abbrev pub next_climb : PlanData → Climb → Climb
+next_climb plan climb =
+    if nat_lt (suc climb.index) (length (readers plan climb.level climb.from)) then
+    record climb { weight = weight_behind plan climb; index = suc climb.index } else
+    record climb { weight = weight_behind plan climb; level = suc climb.level; index = 0 }
 
--- a climb with this weight at a place of its level; behind the last one, at the first of the level
--- above
-abbrev pub climb_to : PlanData → Climb → ℕ → ℕ → Climb
-climb_to plan climb weight index =
-    if nat_lt index (length (readers plan climb.level climb.from)) then
-    record climb { weight = weight; index = index } else
-    record climb { weight = weight; level = suc climb.level; index = 0 }
-
--- a climb past so many entries of its level
+-- a climb behind so many entries that hold nothing
 abbrev pub climb_past : PlanData → Climb → ℕ → Climb
-climb_past plan climb count =
-    climb_to plan climb (climb_weight plan climb count) (climb.index + count)
+climb_past plan climb zero = climb
+climb_past plan climb (suc count) = next_climb plan (climb_past plan climb count)
 
--- behind so many entries a walk looks at the next one of them, and a word that holds nothing takes
--- it past that one
-pub record PassesEntry (plan : PlanData) (walk : WalkData) (climb : Climb) (count : ℕ) :
-    Type 0 where
-  pub key : key_of (call_of walk) (stage_of plan (walk_at walk (climb_past plan climb count)))
-      ≡ Some (Entry climb.level (slice_index (readers_left plan climb) count) walk.sub)
-  pub stage : stage_of plan (walk_at walk (climb_past plan climb (suc count)))
-      ≡ after_word (setting_of plan []) (call_of walk)
-      (stage_of plan (walk_at walk (climb_past plan climb count))) 0
-  pub on : answer_of (stage_of plan (walk_at walk (climb_past plan climb (suc count)))) ≡ None
-  pub over : IsWalkOver plan (walk_at walk (climb_past plan climb (suc count)))
+-- a walk looks at the entry of a climb, and a word that holds nothing takes it to the next one
+pub record PassesEntry (plan : PlanData) (walk : WalkData) (climb : Climb) : Type 0 where
+  pub key : key_of (call_of walk) (stage_of plan (walk_at walk climb))
+      ≡ Some (Entry climb.level (cluster_at plan climb) walk.sub)
+  pub stage : stage_of plan (walk_at walk (next_climb plan climb))
+      ≡ after_word (setting_of plan []) (call_of walk) (stage_of plan (walk_at walk climb)) 0
+  pub on : answer_of (stage_of plan (walk_at walk (next_climb plan climb))) ≡ None
+  pub over : IsWalkOver plan (walk_at walk (next_climb plan climb))
 
--- a climb past no entries is where it was
-pub past-none : (plan : PlanData) (climb : Climb) → IsClimbOver plan climb
-    → climb_past plan climb 0 ≡ climb
-past-none plan climb over =
-    let e : climb.index + 0 ≡ climb.index = omega arith in
-    let count = length (readers plan climb.level climb.from) in
-    rw (lt-ltb (climb.index + 0) count (omega (arith, over.progress.1)))
-    (ap (λ i. let c : Climb = record climb { index = i } in c) e)
+-- a climb with a reader ahead goes on: it stays one of the plan, and each walk from its node passes
+-- its entry
+pub record GoesOn (plan : PlanData) (climb : Climb) : Type 0 where
+  pub over : IsClimbOver plan (next_climb plan climb)
+  pub from : (next_climb plan climb).from ≡ climb.from
+  pub passes : (walk : WalkData) → climb.from ≡ walk.from → PassesEntry plan walk climb
+
+-- so it is over each plan
+abbrev pub ClimbsGoOn : Type 0
+ClimbsGoOn =
+    (plan : PlanData) (climb : Climb) → IsKept plan → IsMatched plan → IsWithinReach plan
+    → IsClimbOver plan climb → (next_climb plan climb).level < levels_of plan → GoesOn plan climb
 
 -- a walk from the same node that is where a climb is goes with the climb's plan
 pub walk-over : (plan : PlanData) (walk : WalkData) (climb : Climb) → climb.from ≡ walk.from

@@ -7,6 +7,6 @@ mod progress;
 mod steps;
 mod walk;
 
-pub use laws::empty_words;
+pub use laws::{climbs_go_on, empty_words};
 pub use progress::Climb;
 pub use walk::{Walk, WalkFault};

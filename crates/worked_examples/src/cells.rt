@@ -4,7 +4,9 @@ ghost use Rattle.entry_word.specs.declared.visit.Key.TheVariants.{Presence, Entr
 ghost use Rattle.region_plan.specs.Examples.{line_of_four};
 ghost use Rattle.station.specs.Setup.{cell_word, lock_word, tally_word, word_count};
 ghost use Rattle.visit_log.specs.Cells.{slot_of, width_of};
+ghost use Rattle.visit_log.specs.Homes.{home_place};
 ghost use Rattle.visit_log.specs.Numbers.{cell_count, cell_number, clusters_below, key_place};
+ghost use Rattle.visit_log.specs.Routes.{entry_place, rung_at, rung_past, ways_past};
 ghost use Rattle.worked_examples.specs.Passes.{three_on_line};
 
 /// Cells by number: the presences node by node, and then the entries cluster by cluster and level
@@ -23,6 +25,19 @@ pub fn worked_cells()
     ensures slots { map (slot_of line_of_four)
         (Presence 0 2 ∷ Presence 3 0 ∷ Entry 0 0 1 ∷ Entry 0 1 2 ∷ Entry 1 0 0 ∷ Entry 2 0 2 ∷ [])
         ≡ 16 ∷ 3 ∷ 12 ∷ 21 ∷ 6 ∷ 23 ∷ [] }
+{}
+
+/// The readers of node 3 in a row over all levels: two of the lowest, one of each above. The places
+/// of their entries, what the ways to their leaders weigh, there and back, summed up, and the places
+/// of the node's homes.
+pub fn worked_rungs()
+    ensures rungs { map (rung_past line_of_four 3 (rung_at 0 0)) (0 ∷ 1 ∷ 2 ∷ 3 ∷ [])
+        ≡ rung_at 0 0 ∷ rung_at 0 1 ∷ rung_at 1 0 ∷ rung_at 2 0 ∷ [] }
+    ensures places { map (entry_place line_of_four 3)
+        (rung_at 0 0 ∷ rung_at 0 1 ∷ rung_at 1 0 ∷ rung_at 2 0 ∷ []) ≡ 4 ∷ 5 ∷ 6 ∷ 7 ∷ [] }
+    ensures homes { map (home_place line_of_four 3) (0 ∷ 1 ∷ 2 ∷ []) ≡ 5 ∷ 6 ∷ 7 ∷ [] }
+    ensures ways { map (ways_past line_of_four 3 (rung_at 0 0)) (0 ∷ 1 ∷ 2 ∷ 3 ∷ 4 ∷ [])
+        ≡ 0 ∷ 6 ∷ 6 ∷ 12 ∷ 18 ∷ [] }
 {}
 
 /// The words of a tracker's table for three subscribers: the ticket word is the first; then come

@@ -24,7 +24,7 @@ mod words;
 mod wrong;
 
 pub use calls::{wrong_additions, wrong_answers, wrong_finds, wrong_steps, wrong_stops};
-pub use cells::{worked_cells, worked_words};
+pub use cells::{worked_cells, worked_rungs, worked_words};
 pub use censuses::worked_censuses;
 pub use chases::{worked_chases, wrong_chases};
 pub use closing::{wrong_causes, wrong_orders};

@@ -1,4 +1,4 @@
-use Rattle.std.proofs.Common.{◌≡◌, refl, subst, sym}
+use Rattle.std.proofs.Common.{◌≡◌, arith, refl, subst, sym}
 use Rattle.machine.specs.Owed.{HasNone, Owes}
 use Rattle.machine.proofs.Owing.{ahead-joined, ahead-more, ahead-none}
 use Rattle.machine.proofs.ahead.fill.Goals as goal
@@ -19,7 +19,8 @@ writes-preserved c =
     c.writes.ahead c.push_reserved.new.self c.writes.invariant.ahead c.in-Some.ensures.next
     c.push_reserved.ensures.items c.push_reserved.ensures.capacity in
     let all = ahead-joined plan subs old c.next_ahead.new.handset c.push_entries.new.handset c.args.ahead.now
-    c.push_reserved.new.self c.push_entries.new.ahead one c.push_entries.ensures in
+    c.push_reserved.new.self c.push_entries.new.ahead one
+    (c.push_entries.ensures subs (omega (arith, c.requires.known, one.its))) in
     record { goes = all.goes; its = all.its; ahead = all }
 
 pub returns-in_default-clause-rests : goal.returns-in_default-clause-rests

@@ -1,21 +1,22 @@
-use Rattle.std.proofs.Common.{◌≡◌, ◌<◌, ◌≤◌, ◌+◌, ◌-◌, ℕ, List, true, false, not, suc, [], Some, ap, subst, sym, arith, refl, ◌∙◌}
+use Rattle.std.proofs.Common.{◌≡◌, ◌<◌, ◌≤◌, ◌+◌, ◌-◌, ℕ, List, true, false, not, suc, [], Some, ap, subst, sym, arith, refl, ◌∙◌, get_or}
 use Rattle.std.specs.Prelude.{option_map, slice_index}
 use Rattle.std.proofs.lemmas.Bool.{eq-eqb, ne_eqb}
 use Rattle.entry_word.specs.declared.visit.Act.TheVariants.{Put}
 use Rattle.entry_word.specs.declared.visit.Key.TheVariants.{Entry}
 use Rattle.handset.specs.Entries.{EntryWrite, at_entry, entry_put, entry_write, erasure_to}
-use Rattle.handset.specs.Kept.{GoesWith}
+use Rattle.handset.specs.Kept.{GoesWith, IsMoveStage}
 use Rattle.handset.specs.NextEntries.{IsNextEntry}
 use Rattle.handset.specs.Progress.{first_with, is_old}
 use Rattle.handset.specs.declared.entries.Erasures.{Erasures}
 use Rattle.handset.specs.declared.entries.EntryStage.TheVariants as entries
-use Rattle.region_plan.specs.Plan.{clusters_of, home, levels_of}
+use Rattle.region_plan.specs.Plan.{home, levels_of, nodes_of}
 use Rattle.region_plan.specs.Settings.{setting_of}
+use Rattle.visit_log.specs.Homes.{home_place}
 use Rattle.machine.specs.Owed.{IsAhead}
 use Rattle.machine.proofs.MovedEntries.{at-stage, first-found, first-passed}
 use Rattle.machine.proofs.Owing.{ahead-more, ahead-none}
 use Rattle.machine.proofs.ahead.push_erasures.Goals as goal
-use Rattle.machine.proofs.ahead.push_erasures.Goals.{then-old-home, else-old-home}
+use Rattle.machine.proofs.ahead.push_erasures.Goals.{then-old-new, else-old-new}
 
 pub loop-above-init : goal.loop-above-init
 loop-above-init c =
@@ -25,34 +26,53 @@ loop-above-init c =
     let here : handset ≡ at_entry handset (entries.Erasing at) =
     at-stage handset (entries.Erasing at) c.requires.stage in
     let next : suc at ≡ at + 1 = omega arith in
+    let low : at < levels_of plan = omega (
+      arith,
+      subst (λ s. IsMoveStage (nodes_of plan) handset.last s) c.requires.stage c.requires.goes.stage,
+      c.requires.goes.renewed,
+    ) in
+    let inside : get_or c.addresses-addresses.result.now at 0 < nodes_of plan =
+    subst (λ (xs : List ℕ). slice_index xs at < nodes_of plan) (sym c.addresses-addresses.ensures)
+    (c.requires.goes.inside at low) in
+    let here_place : get_or c.of.result.now at 0 ≡ home_place plan (slice_index handset.addresses at) at =
+    c.of.ensures.places plan c.requires.homes inside at low
+    ∙ ap (λ (xs : List ℕ). home_place plan (slice_index xs at) at) c.addresses-addresses.ensures in
     record {
       low = omega arith;
       goes = subst (GoesWith plan) here c.requires.goes;
-      cluster = c.home-cluster.ensures
-          ∙ ap (λ (xs : List ℕ). home plan at (slice_index xs at)) c.addresses-addresses.ensures;
+      place = here_place;
       next = ap (λ n. first_with (is_old (setting_of plan []) handset) n (suc handset.last.renewed - n)) next;
-      ahead = subst (λ h. IsAhead plan c.args.cells.now.subs handset h c.args.ahead.now c.args.ahead.now)
-          here (ahead-none plan c.args.cells.now.subs handset c.args.ahead.now c.requires.goes);
+      ahead = λ subs known.
+          subst (λ h. IsAhead plan subs handset h c.args.ahead.now c.args.ahead.now) here
+          (ahead-none plan subs handset c.args.ahead.now c.requires.goes);
     }
 
 pub loop-above-preserved : goal.loop-above-preserved
 loop-above-preserved c =
     let plan = c.args.plan.now in
-    let subs = c.args.cells.now.subs in
     let handset = c.args.handset.now in
     let at : ℕ = c.loop-above.at in
     let above : ℕ = c.loop-above.above in
     let below : above ≤ handset.last.renewed =
     omega (arith, c.loop-above-test.true, ap (λ (e : Erasures). e.last) c.requires.they) in
-    let here : c.home-old.result ≡ home plan above (slice_index handset.addresses above) =
-    c.home-old.ensures ∙ ap (λ (xs : List ℕ). home plan above (slice_index xs above)) c.addresses-addresses.ensures in
-    let there : c.home.result ≡ home plan above handset.last.to =
-    c.home.ensures ∙ ap (home plan above) (ap (λ (e : Erasures). e.node) c.requires.they) in
-    elim c.if-old-home.branch [
-      | then-old-home w ↦
+    let high : above < levels_of plan = omega (arith, below, c.requires.goes.renewed) in
+    let inside : get_or c.addresses-addresses.result.now above 0 < nodes_of plan =
+    subst (λ (xs : List ℕ). slice_index xs above < nodes_of plan) (sym c.addresses-addresses.ensures)
+    (c.requires.goes.inside above high) in
+    let here : get_or c.of-in-loop-above.result.now above 0
+    ≡ home_place plan (slice_index handset.addresses above) above =
+    c.of-in-loop-above.ensures.places plan c.requires.homes inside above high
+    ∙ ap (λ (xs : List ℕ). home_place plan (slice_index xs above) above) c.addresses-addresses.ensures in
+    let node : c.args.erasures.node ≡ handset.last.to = ap (λ (e : Erasures). e.node) c.requires.they in
+    let there : get_or c.of-new.result.now above 0 ≡ home_place plan handset.last.to above =
+    c.of-new.ensures.places plan c.requires.homes
+    (subst (λ n. n < nodes_of plan) (sym node) c.requires.goes.to) above high
+    ∙ ap (λ n. home_place plan n above) node in
+    elim c.if-old-new.branch [
+      | then-old-new w ↦
           let old : is_old (setting_of plan []) handset above ≡ true =
           ap not (ne_eqb (home plan above (slice_index handset.addresses above)) (home plan above handset.last.to)
-          (λ same. w.if-old-home.true (here ∙ same ∙ sym there))) in
+          (λ same. w.if-old-new.true (omega (arith, here, there, same)))) in
           let write : EntryWrite = erasure_to (setting_of plan []) handset at above in
           let is : entry_write (setting_of plan []) handset (entries.Erasing at) ≡ Some write =
           ap (option_map (erasure_to (setting_of plan []) handset at)) (c.loop-above.invariant.next
@@ -62,33 +82,32 @@ loop-above-preserved c =
           c.loop-above.invariant.goes is in
           let low : at < levels_of plan =
           omega (arith, c.loop-above.invariant.low, below, c.requires.goes.renewed) in
-          rw (w.at-is, w.ahead-is, w.cluster-is) (record {
+          rw (w.at-is, w.ahead-is, w.place-is) (record {
             low = omega arith;
             goes = its.goes;
-            cluster = here;
+            place = here;
             next = ap (λ n. first_with (is_old (setting_of plan []) handset) n (suc handset.last.renewed - n))
                 (let e : suc above ≡ above + 1 = omega arith in e);
-            ahead = ahead-more plan subs handset (at_entry handset (entries.Erasing at))
+            ahead = λ subs known. ahead-more plan subs handset (at_entry handset (entries.Erasing at))
                 (at_entry handset (entries.Erasing above))
-                (record { place = w.place.result; commits = false; word = c.pack_address-word.result })
-                c.args.ahead.now c.loop-above.ahead w.push_reserved.new.self c.loop-above.invariant.ahead (record {
+                (record { place = c.loop-above.place; commits = false; word = c.pack_address-word.result })
+                c.args.ahead.now c.loop-above.ahead w.push_reserved.new.self (c.loop-above.invariant.ahead subs known) (record {
                   visit = entry_put handset.sub write;
-                  key = Entry at c.loop-above.cluster handset.sub;
-                  act = ap2 (λ cluster word. Put (Entry at cluster handset.sub) word)
-                      (sym c.loop-above.invariant.cluster) (sym c.pack_address-word.ensures);
+                  key = Entry at (home plan at (slice_index handset.addresses at)) handset.sub;
+                  act = ap (Put (Entry at (home plan at (slice_index handset.addresses at)) handset.sub))
+                      (sym c.pack_address-word.ensures);
                   commits = refl;
                   cell = record {
                     cell = record {
                       place = (
                         low,
-                        subst (λ n. n < clusters_of plan at) (sym c.loop-above.invariant.cluster)
-                            (c.plan_is_sound.ensures.matched.homes at (slice_index handset.addresses at) low
-                            (c.requires.goes.inside at low)),
+                        c.plan_is_sound.ensures.matched.homes at (slice_index handset.addresses at) low
+                            (c.requires.goes.inside at low),
                       );
-                      known = c.requires.known;
+                      known = known;
                     };
                     owner = refl;
-                    place = w.place.ensures;
+                    place = c.loop-above.invariant.place;
                   };
                   next = its.visit;
                   stands = its.stands;
@@ -96,19 +115,21 @@ loop-above-preserved c =
                   its = refl;
                 }) w.push_reserved.ensures.items w.push_reserved.ensures.capacity;
           })
-      | else-old-home w ↦
+      | else-old-new w ↦
           let young : is_old (setting_of plan []) handset above ≡ false =
           ap not (eq-eqb (home plan above (slice_index handset.addresses above)) (home plan above handset.last.to)
-          (sym here ∙ w.if-old-home.false ∙ there)) in
-          rw (w.at-is, w.ahead-is, w.cluster-is) (record {
+          (omega (arith, here, there, w.if-old-new.false))) in
+          rw (w.at-is, w.ahead-is, w.place-is) (record {
             low = omega (arith, c.loop-above.invariant.low);
             goes = c.loop-above.invariant.goes;
-            cluster = c.loop-above.invariant.cluster;
+            place = c.loop-above.invariant.place;
             next = c.loop-above.invariant.next
                 ∙ first-passed (is_old (setting_of plan []) handset) above handset.last.renewed below young;
             ahead = c.loop-above.invariant.ahead;
           })
     ]
-  where
-    ap2 : {A B C : Type 0} (f : A → B → C) {x y : A} {u v : B} → x ≡ y → u ≡ v → f x u ≡ f y v
-    ap2 f p q = cc
+
+pub returns : goal.returns
+returns c = λ subs known.
+    subst (λ h. IsAhead c.args.plan.now subs c.args.handset.now h c.args.ahead.now c.loop-above.ahead)
+    (sym c.go_to.ensures) (c.loop-above.invariant.ahead subs known)

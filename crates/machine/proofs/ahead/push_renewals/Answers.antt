@@ -1,4 +1,4 @@
-use Rattle.std.proofs.Common.{◌≡◌, ◌<◌, ◌+◌, ◌-◌, ℕ, false, suc, [], Some, ap, subst, sym, arith, refl, ◌∙◌, length}
+use Rattle.std.proofs.Common.{◌≡◌, ◌<◌, ◌+◌, ◌-◌, ℕ, false, suc, [], Some, ap, subst, sym, arith, refl, ◌∙◌, length, get_or}
 use Rattle.std.proofs.Math.Nat.{min-le_left, min-le_right}
 use Rattle.entry_word.specs.declared.visit.Key.TheVariants.{Entry}
 use Rattle.handset.specs.Entries.{EntryWrite, at_entry, entry_put, entry_write}
@@ -6,9 +6,10 @@ use Rattle.handset.specs.Kept.{GoesWith}
 use Rattle.handset.specs.NextEntries.{IsNextEntry}
 use Rattle.handset.specs.declared.entries.EntryStage.TheVariants as entries
 use Rattle.handset.specs.declared.entries.Renewals.{Renewals}
-use Rattle.region_plan.specs.Plan.{clusters_of, home, levels_of}
+use Rattle.region_plan.specs.Plan.{home, levels_of, nodes_of}
 use Rattle.region_plan.specs.Settings.{setting_of}
 use Rattle.std.proofs.lemmas.List.{length_push}
+use Rattle.visit_log.specs.Homes.{home_place}
 use Rattle.machine.specs.Owed.{IsAhead}
 use Rattle.machine.proofs.MovedEntries.{at-stage, renewal-at}
 use Rattle.machine.proofs.Owing.{ahead-more, ahead-none}
@@ -30,19 +31,19 @@ loop-level-init c =
         c.args.ahead.now.ok.0,
         c.args.ahead.now.ok.1,
       );
-      ahead = subst (λ h. IsAhead c.args.plan.now c.args.cells.now.subs handset h c.args.ahead.now c.args.ahead.now)
-          here (ahead-none c.args.plan.now c.args.cells.now.subs handset c.args.ahead.now c.requires.goes);
+      ahead = λ subs known.
+          subst (λ h. IsAhead c.args.plan.now subs handset h c.args.ahead.now c.args.ahead.now) here
+          (ahead-none c.args.plan.now subs handset c.args.ahead.now c.requires.goes);
     }
 
 pub loop-level-preserved : goal.loop-level-preserved
 loop-level-preserved c =
     let plan = c.args.plan.now in
-    let subs = c.args.cells.now.subs in
     let handset = c.args.handset.now in
     let at : ℕ = c.loop-level.level in
     let write : EntryWrite = record {
       level = at;
-      cluster = c.home.result;
+      cluster = home plan at handset.last.to;
       word = c.args.renewals.word;
       next = entries.Renewing (suc at);
     } in
@@ -57,10 +58,13 @@ loop-level-preserved c =
     )
     in
     let low : at < levels_of plan = omega (arith, below, c.requires.goes.renewed) in
-    let there : c.home.result ≡ home plan at handset.last.to =
-    c.home.ensures ∙ ap (home plan at) (ap (λ (r : Renewals). r.node) c.requires.they) in
+    let place : ℕ = get_or c.of-places.result.now at 0 in
+    let node : c.args.renewals.node ≡ handset.last.to = ap (λ (r : Renewals). r.node) c.requires.they in
+    let there : place ≡ home_place plan handset.last.to at =
+    c.of-places.ensures.places plan c.requires.homes
+    (subst (λ n. n < nodes_of plan) (sym node) c.requires.goes.to) at low ∙ ap (λ n. home_place plan n at) node in
     let is : entry_write (setting_of plan []) handset (entries.Renewing at) ≡ Some write =
-    renewal-at plan handset at c.home.result c.args.renewals.word below (sym there)
+    renewal-at plan handset at (home plan at handset.last.to) c.args.renewals.word below refl
     (sym (ap (λ (r : Renewals). r.word) c.requires.they))
     in
     let its : IsNextEntry plan handset (entries.Renewing at) write =
@@ -77,32 +81,29 @@ loop-level-preserved c =
         c.push_reserved.ensures.capacity,
         ap length c.push_reserved.ensures.items,
         length_push c.loop-level.ahead.items (record {
-          place = c.place.result;
+          place = place;
           commits = false;
           word = c.args.renewals.word;
         }),
       );
-      ahead = subst (λ n. IsAhead plan subs handset (at_entry handset (entries.Renewing n)) c.args.ahead.now
+      ahead = λ subs known.
+          subst (λ n. IsAhead plan subs handset (at_entry handset (entries.Renewing n)) c.args.ahead.now
           c.push_reserved.new.self) more
           (ahead-more plan subs handset (at_entry handset (entries.Renewing at))
           (at_entry handset (entries.Renewing (suc at)))
-          (record { place = c.place.result; commits = false; word = c.args.renewals.word }) c.args.ahead.now
-          c.loop-level.ahead c.push_reserved.new.self c.loop-level.invariant.ahead (record {
+          (record { place = place; commits = false; word = c.args.renewals.word }) c.args.ahead.now
+          c.loop-level.ahead c.push_reserved.new.self (c.loop-level.invariant.ahead subs known) (record {
             visit = entry_put handset.sub write;
-            key = Entry at c.home.result handset.sub;
+            key = Entry at (home plan at handset.last.to) handset.sub;
             act = refl;
             commits = refl;
             cell = record {
               cell = record {
-                place = (
-                  low,
-                  subst (λ n. n < clusters_of plan at) (sym there)
-                      (c.plan_is_sound.ensures.matched.homes at handset.last.to low c.requires.goes.to),
-                );
-                known = c.requires.known;
+                place = (low, c.plan_is_sound.ensures.matched.homes at handset.last.to low c.requires.goes.to);
+                known = known;
               };
               owner = refl;
-              place = c.place.ensures;
+              place = there;
             };
             next = its.visit;
             stands = its.stands;
@@ -110,3 +111,11 @@ loop-level-preserved c =
             its = refl;
           }) c.push_reserved.ensures.items c.push_reserved.ensures.capacity);
     }
+
+pub returns : goal.returns
+returns c = λ subs known.
+    let last : c.loop-level.level ≡ c.args.renewals.level + c.min.result =
+    omega (arith, c.loop-level-test.false, c.loop-level.auto.level, c.loop-level.auto.level-end (omega arith)) in
+    subst (λ h. IsAhead c.args.plan.now subs c.args.handset.now h c.args.ahead.now c.loop-level.ahead)
+    (ap (λ n. at_entry c.args.handset.now (entries.Renewing n)) last ∙ sym c.go_to.ensures)
+    (c.loop-level.invariant.ahead subs known)

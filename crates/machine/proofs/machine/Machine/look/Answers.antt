@@ -23,6 +23,9 @@ look-count-requires-clause-stands g c =
           c.index_mut.ensures.value,
     )
 
+pub look-count-requires-clause-routes : goal.look-count-requires-clause-routes
+look-count-requires-clause-routes g c = c.requires.stands.1.routes
+
 pub log_run-requires : goal.log_run-requires
 log_run-requires g c =
     let history = c.requires.stands.0 in

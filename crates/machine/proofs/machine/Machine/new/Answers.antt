@@ -23,6 +23,8 @@ most_visits-requires c = record {
 pub returns-clause-stands : goal.returns-clause-stands
 returns-clause-stands c = record {
   together = c.requires.together;
+  homes = c.in_ok-homes.ensures;
+  routes = c.in_ok-routes.ensures;
   sees = record {
     played = none-played (setting_over (seen_input c.args.input.now) c.args.plan.now)
         (scripts_of (seen_input c.args.input.now));

@@ -1,8 +1,8 @@
-use Rattle.std.proofs.Common.{◌≡◌, ◌+◌, ◌-◌, arith, refl, subst, sym}
+use Rattle.std.proofs.Common.{◌≡◌, ◌+◌, ◌-◌, arith, length, refl, subst, sym}
 use Rattle.std.specs.Prelude.{replicate}
 use Rattle.directory.specs.Orders.{after_turns}
 use Rattle.machine.specs.Machines.{HasHistory, HasMade, scripts_at, setting_at}
-use Rattle.machine.proofs.Finishing.{made-idle, made-joined, made-none, same-through, turned-once}
+use Rattle.machine.proofs.Finishing.{counted-once, made-idle, made-joined, made-none, same-through, turned-once}
 use Rattle.machine.proofs.machine.Machine.turns.Goals as goal
 
 pub returns-then-count-eq1-clause-stands : goal.returns-then-count-eq1-clause-stands
@@ -11,6 +11,13 @@ returns-then-count-eq1-clause-stands c = λ history is.
     history (replicate n c.args.actor))) (sym c.if-count-eq1.true)
     (turned-once c.args.self.now c.stride.new.self history c.args.actor c.stride.result c.stride.ensures.few
     (c.stride.ensures.stands history is)).0
+
+pub returns-then-count-eq1-clause-made : goal.returns-then-count-eq1-clause-made
+returns-then-count-eq1-clause-made c = λ history is.
+    subst (λ n. length (after_turns (setting_at c.args.self.now) (scripts_at c.args.self.now) history
+    (replicate n c.args.actor)) ≡ length history + c.stride.result) (sym c.if-count-eq1.true)
+    (counted-once c.args.self.now c.stride.new.self history c.args.actor c.stride.result c.stride.ensures.few
+    (c.stride.ensures.stands history is))
 
 pub turns-init : goal.turns-init
 turns-init c = record {

@@ -1,46 +1,40 @@
-use Rattle.std.proofs.Common.{◌≡◌, ◌+◌, ◌*◌, ◌<◌, ap, arith, get_or, length, ◌∙◌}
-use Rattle.std.specs.Prelude.{slice_index}
+use Rattle.std.proofs.Common.{◌≡◌, ℕ, ◌+◌, ◌*◌, ◌<◌, ap, arith, get_or, length, ◌∙◌}
 use Rattle.std.proofs.lemmas.List.{get_or_default}
-use Rattle.visit_log.specs.Cells.{CellData, slot_of}
-use Rattle.entry_word.specs.declared.visit.Key.TheVariants.{Entry}
-use Rattle.visit_log.proofs.Scanning.{entry-within, slot-entry}
+use Rattle.visit_log.specs.Cells.{CellData}
+use Rattle.visit_log.proofs.Apart.{number-below}
 use Rattle.visit_log.proofs.cells.PlainCells.count_empty.Goals as goal
+
+-- a place of a subscriber is one of the words
+word-within : (cells : CellData) (sub place width total : ℕ) → total ≡ cells.subs * width
+    → cells.width ≡ width → sub < cells.subs → place < cells.width → sub * cells.width + place < total
+word-within cells sub place width total words wide known low =
+    omega (
+      arith,
+      words,
+      ap (λ w. sub * w + place) wide,
+      number-below sub cells.subs width place known (omega (arith, low, wide)),
+    )
 
 pub index-requires : goal.index-requires
 index-requires c =
-    let wide : c.width.result ≡ c.args.self.now.width =
-    c.width.ensures ∙ ap (λ (cells : CellData). cells.width) c.self.view_is in
-    let begins : c.first.result ≡ slice_index c.args.self.now.firsts c.args.level =
-    c.first.ensures ∙ ap (λ (cells : CellData). slice_index cells.firsts c.args.level) c.self.view_is in
     omega (
       arith,
       c.self.inside.words.ok.0,
-      ap length (ap (λ (cells : CellData). cells.words) c.self.view_is),
-      entry-within c.args.plan.now c.args.self.now c.args.level c.args.sub
-          (get_or c.args.clusters.now c.loop-i.i 0) c.width.result c.first.result c.requires.goes c.requires.level
-          (c.requires.inside c.loop-i.i 0 c.loop-i-test.true) c.requires.known wide begins,
+      ap (λ (k : CellData). length k.words) c.self.view_is,
+      ap (λ w. c.args.sub * w) (c.width.ensures ∙ ap (λ (k : CellData). k.width) c.self.view_is),
+      word-within c.args.self.now c.args.sub (get_or c.args.places.now c.loop-i.i 0) _ _ c.requires.goes.1.words
+          c.requires.goes.1.width c.requires.known (c.requires.inside c.loop-i.i 0 c.loop-i-test.true),
     )
 
 pub returns-then-index-ne0-clause-held : goal.returns-then-index-ne0-clause-held
 returns-then-index-ne0-clause-held c = λ short none.
-    let wide : c.width.result ≡ c.args.self.now.width =
-    c.width.ensures ∙ ap (λ (cells : CellData). cells.width) c.self.view_is in
-    let begins : c.first.result ≡ slice_index c.args.self.now.firsts c.args.level =
-    c.first.ensures ∙ ap (λ (cells : CellData). slice_index cells.firsts c.args.level) c.self.view_is in
-    let short_enough : c.args.sub * c.width.result + c.first.result + get_or c.args.clusters.now c.loop-i.i 0
-    < length c.self.inside.words.items =
-    omega (
-      arith,
-      ap length (ap (λ (cells : CellData). cells.words) c.self.view_is),
-      entry-within c.args.plan.now c.args.self.now c.args.level c.args.sub
-          (get_or c.args.clusters.now c.loop-i.i 0) c.width.result c.first.result c.requires.goes c.requires.level
-          (c.requires.inside c.loop-i.i 0 c.loop-i-test.true) c.requires.known wide begins,
-    ) in
+    let place : ℕ = get_or c.args.places.now c.loop-i.i 0 in
+    let within = word-within c.args.self.now c.args.sub place _ _ c.requires.goes.1.words c.requires.goes.1.width
+    c.requires.known (c.requires.inside c.loop-i.i 0 c.loop-i-test.true) in
+    let wide : c.args.sub * c.width.result + place ≡ c.args.sub * c.args.self.now.width + place =
+    ap (λ w. c.args.sub * w + place) (c.width.ensures ∙ ap (λ (k : CellData). k.width) c.self.view_is) in
     c.if-index-ne0.true (c.index.ensures
-    ∙ (get_or_default c.self.inside.words.items _ c.index.result.now 0 short_enough
-    ∙ (ap (λ i. get_or c.self.inside.words.items i 0)
-    (slot-entry c.args.plan.now c.args.self.now c.args.level c.args.sub (get_or c.args.clusters.now c.loop-i.i 0)
-    c.width.result c.first.result c.requires.goes c.requires.level wide begins)
-    ∙ (ap (λ (cells : CellData). get_or cells.words
-    (slot_of c.args.plan.now (Entry c.args.level (get_or c.args.clusters.now c.loop-i.i 0) c.args.sub)) 0)
-    c.self.view_is ∙ none))))
+    ∙ (ap (λ (k : CellData). get_or k.words (c.args.sub * c.width.result + place) c.index.result.now) c.self.view_is
+    ∙ (ap (λ k. get_or c.args.self.now.words k c.index.result.now) wide
+    ∙ (get_or_default c.args.self.now.words (c.args.sub * c.args.self.now.width + place) c.index.result.now 0 within
+    ∙ none))))

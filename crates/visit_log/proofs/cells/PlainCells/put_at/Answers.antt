@@ -3,7 +3,7 @@ use Rattle.entry_word.specs.declared.visit.Act.TheVariants.{Put}
 use Rattle.visit_log.specs.Cells.{CellData, Hold}
 use Rattle.visit_log.proofs.Apart.{slot-within}
 use Rattle.visit_log.proofs.Holding.{hold-after}
-use Rattle.visit_log.proofs.Scanning.{slot-at}
+use Rattle.visit_log.proofs.Apart.{slot-at}
 use Rattle.visit_log.proofs.cells.PlainCells.put_at.Goals as goal
 
 pub replace-requires : goal.replace-requires

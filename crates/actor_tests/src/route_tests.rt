@@ -1,0 +1,136 @@
+//! The readers and the homes of all nodes in one row, of the line 0 - 1 - 2 - 3 of unit weights and
+//! of paths.
+
+ghost use Rattle.std.specs.Prelude.{◌<◌};
+ghost use Rattle.visit_log.specs.Homes.{AreHomes};
+ghost use Rattle.visit_log.specs.Routes.{AreRoutes};
+
+use region_plan::Plan;
+use std::process::Abort;
+use std::test::Fail;
+use test_networks::{line_of_four, plan_of_most_nodes};
+use visit_log::{Height, Homes, Routes};
+
+// A reader of a node, by its level and its place among the readers there, and how many entries a
+// climb passes from it.
+#[derive(Clone, Copy)]
+struct Step {
+    node: u32,
+    level: u32,
+    index: u32,
+    count: usize,
+}
+
+// How many entries are ahead, and where a climb is past so many of them.
+type Seen = Option<(usize, Option<Height>)>;
+
+fn take(routes: &Routes, plan: &Plan, step: Step) -> Seen
+    requires are { AreRoutes plan.now routes.now }
+{
+    let Step {
+        node,
+        level,
+        index,
+        count,
+    } = step;
+    if node >= plan.nodes() || level >= plan.levels() {
+        return None;
+    }
+    if index as usize >= plan.readers(level, node).len() {
+        return None;
+    }
+    let ahead = routes.ahead(node, level, index).len();
+    if count >= ahead {
+        return Some((ahead, None));
+    }
+    Some((ahead, Some(routes.past(node, level, index, count))))
+}
+
+fn same(rt: &impl Abort, at: usize, seen: Seen, wanted: Seen) {
+    assert_eq!(rt; seen, wanted, "at step {at}");
+}
+
+// Each step of a script is to be seen as the script says.
+fn play(rt: &impl Abort, routes: &Routes, plan: &Plan, script: &[(Step, Seen)])
+    requires are { AreRoutes plan.now routes.now }
+{
+    'steps: for at in 0..script.len() {
+        let (step, wanted) = script[at];
+        same(rt, at, take(routes, plan, step), wanted);
+    }
+}
+
+fn climb(node: u32, level: u32, index: u32, count: usize) -> Step {
+    Step {
+        node,
+        level,
+        index,
+        count,
+    }
+}
+
+fn sees(ahead: usize, level: u32, index: u32, weight: u64) -> Seen {
+    Some((
+        ahead,
+        Some(Height {
+            level,
+            index,
+            weight,
+        }),
+    ))
+}
+
+#[test]
+fn over_all_levels(rt: HostRuntime) -> Result<(), Fail> {
+    let script = [
+        (climb(3, 0, 0, 0), sees(4, 0, 0, 0)),
+        (climb(3, 0, 0, 1), sees(4, 0, 1, 6)),
+        (climb(3, 0, 0, 2), sees(4, 1, 0, 6)),
+        (climb(3, 0, 0, 3), sees(4, 2, 0, 12)),
+        (climb(3, 0, 0, 4), Some((4, None))),
+        (climb(3, 0, 1, 1), sees(3, 1, 0, 0)),
+        (climb(3, 2, 0, 0), sees(1, 2, 0, 0)),
+        (climb(3, 2, 0, 1), Some((1, None))),
+        (climb(0, 0, 0, 1), sees(3, 1, 0, 0)),
+        (climb(3, 0, 2, 0), None),
+        (climb(4, 0, 0, 0), None),
+        (climb(0, 3, 0, 0), None),
+    ];
+    let (plan, _) = line_of_four(rt.alloc())?;
+    let routes = Routes::new(rt.alloc(), &plan)?;
+    play(&rt, &routes, &plan, &script);
+    Ok(())
+}
+
+#[test]
+fn over_one_level(rt: HostRuntime) -> Result<(), Fail> {
+    let script = [
+        (climb(1023, 0, 0, 0), sees(1, 0, 0, 0)),
+        (climb(1023, 0, 0, 1), Some((1, None))),
+    ];
+    let (plan, _) = plan_of_most_nodes(rt.alloc())?;
+    let routes = Routes::new(rt.alloc(), &plan)?;
+    play(&rt, &routes, &plan, &script);
+    Ok(())
+}
+
+// Whether these are the places of a node's homes.
+fn has_homes(homes: &Homes, plan: &Plan, node: u32, places: &[u32]) -> bool
+    requires are { AreHomes plan.now homes.now }
+{
+    node < plan.nodes() && homes.of(node) == places
+}
+
+#[test]
+fn homes_at_all_levels(rt: HostRuntime) -> Result<(), Fail> {
+    let (plan, _) = line_of_four(rt.alloc())?;
+    let homes = Homes::new(rt.alloc(), &plan)?;
+    let seen = [
+        has_homes(&homes, &plan, 3, &[5, 6, 7]),
+        has_homes(&homes, &plan, 0, &[4, 6, 7]),
+        has_homes(&homes, &plan, 0, &[4, 6]),
+        has_homes(&homes, &plan, 4, &[]),
+    ];
+    assert!(rt; seen == [true, true, false, false]);
+    Ok(())
+}

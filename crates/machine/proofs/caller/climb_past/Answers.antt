@@ -1,0 +1,64 @@
+use Rattle.std.proofs.Common.{◌+◌, ap, sym, subst, ◌∙◌, arith}
+use Rattle.region_plan.specs.ReaderLaws.{readers-few}
+use Rattle.visit_log.specs.Routes.{ComesTo}
+use Rattle.visit_log.specs.declared.routes.Height.{Height}
+use Rattle.walk.specs.declared.progress.Climb.{Climb}
+use Rattle.walk.specs.Climbs.{IsClimbOver, climb_past}
+use Rattle.machine.specs.Climbs.{rung_of}
+use Rattle.machine.proofs.Climbing.{climb-is, passes, past-over}
+use Rattle.machine.proofs.caller.climb_past.Goals as goal
+
+pub returns-clause-exact : goal.returns-clause-exact
+returns-clause-exact c =
+    let on : ComesTo c.args.plan.now c.args.routes.now c.args.climb.from (rung_of c.args.climb) c.args.count = record {
+      at = record {
+        are = c.requires.routes;
+        inside = c.requires.over.from;
+        is = record { level = c.requires.over.progress.0; index = c.requires.over.progress.1 };
+      };
+      on = c.requires.rungs c.args.count (omega arith);
+    } in
+    ap (λ (r : Height). let k : Climb = record c.args.climb {
+      weight = c.args.climb.weight + r.weight;
+      level = r.level;
+      index = r.index;
+    } in k) (c.past-level.ensures c.args.plan.now on)
+    ∙ sym (climb-is c.args.plan.now c.args.climb c.args.count)
+
+pub returns-clause-over : goal.returns-clause-over
+returns-clause-over c =
+    subst (IsClimbOver c.args.plan.now) (sym (returns-clause-exact c))
+    (past-over c.climbs_go_on.ensures c.args.plan.now c.args.climb c.plan_is_sound.ensures.sound
+    c.plan_is_sound.ensures.matched c.plan_is_sound.ensures.reached c.requires.over c.args.count c.requires.rungs)
+
+pub returns-clause-each : goal.returns-clause-each
+returns-clause-each c = λ i low.
+    passes c.climbs_go_on.ensures c.args.plan.now c.args.climb c.plan_is_sound.ensures.sound
+    c.plan_is_sound.ensures.matched c.plan_is_sound.ensures.reached c.requires.over i
+    (λ k less. c.requires.rungs k (omega (arith, low, less)))
+
+pub overflow_add-result : goal.overflow_add-result
+overflow_add-result c =
+    let on : ComesTo c.args.plan.now c.args.routes.now c.args.climb.from (rung_of c.args.climb) c.args.count = record {
+      at = record {
+        are = c.requires.routes;
+        inside = c.requires.over.from;
+        is = record { level = c.requires.over.progress.0; index = c.requires.over.progress.1 };
+      };
+      on = c.requires.rungs c.args.count (omega arith);
+    } in
+    let there : Climb = climb_past c.args.plan.now c.args.climb c.args.count in
+    let over : IsClimbOver c.args.plan.now there =
+    past-over c.climbs_go_on.ensures c.args.plan.now c.args.climb c.plan_is_sound.ensures.sound
+    c.plan_is_sound.ensures.matched c.plan_is_sound.ensures.reached c.requires.over c.args.count c.requires.rungs in
+    omega (
+      arith,
+      ap (λ (r : Height). r.weight) (c.past-level.ensures c.args.plan.now on),
+      ap (λ (k : Climb). k.weight) (climb-is c.args.plan.now c.args.climb c.args.count),
+      over.progress.0,
+      over.progress.1,
+      over.progress.2,
+      readers-few c.args.plan.now there.level there.from c.plan_is_sound.ensures.matched
+          c.plan_is_sound.ensures.sound over.progress.0 over.from,
+      c.plan_is_sound.ensures.sound.few,
+    )

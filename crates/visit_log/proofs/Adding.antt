@@ -1,0 +1,213 @@
+-- How the row grows: by the readers of a node at a level, one after another.
+use Rattle.std.specs.Prelude.{◌/◌}
+use Rattle.std.proofs.Common.{◌≡◌, ℕ, suc, ◌+◌, ◌-◌, ◌*◌, ◌^◌, ◌<◌, ◌≤◌, [], ◌∷◌, ◌++◌, length, refl, sym, ap, ◌∙◌, subst, inl, inr, arith}
+use Rattle.std.specs.Prelude.{slice_index}
+use Rattle.std.proofs.lemmas.Bool.{cases_lt}
+use Rattle.std.proofs.lemmas.List.{get_or_append_left, get_or_push, length_push}
+use Rattle.std.proofs.lemmas.Nat.{div-mul-add, mul-add-lt}
+use Rattle.std.proofs.Math.Nat.{mul-le-mul}
+use Rattle.region_plan.specs.Kept.{IsKept}
+use Rattle.region_plan.specs.Plan.{PlanData, levels_of, nodes_of, readers}
+use Rattle.visit_log.specs.Routes.{HaveParts, IsPart, RouteData, entry_place, rung_at, way_at}
+
+-- parts are few
+pub parts-few : (plan : PlanData) (node level : ℕ) → IsKept plan → node < nodes_of plan → level < levels_of plan
+    → node * levels_of plan + level < 31744
+parts-few plan node level kept inside low =
+    omega (
+      arith,
+      mul-add-lt node (levels_of plan) level (nodes_of plan) inside low,
+      mul-le-mul kept.few kept.metric.few,
+    )
+
+-- so many readers of a node at a level stand behind what was there
+pub record IsAdding (plan : PlanData) (old new : RouteData) (node level count : ℕ) : Type 0 where
+  pub levels : new.levels ≡ old.levels
+  pub starts : new.starts ≡ old.starts
+  pub size : length new.places ≡ length old.places + count
+  pub ways_size : length new.ways ≡ length new.places + 1
+  pub places_before : (i : ℕ) → i < length old.places
+      → slice_index new.places i ≡ slice_index old.places i
+  pub ways_before : (i : ℕ) → i < length old.places + 1 → slice_index new.ways i ≡ slice_index old.ways i
+  pub places : (i : ℕ) → i < count
+      → slice_index new.places (length old.places + i) ≡ entry_place plan node (rung_at level i)
+  pub ways : (i : ℕ) → i < count
+      → slice_index new.ways (length old.places + i + 1)
+      ≡ slice_index new.ways (length old.places + i) + way_at plan node (rung_at level i)
+  pub light : slice_index new.ways (length new.places) ≤ length new.places * 2 ^ 36
+
+pub adding-none : (plan : PlanData) (old : RouteData) (node level parts : ℕ) → HaveParts plan old parts
+    → IsAdding plan old old node level 0
+adding-none plan old node level parts have =
+    record {
+      levels = refl;
+      starts = refl;
+      size = omega arith;
+      ways_size = have.ways;
+      places_before = λ i low. refl;
+      ways_before = λ i low. refl;
+      places = λ i low. absurd (omega (arith, low));
+      ways = λ i low. absurd (omega (arith, low));
+      light = have.light;
+    }
+
+-- one more of them
+pub adding-more : (plan : PlanData) (old new next : RouteData) (node level count place sum : ℕ)
+    → IsAdding plan old new node level count → next.levels ≡ new.levels → next.starts ≡ new.starts
+    → next.places ≡ new.places ++ place ∷ [] → next.ways ≡ new.ways ++ sum ∷ []
+    → place ≡ entry_place plan node (rung_at level count)
+    → sum ≡ slice_index new.ways (length new.places) + way_at plan node (rung_at level count)
+    → sum ≤ suc (length new.places) * 2 ^ 36
+    → IsAdding plan old next node level (count + 1)
+adding-more plan old new next node level count place sum adding levels starts places ways is way light =
+    let longer : length next.places ≡ suc (length new.places) =
+    omega (arith, ap length places, length_push new.places place) in
+    let more : length next.ways ≡ suc (length new.ways) = omega (arith, ap length ways, length_push new.ways sum) in
+    let place_before : (i : ℕ) → i < length new.places → slice_index next.places i ≡ slice_index new.places i =
+    λ i low. ap (λ xs. slice_index xs i) places ∙ get_or_append_left new.places (place ∷ []) 0 i low in
+    let way_before : (i : ℕ) → i < length new.ways → slice_index next.ways i ≡ slice_index new.ways i =
+    λ i low. ap (λ xs. slice_index xs i) ways ∙ get_or_append_left new.ways (sum ∷ []) 0 i low in
+    let last_place : slice_index next.places (length old.places + count) ≡ place =
+    ap (λ xs. slice_index xs (length old.places + count)) places
+    ∙ get_or_push new.places place 0 (length old.places + count) (omega (arith, adding.size)) in
+    let last_way : slice_index next.ways (length old.places + count + 1) ≡ sum =
+    ap (λ xs. slice_index xs (length old.places + count + 1)) ways
+    ∙ get_or_push new.ways sum 0 (length old.places + count + 1) (omega (arith, adding.size, adding.ways_size)) in
+    record {
+      levels = levels ∙ adding.levels;
+      starts = starts ∙ adding.starts;
+      size = omega (arith, longer, adding.size);
+      ways_size = omega (arith, longer, more, adding.ways_size);
+      places_before = λ i low. place_before i (omega (arith, low, adding.size)) ∙ adding.places_before i low;
+      ways_before = λ i low. way_before i (omega (arith, low, adding.size, adding.ways_size)) ∙ adding.ways_before i low;
+      places = λ i low. elim (cases_lt i count) [
+        | inl less ↦ place_before (length old.places + i) (omega (arith, less, adding.size)) ∙ adding.places i less
+        | inr over ↦
+            let same : count ≡ i = omega (arith, low, over) in
+            subst (λ n. slice_index next.places (length old.places + n) ≡ entry_place plan node (rung_at level n)) same
+            (last_place ∙ is)
+      ];
+      ways = λ i low. elim (cases_lt i count) [
+        | inl less ↦
+            omega (
+              arith,
+              way_before (length old.places + i + 1) (omega (arith, less, adding.size, adding.ways_size)),
+              way_before (length old.places + i) (omega (arith, less, adding.size, adding.ways_size)),
+              adding.ways i less,
+            )
+        | inr over ↦
+            let same : count ≡ i = omega (arith, low, over) in
+            let end : length new.places ≡ length old.places + count = adding.size in
+            subst (λ n. slice_index next.ways (length old.places + n + 1)
+            ≡ slice_index next.ways (length old.places + n) + way_at plan node (rung_at level n)) same
+            (omega (
+              arith,
+              last_way,
+              way,
+              ap (slice_index new.ways) end,
+              way_before (length old.places + count) (omega (arith, adding.size, adding.ways_size)),
+            ))
+      ];
+      light =
+          let there : length next.places ≡ length old.places + count + 1 = omega (arith, longer, adding.size) in
+          omega (arith, ap (slice_index next.ways) there, last_way, light, longer);
+    }
+
+-- one part of a row is another where node and level are
+pub same-part : (width node level other above : ℕ) → level < width → above < width
+    → other * width + above ≡ node * width + level → (other ≡ node) × (above ≡ level)
+same-part width node level other above low high same =
+    let nodes : other ≡ node =
+    sym (div-mul-add other width above high) ∙ (ap (λ n. n / width) same ∙ div-mul-add node width level low) in (
+      nodes,
+      let there : node * width + above ≡ node * width + level = ap (λ n. n * width + above) (sym nodes) ∙ same in
+          omega (arith, there),
+    )
+
+-- all of them, and the start of the next part
+pub adding-done : (plan : PlanData) (old new next : RouteData) (node level count : ℕ) → level < levels_of plan
+    → HaveParts plan old (node * levels_of plan + level) → IsAdding plan old new node level count
+    → count ≡ length (readers plan level node) → 1 ≤ count → count ≤ 1024 → next.levels ≡ new.levels
+    → next.starts ≡ new.starts ++ length new.places ∷ [] → next.places ≡ new.places → next.ways ≡ new.ways
+    → length new.places < 2 ^ 32
+    → HaveParts plan next (node * levels_of plan + level + 1)
+adding-done plan old new next node level count low have adding all some few levels starts places ways short =
+    let parts : ℕ = node * levels_of plan + level in
+    let longer : length next.starts ≡ suc (length old.starts) =
+    omega (arith, ap length starts, length_push new.starts (length new.places), ap length adding.starts) in
+    let start_before : (k : ℕ) → k < length old.starts → slice_index next.starts k ≡ slice_index old.starts k =
+    λ k less. ap (λ xs. slice_index xs k) starts
+    ∙ (get_or_append_left new.starts (length new.places ∷ []) 0 k (omega (arith, less, ap length adding.starts))
+    ∙ ap (λ xs. slice_index xs k) adding.starts) in
+    let last : slice_index next.starts (parts + 1) ≡ length new.places =
+    ap (λ xs. slice_index xs (parts + 1)) starts
+    ∙ get_or_push new.starts (length new.places) 0 (parts + 1) (omega (arith, ap length adding.starts, have.starts)) in
+    let here : slice_index next.starts parts ≡ length old.places =
+    start_before parts (omega (arith, have.starts)) ∙ have.last in
+    let place_at : (i : ℕ) → slice_index next.places i ≡ slice_index new.places i =
+    λ i. ap (λ xs. slice_index xs i) places in
+    let way_to : (i : ℕ) → slice_index next.ways i ≡ slice_index new.ways i =
+    λ i. ap (λ xs. slice_index xs i) ways in
+    let size : length next.places ≡ length new.places = ap length places in
+    record {
+      levels = levels ∙ (adding.levels ∙ have.levels);
+      thin = omega (arith, levels, adding.levels, have.thin);
+      starts = omega (arith, longer, have.starts);
+      last = last ∙ sym size;
+      ways = omega (arith, ap length ways, size, adding.ways_size);
+      few = omega (arith, size, adding.size, few, have.few);
+      short = omega (arith, size, short);
+      light = omega (arith, ap (slice_index next.ways) size, way_to (length new.places), size, adding.light);
+      parts = λ other above high before. elim (cases_lt (other * levels_of plan + above) parts) [
+        | inl less ↦
+            let was : IsPart plan old (other * levels_of plan + above) other above = have.parts other above high less in
+            let part : ℕ = other * levels_of plan + above in
+            let begins : slice_index next.starts part ≡ slice_index old.starts part =
+            start_before part (omega (arith, less, have.starts)) in
+            let ends : slice_index next.starts (part + 1) ≡ slice_index old.starts (part + 1) =
+            start_before (part + 1) (omega (arith, less, have.starts)) in
+            record {
+              some = was.some;
+              next = omega (arith, begins, ends, was.next);
+              within = omega (arith, ends, was.within, size, adding.size);
+              places = λ i short.
+                  ap (λ s. slice_index next.places (s + i)) begins
+                  ∙ (place_at (slice_index old.starts part + i)
+                  ∙ (adding.places_before (slice_index old.starts part + i)
+                  (omega (arith, short, was.next, was.within)) ∙ was.places i short));
+              ways = λ i short.
+                  subst (λ s. slice_index next.ways (s + i + 1) ≡ slice_index next.ways (s + i)
+                  + way_at plan other (rung_at above i)) (sym begins)
+                  (omega (
+                    arith,
+                    way_to (slice_index old.starts part + i + 1),
+                    way_to (slice_index old.starts part + i),
+                    adding.ways_before (slice_index old.starts part + i + 1)
+                        (omega (arith, short, was.next, was.within)),
+                    adding.ways_before (slice_index old.starts part + i) (omega (arith, short, was.next, was.within)),
+                    was.ways i short,
+                  ));
+            }
+        | inr over ↦
+            let both = same-part (levels_of plan) node level other above low high (omega (arith, before, over)) in
+            subst (λ n. IsPart plan next (n * levels_of plan + above) n above) (sym both.0)
+            (subst (λ l. IsPart plan next (node * levels_of plan + l) node l) (sym both.1)
+            (record {
+              some = omega (arith, some, all);
+              next = omega (arith, last, here, adding.size, all);
+              within = omega (arith, last, size);
+              places = λ i short.
+                  ap (λ s. slice_index next.places (s + i)) here
+                  ∙ (place_at (length old.places + i) ∙ adding.places i (omega (arith, short, all)));
+              ways = λ i short.
+                  subst (λ s. slice_index next.ways (s + i + 1) ≡ slice_index next.ways (s + i)
+                  + way_at plan node (rung_at level i)) (sym here)
+                  (omega (
+                    arith,
+                    way_to (length old.places + i + 1),
+                    way_to (length old.places + i),
+                    adding.ways i (omega (arith, short, all)),
+                  ));
+            }))
+      ];
+    }

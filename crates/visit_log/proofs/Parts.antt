@@ -1,0 +1,167 @@
+-- The readers of a node in the row: one after another, level by level.
+use Rattle.std.proofs.Common.{◌≡◌, ℕ, zero, suc, ◌+◌, ◌-◌, ◌*◌, ◌<◌, ◌≤◌, length, ap, ◌∙◌, subst, inl, inr, arith}
+use Rattle.std.specs.Prelude.{slice_index}
+use Rattle.std.proofs.lemmas.Bool.{cases_lt, le-ltb, lt-ltb}
+use Rattle.std.proofs.lemmas.Nat.{mul-add-lt}
+use Rattle.region_plan.specs.Plan.{PlanData, levels_of, nodes_of, readers}
+use Rattle.visit_log.specs.Routes.{AreRoutes, IsPart, IsRung, RouteData, Rung, entry_place, next_rung, place_in, rung_past, way_at, ways_past}
+
+-- each level of a node has its part
+pub its-part : (plan : PlanData) (routes : RouteData) (node level : ℕ) → AreRoutes plan routes → node < nodes_of plan
+    → level < levels_of plan → IsPart plan routes (node * levels_of plan + level) node level
+its-part plan routes node level are inside low =
+    are.parts node level low
+    (omega (arith, mul-add-lt node (levels_of plan) level (nodes_of plan) inside low))
+
+-- the parts of a node begin one behind the other
+module _ (plan : PlanData) (routes : RouteData) (node : ℕ) (are : AreRoutes plan routes)
+    (inside : node < nodes_of plan) where
+  abbrev pub base : ℕ
+  base = node * levels_of plan
+
+  pub next-start : (level : ℕ) → level < levels_of plan
+      → slice_index routes.starts (base + suc level)
+      ≡ slice_index routes.starts (base + level) + length (readers plan level node)
+  next-start level low =
+      let one : base + level + 1 ≡ base + suc level = omega arith in
+      subst (λ k. slice_index routes.starts k
+      ≡ slice_index routes.starts (base + level) + length (readers plan level node)) one
+      (its-part plan routes node level are inside low).next
+
+  rise-by : (level k : ℕ) → level + k ≤ levels_of plan
+      → slice_index routes.starts (base + level) ≤ slice_index routes.starts (base + (level + k))
+  rise-by level zero short =
+      let same : level ≡ level + 0 = omega arith in
+      subst (λ n. slice_index routes.starts (base + level) ≤ slice_index routes.starts (base + n)) same (omega arith)
+  rise-by level (suc k) short =
+      let one : suc (level + k) ≡ level + suc k = omega arith in
+      subst (λ n. slice_index routes.starts (base + level) ≤ slice_index routes.starts (base + n)) one
+      (omega (arith, rise-by level k (omega arith), next-start (level + k) (omega arith)))
+
+  pub starts-rise : (level above : ℕ) → level ≤ above → above ≤ levels_of plan
+      → slice_index routes.starts (base + level) ≤ slice_index routes.starts (base + above)
+  starts-rise level above order short =
+      let e : level + (above - level) ≡ above = omega arith in
+      subst (λ n. slice_index routes.starts (base + level) ≤ slice_index routes.starts (base + n)) e
+      (rise-by level (above - level) (omega arith))
+
+  -- the reader that comes next has the next place
+  pub next-place : (rung : Rung) → IsRung plan node rung
+      → place_in routes base (next_rung plan node rung) ≡ suc (place_in routes base rung)
+  next-place rung is = elim (cases_lt (suc rung.index) (length (readers plan rung.level node))) [
+    | inl more ↦ rw (lt-ltb (suc rung.index) (length (readers plan rung.level node)) more) (omega arith)
+    | inr over ↦
+        rw (le-ltb (suc rung.index) (length (readers plan rung.level node)) over)
+        (omega (arith, next-start rung.level is.level, is.index))
+  ]
+
+  -- and is one of the node's, where that lies before the end
+  pub next-is : (rung : Rung) → IsRung plan node rung
+      → suc (place_in routes base rung) < slice_index routes.starts (base + levels_of plan)
+      → IsRung plan node (next_rung plan node rung)
+  next-is rung is before = elim (cases_lt (suc rung.index) (length (readers plan rung.level node))) [
+    | inl more ↦
+        rw (lt-ltb (suc rung.index) (length (readers plan rung.level node)) more)
+        (record { level = is.level; index = more })
+    | inr over ↦
+        let up : suc rung.level < levels_of plan = elim (cases_lt (suc rung.level) (levels_of plan)) [
+          | inl less ↦ less
+          | inr top ↦
+              let same : suc rung.level ≡ levels_of plan = omega (arith, is.level) in
+              absurd (omega (
+                arith,
+                next-start rung.level is.level,
+                ap (λ n. slice_index routes.starts (base + n)) same,
+                before,
+                over,
+                is.index,
+              ))
+        ] in
+        rw (le-ltb (suc rung.index) (length (readers plan rung.level node)) over)
+        (record { level = up; index = omega (arith, (its-part plan routes node (suc rung.level) are inside up).some) })
+  ]
+
+  -- so many readers on
+  pub past-is : (rung : Rung) → IsRung plan node rung → (count : ℕ)
+      → place_in routes base rung + count < slice_index routes.starts (base + levels_of plan)
+      → IsRung plan node (rung_past plan node rung count)
+      × (place_in routes base (rung_past plan node rung count) ≡ place_in routes base rung + count)
+  past-is rung is zero before = (is, omega arith)
+  past-is rung is (suc count) before =
+      let here = past-is rung is count (omega (arith, before)) in (
+        next-is (rung_past plan node rung count) here.0 (omega (arith, here.1, before)),
+        next-place (rung_past plan node rung count) here.0 ∙ omega (arith, here.1),
+      )
+
+  -- a reader lies before the end of its node
+  pub before-end : (rung : Rung) → IsRung plan node rung
+      → place_in routes base rung < slice_index routes.starts (base + levels_of plan)
+  before-end rung is =
+      omega (
+        arith,
+        next-start rung.level is.level,
+        starts-rise (suc rung.level) (levels_of plan) (omega (arith, is.level)) (omega arith),
+        is.index,
+      )
+
+  -- what is at its place
+  pub place-holds : (rung : Rung) → IsRung plan node rung
+      → slice_index routes.places (place_in routes base rung) ≡ entry_place plan node rung
+  place-holds rung is = (its-part plan routes node rung.level are inside is.level).places rung.index is.index
+
+  pub way-holds : (rung : Rung) → IsRung plan node rung
+      → slice_index routes.ways (place_in routes base rung + 1)
+      ≡ slice_index routes.ways (place_in routes base rung) + way_at plan node rung
+  way-holds rung is = (its-part plan routes node rung.level are inside is.level).ways rung.index is.index
+
+  -- the ways to so many readers
+  pub ways-hold : (rung : Rung) → IsRung plan node rung → (count : ℕ)
+      → place_in routes base rung + count < slice_index routes.starts (base + levels_of plan)
+      → slice_index routes.ways (place_in routes base rung + count)
+      ≡ slice_index routes.ways (place_in routes base rung) + ways_past plan node rung count
+  ways-hold rung is zero before =
+      let same : place_in routes base rung + 0 ≡ place_in routes base rung = omega arith in
+      ap (slice_index routes.ways) same ∙ omega arith
+  ways-hold rung is (suc count) before =
+      let here = past-is rung is count (omega (arith, before)) in
+      let next : place_in routes base (rung_past plan node rung count) + 1 ≡ place_in routes base rung + suc count =
+      omega (arith, here.1) in
+      omega (
+        arith,
+        ways-hold rung is count (omega (arith, before)),
+        ap (slice_index routes.ways) here.1,
+        ap (slice_index routes.ways) next,
+        way-holds (rung_past plan node rung count) here.0,
+      )
+
+  -- a place belongs to one level
+  pub same-level : (rung : Rung) (level : ℕ) → IsRung plan node rung → level ≤ rung.level
+      → place_in routes base rung < slice_index routes.starts (base + level + 1) → level ≡ rung.level
+  same-level rung level is low before = elim (cases_lt level rung.level) [
+    | inl less ↦
+        let one : base + suc level ≡ base + level + 1 = omega arith in
+        absurd (omega (
+          arith,
+          starts-rise (suc level) rung.level less (omega (arith, is.level)),
+          ap (slice_index routes.starts) one,
+          before,
+        ))
+    | inr over ↦ omega (arith, low, over)
+  ]
+
+  -- and where its level isn't reached, it is above
+  pub above-level : (rung : Rung) (level : ℕ) → IsRung plan node rung → level ≤ rung.level
+      → slice_index routes.starts (base + level + 1) ≤ place_in routes base rung → level + 1 ≤ rung.level
+  above-level rung level is low reached = elim (cases_lt level rung.level) [
+    | inl less ↦ omega (arith, less)
+    | inr over ↦
+        let same : level ≡ rung.level = omega (arith, low, over) in
+        let one : base + suc rung.level ≡ base + level + 1 = omega (arith, same) in
+        absurd (omega (
+          arith,
+          next-start rung.level is.level,
+          ap (slice_index routes.starts) one,
+          reached,
+          is.index,
+        ))
+  ]

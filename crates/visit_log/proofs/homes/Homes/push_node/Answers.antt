@@ -1,0 +1,46 @@
+use Rattle.std.proofs.Common.{◌≡◌, ℕ, suc, ◌+◌, ◌*◌, ◌<◌, [], ◌∷◌, ◌++◌, length, refl, sym, ap, ◌∙◌, subst, inl, inr, arith}
+use Rattle.std.specs.Prelude.{slice_index}
+use Rattle.std.proofs.lemmas.Bool.{cases_lt}
+use Rattle.std.proofs.lemmas.List.{get_or_append_left, get_or_push, length_push}
+use Rattle.region_plan.specs.Plan.{PlanData, levels_of}
+use Rattle.visit_log.specs.Homes.{HaveHomes, HomeData, home_place}
+use Rattle.visit_log.proofs.Adding.{same-part}
+use Rattle.visit_log.proofs.homes.Homes.push_node.Goals as goal
+
+-- one home more
+home-more : (plan : PlanData) (old new : HomeData) (node level place : ℕ) → level < levels_of plan
+    → HaveHomes plan old (node * levels_of plan + level) → new.levels ≡ old.levels
+    → new.places ≡ old.places ++ place ∷ [] → place ≡ home_place plan node level
+    → HaveHomes plan new (node * levels_of plan + (level + 1))
+home-more plan old new node level place low have levels places is =
+    let count : ℕ = node * levels_of plan + level in
+    let more : length new.places ≡ suc count = omega (arith, ap length places, length_push old.places place, have.count_is)
+    in
+    record {
+      levels = levels ∙ have.levels;
+      count_is = omega (arith, more);
+      places = λ other above high before. elim (cases_lt (other * levels_of plan + above) count) [
+        | inl less ↦
+            ap (λ xs. slice_index xs (other * levels_of plan + above)) places
+            ∙ (get_or_append_left old.places (place ∷ []) 0 (other * levels_of plan + above)
+            (omega (arith, less, have.count_is)) ∙ have.places other above high less)
+        | inr over ↦
+            let both = same-part (levels_of plan) node level other above low high (omega (arith, before, over)) in
+            subst (λ n. slice_index new.places (n * levels_of plan + above) ≡ home_place plan n above) (sym both.0)
+            (subst (λ l. slice_index new.places (node * levels_of plan + l) ≡ home_place plan node l) (sym both.1)
+            (ap (λ xs. slice_index xs count) places
+            ∙ (get_or_push old.places place 0 count (omega (arith, have.count_is)) ∙ is)))
+      ];
+    }
+
+pub loop-level-preserved : goal.loop-level-preserved
+loop-level-preserved c =
+    let plan = c.args.plan.now in
+    let low : c.loop-level.level < levels_of plan =
+    omega (arith, c.loop-level-test.true, c.loop-level.auto.level-end, c.levels-level-end.ensures) in
+    home-more plan
+    (record { levels = c.loop-level.self-inside.levels; places = c.loop-level.self-inside.places.items })
+    (record { levels = c.loop-level.self-inside.levels; places = c.push.new.self.items })
+    c.args.node c.loop-level.level (c.first.result + c.home.result) low c.loop-level.invariant
+    refl c.in_ok-push.ensures.items
+    (omega (arith, c.first.ensures, c.requires.places.firsts c.loop-level.level low, c.home.ensures))

@@ -1,0 +1,193 @@
+use Rattle.std.proofs.Common.{◌≡◌, ℕ, ◌+◌, ◌-◌, ◌*◌, ◌<◌, List, length, ap, refl, ◌∙◌, arith}
+use Rattle.std.specs.Prelude.{get_or, slice_index}
+use Rattle.region_plan.specs.Plan.{PlanData, levels_of}
+use Rattle.visit_log.specs.declared.routes.Height.{Height}
+use Rattle.visit_log.specs.Routes.{ComesTo, IsBelow, RouteData, place_in, span_of, rung_at, rung_past, ways_past}
+use Rattle.visit_log.proofs.Going.{Going, going}
+use Rattle.visit_log.proofs.Reading.{part-within, reads}
+use Rattle.visit_log.proofs.routes.Routes.past.Goals as goal
+
+-- what the code finds, as a climb has it
+record Finds (plan : PlanData) (routes : RouteData) (part node level index count first found : ℕ) : Type 0 where
+  on : ComesTo plan routes node (rung_at level index) count
+  its : Going plan routes node (rung_at level index) count
+  start : first ≡ place_in routes (node * levels_of plan) (rung_at level index)
+  base : part ≡ node * levels_of plan
+  same : found ≡ (rung_past plan node (rung_at level index) count).level
+  within : node * levels_of plan + found < length routes.starts
+
+finds : (plan : PlanData) (routes : RouteData) (levels node level index count found : ℕ) (span : ℕ × ℕ)
+    → ComesTo plan routes node (rung_at level index) count → levels ≡ routes.levels
+    → span ≡ span_of plan routes node (rung_at level index)
+    → (IsBelow plan routes (node * levels) level (span.0 + count) node (rung_past plan node (rung_at level index) count)
+    → found ≡ (rung_past plan node (rung_at level index) count).level)
+    → Finds plan routes (node * levels) node level index count span.0 found
+finds plan routes levels node level index count found span on same both says =
+    let its = going plan routes node (rung_at level index) on.at count on.on in
+    let part : node * levels ≡ node * levels_of plan = ap (λ n. node * n) (same ∙ on.at.are.levels) in
+    let start : span.0 ≡ place_in routes (node * levels_of plan) (rung_at level index) = ap (λ (p : ℕ × ℕ). p.0) both in
+    let level_is = says (its.below (node * levels) (span.0 + count) part (ap (λ n. n + count) start)) in
+    record {
+      on = on;
+      its = its;
+      start = start;
+      base = part;
+      same = level_is;
+      within = part-within plan routes node found on.at.are on.at.inside (omega (arith, level_is, on.on.level));
+    }
+
+pub overflow_add-place : goal.overflow_add-place
+overflow_add-place c =
+    let plan = c.requires.on.0 in
+    let on = c.requires.on.1 in
+    let its = going plan c.args.self.now c.args.node (rung_at c.args.level c.args.index) on.at c.args.count on.on in
+    omega (arith, ap (λ (p : ℕ × ℕ). p.0) (c.span-first.ensures.exact plan on.at), its.before, on.at.are.short)
+
+pub level_of-level-requires : goal.level_of-level-requires
+level_of-level-requires c =
+    let plan = c.requires.on.0 in
+    let on = c.requires.on.1 in
+    let its = going plan c.args.self.now c.args.node (rung_at c.args.level c.args.index) on.at c.args.count on.on in
+    record {
+      place = (
+        plan,
+        c.args.node,
+        rung_past plan c.args.node (rung_at c.args.level c.args.index) c.args.count,
+        its.below (c.args.node * c.self.inside.levels) (c.span-first.result.0 + c.args.count)
+            (ap (λ n. c.args.node * n) (ap (λ (r : RouteData). r.levels) c.self.view_is ∙ on.at.are.levels))
+            (ap (λ n. n + c.args.count) (ap (λ (p : ℕ × ℕ). p.0) (c.span-first.ensures.exact plan on.at))),
+      );
+    }
+
+pub index-requires : goal.index-requires
+index-requires c =
+    let plan = c.requires.on.0 in
+    let on = c.requires.on.1 in
+    let its = finds plan c.args.self.now c.self.inside.levels c.args.node c.args.level c.args.index c.args.count
+    c.level_of-level.result c.span-first.result on (ap (λ (r : RouteData). r.levels) c.self.view_is)
+    (c.span-first.ensures.exact plan on.at) (c.level_of-level.ensures plan c.args.node _) in
+    omega (
+      arith,
+      its.base,
+      its.within,
+      c.self.inside.starts.ok.0,
+      ap (λ (r : RouteData). length r.starts) c.self.view_is,
+    )
+
+-- the start of its part, as it is read
+start-read : (plan : PlanData) (routes : RouteData) (part node level index count first found v k : ℕ)
+    (items : List ℕ)
+    → Finds plan routes part node level index count first found → items ≡ routes.starts → k ≡ part + found
+    → v ≡ get_or items k v
+    → v ≡ slice_index routes.starts
+    (node * levels_of plan + (rung_past plan node (rung_at level index) count).level)
+start-read plan routes part node level index count first found v k items its same there read =
+    reads items routes.starts k (node * levels_of plan + found) v read same (there ∙ ap (λ n. n + found) its.base)
+    its.within
+    ∙ ap (λ l. slice_index routes.starts (node * levels_of plan + l)) its.same
+
+pub overflow_sub-result : goal.overflow_sub-result
+overflow_sub-result c =
+    let plan = c.requires.on.0 in
+    let on = c.requires.on.1 in
+    let its = finds plan c.args.self.now c.self.inside.levels c.args.node c.args.level c.args.index c.args.count
+    c.level_of-level.result c.span-first.result on (ap (λ (r : RouteData). r.levels) c.self.view_is)
+    (c.span-first.ensures.exact plan on.at) (c.level_of-level.ensures plan c.args.node _) in
+    omega (
+      arith,
+      its.start,
+      its.its.there,
+      start-read plan c.args.self.now (c.args.node * c.self.inside.levels) c.args.node c.args.level c.args.index
+          c.args.count c.span-first.result.0 c.level_of-level.result c.index.result.now
+          (c.args.node * c.self.inside.levels + c.level_of-level.result) c.self.inside.starts.items its
+          (ap (λ (r : RouteData). r.starts) c.self.view_is) refl c.index.ensures,
+    )
+
+pub overflow_cast-result-2 : goal.overflow_cast-result-2
+overflow_cast-result-2 c =
+    let plan = c.requires.on.0 in
+    let on = c.requires.on.1 in
+    let its = going plan c.args.self.now c.args.node (rung_at c.args.level c.args.index) on.at c.args.count on.on in
+    omega (arith, ap (λ (p : ℕ × ℕ). p.0) (c.span-first.ensures.exact plan on.at), its.before, on.at.are.short)
+
+pub index-requires-2 : goal.index-requires-2
+index-requires-2 c =
+    let plan = c.requires.on.0 in
+    let on = c.requires.on.1 in
+    let its = going plan c.args.self.now c.args.node (rung_at c.args.level c.args.index) on.at c.args.count on.on in
+    omega (
+      arith,
+      ap (λ (p : ℕ × ℕ). p.0) (c.span-first.ensures.exact plan on.at),
+      its.before,
+      on.at.are.ways,
+      c.self.inside.ways.ok.0,
+      ap (λ (r : RouteData). length r.ways) c.self.view_is,
+    )
+
+-- a weight, as it is read
+way-read : (routes : RouteData) (v k : ℕ) (items : List ℕ) → items ≡ routes.ways
+    → k < length routes.ways → v ≡ get_or items k v → v ≡ slice_index routes.ways k
+way-read routes v k items same short read =
+    reads items routes.ways k k v read same refl short
+
+-- both weights
+record Weighs (plan : PlanData) (routes : RouteData) (node level index count later first : ℕ) : Type 0 where
+  both : later ≡ first + ways_past plan node (rung_at level index) count
+
+weighs : (plan : PlanData) (routes : RouteData) (node level index count first later early : ℕ)
+    (items : List ℕ) → ComesTo plan routes node (rung_at level index) count
+    → first ≡ place_in routes (node * levels_of plan) (rung_at level index) → items ≡ routes.ways
+    → later ≡ get_or items (first + count) later
+    → early ≡ get_or items first early
+    → Weighs plan routes node level index count later early
+weighs plan routes node level index count first later early items on start same read_later read_early =
+    let its = going plan routes node (rung_at level index) on.at count on.on in
+    record {
+      both = omega (
+        arith,
+        way-read routes later (first + count) items same (omega (arith, start, its.before, on.at.are.ways)) read_later,
+        way-read routes early first items same (omega (arith, start, its.before, on.at.are.ways)) read_early,
+        ap (λ n. slice_index routes.ways (n + count)) start,
+        ap (slice_index routes.ways) start,
+        its.ways,
+      );
+    }
+
+pub overflow_sub-result-2 : goal.overflow_sub-result-2
+overflow_sub-result-2 c =
+    let plan = c.requires.on.0 in
+    let on = c.requires.on.1 in
+    let its = weighs plan c.args.self.now c.args.node c.args.level c.args.index c.args.count c.span-first.result.0
+    c.index-2.result.now c.index-3.result.now c.self.inside.ways.items on
+    (ap (λ (p : ℕ × ℕ). p.0) (c.span-first.ensures.exact plan on.at)) (ap (λ (r : RouteData). r.ways) c.self.view_is)
+    c.index-2.ensures c.index-3.ensures in
+    omega (arith, its.both)
+
+-- where a climb is, from its parts
+height-is : (level index weight there at ways : ℕ) → level ≡ there → index ≡ at → weight ≡ ways
+    → ◌≡◌ {A = Height} (record { level = level; index = index; weight = weight })
+    (record { level = there; index = at; weight = ways })
+height-is level index weight there at ways l i w =
+    ap (λ n. let r : Height = record { level = n; index = index; weight = weight } in r) l
+    ∙ (ap (λ n. let r : Height = record { level = there; index = n; weight = weight } in r) i
+    ∙ ap (λ n. let r : Height = record { level = there; index = at; weight = n } in r) w)
+
+pub returns : goal.returns
+returns c = λ plan on.
+    let its = finds plan c.args.self.now c.self.inside.levels c.args.node c.args.level c.args.index c.args.count
+    c.level_of-level.result c.span-first.result on (ap (λ (r : RouteData). r.levels) c.self.view_is)
+    (c.span-first.ensures.exact plan on.at) (c.level_of-level.ensures plan c.args.node _) in
+    let ways = weighs plan c.args.self.now c.args.node c.args.level c.args.index c.args.count c.span-first.result.0
+    c.index-2.result.now c.index-3.result.now c.self.inside.ways.items on its.start
+    (ap (λ (r : RouteData). r.ways) c.self.view_is) c.index-2.ensures c.index-3.ensures in
+    height-is _ _ _ _ _ _ its.same
+    (omega (
+      arith,
+      its.start,
+      its.its.there,
+      start-read plan c.args.self.now (c.args.node * c.self.inside.levels) c.args.node c.args.level c.args.index
+          c.args.count c.span-first.result.0 c.level_of-level.result c.index.result.now
+          (c.args.node * c.self.inside.levels + c.level_of-level.result) c.self.inside.starts.items its
+          (ap (λ (r : RouteData). r.starts) c.self.view_is) refl c.index.ensures,
+    ))
+    (omega (arith, ways.both))

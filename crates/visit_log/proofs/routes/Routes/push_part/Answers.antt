@@ -1,0 +1,198 @@
+use Rattle.std.proofs.Common.{◌≡◌, ℕ, ◌+◌, ◌-◌, ◌*◌, ◌<◌, [], ◌∷◌, ◌++◌, length, get_or, refl, sym, ap, ◌∙◌, arith}
+use Rattle.std.specs.Prelude.{slice_index}
+use Rattle.std.proofs.lemmas.List.{get_or_push, length_push}
+use Rattle.entry_word.specs.declared.visit.Key.TheVariants.{Entry}
+use Rattle.region_plan.specs.Plan.{inside, readers}
+use Rattle.visit_log.specs.Routes.{RouteData}
+use Rattle.visit_log.proofs.Adding.{adding-done, adding-more, parts-few}
+use Rattle.visit_log.proofs.Apart.{place-below}
+use Rattle.region_plan.specs.ReaderLaws.{reader-held, readers-few, readers-some, way-light}
+use Rattle.visit_log.proofs.routes.Routes.push_part.Goals as goal
+
+pub overflow_add-first : goal.overflow_add-first
+overflow_add-first c =
+    let plan = c.args.plan.now in
+    let level : ℕ = c.args.level in
+    let reader : ℕ = get_or (readers plan level c.args.node) c.loop-index.index 0 in
+    let short : c.loop-index.index < length (readers plan level c.args.node) =
+    omega (arith, c.loop-index-test.true, c.loop-index.auto.index-end, c.len.ensures, ap length c.readers-readers.ensures)
+    in
+    let held = reader-held plan level c.args.node c.loop-index.index c.plan_is_sound.ensures.matched c.requires.level
+    c.requires.node short in
+    omega (
+      arith,
+      c.first-first.ensures,
+      c.requires.places.firsts level c.requires.level,
+      ap (λ rs. get_or rs c.loop-index.index 0) c.readers-readers.ensures,
+      place-below plan (Entry level reader 0) (c.requires.level, held.1),
+      c.requires.places.width,
+      c.requires.places.few,
+    )
+
+pub overflow_cast-index : goal.overflow_cast-index
+overflow_cast-index c =
+    omega (
+      arith,
+      c.loop-index-test.true,
+      c.loop-index.auto.index-end,
+      c.len.ensures,
+      ap length c.readers-readers.ensures,
+      readers-few c.args.plan.now c.args.level c.args.node c.plan_is_sound.ensures.matched
+          c.plan_is_sound.ensures.sound c.requires.level c.requires.node,
+    )
+
+pub overflow_mul-sum : goal.overflow_mul-sum
+overflow_mul-sum c =
+    let plan = c.args.plan.now in
+    let short : c.loop-index.index < length (readers plan c.args.level c.args.node) =
+    omega (arith, c.loop-index-test.true, c.loop-index.auto.index-end, c.len.ensures, ap length c.readers-readers.ensures)
+    in
+    let held = reader-held plan c.args.level c.args.node c.loop-index.index c.plan_is_sound.ensures.matched
+    c.requires.level c.requires.node short in
+    omega (
+      arith,
+      c.reader_weight.ensures,
+      way-light plan c.args.level (slice_index (readers plan c.args.level c.args.node) c.loop-index.index) c.args.node
+          c.plan_is_sound.ensures.sound c.plan_is_sound.ensures.reached c.requires.level held.1 held.0,
+    )
+
+pub overflow_add-sum : goal.overflow_add-sum
+overflow_add-sum c =
+    let plan = c.args.plan.now in
+    let short : c.loop-index.index < length (readers plan c.args.level c.args.node) =
+    omega (arith, c.loop-index-test.true, c.loop-index.auto.index-end, c.len.ensures, ap length c.readers-readers.ensures)
+    in
+    let held = reader-held plan c.args.level c.args.node c.loop-index.index c.plan_is_sound.ensures.matched
+    c.requires.level c.requires.node short in
+    omega (
+      arith,
+      c.reader_weight.ensures,
+      way-light plan c.args.level (slice_index (readers plan c.args.level c.args.node) c.loop-index.index) c.args.node
+          c.plan_is_sound.ensures.sound c.plan_is_sound.ensures.reached c.requires.level held.1 held.0,
+      c.loop-index.invariant.sum,
+      c.loop-index.invariant.adding.light,
+      c.loop-index.invariant.adding.size,
+      c.requires.parts.few,
+      parts-few plan c.args.node c.args.level c.plan_is_sound.ensures.sound c.requires.node c.requires.level,
+      readers-few plan c.args.level c.args.node c.plan_is_sound.ensures.matched c.plan_is_sound.ensures.sound
+          c.requires.level c.requires.node,
+      short,
+    )
+
+pub loop-index-preserved : goal.loop-index-preserved
+loop-index-preserved c =
+    let plan = c.args.plan.now in
+    let level : ℕ = c.args.level in
+    let node : ℕ = c.args.node in
+    let index : ℕ = c.loop-index.index in
+    let short : index < length (readers plan level node) =
+    omega (arith, c.loop-index-test.true, c.loop-index.auto.index-end, c.len.ensures, ap length c.readers-readers.ensures)
+    in
+    let held = reader-held plan level node index c.plan_is_sound.ensures.matched c.requires.level c.requires.node short
+    in
+    let now : RouteData = record {
+      levels = c.loop-index.self-inside.levels;
+      starts = c.loop-index.self-inside.starts.items;
+      places = c.loop-index.self-inside.places.items;
+      ways = c.loop-index.self-inside.ways.items;
+    } in
+    let next : RouteData = record {
+      levels = c.loop-index.self-inside.levels;
+      starts = c.loop-index.self-inside.starts.items;
+      places = c.push.new.self.items;
+      ways = c.push-in-loop-index.new.self.items;
+    } in
+    let sum : ℕ = c.loop-index.sum + 2 * c.reader_weight.result in
+    let way : c.reader_weight.result ≡ inside plan level (slice_index (readers plan level node) index) node =
+    c.reader_weight.ensures in
+    record {
+      adding = adding-more plan c.args.self.now now next node level index
+          (c.first-first.result + slice_index c.readers-readers.result.now index) sum c.loop-index.invariant.adding refl
+          refl c.in_ok-push.ensures.items c.in_ok-push-2.ensures.items
+          (omega (
+            arith,
+            c.first-first.ensures,
+            c.requires.places.firsts level c.requires.level,
+            ap (λ rs. slice_index rs index) c.readers-readers.ensures,
+          ))
+          (omega (arith, c.loop-index.invariant.sum, way))
+          (omega (
+            arith,
+            c.loop-index.invariant.sum,
+            way,
+            c.loop-index.invariant.adding.light,
+            way-light plan level (slice_index (readers plan level node) index) node c.plan_is_sound.ensures.sound
+                c.plan_is_sound.ensures.reached c.requires.level held.1 held.0,
+          ));
+      sum =
+          let size : length c.push.new.self.items ≡ length c.loop-index.self-inside.ways.items =
+          omega (
+            arith,
+            ap length c.in_ok-push.ensures.items,
+            length_push c.loop-index.self-inside.places.items
+                (c.first-first.result + slice_index c.readers-readers.result.now index),
+            c.loop-index.invariant.adding.ways_size,
+          )
+          in
+          sym (ap (λ xs. slice_index xs (length c.push.new.self.items)) c.in_ok-push-2.ensures.items
+          ∙ get_or_push c.loop-index.self-inside.ways.items sum 0 (length c.push.new.self.items)
+          (sym size));
+    }
+
+pub overflow_cast-len : goal.overflow_cast-len
+overflow_cast-len c =
+    omega (
+      arith,
+      c.len-2.ensures,
+      c.loop-index.invariant.adding.size,
+      c.requires.parts.few,
+      parts-few c.args.plan.now c.args.node c.args.level c.plan_is_sound.ensures.sound c.requires.node
+          c.requires.level,
+      readers-few c.args.plan.now c.args.level c.args.node c.plan_is_sound.ensures.matched
+          c.plan_is_sound.ensures.sound c.requires.level c.requires.node,
+      c.loop-index.auto.index-end,
+      c.len.ensures,
+      ap length c.readers-readers.ensures,
+    )
+
+pub returns : goal.returns
+returns c =
+    let plan = c.args.plan.now in
+    let now : RouteData = record {
+      levels = c.loop-index.self-inside.levels;
+      starts = c.loop-index.self-inside.starts.items;
+      places = c.loop-index.self-inside.places.items;
+      ways = c.loop-index.self-inside.ways.items;
+    } in
+    let next : RouteData = record {
+      levels = c.loop-index.self-inside.levels;
+      starts = c.push-2.new.self.items;
+      places = c.loop-index.self-inside.places.items;
+      ways = c.loop-index.self-inside.ways.items;
+    } in
+    let all : c.loop-index.index ≡ length (readers plan c.args.level c.args.node) =
+    omega (
+      arith,
+      c.loop-index-test.false,
+      c.loop-index.auto.index-end,
+      c.len.ensures,
+      ap length c.readers-readers.ensures,
+    )
+    in
+    let few = readers-few plan c.args.level c.args.node c.plan_is_sound.ensures.matched c.plan_is_sound.ensures.sound
+    c.requires.level c.requires.node in
+    let some = readers-some plan c.args.level c.args.node c.plan_is_sound.ensures.matched c.requires.level
+    c.requires.node in
+    let size : c.len-2.result ≡ length c.loop-index.self-inside.places.items =
+    omega (arith, c.len-2.ensures, c.loop-index.self-inside.places.ok.0) in
+    adding-done plan c.args.self.now now next c.args.node c.args.level c.loop-index.index c.requires.level
+    c.requires.parts c.loop-index.invariant.adding all (omega (arith, some, all)) (omega (arith, few, all)) refl
+    (c.in_ok-push-3.ensures.items ∙ ap (λ n. c.loop-index.self-inside.starts.items ++ n ∷ []) size) refl refl
+    (omega (
+      arith,
+      c.loop-index.invariant.adding.size,
+      c.requires.parts.few,
+      parts-few plan c.args.node c.args.level c.plan_is_sound.ensures.sound c.requires.node c.requires.level,
+      all,
+      few,
+    ))

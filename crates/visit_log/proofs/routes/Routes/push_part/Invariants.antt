@@ -1,0 +1,15 @@
+use Rattle.std.proofs.Common.{◌≡◌, length}
+use Rattle.std.specs.Prelude.{slice_index}
+use Rattle.visit_log.proofs.Adding.{IsAdding}
+use Rattle.visit_log.proofs.routes.Routes.push_part.Given as goal
+
+abbrev pub invariant-loop-index : goal.invariant-loop-index
+invariant-loop-index l = record {
+  adding : IsAdding l.plan l.fn.self (record {
+    levels = l.self-inside.levels;
+    starts = l.self-inside.starts.items;
+    places = l.self-inside.places.items;
+    ways = l.self-inside.ways.items;
+  }) l.node l.level l.index;
+  sum : l.sum ≡ slice_index l.self-inside.ways.items (length l.self-inside.places.items);
+}

@@ -1,0 +1,188 @@
+//! The entries that climbs look at, by the places of their cells.
+ghost use Rattle.std.specs.Prelude.{◌≡◌, ◌≤◌, ◌<◌, ◌+◌, ◌*◌, ℕ, IfOk, OnOk, length, slice_index};
+ghost use Rattle.region_plan.specs.Plan.{PlanData, levels_of, nodes_of};
+ghost use Rattle.visit_log.specs.Numbers.{ArePlaces};
+ghost use Rattle.visit_log.specs.Routes.{AreRoutes, ComesTo, HaveParts, IsAt, IsBelow, IsRung, Rung, entry_place, height_of, span_of, rung_at, rung_past};
+
+use crate::places::Places;
+use region_plan::{Plan, plan_is_sound};
+use std::alloc::{AllocError, Global};
+use std::marker::Model;
+
+/// For each node the entries that a climb from it looks at, level by level, by the places of their
+/// cells, and the weights of the ways to their leaders. They go with the plan that they were made
+/// for.
+#[derive(Drop)]
+pub struct Routes {
+    levels: u32,
+    starts: Vec<u32>,
+    places: Vec<u32>,
+    ways: Vec<u64>,
+}
+
+impl Model for Routes {
+    ghost use Rattle.visit_log.specs.Routes.{RouteData};
+
+    ghost Value = { RouteData };
+
+    ghost view = { λ r. record {
+      levels = r.levels;
+      starts = r.starts.items;
+      places = r.places.items;
+      ways = r.ways.items;
+    } };
+}
+
+/// Where a climb is: a reader by its level and its place among the readers there, and what the ways
+/// to the readers that it passed weigh, there and back.
+#[derive(Clone, Copy, PartialEq, Eq, Debug)]
+pub struct Height {
+    pub level: u32,
+    pub index: u32,
+    pub weight: u64,
+}
+
+impl Routes {
+    /// The routes of a plan.
+    pub fn new(alloc: Global, plan: &Plan) -> Result<Routes, AllocError>
+        ensures { IfOk result (AreRoutes plan.now) }
+    {
+        // Nodes and levels are few.
+        plan_is_sound(plan);
+        let places = Places::new(alloc, plan)?;
+        let mut routes = Routes::empty(alloc, plan)?;
+        for node in 0..plan.nodes() {
+            routes.push_node(plan, &places, node)?;
+        }
+        Ok(routes)
+    }
+
+    /// The places of the entries that a climb from a node looks at, from a reader on: those that
+    /// are left of its level, and then those of all levels above.
+    #[inline(always)]
+    pub fn ahead(&self, node: u32, level: u32, index: u32) -> &[u32]
+        requires at { (plan : PlanData) × IsAt plan self.now node (rung_at level index) }
+        ensures some { 1 ≤ length result.now }
+        ensures rungs { (plan : PlanData) → IsAt plan self.now node (rung_at level index)
+            → (i : ℕ) → i < length result.now
+            → IsRung plan node (rung_past plan node (rung_at level index) i) }
+        ensures places { (plan : PlanData) → IsAt plan self.now node (rung_at level index)
+            → (i : ℕ) → i < length result.now → slice_index result.now i
+            ≡ entry_place plan node (rung_past plan node (rung_at level index) i) }
+    {
+        let (first, end) = self.span(node, level, index);
+        &self.places[first..end]
+    }
+
+    /// Where a climb from a node is that was at a reader, past so many entries.
+    #[inline(always)]
+    pub fn past(&self, node: u32, level: u32, index: u32, count: usize) -> Height
+        requires on { (plan : PlanData)
+            × ComesTo plan self.now node (rung_at level index) count }
+        ensures { (plan : PlanData) → ComesTo plan self.now node (rung_at level index) count
+            → result ≡ height_of plan node (rung_at level index) count }
+    {
+        let (first, _) = self.span(node, level, index);
+        let place = first + count;
+        let part = node as usize * self.levels as usize;
+        let level = self.level_of(part, level, place);
+        Height {
+            level,
+            index: (place - self.starts[part + level as usize] as usize) as u32,
+            weight: self.ways[place] - self.ways[first],
+        }
+    }
+
+    // The place of a reader in the row, and where the readers of its node end.
+    #[inline(always)]
+    fn span(&self, node: u32, level: u32, index: u32) -> (usize, usize)
+        requires at { (plan : PlanData) × IsAt plan self.now node (rung_at level index) }
+        ensures order { result.0 < result.1 }
+        ensures within { result.1 ≤ length self.now.places }
+        ensures exact { (plan : PlanData) → IsAt plan self.now node (rung_at level index)
+            → result ≡ span_of plan self.now node (rung_at level index) }
+    {
+        let part = node as usize * self.levels as usize;
+        let first = self.starts[part + level as usize] as usize + index as usize;
+        let end = self.starts[part + self.levels as usize] as usize;
+        (first, end)
+    }
+
+    // The level at a place of the row, from one of the same node on.
+    #[inline(always)]
+    fn level_of(&self, part: usize, level: u32, place: usize) -> u32
+        requires place { (plan : PlanData) × (node : ℕ) × (rung : Rung)
+            × IsBelow plan self.now part level place node rung }
+        ensures { (plan : PlanData) (node : ℕ) (rung : Rung)
+            → IsBelow plan self.now part level place node rung → result ≡ rung.level }
+    {
+        let mut level = level;
+        while self.starts[part + level as usize + 1] as usize <= place {
+            level += 1;
+        }
+        level
+    }
+
+    // The routes of no nodes.
+    fn empty(alloc: Global, plan: &Plan) -> Result<Routes, AllocError>
+        ensures { IfOk result (λ routes. HaveParts plan.now routes 0) }
+    {
+        // Nodes and levels are few.
+        plan_is_sound(plan);
+        let parts = plan.nodes() as usize * plan.levels() as usize;
+        let mut starts = Vec::with_capacity(alloc, parts + 1)?;
+        starts.push(0)?;
+        let mut ways = Vec::with_capacity(alloc, parts + 1)?;
+        ways.push(0)?;
+        Ok(Routes {
+            levels: plan.levels(),
+            starts,
+            places: Vec::with_capacity(alloc, parts)?,
+            ways,
+        })
+    }
+
+    // Adds the readers of the next node.
+    fn push_node(&mut self, plan: &Plan, places: &Places, node: u32) -> Result<(), AllocError>
+        requires places { ArePlaces plan.now places.now }
+        requires node { node < nodes_of plan.now }
+        requires parts { HaveParts plan.now self.old (node * levels_of plan.now) }
+        ensures { OnOk result (HaveParts plan.now self.new ((node + 1) * levels_of plan.now)) }
+    {
+        // Levels are few.
+        plan_is_sound(plan);
+        for level in 0..plan.levels() {
+            self.push_part(plan, places, node, level)?;
+        }
+        Ok(())
+    }
+
+    // Adds the readers of a node at the next level.
+    fn push_part(
+        &mut self,
+        plan: &Plan,
+        places: &Places,
+        node: u32,
+        level: u32,
+    ) -> Result<(), AllocError>
+        requires places { ArePlaces plan.now places.now }
+        requires node { node < nodes_of plan.now }
+        requires level { level < levels_of plan.now }
+        requires parts { HaveParts plan.now self.old (node * levels_of plan.now + level) }
+        ensures { OnOk result
+            (HaveParts plan.now self.new (node * levels_of plan.now + level + 1)) }
+    {
+        // Readers are few, and the weights inside them are light.
+        plan_is_sound(plan);
+        let first = places.first(level);
+        let readers = plan.readers(level, node);
+        let mut sum = self.ways[self.places.len()];
+        for index in 0..readers.len() {
+            self.places.push(first + readers[index])?;
+            sum += 2 * plan.reader_weight(level, node, index as u32);
+            self.ways.push(sum)?;
+        }
+        self.starts.push(self.places.len() as u32)?;
+        Ok(())
+    }
+}
