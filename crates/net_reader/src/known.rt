@@ -8,6 +8,7 @@ ghost use Rattle.net_reader.specs.Seen.{seen_known, KeepsLimits, Judges};
 ghost use Rattle.net_reader.specs.Whole.{HearsOrder};
 
 use crate::fault::InputCause;
+use crate::room::push;
 use crate::said::{Call, Spoken};
 use crate::stop::Stop;
 use crate::whole::push_line;
@@ -143,7 +144,7 @@ impl Known {
             return Err(Stop::Fault(InputCause::Unknown));
         }
         let (a, b) = (a as u32, b as u32);
-        self.edges.push(Edge { a, b, weight })?;
+        push(&mut self.edges, Edge { a, b, weight })?;
         self.place = Place::Edges;
         Ok(())
     }
@@ -229,10 +230,8 @@ impl Known {
         if self.places[actor as usize] == to {
             return Err(Stop::Fault(InputCause::Nowhere));
         }
-        self.calls.push(Spoken {
-            actor,
-            call: Call::Move { to },
-        })?;
+        let call = Call::Move { to };
+        push(&mut self.calls, Spoken { actor, call })?;
         self.places[actor as usize] = to;
         self.place = Place::Calls;
         Ok(())
@@ -255,10 +254,8 @@ impl Known {
             return Err(Stop::Fault(InputCause::Unknown));
         }
         let (actor, from, sub) = (caller as u32, from as u32, sub as u32);
-        self.calls.push(Spoken {
-            actor,
-            call: Call::Find { from, sub },
-        })?;
+        let call = Call::Find { from, sub };
+        push(&mut self.calls, Spoken { actor, call })?;
         self.place = Place::Calls;
         Ok(())
     }
@@ -286,7 +283,7 @@ impl Known {
             return Err(Stop::Fault(InputCause::Switched));
         }
         let call = if off { Call::Off } else { Call::On };
-        self.calls.push(Spoken { actor, call })?;
+        push(&mut self.calls, Spoken { actor, call })?;
         self.off[actor as usize] = off;
         self.place = Place::Calls;
         Ok(())
