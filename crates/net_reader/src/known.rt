@@ -1,5 +1,5 @@
 //! What the lines have said so far.
-ghost use Rattle.std.specs.Prelude.{◌≡◌, ◌≤◌, ◌^◌, ◌++◌, length, nat_le, not, Some, IfOk, IfSome, IfNone, IsTrue};
+ghost use Rattle.std.specs.Prelude.{◌≡◌, ◌<◌, ◌≤◌, ◌^◌, ◌++◌, [], ◌∷◌, false, length, nat_le, not, Some, Err, is_ok, IfOk, IfSome, IfNone, IsTrue};
 ghost use Rattle.std.specs.List.{list_any};
 ghost use Rattle.net_reader.specs.Table.{judge_word, row_of, verdict, track_row, nodes_row, k_row, edge_row, sub_row, callers_row, move_row, find_row, switch_row, order_row, most_calls, most_nodes};
 ghost use Rattle.net_reader.specs.Said.{nothing};
@@ -122,6 +122,35 @@ impl Known {
         Ok(())
     }
 
+    // Whether an edge of these nodes and with this weight can be taken. Nearly all can, so what is
+    // wrong with one is asked only where something is.
+    #[inline(always)]
+    fn takes_edge(&self, a: u64, b: u64, weight: u64) -> bool
+        ensures taken { result
+            ≡ is_ok (verdict (edge_row (seen_known self.now) (a ∷ b ∷ weight ∷ []))) }
+        ensures short { IsTrue result → (a < 2 ^ 32) × (b < 2 ^ 32) }
+    {
+        let nodes = u64::from(self.nodes);
+        0 < weight && weight <= MAX_WEIGHT && self.edges.len() < MAX_EDGES && a < nodes && b < nodes
+    }
+
+    // What is wrong with one that can't.
+    #[inline(never)]
+    fn edge_cause(&self, a: u64, b: u64, weight: u64) -> InputCause
+        requires { is_ok (verdict (edge_row (seen_known self.now) (a ∷ b ∷ weight ∷ []))) ≡ false }
+        ensures { verdict (edge_row (seen_known self.now) (a ∷ b ∷ weight ∷ [])) ≡ Err result }
+    {
+        if weight == 0 {
+            InputCause::Form
+        } else if weight > MAX_WEIGHT {
+            InputCause::TooLarge
+        } else if self.edges.len() >= MAX_EDGES {
+            InputCause::TooMany
+        } else {
+            InputCause::Unknown
+        }
+    }
+
     #[inline(always)]
     fn edge(&mut self, numbers: &[u64]) -> Result<(), Stop>
         requires { KeepsLimits self.old }
@@ -130,18 +159,8 @@ impl Known {
         let &[a, b, weight] = numbers else {
             return Err(Stop::Fault(InputCause::Form));
         };
-        if weight == 0 {
-            return Err(Stop::Fault(InputCause::Form));
-        }
-        if weight > MAX_WEIGHT {
-            return Err(Stop::Fault(InputCause::TooLarge));
-        }
-        if self.edges.len() >= MAX_EDGES {
-            return Err(Stop::Fault(InputCause::TooMany));
-        }
-        let nodes = u64::from(self.nodes);
-        if a >= nodes || b >= nodes {
-            return Err(Stop::Fault(InputCause::Unknown));
+        if !self.takes_edge(a, b, weight) {
+            return Err(Stop::Fault(self.edge_cause(a, b, weight)));
         }
         let (a, b) = (a as u32, b as u32);
         push(&mut self.edges, Edge { a, b, weight })?;
