@@ -1,5 +1,5 @@
 -- Lines that lie whole in a piece.
-use Rattle.std.proofs.Common.{◌≡◌, inl, inr, ℕ, ◌+◌, ◌-◌, ◌*◌, ◌<◌, ◌≤◌, true, false, fold, take, drop, List, [], ◌∷◌, ◌++◌, length, get_or, Bool, None, Result, Some, Ok, refl, ap, sym, ◌∙◌, arith, add-one, drop-cons, length-take, length-drop, subst}
+use Rattle.std.proofs.Common.{◌≡◌, inl, inr, ℕ, ◌+◌, ◌-◌, ◌*◌, ◌<◌, ◌≤◌, true, false, fold, take, drop, List, [], ◌∷◌, ◌++◌, length, get_or, Bool, Option, None, Result, Some, Ok, refl, ap, sym, ◌∙◌, arith, add-one, drop-cons, length-take, length-drop, subst}
 use Rattle.std.proofs.lemmas.Bool.Decides.{nat_tests}
 use Rattle.std.proofs.lemmas.List.{take_all}
 use Rattle.std.specs.Char.{is_ascii_digit}
@@ -13,9 +13,9 @@ use Rattle.net_reader.specs.Said.{Said}
 use Rattle.net_reader.specs.Seen.{said_or_fault, seen_known, seen_line, seen_scan}
 use Rattle.net_reader.specs.Steps.{IsRun, LineState, ReaderState, after_bytes, close, close_as, end_line, fault_at, fresh, is_inside, is_plain, keep, line_said, more, next, pack, past_line, put, release, word_in}
 use Rattle.net_reader.specs.Table.{judge_word}
-use Rattle.net_reader.specs.Whole.{IsComment, IsCommentTo, IsDigits, IsEnd, IsLast, IsNumbers, IsNumberTo, IsUpTo, Opens, Rests, between}
+use Rattle.net_reader.specs.Whole.{IsComment, IsCommentTo, IsDigits, IsEnd, IsLast, IsLeft, IsNumbers, IsNumberTo, IsUpTo, Opens, Rests, between}
 use Rattle.net_reader.proofs.Digits.{below-most, plain-more, read-more, still-small}
-use Rattle.net_reader.proofs.Feeding.{ran}
+use Rattle.net_reader.proofs.Feeding.{fed-faulty, ran}
 use Rattle.net_reader.proofs.Running.{run-comment, run-join, run-length, run-more, run-none, run-number}
 
 -- the five bytes of a word and a blank
@@ -335,3 +335,25 @@ still-rests old new said m rests same going =
           ∙ ap (λ b. state (Ok known) b new.held (seen_line new.line)) begun
           ∙ ap (λ h. state (Ok known) false h (seen_line new.line)) held ∙ ap (state (Ok known) false false) line;
     }
+
+-- what is left behind a line says the same as what stands there
+left-same : (fault : Option InputFault) (said : Said) (reader : ReaderState) (behind left : List ℕ)
+    → reader.said ≡ said_or_fault fault said → IsLeft fault behind left
+    → after_bytes reader left ≡ after_bytes reader behind
+left-same None said reader behind left same is = ap (after_bytes reader) is
+left-same (Some fault) said reader behind left same is =
+    fed-faulty (Some fault) said reader left refl same ∙ sym (fed-faulty (Some fault) said reader behind refl same)
+
+pub left-read : (scan : Scan) (behind left : List ℕ) → IsLeft scan.fault behind left
+    → after_bytes (seen_scan scan) left ≡ after_bytes (seen_scan scan) behind
+left-read scan behind left is = left-same scan.fault (seen_known scan.known) (seen_scan scan) behind left refl is
+
+pub left-shorter : (fault : Option InputFault) (behind left : List ℕ) → IsLeft fault behind left
+    → length left ≤ length behind
+left-shorter None behind left is = omega (arith, ap length is)
+left-shorter (Some fault) behind left is = omega (arith, ap length is)
+
+pub left-going : (fault : Option InputFault) (behind left : List ℕ) → IsLeft fault behind left → 0 < length left
+    → fault ≡ None
+left-going None behind left is some = refl
+left-going (Some fault) behind left is some = absurd (omega (arith, ap length is, some))

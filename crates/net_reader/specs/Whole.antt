@@ -1,8 +1,9 @@
 -- Lines that lie whole in a piece, as the steps from byte to byte see them.
 -- Key law: `Scan::whole_lines` reads them as `Scan::read` does.
-use Rattle.std.specs.Prelude.{◌≡◌, ◌⊎◌, ◌<◌, ◌≤◌, ◌^◌, ◌++◌, ℕ, List, [], ◌∷◌, false, true, fold, length, take, nat_le, None, Ok, Some}
+use Rattle.std.specs.Prelude.{◌≡◌, ◌⊎◌, ◌<◌, ◌≤◌, ◌^◌, ◌++◌, ℕ, List, [], ◌∷◌, false, true, fold, length, take, nat_le, Option, None, Ok, Some}
 use Rattle.std.specs.List.{list_all, list_any}
 use Rattle.net_reader.specs.declared.line.Open.TheVariants as opens
+use Rattle.net_reader.specs.declared.fault.InputFault.{InputFault}
 use Rattle.net_reader.specs.declared.known.Known.{Known}
 use Rattle.net_reader.specs.declared.scan.Scan.{Scan}
 use Rattle.net_reader.specs.declared.word.Word.{Word}
@@ -25,6 +26,11 @@ pub record Rests (scan : Scan) : Type 0 where
     held = false;
     line = fresh;
   }
+
+-- what is left to be read behind a line: all that stands there, and nothing after a fault
+abbrev pub IsLeft : Option InputFault → List ℕ → List ℕ → Type 0
+IsLeft None behind left = left ≡ behind
+IsLeft (Some fault) behind left = left ≡ []
 
 -- the word of a line, and a blank
 pub record Opens (word : Word) (piece rest : List ℕ) : Type 0 where

@@ -1,5 +1,5 @@
 //! What the lines have said so far.
-ghost use Rattle.std.specs.Prelude.{◌≡◌, ◌≤◌, ◌^◌, ◌++◌, length, nat_le, not, Some, IfOk, IfSome, IfNone, IsTrue};
+ghost use Rattle.std.specs.Prelude.{◌≡◌, ◌<◌, ◌≤◌, ◌^◌, ◌++◌, [], ◌∷◌, false, length, nat_le, not, Some, Err, is_ok, IfOk, IfSome, IfNone, IsTrue};
 ghost use Rattle.std.specs.List.{list_any};
 ghost use Rattle.net_reader.specs.Table.{judge_word, row_of, verdict, track_row, nodes_row, k_row, edge_row, sub_row, callers_row, move_row, find_row, switch_row, order_row, most_calls, most_nodes};
 ghost use Rattle.net_reader.specs.Said.{nothing};
@@ -8,6 +8,7 @@ ghost use Rattle.net_reader.specs.Seen.{seen_known, KeepsLimits, Judges};
 ghost use Rattle.net_reader.specs.Whole.{HearsOrder};
 
 use crate::fault::InputCause;
+use crate::room::push;
 use crate::said::{Call, Spoken};
 use crate::stop::Stop;
 use crate::whole::push_line;
@@ -121,6 +122,35 @@ impl Known {
         Ok(())
     }
 
+    // Whether an edge of these nodes and with this weight can be taken. Nearly all can, so what is
+    // wrong with one is asked only where something is.
+    #[inline(always)]
+    fn takes_edge(&self, a: u64, b: u64, weight: u64) -> bool
+        ensures taken { result
+            ≡ is_ok (verdict (edge_row (seen_known self.now) (a ∷ b ∷ weight ∷ []))) }
+        ensures short { IsTrue result → (a < 2 ^ 32) × (b < 2 ^ 32) }
+    {
+        let nodes = u64::from(self.nodes);
+        0 < weight && weight <= MAX_WEIGHT && self.edges.len() < MAX_EDGES && a < nodes && b < nodes
+    }
+
+    // What is wrong with one that can't.
+    #[inline(never)]
+    fn edge_cause(&self, a: u64, b: u64, weight: u64) -> InputCause
+        requires { is_ok (verdict (edge_row (seen_known self.now) (a ∷ b ∷ weight ∷ []))) ≡ false }
+        ensures { verdict (edge_row (seen_known self.now) (a ∷ b ∷ weight ∷ [])) ≡ Err result }
+    {
+        if weight == 0 {
+            InputCause::Form
+        } else if weight > MAX_WEIGHT {
+            InputCause::TooLarge
+        } else if self.edges.len() >= MAX_EDGES {
+            InputCause::TooMany
+        } else {
+            InputCause::Unknown
+        }
+    }
+
     #[inline(always)]
     fn edge(&mut self, numbers: &[u64]) -> Result<(), Stop>
         requires { KeepsLimits self.old }
@@ -129,21 +159,11 @@ impl Known {
         let &[a, b, weight] = numbers else {
             return Err(Stop::Fault(InputCause::Form));
         };
-        if weight == 0 {
-            return Err(Stop::Fault(InputCause::Form));
-        }
-        if weight > MAX_WEIGHT {
-            return Err(Stop::Fault(InputCause::TooLarge));
-        }
-        if self.edges.len() >= MAX_EDGES {
-            return Err(Stop::Fault(InputCause::TooMany));
-        }
-        let nodes = u64::from(self.nodes);
-        if a >= nodes || b >= nodes {
-            return Err(Stop::Fault(InputCause::Unknown));
+        if !self.takes_edge(a, b, weight) {
+            return Err(Stop::Fault(self.edge_cause(a, b, weight)));
         }
         let (a, b) = (a as u32, b as u32);
-        self.edges.push(Edge { a, b, weight })?;
+        push(&mut self.edges, Edge { a, b, weight })?;
         self.place = Place::Edges;
         Ok(())
     }
@@ -229,10 +249,8 @@ impl Known {
         if self.places[actor as usize] == to {
             return Err(Stop::Fault(InputCause::Nowhere));
         }
-        self.calls.push(Spoken {
-            actor,
-            call: Call::Move { to },
-        })?;
+        let call = Call::Move { to };
+        push(&mut self.calls, Spoken { actor, call })?;
         self.places[actor as usize] = to;
         self.place = Place::Calls;
         Ok(())
@@ -255,10 +273,8 @@ impl Known {
             return Err(Stop::Fault(InputCause::Unknown));
         }
         let (actor, from, sub) = (caller as u32, from as u32, sub as u32);
-        self.calls.push(Spoken {
-            actor,
-            call: Call::Find { from, sub },
-        })?;
+        let call = Call::Find { from, sub };
+        push(&mut self.calls, Spoken { actor, call })?;
         self.place = Place::Calls;
         Ok(())
     }
@@ -286,7 +302,7 @@ impl Known {
             return Err(Stop::Fault(InputCause::Switched));
         }
         let call = if off { Call::Off } else { Call::On };
-        self.calls.push(Spoken { actor, call })?;
+        push(&mut self.calls, Spoken { actor, call })?;
         self.off[actor as usize] = off;
         self.place = Place::Calls;
         Ok(())

@@ -9,6 +9,7 @@ mod laws;
 mod line;
 mod line_end;
 mod reader;
+mod room;
 mod said;
 mod scan;
 mod stop;

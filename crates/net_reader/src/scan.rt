@@ -3,7 +3,7 @@
 ghost use Rattle.std.specs.Prelude.{◌≡◌, ◌<◌, ◌≤◌, ◌+◌, ◌^◌, length, IfOk, OnOk, IsTrue, None, Some, nat_lt, true, if◌then◌else◌};
 ghost use Rattle.net_reader.specs.Steps.{end_line, past_line, release, byte_read, next, after_bytes, end_result, fresh_reader, fault_at, number_of_place};
 ghost use Rattle.net_reader.specs.Table.{judge_word};
-ghost use Rattle.net_reader.specs.Whole.{Opens, Rests};
+ghost use Rattle.net_reader.specs.Whole.{IsLeft, Opens, Rests};
 ghost use Rattle.net_reader.specs.declared.word.Word.TheVariants.{Order};
 ghost use Rattle.net_reader.specs.Seen.{seen_line, seen_known, seen_scan, KeepsLimits, Finishes, IsWell, Judges};
 
@@ -11,7 +11,7 @@ use crate::fault::{InputCause, InputFault, ReadRefusal};
 use crate::known::Known;
 use crate::line::{Line, Open};
 use crate::stop::Stop;
-use crate::whole::{edge_numbers, opening, past_comment, three_numbers, two_numbers};
+use crate::whole::{LINE_ROOM, edge_numbers, opening, past_comment, three_numbers, two_numbers};
 use crate::word::{Place, Word};
 use std::alloc::{AllocError, Global};
 
@@ -191,9 +191,15 @@ impl Scan {
         self.fault.is_none() && !self.begun && !self.held && self.line.is_fresh()
     }
 
-    // What a whole line with this word and these numbers says.
+    // What a whole line with this word and these numbers says, and what is left to be read behind
+    // it: all that stands there, and nothing after a fault.
     #[inline(always)]
-    fn hear(&mut self, word: Word, numbers: &[u64]) -> Result<(), AllocError>
+    fn hear<'a>(
+        &mut self,
+        word: Word,
+        numbers: &[u64],
+        behind: &'a [u8],
+    ) -> Result<&'a [u8], AllocError>
         requires going { self.old.fault ≡ None }
         requires well { IsWell self.old.fault self.old.known }
         requires room { self.old.lines + 1 < 2 ^ 32 }
@@ -204,16 +210,17 @@ impl Scan {
         }) }
         ensures well { OnOk result (IsWell self.new.fault self.new.known) }
         ensures lines { self.new.lines ≡ self.old.lines + 1 }
+        ensures left { IfOk result (λ left. IsLeft self.new.fault behind.now left.now) }
     {
         self.count();
         match self.known.hear_word(word, numbers) {
-            Ok(()) => Ok(()),
+            Ok(()) => Ok(behind),
             Err(Stop::Fault(cause)) => {
                 self.fault = Some(InputFault {
                     line: self.lines,
                     cause,
                 });
-                Ok(())
+                Ok(behind.split_at(behind.len()).1)
             }
             Err(Stop::Memory) => Err(AllocError),
         }
@@ -232,7 +239,7 @@ impl Scan {
         ensures lines { IfOk result (λ rest. self.new.lines + length rest.now ≤ self.old.lines +
             length piece.now) }
         ensures well { IfOk result (λ rest. IsWell self.new.fault self.new.known) }
-        ensures rests { IfOk result (λ rest. self.new.fault ≡ None → Rests self.new) }
+        ensures rests { IfOk result (λ rest. Rests self.new) }
     {
         match self.known.order_line(after)? {
             Some(rest) => {
@@ -255,14 +262,14 @@ impl Scan {
         ensures lines { IfOk result (λ rest. self.new.lines + length rest.now ≤ self.old.lines +
             length piece.now) }
         ensures well { IfOk result (λ rest. IsWell self.new.fault self.new.known) }
-        ensures rests { IfOk result (λ rest. self.new.fault ≡ None → Rests self.new) }
+        ensures rests { IfOk result (λ rest. 0 < length rest.now → Rests self.new) }
     {
-        if let Some(rest) = past_comment(piece) {
+        let Some((word, after)) = opening(piece) else {
+            let Some(rest) = past_comment(piece) else {
+                return Ok(piece);
+            };
             self.count();
             return Ok(rest);
-        }
-        let Some((word, after)) = opening(piece) else {
-            return Ok(piece);
         };
         if let Word::Order = word {
             return self.whole_order(piece, after);
@@ -271,21 +278,21 @@ impl Scan {
             let Some((first, second, rest)) = two_numbers(after) else {
                 return Ok(piece);
             };
-            self.hear(word, &[first, second])?;
-            return Ok(rest);
+            let left = self.hear(word, &[first, second], rest)?;
+            return Ok(left);
         }
         if let Word::Find = word {
             let Some((first, second, third, rest)) = three_numbers(after) else {
                 return Ok(piece);
             };
-            self.hear(word, &[first, second, third])?;
-            return Ok(rest);
+            let left = self.hear(word, &[first, second, third], rest)?;
+            return Ok(left);
         }
         let Some((first, second, weight, rest)) = edge_numbers(after) else {
             return Ok(piece);
         };
-        self.hear(word, &[first, second, weight])?;
-        Ok(rest)
+        let left = self.hear(word, &[first, second, weight], rest)?;
+        Ok(left)
     }
 
     // Reads the lines at the front that lie whole there, as long as they are plain, and gives what
@@ -304,7 +311,7 @@ impl Scan {
             return Ok(piece);
         }
         let mut rest = piece;
-        'lines: while self.fault.is_none() {
+        'lines: while rest.len() >= LINE_ROOM {
             let behind = self.whole_line(rest)?;
             if behind.len() == rest.len() {
                 return Ok(behind);

@@ -15,6 +15,17 @@ const ROOM: usize = 8;
 // The most bytes of a number of three digits and what ends it.
 const SHORT_ROOM: usize = 4;
 
+// The most bytes of a line with a word of four letters and three numbers of at most seven digits,
+// up to its line feed.
+pub(crate) const LINE_ROOM: usize = 29;
+
+// The letters of the words that most lines begin with, as one number each, the first letter lowest.
+const MOVE: u32 = 0x6576_6f6d;
+
+const FIND: u32 = 0x646e_6966;
+
+const EDGE: u32 = 0x6567_6465;
+
 // The word of a line of the order, where a blank stands behind it, and what stands behind that.
 #[inline(always)]
 fn opening_of_order(piece: &[u8]) -> Option<(Word, &[u8])>
@@ -27,16 +38,22 @@ fn opening_of_order(piece: &[u8]) -> Option<(Word, &[u8])>
 }
 
 // The word of a line of a kind of which there are many, where a blank stands behind it, and what
-// stands behind that.
+// stands behind that. Four letters are told at once.
 #[inline(always)]
 pub(crate) fn opening(piece: &[u8]) -> Option<(Word, &[u8])>
     ensures { IfSome result (λ found. Opens found.0 piece.now found.1.now) }
 {
-    match piece {
-        [b'm', b'o', b'v', b'e', b' ', after @ ..] => Some((Word::Move, after)),
-        [b'f', b'i', b'n', b'd', b' ', after @ ..] => Some((Word::Find, after)),
-        [b'e', b'd', b'g', b'e', b' ', after @ ..] => Some((Word::Edge, after)),
-        _ => opening_of_order(piece),
+    let [a, b, c, d, blank, after @ ..] = piece else {
+        return None;
+    };
+    if *blank != b' ' {
+        return opening_of_order(piece);
+    }
+    match u32::from_le_bytes([*a, *b, *c, *d]) {
+        MOVE => Some((Word::Move, after)),
+        FIND => Some((Word::Find, after)),
+        EDGE => Some((Word::Edge, after)),
+        _ => None,
     }
 }
 
@@ -118,6 +135,7 @@ fn wide_number(piece: &[u8]) -> Option<(u64, u8, usize)>
 }
 
 // The number at the front that a blank ends, where it has more than three digits.
+#[inline(always)]
 fn long_number(piece: &[u8]) -> Option<(u64, &[u8])>
     requires { 8 ≤ length piece.now }
     ensures number { IfSome result (λ found. IsNumberTo 32 found.0 piece.now found.1.now) }
@@ -148,7 +166,8 @@ fn number(piece: &[u8]) -> Option<(u64, &[u8])>
 }
 
 // The number at the front that the end of the line ends, and what stands behind it, where it has
-// more than three digits.
+// more than three digits. As a call it leaves the lines around it fewer steps.
+#[inline(never)]
 fn long_last(piece: &[u8]) -> Option<(u64, &[u8])>
     requires { 8 ≤ length piece.now }
     ensures { IfSome result (λ found. IsLast found.0 piece.now found.1.now) }

@@ -1,13 +1,13 @@
-use Rattle.std.proofs.Common.{◌+◌, [], ◌∷◌, ap, subst, sym, arith}
+use Rattle.std.proofs.Common.{◌+◌, [], ◌∷◌, ap, subst, sym, ◌∙◌, arith}
 use Rattle.net_reader.specs.declared.scan.Scan.{Scan}
 use Rattle.net_reader.specs.Seen.{IsWell, seen_known, seen_scan}
-use Rattle.net_reader.proofs.WholeLine.{comment-shorter, heard-comment, heard-whole, still-rests, whole-shorter}
+use Rattle.net_reader.proofs.WholeLine.{comment-shorter, heard-comment, heard-whole, left-going, left-read, left-shorter, still-rests, whole-shorter}
 use Rattle.net_reader.proofs.scan.Scan.whole_line.Goals as goal
 
-pub returns-in-Some : goal.returns-in-Some
-returns-in-Some c =
+pub returns-in_default : goal.returns-in_default
+returns-in_default c =
     let self = c.args.self.now in
-    let found = c.in-Some in
+    let found = c.in-Some-past_comment in
     let shorter = comment-shorter c.args.piece.now found.rest.now found.ensures in
     record {
       read = heard-comment (seen_scan self) (seen_scan c.count.new.self) self.lines (seen_known self.known)
@@ -16,8 +16,9 @@ returns-in-Some c =
       shorter = omega (arith, shorter);
       lines = omega (arith, shorter, ap (λ (s : Scan). s.lines) c.count.ensures);
       well = subst (λ (s : Scan). IsWell s.fault s.known) (sym c.count.ensures) c.requires.well;
-      rests = still-rests self c.count.new.self _ (self.lines + 1) c.requires.rests
-          (ap (λ (s : Scan). seen_scan s) c.count.ensures);
+      rests = λ some. still-rests self c.count.new.self _ (self.lines + 1) c.requires.rests
+          (ap (λ (s : Scan). seen_scan s) c.count.ensures)
+          (ap (λ (s : Scan). s.fault) c.count.ensures ∙ c.requires.rests.going);
     }
 
 pub returns-in-Move : goal.returns-in-Move
@@ -25,18 +26,22 @@ returns-in-Move c =
     let self = c.args.self.now in
     let found = c.in-Some-two_numbers in
     let numbers = found.first ∷ found.second ∷ [] in
-    let shorter = whole-shorter c.in-Some-opening.word numbers c.args.piece.now c.in-Some-opening.after.now
+    let shorter = whole-shorter c.in-Some.word numbers c.args.piece.now c.in-Some.after.now
     found.rest.now
-    c.in-Some-opening.ensures found.ensures in
+    c.in-Some.ensures found.ensures in
+    let left = c.in_ok-left in
+    let fewer = left-shorter c.hear.new.self.fault found.rest.now left.left.now left.ensures.left in
     record {
-      read = heard-whole (seen_scan self) (seen_scan c.hear.new.self) self.lines (seen_known self.known)
-          c.in-Some-opening.word numbers c.args.piece.now c.in-Some-opening.after.now found.rest.now
+      read = left-read c.hear.new.self found.rest.now left.left.now left.ensures.left
+          ∙ heard-whole (seen_scan self) (seen_scan c.hear.new.self) self.lines (seen_known self.known)
+          c.in-Some.word numbers c.args.piece.now c.in-Some.after.now found.rest.now
           c.requires.rests.seen
-          c.in_ok-hear.ensures.read c.in-Some-opening.ensures found.ensures;
-      shorter = omega (arith, shorter);
-      lines = omega (arith, c.in_ok-hear.ensures.lines, shorter);
-      well = c.in_ok-hear.ensures.well;
-      rests = still-rests self c.hear.new.self _ _ c.requires.rests c.in_ok-hear.ensures.read;
+          left.ensures.read c.in-Some.ensures found.ensures;
+      shorter = omega (arith, shorter, fewer);
+      lines = omega (arith, left.ensures.lines, shorter, fewer);
+      well = left.ensures.well;
+      rests = λ some. still-rests self c.hear.new.self _ _ c.requires.rests left.ensures.read
+          (left-going c.hear.new.self.fault found.rest.now left.left.now left.ensures.left some);
     }
 
 pub returns-in-Find : goal.returns-in-Find
@@ -44,18 +49,22 @@ returns-in-Find c =
     let self = c.args.self.now in
     let found = c.in-Some-three_numbers in
     let numbers = found.first ∷ found.second ∷ found.third ∷ [] in
-    let shorter = whole-shorter c.in-Some-opening.word numbers c.args.piece.now c.in-Some-opening.after.now
+    let shorter = whole-shorter c.in-Some.word numbers c.args.piece.now c.in-Some.after.now
     found.rest.now
-    c.in-Some-opening.ensures found.ensures in
+    c.in-Some.ensures found.ensures in
+    let left = c.in_ok-left-2 in
+    let fewer = left-shorter c.hear-in-Find.new.self.fault found.rest.now left.left.now left.ensures.left in
     record {
-      read = heard-whole (seen_scan self) (seen_scan c.hear-in-Find.new.self) self.lines (seen_known self.known)
-          c.in-Some-opening.word numbers c.args.piece.now c.in-Some-opening.after.now found.rest.now
+      read = left-read c.hear-in-Find.new.self found.rest.now left.left.now left.ensures.left
+          ∙ heard-whole (seen_scan self) (seen_scan c.hear-in-Find.new.self) self.lines (seen_known self.known)
+          c.in-Some.word numbers c.args.piece.now c.in-Some.after.now found.rest.now
           c.requires.rests.seen
-          c.in_ok-hear-2.ensures.read c.in-Some-opening.ensures found.ensures;
-      shorter = omega (arith, shorter);
-      lines = omega (arith, c.in_ok-hear-2.ensures.lines, shorter);
-      well = c.in_ok-hear-2.ensures.well;
-      rests = still-rests self c.hear-in-Find.new.self _ _ c.requires.rests c.in_ok-hear-2.ensures.read;
+          left.ensures.read c.in-Some.ensures found.ensures;
+      shorter = omega (arith, shorter, fewer);
+      lines = omega (arith, left.ensures.lines, shorter, fewer);
+      well = left.ensures.well;
+      rests = λ some. still-rests self c.hear-in-Find.new.self _ _ c.requires.rests left.ensures.read
+          (left-going c.hear-in-Find.new.self.fault found.rest.now left.left.now left.ensures.left some);
     }
 
 pub returns : goal.returns
@@ -63,16 +72,20 @@ returns c =
     let self = c.args.self.now in
     let found = c.in-Some-edge_numbers in
     let numbers = found.first ∷ found.second ∷ found.weight ∷ [] in
-    let shorter = whole-shorter c.in-Some-opening.word numbers c.args.piece.now c.in-Some-opening.after.now
+    let shorter = whole-shorter c.in-Some.word numbers c.args.piece.now c.in-Some.after.now
     found.rest.now
-    c.in-Some-opening.ensures found.ensures in
+    c.in-Some.ensures found.ensures in
+    let left = c.in_ok-left-3 in
+    let fewer = left-shorter c.hear-2.new.self.fault found.rest.now left.left.now left.ensures.left in
     record {
-      read = heard-whole (seen_scan self) (seen_scan c.hear-2.new.self) self.lines (seen_known self.known)
-          c.in-Some-opening.word numbers c.args.piece.now c.in-Some-opening.after.now found.rest.now
+      read = left-read c.hear-2.new.self found.rest.now left.left.now left.ensures.left
+          ∙ heard-whole (seen_scan self) (seen_scan c.hear-2.new.self) self.lines (seen_known self.known)
+          c.in-Some.word numbers c.args.piece.now c.in-Some.after.now found.rest.now
           c.requires.rests.seen
-          c.in_ok-hear-3.ensures.read c.in-Some-opening.ensures found.ensures;
-      shorter = omega (arith, shorter);
-      lines = omega (arith, c.in_ok-hear-3.ensures.lines, shorter);
-      well = c.in_ok-hear-3.ensures.well;
-      rests = still-rests self c.hear-2.new.self _ _ c.requires.rests c.in_ok-hear-3.ensures.read;
+          left.ensures.read c.in-Some.ensures found.ensures;
+      shorter = omega (arith, shorter, fewer);
+      lines = omega (arith, left.ensures.lines, shorter, fewer);
+      well = left.ensures.well;
+      rests = λ some. still-rests self c.hear-2.new.self _ _ c.requires.rests left.ensures.read
+          (left-going c.hear-2.new.self.fault found.rest.now left.left.now left.ensures.left some);
     }

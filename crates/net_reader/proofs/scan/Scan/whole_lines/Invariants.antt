@@ -1,4 +1,4 @@
-use Rattle.std.proofs.Common.{◌≡◌, ◌+◌, ◌≤◌, None, length}
+use Rattle.std.proofs.Common.{◌≡◌, ◌+◌, ◌<◌, ◌≤◌, length}
 use Rattle.net_reader.specs.Steps.{after_bytes}
 use Rattle.net_reader.specs.Whole.{Rests}
 use Rattle.net_reader.specs.Seen.{seen_scan, IsWell}
@@ -10,7 +10,7 @@ invariant-lines l = record {
   well : IsWell l.self.fault l.self.known;
   lines : l.self.lines + length l.rest ≤ l.fn.self.lines + length l.fn.piece;
   shorter : length l.rest ≤ length l.fn.piece;
-  rests : l.self.fault ≡ None → Rests l.self;
+  rests : 0 < length l.rest → Rests l.self;
 }
 
 abbrev pub decreases-lines : goal.decreases-lines

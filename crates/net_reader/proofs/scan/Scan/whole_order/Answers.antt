@@ -39,5 +39,6 @@ returns-in-Some c =
       well = subst (λ (s : Scan). IsWell s.fault s.known) (sym c.count.ensures)
           (subst (λ f. IsWell f known) (sym going) c.in_ok-rest.ensures.kept);
       rests = still-rests self c.count.new.self (said_or_fault self.fault (seen_known known)) (self.lines + 1)
-          c.requires.rests (ap (λ (s : Scan). seen_scan s) c.count.ensures);
+          c.requires.rests (ap (λ (s : Scan). seen_scan s) c.count.ensures)
+          (ap (λ (s : Scan). s.fault) c.count.ensures ∙ going);
     }
