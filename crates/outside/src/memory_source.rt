@@ -96,4 +96,22 @@ impl Source for MemorySource {
         self.at += count;
         Took::Got(count)
     }
+
+    fn fill(&mut self, into: &mut [u8]) -> Took
+        requires { 0 < length into.old }
+        ensures within { TakesWithin result (length into.old) }
+        ensures bytes { Some self.old.left
+            ≡ prepend_known (take (count_taken result) into.new) (Some self.new.left) }
+        ensures end { result ≡ Took.End → IsAtEnd (Some self.old.left) }
+        ensures count { CountsRead result self.old.faults self.new.faults }
+
+        // As `read` does.
+        ensures fails { (result ≡ Took.Failed) ↔ Contains self.old.fail self.old.calls }
+        ensures takes { result ≢ Took.Failed → count_taken result
+            ≡ min (length into.old) (min self.old.most (length self.old.left)) }
+        ensures counted { self.new.calls ≡ one_more self.old.calls }
+        ensures same { (self.new.most ≡ self.old.most) × (self.new.fail ≡ self.old.fail) }
+    {
+        self.read(into)
+    }
 }

@@ -3,7 +3,7 @@ ghost use Rattle.std.specs.Prelude.{◌≡◌, ◌<◌, ℕ, List, Option, lengt
 ghost use Rattle.outside.specs.Bytes.{prepend_known, IsAtEnd};
 ghost use Rattle.outside.specs.Calls.{count_taken, TakesWithin, CountsRead};
 
-/// What one call of [`Source::read`] answers.
+/// What one call of [`Source::read`] or [`Source::fill`] answers.
 #[derive(Clone, Copy, Debug, PartialEq, Eq)]
 pub enum Took {
     /// So many bytes stand at the front of the buffer now; at least one.
@@ -32,4 +32,17 @@ pub trait Source {
         ensures rest { drop (count_taken result) into.new ≡ drop (count_taken result) into.old }
         ensures end { result ≡ Took.End → IsAtEnd (left self.old) }
         ensures count { CountsRead result (faults self.old) (faults self.new) };
+
+    /// Moves bytes that are left to the front of the buffer, as [`read`](Source::read) does, but the
+    /// rest of the buffer may hold anything then. So a source over a reader needs no copy.
+    fn fill(&mut self, into: &mut [u8]) -> Took
+        requires { 0 < length into.old }
+        ensures within { TakesWithin result (length into.old) }
+        ensures bytes { left self.old ≡ prepend_known (take (count_taken result) into.new) (left
+            self.new) }
+        ensures end { result ≡ Took.End → IsAtEnd (left self.old) }
+        ensures count { CountsRead result (faults self.old) (faults self.new) }
+    {
+        self.read(into)
+    }
 }

@@ -15,12 +15,11 @@ const BUFFER: usize = 16384;
 
 /// A source over a reader. Each error of the reader is a fault, and a read of 0 bytes is the end.
 ///
-/// std says nothing of the part of a buffer that a read didn't fill, so the source reads into a
-/// buffer of its own.
+/// std says nothing of the part of a buffer that a read didn't fill. So `fill` reads straight into
+/// the buffer, and `read` into one of its own, of which it copies what came.
 #[derive(Drop)]
 pub struct StdSource<R: Read> {
     reader: R,
-    buffer: [u8; BUFFER],
     faults: u64,
 }
 
@@ -30,11 +29,7 @@ impl<R: Read> StdSource<R> {
         ensures reader { result.reader ≡ reader }
         ensures faults { result.faults ≡ 0 }
     {
-        StdSource {
-            reader,
-            buffer: [0; BUFFER],
-            faults: 0,
-        }
+        StdSource { reader, faults: 0 }
     }
 }
 
@@ -54,20 +49,33 @@ impl<R: Read> Source for StdSource<R> {
             (count_taken result) into.new) }
         ensures ends { result ≡ Took.End → IsReaderAtEnd (R.remaining self.new.reader) }
     {
+        let mut buffer = [0; BUFFER];
         let room = into.len().min(BUFFER);
-        let buffer = &mut self.buffer[..];
-        let count = match self.reader.read(&mut buffer[..room]) {
-            Ok(count) => count,
+        let took = self.fill(&mut buffer[..room]);
+        if let Took::Got(count) = took {
+            copy_front(&buffer, into, count);
+        }
+        took
+    }
+
+    fn fill(&mut self, into: &mut [u8]) -> Took
+        requires { 0 < length into.old }
+        ensures within { TakesWithin result (length into.old) }
+        ensures bytes { None ≡ prepend_known (take (count_taken result) into.new) None }
+        ensures count { CountsRead result self.old.faults self.new.faults }
+        ensures end { result ≡ Took.End → IsAtEnd None }
+        ensures passes { Consumes (R.remaining self.old.reader) (R.remaining self.new.reader) (take
+            (count_taken result) into.new) }
+        ensures ends { result ≡ Took.End → IsReaderAtEnd (R.remaining self.new.reader) }
+    {
+        match self.reader.read(into) {
+            Ok(0) => Took::End,
+            Ok(count) => Took::Got(count),
             Err(_) => {
                 self.faults = self.faults.saturating_add(1);
-                return Took::Failed;
+                Took::Failed
             }
-        };
-        if count == 0 {
-            return Took::End;
         }
-        copy_front(buffer, into, count);
-        Took::Got(count)
     }
 }
 

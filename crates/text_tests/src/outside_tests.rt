@@ -1,5 +1,7 @@
 //! What no clause says of sources and sinks: that the calls succeed, and what std's readers and
 //! writers do below them.
+ghost use Rattle.std.specs.Prelude.{Some};
+
 use crate::same::same_text;
 use outside::{Gave, MemorySink, MemorySource, Sink, Source, StdSink, StdSource, Took};
 use std::io::{Error, ErrorKind, Read, Write};
@@ -13,6 +15,20 @@ fn reads(rt: &impl Abort, source: &mut impl Source, buffer: &mut [u8], rows: &[(
         assert!(rt; buffer.len() > 0);
         assert_eq!(rt; source.read(buffer), took, "read {place}");
         same_text(rt, place, buffer, bytes);
+    }
+}
+
+// Calls of `fill` are to hand over these pieces, with `|` behind each. A mark `!` is a fault, and an
+// empty piece the end.
+fn fills(rt: &impl Abort, source: &mut impl Source, buffer: &mut [u8], pieces: &str) {
+    for (place, piece) in pieces.split_terminator('|').enumerate() {
+        assert!(rt; buffer.len() > 0);
+        let wanted = piece.as_bytes();
+        match source.fill(buffer) {
+            Took::Got(count) => same_text(rt, place, &buffer[..count], wanted),
+            Took::End => same_text(rt, place, b"", wanted),
+            Took::Failed => same_text(rt, place, b"!", wanted),
+        }
     }
 }
 
@@ -36,6 +52,40 @@ fn source_in_memory(rt: HostRuntime) -> Result<(), Fail> {
         (Took::End, b"efcd-"),
     ];
     reads(&rt, &mut source, &mut [b'-'; 5], &rows);
+    Ok(())
+}
+
+#[test]
+fn source_in_memory_fills(rt: HostRuntime) -> Result<(), Fail> {
+    let bytes = Vec::from_slice(rt.alloc(), b"abcdef")?;
+    let mut source = MemorySource::new(bytes, 4, vec![in rt.alloc(); 1]?);
+    fills(&rt, &mut source, &mut [0; 5], "abcd|!|ef||");
+    Ok(())
+}
+
+// A source that has no `fill` of its own.
+#[derive(Drop)]
+struct Plain {
+    inner: MemorySource,
+}
+
+impl Source for Plain {
+    ghost faults = { λ s. s.inner.faults };
+
+    ghost left = { λ s. Some s.inner.left };
+
+    fn read(&mut self, into: &mut [u8]) -> Took {
+        self.inner.read(into)
+    }
+}
+
+#[test]
+fn source_that_only_reads_fills(rt: HostRuntime) -> Result<(), Fail> {
+    let bytes = Vec::from_slice(rt.alloc(), b"abcdef")?;
+    let mut source = Plain {
+        inner: MemorySource::new(bytes, 4, vec![in rt.alloc(); 1]?),
+    };
+    fills(&rt, &mut source, &mut [0; 5], "abcd|!|ef||");
     Ok(())
 }
 
@@ -88,6 +138,12 @@ fn source_over_a_reader(rt: HostRuntime) {
     reads(&rt, &mut source, &mut [b'-'; 2], &rows);
 }
 
+#[test]
+fn source_over_a_reader_fills(rt: HostRuntime) {
+    let text: &[u8] = b"abc";
+    fills(&rt, &mut StdSource::new(text), &mut [0; 2], "ab|c||");
+}
+
 // A call that fails is a fault, also one that a stream interrupts or would let wait.
 #[test]
 fn devices_that_fail(rt: HostRuntime) {
@@ -98,6 +154,7 @@ fn devices_that_fail(rt: HostRuntime) {
     ] {
         let mut source = StdSource::new(Broken { kind });
         reads(&rt, &mut source, &mut [b'-'; 2], &[(Took::Failed, b"--")]);
+        fills(&rt, &mut source, &mut [0; 2], "!|");
         writes(
             &rt,
             &mut StdSink::new(Broken { kind }),
@@ -106,8 +163,8 @@ fn devices_that_fail(rt: HostRuntime) {
     }
 }
 
-// A read of more than the source's own buffer takes what that holds, and the next one goes on
-// behind it.
+// A read of more than the buffer of `read` takes what that holds, and the next one goes on behind
+// it.
 #[test]
 fn source_over_a_long_reader(rt: HostRuntime) -> Result<(), Fail> {
     let mut text = vec![in rt.alloc(); b'a'; 16_384]?;

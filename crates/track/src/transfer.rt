@@ -24,7 +24,7 @@ pub(crate) fn read_all<S: Source>(alloc: Global, source: &mut S) -> Result<Reade
     let mut piece = [0; PIECE];
     let mut count = 0;
     'pieces: while count <= MAX_BYTES {
-        match source.read(&mut piece) {
+        match source.fill(&mut piece) {
             Took::Got(more) => {
                 reader.feed(&piece[..more])?;
                 count += more;
@@ -52,7 +52,7 @@ pub(crate) fn read_text<S: Source>(
     let mut text = Vec::new(alloc);
     let mut piece = [0; PIECE];
     'pieces: while text.len() <= limit {
-        match source.read(&mut piece) {
+        match source.fill(&mut piece) {
             Took::Got(more) => text.extend_from_slice(&piece[..more])?,
             Took::End => return Ok(text),
             Took::Failed => return Err(ReadStop::Failed),

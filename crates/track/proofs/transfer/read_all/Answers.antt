@@ -5,17 +5,17 @@ use Rattle.track.proofs.transfer.read_all.Goals as goal
 pub returns-in_err-feed-in-Got-clause-rest : goal.returns-in_err-feed-in-Got-clause-rest
 returns-in_err-feed-in-Got-clause-rest g c =
     let bytes = c.pieces.invariant.bytes in
-    let piece = take c.in-Got.more c.read.new.into in
+    let piece = take c.in-Got.more c.fill.new.into in
     record {
       front = bytes ++ piece;
       parts = c.pieces.invariant.parts ∙ ap (prepend_known bytes) c.in-Got.ensures.bytes
-          ∙ sym (prepend_known-append bytes piece (g.S.Source.left c.read.new.self));
+          ∙ sym (prepend_known-append bytes piece (g.S.Source.left c.fill.new.self));
     }
 
 pub pieces-preserved : goal.pieces-preserved
 pieces-preserved g c =
     let bytes = c.pieces.invariant.bytes in
-    let piece = take c.in-Got.more c.read.new.into in
+    let piece = take c.in-Got.more c.fill.new.into in
     record {
       bytes = bytes ++ piece;
       stands = c.in_ok-feed-in-Got.ensures.fed bytes c.pieces.invariant.stands;
@@ -25,9 +25,9 @@ pieces-preserved g c =
         c.in-Got.ensures.within,
         length-append bytes piece,
         length-take
-            c.in-Got.more c.read.new.into,
+            c.in-Got.more c.fill.new.into,
       );
       parts = c.pieces.invariant.parts ∙ ap (prepend_known bytes) c.in-Got.ensures.bytes
-          ∙ sym (prepend_known-append bytes piece (g.S.Source.left c.read.new.self));
+          ∙ sym (prepend_known-append bytes piece (g.S.Source.left c.fill.new.self));
       no_fault = c.in-Got.ensures.count ∙ c.pieces.invariant.no_fault;
     }

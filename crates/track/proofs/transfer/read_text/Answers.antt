@@ -5,9 +5,9 @@ use Rattle.track.proofs.transfer.read_text.Goals as goal
 pub returns-in_err-extend_from_slice-in-Got-clause-rest : goal.returns-in_err-extend_from_slice-in-Got-clause-rest
 returns-in_err-extend_from_slice-in-Got-clause-rest g c =
     let bytes = c.pieces.text.items in
-    let piece = take c.in-Got.more c.read.new.into in
+    let piece = take c.in-Got.more c.fill.new.into in
     record {
       front = bytes ++ piece;
       parts = c.pieces.invariant.parts ∙ ap (prepend_known bytes) c.in-Got.ensures.bytes
-          ∙ sym (prepend_known-append bytes piece (g.S.Source.left c.read.new.self));
+          ∙ sym (prepend_known-append bytes piece (g.S.Source.left c.fill.new.self));
     }
