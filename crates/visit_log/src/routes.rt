@@ -1,11 +1,13 @@
 //! The entries that climbs look at, by the places of their cells.
-ghost use Rattle.std.specs.Prelude.{◌≡◌, ◌≤◌, ◌<◌, ◌+◌, ◌*◌, ℕ, IfOk, OnOk, length, slice_index};
+ghost use Rattle.std.specs.Prelude.{◌≡◌, ◌≤◌, ◌<◌, ◌+◌, ◌*◌, ℕ, IfOk, List, OnOk, length, slice_index};
+ghost use Rattle.directory.specs.Finds.{most_looks};
 ghost use Rattle.region_plan.specs.Plan.{PlanData, levels_of, nodes_of};
+ghost use Rattle.region_plan.specs.Settings.{setting_of};
 ghost use Rattle.visit_log.specs.Numbers.{ArePlaces};
 ghost use Rattle.visit_log.specs.Routes.{AreRoutes, ComesTo, HaveParts, IsAt, IsBelow, IsRung, Rung, entry_place, height_of, span_of, rung_at, rung_past};
 
 use crate::places::Places;
-use region_plan::{Plan, plan_is_sound};
+use region_plan::{Plan, plan_counts, plan_is_sound};
 use std::alloc::{AllocError, Global};
 use std::marker::Model;
 
@@ -50,7 +52,7 @@ impl Routes {
         // Nodes and levels are few.
         plan_is_sound(plan);
         let places = Places::new(alloc, plan)?;
-        let mut routes = Routes::empty(alloc, plan)?;
+        let mut routes = Routes::empty(alloc, plan, count_readers(plan))?;
         for node in 0..plan.nodes() {
             routes.push_node(plan, &places, node)?;
         }
@@ -93,6 +95,20 @@ impl Routes {
         }
     }
 
+    /// The most looks of a find from a node: what the plan says of it, without a step for each level.
+    pub fn most_looks(&self, plan: &Plan, from: u32) -> u64
+        requires routes { AreRoutes plan.now self.now }
+        requires node { from < nodes_of plan.now }
+        ensures { (starts : List ℕ) → result ≡ most_looks (setting_of plan.now starts) from }
+    {
+        // There is a level.
+        plan_is_sound(plan);
+        plan_counts();
+        let part = from as usize * self.levels as usize;
+        let readers = self.starts[part + self.levels as usize] - self.starts[part];
+        1 + u64::from(readers) + u64::from(plan.nodes()) + 3
+    }
+
     // The place of a reader in the row, and where the readers of its node end.
     #[inline(always)]
     fn span(&self, node: u32, level: u32, index: u32) -> (usize, usize)
@@ -123,8 +139,8 @@ impl Routes {
         level
     }
 
-    // The routes of no nodes.
-    fn empty(alloc: Global, plan: &Plan) -> Result<Routes, AllocError>
+    // The routes of no nodes, with room for so many readers.
+    fn empty(alloc: Global, plan: &Plan, readers: usize) -> Result<Routes, AllocError>
         ensures { IfOk result (λ routes. HaveParts plan.now routes 0) }
     {
         // Nodes and levels are few.
@@ -132,12 +148,12 @@ impl Routes {
         let parts = plan.nodes() as usize * plan.levels() as usize;
         let mut starts = Vec::with_capacity(alloc, parts + 1)?;
         starts.push(0)?;
-        let mut ways = Vec::with_capacity(alloc, parts + 1)?;
+        let mut ways = Vec::with_capacity(alloc, readers.checked_add(1).ok_or(AllocError)?)?;
         ways.push(0)?;
         Ok(Routes {
             levels: plan.levels(),
             starts,
-            places: Vec::with_capacity(alloc, parts)?,
+            places: Vec::with_capacity(alloc, readers)?,
             ways,
         })
     }
@@ -177,12 +193,27 @@ impl Routes {
         let first = places.first(level);
         let readers = plan.readers(level, node);
         let mut sum = self.ways[self.places.len()];
+        self.places.reserve(readers.len())?;
+        self.ways.reserve(readers.len())?;
         for index in 0..readers.len() {
-            self.places.push(first + readers[index])?;
+            self.places.push_reserved(first + readers[index]);
             sum += 2 * plan.reader_weight(level, node, index as u32);
-            self.ways.push(sum)?;
+            self.ways.push_reserved(sum);
         }
         self.starts.push(self.places.len() as u32)?;
         Ok(())
     }
+}
+
+// How many readers all nodes have on all levels, so that there is room for them from the beginning.
+fn count_readers(plan: &Plan) -> usize {
+    // Readers are few.
+    plan_is_sound(plan);
+    let mut count = 0;
+    for level in 0..plan.levels() {
+        for node in 0..plan.nodes() {
+            count += plan.readers(level, node).len();
+        }
+    }
+    count
 }

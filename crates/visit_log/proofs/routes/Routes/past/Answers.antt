@@ -1,4 +1,4 @@
-use Rattle.std.proofs.Common.{◌≡◌, ℕ, ◌+◌, ◌-◌, ◌*◌, ◌<◌, List, length, ap, refl, ◌∙◌, arith}
+use Rattle.std.proofs.Common.{◌≡◌, ℕ, ◌+◌, ◌*◌, ◌<◌, List, length, ap, refl, ◌∙◌, arith}
 use Rattle.std.specs.Prelude.{get_or, slice_index}
 use Rattle.region_plan.specs.Plan.{PlanData, levels_of}
 use Rattle.visit_log.specs.declared.routes.Height.{Height}
