@@ -163,34 +163,7 @@ module _ (plan : PlanData) (routes : RouteData) (node : ℕ) (are : AreRoutes pl
         way-holds (rung_past plan node rung count) here.0,
       )
 
-  -- a place belongs to one level
-  pub same-level : (rung : Rung) (level : ℕ) → IsRung plan node rung → level ≤ rung.level
-      → place_in routes base rung < slice_index routes.starts (base + level + 1) → level ≡ rung.level
-  same-level rung level is low before = elim (cases_lt level rung.level) [
-    | inl less ↦
-        let one : base + suc level ≡ base + level + 1 = omega arith in
-        absurd (omega (
-          arith,
-          starts-rise (suc level) rung.level less (omega (arith, is.level)),
-          ap (slice_index routes.starts) one,
-          before,
-        ))
-    | inr over ↦ omega (arith, low, over)
-  ]
-
-  -- and where its level isn't reached, it is above
-  pub above-level : (rung : Rung) (level : ℕ) → IsRung plan node rung → level ≤ rung.level
-      → slice_index routes.starts (base + level + 1) ≤ place_in routes base rung → level + 1 ≤ rung.level
-  above-level rung level is low reached = elim (cases_lt level rung.level) [
-    | inl less ↦ omega (arith, less)
-    | inr over ↦
-        let same : level ≡ rung.level = omega (arith, low, over) in
-        let one : base + suc rung.level ≡ base + level + 1 = omega (arith, same) in
-        absurd (omega (
-          arith,
-          next-start rung.level is.level,
-          ap (slice_index routes.starts) one,
-          reached,
-          is.index,
-        ))
-  ]
+  -- and its level
+  pub level-holds : (rung : Rung) → IsRung plan node rung
+      → slice_index routes.level_of (place_in routes base rung) ≡ rung.level
+  level-holds rung is = (its-part plan routes node rung.level are inside is.level).level_of rung.index is.index

@@ -4,7 +4,7 @@ ghost use Rattle.directory.specs.Finds.{most_looks};
 ghost use Rattle.region_plan.specs.Plan.{PlanData, levels_of, nodes_of};
 ghost use Rattle.region_plan.specs.Settings.{setting_of};
 ghost use Rattle.visit_log.specs.Numbers.{ArePlaces};
-ghost use Rattle.visit_log.specs.Routes.{AreRoutes, ComesTo, HaveParts, IsAt, IsBelow, IsRung, Rung, entry_place, height_of, span_of, rung_at, rung_past};
+ghost use Rattle.visit_log.specs.Routes.{AreRoutes, ComesTo, HaveParts, IsAt, IsRung, entry_place, height_of, span_of, rung_at, rung_past};
 
 use crate::places::Places;
 use region_plan::{Plan, plan_counts, plan_is_sound};
@@ -19,6 +19,7 @@ pub struct Routes {
     levels: u32,
     starts: Vec<u32>,
     places: Vec<u32>,
+    level_of: Vec<u8>,
     ways: Vec<u64>,
 }
 
@@ -31,6 +32,7 @@ impl Model for Routes {
       levels = r.levels;
       starts = r.starts.items;
       places = r.places.items;
+      level_of = r.level_of.items;
       ways = r.ways.items;
     } };
 }
@@ -86,11 +88,11 @@ impl Routes {
     {
         let (first, _) = self.span(node, level, index);
         let place = first + count;
-        let part = node as usize * self.levels as usize;
-        let level = self.level_of(part, level, place);
+        let level = self.level_of[place];
+        let part = node as usize * self.levels as usize + level as usize;
         Height {
-            level,
-            index: (place - self.starts[part + level as usize] as usize) as u32,
+            level: u32::from(level),
+            index: (place - self.starts[part] as usize) as u32,
             weight: self.ways[place] - self.ways[first],
         }
     }
@@ -124,21 +126,6 @@ impl Routes {
         (first, end)
     }
 
-    // The level at a place of the row, from one of the same node on.
-    #[inline(always)]
-    fn level_of(&self, part: usize, level: u32, place: usize) -> u32
-        requires place { (plan : PlanData) × (node : ℕ) × (rung : Rung)
-            × IsBelow plan self.now part level place node rung }
-        ensures { (plan : PlanData) (node : ℕ) (rung : Rung)
-            → IsBelow plan self.now part level place node rung → result ≡ rung.level }
-    {
-        let mut level = level;
-        while self.starts[part + level as usize + 1] as usize <= place {
-            level += 1;
-        }
-        level
-    }
-
     // The routes of no nodes, with room for so many readers.
     fn empty(alloc: Global, plan: &Plan, readers: usize) -> Result<Routes, AllocError>
         ensures { IfOk result (λ routes. HaveParts plan.now routes 0) }
@@ -154,6 +141,7 @@ impl Routes {
             levels: plan.levels(),
             starts,
             places: Vec::with_capacity(alloc, readers)?,
+            level_of: Vec::with_capacity(alloc, readers)?,
             ways,
         })
     }
@@ -200,6 +188,7 @@ impl Routes {
             sum += 2 * plan.reader_weight(level, node, index as u32);
             self.ways.push_reserved(sum);
         }
+        self.level_of.resize(self.places.len(), level as u8)?;
         self.starts.push(self.places.len() as u32)?;
         Ok(())
     }

@@ -9,6 +9,7 @@ invariant-loop-index l = record {
     levels = l.self-inside.levels;
     starts = l.self-inside.starts.items;
     places = l.self-inside.places.items;
+    level_of = l.self-inside.level_of.items;
     ways = l.self-inside.ways.items;
   }) l.node l.level l.index;
   sum : l.sum ≡ slice_index l.self-inside.ways.items (length l.self-inside.places.items);
