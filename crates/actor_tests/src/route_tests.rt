@@ -114,6 +114,29 @@ fn over_one_level(rt: HostRuntime) -> Result<(), Fail> {
     Ok(())
 }
 
+// The most looks of a find from a node, if there is such a node.
+fn most_looks(routes: &Routes, plan: &Plan, node: u32) -> Option<u64>
+    requires are { AreRoutes plan.now routes.now }
+{
+    if node < plan.nodes() {
+        return Some(routes.most_looks(plan, node));
+    }
+    None
+}
+
+#[test]
+fn looks_of_a_find_at_most(rt: HostRuntime) -> Result<(), Fail> {
+    let (plan, _) = line_of_four(rt.alloc())?;
+    let routes = Routes::new(rt.alloc(), &plan)?;
+    let seen = [
+        most_looks(&routes, &plan, 3),
+        most_looks(&routes, &plan, 0),
+        most_looks(&routes, &plan, 4),
+    ];
+    assert!(rt; seen == [Some(12), Some(11), None]);
+    Ok(())
+}
+
 // Whether these are the places of a node's homes.
 fn has_homes(homes: &Homes, plan: &Plan, node: u32, places: &[u32]) -> bool
     requires are { AreHomes plan.now homes.now }

@@ -107,7 +107,9 @@ impl Handset {
         }
     }
 
-    // Makes the write that the stage tells, and goes on to the one after it.
+    // Makes the write that the stage tells, and goes on to the one after it. A caller that draws it
+    // in takes the write apart without memory.
+    #[inline(always)]
     fn step(&mut self, plan: &Plan) -> Option<Visit>
         requires goes { GoesWith plan.now self.old }
         ensures exact { result ≡ due (setting_of plan.now []) self.old }

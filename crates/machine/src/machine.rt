@@ -67,7 +67,8 @@ impl<'a> Machine<'a> {
         let cells = PlainCells::new(alloc, plan, &input.homes)?;
         let subscribers = subscribers_of(alloc, input, plan, distances)?;
         let callers = callers_of(alloc, input, plan, distances)?;
-        let order = Vec::with_capacity(alloc, most_visits(plan, &input.scripts)? as usize)?;
+        let visits = most_visits(plan, &routes, &input.scripts)?;
+        let order = Vec::with_capacity(alloc, visits as usize)?;
         let calls = Vec::with_capacity(alloc, count_calls(&input.scripts)?)?;
         Ok(Machine {
             input,

@@ -5,45 +5,52 @@ ghost use Rattle.scripts.specs.Scripts.{most_in, most_of, most_visits};
 ghost use Rattle.machine.specs.Stands.{BeginInside, BeginsInside};
 ghost use Rattle.region_plan.specs.Settings.{setting_of};
 ghost use Rattle.region_plan.specs.Plan.{nodes_of};
+ghost use Rattle.visit_log.specs.Routes.{AreRoutes};
 
 use net_reader::Call;
 use region_plan::Plan;
 use std::alloc::AllocError;
+use visit_log::Routes;
 
 // The most visits of a call.
-fn most_of(plan: &Plan, call: Call) -> u64
+fn most_of(plan: &Plan, routes: &Routes, call: Call) -> u64
+    requires routes { AreRoutes plan.now routes.now }
     requires inside { BeginsInside (nodes_of plan.now) call }
     ensures { (starts : List ℕ) → result ≡ most_of (setting_of plan.now starts) call }
 {
     match call {
         Call::Move { .. } => plan.most_writes(),
-        Call::Find { from, .. } => plan.most_looks(from),
+        Call::Find { from, .. } => routes.most_looks(plan, from),
         Call::Off | Call::On => 1,
     }
 }
 
 // The most visits of a script.
-pub fn most_of_script(plan: &Plan, script: &[Call]) -> Result<u64, AllocError>
+fn most_of_script(plan: &Plan, routes: &Routes, script: &[Call]) -> Result<u64, AllocError>
+    requires routes { AreRoutes plan.now routes.now }
     requires inside { BeginInside (nodes_of plan.now) script.now }
     ensures { IfOk result
         (λ most. (starts : List ℕ) → most ≡ most_in (setting_of plan.now starts) script.now) }
 {
     let mut most = 0u64;
     for call in script {
-        most = most.checked_add(most_of(plan, *call)).ok_or(AllocError)?;
+        most = most
+            .checked_add(most_of(plan, routes, *call))
+            .ok_or(AllocError)?;
     }
     Ok(most)
 }
 
 // The most visits of all scripts.
-pub fn most_visits(plan: &Plan, scripts: &[Vec<Call>]) -> Result<u64, AllocError>
+pub fn most_visits(plan: &Plan, routes: &Routes, scripts: &[Vec<Call>]) -> Result<u64, AllocError>
+    requires routes { AreRoutes plan.now routes.now }
     requires inside { All (λ script. BeginInside (nodes_of plan.now) script.items) scripts.now }
     ensures { IfOk result (λ most. (starts : List ℕ) → most
         ≡ most_visits (setting_of plan.now starts) (map (λ script. script.items) scripts.now)) }
 {
     let mut most = 0u64;
     for script in scripts {
-        let more = most_of_script(plan, script)?;
+        let more = most_of_script(plan, routes, script)?;
         most = most.checked_add(more).ok_or(AllocError)?;
     }
     Ok(most)

@@ -1,6 +1,6 @@
 -- How the row grows: by the readers of a node at a level, one after another.
 use Rattle.std.specs.Prelude.{◌/◌}
-use Rattle.std.proofs.Common.{◌≡◌, ℕ, suc, ◌+◌, ◌-◌, ◌*◌, ◌^◌, ◌<◌, ◌≤◌, [], ◌∷◌, ◌++◌, length, refl, sym, ap, ◌∙◌, subst, inl, inr, arith}
+use Rattle.std.proofs.Common.{◌≡◌, ℕ, suc, ◌+◌, ◌*◌, ◌^◌, ◌<◌, ◌≤◌, List, [], ◌∷◌, ◌++◌, length, refl, sym, ap, ◌∙◌, subst, inl, inr, arith}
 use Rattle.std.specs.Prelude.{slice_index}
 use Rattle.std.proofs.lemmas.Bool.{cases_lt}
 use Rattle.std.proofs.lemmas.List.{get_or_append_left, get_or_push, length_push}
@@ -24,6 +24,7 @@ parts-few plan node level kept inside low =
 pub record IsAdding (plan : PlanData) (old new : RouteData) (node level count : ℕ) : Type 0 where
   pub levels : new.levels ≡ old.levels
   pub starts : new.starts ≡ old.starts
+  pub level_of : new.level_of ≡ old.level_of
   pub size : length new.places ≡ length old.places + count
   pub ways_size : length new.ways ≡ length new.places + 1
   pub places_before : (i : ℕ) → i < length old.places
@@ -42,6 +43,7 @@ adding-none plan old node level parts have =
     record {
       levels = refl;
       starts = refl;
+      level_of = refl;
       size = omega arith;
       ways_size = have.ways;
       places_before = λ i low. refl;
@@ -54,12 +56,12 @@ adding-none plan old node level parts have =
 -- one more of them
 pub adding-more : (plan : PlanData) (old new next : RouteData) (node level count place sum : ℕ)
     → IsAdding plan old new node level count → next.levels ≡ new.levels → next.starts ≡ new.starts
-    → next.places ≡ new.places ++ place ∷ [] → next.ways ≡ new.ways ++ sum ∷ []
+    → next.level_of ≡ new.level_of → next.places ≡ new.places ++ place ∷ [] → next.ways ≡ new.ways ++ sum ∷ []
     → place ≡ entry_place plan node (rung_at level count)
     → sum ≡ slice_index new.ways (length new.places) + way_at plan node (rung_at level count)
     → sum ≤ suc (length new.places) * 2 ^ 36
     → IsAdding plan old next node level (count + 1)
-adding-more plan old new next node level count place sum adding levels starts places ways is way light =
+adding-more plan old new next node level count place sum adding levels starts told places ways is way light =
     let longer : length next.places ≡ suc (length new.places) =
     omega (arith, ap length places, length_push new.places place) in
     let more : length next.ways ≡ suc (length new.ways) = omega (arith, ap length ways, length_push new.ways sum) in
@@ -76,6 +78,7 @@ adding-more plan old new next node level count place sum adding levels starts pl
     record {
       levels = levels ∙ adding.levels;
       starts = starts ∙ adding.starts;
+      level_of = told ∙ adding.level_of;
       size = omega (arith, longer, adding.size);
       ways_size = omega (arith, longer, more, adding.ways_size);
       places_before = λ i low. place_before i (omega (arith, low, adding.size)) ∙ adding.places_before i low;
@@ -124,14 +127,20 @@ same-part width node level other above low high same =
           omega (arith, there),
     )
 
+-- a list is filled with a level up to a size
+pub record IsTold (old new : List ℕ) (size level : ℕ) : Type 0 where
+  pub filled : length new ≡ size
+  pub before : (i : ℕ) → i < length old → slice_index new i ≡ slice_index old i
+  pub behind : (i : ℕ) → length old ≤ i → i < size → slice_index new i ≡ level
+
 -- all of them, and the start of the next part
 pub adding-done : (plan : PlanData) (old new next : RouteData) (node level count : ℕ) → level < levels_of plan
     → HaveParts plan old (node * levels_of plan + level) → IsAdding plan old new node level count
     → count ≡ length (readers plan level node) → 1 ≤ count → count ≤ 1024 → next.levels ≡ new.levels
     → next.starts ≡ new.starts ++ length new.places ∷ [] → next.places ≡ new.places → next.ways ≡ new.ways
-    → length new.places < 2 ^ 32
+    → IsTold new.level_of next.level_of (length new.places) level → length new.places < 2 ^ 32
     → HaveParts plan next (node * levels_of plan + level + 1)
-adding-done plan old new next node level count low have adding all some few levels starts places ways short =
+adding-done plan old new next node level count low have adding all some few levels starts places ways told short =
     let parts : ℕ = node * levels_of plan + level in
     let longer : length next.starts ≡ suc (length old.starts) =
     omega (arith, ap length starts, length_push new.starts (length new.places), ap length adding.starts) in
@@ -154,6 +163,7 @@ adding-done plan old new next node level count low have adding all some few leve
       thin = omega (arith, levels, adding.levels, have.thin);
       starts = omega (arith, longer, have.starts);
       last = last ∙ sym size;
+      level_of = told.filled ∙ sym size;
       ways = omega (arith, ap length ways, size, adding.ways_size);
       few = omega (arith, size, adding.size, few, have.few);
       short = omega (arith, size, short);
@@ -170,6 +180,12 @@ adding-done plan old new next node level count low have adding all some few leve
               some = was.some;
               next = omega (arith, begins, ends, was.next);
               within = omega (arith, ends, was.within, size, adding.size);
+              level_of = λ i short.
+                  ap (λ s. slice_index next.level_of (s + i)) begins
+                  ∙ (told.before (slice_index old.starts part + i)
+                  (omega (arith, short, was.next, was.within, have.level_of, ap length adding.level_of))
+                  ∙ (ap (λ xs. slice_index xs (slice_index old.starts part + i)) adding.level_of
+                  ∙ was.level_of i short));
               places = λ i short.
                   ap (λ s. slice_index next.places (s + i)) begins
                   ∙ (place_at (slice_index old.starts part + i)
@@ -196,6 +212,10 @@ adding-done plan old new next node level count low have adding all some few leve
               some = omega (arith, some, all);
               next = omega (arith, last, here, adding.size, all);
               within = omega (arith, last, size);
+              level_of = λ i short.
+                  ap (λ s. slice_index next.level_of (s + i)) here
+                  ∙ told.behind (length old.places + i)
+                  (omega (arith, have.level_of, ap length adding.level_of)) (omega (arith, short, adding.size, all));
               places = λ i short.
                   ap (λ s. slice_index next.places (s + i)) here
                   ∙ (place_at (length old.places + i) ∙ adding.places i (omega (arith, short, all)));

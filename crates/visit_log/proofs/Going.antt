@@ -3,7 +3,7 @@ use Rattle.std.proofs.Common.{◌≡◌, ℕ, zero, suc, ◌+◌, ◌*◌, ◌<�
 use Rattle.std.specs.Prelude.{slice_index}
 use Rattle.std.proofs.lemmas.Bool.{cases_lt, le-ltb, lt-ltb}
 use Rattle.region_plan.specs.Plan.{PlanData, levels_of, readers}
-use Rattle.visit_log.specs.Routes.{IsAt, IsBelow, IsRung, RouteData, Rung, next_rung, place_in, rung_at, rung_past, ways_past}
+use Rattle.visit_log.specs.Routes.{IsAt, IsRung, RouteData, Rung, next_rung, place_in, rung_at, rung_past, ways_past}
 use Rattle.visit_log.proofs.Parts.{before-end, its-part, next-place, ways-hold}
 use Rattle.visit_log.proofs.Reading.{end-within}
 
@@ -14,20 +14,11 @@ next-rises plan node rung = elim (cases_lt (suc rung.index) (length (readers pla
   | inr over ↦ rw (le-ltb (suc rung.index) (length (readers plan rung.level node)) over) (omega arith)
 ]
 
-past-rises : (plan : PlanData) (node : ℕ) (rung : Rung) (count : ℕ)
-    → rung.level ≤ (rung_past plan node rung count).level
-past-rises plan node rung zero = omega arith
-past-rises plan node rung (suc count) =
-    omega (arith, past-rises plan node rung count, next-rises plan node (rung_past plan node rung count))
-
 -- where it is then, and what the ways weigh
 pub record Going (plan : PlanData) (routes : RouteData) (node : ℕ) (rung : Rung) (count : ℕ) : Type 0 where
   pub before : place_in routes (node * levels_of plan) rung + count < length routes.places
   pub there : place_in routes (node * levels_of plan) (rung_past plan node rung count)
       ≡ place_in routes (node * levels_of plan) rung + count
-  pub below : (part place : ℕ) → part ≡ node * levels_of plan
-      → place ≡ place_in routes (node * levels_of plan) rung + count
-      → IsBelow plan routes part rung.level place node (rung_past plan node rung count)
   pub ways : slice_index routes.ways (place_in routes (node * levels_of plan) rung + count)
       ≡ slice_index routes.ways (place_in routes (node * levels_of plan) rung) + ways_past plan node rung count
 
@@ -76,12 +67,5 @@ module _ (plan : PlanData) (routes : RouteData) (node : ℕ) (rung : Rung) (at :
           end-within plan routes node at.are at.inside (omega (arith, at.is.level)),
         );
         there = there.1;
-        below = λ part place its same. record {
-          at = record { are = at.are; inside = at.inside; is = on };
-          its = its;
-          low = past-rises plan node rung count;
-          there = same ∙ (sym there.1
-              ∙ ap (λ p. place_in routes p (rung_past plan node rung count)) (sym its));
-        };
         ways = ways-hold plan routes node at.are at.inside rung at.is count before;
       }

@@ -1,9 +1,12 @@
 -- The readers of a node in the row: one after another, level by level.
-use Rattle.std.proofs.Common.{◌≡◌, ℕ, zero, suc, ◌+◌, ◌-◌, ◌*◌, ◌<◌, ◌≤◌, length, ap, ◌∙◌, subst, inl, inr, arith}
+use Rattle.std.proofs.Common.{◌≡◌, ℕ, zero, suc, ◌+◌, ◌-◌, ◌*◌, ◌<◌, ◌≤◌, List, length, take, ap, ◌∙◌, subst, inl, inr, arith}
+use Rattle.std.specs.List.{sum_by}
 use Rattle.std.specs.Prelude.{slice_index}
 use Rattle.std.proofs.lemmas.Bool.{cases_lt, le-ltb, lt-ltb}
+use Rattle.std.proofs.lemmas.List.{take_all, take_more}
+use Rattle.std.proofs.lemmas.List.Sums.{sum_by_push}
 use Rattle.std.proofs.lemmas.Nat.{mul-add-lt}
-use Rattle.region_plan.specs.Plan.{PlanData, levels_of, nodes_of, readers}
+use Rattle.region_plan.specs.Plan.{Level, PlanData, level_at, levels_of, no_level, nodes_of, readers, readers_in}
 use Rattle.visit_log.specs.Routes.{AreRoutes, IsPart, IsRung, RouteData, Rung, entry_place, next_rung, place_in, rung_past, way_at, ways_past}
 
 -- each level of a node has its part
@@ -44,6 +47,32 @@ module _ (plan : PlanData) (routes : RouteData) (node : ℕ) (are : AreRoutes pl
       let e : level + (above - level) ≡ above = omega arith in
       subst (λ n. slice_index routes.starts (base + level) ≤ slice_index routes.starts (base + n)) e
       (rise-by level (above - level) (omega arith))
+
+  -- so many readers stand before a level
+  readers-below : (level : ℕ) → level ≤ levels_of plan
+      → slice_index routes.starts (base + level)
+      ≡ slice_index routes.starts base + sum_by (λ l. length (readers_in l node)) (take level plan.levels)
+  readers-below zero short =
+      let same : base + 0 ≡ base = omega arith in
+      ap (slice_index routes.starts) same ∙ omega arith
+  readers-below (suc level) short =
+      let one : suc level ≡ level + 1 = omega arith in
+      let more : sum_by (λ (l : Level). length (readers_in l node)) (take (suc level) plan.levels)
+      ≡ sum_by (λ (l : Level). length (readers_in l node)) (take level plan.levels)
+      + length (readers plan level node) =
+      ap (sum_by (λ (l : Level). length (readers_in l node)))
+      (ap (λ n. take n plan.levels) one ∙ take_more plan.levels level no_level (omega (arith, short)))
+      ∙ sum_by_push (λ (l : Level). length (readers_in l node)) (take level plan.levels) (level_at plan level)
+      in
+      omega (arith, next-start level short, readers-below level (omega (arith, short)), more)
+
+  -- and so many are the node's
+  pub readers-summed : slice_index routes.starts (base + levels_of plan)
+      ≡ slice_index routes.starts base + sum_by (λ l. length (readers_in l node)) plan.levels
+  readers-summed =
+      readers-below (levels_of plan) (omega arith)
+      ∙ ap (λ (ls : List Level). slice_index routes.starts base + sum_by (λ (l : Level). length (readers_in l node)) ls)
+      (take_all (levels_of plan) plan.levels (omega arith))
 
   -- the reader that comes next has the next place
   pub next-place : (rung : Rung) → IsRung plan node rung
@@ -134,34 +163,7 @@ module _ (plan : PlanData) (routes : RouteData) (node : ℕ) (are : AreRoutes pl
         way-holds (rung_past plan node rung count) here.0,
       )
 
-  -- a place belongs to one level
-  pub same-level : (rung : Rung) (level : ℕ) → IsRung plan node rung → level ≤ rung.level
-      → place_in routes base rung < slice_index routes.starts (base + level + 1) → level ≡ rung.level
-  same-level rung level is low before = elim (cases_lt level rung.level) [
-    | inl less ↦
-        let one : base + suc level ≡ base + level + 1 = omega arith in
-        absurd (omega (
-          arith,
-          starts-rise (suc level) rung.level less (omega (arith, is.level)),
-          ap (slice_index routes.starts) one,
-          before,
-        ))
-    | inr over ↦ omega (arith, low, over)
-  ]
-
-  -- and where its level isn't reached, it is above
-  pub above-level : (rung : Rung) (level : ℕ) → IsRung plan node rung → level ≤ rung.level
-      → slice_index routes.starts (base + level + 1) ≤ place_in routes base rung → level + 1 ≤ rung.level
-  above-level rung level is low reached = elim (cases_lt level rung.level) [
-    | inl less ↦ omega (arith, less)
-    | inr over ↦
-        let same : level ≡ rung.level = omega (arith, low, over) in
-        let one : base + suc rung.level ≡ base + level + 1 = omega (arith, same) in
-        absurd (omega (
-          arith,
-          next-start rung.level is.level,
-          ap (slice_index routes.starts) one,
-          reached,
-          is.index,
-        ))
-  ]
+  -- and its level
+  pub level-holds : (rung : Rung) → IsRung plan node rung
+      → slice_index routes.level_of (place_in routes base rung) ≡ rung.level
+  level-holds rung is = (its-part plan routes node rung.level are inside is.level).level_of rung.index is.index

@@ -1,6 +1,6 @@
 -- The readers of all nodes in one row, node by node and level by level: a climb from a node looks at
--- its entries in this order. Beside each reader is the place of its entries, and the weight of the
--- ways, there and back, to all leaders before it in the row.
+-- its entries in this order. Beside each reader is the place of its entries, its level, and the
+-- weight of the ways, there and back, to all leaders before it in the row.
 -- Key laws: `Routes::new` (`AreRoutes`), `ahead` (the places of the entries that a climb comes to,
 -- one after another) and `past` (where it is past so many of them, and what they weigh).
 use Rattle.std.specs.Prelude.{◌≡◌, ℕ, zero, suc, ◌+◌, ◌*◌, ◌^◌, ◌<◌, ◌≤◌, List, length, slice_index, nat_lt, if◌then◌else◌}
@@ -9,11 +9,12 @@ use Rattle.visit_log.specs.Numbers.{clusters_below}
 use Rattle.visit_log.specs.declared.routes.Height.{Height}
 
 -- what contracts see of the routes: how many levels there are; where the readers of each node and
--- level begin in the row; and for each reader its place and its weight
+-- level begin in the row; and for each reader its place, its level and the weight before it
 pub record RouteData : Type 0 where
   pub levels : ℕ
   pub starts : List ℕ
   pub places : List ℕ
+  pub level_of : List ℕ
   pub ways : List ℕ
 
 -- a reader of a node, by its level and its place among the readers there
@@ -69,6 +70,8 @@ pub record IsPart (plan : PlanData) (routes : RouteData) (part node level : ℕ)
   pub places : (index : ℕ) → index < length (readers plan level node)
       → slice_index routes.places (slice_index routes.starts part + index)
       ≡ entry_place plan node (rung_at level index)
+  pub level_of : (index : ℕ) → index < length (readers plan level node)
+      → slice_index routes.level_of (slice_index routes.starts part + index) ≡ level
   pub ways : (index : ℕ) → index < length (readers plan level node)
       → slice_index routes.ways (slice_index routes.starts part + index + 1)
       ≡ slice_index routes.ways (slice_index routes.starts part + index)
@@ -80,6 +83,7 @@ pub record HaveParts (plan : PlanData) (routes : RouteData) (count : ℕ) : Type
   pub thin : routes.levels ≤ 31
   pub starts : length routes.starts ≡ count + 1
   pub last : slice_index routes.starts count ≡ length routes.places
+  pub level_of : length routes.level_of ≡ length routes.places
   pub ways : length routes.ways ≡ length routes.places + 1
   pub few : length routes.places ≤ count * 1024
   pub short : length routes.places < 2 ^ 32
@@ -122,11 +126,3 @@ span_of plan routes node rung = (
   place_in routes (node * levels_of plan) rung,
   slice_index routes.starts (node * levels_of plan + levels_of plan),
 )
-
--- a place of the row is that of a reader of a node, at a level or above
-pub record IsBelow (plan : PlanData) (routes : RouteData) (part level place node : ℕ)
-    (rung : Rung) : Type 0 where
-  pub at : IsAt plan routes node rung
-  pub its : part ≡ node * levels_of plan
-  pub low : level ≤ rung.level
-  pub there : place ≡ place_in routes part rung

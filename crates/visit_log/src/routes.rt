@@ -1,11 +1,13 @@
 //! The entries that climbs look at, by the places of their cells.
-ghost use Rattle.std.specs.Prelude.{◌≡◌, ◌≤◌, ◌<◌, ◌+◌, ◌*◌, ℕ, IfOk, OnOk, length, slice_index};
+ghost use Rattle.std.specs.Prelude.{◌≡◌, ◌≤◌, ◌<◌, ◌+◌, ◌*◌, ℕ, IfOk, List, OnOk, length, slice_index};
+ghost use Rattle.directory.specs.Finds.{most_looks};
 ghost use Rattle.region_plan.specs.Plan.{PlanData, levels_of, nodes_of};
+ghost use Rattle.region_plan.specs.Settings.{setting_of};
 ghost use Rattle.visit_log.specs.Numbers.{ArePlaces};
-ghost use Rattle.visit_log.specs.Routes.{AreRoutes, ComesTo, HaveParts, IsAt, IsBelow, IsRung, Rung, entry_place, height_of, span_of, rung_at, rung_past};
+ghost use Rattle.visit_log.specs.Routes.{AreRoutes, ComesTo, HaveParts, IsAt, IsRung, entry_place, height_of, span_of, rung_at, rung_past};
 
 use crate::places::Places;
-use region_plan::{Plan, plan_is_sound};
+use region_plan::{Plan, plan_counts, plan_is_sound};
 use std::alloc::{AllocError, Global};
 use std::marker::Model;
 
@@ -17,6 +19,7 @@ pub struct Routes {
     levels: u32,
     starts: Vec<u32>,
     places: Vec<u32>,
+    level_of: Vec<u8>,
     ways: Vec<u64>,
 }
 
@@ -29,6 +32,7 @@ impl Model for Routes {
       levels = r.levels;
       starts = r.starts.items;
       places = r.places.items;
+      level_of = r.level_of.items;
       ways = r.ways.items;
     } };
 }
@@ -50,7 +54,7 @@ impl Routes {
         // Nodes and levels are few.
         plan_is_sound(plan);
         let places = Places::new(alloc, plan)?;
-        let mut routes = Routes::empty(alloc, plan)?;
+        let mut routes = Routes::empty(alloc, plan, count_readers(plan))?;
         for node in 0..plan.nodes() {
             routes.push_node(plan, &places, node)?;
         }
@@ -84,13 +88,27 @@ impl Routes {
     {
         let (first, _) = self.span(node, level, index);
         let place = first + count;
-        let part = node as usize * self.levels as usize;
-        let level = self.level_of(part, level, place);
+        let level = self.level_of[place];
+        let part = node as usize * self.levels as usize + level as usize;
         Height {
-            level,
-            index: (place - self.starts[part + level as usize] as usize) as u32,
+            level: u32::from(level),
+            index: (place - self.starts[part] as usize) as u32,
             weight: self.ways[place] - self.ways[first],
         }
+    }
+
+    /// The most looks of a find from a node: what the plan says of it, without a step for each level.
+    pub fn most_looks(&self, plan: &Plan, from: u32) -> u64
+        requires routes { AreRoutes plan.now self.now }
+        requires node { from < nodes_of plan.now }
+        ensures { (starts : List ℕ) → result ≡ most_looks (setting_of plan.now starts) from }
+    {
+        // There is a level.
+        plan_is_sound(plan);
+        plan_counts();
+        let part = from as usize * self.levels as usize;
+        let readers = self.starts[part + self.levels as usize] - self.starts[part];
+        1 + u64::from(readers) + u64::from(plan.nodes()) + 3
     }
 
     // The place of a reader in the row, and where the readers of its node end.
@@ -108,23 +126,8 @@ impl Routes {
         (first, end)
     }
 
-    // The level at a place of the row, from one of the same node on.
-    #[inline(always)]
-    fn level_of(&self, part: usize, level: u32, place: usize) -> u32
-        requires place { (plan : PlanData) × (node : ℕ) × (rung : Rung)
-            × IsBelow plan self.now part level place node rung }
-        ensures { (plan : PlanData) (node : ℕ) (rung : Rung)
-            → IsBelow plan self.now part level place node rung → result ≡ rung.level }
-    {
-        let mut level = level;
-        while self.starts[part + level as usize + 1] as usize <= place {
-            level += 1;
-        }
-        level
-    }
-
-    // The routes of no nodes.
-    fn empty(alloc: Global, plan: &Plan) -> Result<Routes, AllocError>
+    // The routes of no nodes, with room for so many readers.
+    fn empty(alloc: Global, plan: &Plan, readers: usize) -> Result<Routes, AllocError>
         ensures { IfOk result (λ routes. HaveParts plan.now routes 0) }
     {
         // Nodes and levels are few.
@@ -132,12 +135,13 @@ impl Routes {
         let parts = plan.nodes() as usize * plan.levels() as usize;
         let mut starts = Vec::with_capacity(alloc, parts + 1)?;
         starts.push(0)?;
-        let mut ways = Vec::with_capacity(alloc, parts + 1)?;
+        let mut ways = Vec::with_capacity(alloc, readers.checked_add(1).ok_or(AllocError)?)?;
         ways.push(0)?;
         Ok(Routes {
             levels: plan.levels(),
             starts,
-            places: Vec::with_capacity(alloc, parts)?,
+            places: Vec::with_capacity(alloc, readers)?,
+            level_of: Vec::with_capacity(alloc, readers)?,
             ways,
         })
     }
@@ -177,12 +181,28 @@ impl Routes {
         let first = places.first(level);
         let readers = plan.readers(level, node);
         let mut sum = self.ways[self.places.len()];
+        self.places.reserve(readers.len())?;
+        self.ways.reserve(readers.len())?;
         for index in 0..readers.len() {
-            self.places.push(first + readers[index])?;
+            self.places.push_reserved(first + readers[index]);
             sum += 2 * plan.reader_weight(level, node, index as u32);
-            self.ways.push(sum)?;
+            self.ways.push_reserved(sum);
         }
+        self.level_of.resize(self.places.len(), level as u8)?;
         self.starts.push(self.places.len() as u32)?;
         Ok(())
     }
+}
+
+// How many readers all nodes have on all levels, so that there is room for them from the beginning.
+fn count_readers(plan: &Plan) -> usize {
+    // Readers are few.
+    plan_is_sound(plan);
+    let mut count = 0;
+    for level in 0..plan.levels() {
+        for node in 0..plan.nodes() {
+            count += plan.readers(level, node).len();
+        }
+    }
+    count
 }

@@ -12,6 +12,7 @@ use Rattle.directory.specs.HistoryLaws.{none-played}
 
 pub most_visits-requires : goal.most_visits-requires
 most_visits-requires c = record {
+  routes = c.in_ok-routes.ensures;
   inside = subst
       (λ (xs : List (Vec Call Global)). (k : ℕ) (d : Vec Call Global) → k < length xs
       → BeginInside (nodes_of c.args.plan.now) (get_or xs k d).items)
@@ -35,7 +36,7 @@ returns-clause-stands c = record {
   order = c.in_ok-order.ensures.items;
   room = omega (
     arith,
-    c.in_ok-most_visits.ensures c.args.input.now.homes.items,
+    c.in_ok-visits.ensures c.args.input.now.homes.items,
     c.in_ok-order.ensures.exact,
     ap (λ xs. most_visits (setting_over (seen_input c.args.input.now) c.args.plan.now)
         (map (λ (s : Vec Call Global). s.items) xs)) c.deref-2.ensures.value,

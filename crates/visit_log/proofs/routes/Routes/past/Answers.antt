@@ -1,37 +1,39 @@
-use Rattle.std.proofs.Common.{◌≡◌, ℕ, ◌+◌, ◌-◌, ◌*◌, ◌<◌, List, length, ap, refl, ◌∙◌, arith}
+use Rattle.std.proofs.Common.{◌≡◌, ℕ, ◌+◌, ◌*◌, ◌<◌, List, length, ap, refl, ◌∙◌, arith}
 use Rattle.std.specs.Prelude.{get_or, slice_index}
 use Rattle.region_plan.specs.Plan.{PlanData, levels_of}
 use Rattle.visit_log.specs.declared.routes.Height.{Height}
-use Rattle.visit_log.specs.Routes.{ComesTo, IsBelow, RouteData, place_in, span_of, rung_at, rung_past, ways_past}
+use Rattle.visit_log.specs.Routes.{ComesTo, RouteData, place_in, span_of, rung_at, rung_past, ways_past}
 use Rattle.visit_log.proofs.Going.{Going, going}
+use Rattle.visit_log.proofs.Parts.{level-holds}
 use Rattle.visit_log.proofs.Reading.{part-within, reads}
 use Rattle.visit_log.proofs.routes.Routes.past.Goals as goal
 
 -- what the code finds, as a climb has it
-record Finds (plan : PlanData) (routes : RouteData) (part node level index count first found : ℕ) : Type 0 where
-  on : ComesTo plan routes node (rung_at level index) count
+record Finds (plan : PlanData) (routes : RouteData) (node level index count first found : ℕ) : Type 0 where
   its : Going plan routes node (rung_at level index) count
   start : first ≡ place_in routes (node * levels_of plan) (rung_at level index)
-  base : part ≡ node * levels_of plan
   same : found ≡ (rung_past plan node (rung_at level index) count).level
   within : node * levels_of plan + found < length routes.starts
 
-finds : (plan : PlanData) (routes : RouteData) (levels node level index count found : ℕ) (span : ℕ × ℕ)
-    → ComesTo plan routes node (rung_at level index) count → levels ≡ routes.levels
-    → span ≡ span_of plan routes node (rung_at level index)
-    → (IsBelow plan routes (node * levels) level (span.0 + count) node (rung_past plan node (rung_at level index) count)
-    → found ≡ (rung_past plan node (rung_at level index) count).level)
-    → Finds plan routes (node * levels) node level index count span.0 found
-finds plan routes levels node level index count found span on same both says =
+finds : (plan : PlanData) (routes : RouteData) (node level index count found : ℕ) (span : ℕ × ℕ) (items : List ℕ)
+    → ComesTo plan routes node (rung_at level index) count → span ≡ span_of plan routes node (rung_at level index)
+    → items ≡ routes.level_of → found ≡ get_or items (span.0 + count) found
+    → Finds plan routes node level index count span.0 found
+finds plan routes node level index count found span items on both told read =
     let its = going plan routes node (rung_at level index) on.at count on.on in
-    let part : node * levels ≡ node * levels_of plan = ap (λ n. node * n) (same ∙ on.at.are.levels) in
     let start : span.0 ≡ place_in routes (node * levels_of plan) (rung_at level index) = ap (λ (p : ℕ × ℕ). p.0) both in
-    let level_is = says (its.below (node * levels) (span.0 + count) part (ap (λ n. n + count) start)) in
+    let there : span.0 + count
+    ≡ place_in routes (node * levels_of plan) (rung_past plan node (rung_at level index) count) =
+    omega (arith, start, its.there) in
+    let level_is : found ≡ (rung_past plan node (rung_at level index) count).level =
+    reads items routes.level_of (span.0 + count)
+    (place_in routes (node * levels_of plan) (rung_past plan node (rung_at level index) count)) found read told there
+    (omega (arith, its.before, its.there, on.at.are.level_of))
+    ∙ level-holds plan routes node on.at.are on.at.inside (rung_past plan node (rung_at level index) count) on.on
+    in
     record {
-      on = on;
       its = its;
       start = start;
-      base = part;
       same = level_is;
       within = part-within plan routes node found on.at.are on.at.inside (omega (arith, level_is, on.on.level));
     }
@@ -43,32 +45,30 @@ overflow_add-place c =
     let its = going plan c.args.self.now c.args.node (rung_at c.args.level c.args.index) on.at c.args.count on.on in
     omega (arith, ap (λ (p : ℕ × ℕ). p.0) (c.span-first.ensures.exact plan on.at), its.before, on.at.are.short)
 
-pub level_of-level-requires : goal.level_of-level-requires
-level_of-level-requires c =
+pub index-level-requires : goal.index-level-requires
+index-level-requires c =
     let plan = c.requires.on.0 in
     let on = c.requires.on.1 in
     let its = going plan c.args.self.now c.args.node (rung_at c.args.level c.args.index) on.at c.args.count on.on in
-    record {
-      place = (
-        plan,
-        c.args.node,
-        rung_past plan c.args.node (rung_at c.args.level c.args.index) c.args.count,
-        its.below (c.args.node * c.self.inside.levels) (c.span-first.result.0 + c.args.count)
-            (ap (λ n. c.args.node * n) (ap (λ (r : RouteData). r.levels) c.self.view_is ∙ on.at.are.levels))
-            (ap (λ n. n + c.args.count) (ap (λ (p : ℕ × ℕ). p.0) (c.span-first.ensures.exact plan on.at))),
-      );
-    }
+    omega (
+      arith,
+      ap (λ (p : ℕ × ℕ). p.0) (c.span-first.ensures.exact plan on.at),
+      its.before,
+      on.at.are.level_of,
+      c.self.inside.level_of.ok.0,
+      ap (λ (r : RouteData). length r.level_of) c.self.view_is,
+    )
 
 pub index-requires : goal.index-requires
 index-requires c =
     let plan = c.requires.on.0 in
     let on = c.requires.on.1 in
-    let its = finds plan c.args.self.now c.self.inside.levels c.args.node c.args.level c.args.index c.args.count
-    c.level_of-level.result c.span-first.result on (ap (λ (r : RouteData). r.levels) c.self.view_is)
-    (c.span-first.ensures.exact plan on.at) (c.level_of-level.ensures plan c.args.node _) in
+    let its = finds plan c.args.self.now c.args.node c.args.level c.args.index c.args.count c.index-level.result.now
+    c.span-first.result c.self.inside.level_of.items on (c.span-first.ensures.exact plan on.at)
+    (ap (λ (r : RouteData). r.level_of) c.self.view_is) c.index-level.ensures in
     omega (
       arith,
-      its.base,
+      ap (λ n. c.args.node * n) (ap (λ (r : RouteData). r.levels) c.self.view_is ∙ on.at.are.levels),
       its.within,
       c.self.inside.starts.ok.0,
       ap (λ (r : RouteData). length r.starts) c.self.view_is,
@@ -77,12 +77,12 @@ index-requires c =
 -- the start of its part, as it is read
 start-read : (plan : PlanData) (routes : RouteData) (part node level index count first found v k : ℕ)
     (items : List ℕ)
-    → Finds plan routes part node level index count first found → items ≡ routes.starts → k ≡ part + found
+    → Finds plan routes node level index count first found → part ≡ node * levels_of plan → items ≡ routes.starts → k ≡ part + found
     → v ≡ get_or items k v
     → v ≡ slice_index routes.starts
     (node * levels_of plan + (rung_past plan node (rung_at level index) count).level)
-start-read plan routes part node level index count first found v k items its same there read =
-    reads items routes.starts k (node * levels_of plan + found) v read same (there ∙ ap (λ n. n + found) its.base)
+start-read plan routes part node level index count first found v k items its base same there read =
+    reads items routes.starts k (node * levels_of plan + found) v read same (there ∙ ap (λ n. n + found) base)
     its.within
     ∙ ap (λ l. slice_index routes.starts (node * levels_of plan + l)) its.same
 
@@ -90,16 +90,17 @@ pub overflow_sub-result : goal.overflow_sub-result
 overflow_sub-result c =
     let plan = c.requires.on.0 in
     let on = c.requires.on.1 in
-    let its = finds plan c.args.self.now c.self.inside.levels c.args.node c.args.level c.args.index c.args.count
-    c.level_of-level.result c.span-first.result on (ap (λ (r : RouteData). r.levels) c.self.view_is)
-    (c.span-first.ensures.exact plan on.at) (c.level_of-level.ensures plan c.args.node _) in
+    let its = finds plan c.args.self.now c.args.node c.args.level c.args.index c.args.count c.index-level.result.now
+    c.span-first.result c.self.inside.level_of.items on (c.span-first.ensures.exact plan on.at)
+    (ap (λ (r : RouteData). r.level_of) c.self.view_is) c.index-level.ensures in
     omega (
       arith,
       its.start,
       its.its.there,
       start-read plan c.args.self.now (c.args.node * c.self.inside.levels) c.args.node c.args.level c.args.index
-          c.args.count c.span-first.result.0 c.level_of-level.result c.index.result.now
-          (c.args.node * c.self.inside.levels + c.level_of-level.result) c.self.inside.starts.items its
+          c.args.count c.span-first.result.0 c.index-level.result.now c.index.result.now
+          (c.args.node * c.self.inside.levels + c.index-level.result.now) c.self.inside.starts.items its
+          (ap (λ n. c.args.node * n) (ap (λ (r : RouteData). r.levels) c.self.view_is ∙ on.at.are.levels))
           (ap (λ (r : RouteData). r.starts) c.self.view_is) refl c.index.ensures,
     )
 
@@ -174,20 +175,21 @@ height-is level index weight there at ways l i w =
 
 pub returns : goal.returns
 returns c = λ plan on.
-    let its = finds plan c.args.self.now c.self.inside.levels c.args.node c.args.level c.args.index c.args.count
-    c.level_of-level.result c.span-first.result on (ap (λ (r : RouteData). r.levels) c.self.view_is)
-    (c.span-first.ensures.exact plan on.at) (c.level_of-level.ensures plan c.args.node _) in
+    let its = finds plan c.args.self.now c.args.node c.args.level c.args.index c.args.count c.index-level.result.now
+    c.span-first.result c.self.inside.level_of.items on (c.span-first.ensures.exact plan on.at)
+    (ap (λ (r : RouteData). r.level_of) c.self.view_is) c.index-level.ensures in
     let ways = weighs plan c.args.self.now c.args.node c.args.level c.args.index c.args.count c.span-first.result.0
     c.index-2.result.now c.index-3.result.now c.self.inside.ways.items on its.start
     (ap (λ (r : RouteData). r.ways) c.self.view_is) c.index-2.ensures c.index-3.ensures in
-    height-is _ _ _ _ _ _ its.same
+    height-is _ _ _ _ _ _ (c.from.ensures ∙ its.same)
     (omega (
       arith,
       its.start,
       its.its.there,
       start-read plan c.args.self.now (c.args.node * c.self.inside.levels) c.args.node c.args.level c.args.index
-          c.args.count c.span-first.result.0 c.level_of-level.result c.index.result.now
-          (c.args.node * c.self.inside.levels + c.level_of-level.result) c.self.inside.starts.items its
+          c.args.count c.span-first.result.0 c.index-level.result.now c.index.result.now
+          (c.args.node * c.self.inside.levels + c.index-level.result.now) c.self.inside.starts.items its
+          (ap (λ n. c.args.node * n) (ap (λ (r : RouteData). r.levels) c.self.view_is ∙ on.at.are.levels))
           (ap (λ (r : RouteData). r.starts) c.self.view_is) refl c.index.ensures,
     ))
     (omega (arith, ways.both))

@@ -1,4 +1,4 @@
-use Rattle.std.proofs.Common.{◌≡◌, ℕ, ◌+◌, ◌-◌, ◌*◌, ◌<◌, [], ◌∷◌, ◌++◌, length, get_or, refl, sym, ap, ◌∙◌, arith}
+use Rattle.std.proofs.Common.{◌≡◌, ℕ, ◌+◌, ◌*◌, ◌<◌, [], ◌∷◌, ◌++◌, length, get_or, refl, sym, ap, ◌∙◌, arith}
 use Rattle.std.specs.Prelude.{slice_index}
 use Rattle.std.proofs.lemmas.List.{get_or_push, length_push}
 use Rattle.entry_word.specs.declared.visit.Key.TheVariants.{Entry}
@@ -94,13 +94,15 @@ loop-index-preserved c =
       levels = c.loop-index.self-inside.levels;
       starts = c.loop-index.self-inside.starts.items;
       places = c.loop-index.self-inside.places.items;
+      level_of = c.loop-index.self-inside.level_of.items;
       ways = c.loop-index.self-inside.ways.items;
     } in
     let next : RouteData = record {
       levels = c.loop-index.self-inside.levels;
       starts = c.loop-index.self-inside.starts.items;
-      places = c.push.new.self.items;
-      ways = c.push-in-loop-index.new.self.items;
+      places = c.push_reserved.new.self.items;
+      level_of = c.loop-index.self-inside.level_of.items;
+      ways = c.push_reserved-in-loop-index.new.self.items;
     } in
     let sum : ℕ = c.loop-index.sum + 2 * c.reader_weight.result in
     let way : c.reader_weight.result ≡ inside plan level (slice_index (readers plan level node) index) node =
@@ -108,7 +110,7 @@ loop-index-preserved c =
     record {
       adding = adding-more plan c.args.self.now now next node level index
           (c.first-first.result + slice_index c.readers-readers.result.now index) sum c.loop-index.invariant.adding refl
-          refl c.in_ok-push.ensures.items c.in_ok-push-2.ensures.items
+          refl refl c.push_reserved.ensures.items c.push_reserved-in-loop-index.ensures.items
           (omega (
             arith,
             c.first-first.ensures,
@@ -125,18 +127,24 @@ loop-index-preserved c =
                 c.plan_is_sound.ensures.reached c.requires.level held.1 held.0,
           ));
       sum =
-          let size : length c.push.new.self.items ≡ length c.loop-index.self-inside.ways.items =
+          let size : length c.push_reserved.new.self.items ≡ length c.loop-index.self-inside.ways.items =
           omega (
             arith,
-            ap length c.in_ok-push.ensures.items,
+            ap length c.push_reserved.ensures.items,
             length_push c.loop-index.self-inside.places.items
                 (c.first-first.result + slice_index c.readers-readers.result.now index),
             c.loop-index.invariant.adding.ways_size,
           )
           in
-          sym (ap (λ xs. slice_index xs (length c.push.new.self.items)) c.in_ok-push-2.ensures.items
-          ∙ get_or_push c.loop-index.self-inside.ways.items sum 0 (length c.push.new.self.items)
+          sym (ap (λ xs. slice_index xs (length c.push_reserved.new.self.items)) c.push_reserved-in-loop-index.ensures.items
+          ∙ get_or_push c.loop-index.self-inside.ways.items sum 0 (length c.push_reserved.new.self.items)
           (sym size));
+      room = omega (arith, c.push_reserved.ensures.capacity, c.loop-index.invariant.room);
+      ways_room = omega (
+        arith,
+        c.push_reserved-in-loop-index.ensures.capacity,
+        c.loop-index.invariant.ways_room,
+      );
     }
 
 pub overflow_cast-len : goal.overflow_cast-len
@@ -162,12 +170,14 @@ returns c =
       levels = c.loop-index.self-inside.levels;
       starts = c.loop-index.self-inside.starts.items;
       places = c.loop-index.self-inside.places.items;
+      level_of = c.loop-index.self-inside.level_of.items;
       ways = c.loop-index.self-inside.ways.items;
     } in
     let next : RouteData = record {
       levels = c.loop-index.self-inside.levels;
-      starts = c.push-2.new.self.items;
+      starts = c.push.new.self.items;
       places = c.loop-index.self-inside.places.items;
+      level_of = c.resize.new.self.items;
       ways = c.loop-index.self-inside.ways.items;
     } in
     let all : c.loop-index.index ≡ length (readers plan c.args.level c.args.node) =
@@ -183,11 +193,28 @@ returns c =
     c.requires.level c.requires.node in
     let some = readers-some plan c.args.level c.args.node c.plan_is_sound.ensures.matched c.requires.level
     c.requires.node in
-    let size : c.len-2.result ≡ length c.loop-index.self-inside.places.items =
+    let size : c.len-3.result ≡ length c.loop-index.self-inside.places.items =
+    omega (arith, c.len-3.ensures, c.loop-index.self-inside.places.ok.0) in
+    let filled : c.len-2.result ≡ length c.loop-index.self-inside.places.items =
     omega (arith, c.len-2.ensures, c.loop-index.self-inside.places.ok.0) in
     adding-done plan c.args.self.now now next c.args.node c.args.level c.loop-index.index c.requires.level
     c.requires.parts c.loop-index.invariant.adding all (omega (arith, some, all)) (omega (arith, few, all)) refl
-    (c.in_ok-push-3.ensures.items ∙ ap (λ n. c.loop-index.self-inside.starts.items ++ n ∷ []) size) refl refl
+    (c.in_ok-push.ensures.items ∙ ap (λ n. c.loop-index.self-inside.starts.items ++ n ∷ []) size) refl refl
+    (record {
+      filled = omega (arith, c.in_ok-resize.ensures.len, c.resize.new.self.ok.0, filled);
+      before = λ i low. c.in_ok-resize.ensures.by_index.0 i 0
+          (omega (
+            arith,
+            low,
+            filled,
+            ap length c.loop-index.invariant.adding.level_of,
+            c.requires.parts.level_of,
+            c.loop-index.invariant.adding.size,
+          ))
+          (omega (arith, low, c.loop-index.self-inside.level_of.ok.0));
+      behind = λ i high low. c.in_ok-resize.ensures.by_index.1 i 0 refl
+          (omega (arith, high, c.loop-index.self-inside.level_of.ok.0)) (omega (arith, low, filled));
+    })
     (omega (
       arith,
       c.loop-index.invariant.adding.size,
