@@ -80,6 +80,7 @@ impl Handset {
     }
 
     // The write that the stage tells.
+    #[inline(always)]
     fn due(&self, plan: &Plan) -> Option<Visit>
         requires goes { GoesWith plan.now self.now }
         ensures { result ≡ due (setting_of plan.now []) self.now }
@@ -180,6 +181,7 @@ impl Handset {
     }
 
     // The stage at which old addresses are erased from a level on.
+    #[inline(always)]
     fn erasing_from(&self, plan: &Plan, level: u32) -> Stage
         requires goes { GoesWith plan.now self.now }
         ensures { result ≡ erasing_from (setting_of plan.now []) self.now level }
