@@ -1,5 +1,5 @@
 //! A caller: its finds, one after another.
-ghost use Rattle.std.specs.Prelude.{◌≡◌, ◌≤◌, ◌<◌, ◌+◌, ◌^◌, [], ℕ, All, IfOk, drop, length, map, vec_capacity};
+ghost use Rattle.std.specs.Prelude.{◌≡◌, ◌≤◌, ◌<◌, ◌+◌, ◌^◌, [], ℕ, All, IfOk, true, drop, length, map, vec_capacity};
 ghost use Rattle.directory.specs.Finds.{at_origin};
 ghost use Rattle.directory.specs.Outcomes.{found_line};
 ghost use Rattle.net_reader.specs.Seen.{seen_input};
@@ -70,11 +70,15 @@ impl Caller {
         requires stands { MayLook (seen_input input.now) plan.now cells.now ticket actor
             self.old }
         requires fits { ticket + most < 2 ^ 64 }
+        requires alone { ALONE ≡ true → most ≤ 1 }
         ensures few { result ≤ most }
         ensures taken { TakesLooks (seen_input input.now) plan.now cells.now ticket actor most
             self.old self.new result }
     {
         each_visit_is_next();
+        if ALONE {
+            return self.look_alone(actor, input, plan, routes, distances, cells, ticket, most);
+        }
         let mut made = 0;
         'looks: while made < most {
             let at = ticket + made as u64;
@@ -100,7 +104,48 @@ impl Caller {
         made
     }
 
+    // The next look, if there may be one and a find is left: what `look` does without its loop.
+    #[inline(always)]
+    fn look_alone(
+        &mut self,
+        actor: u32,
+        input: &Input,
+        plan: &Plan,
+        routes: &Routes,
+        distances: &Distances,
+        cells: &PlainCells,
+        ticket: u64,
+        most: usize,
+    ) -> usize
+        requires together { BelongTogether (seen_input input.now) plan.now distances.now }
+        requires routes { AreRoutes plan.now routes.now }
+        requires high { length input.now.homes.items ≤ actor }
+        requires low { actor < length input.now.scripts.items }
+        requires stands { MayLook (seen_input input.now) plan.now cells.now ticket actor
+            self.old }
+        requires fits { ticket + most < 2 ^ 64 }
+        requires alone { most ≤ 1 }
+        ensures few { result ≤ most }
+        ensures taken { TakesLooks (seen_input input.now) plan.now cells.now ticket actor most
+            self.old self.new result }
+    {
+        each_visit_is_next();
+        if most == 0 {
+            return 0;
+        }
+        let made = self.pass::<true>(actor, input, plan, routes, distances, cells, ticket, 1);
+        if made == 1 {
+            return 1;
+        }
+        let at = ticket + made as u64;
+        match self.look_one(actor, input, plan, distances, cells, at) {
+            Turn::Visited => 1,
+            Turn::Finished => 0,
+        }
+    }
+
     // The next look, if a find is left.
+    #[inline(always)]
     fn look_one(
         &mut self,
         actor: u32,

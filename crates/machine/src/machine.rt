@@ -1,5 +1,5 @@
 //! The directory at work in one order of turns.
-ghost use Rattle.std.specs.Prelude.{All, ◌≡◌, ◌∷◌, ◌++◌, ◌+◌, ◌-◌, ◌<◌, ◌≤◌, ◌↔◌, ℕ, List, [], IfOk, None, drop, length, map, replicate, slice_index, slice_index_or, vec_len, flat_map, vec_capacity};
+ghost use Rattle.std.specs.Prelude.{All, ◌≡◌, ◌∷◌, ◌++◌, ◌+◌, ◌-◌, ◌<◌, ◌≤◌, ◌↔◌, ℕ, List, [], IfOk, None, true, drop, length, map, replicate, slice_index, slice_index_or, vec_len, flat_map, vec_capacity};
 ghost use Rattle.directory.specs.Histories.{History};
 ghost use Rattle.directory.specs.Orders.{after_turn, after_turns, history_of, last_turns, most_turns, next, IsDone};
 ghost use Rattle.directory.specs.Outcomes.{outcome_in, result_of};
@@ -219,6 +219,7 @@ impl<'a> Machine<'a> {
     fn stride<const ALONE: bool>(&mut self, actor: u32, most: usize) -> usize
         requires stands { (history : History) × HasHistory self.old history }
         requires some { 1 ≤ most }
+        requires alone { ALONE ≡ true → most ≤ 1 }
         ensures few { result ≤ most }
         ensures stands { (history : History) → HasHistory self.old history
             → HasStridden self.old self.new history actor result }
@@ -238,6 +239,7 @@ impl<'a> Machine<'a> {
         requires stands { (history : History) × HasHistory self.old history }
         requires known { actor < length self.old.input.now.homes.items }
         requires some { 1 ≤ most }
+        requires alone { ALONE ≡ true → most ≤ 1 }
         ensures few { result ≤ most }
         ensures stands { (history : History) → HasHistory self.old history
             → HasStridden self.old self.new history actor result }
@@ -269,6 +271,7 @@ impl<'a> Machine<'a> {
         requires high { length self.old.input.now.homes.items ≤ actor }
         requires known { actor < length self.old.input.now.scripts.items }
         requires some { 1 ≤ most }
+        requires alone { ALONE ≡ true → most ≤ 1 }
         ensures few { result ≤ most }
         ensures stands { (history : History) → HasHistory self.old history
             → HasStridden self.old self.new history actor result }

@@ -93,6 +93,7 @@ impl Subscriber {
         requires stands { MayTakeTurn (seen_input input.now) plan.now cells.old ticket sub
             self.old }
         requires fits { ticket + most < 2 ^ 64 }
+        requires alone { ALONE ≡ true → most ≤ 1 }
         ensures few { result ≤ most }
         ensures taken { TakesTurns (seen_input input.now) plan.now ticket sub most self.old self.new
             cells.old cells.new result }
@@ -100,10 +101,13 @@ impl Subscriber {
     {
         each_visit_is_next();
         next_is_own();
+        if ALONE {
+            return self.write_alone(sub, input, plan, homes, distances, cells, ticket, most);
+        }
         let mut made = 0;
         'writes: while made < most {
             let at = ticket + made as u64;
-            made += self.write_plain::<ALONE>(sub, input, plan, distances, cells, at, most - made);
+            made += self.write_plain(sub, input, plan, distances, cells, at, most - made);
             if made == most {
                 return made;
             }
@@ -117,8 +121,8 @@ impl Subscriber {
     }
 
     // The visits ahead that come next and don't commit a move, at most so many, and how many there
-    // were. A turn alone leaves them to `write_one`.
-    fn write_plain<const ALONE: bool>(
+    // were.
+    fn write_plain(
         &mut self,
         sub: u32,
         input: &Input,
@@ -144,9 +148,6 @@ impl Subscriber {
         scripts_are_valid();
         each_visit_is_next();
         next_is_own();
-        if ALONE {
-            return 0;
-        }
         let behind = put_plain(self.ahead.as_slice(), self.made, sub, cells, most);
         let made = behind - self.made;
         if made > 0 {
@@ -155,6 +156,41 @@ impl Subscriber {
             go_on(&mut self.lines[last], false, ticket + made as u64 - 1);
         }
         made
+    }
+
+    // The next visit, if there may be one and one is left: what `write` does without its loop.
+    #[inline(always)]
+    fn write_alone(
+        &mut self,
+        sub: u32,
+        input: &Input,
+        plan: &Plan,
+        homes: &Homes,
+        distances: &Distances,
+        cells: &mut PlainCells,
+        ticket: u64,
+        most: usize,
+    ) -> usize
+        requires together { BelongTogether (seen_input input.now) plan.now distances.now }
+        requires homes { AreHomes plan.now homes.now }
+        requires low { sub < length input.now.homes.items }
+        requires stands { MayTakeTurn (seen_input input.now) plan.now cells.old ticket sub
+            self.old }
+        requires alone { most ≤ 1 }
+        ensures few { result ≤ most }
+        ensures taken { TakesTurns (seen_input input.now) plan.now ticket sub most self.old self.new
+            cells.old cells.new result }
+        ensures still { result ≡ 0 → cells.new ≡ cells.old }
+    {
+        each_visit_is_next();
+        next_is_own();
+        if most == 0 {
+            return 0;
+        }
+        match self.write_one(sub, input, plan, homes, distances, cells, ticket) {
+            Turn::Visited => 1,
+            Turn::Finished => 0,
+        }
     }
 
     // The next visit, if one is left.

@@ -9,13 +9,8 @@ use Rattle.machine.proofs.Making.{made-none}
 use Rattle.machine.proofs.Putting.{line-there, may-put, plain-put}
 use Rattle.machine.proofs.subscriber.Subscriber.write_plain.Goals as goal
 
-pub returns-then-this-ne0-clause-made : goal.returns-then-this-ne0-clause-made
-returns-then-this-ne0-clause-made g c = λ history sees place its.
-    made-none (seen_input c.args.input.now) c.args.plan.now c.args.cells.now history c.args.sub
-    (λ later. IsSubscriber (seen_input c.args.input.now) c.args.plan.now later c.args.sub c.args.self.now) sees its
-
 pub put_plain-behind-requires-clause-stands : goal.put_plain-behind-requires-clause-stands
-put_plain-behind-requires-clause-stands g c =
+put_plain-behind-requires-clause-stands c =
     let its = c.requires.stands.3 in (
       c.args.plan.now,
       its.handset,
@@ -25,7 +20,7 @@ put_plain-behind-requires-clause-stands g c =
     )
 
 pub overflow_sub-last : goal.overflow_sub-last
-overflow_sub-last g c = omega (
+overflow_sub-last c = omega (
   arith,
   c.len-last.ensures,
   line-there c.mark_words.ensures.unpacked c.tickets_tell.ensures.visits c.scripts_are_valid.ensures
@@ -49,7 +44,7 @@ overflow_sub-last g c = omega (
 )
 
 pub index_mut-requires : goal.index_mut-requires
-index_mut-requires g c = omega (
+index_mut-requires c = omega (
   arith,
   c.len-last.ensures,
   line-there c.mark_words.ensures.unpacked c.tickets_tell.ensures.visits c.scripts_are_valid.ensures
@@ -73,7 +68,7 @@ index_mut-requires g c = omega (
 )
 
 pub returns-then-made-gt0-clause-made : goal.returns-then-made-gt0-clause-made
-returns-then-made-gt0-clause-made g c = λ history sees place its.
+returns-then-made-gt0-clause-made c = λ history sees place its.
     let old = c.args.self.now in
     let line = c.index_mut.result.now in
     let count : ℕ = c.put_plain-behind.result - c.args.self.now.made in
@@ -94,7 +89,7 @@ returns-then-made-gt0-clause-made g c = λ history sees place its.
     (omega arith)
 
 pub returns-else-made-gt0-clause-made : goal.returns-else-made-gt0-clause-made
-returns-else-made-gt0-clause-made g c = λ history sees place its.
+returns-else-made-gt0-clause-made c = λ history sees place its.
     let input = seen_input c.args.input.now in
     let plan = c.args.plan.now in
     let count : ℕ = c.put_plain-behind.result - c.args.self.now.made in
