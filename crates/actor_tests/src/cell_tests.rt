@@ -267,3 +267,36 @@ fn cells_of_the_most_nodes(rt: HostRuntime) -> Result<(), Fail> {
     let (plan, _) = plan_of_most_nodes(rt.alloc())?;
     play_over(&rt, rt.alloc(), &plan, 1023, 64, &script)
 }
+
+// Cells are kept in 32 bits until a word comes that has a bit between its parts; a bit on each side
+// of each part, and of all words the last.
+#[test]
+fn words_of_every_width(rt: HostRuntime) -> Result<(), Fail> {
+    let small = (63 << 48) + (0xffff << 16) + 0x3ff;
+    let (plan, _) = line_of_four(rt.alloc())?;
+    'words: for word in [
+        1u64 << 10,
+        1 << 15,
+        1 << 32,
+        1 << 47,
+        1 << 54,
+        1 << 63,
+        u64::MAX,
+    ] {
+        let script = [
+            (Step::Put(presence(0, 0), small), small),
+            (Step::Look(presence(3, 0)), here()),
+            (Step::Put(presence(1, 0), word), word),
+            (Step::Look(presence(0, 0)), small),
+            (Step::Look(presence(3, 0)), here()),
+            (Step::Look(entry(0, 1, 0)), leads_to(3)),
+            (empty([2, 1]), 1),
+            (Step::Put(presence(0, 0), 1), 1),
+            (Step::Put(presence(1, 0), 0), 0),
+            (empty([1, 2]), 2),
+            (empty([1, 0]), 1),
+        ];
+        play_over(&rt, rt.alloc(), &plan, 3, 1, &script)?;
+    }
+    Ok(())
+}

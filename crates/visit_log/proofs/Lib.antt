@@ -5,3 +5,4 @@ mod Parts
 mod Going
 mod Reading
 mod Adding
+mod Widening

@@ -11,6 +11,7 @@ ghost use Rattle.visit_log.specs.Cells.{GoWith, Hold, IsPlaceOf, open_word, slot
 ghost use Rattle.visit_log.specs.Numbers.{key_place};
 
 use crate::places::Places;
+use crate::words::Words;
 use directory::{cell_after, same_key_means};
 use entry_word::{Address, Key, PresenceMark, pack_address, pack_mark};
 use region_plan::{Plan, plan_is_sound};
@@ -22,7 +23,7 @@ use std::marker::Model;
 pub struct PlainCells {
     subs: u32,
     places: Places,
-    words: Vec<u64>,
+    words: Words,
 }
 
 impl Model for PlainCells {
@@ -34,7 +35,7 @@ impl Model for PlainCells {
       subs = c.subs;
       width = c.places.width;
       firsts = c.places.firsts;
-      words = c.words.items;
+      words = c.words;
     } };
 }
 
@@ -66,7 +67,7 @@ impl PlainCells {
             → Hold plan.now starts self.now history
             → result ≡ cell (setting_of plan.now starts) history key }
     {
-        self.words[self.index(plan, key)]
+        self.words.get(self.index(plan, key))
     }
 
     /// How many of a subscriber's cells at these places hold nothing, up to the first that holds
@@ -84,7 +85,7 @@ impl PlainCells {
     {
         let first = sub as usize * self.places.width() as usize;
         for i in 0..places.len() {
-            if self.words[first + places[i] as usize] != 0 {
+            if !self.words.is_zero(first + places[i] as usize) {
                 return i;
             }
         }
@@ -162,7 +163,7 @@ impl PlainCells {
         requires { index < length self.old.words }
         ensures { self.new ≡ record self.old { words = slice_set self.old.words index word } }
     {
-        self.words[index] = word;
+        self.words.set(index, word);
     }
 
     // Cells that hold nothing.
@@ -174,7 +175,7 @@ impl PlainCells {
             ≡ replicate (subs * width_of plan.now) 0) }
     {
         let places = Places::new(alloc, plan)?;
-        let words = vec![in alloc; 0u64; subs as usize * places.width() as usize]?;
+        let words = Words::new(alloc, subs as usize * places.width() as usize)?;
         Ok(PlainCells {
             subs,
             places,

@@ -6,6 +6,7 @@ mod homes;
 mod numbers;
 mod places;
 mod routes;
+mod words;
 
 pub use cells::PlainCells;
 pub use homes::Homes;

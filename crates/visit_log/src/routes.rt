@@ -97,7 +97,8 @@ impl Routes {
         }
     }
 
-    /// The most looks of a find from a node: what the plan says of it, without a step for each level.
+    /// The most looks of a find from a node: what the plan says of it, without a step for each
+    /// level.
     pub fn most_looks(&self, plan: &Plan, from: u32) -> u64
         requires routes { AreRoutes plan.now self.now }
         requires node { from < nodes_of plan.now }

@@ -1,5 +1,5 @@
-use Rattle.std.proofs.Common.{◌≡◌, ℕ, ◌+◌, ◌*◌, ◌<◌, ap, arith, get_or, length, ◌∙◌}
-use Rattle.std.proofs.lemmas.List.{get_or_default}
+use Rattle.std.proofs.Common.{◌≡◌, ◌==◌, ℕ, ◌+◌, ◌*◌, ◌<◌, ap, arith, get_or, length, true, ◌∙◌}
+use Rattle.std.specs.Prelude.{slice_index}
 use Rattle.visit_log.specs.Cells.{CellData}
 use Rattle.visit_log.proofs.Apart.{number-below}
 use Rattle.visit_log.proofs.cells.PlainCells.count_empty.Goals as goal
@@ -15,26 +15,25 @@ word-within cells sub place width total words wide known low =
       number-below sub cells.subs width place known (omega (arith, low, wide)),
     )
 
-pub index-requires : goal.index-requires
-index-requires c =
+pub is_zero-requires : goal.is_zero-requires
+is_zero-requires c =
     omega (
       arith,
-      c.self.inside.words.ok.0,
       ap (λ (k : CellData). length k.words) c.self.view_is,
       ap (λ w. c.args.sub * w) (c.width.ensures ∙ ap (λ (k : CellData). k.width) c.self.view_is),
       word-within c.args.self.now c.args.sub (get_or c.args.places.now c.loop-i.i 0) _ _ c.requires.goes.1.words
           c.requires.goes.1.width c.requires.known (c.requires.inside c.loop-i.i 0 c.loop-i-test.true),
     )
 
-pub returns-then-index-ne0-clause-held : goal.returns-then-index-ne0-clause-held
-returns-then-index-ne0-clause-held c = λ short none.
+pub returns-then-not-is_zero-clause-held : goal.returns-then-not-is_zero-clause-held
+returns-then-not-is_zero-clause-held c = λ short none.
     let place : ℕ = get_or c.args.places.now c.loop-i.i 0 in
     let within = word-within c.args.self.now c.args.sub place _ _ c.requires.goes.1.words c.requires.goes.1.width
     c.requires.known (c.requires.inside c.loop-i.i 0 c.loop-i-test.true) in
     let wide : c.args.sub * c.width.result + place ≡ c.args.sub * c.args.self.now.width + place =
     ap (λ w. c.args.sub * w + place) (c.width.ensures ∙ ap (λ (k : CellData). k.width) c.self.view_is) in
-    c.if-index-ne0.true (c.index.ensures
-    ∙ (ap (λ (k : CellData). get_or k.words (c.args.sub * c.width.result + place) c.index.result.now) c.self.view_is
-    ∙ (ap (λ k. get_or c.args.self.now.words k c.index.result.now) wide
-    ∙ (get_or_default c.args.self.now.words (c.args.sub * c.args.self.now.width + place) c.index.result.now 0 within
-    ∙ none))))
+    let zero : c.is_zero.result ≡ true = c.is_zero.ensures ∙ ap (λ w. w == 0)
+    (ap (λ (k : CellData). slice_index k.words (c.args.sub * c.width.result + place)) c.self.view_is
+    ∙ (ap (λ k. slice_index c.args.self.now.words k) wide ∙ none)) in
+    let held = c.if-not-is_zero.true in
+    cc
