@@ -20,7 +20,7 @@ pub(crate) const FAR: u32 = 0x3fff_ffff;
 /// A node that is left, and the weight to it.
 #[derive(Clone, Copy, Debug)]
 pub(crate) struct Near {
-    pub(crate) node: usize,
+    pub(crate) node: u32,
     pub(crate) weight: u32,
 }
 
@@ -58,7 +58,8 @@ fn lower_to_arcs(table: &mut [u32], n: usize, width: usize, u: usize, arcs: &[Ar
 
 // The nodes that are left and to which a row has a weight.
 fn near_of(alloc: Global, row: &[u32], left: &[bool]) -> Result<Vec<Near>, AllocError>
-    requires { length row.now ≡ length left.now }
+    requires few { length row.now ≤ MAX_NODES }
+    requires same { length row.now ≡ length left.now }
     ensures { IfOk result (λ near.
         AreNearBelow (length row.now) row.now (λ x. among left.now x ≡ true) near.items) }
 {
@@ -66,7 +67,7 @@ fn near_of(alloc: Global, row: &[u32], left: &[bool]) -> Result<Vec<Near>, Alloc
     for (node, is_left) in left.iter().enumerate() {
         if *is_left && row[node] < FAR {
             near.push(Near {
-                node,
+                node: node as u32,
                 weight: row[node],
             })?;
         }
@@ -85,7 +86,11 @@ fn lower_row(table: &mut [u32], n: usize, width: usize, a: Near, near: &[Near])
     ensures { IsLowered (Among near.now (PairOffer width a)) table.old table.new }
 {
     for b in near {
-        lower(table, a.node * width + b.node, a.weight + b.weight);
+        lower(
+            table,
+            a.node as usize * width + b.node as usize,
+            a.weight + b.weight,
+        );
     }
 }
 
@@ -150,7 +155,14 @@ fn lower_through(weights: &mut [u32], table: &[u32], n: usize, width: usize, nea
     requires row { length weights.old ≡ n }
     ensures { IsLowered (RowOffer n width table.now near) weights.old weights.new }
 {
-    lower_span(weights, 0, table, near.node * width, n, near.weight);
+    lower_span(
+        weights,
+        0,
+        table,
+        near.node as usize * width,
+        n,
+        near.weight,
+    );
 }
 
 // Writes the weights of near nodes at their places, and FAR elsewhere.
@@ -160,7 +172,7 @@ fn spread(weights: &mut [u32], near: &[Near])
 {
     weights.fill(FAR);
     for b in near {
-        lower(weights, b.node, b.weight);
+        lower(weights, b.node as usize, b.weight);
     }
 }
 
@@ -178,7 +190,7 @@ fn lower_whole_row(table: &mut [u32], n: usize, width: usize, a: Near, near: &[N
     requires mine { IsLowered (Among near.now OwnOffer) (replicate n FAR) mine.now }
     ensures { IsLowered (Among near.now (PairOffer width a)) table.old table.new }
 {
-    lower_span(table, a.node * width, mine, 0, n, a.weight);
+    lower_span(table, a.node as usize * width, mine, 0, n, a.weight);
 }
 
 // How many of the cells of a near node and each other one have no weight.
@@ -192,7 +204,7 @@ fn count_far(table: &[u32], n: usize, width: usize, a: Near, near: &[Near]) -> u
 {
     let mut more: usize = 0;
     for b in near {
-        if table[a.node * width + b.node] == FAR && a.node != b.node {
+        if table[a.node as usize * width + b.node as usize] == FAR && a.node != b.node {
             more = more.wrapping_add(1);
         }
     }
@@ -236,7 +248,8 @@ fn lower_pairs(
         } else {
             lower_row(table, n, width, *a, near);
         }
-        degrees[a.node] = degrees[a.node].wrapping_add(more).wrapping_sub(1);
+        let degree = degrees[a.node as usize];
+        degrees[a.node as usize] = degree.wrapping_add(more).wrapping_sub(1);
     }
 }
 
