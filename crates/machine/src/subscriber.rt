@@ -33,7 +33,7 @@ use std::alloc::{AllocError, Global};
 use visit_log::{Homes, PlainCells};
 
 // How many writes a subscriber has ahead at most.
-const MOST_AHEAD: usize = 128;
+const MOST_AHEAD: usize = 64;
 
 /// A subscriber: its handset, which has made the writes that are ahead; how many of these are in
 /// their cells by now; and the lines of the steps that it has begun.
