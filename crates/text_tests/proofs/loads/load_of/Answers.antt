@@ -6,7 +6,7 @@ use Rattle.word_line.specs.declared.command.WordsFault.{WordsFault}
 use Rattle.word_line.specs.declared.command.WordsFault.TheVariants.{Refused}
 use Rattle.word_line.specs.declared.load.Load.{Load}
 use Rattle.word_line.specs.Forms.{bytes_of, command_of}
-use Rattle.load_tests.proofs.loads.load_of.Goals as goal
+use Rattle.text_tests.proofs.loads.load_of.Goals as goal
 
 -- a command that was read is the command of the words
 some-of : (read : Option Command) (load : Load) → Ok (Make load) ≡ ok_or read Refused → read ≡ Some (Make load)

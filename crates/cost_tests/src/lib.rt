@@ -1,5 +1,0 @@
-//! Tests of what moves cost.
-#![tactic(auto)]
-
-#[cfg(test)]
-mod cost_tests;
