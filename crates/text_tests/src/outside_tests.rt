@@ -251,3 +251,33 @@ impl Write for Full {
 fn sink_that_cannot_flush(rt: HostRuntime) {
     writes(&rt, &mut StdSink::new(Full), &[(b"a", Gave::Failed)]);
 }
+
+// A device that fails at its first write, and takes all bytes from then on.
+#[derive(Drop)]
+struct Late {
+    has_failed: bool,
+}
+
+impl Write for Late {
+    fn write(&mut self, bytes: &[u8]) -> std::io::Result<usize> {
+        if self.has_failed {
+            return Ok(bytes.len());
+        }
+        self.has_failed = true;
+        Err(Error::from(ErrorKind::StorageFull))
+    }
+
+    fn flush(&mut self) -> std::io::Result<()> {
+        Ok(())
+    }
+}
+
+// A write that failed isn't tried again.
+#[test]
+fn sink_over_a_late_writer(rt: HostRuntime) {
+    writes(
+        &rt,
+        &mut StdSink::new(Late { has_failed: false }),
+        &[(b"ab", Gave::Failed), (b"ab", Gave::Wrote(2))],
+    );
+}
