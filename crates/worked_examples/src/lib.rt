@@ -19,6 +19,7 @@ mod plans;
 mod puts;
 mod rules;
 mod scripts;
+mod texts;
 mod trails;
 mod words;
 mod wrong;
@@ -31,7 +32,9 @@ pub use closing::{wrong_causes, wrong_orders};
 pub use costs::{worked_climbs, worked_costs, wrong_costs};
 pub use faults::{worked_move_faults, worked_switch_faults, wrong_find_faults, wrong_move_faults};
 pub use finds::worked_finds;
-pub use grammar::{worked_apart, worked_limits, worked_lines};
+pub use grammar::{
+    worked_apart, worked_bytes, worked_calls, worked_limits, worked_lines, worked_places,
+};
 pub use moves::{worked_moves, wrong_moves};
 pub use orders::worked_orders;
 pub use others::worked_others;
@@ -40,6 +43,7 @@ pub use plans::{worked_levels, worked_measures, wrong_overlaps};
 pub use puts::worked_puts;
 pub use rules::{told_tickets, wrong_logs, wrong_views};
 pub use scripts::worked_scripts;
+pub use texts::{worked_causes, worked_json, worked_plan_lines};
 pub use trails::{worked_phases, worked_trails, wrong_numbers};
 pub use words::{worked_loads, worked_names, worked_numbers};
 pub use wrong::wrong_lines;

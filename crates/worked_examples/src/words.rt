@@ -59,6 +59,12 @@ pub fn worked_loads()
     ensures calls_most { command_of (load_words 5 (codes "16384"))
         ≡ Some (Make (record usual_load { calls = 16384 })) }
     ensures calls_past { command_of (load_words 5 (codes "16385")) ≡ None }
+    ensures widest_of_1 { command_of (codes "make" ∷ codes "1" ∷ codes "256" ∷ codes "1" ∷ codes "1"
+        ∷ codes "1" ∷ codes "1" ∷ [])
+        ≡ Some (Make (record usual_load { nodes = 256; k = 1 })) }
+    ensures idle { command_of (codes "make" ∷ codes "1" ∷ codes "1" ∷ codes "1" ∷ codes "1"
+        ∷ codes "0" ∷ codes "0" ∷ [])
+        ≡ Some (Make (record usual_load { nodes = 1; k = 1; callers = 0; calls = 0 })) }
     ensures usual { command_of (codes "make" ∷ usual_numbers) ≡ Some (Make usual_load) }
     ensures different { command_of (codes "make" ∷ codes "9" ∷ codes "8" ∷ codes "7" ∷ codes "6"
         ∷ codes "5" ∷ codes "4" ∷ [])
