@@ -1,5 +1,5 @@
 -- What the lines of an input have said, and a text of a network in two parts. Key laws:
--- `worked_lines`, `worked_calls`, `worked_limits`, `worked_apart`.
+-- `worked_lines`, `worked_calls`, `worked_bytes`, `worked_limits`, `worked_apart`.
 use Rattle.std.specs.Prelude.{ℕ, List, [], ◌∷◌, codes, map, Result, Err}
 use Rattle.net_graph.specs.declared.edge.Edge.{Edge}
 use Rattle.net_graph.specs.Walks.{make_edge}
@@ -25,6 +25,12 @@ said_up_to place format =
       calls = [];
       order = [];
     }
+
+-- the words that begin lines
+abbrev pub line_words : List (List ℕ)
+line_words =
+    codes "track" ∷ codes "nodes" ∷ codes "k" ∷ codes "edge" ∷ codes "sub" ∷ codes "callers"
+    ∷ codes "move" ∷ codes "find" ∷ codes "off" ∷ codes "on" ∷ codes "order" ∷ []
 
 -- in the second format, what was said up to these calls of the subscriber
 abbrev pub by_sub : List Call → Said

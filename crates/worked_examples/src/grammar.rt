@@ -1,6 +1,6 @@
 //! The grammar of inputs, computed: how many fields a line has, what a field is, the limits, and
 //! nodes apart.
-ghost use Rattle.std.specs.Prelude.{◌≡◌, ◌⊎◌, [], ◌∷◌, ◌++◌, codes, length, map, replicate, Ok, Err, true, ℕ, List};
+ghost use Rattle.std.specs.Prelude.{◌≡◌, ◌⊎◌, [], ◌∷◌, ◌++◌, codes, length, map, replicate, Ok, Err, true, is_some, Contains, ℕ, List};
 ghost use Rattle.net_graph.specs.declared.edge.Edge.{Edge};
 ghost use Rattle.net_graph.specs.Network.{IsFirstApart};
 ghost use Rattle.net_graph.specs.Walks.{make_edge};
@@ -8,10 +8,11 @@ ghost use Rattle.net_reader.specs.declared.fault.InputCause.TheVariants.{Form, N
 ghost use Rattle.net_reader.specs.declared.said.Call.TheVariants.{Find, Move, Off, On};
 ghost use Rattle.net_reader.specs.declared.said.Spoken.{Spoken};
 ghost use Rattle.net_reader.specs.Input.{IsInput, read};
-ghost use Rattle.net_reader.specs.Lines.{begins_comment, is_blank};
+ghost use Rattle.net_reader.specs.Lines.{begins_comment, is_blank, word_of};
+ghost use Rattle.net_reader.specs.Reading.{most_bytes};
 ghost use Rattle.net_reader.specs.Shown.{◌then◌, refusal_at, two_nodes};
 ghost use Rattle.net_reader.specs.Table.{judge, most_calls, most_nodes};
-ghost use Rattle.worked_examples.specs.Grammar.{apart_at, apart_text, by_sub, first_edge, moved_once, said_up_to, switched_off, switched_on};
+ghost use Rattle.worked_examples.specs.Grammar.{apart_at, apart_text, by_sub, first_edge, line_words, moved_once, said_up_to, switched_off, switched_on};
 
 /// Each line with its fields, with one field more, and with one less.
 pub fn worked_lines()
@@ -112,10 +113,13 @@ pub fn worked_calls()
 {}
 
 /// Fields are parted by spaces and tabs alone, and a comment begins with one sign alone, which is
-/// its line's first field: further on it is a field like others.
+/// its line's first field: further on it is a field like others. No line has another word than
+/// these.
 pub fn worked_bytes()
     ensures blanks { (b : ℕ) → is_blank b ≡ true → (b ≡ 32) ⊎ (b ≡ 9) }
     ensures comments { (b : ℕ) (rest : List ℕ) → begins_comment (b ∷ rest) ≡ true → b ≡ 35 }
+    ensures words { (field : List ℕ) → is_some (word_of field) ≡ true
+        → Contains line_words field }
     ensures comment { judge (said_up_to 6 1) (codes "#move" ∷ codes "x" ∷ [])
         ≡ Ok (said_up_to 6 1) }
     ensures behind { judge (said_up_to 5 1) (codes "callers" ∷ codes "1" ∷ codes "#" ∷ [])
@@ -127,6 +131,7 @@ pub fn worked_bytes()
 pub fn worked_limits()
     ensures nodes { map most_nodes (1 ∷ 2 ∷ []) ≡ 256 ∷ 1024 ∷ [] }
     ensures calls { map most_calls (1 ∷ 2 ∷ []) ≡ 8192 ∷ 16384 ∷ [] }
+    ensures bytes { most_bytes ≡ 4194304 }
     ensures last_call { (calls : List Spoken) → length calls ≡ 8191
         → judge (record (said_up_to 7 1) { calls = calls })
         (codes "find" ∷ codes "1" ∷ codes "2" ∷ codes "0" ∷ [])
