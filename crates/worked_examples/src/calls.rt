@@ -140,6 +140,9 @@ pub fn wrong_finds()
     ensures no_look { (setup : Setup) (old new : PassData) (call : FindCall) (found : Found)
         (has : HasFound setup old call found new) → has.made ≡ 4 ∷ []
         → slice_get new.view.seen 4 ≡ Some (count_by 1 0) → ⊥ }
+    ensures tells { (setup : Setup) (old new : PassData) (call : FindCall) (found : Found)
+        (has : HasFound setup old call found new)
+        → TellsRightly setup old call found has.made new.view.seen }
     ensures keeps { (setup : Setup) (old new : PassData) (call : FindCall) (found : Found)
         → HasFound setup old call found new → KeepsHandsets setup old new }
 {}

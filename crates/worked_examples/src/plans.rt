@@ -1,13 +1,14 @@
 //! The measures of plans, computed.
-ghost use Rattle.std.specs.Prelude.{◌≡◌, ◌≤◌, ◌*◌, ◌^◌, [], ◌∷◌, map};
+ghost use Rattle.std.specs.Prelude.{◌≡◌, ◌<◌, ◌≤◌, ◌*◌, ◌^◌, [], ◌∷◌, map};
 ghost use Rattle.region_plan.specs.Examples.{end_of_line, line_level, line_level_0, line_of_four, mean_line_of_four, whole_line};
-ghost use Rattle.region_plan.specs.Matched.{HasFewReaders, HasSmallSum};
+ghost use Rattle.region_plan.specs.Matched.{HasFewReaders, HasSmallSum, IsMatched};
+ghost use Rattle.region_plan.specs.Meanings.{IsTop};
 ghost use Rattle.region_plan.specs.Measures.{degree_in, degree_of, most, stretch_of};
-ghost use Rattle.region_plan.specs.Plan.{PlanData, nodes_of};
+ghost use Rattle.region_plan.specs.Plan.{PlanData, clusters_of, inside, leader, nodes_of, threshold};
 ghost use Rattle.region_plan.specs.Regions.{threshold_of, top_for};
 ghost use Rattle.stretch_laws.specs.Plans.{bound_of};
 ghost use Rattle.stretch_laws.specs.Tracking.{radius, resting_stretch, stretch};
-ghost use Rattle.worked_examples.specs.Plans.{line_with, lone_node};
+ghost use Rattle.worked_examples.specs.Plans.{line_with, lone_node, two_apart};
 
 /// Thresholds and radii double from level to level, and the top level is the least whose radius
 /// reaches the diameter.
@@ -48,4 +49,14 @@ pub fn wrong_overlaps()
     ensures sum { HasSmallSum (line_with 1 (whole_line ∷ whole_line ∷ lone_node ∷ [])) → ⊥ }
     ensures degree { (plan : PlanData) → HasFewReaders plan
         → degree_of plan ^ plan.k ≤ plan.k ^ plan.k * nodes_of plan }
+{}
+
+/// A matched plan renews its lowest level after each move, and the leader of a cluster has no way to
+/// itself. The top level of a network whose diameter is 4 is level 2, neither below nor above.
+pub fn wrong_matches()
+    ensures first { (plan : PlanData) → IsMatched plan → threshold plan 0 ≡ 2 → ⊥ }
+    ensures start { (plan : PlanData) → IsMatched plan → 0 < clusters_of plan 0
+        → inside plan 0 0 (leader plan 0 0) ≡ 1 → ⊥ }
+    ensures low_top { IsTop two_apart 1 → ⊥ }
+    ensures high_top { IsTop two_apart 3 → ⊥ }
 {}
