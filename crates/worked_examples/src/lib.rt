@@ -11,6 +11,8 @@ mod costs;
 mod faults;
 mod finds;
 mod grammar;
+mod handsets;
+mod moments;
 mod moves;
 mod orders;
 mod others;
@@ -35,6 +37,8 @@ pub use finds::worked_finds;
 pub use grammar::{
     worked_apart, worked_bytes, worked_calls, worked_limits, worked_lines, worked_places,
 };
+pub use handsets::told_handsets;
+pub use moments::told_moments;
 pub use moves::{worked_moves, wrong_moves};
 pub use orders::worked_orders;
 pub use others::worked_others;

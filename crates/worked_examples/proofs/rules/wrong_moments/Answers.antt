@@ -1,4 +1,4 @@
-use Rattle.std.proofs.Common.{◌≡◌, ℕ, [], arith, refl}
+use Rattle.std.proofs.Common.{◌≡◌, [], arith, refl}
 use Rattle.worked_examples.proofs.rules.wrong_moments.Goals as goal
 
 pub returns-clause-won : goal.returns-clause-won
