@@ -1,3 +1,4 @@
 mod Apart
 mod Looks
 mod Held
+mod Named

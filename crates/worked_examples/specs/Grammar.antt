@@ -1,10 +1,12 @@
 -- What the lines of an input have said, and a text of a network in two parts. Key laws:
--- `worked_lines`, `worked_limits`, `worked_apart`.
-use Rattle.std.specs.Prelude.{ℕ, List, [], ◌∷◌, codes, Result, Err}
+-- `worked_lines`, `worked_calls`, `worked_bytes`, `worked_limits`, `worked_apart`.
+use Rattle.std.specs.Prelude.{ℕ, List, [], ◌∷◌, codes, map, Result, Err}
 use Rattle.net_graph.specs.declared.edge.Edge.{Edge}
 use Rattle.net_graph.specs.Walks.{make_edge}
 use Rattle.net_reader.specs.declared.fault.InputFault.{InputFault}
 use Rattle.net_reader.specs.declared.fault.InputCause.TheVariants.{Apart}
+use Rattle.net_reader.specs.declared.said.Call.{Call}
+use Rattle.net_reader.specs.declared.said.Call.TheVariants.{Move, Off, On}
 use Rattle.net_reader.specs.Input.{Contents}
 use Rattle.net_reader.specs.Said.{Said}
 use Rattle.net_reader.specs.Shown.{◌then◌}
@@ -23,6 +25,30 @@ said_up_to place format =
       calls = [];
       order = [];
     }
+
+-- the words that begin lines
+abbrev pub line_words : List (List ℕ)
+line_words =
+    codes "track" ∷ codes "nodes" ∷ codes "k" ∷ codes "edge" ∷ codes "sub" ∷ codes "callers"
+    ∷ codes "move" ∷ codes "find" ∷ codes "off" ∷ codes "on" ∷ codes "order" ∷ []
+
+-- in the second format, what was said up to these calls of the subscriber
+abbrev pub by_sub : List Call → Said
+by_sub calls = record (said_up_to 7 2) {
+  calls = map (λ call. record { actor = 0; call = call }) calls;
+}
+
+-- up to a move
+abbrev pub moved_once : Said
+moved_once = by_sub (Move 2 ∷ [])
+
+-- up to a switch off
+abbrev pub switched_off : Said
+switched_off = by_sub (Off ∷ [])
+
+-- up to a switch on again
+abbrev pub switched_on : Said
+switched_on = by_sub (Off ∷ On ∷ [])
 
 -- nodes 0 and 1 are joined, nodes 2 and 3 are apart from them and from one another
 abbrev pub first_edge : List Edge

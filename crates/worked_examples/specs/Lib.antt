@@ -2,6 +2,7 @@ pub mod Chases
 pub mod Examples
 pub mod Faults
 pub mod Grammar
+pub mod Moments
 pub mod Passes
 pub mod Plans
 pub mod Trails

@@ -1,6 +1,7 @@
--- Plans of the line of four whose lowest level has other phases or other clusters. Key law:
--- `wrong_overlaps`.
+-- Plans of the line of four whose lowest level has other phases or other clusters, and two nodes
+-- whose distance is a power of two. Key laws: `wrong_overlaps`, `wrong_matches`.
 use Rattle.std.specs.Prelude.{ℕ, List, [], ◌∷◌}
+use Rattle.distances.specs.Table.{DistanceTable}
 use Rattle.region_plan.specs.Examples.{line_level_0, line_of_four}
 use Rattle.region_plan.specs.Plan.{PlanCluster, PlanData}
 use Rattle.region_plan.specs.Regions.{readers_of}
@@ -21,3 +22,7 @@ line_with phases clusters =
           }
           ∷ [];
     }
+
+-- two nodes at distance 4
+abbrev pub two_apart : DistanceTable
+two_apart = record { nodes = 2; cells = 0 ∷ 4 ∷ 4 ∷ 0 ∷ [] }

@@ -1,9 +1,11 @@
 //! What whole finds over a tracker, and steps of moves, don't do, whether they end well or not:
 //! each is wrong in one part.
-ghost use Rattle.std.specs.Prelude.{◌≡◌, ◌<◌, ◌++◌, [], ◌∷◌, ℕ, List, Some, None, suc, slice_get};
+ghost use Rattle.std.specs.Prelude.{◌≡◌, ◌<◌, ◌+◌, ◌++◌, [], ◌∷◌, ℕ, List, Some, None, suc, slice_get};
 ghost use Rattle.atomic_table.specs.Table.{State};
 ghost use Rattle.directory.specs.Finds.{FindCall};
-ghost use Rattle.directory.specs.Histories.{History};
+ghost use Rattle.directory.specs.Histories.{History, before, through};
+ghost use Rattle.directory.specs.Legal.{IsLegal};
+ghost use Rattle.directory.specs.Looks.{IsQuiet, first_of, last_of};
 ghost use Rattle.directory.specs.Standing.{number};
 ghost use Rattle.directory.specs.declared.answers.Found.{Found};
 ghost use Rattle.directory.specs.declared.answers.Found.TheVariants.{At, Off as OffAt, Again};
@@ -17,10 +19,13 @@ ghost use Rattle.region_plan.specs.Matched.{BoundsFinds};
 ghost use Rattle.station.specs.Moments.{AreOthersOut, GoesThrough};
 ghost use Rattle.station.specs.Passes.{PassData, actor_of};
 ghost use Rattle.station.specs.Rule.{IsViewOf};
-ghost use Rattle.station.specs.Setup.{Setup, nodes_in, setting_in};
+ghost use Rattle.station.specs.Setup.{Setup, nodes_in, setting_in, subs_in};
+ghost use Rattle.station.specs.Turns.{LogsAll};
 ghost use Rattle.station.specs.Views.{turn_at};
 ghost use Rattle.station.specs.declared.turns.Held.{Held};
+ghost use Rattle.station.specs.declared.view.TurnEvent.TheVariants.{Won};
 ghost use Rattle.station.specs.declared.view.View.{View};
+ghost use Rattle.stretch_laws.specs.Plans.{IsWithinBound};
 ghost use Rattle.tracker_calls.specs.Added.{HasAdded, KeepsHandsets};
 ghost use Rattle.tracker_calls.specs.RightAnswers.{TellsRightly};
 ghost use Rattle.tracker_calls.specs.Finds.{HasFound, HasStopped};
@@ -31,7 +36,8 @@ ghost use Rattle.worked_examples.specs.Passes.{HasPass, count_by, line_setup};
 use station::events_come_within_calls;
 
 /// Answers of a find from node 2 whose subscriber rests at node 3: of another node, number or
-/// state; none at all; beyond the bound; or older than what the pass had seen.
+/// state; none at all; beyond the bound, which is told at the first look and at the last; or older
+/// than what the pass had seen.
 pub fn wrong_answers()
     ensures node { (old : PassData) → TellsRightly line_setup old (find_from 2)
         (At 2 0 (Some 0) 5) (0 ∷ []) [] → ⊥ }
@@ -43,6 +49,14 @@ pub fn wrong_answers()
         → TellsRightly setup old call (Again NoEntry 4) (0 ∷ []) [] → ⊥ }
     ensures far { BoundsFinds line_of_four → (old : PassData)
         → TellsRightly line_setup old (find_from 2) (At 3 0 (Some 0) 145) (0 ∷ []) [] → ⊥ }
+    ensures near_first { (setup : Setup) (old : PassData) (call : FindCall) (found : Found)
+        (made : List ℕ) (seen : History) → TellsRightly setup old call found made seen
+        → BoundsFinds setup.plan → IsQuiet seen call.sub (first_of made) (last_of made)
+        → IsWithinBound setup.plan setup.homes call found (before (first_of made) seen) }
+    ensures near_last { (setup : Setup) (old : PassData) (call : FindCall) (found : Found)
+        (made : List ℕ) (seen : History) → TellsRightly setup old call found made seen
+        → BoundsFinds setup.plan → IsQuiet seen call.sub (first_of made) (last_of made)
+        → IsWithinBound setup.plan setup.homes call found (through (last_of made) seen) }
     ensures older { (setup : Setup) (old : PassData) (call : FindCall) (made : List ℕ)
         (seen : History) → number call.sub old.view.seen ≡ 1
         → TellsRightly setup old call (At 3 0 None 0) made seen → ⊥ }
@@ -51,7 +65,8 @@ pub fn wrong_answers()
         → TellsRightly setup old call (OffAt 3 0 None 0) made seen → ⊥ }
 {}
 
-/// A call that made a visit with ticket 4: it has used one of its spare, and is in no node.
+/// A call that made a visit with ticket 4: it has used one of its spare, and is in no node; what it
+/// has seen is legal; and it has logged one turn more as won, and events of its own alone.
 pub fn wrong_additions()
     ensures spare { (setup : Setup) (old new : PassData) → HasAdded setup old (4 ∷ []) new
         → new.spare ≡ old.spare → ⊥ }
@@ -65,6 +80,20 @@ pub fn wrong_additions()
         → old.view.lost ≡ turn_at 2 6 ∷ [] → new.view.lost ≡ [] → ⊥ }
     ensures actor { (setup : Setup) (old new : PassData) → HasAdded setup old [] new
         → HasPass old 0 [] → HasPass new 1 [] → ⊥ }
+    ensures legal { (setup : Setup) (old new : PassData) (sub : ℕ)
+        → HasAdded setup old (4 ∷ []) new → sub < subs_in setup
+        → IsLegal (setting_in setup) sub new.view.seen }
+    ensures more_spare { (setup : Setup) (old new : PassData) → HasAdded setup old (4 ∷ []) new
+        → new.spare + 2 ≡ old.spare → ⊥ }
+    ensures unwon { (setup : Setup) (old new : PassData)
+        (added : HasAdded setup old (4 ∷ []) new) → added.events ≡ [] → ⊥ }
+    ensures won_twice { (setup : Setup) (old new : PassData)
+        (added : HasAdded setup old (4 ∷ []) new) → added.events ≡ Won 0 2 ∷ Won 0 2 ∷ [] → ⊥ }
+    ensures stranger { (setup : Setup) (old new : PassData)
+        (added : HasAdded setup old (4 ∷ []) new) → HasPass old 0 []
+        → added.events ≡ Won 1 2 ∷ [] → ⊥ }
+    ensures logs { (setup : Setup) (old new : PassData) (added : HasAdded setup old (4 ∷ []) new)
+        → LogsAll old.view.turns added.events new.view.turns }
 {}
 
 /// A find that lost a turn has it as its last lost turn, at the node of its next look and to
@@ -111,6 +140,9 @@ pub fn wrong_finds()
     ensures no_look { (setup : Setup) (old new : PassData) (call : FindCall) (found : Found)
         (has : HasFound setup old call found new) → has.made ≡ 4 ∷ []
         → slice_get new.view.seen 4 ≡ Some (count_by 1 0) → ⊥ }
+    ensures tells { (setup : Setup) (old new : PassData) (call : FindCall) (found : Found)
+        (has : HasFound setup old call found new)
+        → TellsRightly setup old call found has.made new.view.seen }
     ensures keeps { (setup : Setup) (old new : PassData) (call : FindCall) (found : Found)
         → HasFound setup old call found new → KeepsHandsets setup old new }
 {}

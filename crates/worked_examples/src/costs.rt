@@ -1,17 +1,21 @@
 //! What each part of a find costs on the line of four, by number: its clusters are 3 radii wide,
 //! and a node reads at most 2 of a level.
-ghost use Rattle.std.specs.Prelude.{◌≡◌, ◌≤◌, ◌<◌, [], ◌∷◌, suc, ℕ};
+ghost use Rattle.std.specs.Prelude.{◌≡◌, ◌≤◌, ◌<◌, List, [], ◌∷◌, suc, ℕ};
 ghost use Rattle.entry_word.specs.declared.address.Address.{Address};
-ghost use Rattle.directory.specs.Finds.{FindCall};
-ghost use Rattle.directory.specs.Histories.{History};
+ghost use Rattle.directory.specs.Finds.{FindCall, found_weight};
+ghost use Rattle.directory.specs.Histories.{History, before};
 ghost use Rattle.directory.specs.Legal.{IsLegal};
+ghost use Rattle.directory.specs.Looks.{IsFind, IsQuiet, first_of, last_of};
 ghost use Rattle.directory.specs.Parts.{climb_weight};
 ghost use Rattle.directory.specs.Settings.{Setting};
 ghost use Rattle.directory.specs.Standing.{number, passage, standing};
+ghost use Rattle.directory.specs.declared.answers.Found.{Found};
+ghost use Rattle.move_cost.specs.Plans.{IsWithinRate};
 ghost use Rattle.region_plan.specs.Examples.{line_setting};
 ghost use Rattle.stretch_laws.specs.Costs.{AfterConfirm, AtRest, ClimbsEndEarly, Costs, CurrentAfterConfirm, InPassage, IsMet, NewBeforeCommit, OldBeforeCommit, ReadingIsBounded, readers_up_to};
-ghost use Rattle.stretch_laws.specs.Tracking.{IsTracking, radius};
+ghost use Rattle.stretch_laws.specs.Tracking.{IsTracking, RestingFindsAreNearer, radius};
 ghost use Rattle.trail_laws.specs.Phases.{IsAtRest, IsBeforeCommit, IsCurrent, IsPassingFrom, IsSettled};
+ghost use Rattle.trail_laws.specs.Rightness.{IsAnswered};
 ghost use Rattle.worked_examples.specs.Examples.{find_from};
 ghost use Rattle.worked_examples.specs.Trails.{LineMeets};
 
@@ -43,8 +47,8 @@ pub fn worked_costs()
 {}
 
 /// How high a find from node 0 climbs whose subscriber stands at node 3; what reading weighs at
-/// most where clusters are 3 radii wide and a node reads 2 of a level; and what a find from node 2
-/// reads.
+/// most where clusters are 3 radii wide and a node reads 2 of a level; what a find from node 2
+/// reads; and what it weighs at most while its subscriber rests at node 3.
 pub fn worked_climbs()
     ensures early { ClimbsEndEarly → IsTracking line_setting 3 2 → (history : History)
         → IsLegal line_setting 0 history → standing line_setting 0 history ≡ 3
@@ -60,6 +64,13 @@ pub fn worked_climbs()
         ∷ record { level = 0; cluster = 1 } ∷ record { level = 1; cluster = 0 } ∷ [] }
     ensures weighs { climb_weight line_setting (find_from 2) (readers_up_to line_setting 2 1)
         ≡ 10 }
+    ensures resting { RestingFindsAreNearer → IsTracking line_setting 3 2 → (history : History)
+        → (actor : ℕ) (found : Found) (tickets : List ℕ) → IsLegal line_setting 0 history
+        → IsFind line_setting history actor (find_from 2) found tickets
+        → IsQuiet history 0 (first_of tickets) (last_of tickets)
+        → IsAtRest line_setting 0 (before (first_of tickets) history)
+        → standing line_setting 0 (before (first_of tickets) history) ≡ 3
+        → IsAnswered found × (found_weight found ≤ 112) }
 {}
 
 /// A cost is of the whole way, from the leader, node 0, to the address's node and on from there: it
@@ -67,4 +78,15 @@ pub fn worked_climbs()
 pub fn wrong_costs()
     ensures whole { Costs line_setting 0 [] 1 0 (record { number = 0; node = 3 }) 3 }
     ensures less { Costs line_setting 0 [] 1 0 (record { number = 0; node = 3 }) 2 → ⊥ }
+{}
+
+/// Over three levels of clusters 3 radii wide, a subscriber that made one move of weight 1 writes at
+/// most 156, and purges one mark.
+pub fn wrong_rates()
+    ensures most { IsWithinRate 3 3
+        (record { sub = 0; moves = 1; moved = 1; written = 156; purged = 1 }) }
+    ensures written { IsWithinRate 3 3
+        (record { sub = 0; moves = 1; moved = 1; written = 157; purged = 1 }) → ⊥ }
+    ensures purged { IsWithinRate 3 3
+        (record { sub = 0; moves = 1; moved = 1; written = 156; purged = 2 }) → ⊥ }
 {}

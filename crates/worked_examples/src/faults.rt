@@ -1,6 +1,7 @@
 //! Why a call isn't made, where several reasons stand together: the first of them is told.
 ghost use Rattle.std.specs.Prelude.{◌≡◌, ◌^◌, ◌-◌, [], ◌∷◌, ℕ, Some, None, Ok, Err, true, false, map};
-ghost use Rattle.directory.specs.Finds.{most_looks};
+ghost use Rattle.directory.specs.Finds.{FindCall, most_looks};
+ghost use Rattle.directory.specs.Writes.{most_writes};
 ghost use Rattle.entry_word.specs.declared.visit.Visit.{Visit};
 ghost use Rattle.handset.specs.Beginning.{move_fault, switch_fault};
 ghost use Rattle.handset.specs.Kept.{HandsetData};
@@ -10,9 +11,10 @@ ghost use Rattle.handset.specs.declared.fault.SwitchFault.TheVariants.{Already, 
 ghost use Rattle.region_plan.specs.Examples.{line_of_four, line_setting};
 ghost use Rattle.station.specs.Passes.{PassData};
 ghost use Rattle.station.specs.Setup.{Setup, setting_in};
-ghost use Rattle.tracker_calls.specs.Finds.{IsRefusal};
+ghost use Rattle.tracker_calls.specs.Finds.{IsFindFault, IsRefusal, MayFind};
 ghost use Rattle.tracker_calls.specs.Moves.{IsStepFault};
 ghost use Rattle.tracker_calls.specs.WholeMoves.{IsMoveToFault};
+ghost use Rattle.tracker_calls.specs.declared.finds.FindFault.TheVariants as finds;
 ghost use Rattle.tracker_calls.specs.declared.finds.FindRefusal.TheVariants as refusals;
 ghost use Rattle.tracker_calls.specs.declared.moves.StepFault.TheVariants as steps;
 ghost use Rattle.tracker_calls.specs.declared.whole_moves.MoveToFault.TheVariants as moves;
@@ -44,7 +46,8 @@ pub fn worked_switch_faults()
         ≡ None ∷ Some Already ∷ [] }
 {}
 
-/// A find from a node that isn't there, of a subscriber that isn't, by a pass without room.
+/// A find from a node that isn't there, of a subscriber that isn't, by a pass without room: the pass
+/// stays as it is. A find that lost a turn was one that may begin.
 pub fn wrong_find_faults()
     ensures walk_node { walk_or_fault line_of_four 4 1 1 ≡ Err NoSuchNode }
     ensures walk_sub { walk_or_fault line_of_four 3 1 1 ≡ Err NoSubscriber }
@@ -63,10 +66,22 @@ pub fn wrong_find_faults()
     ensures room { (pass : PassData) (need : ℕ) → pass.spare ≡ most_looks line_setting 3
         → IsRefusal line_setup pass (record { from = 3; sub = 0 }) (refusals.Unreserved need)
         → ⊥ }
+    ensures need { (pass : PassData)
+        → IsRefusal line_setup pass (record { from = 3; sub = 0 }) (refusals.Unreserved 100)
+        → ⊥ }
+    ensures still_no_node { (setup : Setup) (old new : PassData) (call : FindCall)
+        → IsFindFault setup old call finds.NoNode new → new ≡ old }
+    ensures still_no_sub { (setup : Setup) (old new : PassData) (call : FindCall)
+        → IsFindFault setup old call finds.NoSubscriber new → new ≡ old }
+    ensures still_no_room { (setup : Setup) (old new : PassData) (call : FindCall) (need : ℕ)
+        → IsFindFault setup old call (finds.Unreserved need) new → new ≡ old }
+    ensures held_begun { (setup : Setup) (old new : PassData) (call : FindCall) (node by : ℕ)
+        → IsFindFault setup old call (finds.Held node by) new → MayFind setup old call }
 {}
 
 /// A whole move that may not begin is refused for that before its room is counted; a step at rest
-/// is at rest, with room or without; and a turn is lost with room alone.
+/// is at rest, with room or without; and a turn is lost with room alone. Each fault is told as what
+/// it is, with the room that is asked for, and but for a lost turn the pass stays as it is.
 pub fn wrong_move_faults()
     ensures room_first { (pass : PassData) (need : ℕ)
         → IsMoveToFault line_of_four pass (stopped_at 3) 3 (moves.Unreserved need) → ⊥ }
@@ -74,6 +89,25 @@ pub fn wrong_move_faults()
         → IsMoveToFault line_of_four pass (stopped_at 3) 3 moves.UnderWay → ⊥ }
     ensures off_later { (pass : PassData)
         → IsMoveToFault line_of_four pass (stopped_at 3) 2 moves.IsOff → ⊥ }
+    ensures no_node { (pass : PassData)
+        → IsMoveToFault line_of_four pass (stopped_at 3) 3 moves.NoNode → ⊥ }
+    ensures elsewhere { (pass : PassData)
+        → IsMoveToFault line_of_four pass (stopped_at 3) 2 moves.SamePlace → ⊥ }
+    ensures spent_later { (pass : PassData)
+        → IsMoveToFault line_of_four pass off_at_three 2 moves.NumbersSpent → ⊥ }
+    ensures room { (pass : PassData) (handset : HandsetData) (to need : ℕ)
+        → pass.spare ≡ most_writes line_setting
+        → IsMoveToFault line_of_four pass handset to (moves.Unreserved need) → ⊥ }
+    ensures need { (pass : PassData) (handset : HandsetData) (to : ℕ)
+        → IsMoveToFault line_of_four pass handset to (moves.Unreserved 100) → ⊥ }
+    ensures step_room { (setup : Setup) (old new : PassData) (handset : HandsetData) (need : ℕ)
+        → old.spare ≡ 1 → IsStepFault setup old handset (steps.Unreserved need) new → ⊥ }
+    ensures step_need { (setup : Setup) (old new : PassData) (handset : HandsetData)
+        → IsStepFault setup old handset (steps.Unreserved 2) new → ⊥ }
+    ensures still_no_room { (setup : Setup) (old new : PassData) (handset : HandsetData)
+        (need : ℕ) → IsStepFault setup old handset (steps.Unreserved need) new → new ≡ old }
+    ensures still_at_rest { (setup : Setup) (old new : PassData) (handset : HandsetData)
+        → IsStepFault setup old handset steps.AtRest new → new ≡ old }
     ensures rest_first { (setup : Setup) (old new : PassData) (handset : HandsetData) (need : ℕ)
         → due (setting_in setup) handset ≡ None
         → IsStepFault setup old handset (steps.Unreserved need) new → ⊥ }

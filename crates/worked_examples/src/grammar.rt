@@ -1,14 +1,18 @@
-//! The grammar of inputs, computed: how many fields a line has, the limits, and nodes apart.
-ghost use Rattle.std.specs.Prelude.{◌≡◌, [], ◌∷◌, ◌++◌, codes, length, map, replicate, Ok, Err, ℕ, List};
+//! The grammar of inputs, computed: how many fields a line has, what a field is, the limits, and
+//! nodes apart.
+ghost use Rattle.std.specs.Prelude.{◌≡◌, ◌⊎◌, [], ◌∷◌, ◌++◌, codes, length, map, replicate, Ok, Err, true, is_some, Contains, ℕ, List};
 ghost use Rattle.net_graph.specs.declared.edge.Edge.{Edge};
 ghost use Rattle.net_graph.specs.Network.{IsFirstApart};
 ghost use Rattle.net_graph.specs.Walks.{make_edge};
-ghost use Rattle.net_reader.specs.declared.fault.InputCause.TheVariants.{Form, TooMany, Unknown, TooLarge};
-ghost use Rattle.net_reader.specs.declared.said.Call.TheVariants.{Find, Move, Off};
+ghost use Rattle.net_reader.specs.declared.fault.InputCause.TheVariants.{Form, Nowhere, Switched, TooMany, Unknown, Unfinished, TooLarge};
+ghost use Rattle.net_reader.specs.declared.said.Call.TheVariants.{Find, Move, Off, On};
 ghost use Rattle.net_reader.specs.declared.said.Spoken.{Spoken};
-ghost use Rattle.net_reader.specs.Input.{IsInput};
+ghost use Rattle.net_reader.specs.Input.{IsInput, read};
+ghost use Rattle.net_reader.specs.Lines.{begins_comment, is_blank, word_of};
+ghost use Rattle.net_reader.specs.Reading.{most_bytes};
+ghost use Rattle.net_reader.specs.Shown.{◌then◌, refusal_at, two_nodes};
 ghost use Rattle.net_reader.specs.Table.{judge, most_calls, most_nodes};
-ghost use Rattle.worked_examples.specs.Grammar.{apart_at, apart_text, first_edge, said_up_to};
+ghost use Rattle.worked_examples.specs.Grammar.{apart_at, apart_text, by_sub, first_edge, line_words, moved_once, said_up_to, switched_off, switched_on};
 
 /// Each line with its fields, with one field more, and with one less.
 pub fn worked_lines()
@@ -49,11 +53,85 @@ pub fn worked_lines()
         (codes "find" ∷ codes "0" ∷ codes "2" ∷ codes "0" ∷ []) ≡ Err Unknown }
 {}
 
+/// Lines without a number, and lines that name a node or a subscriber that there isn't. A text
+/// doesn't end before its callers, nor do they stand before a subscriber; the second subscriber is
+/// counted behind the first.
+pub fn worked_places()
+    ensures no_format { judge (said_up_to 0 0) (codes "track" ∷ []) ≡ Err Form }
+    ensures no_nodes { judge (said_up_to 1 1) (codes "nodes" ∷ []) ≡ Err Form }
+    ensures no_k { judge (said_up_to 2 1) (codes "k" ∷ []) ≡ Err Form }
+    ensures no_callers { judge (said_up_to 5 1) (codes "callers" ∷ []) ≡ Err Form }
+    ensures no_sub_off { judge (said_up_to 6 2) (codes "off" ∷ []) ≡ Err Form }
+    ensures no_sub_on { judge (said_up_to 6 2) (codes "on" ∷ []) ≡ Err Form }
+    ensures edge_past_nodes { judge (said_up_to 3 1)
+        (codes "edge" ∷ codes "4" ∷ codes "1" ∷ codes "5" ∷ []) ≡ Err Unknown }
+    ensures edge_to_past_nodes { judge (said_up_to 3 1)
+        (codes "edge" ∷ codes "0" ∷ codes "4" ∷ codes "5" ∷ []) ≡ Err Unknown }
+    ensures sub_past_nodes { judge (said_up_to 5 1) (codes "sub" ∷ codes "4" ∷ [])
+        ≡ Err Unknown }
+    ensures move_past_nodes { judge (said_up_to 6 1) (codes "move" ∷ codes "0" ∷ codes "4" ∷ [])
+        ≡ Err Unknown }
+    ensures find_past_nodes { judge (said_up_to 6 1)
+        (codes "find" ∷ codes "1" ∷ codes "4" ∷ codes "0" ∷ []) ≡ Err Unknown }
+    ensures find_past_subs { judge (said_up_to 6 1)
+        (codes "find" ∷ codes "1" ∷ codes "2" ∷ codes "1" ∷ []) ≡ Err Unknown }
+    ensures second_sub { judge (said_up_to 5 1) (codes "sub" ∷ codes "2" ∷ [])
+        ≡ Ok (record (said_up_to 5 1) { homes = 3 ∷ 2 ∷ [] }) }
+    ensures callers_first { judge (record (said_up_to 4 1) { homes = [] })
+        (codes "callers" ∷ codes "1" ∷ []) ≡ Err Form }
+    ensures ends_early { read (two_nodes (codes "sub 0" then [])) ≡ refusal_at 4 Unfinished }
+    ensures ends_late { read (two_nodes (codes "sub 0" then codes "callers 0" then []))
+        ≡ Ok (
+          record {
+            place = 6;
+            format = 1;
+            nodes = 2;
+            k = 2;
+            edges = [];
+            homes = 0 ∷ [];
+            callers = 0;
+            calls = [];
+            order = [];
+          },
+          5,
+        ) }
+{}
+
+/// Calls of a subscriber that has moved, or has switched off, or on again.
+pub fn worked_calls()
+    ensures back { judge moved_once (codes "move" ∷ codes "0" ∷ codes "3" ∷ [])
+        ≡ Ok (by_sub (Move 2 ∷ Move 3 ∷ [])) }
+    ensures stays { judge moved_once (codes "move" ∷ codes "0" ∷ codes "2" ∷ []) ≡ Err Nowhere }
+    ensures on { judge switched_off (codes "on" ∷ codes "0" ∷ []) ≡ Ok switched_on }
+    ensures move_off { judge switched_off (codes "move" ∷ codes "0" ∷ codes "2" ∷ [])
+        ≡ Err Switched }
+    ensures off_twice { judge switched_off (codes "off" ∷ codes "0" ∷ []) ≡ Err Switched }
+    ensures on_first { judge moved_once (codes "on" ∷ codes "0" ∷ []) ≡ Err Switched }
+    ensures on_twice { judge switched_on (codes "on" ∷ codes "0" ∷ []) ≡ Err Switched }
+    ensures move_on { judge switched_on (codes "move" ∷ codes "0" ∷ codes "2" ∷ [])
+        ≡ Ok (by_sub (Off ∷ On ∷ Move 2 ∷ [])) }
+{}
+
+/// Fields are parted by spaces and tabs alone, and a comment begins with one sign alone, which is
+/// its line's first field: further on it is a field like others. No line has another word than
+/// these.
+pub fn worked_bytes()
+    ensures blanks { (b : ℕ) → is_blank b ≡ true → (b ≡ 32) ⊎ (b ≡ 9) }
+    ensures comments { (b : ℕ) (rest : List ℕ) → begins_comment (b ∷ rest) ≡ true → b ≡ 35 }
+    ensures words { (field : List ℕ) → is_some (word_of field) ≡ true
+        → Contains line_words field }
+    ensures comment { judge (said_up_to 6 1) (codes "#move" ∷ codes "x" ∷ [])
+        ≡ Ok (said_up_to 6 1) }
+    ensures behind { judge (said_up_to 5 1) (codes "callers" ∷ codes "1" ∷ codes "#" ∷ [])
+        ≡ Err Form }
+{}
+
 /// The limits of both formats, on both sides; a line that is too large and too many in one is
 /// refused as too large.
 pub fn worked_limits()
     ensures nodes { map most_nodes (1 ∷ 2 ∷ []) ≡ 256 ∷ 1024 ∷ [] }
     ensures calls { map most_calls (1 ∷ 2 ∷ []) ≡ 8192 ∷ 16384 ∷ [] }
+    ensures bytes { most_bytes ≡ 4194304 }
     ensures last_call { (calls : List Spoken) → length calls ≡ 8191
         → judge (record (said_up_to 7 1) { calls = calls })
         (codes "find" ∷ codes "1" ∷ codes "2" ∷ codes "0" ∷ [])

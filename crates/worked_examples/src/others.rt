@@ -11,7 +11,7 @@ ghost use Rattle.worked_examples.specs.Examples.{find_from};
 
 /// A switch's line has the node and the number after the move before it; the puts of another
 /// subscriber are no puts of a move of the one that is looked for; two callers have an order of
-/// their own.
+/// their own, and both have turns behind it.
 pub fn worked_others()
     ensures switched_elsewhere { outcome_of line_setting
         (line_scripts (move_to 2 ∷ switch_off ∷ switch_on ∷ []) ([])) ([]) ≡ record {
@@ -29,5 +29,13 @@ pub fn worked_others()
           calls = Moved 1 1 2 3 1 1 4 6 ∷ FoundBy 2 3 0 3 0 None 0 7 7
               ∷ FoundBy 3 2 1 2 0 None 0 0 0 ∷ [];
           order = 3 ∷ 1 ∷ 1 ∷ 1 ∷ 1 ∷ 1 ∷ 1 ∷ 2 ∷ [];
+        } }
+    ensures both_callers { outcome_of (setting_of line_of_four (3 ∷ 2 ∷ []))
+        (record {
+          steps = ([]) ∷ ([]) ∷ [];
+          finds = (find_from 3 ∷ []) ∷ (record { from = 2; sub = 1 } ∷ []) ∷ [];
+        }) ([]) ≡ record {
+          calls = FoundBy 2 3 0 3 0 None 0 0 0 ∷ FoundBy 3 2 1 2 0 None 0 1 1 ∷ [];
+          order = 2 ∷ 3 ∷ [];
         } }
 {}

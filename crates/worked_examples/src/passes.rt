@@ -79,6 +79,8 @@ pub fn wrong_notes()
         → HasNote note (count_by 2 0 ∷ []) → HasHeard old note new → ⊥ }
     ensures spare { (old new : PassData) (note : NoteData) → HasHeard old note new
         → suc new.spare ≡ old.spare → ⊥ }
+    ensures more_spare { (old new : PassData) (note : NoteData) → HasHeard old note new
+        → new.spare ≡ suc old.spare → ⊥ }
     ensures inside { (old new : PassData) (note : NoteData) → HasHeard old note new
         → old.view.inside ≡ None → new.view.inside ≡ Some 2 → ⊥ }
     ensures lost { (old new : PassData) (note : NoteData) → HasHeard old note new

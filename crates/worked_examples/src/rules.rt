@@ -8,11 +8,13 @@ ghost use Rattle.directory.specs.Keys.{act_node};
 ghost use Rattle.entry_word.specs.declared.visit.Act.{Act};
 ghost use Rattle.entry_word.specs.declared.visit.Act.TheVariants.{Put};
 ghost use Rattle.entry_word.specs.declared.visit.Key.{Key};
+ghost use Rattle.station.specs.Moments.{ComesAt, HasLocks, IsLoggedAt, IsMoment};
 ghost use Rattle.station.specs.Plays.{visit_by};
-ghost use Rattle.station.specs.Rule.{KeepsRule};
+ghost use Rattle.station.specs.Rule.{IsViewOf, KeepsRule};
 ghost use Rattle.station.specs.Setup.{Setup, lock_word, nodes_in, setting_in};
 ghost use Rattle.station.specs.Turns.{HasLogged, IsLog, events_of, lock_in};
 ghost use Rattle.station.specs.Views.{HasDrawn, IsInsideNode, IsSoundView, turn_at};
+ghost use Rattle.station.specs.declared.view.TurnEvent.{TurnEvent};
 ghost use Rattle.station.specs.declared.view.TurnEvent.TheVariants.{GivenBack, Lost, Won};
 ghost use Rattle.station.specs.declared.view.View.{View};
 ghost use Rattle.worked_examples.specs.Passes.{count_by, line_setup};
@@ -78,4 +80,29 @@ pub fn wrong_views()
         → slice_index state.words (lock_word node) ≡ lock_in rule.turns node }
     ensures strangers { (setup : Setup) (state : State Act View) (rule : KeepsRule setup state)
         (actor : ℕ) → setup.actors ≤ actor → events_of actor rule.turns ≡ [] }
+{}
+
+/// No other pass is inside a node just before a turn there is won or given back. A log in which a
+/// turn is won leaves the lock word of its actor, whose pass is inside. An event comes at a step
+/// before which the view hadn't logged it, and behind which it has.
+pub fn wrong_moments()
+    ensures won { (setup : Setup) (state : State Act View) (seat : ℕ) (view : View)
+        → IsMoment setup state (Won 0 2) → IsViewOf state.views seat view
+        → view.inside ≡ Some 2 → view.low ≡ 5 → ⊥ }
+    ensures given_back { (setup : Setup) (state : State Act View) (seat : ℕ) (view : View)
+        → IsMoment setup state (GivenBack 0 2) → IsViewOf state.views seat view
+        → view.inside ≡ Some 2 → view.low ≡ 5 → ⊥ }
+    ensures locked { (setup : Setup) (state : State Act View)
+        → HasLocks setup state (Won 5 2 ∷ []) → 2 < nodes_in setup
+        → slice_index state.words (lock_word 2) ≡ 6 }
+    ensures held { (setup : Setup) (state : State Act View)
+        → HasLocks setup state (Won 5 2 ∷ []) → 2 < nodes_in setup
+        → (seat : ℕ) × (view : View) × IsViewOf state.views seat view
+        × (view.inside ≡ Some 2) × (view.low ≡ 5) }
+    ensures absent { (setup : Setup) (seat : ℕ) (event : TurnEvent) (old new : State Act View)
+        (comes : ComesAt setup seat [] event old new)
+        → comes.own.before.turns ≡ event ∷ [] → ⊥ }
+    ensures there { (setup : Setup) (seat : ℕ) (earlier : List TurnEvent) (event : TurnEvent)
+        (old new : State Act View) (comes : ComesAt setup seat earlier event old new)
+        → IsLoggedAt earlier event comes.own.after.turns }
 {}

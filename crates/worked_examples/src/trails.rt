@@ -1,13 +1,16 @@
 //! What the laws of marks and of phases say of the line of four, and the phases of its move from
 //! node 3 to node 2.
-ghost use Rattle.std.specs.Prelude.{◌≡◌, ◌<◌, ◌≤◌, [], ◌∷◌, Some, ℕ};
+ghost use Rattle.std.specs.Prelude.{◌≡◌, ◌<◌, ◌≤◌, [], ◌∷◌, Some, ℕ, map, true};
+ghost use Rattle.node_set.specs.Ascending.{has};
 ghost use Rattle.entry_word.specs.declared.mark.PresenceMark.TheVariants.{Coming, Gone, Here, Off};
-ghost use Rattle.directory.specs.Courses.{move_to};
+ghost use Rattle.directory.specs.Census.{census};
+ghost use Rattle.directory.specs.Courses.{move_to, switch_off};
 ghost use Rattle.directory.specs.Histories.{History, before, puts_to};
 ghost use Rattle.directory.specs.Legal.{IsLegal};
 ghost use Rattle.directory.specs.Puts.{last_move};
 ghost use Rattle.directory.specs.Writes.{visits};
 ghost use Rattle.region_plan.specs.Examples.{line_setting};
+ghost use Rattle.trail_laws.specs.Censuses.{IsCounted, IsOnAt, ListedStandThere, RestingAreListed, who_ends_at};
 ghost use Rattle.trail_laws.specs.Phases.{ComingStands, IsAtRest, IsBeforeCommit, IsPassingFrom, IsSettled, PhasesCover};
 ghost use Rattle.trail_laws.specs.Trail.{GoesUp, NumbersGoUp, OneComing};
 ghost use Rattle.worked_examples.specs.Trails.{line_mark};
@@ -67,6 +70,27 @@ pub fn worked_phases()
     ensures rest { IsAtRest line_setting 0 (visits line_setting 0 (move_to 2 ∷ [])) }
     ensures unrested { IsAtRest line_setting 0
         (before 5 (visits line_setting 0 (move_to 2 ∷ []))) → ⊥ }
+{}
+
+/// After a legal history of the subscriber: where node 2 lists it, it stands there and is on; and
+/// where it rests there and is on, node 2 lists it. One that is off, or that stands elsewhere, isn't
+/// on at a node. Of two subscribers whose scripts lead to node 2, the one that is switched off there
+/// doesn't end as listed.
+pub fn worked_counts()
+    ensures listed { ListedStandThere → (history : History) → IsLegal line_setting 0 history
+        → has 0 (census line_setting history 2) ≡ true → IsOnAt line_setting 0 history 2 }
+    ensures resting { RestingAreListed → (history : History) → IsLegal line_setting 0 history
+        → IsAtRest line_setting 0 history → IsOnAt line_setting 0 history 2
+        → has 0 (census line_setting history 2) ≡ true }
+    ensures on { IsOnAt line_setting 0 [] 3 }
+    ensures elsewhere { IsOnAt line_setting 0 [] 2 → ⊥ }
+    ensures off { IsOnAt line_setting 0 (visits line_setting 0 (switch_off ∷ [])) 3 → ⊥ }
+    ensures unlisted { IsCounted line_setting
+        (before 4 (visits line_setting 0 (move_to 2 ∷ []))) 0 2 → ⊥ }
+    ensures scripts { map (who_ends_at (3 ∷ 2 ∷ []) (record {
+      steps = (move_to 2 ∷ []) ∷ (move_to 3 ∷ move_to 2 ∷ switch_off ∷ []) ∷ [];
+      finds = [];
+    })) (1 ∷ 2 ∷ 3 ∷ []) ≡ ([]) ∷ (0 ∷ []) ∷ ([]) ∷ [] }
 {}
 
 /// What no mark behind a Gone with number 4 may be.

@@ -1,9 +1,9 @@
 //! Words at the ends of their ranges, computed: the last number that is taken, and the first that
 //! isn't.
-ghost use Rattle.std.specs.Prelude.{◌≡◌, [], ◌∷◌, codes, Some, None};
+ghost use Rattle.std.specs.Prelude.{◌≡◌, [], ◌∷◌, codes, Some, None, is_some, true, Contains, ℕ, List};
 ghost use Rattle.word_line.specs.declared.command.Command.TheVariants.{Census, Make, Replay};
-ghost use Rattle.word_line.specs.Forms.{command_of, number_in, number_of};
-ghost use Rattle.worked_examples.specs.Words.{load_words, usual_load, usual_numbers};
+ghost use Rattle.word_line.specs.Forms.{command_of, number_in, number_of, plain_command};
+ghost use Rattle.worked_examples.specs.Words.{load_words, names_alone, usual_load, usual_numbers};
 
 /// A number has from one digit to 18, and nothing but digits.
 pub fn worked_numbers()
@@ -59,6 +59,12 @@ pub fn worked_loads()
     ensures calls_most { command_of (load_words 5 (codes "16384"))
         ≡ Some (Make (record usual_load { calls = 16384 })) }
     ensures calls_past { command_of (load_words 5 (codes "16385")) ≡ None }
+    ensures widest_of_1 { command_of (codes "make" ∷ codes "1" ∷ codes "256" ∷ codes "1" ∷ codes "1"
+        ∷ codes "1" ∷ codes "1" ∷ [])
+        ≡ Some (Make (record usual_load { nodes = 256; k = 1 })) }
+    ensures idle { command_of (codes "make" ∷ codes "1" ∷ codes "1" ∷ codes "1" ∷ codes "1"
+        ∷ codes "0" ∷ codes "0" ∷ [])
+        ≡ Some (Make (record usual_load { nodes = 1; k = 1; callers = 0; calls = 0 })) }
     ensures usual { command_of (codes "make" ∷ usual_numbers) ≡ Some (Make usual_load) }
     ensures different { command_of (codes "make" ∷ codes "9" ∷ codes "8" ∷ codes "7" ∷ codes "6"
         ∷ codes "5" ∷ codes "4" ∷ [])
@@ -67,6 +73,8 @@ pub fn worked_loads()
 
 /// A name is taken whole, as it is written, and alone; of seven numbers none is left out.
 pub fn worked_names()
+    ensures names { (name : List ℕ) → is_some (plain_command name) ≡ true
+        → Contains names_alone name }
     ensures replay { command_of (codes "replay" ∷ []) ≡ Some Replay }
     ensures census { command_of (codes "census" ∷ []) ≡ Some Census }
     ensures capital { command_of (codes "Replay" ∷ []) ≡ None }

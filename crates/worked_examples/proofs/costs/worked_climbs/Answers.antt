@@ -1,6 +1,9 @@
-use Rattle.std.proofs.Common.{◌≡◌, ℕ, ◌*◌, ◌<◌, ◌∙◌, subst, arith}
+use Rattle.std.proofs.Common.{◌≡◌, ℕ, ◌*◌, ◌<◌, ◌≤◌, ◌∙◌, subst, arith}
+use Rattle.directory.specs.Finds.{found_weight}
 use Rattle.region_plan.specs.Examples.{line_setting}
 use Rattle.stretch_laws.specs.Tracking.{radius}
+use Rattle.trail_laws.specs.Rightness.{IsAnswered}
+use Rattle.worked_examples.specs.Examples.{find_from}
 use Rattle.worked_examples.proofs.costs.worked_climbs.Goals as goal
 
 pub returns-clause-early : goal.returns-clause-early
@@ -21,3 +24,9 @@ returns-clause-lowest c = λ law setting call tracking inside.
 pub returns-clause-highest : goal.returns-clause-highest
 returns-clause-highest c = λ law setting call tracking inside high.
     law setting 3 2 call 2 tracking inside high
+
+pub returns-clause-resting : goal.returns-clause-resting
+returns-clause-resting c = λ law tracking history actor found tickets legal find quiet rest there.
+    subst (λ n. IsAnswered found × (found_weight found ≤ 112 * line_setting.distance 2 n)) there
+    (law line_setting 3 2 history actor (find_from 2) found tickets (omega arith) tracking
+    (omega arith) legal find quiet rest)

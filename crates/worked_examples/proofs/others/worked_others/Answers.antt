@@ -16,3 +16,7 @@ returns-clause-moves_of_another c = refl
 pub returns-clause-second_caller : goal.returns-clause-second_caller
 unfolding tickets_from words_after highest writes step_lines
 returns-clause-second_caller c = refl
+
+pub returns-clause-both_callers : goal.returns-clause-both_callers
+unfolding tickets_from words_after highest writes step_lines
+returns-clause-both_callers c = refl

@@ -7,7 +7,7 @@ use Rattle.directory.specs.Legal.{IsScript}
 use Rattle.directory.specs.Orders.{IsFindCall, steps_of}
 use Rattle.region_plan.specs.Examples.{line_scripts, line_setting}
 use Rattle.worked_examples.specs.Examples.{MakeValidScripts, find_from, three, three_scripts, three_steps, worked_steps}
-use Rattle.worked_examples.proofs.scripts.worked_scripts.Goals as goal
+use Rattle.worked_examples.proofs.valid.worked_scripts.Goals as goal
 
 -- scripts whose steps are allowed are valid
 valid : (steps : List Step) → MaySteps line_setting (course_at 3) steps → MakeValidScripts steps

@@ -1,0 +1,40 @@
+use Rattle.std.proofs.Common.{refl, sym, subst}
+use Rattle.directory.specs.Keys.{key_node}
+use Rattle.entry_word.specs.declared.visit.Act.TheVariants.{Census, Look}
+use Rattle.station.specs.Handsets.{IsHandsetOf}
+use Rattle.station.specs.Setup.{Setup, setting_in}
+use Rattle.station.specs.StayLaws.{handset-heard, handset-held, handset-visited}
+use Rattle.worked_examples.proofs.handsets.told_handsets.Goals as goal
+
+pub returns-clause-steps : goal.returns-clause-steps
+returns-clause-steps c = λ setup old new moved steps put on. on.steps_are
+
+pub returns-clause-puts : goal.returns-clause-puts
+returns-clause-puts c = λ setup old new moved steps put on. on.puts
+
+pub returns-clause-heard : goal.returns-clause-heard
+returns-clause-heard c = λ old new note handset heard its.
+    handset-heard old note new handset heard its
+
+pub returns-clause-looked : goal.returns-clause-looked
+returns-clause-looked c = λ old new key ticket handset visited its.
+    handset-visited old (Look key) ticket new handset refl visited its
+
+pub returns-clause-counted : goal.returns-clause-counted
+returns-clause-counted c = λ old new node ticket handset visited its.
+    handset-visited old (Census node) ticket new handset refl visited its
+
+pub returns-clause-held : goal.returns-clause-held
+returns-clause-held c = λ old new place held handset lost its.
+    handset-held old place held new handset lost its
+
+pub returns-clause-found : goal.returns-clause-found
+returns-clause-found c = λ setup old new call found handset has its. has.keeps handset its
+
+pub returns-clause-stopped : goal.returns-clause-stopped
+returns-clause-stopped c = λ old new call held handset stopped its.
+    let between = stopped.between in
+    let same = stopped.added.same.setup in
+    subst (λ (s : Setup). IsHandsetOf s new.view handset) same (handset-held between
+    (key_node (setting_in old.view.setup) stopped.key) held new handset stopped.turn (subst (λ (s : Setup). IsHandsetOf s
+    between.view handset) (sym same) (stopped.keeps handset its)))

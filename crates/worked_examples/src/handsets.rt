@@ -1,0 +1,47 @@
+//! What puts, notes, visits and whole calls leave of a handset: it goes on with its pass.
+ghost use Rattle.std.specs.Prelude.{◌≡◌, ◌++◌, [], ◌∷◌, ℕ, List};
+ghost use Rattle.directory.specs.Courses.{Step};
+ghost use Rattle.directory.specs.Finds.{FindCall};
+ghost use Rattle.directory.specs.Histories.{puts_to};
+ghost use Rattle.directory.specs.declared.answers.Found.{Found};
+ghost use Rattle.entry_word.specs.declared.visit.Act.TheVariants.{Census, Look};
+ghost use Rattle.entry_word.specs.declared.visit.Key.{Key};
+ghost use Rattle.entry_word.specs.declared.visit.Visit.{Visit};
+ghost use Rattle.handset.specs.Kept.{HandsetData};
+ghost use Rattle.station.specs.Handsets.{HandsetGoesOn, IsHandsetOf};
+ghost use Rattle.station.specs.Passes.{NoteData, PassData};
+ghost use Rattle.station.specs.Setup.{Setup};
+ghost use Rattle.station.specs.Visits.{HasHeard, HasLost, HasVisited};
+ghost use Rattle.station.specs.declared.turns.Held.{Held};
+ghost use Rattle.station.specs.declared.view.View.{View};
+ghost use Rattle.tracker_calls.specs.Finds.{HasFound, HasStopped};
+
+/// A put keeps the steps that its handset stood for, and is the last one of its subscriber that the
+/// pass has seen. A note, a look, a census, a lost turn, and a find, answered or held, leave the
+/// handset with its pass.
+pub fn told_handsets()
+    ensures steps { (setup : Setup) (old new : View) (moved : HandsetData) (steps : List Step)
+        (put : Visit) (on : HandsetGoesOn setup old new moved steps put) → on.own.steps ≡ steps }
+    ensures puts { (setup : Setup) (old new : View) (moved : HandsetData) (steps : List Step)
+        (put : Visit) → HandsetGoesOn setup old new moved steps put
+        → puts_to new.low new.seen ≡ puts_to old.low old.seen ++ put ∷ [] }
+    ensures heard { (old new : PassData) (note : NoteData) (handset : HandsetData)
+        → HasHeard old note new → IsHandsetOf old.view.setup old.view handset
+        → IsHandsetOf old.view.setup new.view handset }
+    ensures looked { (old new : PassData) (key : Key) (ticket : ℕ) (handset : HandsetData)
+        → HasVisited old (Look key) ticket new → IsHandsetOf old.view.setup old.view handset
+        → IsHandsetOf old.view.setup new.view handset }
+    ensures counted { (old new : PassData) (node ticket : ℕ) (handset : HandsetData)
+        → HasVisited old (Census node) ticket new → IsHandsetOf old.view.setup old.view handset
+        → IsHandsetOf old.view.setup new.view handset }
+    ensures held { (old new : PassData) (place : ℕ) (held : Held) (handset : HandsetData)
+        → HasLost old place held new → IsHandsetOf old.view.setup old.view handset
+        → IsHandsetOf old.view.setup new.view handset }
+    ensures found { (setup : Setup) (old new : PassData) (call : FindCall) (found : Found)
+        (handset : HandsetData) → HasFound setup old call found new
+        → IsHandsetOf setup old.view handset → IsHandsetOf setup new.view handset }
+    ensures stopped { (old new : PassData) (call : FindCall) (held : Held)
+        (handset : HandsetData) → HasStopped old.view.setup old call held new
+        → IsHandsetOf old.view.setup old.view handset
+        → IsHandsetOf old.view.setup new.view handset }
+{}

@@ -1,0 +1,45 @@
+//! When an event of a turn comes: what the locks are just before the step that brings it.
+ghost use Rattle.std.specs.Prelude.{◌≡◌, ◌<◌, ℕ, List, Some, slice_index};
+ghost use Rattle.atomic_table.specs.Table.{State};
+ghost use Rattle.entry_word.specs.declared.visit.Act.{Act};
+ghost use Rattle.station.specs.Moments.{ComesAt, EventsComeNow, GoesThrough, IsMoment, IsStepBeside, IsStepOf};
+ghost use Rattle.station.specs.Rule.{IsViewOf, KeepsRule};
+ghost use Rattle.station.specs.Setup.{Setup, lock_word, nodes_in};
+ghost use Rattle.station.specs.declared.view.TurnEvent.{TurnEvent};
+ghost use Rattle.station.specs.declared.view.TurnEvent.TheVariants.{Lost, Won};
+ghost use Rattle.station.specs.declared.view.View.{View};
+ghost use Rattle.worked_examples.specs.Moments.{Brings, one_step};
+
+/// Just before the step at which actor 0 loses a turn at node 2 to actor 5, the lock word there is
+/// 6, and the pass of actor 5 is inside; just before it wins one the word is 0. A moment at which a
+/// turn is lost has such a word and such a pass, another actor's, and an event that comes at a step
+/// has its moment just before it. A step of the pass's own and one of others are each a call of one
+/// step.
+pub fn told_moments()
+    ensures word { EventsComeNow → (setup : Setup) (old new : State Act View)
+        → Brings setup old new (Lost 0 2 6) → 2 < nodes_in setup
+        → slice_index old.words (lock_word 2) ≡ 6 }
+    ensures holder { EventsComeNow → (setup : Setup) (old new : State Act View)
+        → Brings setup old new (Lost 0 2 6) → 2 < nodes_in setup
+        → ((seat : ℕ) (view : View) → IsViewOf old.views seat view → view.inside ≡ Some 2
+        → view.low ≡ 5 → ⊥) → ⊥ }
+    ensures free { EventsComeNow → (setup : Setup) (old new : State Act View)
+        → Brings setup old new (Won 0 2) → 2 < nodes_in setup
+        → slice_index old.words (lock_word 2) ≡ 0 }
+    ensures lost_free { (setup : Setup) (state : State Act View) → 2 < nodes_in setup
+        → slice_index state.words (lock_word 2) ≡ 0 → IsMoment setup state (Lost 0 2 6) → ⊥ }
+    ensures lost_alone { (setup : Setup) (state : State Act View) → 2 < nodes_in setup
+        → ((seat : ℕ) (view : View) → IsViewOf state.views seat view → view.inside ≡ Some 2
+        → view.low ≡ 5 → ⊥) → IsMoment setup state (Lost 0 2 6) → ⊥ }
+    ensures lost_own { (setup : Setup) (state : State Act View) → 2 < nodes_in setup
+        → IsMoment setup state (Lost 0 2 1) → ⊥ }
+    ensures moment { (setup : Setup) (seat : ℕ) (old new : State Act View)
+        (earlier : List TurnEvent) (event : TurnEvent)
+        → ComesAt setup seat earlier event old new → IsMoment setup old event }
+    ensures step { (setup : Setup) (seat : ℕ) (old new : State Act View) → KeepsRule setup old
+        → KeepsRule setup new → IsStepOf seat old new
+        → GoesThrough setup seat 1 (one_step old new) }
+    ensures beside { (setup : Setup) (seat : ℕ) (old new : State Act View)
+        → KeepsRule setup old → KeepsRule setup new → IsStepBeside seat old new
+        → GoesThrough setup seat 1 (one_step old new) }
+{}
