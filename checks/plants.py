@@ -13,7 +13,8 @@ A plant is a name, a file with what stands there and what stands there instead, 
 
 `by` names a crate and functions of it. The prover checks these alone, over all crates below as they
 are written, whose proofs it doesn't read, and at least one must not be proved; each is checked with
-no plant first. `by: CRATE test` has the crate's tests run, with no proof, and one must fail.
+no plant first. `by: CRATE test` has the crate's tests run, with no proof, and one must fail; one
+that runs out of time fails too, so play these on a machine at rest.
 `by: bench` names work thrown away, which the counts of instructions alone refuse
 (bench/instructions.py); this script passes over it.
 
