@@ -2,13 +2,13 @@
 ghost use Rattle.std.specs.Prelude.{◌≡◌, ◌++◌, [], ◌∷◌, codes};
 ghost use Rattle.outside.specs.Texts.{◌then◌};
 ghost use Rattle.directory.specs.Courses.{move_to, switch_off, switch_on};
-ghost use Rattle.region_plan.specs.Examples.{line_scripts, line_setting};
+ghost use Rattle.plan_laws.specs.Examples.{line_scripts, line_setting};
 ghost use Rattle.move_cost.specs.CostText.{costs_text_of};
 ghost use Rattle.move_cost.specs.Costs.{cost_lines};
 ghost use Rattle.move_cost.specs.Pace.{IsPaced, writing_rate};
 
 use crate::laws::plans_are_paced;
-use region_plan::line_has_its_plan;
+use plan_laws::line_has_its_plan;
 
 /// What the moves of a subscriber at the end of the line cost: a move that erases its old address;
 /// a second one that purges the trail; a far one that does both at once; there and back; and

@@ -24,7 +24,7 @@ use Rattle.region_plan.specs.Meanings.{IsTop, IsClusterOf, AreClustersOf, IsCove
 use Rattle.region_plan.specs.declared.covering.Covering.{Covering}
 use Rattle.region_plan.specs.declared.covering.Covering.TheVariants.{Phased, Mean}
 use Rattle.region_plan.specs.Meanings.{as_tree}
-use Rattle.region_plan.proofs.Uniqueness.{depths_are_one, tops_are_one}
+use Rattle.region_plan.specs.MeaningLaws.{depths_are_one, tops_are_one}
 
 -- ---- the clusters of a coarsening have ascending members
 

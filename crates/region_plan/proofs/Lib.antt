@@ -16,8 +16,6 @@ mod Alone
 mod Sparse
 mod Small
 mod Meaning
-mod Uniqueness
-mod LineNetwork
 mod Counting
 mod Exponents
 mod Spreading

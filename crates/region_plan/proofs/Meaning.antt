@@ -7,7 +7,7 @@ use Rattle.std.proofs.lemmas.List.{length-map, get_or-map}
 use Rattle.std.proofs.lemmas.List.Elements.{All-head, All-tail}
 use Rattle.std.proofs.lemmas.Nat.{div-add-mod', div_below}
 use Rattle.net_graph.specs.LeastWeights.{LeastWeightsAreFound, least_weight}
-use Rattle.net_graph.specs.Network.{Network, IsNetwork, SameWalks}
+use Rattle.net_graph.specs.Network.{Network, IsNetwork}
 use Rattle.net_graph.specs.Walks.{IsLeastWeight, everywhere}
 use Rattle.node_set.specs.Ascending.{has}
 use Rattle.node_set.specs.Balls.{least}
@@ -25,7 +25,7 @@ use Rattle.region_plan.specs.Coverings.{CoveringsAreShaped, CoveringsHaveHomes, 
 use Rattle.region_plan.specs.Matched.{CoveredPlansBoundFinds, MeanPlansHaveSmallSums, PlansHaveFewReaders}
 use Rattle.region_plan.specs.Measures.{most}
 use Rattle.region_plan.specs.Meanings.{IsTop, IsClusterOf, AreClustersOf, IsCoveredPlan, IsLevelOf, PlansMean}
-use Rattle.region_plan.specs.Meanings.{CoveredPlansMean, CoveredPlansOfSameWalks}
+use Rattle.region_plan.specs.Meanings.{CoveredPlansMean, CoveredPlansAreOne}
 use Rattle.region_plan.specs.Meanings.{as_tree}
 use Rattle.region_plan.specs.Plan.{PlanCluster, Level, PlanData, level_at, no_level}
 use Rattle.region_plan.specs.Regions.{covered_plan, level_for, mean_plan, plan_of, plan_over, regions_of, top_for, weighed}
@@ -170,70 +170,11 @@ means found distances shape covering network sound low =
     let table = distances network sound in
     plan_is found shape network sound (table_of network) table.1 table.0 covering low
 
--- ---- over the same walks
-
--- the tree of a cluster is the same
-tree_over : (one other : Network) (members : List ℕ) (leader : ℕ) (cluster : WeighedCluster)
-    → SameWalks other.edges one.edges → IsTreeOf one members leader cluster → IsTreeOf other members leader cluster
-tree_over one other members leader cluster same tree = record {
-  leader_is = tree.leader_is;
-  members_are = tree.members_are;
-  each = λ v member. (same.least (within members) leader v (inside_weight cluster v)).1 (tree.each v member);
-}
-
-clusters_over : (one other : Network) (made : List Cluster) (clusters : List PlanCluster)
-    → SameWalks other.edges one.edges → AreClustersOf one made clusters → AreClustersOf other made clusters
-clusters_over one other [] [] same h = tt
-clusters_over one other [] (d ∷ ds) same h = h
-clusters_over one other (c ∷ cs) [] same h = h
-clusters_over one other (c ∷ cs) (d ∷ ds) same h = (
-  record {
-    leader = h.0.leader;
-    phase = h.0.phase;
-    members = h.0.members;
-    tree = tree_over one other c.members.members c.first (as_tree d) same h.0.tree;
-    count = h.0.count;
-    depth = h.0.depth;
-  },
-  clusters_over one other cs ds same h.1,
-)
-
-plan_over_same : (one other : Network) (covering : Covering) (plan : PlanData) → one.nodes ≡ other.nodes
-    → SameWalks other.edges one.edges → IsCoveredPlan covering one plan → IsCoveredPlan covering other plan
-plan_over_same one other covering plan nodes same is = record {
-  distances = record {
-    nodes = is.distances.nodes ∙ nodes;
-    count = is.distances.count;
-    each = λ u v hu hv. (same.least everywhere u v (dist plan.distances u v)).1 (is.distances.each u v hu hv);
-  };
-  trade_off = is.trade_off;
-  reach = is.reach;
-  some = is.some;
-  top = is.top;
-  each = λ i below.
-      let level = is.each i below in
-      record {
-        exponent = level.exponent;
-        threshold = level.threshold;
-        phases = level.phases;
-        clusters = clusters_over one other (cluster_list plan.distances.nodes 0 (regions_of plan.distances covering i))
-            (level_at plan i).clusters same level.clusters;
-        homes = level.homes;
-        readers = level.readers;
-      };
-}
-
-pub same_plans : CoveredPlansMean → DistancesAreOne → LeastIsOne → CoveredPlansOfSameWalks
-same_plans plans_mean one_table one_weight covering one other sound given nodes same low =
-    one_plan one_table one_weight other covering (covered_plan covering one) (covered_plan covering other)
-    (plan_over_same one other covering (covered_plan covering one) nodes same (plans_mean covering one sound low))
-    (plans_mean covering other given low)
+-- ---- the only plan that is
 
 -- what is a plan of a network is the plan
-pub plan_is_this : CoveredPlansMean → DistancesAreOne → LeastIsOne → (network : Network) → IsNetwork network
-    → (covering : Covering) → 1 ≤ trade_off_of covering → (plan : PlanData) → IsCoveredPlan covering network plan
-    → plan ≡ covered_plan covering network
-plan_is_this plans_mean one_table one_weight network sound covering low plan is =
+pub plan_is_this : CoveredPlansMean → DistancesAreOne → LeastIsOne → CoveredPlansAreOne
+plan_is_this plans_mean one_table one_weight covering network plan sound low is =
     one_plan one_table one_weight network covering plan (covered_plan covering network) is
     (plans_mean covering network sound low)
 

@@ -1,5 +1,6 @@
 -- The flat plan of a network: one level, with one cluster of all nodes that node 0 leads.
--- Key laws: `Plan::flat` gives it, `flat_is_one` (there is one), `flat_means` (its parts).
+-- Key laws: `Plan::flat` gives it, `flat_means` (its parts), and `flat_is_one` of plan_laws (there
+-- is one).
 use Rattle.std.specs.Prelude.{◌≡◌, List, [], ◌∷◌, length, map}
 use Rattle.net_graph.specs.Network.{Network}
 use Rattle.node_set.specs.Balls.{centres}

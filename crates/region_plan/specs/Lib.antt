@@ -2,13 +2,13 @@ pub mod Plan
 pub mod Coverings
 pub mod Regions
 pub mod Meanings
+pub mod MeaningLaws
 pub mod Flat
 pub mod Matched
 pub mod Measures
 pub mod Kept
 pub mod Laid
 pub mod Spread
-pub mod Examples
 pub mod Settings
 pub mod Readers
 pub mod Cells

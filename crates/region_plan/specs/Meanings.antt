@@ -2,10 +2,9 @@
 -- clusters are those of least walks, its top level is the least that reaches the diameter, and its
 -- clusters are those of its covering.
 -- Key laws: `covered_plan_means` and `plan_means` (the plan of a network is so), and
--- `covered_plan_of_same_walks` and `plan_of_same_walks` (networks over which the least walks weigh
--- the same have one plan).
+-- `covered_plan_is_one` (no other is).
 use Rattle.std.specs.Prelude.{◌≡◌, ℕ, ◌^◌, ◌<◌, ◌≤◌, List, [], ◌∷◌, length, map}
-use Rattle.net_graph.specs.Network.{Network, IsNetwork, SameWalks}
+use Rattle.net_graph.specs.Network.{Network, IsNetwork}
 use Rattle.node_set.specs.Balls.{centres, home_of}
 use Rattle.distances.specs.Table.{DistanceTable, AreDistancesOf, IsDiameter}
 use Rattle.coarse_cover.specs.Coarsening.{all_clusters}
@@ -87,14 +86,8 @@ abbrev pub PlansMean : Type 0
 PlansMean = (network : Network) (k : ℕ) → IsNetwork network → 1 ≤ k
     → IsPlanOf network k (plan_of network k)
 
--- networks over which the least walks weigh the same have one plan over each covering
-abbrev pub CoveredPlansOfSameWalks : Type 0
-CoveredPlansOfSameWalks = (covering : Covering) (one other : Network) → IsNetwork one
-    → IsNetwork other → one.nodes ≡ other.nodes → SameWalks other.edges one.edges
-    → 1 ≤ trade_off_of covering → covered_plan covering one ≡ covered_plan covering other
-
--- and so one plan
-abbrev pub PlansOfSameWalks : Type 0
-PlansOfSameWalks = (one other : Network) (k : ℕ) → IsNetwork one → IsNetwork other
-    → one.nodes ≡ other.nodes → SameWalks other.edges one.edges → 1 ≤ k
-    → plan_of one k ≡ plan_of other k
+-- what is a plan of a network over a covering is the plan
+abbrev pub CoveredPlansAreOne : Type 0
+CoveredPlansAreOne = (covering : Covering) (network : Network) (plan : PlanData) → IsNetwork network
+    → 1 ≤ trade_off_of covering → IsCoveredPlan covering network plan
+    → plan ≡ covered_plan covering network

@@ -5,18 +5,15 @@ ghost use Rattle.net_graph.specs.Network.{Network};
 ghost use Rattle.distances.specs.Table.{IsMetric};
 ghost use Rattle.region_plan.specs.Plan.{PlanData, nodes_of, levels_of, readers_in, distance, home};
 ghost use Rattle.region_plan.specs.Plan.{readers, leader, inside};
-ghost use Rattle.region_plan.specs.Meanings.{PlansMean, PlansOfSameWalks};
-ghost use Rattle.region_plan.specs.Meanings.{CoveredPlansMean, CoveredPlansOfSameWalks};
+ghost use Rattle.region_plan.specs.Meanings.{CoveredPlansAreOne, CoveredPlansMean, PlansMean};
 ghost use Rattle.region_plan.specs.Flat.{IsFlat};
-ghost use Rattle.region_plan.specs.Regions.{mean_plan, plan_of};
-ghost use Rattle.region_plan.specs.Matched.{IsMatched, IsWithinReach, PlansBoundFinds, BoundsFinds};
+ghost use Rattle.region_plan.specs.Matched.{IsMatched, IsWithinReach, PlansBoundFinds};
 ghost use Rattle.region_plan.specs.Matched.{CoveredPlansBoundFinds, MeanPlansHaveSmallSums};
 ghost use Rattle.region_plan.specs.Matched.{PlansHaveFewReaders};
-ghost use Rattle.region_plan.specs.Measures.{degree_of, stretch_of};
+ghost use Rattle.region_plan.specs.Measures.{degree_of};
 ghost use Rattle.region_plan.specs.Settings.{setting_of};
 ghost use Rattle.directory.specs.Finds.{most_looks};
 ghost use Rattle.directory.specs.Writes.{most_writes};
-ghost use Rattle.region_plan.specs.Examples.{line_network, line_of_four, mean_line_of_four};
 
 use crate::covering::{covering_home_means, covering_shape};
 use coarse_cover::covers_are_sparse;
@@ -78,27 +75,14 @@ pub fn plan_is_sparse()
     plan_means();
 }
 
-/// Networks over which the least walks weigh the same have one plan over each covering.
-pub fn covered_plan_of_same_walks()
-    ensures { CoveredPlansOfSameWalks }
+/// What is a plan of a network over a covering is the plan.
+pub fn covered_plan_is_one()
+    ensures { CoveredPlansAreOne }
 {
     distances_are_one();
     least_weight_is_one();
     covered_plan_means();
 }
-
-/// And so one plan.
-pub fn plan_of_same_walks()
-    ensures { PlansOfSameWalks }
-{
-    covered_plan_of_same_walks();
-}
-
-/// A network has one flat plan.
-pub fn flat_is_one()
-    ensures { (network : Network) (one two : PlanData) → IsFlat network one → IsFlat network two
-        → one ≡ two }
-{}
 
 /// In a flat plan cluster 0 is the home of each node and all that it reads, node 0 leads it, and
 /// weights are distances.
@@ -130,21 +114,3 @@ pub fn plan_counts()
 pub fn degree_bounds()
     ensures { (plan : PlanData) (i v : ℕ) → length (readers plan i v) ≤ degree_of plan }
 {}
-
-/// The plan of the line of four is the plan of its network with the trade-off 2, and bounds its
-/// finds.
-pub fn line_has_its_plan()
-    ensures plan { plan_of line_network 2 ≡ line_of_four }
-    ensures bounding { BoundsFinds line_of_four }
-{
-    plan_is_bounding();
-}
-
-/// The same of its plan over mean covers, whose stretch is 232.
-pub fn line_has_its_mean_plan()
-    ensures plan { mean_plan line_network 2 ≡ mean_line_of_four }
-    ensures stretch { stretch_of mean_line_of_four ≡ 232 }
-    ensures bounding { BoundsFinds mean_line_of_four }
-{
-    covered_plan_is_bounding();
-}

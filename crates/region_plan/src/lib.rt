@@ -28,9 +28,8 @@ mod spread;
 
 pub use covering::Covering;
 pub use laws::{
-    covered_plan_is_bounding, covered_plan_means, covered_plan_of_same_walks, degree_bounds,
-    flat_is_one, flat_means, line_has_its_mean_plan, line_has_its_plan, mean_plan_is_small,
-    plan_counts, plan_is_bounding, plan_is_sparse, plan_means, plan_of_same_walks,
+    covered_plan_is_bounding, covered_plan_is_one, covered_plan_means, degree_bounds, flat_means,
+    mean_plan_is_small, plan_counts, plan_is_bounding, plan_is_sparse, plan_means,
 };
 pub use net_graph::OutOfMemory;
 pub use plan::{Plan, plan_is_sound};

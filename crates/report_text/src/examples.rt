@@ -4,8 +4,6 @@ ghost use Rattle.directory.specs.declared.answers.Done.TheVariants.{Moved, Switc
 ghost use Rattle.directory.specs.declared.answers.Why.TheVariants.{Empty, NoEntry, Chased};
 ghost use Rattle.net_reader.specs.declared.fault.InputCause.TheVariants.{TooLarge, Apart, Unknown, Nowhere};
 ghost use Rattle.outside.specs.Texts.{◌then◌};
-ghost use Rattle.region_plan.specs.Examples.{line_of_four};
-ghost use Rattle.report_text.specs.PlanText.{plan_text_of};
 ghost use Rattle.report_text.specs.SummaryText.{summary_of};
 ghost use Rattle.report_text.specs.ReportText.{call_line, cause_field, last_line, refused_line_of, report_of};
 
@@ -56,23 +54,6 @@ pub fn example_fields()
         then (codes "order 0 1" ++ 10 ∷ []) then (codes "end 2" ++ 10 ∷ []) }
     ensures unknown { cause_field Unknown ≡ codes " unknown" }
     ensures nowhere { cause_field Nowhere ≡ codes " nowhere" }
-{}
-
-/// The text of the plan of the line of four.
-pub fn example_plan()
-    ensures { plan_text_of line_of_four
-        ≡ (codes "plan nodes 4 k 2 levels 3 degree 2 stretch 144" ++ 10 ∷ [])
-        then (codes "level 0 radius 1 clusters 2 phases 2" ++ 10 ∷ [])
-        then (codes "cluster 0 phase 0 leader 0 depth 3 members 0 1 2 3" ++ 10 ∷ [])
-        then (codes "cluster 1 phase 1 leader 3 depth 1 members 2 3" ++ 10 ∷ [])
-        then (codes "homes 0 0 0 1" ++ 10 ∷ [])
-        then (codes "level 1 radius 2 clusters 1 phases 1" ++ 10 ∷ [])
-        then (codes "cluster 0 phase 0 leader 0 depth 3 members 0 1 2 3" ++ 10 ∷ [])
-        then (codes "homes 0 0 0 0" ++ 10 ∷ [])
-        then (codes "level 2 radius 4 clusters 1 phases 1" ++ 10 ∷ [])
-        then (codes "cluster 0 phase 0 leader 0 depth 3 members 0 1 2 3" ++ 10 ∷ [])
-        then (codes "homes 0 0 0 0" ++ 10 ∷ [])
-        then (codes "end" ++ 10 ∷ []) }
 {}
 
 /// The summary of no call, and of a call of each kind: of an outcome's visits the order tells how

@@ -8,7 +8,7 @@ mod refusal;
 mod report_lines;
 mod sums;
 
-pub use examples::{example_calls, example_fields, example_lines, example_plan, example_summaries};
+pub use examples::{example_calls, example_fields, example_lines, example_summaries};
 pub use plan::{PlanParts, plan_text};
 pub use refusal::refused_line;
 pub use report_lines::{Lines, report};

@@ -7,7 +7,7 @@ use Rattle.entry_word.specs.declared.visit.Act.TheVariants.{Census}
 use Rattle.entry_word.specs.declared.visit.Visit.{Visit}
 use Rattle.net_reader.specs.Input.{Contents}
 use Rattle.net_reader.specs.declared.said.Call.TheVariants as calls
-use Rattle.region_plan.specs.Examples.{line_of_four}
+use Rattle.plan_laws.specs.Examples.{line_of_four}
 use Rattle.station.specs.Setup.{Setup}
 use Rattle.runner.specs.declared.worker.Worker.{Worker}
 

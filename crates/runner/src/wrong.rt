@@ -7,7 +7,7 @@ ghost use Rattle.distances.specs.Table.{DistanceTable};
 ghost use Rattle.entry_word.specs.declared.visit.Visit.{Visit};
 ghost use Rattle.machine.specs.Stands.{BelongTogether, setting_over};
 ghost use Rattle.net_reader.specs.Input.{Contents};
-ghost use Rattle.region_plan.specs.Examples.{line_of_four};
+ghost use Rattle.plan_laws.specs.Examples.{line_of_four};
 ghost use Rattle.region_plan.specs.Plan.{PlanData};
 ghost use Rattle.scripts.specs.Scripts.{scripts_of};
 ghost use Rattle.station.specs.Passes.{IsPassOf, PassData, TrackerData};

@@ -6,11 +6,11 @@ ghost use Rattle.directory.specs.Outcomes.{outcome_of};
 ghost use Rattle.directory.specs.declared.answers.Done.TheVariants.{Moved, Found as FoundBy};
 ghost use Rattle.directory.specs.declared.answers.Found.TheVariants.{At};
 ghost use Rattle.stretch_laws.specs.Examples.{line_call, line_words};
-ghost use Rattle.region_plan.specs.Examples.{line_scripts, line_setting};
+ghost use Rattle.plan_laws.specs.Examples.{line_scripts, line_setting};
 ghost use Rattle.stretch_laws.specs.Tracking.{IsTracking, stretch};
 
 use crate::plans::plans_track;
-use region_plan::line_has_its_plan;
+use plan_laws::line_has_its_plan;
 
 /// The line of four tracks its subscribers, with clusters 3 radii wide of which a node reads at
 /// most 2 at a level: a quiet find travels at most 137 times its distance. The find from one end to

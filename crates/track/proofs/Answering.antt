@@ -9,7 +9,8 @@ use Rattle.net_reader.specs.Input.{Contents}
 use Rattle.net_reader.specs.Table.{most_nodes}
 use Rattle.net_reader.specs.Valid.{IsValid}
 use Rattle.region_plan.specs.Coverings.{trade_off_of}
-use Rattle.region_plan.specs.Meanings.{CoveredPlansMean, CoveredPlansOfSameWalks, PlansMean, PlansOfSameWalks}
+use Rattle.plan_laws.specs.SameWalks.{CoveredPlansOfSameWalks, PlansOfSameWalks}
+use Rattle.region_plan.specs.Meanings.{CoveredPlansMean, PlansMean}
 use Rattle.region_plan.specs.Plan.{nodes_of}
 use Rattle.region_plan.specs.Regions.{covered_plan, plan_of}
 use Rattle.region_plan.specs.declared.covering.Covering.{Covering}

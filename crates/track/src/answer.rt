@@ -25,9 +25,9 @@ use machine::Machine;
 use net_graph::Graph;
 use net_reader::{Input, InputFault, ReadRefusal, Reader, inputs_are_valid};
 use own_reports::own_reports_are_sound;
+use plan_laws::covered_plan_of_same_walks;
 use region_plan::{
-    Covering, Plan, covered_plan_is_bounding, covered_plan_means, covered_plan_of_same_walks,
-    mean_plan_is_small,
+    Covering, Plan, covered_plan_is_bounding, covered_plan_means, mean_plan_is_small,
 };
 use scripts::scripts_are_valid;
 use std::alloc::{AllocError, Global};

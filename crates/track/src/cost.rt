@@ -9,7 +9,8 @@ use distances::Distances;
 use move_cost::{costs, costs_text, network_lines_are_within_rate};
 use net_graph::Graph;
 use net_reader::Input;
-use region_plan::{Plan, plan_means, plan_of_same_walks};
+use plan_laws::plan_of_same_walks;
+use region_plan::{Plan, plan_means};
 use scripts::scripts_are_valid;
 use std::alloc::{AllocError, Global};
 

@@ -13,7 +13,8 @@ use crate::status::Status;
 use distances::Distances;
 use net_graph::Graph;
 use net_reader::{Input, ReadRefusal, Reader, inputs_are_valid};
-use region_plan::{Plan, plan_of_same_walks};
+use plan_laws::plan_of_same_walks;
+use region_plan::Plan;
 use report_check::{Verdict, check, verdict_line};
 use std::alloc::{AllocError, Global};
 

@@ -11,7 +11,7 @@ use Rattle.directory.specs.Histories.{History, words_at}
 use Rattle.directory.specs.Legal.{IsLegal}
 use Rattle.directory.specs.Looks.{AreLooks, look_by}
 use Rattle.directory.specs.Writes.{visits}
-use Rattle.region_plan.specs.Examples.{line_setting}
+use Rattle.plan_laws.specs.Examples.{line_setting}
 use Rattle.trail_laws.specs.Chased.{marks_chased}
 use Rattle.worked_examples.specs.Examples.{find_from}
 

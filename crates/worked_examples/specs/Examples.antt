@@ -11,7 +11,7 @@ use Rattle.directory.specs.Settings.{Setting}
 use Rattle.directory.specs.Courses.{Step, move_to, switch_off, switch_on}
 use Rattle.directory.specs.Finds.{FindCall}
 use Rattle.directory.specs.Orders.{AreValid, IsFindCall, Scripts}
-use Rattle.region_plan.specs.Examples.{line_scripts, line_setting}
+use Rattle.plan_laws.specs.Examples.{line_scripts, line_setting}
 
 -- a find of the subscriber from a node
 abbrev pub find_from : ℕ → FindCall

@@ -4,7 +4,7 @@ use Rattle.std.specs.Prelude.{ℕ, ◌^◌, ◌-◌, true}
 use Rattle.handset.specs.Beginning.{handset_at}
 use Rattle.handset.specs.Kept.{HandsetData}
 use Rattle.handset.specs.declared.stage.Stage.TheVariants.{Committing}
-use Rattle.region_plan.specs.Examples.{line_of_four}
+use Rattle.plan_laws.specs.Examples.{line_of_four}
 
 -- at node 3, and no move has a number left
 abbrev pub spent_at_three : HandsetData

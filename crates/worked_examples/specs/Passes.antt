@@ -4,7 +4,7 @@
 use Rattle.std.specs.Prelude.{◌≡◌, ℕ, List, [], ◌∷◌}
 use Rattle.entry_word.specs.declared.visit.Act.TheVariants.{Census}
 use Rattle.entry_word.specs.declared.visit.Visit.{Visit}
-use Rattle.region_plan.specs.Examples.{line_of_four}
+use Rattle.plan_laws.specs.Examples.{line_of_four}
 use Rattle.station.specs.Passes.{NoteData, PassData}
 use Rattle.station.specs.Setup.{Setup}
 

@@ -2,7 +2,7 @@
 -- whose distance is a power of two. Key laws: `wrong_overlaps`, `wrong_matches`.
 use Rattle.std.specs.Prelude.{ℕ, List, [], ◌∷◌}
 use Rattle.distances.specs.Table.{DistanceTable}
-use Rattle.region_plan.specs.Examples.{line_level_0, line_of_four}
+use Rattle.plan_laws.specs.Examples.{line_level_0, line_of_four}
 use Rattle.region_plan.specs.Plan.{PlanCluster, PlanData}
 use Rattle.region_plan.specs.Regions.{readers_of}
 

@@ -4,7 +4,7 @@ use Rattle.std.specs.Prelude.{ℕ}
 use Rattle.entry_word.specs.declared.address.Address.{Address}
 use Rattle.entry_word.specs.declared.mark.PresenceMark.{PresenceMark}
 use Rattle.directory.specs.Histories.{History}
-use Rattle.region_plan.specs.Examples.{line_setting}
+use Rattle.plan_laws.specs.Examples.{line_setting}
 use Rattle.stretch_laws.specs.Costs.{IsMet}
 use Rattle.trail_laws.specs.Trail.{mark_seen}
 

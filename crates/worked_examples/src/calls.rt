@@ -14,7 +14,7 @@ ghost use Rattle.entry_word.specs.declared.visit.Act.{Act};
 ghost use Rattle.handset.specs.Kept.{HandsetData};
 ghost use Rattle.handset.specs.Progress.{due};
 ghost use Rattle.handset.specs.declared.stage.Stage.TheVariants.{Coming};
-ghost use Rattle.region_plan.specs.Examples.{line_of_four};
+ghost use Rattle.plan_laws.specs.Examples.{line_of_four};
 ghost use Rattle.region_plan.specs.Matched.{BoundsFinds};
 ghost use Rattle.station.specs.Moments.{AreOthersOut, GoesThrough};
 ghost use Rattle.station.specs.Passes.{PassData, actor_of};

@@ -1,7 +1,7 @@
 //! Where the cells of the line of four lie, computed: three levels of 2, 1 and 1 clusters.
 ghost use Rattle.std.specs.Prelude.{◌≡◌, [], ◌∷◌, map};
 ghost use Rattle.entry_word.specs.declared.visit.Key.TheVariants.{Presence, Entry};
-ghost use Rattle.region_plan.specs.Examples.{line_of_four};
+ghost use Rattle.plan_laws.specs.Examples.{line_of_four};
 ghost use Rattle.station.specs.Setup.{cell_word, lock_word, tally_word, word_count};
 ghost use Rattle.visit_log.specs.Cells.{slot_of, width_of};
 ghost use Rattle.visit_log.specs.Homes.{home_place};

@@ -6,7 +6,7 @@ ghost use Rattle.directory.specs.Courses.{move_to, switch_off};
 ghost use Rattle.directory.specs.Histories.{before};
 ghost use Rattle.directory.specs.Writes.{visits};
 ghost use Rattle.outside.specs.Texts.{◌then◌};
-ghost use Rattle.region_plan.specs.Examples.{line_setting};
+ghost use Rattle.plan_laws.specs.Examples.{line_setting};
 
 /// Nodes where nobody is have no line, and a subscriber that is nowhere, off or on its way isn't
 /// listed.

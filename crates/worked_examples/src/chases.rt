@@ -6,7 +6,7 @@ ghost use Rattle.entry_word.specs.Marks.{mark_word};
 ghost use Rattle.entry_word.specs.declared.mark.PresenceMark.TheVariants.{Coming, Empty, Gone, Here, Off};
 ghost use Rattle.directory.specs.Finds.{at_origin};
 ghost use Rattle.directory.specs.Histories.{History};
-ghost use Rattle.region_plan.specs.Examples.{line_setting};
+ghost use Rattle.plan_laws.specs.Examples.{line_setting};
 ghost use Rattle.trail_laws.specs.Chased.{ChaseRises, ChasesRise, FollowOn, marks_chased};
 ghost use Rattle.worked_examples.specs.Chases.{chase_before_commit, chase_over_commit, LineChases};
 ghost use Rattle.worked_examples.specs.Examples.{find_from};

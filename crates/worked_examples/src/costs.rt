@@ -11,7 +11,7 @@ ghost use Rattle.directory.specs.Settings.{Setting};
 ghost use Rattle.directory.specs.Standing.{number, passage, standing};
 ghost use Rattle.directory.specs.declared.answers.Found.{Found};
 ghost use Rattle.move_cost.specs.Plans.{IsWithinRate};
-ghost use Rattle.region_plan.specs.Examples.{line_setting};
+ghost use Rattle.plan_laws.specs.Examples.{line_setting};
 ghost use Rattle.stretch_laws.specs.Costs.{AfterConfirm, AtRest, ClimbsEndEarly, Costs, CurrentAfterConfirm, InPassage, IsMet, NewBeforeCommit, OldBeforeCommit, ReadingIsBounded, readers_up_to};
 ghost use Rattle.stretch_laws.specs.Tracking.{IsTracking, RestingFindsAreNearer, radius};
 ghost use Rattle.trail_laws.specs.Phases.{IsAtRest, IsBeforeCommit, IsCurrent, IsPassingFrom, IsSettled};

@@ -8,7 +8,7 @@ ghost use Rattle.handset.specs.Kept.{HandsetData};
 ghost use Rattle.handset.specs.Progress.{due};
 ghost use Rattle.handset.specs.declared.fault.MoveFault.TheVariants.{IsOff, NoNode, NumbersSpent, SamePlace, UnderWay};
 ghost use Rattle.handset.specs.declared.fault.SwitchFault.TheVariants.{Already, UnderWay as StillUnderWay};
-ghost use Rattle.region_plan.specs.Examples.{line_of_four, line_setting};
+ghost use Rattle.plan_laws.specs.Examples.{line_of_four, line_setting};
 ghost use Rattle.station.specs.Passes.{PassData};
 ghost use Rattle.station.specs.Setup.{Setup, setting_in};
 ghost use Rattle.tracker_calls.specs.Finds.{IsFindFault, IsRefusal, MayFind};

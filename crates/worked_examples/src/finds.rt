@@ -1,7 +1,7 @@
 //! Finds over given words, computed.
 ghost use Rattle.std.specs.Prelude.{◌≡◌, [], ◌∷◌, Some, None};
 ghost use Rattle.directory.specs.Standing.{number};
-ghost use Rattle.region_plan.specs.Examples.{line_setting};
+ghost use Rattle.plan_laws.specs.Examples.{line_setting};
 ghost use Rattle.worked_examples.specs.Examples.{find_from};
 ghost use Rattle.directory.specs.Finds.{find, answer_of, key_of};
 ghost use Rattle.entry_word.specs.Marks.{mark_word};

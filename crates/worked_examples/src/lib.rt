@@ -46,7 +46,7 @@ pub use passes::{worked_bits, wrong_censuses, wrong_notes, wrong_turns};
 pub use plans::{worked_levels, worked_measures, wrong_matches, wrong_overlaps};
 pub use puts::worked_puts;
 pub use rules::{told_tickets, wrong_logs, wrong_moments, wrong_views};
-pub use texts::{worked_causes, worked_json, worked_plan_lines};
+pub use texts::{worked_causes, worked_json, worked_plan_lines, worked_plan_text};
 pub use trails::{worked_counts, worked_phases, worked_trails, wrong_numbers};
 pub use valid::worked_scripts;
 pub use words::{worked_loads, worked_names, worked_numbers};

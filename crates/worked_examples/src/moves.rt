@@ -8,7 +8,7 @@ ghost use Rattle.handset.specs.Beginning.{begin_move, journey_to};
 ghost use Rattle.handset.specs.Kept.{HandsetData};
 ghost use Rattle.handset.specs.Progress.{due};
 ghost use Rattle.handset.specs.Stands.{StandsForSteps};
-ghost use Rattle.region_plan.specs.Examples.{line_setting};
+ghost use Rattle.plan_laws.specs.Examples.{line_setting};
 ghost use Rattle.station.specs.Handsets.{IsHandsetOf};
 ghost use Rattle.station.specs.Passes.{PassData, actor_of};
 ghost use Rattle.station.specs.Setup.{Setup, setting_in};

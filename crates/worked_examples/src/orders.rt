@@ -4,7 +4,7 @@ ghost use Rattle.directory.specs.Courses.{move_to, switch_off, switch_on};
 ghost use Rattle.directory.specs.Outcomes.{outcome_of};
 ghost use Rattle.directory.specs.declared.answers.Why.TheVariants.{Empty as EmptyAt};
 ghost use Rattle.directory.specs.declared.answers.Done.TheVariants.{Moved, Switched, Found as FoundBy, Off as OffBy, Again as AgainBy};
-ghost use Rattle.region_plan.specs.Examples.{line_setting, line_scripts};
+ghost use Rattle.plan_laws.specs.Examples.{line_setting, line_scripts};
 ghost use Rattle.worked_examples.specs.Examples.{find_from};
 
 /// What becomes of moves, switches and finds of one subscriber and one caller, under these orders.

@@ -5,7 +5,7 @@ ghost use Rattle.directory.specs.Looks.{moves_at};
 ghost use Rattle.directory.specs.Outcomes.{outcome_of};
 ghost use Rattle.directory.specs.Writes.{numbers_from, visits};
 ghost use Rattle.directory.specs.declared.answers.Done.TheVariants.{Moved, Switched, Found as FoundBy};
-ghost use Rattle.region_plan.specs.Examples.{line_of_four, line_scripts, line_setting};
+ghost use Rattle.plan_laws.specs.Examples.{line_of_four, line_scripts, line_setting};
 ghost use Rattle.region_plan.specs.Settings.{setting_of};
 ghost use Rattle.worked_examples.specs.Examples.{find_from};
 

@@ -1,6 +1,6 @@
 //! The measures of plans, computed.
 ghost use Rattle.std.specs.Prelude.{◌≡◌, ◌<◌, ◌≤◌, ◌*◌, ◌^◌, [], ◌∷◌, map};
-ghost use Rattle.region_plan.specs.Examples.{end_of_line, line_level, line_level_0, line_of_four, mean_line_of_four, whole_line};
+ghost use Rattle.plan_laws.specs.Examples.{end_of_line, line_level, line_level_0, line_of_four, mean_line_of_four, whole_line};
 ghost use Rattle.region_plan.specs.Matched.{HasFewReaders, HasSmallSum, IsMatched};
 ghost use Rattle.region_plan.specs.Meanings.{IsTop};
 ghost use Rattle.region_plan.specs.Measures.{degree_in, degree_of, most, stretch_of};

@@ -8,7 +8,7 @@ ghost use Rattle.directory.specs.Standing.{standing, number, passage, off};
 ghost use Rattle.directory.specs.Census.{census};
 ghost use Rattle.directory.specs.Looks.{IsQuiet, moves_at};
 ghost use Rattle.directory.specs.Keys.{key_node, opening};
-ghost use Rattle.region_plan.specs.Examples.{line_setting};
+ghost use Rattle.plan_laws.specs.Examples.{line_setting};
 ghost use Rattle.worked_examples.specs.Examples.{three, act_at};
 ghost use Rattle.entry_word.specs.declared.visit.Key.TheVariants.{Presence, Entry};
 ghost use Rattle.entry_word.specs.declared.mark.PresenceMark.TheVariants.{Empty, Here, Gone, Coming};

@@ -8,8 +8,8 @@ ghost use Rattle.net_graph.specs.Walks.{make_edge};
 ghost use Rattle.net_reader.specs.declared.said.Call.TheVariants.{Find, Move, Off, On};
 ghost use Rattle.outside.specs.Texts.{◌then◌};
 ghost use Rattle.net_reader.specs.declared.fault.InputCause.TheVariants.{Apart, Form, Nowhere, Switched, TooLarge, TooMany, Unfinished, Unknown};
-ghost use Rattle.region_plan.specs.Examples.{end_of_line, line_level, line_of_four, whole_line};
-ghost use Rattle.report_text.specs.PlanText.{cluster_line, homes_line, level_line, plan_line};
+ghost use Rattle.plan_laws.specs.Examples.{end_of_line, line_level, line_of_four, whole_line};
+ghost use Rattle.report_text.specs.PlanText.{cluster_line, homes_line, level_line, plan_line, plan_text_of};
 ghost use Rattle.report_text.specs.ReportText.{cause_field};
 
 /// The lines of a plan: its measures, a level, a cluster and homes.
@@ -29,6 +29,23 @@ pub fn worked_plan_lines()
     }) ≡ codes "cluster 9 phase 8 leader 7 depth 4 members 5 6" ++ 10 ∷ [] }
     ensures homes { homes_line (record (line_level 5 1) { homes = 3 ∷ 1 ∷ 2 ∷ [] })
         ≡ codes "homes 3 1 2" ++ 10 ∷ [] }
+{}
+
+/// The text of the plan of the line of four.
+pub fn worked_plan_text()
+    ensures { plan_text_of line_of_four
+        ≡ (codes "plan nodes 4 k 2 levels 3 degree 2 stretch 144" ++ 10 ∷ [])
+        then (codes "level 0 radius 1 clusters 2 phases 2" ++ 10 ∷ [])
+        then (codes "cluster 0 phase 0 leader 0 depth 3 members 0 1 2 3" ++ 10 ∷ [])
+        then (codes "cluster 1 phase 1 leader 3 depth 1 members 2 3" ++ 10 ∷ [])
+        then (codes "homes 0 0 0 1" ++ 10 ∷ [])
+        then (codes "level 1 radius 2 clusters 1 phases 1" ++ 10 ∷ [])
+        then (codes "cluster 0 phase 0 leader 0 depth 3 members 0 1 2 3" ++ 10 ∷ [])
+        then (codes "homes 0 0 0 0" ++ 10 ∷ [])
+        then (codes "level 2 radius 4 clusters 1 phases 1" ++ 10 ∷ [])
+        then (codes "cluster 0 phase 0 leader 0 depth 3 members 0 1 2 3" ++ 10 ∷ [])
+        then (codes "homes 0 0 0 0" ++ 10 ∷ [])
+        then (codes "end" ++ 10 ∷ []) }
 {}
 
 /// What a refusal calls each cause.

@@ -9,7 +9,7 @@ ghost use Rattle.directory.specs.Histories.{History, before, puts_to};
 ghost use Rattle.directory.specs.Legal.{IsLegal};
 ghost use Rattle.directory.specs.Puts.{last_move};
 ghost use Rattle.directory.specs.Writes.{visits};
-ghost use Rattle.region_plan.specs.Examples.{line_setting};
+ghost use Rattle.plan_laws.specs.Examples.{line_setting};
 ghost use Rattle.trail_laws.specs.Censuses.{IsCounted, IsOnAt, ListedStandThere, RestingAreListed, who_ends_at};
 ghost use Rattle.trail_laws.specs.Phases.{ComingStands, IsAtRest, IsBeforeCommit, IsPassingFrom, IsSettled, PhasesCover};
 ghost use Rattle.trail_laws.specs.Trail.{GoesUp, NumbersGoUp, OneComing};

@@ -1,7 +1,7 @@
 //! The scripts of the worked orders and puts meet what the laws of the directory ask of scripts.
 ghost use Rattle.std.specs.Prelude.{[], All, map, ◌∷◌};
 ghost use Rattle.directory.specs.Orders.{AreValid, IsFindCall};
-ghost use Rattle.region_plan.specs.Examples.{line_setting};
+ghost use Rattle.plan_laws.specs.Examples.{line_setting};
 ghost use Rattle.worked_examples.specs.Examples.{MakeValidScripts, find_from, three, three_scripts, worked_steps};
 
 /// The scripts of the worked orders and puts are valid, so that every law of valid scripts speaks

@@ -1,5 +1,5 @@
 use Rattle.std.proofs.Common.{refl, [], ◌∷◌}
-use Rattle.region_plan.specs.Examples.{line_of_four}
+use Rattle.plan_laws.specs.Examples.{line_of_four}
 use Rattle.move_cost.proofs.examples.example_pace.Goals as goal
 
 pub returns-clause-paced : goal.returns-clause-paced

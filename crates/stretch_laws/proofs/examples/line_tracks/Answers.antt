@@ -1,5 +1,5 @@
 use Rattle.std.proofs.Common.{refl, [], ◌∷◌}
-use Rattle.region_plan.specs.Examples.{line_of_four}
+use Rattle.plan_laws.specs.Examples.{line_of_four}
 use Rattle.stretch_laws.proofs.examples.line_tracks.Goals as goal
 
 pub returns-clause-tracks : goal.returns-clause-tracks

@@ -5,7 +5,7 @@ use Rattle.directory.specs.Legal.{IsLegal}
 use Rattle.directory.specs.Looks.{AreLooks}
 use Rattle.directory.specs.Puts.{steps_from}
 use Rattle.directory.specs.Writes.{writes}
-use Rattle.region_plan.specs.Examples.{line_setting}
+use Rattle.plan_laws.specs.Examples.{line_setting}
 use Rattle.trail_laws.specs.Chased.{ChaseRises}
 use Rattle.worked_examples.specs.Chases.{chase_before_commit, chase_over_commit}
 use Rattle.worked_examples.specs.Examples.{find_from}

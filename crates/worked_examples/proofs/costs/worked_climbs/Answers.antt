@@ -1,6 +1,6 @@
 use Rattle.std.proofs.Common.{◌≡◌, ℕ, ◌*◌, ◌<◌, ◌≤◌, ◌∙◌, subst, arith}
 use Rattle.directory.specs.Finds.{found_weight}
-use Rattle.region_plan.specs.Examples.{line_setting}
+use Rattle.plan_laws.specs.Examples.{line_setting}
 use Rattle.stretch_laws.specs.Tracking.{radius}
 use Rattle.trail_laws.specs.Rightness.{IsAnswered}
 use Rattle.worked_examples.specs.Examples.{find_from}

@@ -1,5 +1,5 @@
 use Rattle.std.proofs.Common.{◌+◌, ◌*◌, subst}
-use Rattle.region_plan.specs.Examples.{line_setting}
+use Rattle.plan_laws.specs.Examples.{line_setting}
 use Rattle.stretch_laws.specs.Costs.{Costs}
 use Rattle.stretch_laws.specs.Tracking.{radius}
 use Rattle.worked_examples.proofs.costs.worked_costs.Goals as goal

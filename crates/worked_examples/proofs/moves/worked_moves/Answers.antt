@@ -2,7 +2,7 @@ use Rattle.std.proofs.Common.{◌≡◌, length, [], ◌∷◌, ◌++◌, subst}
 use Rattle.directory.specs.Courses.{highest, move_to}
 use Rattle.directory.specs.Histories.{own}
 use Rattle.directory.specs.Writes.{writes}
-use Rattle.region_plan.specs.Examples.{line_setting}
+use Rattle.plan_laws.specs.Examples.{line_setting}
 use Rattle.tracker_calls.specs.WholeMoves.{puts_of_move}
 use Rattle.worked_examples.proofs.moves.worked_moves.Goals as goal
 

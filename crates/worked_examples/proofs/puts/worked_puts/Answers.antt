@@ -4,7 +4,7 @@ use Rattle.directory.specs.Histories.{History}
 use Rattle.directory.specs.Looks.{IsQuiet, moves_at}
 use Rattle.directory.specs.Courses.{move_to, switch_off, switch_on, highest}
 use Rattle.directory.specs.Writes.{visits, writes}
-use Rattle.region_plan.specs.Examples.{line_setting}
+use Rattle.plan_laws.specs.Examples.{line_setting}
 use Rattle.directory.specs.Puts.{steps_from}
 use Rattle.worked_examples.proofs.puts.worked_puts.Goals as goal
 

@@ -2,7 +2,7 @@ use Rattle.std.proofs.Common.{◌≡◌, ℕ, refl, sym, arith}
 use Rattle.std.proofs.lemmas.Bool.{true≢false}
 use Rattle.directory.specs.Courses.{highest}
 use Rattle.directory.specs.Writes.{writes}
-use Rattle.region_plan.specs.Examples.{line_setting}
+use Rattle.plan_laws.specs.Examples.{line_setting}
 use Rattle.worked_examples.proofs.trails.worked_counts.Goals as goal
 
 pub returns-clause-listed : goal.returns-clause-listed

@@ -1,5 +1,5 @@
 use Rattle.std.proofs.Common.{inl, inr, subst, arith}
-use Rattle.region_plan.specs.Examples.{line_setting}
+use Rattle.plan_laws.specs.Examples.{line_setting}
 use Rattle.trail_laws.specs.Trail.{GoesUp}
 use Rattle.worked_examples.proofs.trails.worked_trails.Goals as goal
 

@@ -5,7 +5,7 @@ use Rattle.directory.specs.Settings.{Setting}
 use Rattle.directory.specs.Courses.{Step, Course, move_to, switch_off, switch_on, course_at, last_stop, after_step, after_steps, MayMove, MaySteps}
 use Rattle.directory.specs.Legal.{IsScript}
 use Rattle.directory.specs.Orders.{IsFindCall, steps_of}
-use Rattle.region_plan.specs.Examples.{line_scripts, line_setting}
+use Rattle.plan_laws.specs.Examples.{line_scripts, line_setting}
 use Rattle.worked_examples.specs.Examples.{MakeValidScripts, find_from, three, three_scripts, three_steps, worked_steps}
 use Rattle.worked_examples.proofs.valid.worked_scripts.Goals as goal
 

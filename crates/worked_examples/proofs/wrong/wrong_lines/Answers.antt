@@ -3,7 +3,7 @@ use Rattle.std.proofs.lemmas.Bool.{true≢false}
 use Rattle.directory.specs.Courses.{highest, move_to}
 use Rattle.directory.specs.Writes.{writes, visits}
 use Rattle.directory.specs.Looks.{moves_at}
-use Rattle.region_plan.specs.Examples.{line_setting}
+use Rattle.plan_laws.specs.Examples.{line_setting}
 use Rattle.worked_examples.specs.Passes.{count_by}
 use Rattle.worked_examples.proofs.wrong.wrong_lines.Goals as goal
 

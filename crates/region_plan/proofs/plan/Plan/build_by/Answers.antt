@@ -9,7 +9,6 @@ use Rattle.region_plan.proofs.Covered.{reach_near}
 use Rattle.node_set.specs.Nodes.{Nodes}
 use Rattle.region_plan.proofs.Levels.{plan_built}
 use Rattle.region_plan.proofs.Matching.{plan_bounds}
-use Rattle.region_plan.proofs.Meaning.{plan_is_this}
 use Rattle.region_plan.proofs.plan.Plan.build_by.Goals as goal
 use Rattle.region_plan.proofs.plan.Plan.build_by.Goals.{After-drop-spread-3, After-reach}
 use Rattle.std.proofs.lemmas.List.{take_at}
@@ -65,9 +64,8 @@ pub of_levels-requires-clause-reached : goal.of_levels-requires-clause-reached
 of_levels-requires-clause-reached c = (made_bounds c).reached
 
 pub returns-clause-plan : goal.returns-clause-plan
-returns-clause-plan c = plan_is_this c.covered_plan_means.ensures c.distances_are_one.ensures
-    c.least_weight_is_one.ensures
-    c.args.graph.now c.nodes-nodes.ensures.sound c.args.covering c.requires.low c.of_levels.result (plan_is c)
+returns-clause-plan c = c.covered_plan_is_one.ensures c.args.covering c.args.graph.now c.of_levels.result
+    c.nodes-nodes.ensures.sound c.requires.low (plan_is c)
 
 pub returns-clause-bounding : goal.returns-clause-bounding
 returns-clause-bounding c = plan_bounds c.covering_shape.ensures c.covering_home_means.ensures c.args.graph.now

@@ -3,7 +3,7 @@ use Rattle.std.proofs.Common.{◌≡◌, ℕ, zero, suc, ◌+◌, ◌<◌, ◌�
 use Rattle.std.proofs.lemmas.List.Elements.{All-nil, All-cons}
 use Rattle.net_graph.specs.Network.{IsEdge, IsNetwork}
 use Rattle.net_graph.specs.Walks.{IsReached, Joins, everywhere, make_edge}
-use Rattle.region_plan.specs.Examples.{line_edges, line_network}
+use Rattle.plan_laws.specs.Examples.{line_edges, line_network}
 
 edge_up : (u : ℕ) → u < 3 → IsEdge 4 (make_edge u (suc u) 1)
 edge_up u low = record { a_below = omega arith; b_below = omega arith; positive = omega arith; light = omega arith }

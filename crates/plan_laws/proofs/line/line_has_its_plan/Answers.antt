@@ -1,5 +1,5 @@
 use Rattle.std.proofs.Common.{◌≡◌, refl, subst, arith}
-use Rattle.region_plan.specs.Examples.{line_network, line_of_four}
+use Rattle.plan_laws.specs.Examples.{line_network, line_of_four}
 use Rattle.region_plan.specs.Matched.{BoundsFinds}
 use Rattle.region_plan.specs.Plan.{PlanData}
 use Rattle.region_plan.specs.Regions.{covered_plan, plan_of}
@@ -7,8 +7,8 @@ use Rattle.net_graph.specs.LeastWeights.{first_passing, reaches}
 use Rattle.node_set.specs.Balls.{least, growth, union_of, is_homed, home_of}
 use Rattle.coarse_cover.specs.Coarsening.{is_enough, cluster_of, phase, phases, all_clusters}
 use Rattle.coarse_cover.specs.Covers.{as_cluster, cluster_list}
-use Rattle.region_plan.proofs.LineNetwork.{line_is_network}
-use Rattle.region_plan.proofs.laws.line_has_its_plan.Goals as goal
+use Rattle.plan_laws.proofs.LineNetwork.{line_is_network}
+use Rattle.plan_laws.proofs.line.line_has_its_plan.Goals as goal
 
 line_is : plan_of line_network 2 ≡ line_of_four
 unfolding covered_plan first_passing reaches least growth union_of is_homed home_of is_enough cluster_of phase phases all_clusters as_cluster cluster_list

@@ -1,0 +1,3 @@
+mod WalkedAlike
+mod LineNetwork
+mod Flatness
