@@ -53,24 +53,40 @@ fn resting(alloc: Global, plan: &Plan) -> Result<Handset, Stop>
     Ok(handset)
 }
 
+// All who take part, of the fresh passes of a tracker.
+fn crew_of(
+    alloc: Global,
+    tracker: &Tracker,
+    plan: &Plan,
+    mut passes: Vec<Pass>,
+) -> Result<Crew, Stop>
+    requires nodes { nodes_of plan.now ≡ 4 }
+    requires setup { tracker.now.setup ≡ setup_of plan.now (3 ∷ []) 4 }
+    requires fresh { AreFresh tracker.now passes.items }
+    requires count { length passes.items ≡ 4 }
+    ensures crew { IfOk result (IsCrewOf tracker.now) }
+{
+    let far = next_pass(tracker, &mut passes, 3)?;
+    let middle = next_pass(tracker, &mut passes, 2)?;
+    let near = next_pass(tracker, &mut passes, 1)?;
+    let own = next_pass(tracker, &mut passes, 0)?;
+    let handset = resting(alloc, plan)?;
+    Ok(Crew {
+        own,
+        handset,
+        near,
+        middle,
+        far,
+    })
+}
+
 /// A tracker with one subscriber at node 3 and three callers, and all who take part.
 pub fn open(alloc: Global, plan: &Plan) -> Result<(Tracker, Crew), Stop>
     requires nodes { nodes_of plan.now ≡ 4 }
     ensures setup { IfOk result (λ made. made.0.setup ≡ setup_of plan.now (3 ∷ []) 4) }
     ensures crew { IfOk result (λ made. IsCrewOf made.0 made.1) }
 {
-    let (tracker, mut passes) = Tracker::new(alloc, plan, &[3], 3)?;
-    let far = next_pass(&tracker, &mut passes, 3)?;
-    let middle = next_pass(&tracker, &mut passes, 2)?;
-    let near = next_pass(&tracker, &mut passes, 1)?;
-    let own = next_pass(&tracker, &mut passes, 0)?;
-    let handset = resting(alloc, plan)?;
-    let crew = Crew {
-        own,
-        handset,
-        near,
-        middle,
-        far,
-    };
+    let (tracker, passes) = Tracker::new(alloc, plan, &[3], 3)?;
+    let crew = crew_of(alloc, &tracker, plan, passes)?;
     Ok((tracker, crew))
 }

@@ -100,6 +100,21 @@ fn two_finders<R: Threads + Wait + Sync>(
     )
 }
 
+// What the finders counted, where nobody stopped.
+fn tallies_of(
+    moved: Result<(), Stop>,
+    near: Result<Tally, Stop>,
+    middle: Result<Tally, Stop>,
+    far: Result<Tally, Stop>,
+) -> Result<Tallies, Stop> {
+    moved?;
+    Ok(Tallies {
+        near: near?,
+        middle: middle?,
+        far: far?,
+    })
+}
+
 // The crew after a round, and what its finders counted.
 fn gather(
     tracker: &Tracker,
@@ -116,12 +131,7 @@ fn gather(
     ensures crew { IfOk result (λ done. IsCrewOf tracker.now done.0) }
 {
     let _ = tracker;
-    moved.0?;
-    let tallies = Tallies {
-        near: near.0?,
-        middle: middle.0?,
-        far: far.0?,
-    };
+    let tallies = tallies_of(moved.0, near.0, middle.0, far.0)?;
     let crew = Crew {
         own: moved.1,
         handset: moved.2,

@@ -1,5 +1,5 @@
 -- A network has one flat plan.
-use Rattle.std.proofs.Common.{◌≡◌, ℕ, List, length, get_or, sym, ◌∙◌, subst, arith}
+use Rattle.std.proofs.Common.{◌≡◌, List, length, get_or, sym, ◌∙◌, subst, arith}
 use Rattle.std.proofs.lemmas.List.{get_or_default, same_lists}
 use Rattle.net_graph.specs.Network.{Network}
 use Rattle.distances.specs.Table.{DistanceTable}

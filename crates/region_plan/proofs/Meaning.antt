@@ -8,17 +8,17 @@ use Rattle.std.proofs.lemmas.List.Elements.{All-head, All-tail}
 use Rattle.std.proofs.lemmas.Nat.{div-add-mod', div_below}
 use Rattle.net_graph.specs.LeastWeights.{LeastWeightsAreFound, least_weight}
 use Rattle.net_graph.specs.Network.{Network, IsNetwork}
-use Rattle.net_graph.specs.Walks.{IsLeastWeight, everywhere}
+use Rattle.net_graph.specs.Walks.{IsLeastWeight}
 use Rattle.node_set.specs.Ascending.{has}
 use Rattle.node_set.specs.Balls.{least}
 use Rattle.node_set.specs.BallLaws.{get_or-map_centres, length-map_centres, least_first, least_passes, least_within}
 use Rattle.distances.specs.Table.{DistanceTable, AreDistancesOf, DistancesAreOne, IsDiameter, IsMetric}
-use Rattle.distances.specs.Table.{NetworksHaveDistances, dist, table_of}
+use Rattle.distances.specs.Table.{NetworksHaveDistances, table_of}
 use Rattle.coarse_cover.specs.Coarsening.{CoversAreSparse}
 use Rattle.coarse_cover.specs.Covers.{cluster_list}
 use Rattle.coarse_cover.specs.declared.cover.Cluster.{Cluster}
 use Rattle.cluster_tree.specs.PlaceLaws.{beside_map, has_place, member_place}
-use Rattle.cluster_tree.specs.Tree.{WeighedCluster, IsTreeOf, inside_weight, weight_beside, within}
+use Rattle.cluster_tree.specs.Tree.{weight_beside, within}
 use Rattle.region_plan.specs.Kept.{IsSpanned}
 use Rattle.mean_cover.specs.Covering.{MeanCoversAreSmall}
 use Rattle.region_plan.specs.Coverings.{CoveringsAreShaped, CoveringsHaveHomes, trade_off_of}
@@ -26,8 +26,7 @@ use Rattle.region_plan.specs.Matched.{CoveredPlansBoundFinds, MeanPlansHaveSmall
 use Rattle.region_plan.specs.Measures.{most}
 use Rattle.region_plan.specs.Meanings.{IsTop, IsClusterOf, AreClustersOf, IsCoveredPlan, IsLevelOf, PlansMean}
 use Rattle.region_plan.specs.Meanings.{CoveredPlansMean, CoveredPlansAreOne}
-use Rattle.region_plan.specs.Meanings.{as_tree}
-use Rattle.region_plan.specs.Plan.{PlanCluster, Level, PlanData, level_at, no_level}
+use Rattle.region_plan.specs.Plan.{Level, no_level}
 use Rattle.region_plan.specs.Regions.{covered_plan, level_for, mean_plan, plan_of, plan_over, regions_of, top_for, weighed}
 use Rattle.region_plan.specs.declared.covering.Covering.{Covering}
 use Rattle.region_plan.specs.declared.covering.Covering.TheVariants.{Mean}
