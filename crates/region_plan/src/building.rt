@@ -11,7 +11,7 @@ ghost use Rattle.region_plan.specs.Kept.{AreLevelsOf, IsSized, level_of};
 ghost use Rattle.region_plan.specs.Spread.{IsSpreadOf};
 ghost use Rattle.node_set.specs.Nodes.{Nodes};
 
-use crate::balls::fill_balls;
+use crate::balls::{empty_sets, fill_balls};
 use crate::clusters::Clusters;
 use crate::covering::{Covering, covering_shape};
 use crate::level::LevelTable;
@@ -67,7 +67,7 @@ fn build_table(
 // Adds level `i` of the plan to the levels below it: where no distance lies between its radius and
 // the one below, the two share their table. The sets, one for each node, and the workspace are
 // written over.
-pub fn push_level(
+fn push_level(
     alloc: Global,
     graph: &Graph,
     distances: &Distances,
@@ -115,4 +115,40 @@ fn threshold_for(i: u32) -> u64
     ensures { result ≡ threshold_of i }
 {
     if i == 0 { 1 } else { u64::from(two_to(i - 1)) }
+}
+
+// The levels of the plan over the covering, up to the top one.
+pub fn build_levels(
+    alloc: Global,
+    graph: &Graph,
+    distances: &Distances,
+    covering: Covering,
+    top: u32,
+) -> Result<Levels, OutOfMemory>
+    requires belongs { AreDistancesOf graph.now distances.now }
+    requires metric { IsMetric distances.now }
+    requires low { 1 ≤ trade_off_of covering }
+    requires high { trade_off_of covering ≤ 8 }
+    requires few { top ≤ 30 }
+    ensures levels { IfOk result (AreLevelsOf graph.now distances.now covering (top + 1)) }
+{
+    let nodes = graph.nodes();
+    let mut levels = Levels::with_capacity(alloc, top as usize + 1)?;
+    let spread = Spread::new(alloc, distances)?;
+    let mut sets = empty_sets(alloc, nodes as usize, nodes)?;
+    let mut work = Workspace::new(alloc, nodes)?;
+    for i in 0..top + 1 {
+        push_level(
+            alloc,
+            graph,
+            distances,
+            &spread,
+            covering,
+            i,
+            &mut sets,
+            &mut work,
+            &mut levels,
+        )?;
+    }
+    Ok(levels)
 }

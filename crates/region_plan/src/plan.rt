@@ -19,13 +19,12 @@ ghost use Rattle.directory.specs.Finds.{most_looks};
 ghost use Rattle.directory.specs.Writes.{most_writes};
 ghost use Rattle.region_plan.specs.Kept.{IsKept, plan_with};
 
-use crate::balls::{empty_sets, top_for};
-use crate::building::push_level;
+use crate::balls::top_for;
+use crate::building::build_levels;
 use crate::covering::{Covering, covering_home_means, covering_shape};
 use crate::flat::flat_levels;
 use crate::laws::{covered_plan_is_one, mean_plan_is_small, plan_is_sparse};
 use crate::sharing::Levels;
-use crate::spread::Spread;
 use distances::Distances;
 use net_graph::{Graph, OutOfMemory, graph_is_sound};
 use node_set::Workspace;
@@ -165,28 +164,12 @@ impl Plan {
     {
         // The calls tell the proof that the network is connected and within the limits, and what
         // covers keep.
-        let nodes = graph.nodes();
+        graph_is_sound(graph);
         covering_shape();
         covering_home_means();
         covered_plan_is_one();
         let top = top_for(distances);
-        let mut levels = Levels::with_capacity(alloc, top as usize + 1)?;
-        let spread = Spread::new(alloc, distances)?;
-        let mut sets = empty_sets(alloc, nodes as usize, nodes)?;
-        let mut work = Workspace::new(alloc, nodes)?;
-        for i in 0..top + 1 {
-            push_level(
-                alloc,
-                graph,
-                distances,
-                &spread,
-                covering,
-                i,
-                &mut sets,
-                &mut work,
-                &mut levels,
-            )?;
-        }
+        let levels = build_levels(alloc, graph, distances, covering, top)?;
         let copy = distances.copy()?;
         Ok(Plan::of_levels(covering.trade_off(), covering.reach(), copy, levels))
     }
