@@ -6,7 +6,9 @@ whole. Of `cover`: that clusters of one phase are disjoint, and no node lies in 
 k^k n. Of `meancover`: that there is one phase, and t^k <= n^(k+1) for the sum t of the sizes.
 
 Usage, at the top of the repository: bench/check_covers.py [NODES]        It runs crates/track_main/out/track_main."""
+import functools
 import heapq
+import itertools
 import subprocess
 import sys
 
@@ -32,14 +34,20 @@ def least(neighbours, root, inside=None):
     return weights
 
 
-def check(kind, n, k, weight, mean):
+@functools.lru_cache(maxsize=1)
+def network(kind, n, weight):
+    """The edges of a network, the neighbours of each node, and all nodes with their distances from it, the nearest first."""
     es = edges(kind, n, weight)
     neighbours = [[] for _ in range(n)]
     for a, b, w in es:
         neighbours[a].append((b, w))
         neighbours[b].append((a, w))
-    distance = [least(neighbours, v) for v in range(n)]
-    diameter = max(max(d.values()) for d in distance)
+    return es, neighbours, [sorted((far, u) for u, far in least(neighbours, v).items()) for v in range(n)]
+
+
+def check(kind, n, k, weight, mean):
+    es, neighbours, nearest = network(kind, n, weight)
+    diameter = max(rows[-1][0] for rows in nearest)
     done = subprocess.run([OURS, "meancover" if mean else "cover"], input=text(n, k, es).encode(), stdout=subprocess.PIPE, check=True)
     lines = done.stdout.decode().split("\n")
     assert lines[-2:] == ["end", ""]
@@ -76,13 +84,17 @@ def check(kind, n, k, weight, mean):
         for p in range(0 if mean else phases):
             of_phase = [m for q, m in clusters if q == p]
             assert of_phase and sum(map(len, of_phase)) == len(set().union(*of_phase))
+        reads = [0] * n
+        for _, members in clusters:
+            for v in members:
+                reads[v] += 1
+        assert mean or max(reads) <= phases
+        most = max(most, *reads)
         for v in range(n):
             home = clusters[homes[v]][1]
-            assert all(w in home for w in range(n) if distance[v][w] <= 2**i)
+            ball = itertools.takewhile(lambda row: row[0] <= 2**i, nearest[v])
+            assert all(w in home for _, w in ball)
             assert i < top or len(home) == n
-            read = sum(v in m for _, m in clusters)
-            assert mean or read <= phases
-            most = max(most, read)
     assert degree == most and stretch == 16 * degree * width + 12 * width + 12
     return levels
 
