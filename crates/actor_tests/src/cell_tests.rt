@@ -6,6 +6,7 @@ ghost use Rattle.region_plan.specs.Cells.{IsCell};
 ghost use Rattle.region_plan.specs.Plan.{nodes_of};
 ghost use Rattle.visit_log.specs.Cells.{GoWith};
 
+use crate::sameness::same;
 use entry_word::{Address, Key, PresenceMark, pack_address, pack_mark};
 use region_plan::Plan;
 use std::alloc::Global;
@@ -120,10 +121,6 @@ fn take(cells: &mut PlainCells, plan: &Plan, subs: u32, step: Step) -> Option<u6
     }
 }
 
-fn same(rt: &impl Abort, at: usize, seen: Option<u64>, wanted: u64) {
-    assert_eq!(rt; seen, Some(wanted), "at step {at}");
-}
-
 // Each step of a script is to be seen as the script says.
 fn play(rt: &impl Abort, cells: &mut PlainCells, plan: &Plan, subs: u32, script: &[(Step, u64)])
     requires goes { GoWith plan.now cells.old }
@@ -131,7 +128,7 @@ fn play(rt: &impl Abort, cells: &mut PlainCells, plan: &Plan, subs: u32, script:
 {
     'steps: for at in 0..script.len() {
         let (step, wanted) = script[at];
-        same(rt, at, take(cells, plan, subs, step), wanted);
+        same(rt, at, take(cells, plan, subs, step), Some(wanted));
     }
 }
 

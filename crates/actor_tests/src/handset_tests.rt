@@ -2,6 +2,7 @@
 ghost use Rattle.std.specs.Prelude.{◌≡◌, IfOk};
 ghost use Rattle.handset.specs.Kept.{GoesWith};
 
+use crate::sameness::same;
 use distances::Distances;
 use entry_word::{Act, Address, Key, PresenceMark, Visit, pack_address, pack_mark};
 use handset::{Handset, MoveFault, SwitchFault};
@@ -127,10 +128,6 @@ fn take(handset: &mut Handset, plan: &Plan, distances: &Distances, step: Step) -
         Step::Write => Seen::Write(write(handset, plan)),
         Step::Writes(limit) => Seen::Writes(write_all(handset, plan, limit)),
     }
-}
-
-fn same(rt: &impl Abort, at: usize, seen: Seen, wanted: Seen) {
-    assert_eq!(rt; seen, wanted, "at step {at}");
 }
 
 // Each step of a script with a handset at rest at its home is to be seen as the script says.

@@ -10,4 +10,8 @@ mod machine_tests;
 #[cfg(test)]
 mod route_tests;
 #[cfg(test)]
+mod sameness;
+#[cfg(test)]
+mod turn_tests;
+#[cfg(test)]
 mod walk_tests;

@@ -1,14 +1,17 @@
-//! Whole runs of a few actors: what becomes of their calls, and whose turns are idle.
+//! Whole runs of a few actors: what becomes of their calls, and what idle turns leave.
 
-ghost use Rattle.std.specs.Prelude.{◌≡◌, ◌<◌, ℕ, [], length};
+ghost use Rattle.std.specs.Prelude.{ℕ, [], IfOk};
 ghost use Rattle.directory.specs.Orders.{IsDone};
 ghost use Rattle.directory.specs.Histories.{History};
-ghost use Rattle.region_plan.specs.Cells.{IsCell};
 ghost use Rattle.machine.specs.Machines.{HasHistory, scripts_at, setting_at};
+ghost use Rattle.machine.specs.Stands.{BelongTogether};
+ghost use Rattle.net_reader.specs.Seen.{seen_input};
+ghost use Rattle.net_reader.specs.Valid.{IsValid};
 
+use crate::sameness::same;
 use directory::{Done, Why, all_scripts_done};
-use entry_word::{Key, PresenceMark, pack_mark};
-use machine::{Machine, Outcome, Turn};
+use distances::Distances;
+use machine::{Machine, Outcome};
 use net_reader::Input;
 use region_plan::Plan;
 use std::alloc::Global;
@@ -23,11 +26,12 @@ const LINE: &str = "nodes 4\nk 2\nedge 0 1 1\nedge 1 2 1\nedge 2 3 1\nsub 3\ncal
 const CROWD: &str = "nodes 2\nk 2\nedge 0 1 1\nsub 0\nsub 1\nsub 1\ncallers 64\n";
 
 // Two nodes, a subscriber without calls at node 1, and a caller with one.
-const PAIR: &str = "nodes 2\nk 2\nedge 0 1 1\nsub 1\ncallers 1\n";
+pub(crate) const PAIR: &str = "nodes 2\nk 2\nedge 0 1 1\nsub 1\ncallers 1\n";
 
 // The path 0 - 1 - .. - 7 of unit weights, whose covers of k 1 have a cluster for each node, with
 // one subscriber at 0 and one caller, actor 1.
-const PATH: &str = "nodes 8\nk 1\nedge 0 1 1\nedge 1 2 1\nedge 2 3 1\nedge 3 4 1\nedge 4 5 1\n\
+pub(crate) const PATH: &str =
+    "nodes 8\nk 1\nedge 0 1 1\nedge 1 2 1\nedge 2 3 1\nedge 3 4 1\nedge 4 5 1\n\
                     edge 5 6 1\nedge 6 7 1\nsub 0\ncallers 1\n";
 
 // The turns of an order, and the visits that are left.
@@ -41,21 +45,40 @@ fn play(machine: &mut Machine<'_>, order: &[u32])
     machine.finish();
 }
 
-// What becomes of these calls, of this format, over a network with its actors.
-fn outcome_of(alloc: Global, format: &str, network: &str, calls: &str) -> Result<Outcome, Fail> {
+// The input of these calls, of this format, over a network with its actors.
+pub(crate) fn input_over(
+    alloc: Global,
+    format: &str,
+    network: &str,
+    calls: &str,
+) -> Result<Input, Fail>
+    ensures { IfOk result (λ input. IsValid (seen_input input)) }
+{
     let mut text = String::from_str(alloc, format)?;
     text.push_str(network)?;
     text.push_str(calls)?;
-    let input = input_of(alloc, text.as_bytes())?;
-    let (plan, distances) = plan_of(alloc, &input)?;
-    let mut machine = Machine::new(alloc, &input, &plan, &distances)?;
-    play(&mut machine, &input.order);
-    Ok(machine.outcome())
+    input_of(alloc, text.as_bytes())
 }
 
-fn same(rt: &impl Abort, calls: &[Done], order: &[u32], wanted: &[Done], actors: &[u32]) {
-    assert_eq!(rt; calls, wanted, "what becomes of the calls");
-    assert_eq!(rt; order, actors, "the actors of the tickets");
+// What becomes of an input's calls.
+fn outcome_of(alloc: Global, input: &Input) -> Result<Outcome, Fail>
+    requires { IsValid (seen_input input.now) }
+{
+    let (plan, distances) = plan_of(alloc, input)?;
+    outcome_over(alloc, input, &plan, &distances)
+}
+
+fn outcome_over(
+    alloc: Global,
+    input: &Input,
+    plan: &Plan,
+    distances: &Distances,
+) -> Result<Outcome, Fail>
+    requires { BelongTogether (seen_input input.now) plan.now distances.now }
+{
+    let mut machine = Machine::new(alloc, input, plan, distances)?;
+    play(&mut machine, &input.order);
+    Ok(machine.outcome())
 }
 
 // Plays calls over a network with its actors. What becomes of them, past the first `skipped`, and
@@ -70,17 +93,13 @@ fn play_calls(
     wanted: &[Done],
     actors: &[u32],
 ) -> Result<(), Fail> {
-    let outcome = outcome_of(alloc, format, network, calls)?;
+    let input = input_over(alloc, format, network, calls)?;
+    let outcome = outcome_of(alloc, &input)?;
     if outcome.calls.len() < skipped {
         return Err("there are that many calls".into());
     }
-    same(
-        rt,
-        &outcome.calls[skipped..],
-        &outcome.order,
-        wanted,
-        actors,
-    );
+    same(rt, 0, &outcome.calls[skipped..], wanted);
+    same(rt, 1, outcome.order.as_slice(), actors);
     Ok(())
 }
 
@@ -224,35 +243,6 @@ fn a_crowd(rt: HostRuntime) -> Result<(), Fail> {
     )
 }
 
-// What a cell of a machine holds.
-fn word_in(machine: &Machine<'_>, input: &Input, plan: &Plan, key: Key) -> u64
-    requires stands { (history : History) × HasHistory machine.now history }
-    requires input { machine.now.input.now ≡ input.now }
-    requires plan { machine.now.plan.now ≡ plan.now }
-    requires cell { IsCell plan.now (length input.now.homes.items) key }
-{
-    machine.cells().look(plan, key)
-}
-
-// An actor without calls, and one that isn't there.
-#[test]
-fn idle_turns(rt: HostRuntime) -> Result<(), Fail> {
-    let alloc = rt.alloc();
-    let text = "track 1\nnodes 2\nk 2\nedge 0 1 1\nsub 1\ncallers 1\nfind 1 0 0\n";
-    let input = input_of(alloc, text.as_bytes())?;
-    let (plan, distances) = plan_of(alloc, &input)?;
-    let mut machine = Machine::new(alloc, &input, &plan, &distances)?;
-    let turns = [machine.turn(0), machine.turn(1), machine.turn(2)];
-    if plan.nodes() != 2 || input.homes.len() != 1 {
-        return Err("two nodes and a subscriber are there".into());
-    }
-    let here = Key::Presence { node: 1, sub: 0 };
-    let word = word_in(&machine, &input, &plan, here);
-    let wanted = [Turn::Finished, Turn::Visited, Turn::Finished];
-    assert!(rt; turns == wanted && word == pack_mark(PresenceMark::Here { number: 0 }));
-    Ok(())
-}
-
 // They leave no ticket and no line.
 #[test]
 fn an_order_of_idle_turns(rt: HostRuntime) -> Result<(), Fail> {
@@ -324,36 +314,5 @@ fn climbs_at_once(rt: HostRuntime) -> Result<(), Fail> {
             &[1; 22],
         )?;
     }
-    Ok(())
-}
-
-// So many turns of an actor are to make so many visits.
-fn make_turns(rt: &impl Abort, machine: &mut Machine<'_>, rows: &[(u32, usize, usize)])
-    requires { (history : History) × HasHistory machine.old history }
-{
-    'rows: for at in 0..rows.len() {
-        let (actor, count, wanted) = rows[at];
-        assert_eq!(rt; machine.turns(actor, count), wanted, "at row {at}");
-    }
-}
-
-#[test]
-fn many_turns(rt: HostRuntime) -> Result<(), Fail> {
-    let rows = [
-        (1, 0, 0),
-        (0, 3, 0),
-        (1, 5, 5),
-        (1, 1, 1),
-        (1, 100, 10),
-        (1, 1, 0),
-        (2, 4, 0),
-    ];
-    let mut text = String::from_str(rt.alloc(), "track 1\n")?;
-    text.push_str(PATH)?;
-    text.push_str("find 1 6 0\n")?;
-    let input = input_of(rt.alloc(), text.as_bytes())?;
-    let (plan, distances) = plan_of(rt.alloc(), &input)?;
-    let mut machine = Machine::new(rt.alloc(), &input, &plan, &distances)?;
-    make_turns(&rt, &mut machine, &rows);
     Ok(())
 }

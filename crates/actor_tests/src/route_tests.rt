@@ -5,7 +5,9 @@ ghost use Rattle.std.specs.Prelude.{◌<◌};
 ghost use Rattle.visit_log.specs.Homes.{AreHomes};
 ghost use Rattle.visit_log.specs.Routes.{AreRoutes};
 
+use crate::sameness::same;
 use region_plan::Plan;
+use std::alloc::Global;
 use std::process::Abort;
 use std::test::Fail;
 use test_networks::{line_of_four, plan_of_most_nodes};
@@ -46,10 +48,6 @@ fn take(routes: &Routes, plan: &Plan, step: Step) -> Seen
     Some((ahead, Some(routes.past(node, level, index, count))))
 }
 
-fn same(rt: &impl Abort, at: usize, seen: Seen, wanted: Seen) {
-    assert_eq!(rt; seen, wanted, "at step {at}");
-}
-
 // Each step of a script is to be seen as the script says.
 fn play(rt: &impl Abort, routes: &Routes, plan: &Plan, script: &[(Step, Seen)])
     requires are { AreRoutes plan.now routes.now }
@@ -58,6 +56,27 @@ fn play(rt: &impl Abort, routes: &Routes, plan: &Plan, script: &[(Step, Seen)])
         let (step, wanted) = script[at];
         same(rt, at, take(routes, plan, step), wanted);
     }
+}
+
+fn play_over(
+    rt: &impl Abort,
+    alloc: Global,
+    plan: &Plan,
+    script: &[(Step, Seen)],
+) -> Result<(), Fail> {
+    let routes = Routes::new(alloc, plan)?;
+    play(rt, &routes, plan, script);
+    Ok(())
+}
+
+fn play_on_line(rt: &impl Abort, alloc: Global, script: &[(Step, Seen)]) -> Result<(), Fail> {
+    let (plan, _) = line_of_four(alloc)?;
+    play_over(rt, alloc, &plan, script)
+}
+
+fn play_on_most_nodes(rt: &impl Abort, alloc: Global, script: &[(Step, Seen)]) -> Result<(), Fail> {
+    let (plan, _) = plan_of_most_nodes(alloc)?;
+    play_over(rt, alloc, &plan, script)
 }
 
 fn climb(node: u32, level: u32, index: u32, count: usize) -> Step {
@@ -96,10 +115,7 @@ fn over_all_levels(rt: HostRuntime) -> Result<(), Fail> {
         (climb(4, 0, 0, 0), None),
         (climb(0, 3, 0, 0), None),
     ];
-    let (plan, _) = line_of_four(rt.alloc())?;
-    let routes = Routes::new(rt.alloc(), &plan)?;
-    play(&rt, &routes, &plan, &script);
-    Ok(())
+    play_on_line(&rt, rt.alloc(), &script)
 }
 
 #[test]
@@ -108,10 +124,7 @@ fn over_one_level(rt: HostRuntime) -> Result<(), Fail> {
         (climb(1023, 0, 0, 0), sees(1, 0, 0, 0)),
         (climb(1023, 0, 0, 1), Some((1, None))),
     ];
-    let (plan, _) = plan_of_most_nodes(rt.alloc())?;
-    let routes = Routes::new(rt.alloc(), &plan)?;
-    play(&rt, &routes, &plan, &script);
-    Ok(())
+    play_on_most_nodes(&rt, rt.alloc(), &script)
 }
 
 // The most looks of a find from a node, if there is such a node.
@@ -124,15 +137,24 @@ fn most_looks(routes: &Routes, plan: &Plan, node: u32) -> Option<u64>
     None
 }
 
+// The most looks of finds from three nodes, of which the last isn't on the line.
+fn looks_over(alloc: Global, plan: &Plan) -> Result<[Option<u64>; 3], Fail> {
+    let routes = Routes::new(alloc, plan)?;
+    Ok([
+        most_looks(&routes, plan, 3),
+        most_looks(&routes, plan, 0),
+        most_looks(&routes, plan, 4),
+    ])
+}
+
+fn looks_on_line(alloc: Global) -> Result<[Option<u64>; 3], Fail> {
+    let (plan, _) = line_of_four(alloc)?;
+    looks_over(alloc, &plan)
+}
+
 #[test]
 fn looks_of_a_find_at_most(rt: HostRuntime) -> Result<(), Fail> {
-    let (plan, _) = line_of_four(rt.alloc())?;
-    let routes = Routes::new(rt.alloc(), &plan)?;
-    let seen = [
-        most_looks(&routes, &plan, 3),
-        most_looks(&routes, &plan, 0),
-        most_looks(&routes, &plan, 4),
-    ];
+    let seen = looks_on_line(rt.alloc())?;
     assert!(rt; seen == [Some(12), Some(11), None]);
     Ok(())
 }
@@ -144,16 +166,25 @@ fn has_homes(homes: &Homes, plan: &Plan, node: u32, places: &[u32]) -> bool
     node < plan.nodes() && homes.of(node) == places
 }
 
+// Whether these are the homes of node 3, of node 0, all of these, and of a node that isn't there.
+fn homes_over(alloc: Global, plan: &Plan) -> Result<[bool; 4], Fail> {
+    let homes = Homes::new(alloc, plan)?;
+    Ok([
+        has_homes(&homes, plan, 3, &[5, 6, 7]),
+        has_homes(&homes, plan, 0, &[4, 6, 7]),
+        has_homes(&homes, plan, 0, &[4, 6]),
+        has_homes(&homes, plan, 4, &[]),
+    ])
+}
+
+fn homes_on_line(alloc: Global) -> Result<[bool; 4], Fail> {
+    let (plan, _) = line_of_four(alloc)?;
+    homes_over(alloc, &plan)
+}
+
 #[test]
 fn homes_at_all_levels(rt: HostRuntime) -> Result<(), Fail> {
-    let (plan, _) = line_of_four(rt.alloc())?;
-    let homes = Homes::new(rt.alloc(), &plan)?;
-    let seen = [
-        has_homes(&homes, &plan, 3, &[5, 6, 7]),
-        has_homes(&homes, &plan, 0, &[4, 6, 7]),
-        has_homes(&homes, &plan, 0, &[4, 6]),
-        has_homes(&homes, &plan, 4, &[]),
-    ];
+    let seen = homes_on_line(rt.alloc())?;
     assert!(rt; seen == [true, true, false, false]);
     Ok(())
 }

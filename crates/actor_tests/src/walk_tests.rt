@@ -4,6 +4,7 @@ ghost use Rattle.region_plan.specs.Plan.{nodes_of};
 ghost use Rattle.walk.specs.Walks.{IsWalkOver, IsWordBelow};
 ghost use Rattle.walk.specs.declared.progress.Progress.{Progress};
 
+use crate::sameness::same;
 use directory::{Found, Why};
 use distances::Distances;
 use entry_word::{Key, PresenceMark, pack_mark};
@@ -178,10 +179,6 @@ fn take(walk: &mut Walk, plan: &Plan, distances: &Distances, step: Step) -> Seen
         Step::ReadGoneToLast | Step::GoToAndFro(_) => return Seen::NoSuchNode,
     }
     Seen::Read
-}
-
-fn same(rt: &impl Abort, at: usize, seen: Seen, wanted: Seen) {
-    assert_eq!(rt; seen, wanted, "at step {at}");
 }
 
 // Each step of a script is to be seen as the script says.

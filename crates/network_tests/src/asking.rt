@@ -1,8 +1,10 @@
 //! What tests ask of the plan of a path, and how it answers.
 ghost use Rattle.std.specs.Prelude.{◌≤◌};
+ghost use Rattle.distances.specs.Table.{AreDistancesOf};
 
-use crate::same::same_numbers;
-use net_graph::{MAX_NODES, MAX_WEIGHT};
+use crate::sameness::same_numbers;
+use distances::Distances;
+use net_graph::{Graph, MAX_NODES, MAX_WEIGHT};
 use region_plan::Plan;
 use std::alloc::{AllocError, Global};
 use std::process::Abort;
@@ -256,6 +258,26 @@ pub enum Made {
     Flat,
 }
 
+fn plan_over(alloc: Global, graph: &Graph, distances: &Distances, made: Made) -> Result<Plan, Fail>
+    requires belongs { AreDistancesOf graph.now distances.now }
+{
+    match made {
+        Made::With(k) => {
+            if k < 1 || k > 8 {
+                return Err("the trade-off is from 1 to 8".into());
+            }
+            Ok(Plan::build(alloc, graph, distances, k)?)
+        }
+        Made::Mean(k) => {
+            if k < 1 || k > 8 {
+                return Err("the trade-off is from 1 to 8".into());
+            }
+            Ok(Plan::build_mean(alloc, graph, distances, k)?)
+        }
+        Made::Flat => Ok(Plan::flat(alloc, graph, distances)?),
+    }
+}
+
 fn plan_of(alloc: Global, n: u32, weight: u64, made: Made) -> Result<Plan, Fail>
     requires some { 1 ≤ n }
     requires few { n ≤ MAX_NODES }
@@ -263,21 +285,7 @@ fn plan_of(alloc: Global, n: u32, weight: u64, made: Made) -> Result<Plan, Fail>
     requires light { weight ≤ MAX_WEIGHT }
 {
     let (graph, distances) = path(alloc, n, weight)?;
-    match made {
-        Made::With(k) => {
-            if k < 1 || k > 8 {
-                return Err("the trade-off is from 1 to 8".into());
-            }
-            Ok(Plan::build(alloc, &graph, &distances, k)?)
-        }
-        Made::Mean(k) => {
-            if k < 1 || k > 8 {
-                return Err("the trade-off is from 1 to 8".into());
-            }
-            Ok(Plan::build_mean(alloc, &graph, &distances, k)?)
-        }
-        Made::Flat => Ok(Plan::flat(alloc, &graph, &distances)?),
-    }
+    plan_over(alloc, &graph, &distances, made)
 }
 
 /// Asks the plan of a path of `n` nodes, whose edges have this weight.

@@ -5,7 +5,7 @@ ghost use Rattle.node_set.specs.Ascending.{has, with_number};
 ghost use Rattle.node_set.specs.Balls.{sets, AreCentred};
 ghost use Rattle.node_set.specs.Nodes.{Nodes};
 
-use crate::same::same_numbers;
+use crate::sameness::{same, same_numbers};
 use coarse_cover::{Cover, coarsen};
 use node_set::NodeSet;
 use std::alloc::{AllocError, Global};
@@ -224,7 +224,7 @@ fn on_path(cover: &Cover, v: u32, c: u32) -> [u32; 5] {
 }
 
 fn is_on_path(rt: &impl Abort, cover: &Cover, v: u32, c: u32, wanted: [u32; 5]) {
-    assert_eq!(rt; on_path(cover, v, c), wanted, "ball {v}");
+    same(rt, v as usize, on_path(cover, v, c), wanted);
 }
 
 // No ball grows, since five balls aren't too many for 130 of them: each is a cluster, and a phase

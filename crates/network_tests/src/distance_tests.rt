@@ -1,7 +1,7 @@
 //! Distances on paths, and where all nodes are neighbours.
 ghost use Rattle.std.specs.Prelude.{◌≤◌};
 
-use crate::same::same_numbers;
+use crate::sameness::same_numbers;
 use distances::Distances;
 use net_graph::{MAX_NODES, MAX_WEIGHT};
 use node_set::NodeSet;

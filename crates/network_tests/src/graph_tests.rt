@@ -4,21 +4,12 @@ ghost use Rattle.std.specs.Prelude.{◌≡◌, ◌<◌, ◌≤◌, All, IfOk, Is
 ghost use Rattle.net_graph.specs.Network.{IsEdge};
 ghost use Rattle.net_graph.specs.Walks.{among};
 
-use crate::same::same_numbers;
+use crate::sameness::{same, same_numbers};
 use net_graph::{Edge, Graph, GraphFault, MAX_NODES, MAX_WEIGHT, greatest_weight};
 use std::alloc::Global;
 use std::process::Abort;
 use std::test::Fail;
 use test_networks::{edge, path, path_edges};
-
-// Stops with both lists where they differ.
-fn same_weights(rt: &impl Abort, found: &[Option<u64>], wanted: &[Option<u64>]) {
-    assert_eq!(rt; found, wanted);
-}
-
-fn same_parents(rt: &impl Abort, found: &[Option<u32>], wanted: &[Option<u32>]) {
-    assert_eq!(rt; found, wanted);
-}
 
 // The least walks from a root through the allowed nodes have these weights and parents.
 fn walks_are(
@@ -34,9 +25,10 @@ fn walks_are(
     requires root { IsTrue (among allowed.now root) }
 {
     let tree = graph.tree_from(alloc, allowed, root)?;
-    same_weights(rt, &tree.weight, weights);
-    same_parents(rt, &tree.parent, parents);
-    same_weights(rt, &graph.weights_from(alloc, allowed, root)?, weights);
+    same(rt, 0, tree.weight.as_slice(), weights);
+    same(rt, 1, tree.parent.as_slice(), parents);
+    let found = graph.weights_from(alloc, allowed, root)?;
+    same(rt, 2, found.as_slice(), weights);
     Ok(())
 }
 
@@ -211,8 +203,19 @@ fn lower_to(weights: &mut [u64], from: u32, to: u32, weight: u64)
     }
 }
 
+// Relaxes every edge once, both ways.
+fn relax(weights: &mut [u64], edges: &[Edge])
+    requires edges { All (IsEdge (length weights.old)) edges.now }
+    ensures { length weights.new ≡ length weights.old }
+{
+    for edge in edges {
+        lower_to(weights, edge.a, edge.b, edge.weight);
+        lower_to(weights, edge.b, edge.a, edge.weight);
+    }
+}
+
 // The least weights of walks from node 0, by relaxing every edge as often as there are nodes.
-fn plain_weights(alloc: Global, n: u32, edges: &[Edge]) -> Result<Vec<Option<u64>>, Fail>
+fn plain_weights(alloc: Global, n: u32, edges: &[Edge]) -> Result<Vec<u64>, Fail>
     requires some { 1 ≤ n }
     requires few { n ≤ MAX_NODES }
     requires edges { All (IsEdge n) edges.now }
@@ -220,13 +223,15 @@ fn plain_weights(alloc: Global, n: u32, edges: &[Edge]) -> Result<Vec<Option<u64
     let mut weights = vec![in alloc; u64::MAX; n as usize]?;
     weights[0] = 0;
     for _ in 0..n {
-        for edge in edges {
-            lower_to(&mut weights, edge.a, edge.b, edge.weight);
-            lower_to(&mut weights, edge.b, edge.a, edge.weight);
-        }
+        relax(&mut weights, edges);
     }
-    let mut found = Vec::with_capacity(alloc, n as usize)?;
-    for weight in &weights {
+    Ok(weights)
+}
+
+// These weights, each of a node that is reached.
+fn reached(alloc: Global, weights: &[u64]) -> Result<Vec<Option<u64>>, Fail> {
+    let mut found = Vec::with_capacity(alloc, weights.len())?;
+    for weight in weights {
         found.push(Some(*weight))?;
     }
     Ok(found)
@@ -246,6 +251,7 @@ fn a_search_and_a_plain_relaxation(rt: HostRuntime) -> Result<(), Fail> {
     let edges = made_edges(rt.alloc(), 256)?;
     let found = searched_weights(rt.alloc(), &edges)?;
     let weights = plain_weights(rt.alloc(), 256, &edges)?;
-    same_weights(&rt, &found, &weights);
+    let wanted = reached(rt.alloc(), &weights)?;
+    same(&rt, 0, found.as_slice(), wanted.as_slice());
     Ok(())
 }

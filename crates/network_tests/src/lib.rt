@@ -17,7 +17,7 @@ mod plan_tests;
 #[cfg(test)]
 mod power_tests;
 #[cfg(test)]
-mod same;
+mod sameness;
 #[cfg(test)]
 mod set_tests;
 #[cfg(test)]

@@ -3,7 +3,7 @@
 ghost use Rattle.std.specs.Prelude.{◌≤◌, ◌<◌};
 
 use crate::cover_tests::{ball, balls_on_path};
-use crate::same::same_numbers;
+use crate::sameness::{same, same_numbers};
 use mean_cover::{MeanCover, coarsen_mean};
 use std::alloc::{AllocError, Global};
 use std::process::Abort;
@@ -133,7 +133,7 @@ fn on_path(cover: &MeanCover, v: u32, c: u32) -> [u64; 6] {
 }
 
 fn is_on_path(rt: &impl Abort, cover: &MeanCover, v: u32, c: u32, wanted: [u64; 6]) {
-    assert_eq!(rt; on_path(cover, v, c), wanted, "ball {v}");
+    same(rt, v as usize, on_path(cover, v, c), wanted);
 }
 
 // Each row is a ball, a cluster, and what is wanted of the mean cover of a path of `n` nodes.

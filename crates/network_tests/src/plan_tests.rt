@@ -2,7 +2,7 @@
 //! and up to the most nodes.
 
 use crate::asking::{Asked, Made, ask_path, ask_path_rows};
-use crate::same::same_numbers;
+use crate::sameness::same_numbers;
 use distances::Distances;
 use net_graph::{MAX_NODES, MAX_WEIGHT};
 use region_plan::Plan;

@@ -1,4 +1,5 @@
 //! Powers at the end of their type, and growths at the limits.
+use crate::sameness::same;
 use std::test::Fail;
 use whole_powers::{at_most, power};
 
@@ -14,7 +15,7 @@ fn powers_at_the_end_of_the_type(rt: HostRuntime) -> Result<(), Fail> {
         (0, 4294967295, Some(0)),
     ];
     for (base, exponent, wanted) in rows {
-        assert_eq!(rt; power(base, exponent), wanted, "{base} to the {exponent}");
+        same(&rt, exponent as usize, power(base, exponent), wanted);
     }
     Ok(())
 }

@@ -1,7 +1,7 @@
 //! Sets on both sides of a word of 64 numbers, and at the most room.
 ghost use Rattle.std.specs.Prelude.{◌≡◌, ◌≤◌, IfOk, length};
 
-use crate::same::same_numbers;
+use crate::sameness::{same, same_numbers};
 use node_set::{NodeSet, lanes_absorb, lanes_meet};
 use std::alloc::Global;
 use std::process::Abort;
@@ -169,7 +169,7 @@ fn the_next_number(rt: HostRuntime) -> Result<(), Fail> {
         (u32::MAX, None),
     ];
     for (from, next) in rows {
-        assert_eq!(rt; set.next_from(from), next, "from {from}");
+        same(&rt, from as usize, set.next_from(from), next);
     }
     Ok(())
 }

@@ -5,7 +5,7 @@ ghost use Rattle.cluster_tree.specs.Faults.{IsTreeFault};
 ghost use Rattle.distances.specs.Table.{AreDistancesOf};
 ghost use Rattle.node_set.specs.Ascending.{has, with_number};
 
-use crate::same::same_numbers;
+use crate::sameness::{same, same_numbers};
 use cluster_tree::{ClusterTree, TreeFault, inside_weights};
 use distances::Distances;
 use net_graph::{Graph, MAX_NODES};
@@ -211,7 +211,7 @@ fn weights_in_triangle(
 // The weights and the depth are these.
 fn are_weights(rt: &impl Abort, weights: Result<Vec<u32>, TreeFault>, wanted: &[u32]) {
     match weights {
-        Ok(weights) => assert_eq!(rt; weights.as_slice(), wanted),
+        Ok(weights) => same(rt, 0, weights.as_slice(), wanted),
         Err(_) => assert!(rt; false, "there are weights"),
     }
 }

@@ -6,7 +6,7 @@ ghost use Rattle.region_plan.specs.Plan.{nodes_of};
 
 use distances::Distances;
 use net_graph::Graph;
-use net_reader::{Input, MAX_BYTES, inputs_are_valid, read_input};
+use net_reader::{Input, MAX_BYTES, ReadRefusal, inputs_are_valid, read_input};
 use region_plan::Plan;
 use std::alloc::{AllocError, Global};
 use std::test::Fail;
@@ -21,7 +21,8 @@ pub fn input_of(alloc: Global, text: &[u8]) -> Result<Input, Fail>
     }
     match read_input(alloc, text) {
         Ok(input) => Ok(input),
-        Err(_) => Err(AllocError.into()),
+        Err(ReadRefusal::Fault(fault)) => Err(fault.into()),
+        Err(ReadRefusal::OutOfMemory) => Err(AllocError.into()),
     }
 }
 

@@ -3,7 +3,7 @@ ghost use Rattle.std.specs.Prelude.{◌≡◌, ◌<◌, ◌≤◌, All, length};
 ghost use Rattle.region_plan.specs.Plan.{nodes_of};
 ghost use Rattle.visit_log.specs.Cells.{GoWith};
 
-use crate::same::same_text;
+use crate::sameness::same_text;
 use census_text::{census, census_of_places};
 use entry_word::{Key, PresenceMark, pack_mark};
 use region_plan::Plan;
@@ -66,6 +66,13 @@ fn play(
 }
 
 // Both subscribers start at node 3.
+// Plays steps over the line, with two subscribers that start at node 3.
+fn play_on_line(rt: &impl Abort, alloc: Global, steps: &[Step<'_>]) -> Result<(), Fail> {
+    let (plan, _) = line_of_four(alloc)?;
+    let cells = PlainCells::new(alloc, &plan, &[3, 3])?;
+    play(rt, alloc, &plan, cells, steps)
+}
+
 #[test]
 fn who_is_where(rt: HostRuntime) -> Result<(), Fail> {
     let here = PresenceMark::Here { number: 0 };
@@ -90,9 +97,7 @@ fn who_is_where(rt: HostRuntime) -> Result<(), Fail> {
             "node 2 count 1 subs 0\nend 1\n",
         ),
     ];
-    let (plan, _) = line_of_four(rt.alloc())?;
-    let cells = PlainCells::new(rt.alloc(), &plan, &[3, 3])?;
-    play(&rt, rt.alloc(), &plan, cells, &steps)
+    play_on_line(&rt, rt.alloc(), &steps)
 }
 
 // The text of a long census begins and ends so.
@@ -100,11 +105,16 @@ fn is_long(rt: &impl Abort, text: &[u8], begin: &[u8], end: &[u8]) {
     assert!(rt; text.starts_with(begin) && text.ends_with(end));
 }
 
+// The census of 64 subscribers at node 1 of the line.
+fn census_of_crowd(alloc: Global) -> Result<Vec<u8>, Fail> {
+    let (plan, _) = line_of_four(alloc)?;
+    let cells = PlainCells::new(alloc, &plan, &[1; 64])?;
+    Ok(census(alloc, &plan, &cells, 64)?)
+}
+
 #[test]
 fn as_many_subscribers_as_there_may_be(rt: HostRuntime) -> Result<(), Fail> {
-    let (plan, _) = line_of_four(rt.alloc())?;
-    let cells = PlainCells::new(rt.alloc(), &plan, &[1; 64])?;
-    let text = census(rt.alloc(), &plan, &cells, 64)?;
+    let text = census_of_crowd(rt.alloc())?;
     is_long(
         &rt,
         &text,

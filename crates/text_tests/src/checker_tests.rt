@@ -1,15 +1,18 @@
 //! Reports on the line 0 - 1 - 2 - 3 of unit weights, by several programs.
-ghost use Rattle.std.specs.Prelude.{◌≡◌, ◌≤◌, IfOk, length};
+ghost use Rattle.std.specs.Prelude.{◌≡◌, ◌≤◌, length};
 ghost use Rattle.net_reader.specs.Seen.{seen_input};
 ghost use Rattle.net_reader.specs.Valid.{IsValid};
 ghost use Rattle.report_check.specs.Verdicts.{most_bytes};
 
-use net_reader::{Input, MAX_BYTES, inputs_are_valid, read_input};
+use crate::sameness::same;
+use distances::Distances;
+use net_reader::Input;
+use region_plan::Plan;
 use report_check::{Flaw, Verdict, check};
 use std::alloc::{AllocError, Global};
 use std::process::Abort;
 use std::test::Fail;
-use test_networks::line_of_four;
+use test_networks::{input_of, line_of_four};
 
 const MOST_BYTES: usize = 67_108_864;
 
@@ -24,40 +27,54 @@ callers 1\noff 0\non 0\nfind 1 3 0\n";
 // A report, and the verdict on it.
 type Step<'a> = (&'a str, Verdict);
 
-// The input of a text.
-fn input_of(alloc: Global, text: &str) -> Result<Input, Fail>
-    ensures { IfOk result (λ input. IsValid (seen_input input)) }
-{
-    inputs_are_valid();
-    if text.len() > MAX_BYTES {
-        return Err(AllocError.into());
-    }
-    match read_input(alloc, text.as_bytes()) {
-        Ok(input) => Ok(input),
-        Err(_) => Err(AllocError.into()),
-    }
-}
-
-fn same(rt: &impl Abort, place: usize, found: Verdict, wanted: Verdict) {
-    assert_eq!(rt; found, wanted, "at step {place}");
-}
-
 fn unsound(line: u32, cause: Flaw) -> Verdict {
     Verdict::Unsound { line, cause }
 }
 
-fn play(rt: &impl Abort, alloc: Global, text: &str, steps: &[Step<'_>]) -> Result<(), Fail> {
-    let input = input_of(alloc, text)?;
-    let (plan, distances) = line_of_four(alloc)?;
+fn verdict_on(
+    alloc: Global,
+    input: &Input,
+    plan: &Plan,
+    distances: &Distances,
+    report: &str,
+) -> Result<Verdict, Fail>
+    requires valid { IsValid (seen_input input.now) }
+    requires distances { distances.now ≡ plan.now.distances }
+{
+    if report.len() > MOST_BYTES {
+        return Err(AllocError.into());
+    }
+    Ok(check(alloc, input, plan, distances, report.as_bytes())?)
+}
+
+fn play_over(
+    rt: &impl Abort,
+    alloc: Global,
+    input: &Input,
+    plan: &Plan,
+    distances: &Distances,
+    steps: &[Step<'_>],
+) -> Result<(), Fail>
+    requires valid { IsValid (seen_input input.now) }
+    requires distances { distances.now ≡ plan.now.distances }
+{
     'steps: for place in 0..steps.len() {
         let (report, wanted) = steps[place];
-        if report.len() > MOST_BYTES {
-            return Err(AllocError.into());
-        }
-        let found = check(alloc, &input, &plan, &distances, report.as_bytes())?;
-        same(rt, place, found, wanted);
+        same(
+            rt,
+            place,
+            verdict_on(alloc, input, plan, distances, report)?,
+            wanted,
+        );
     }
     Ok(())
+}
+
+// Each report on a text's input, over the line, is to have this verdict.
+fn play(rt: &impl Abort, alloc: Global, text: &str, steps: &[Step<'_>]) -> Result<(), Fail> {
+    let input = input_of(alloc, text.as_bytes())?;
+    let (plan, distances) = line_of_four(alloc)?;
+    play_over(rt, alloc, &input, &plan, &distances, steps)
 }
 
 #[test]
@@ -112,5 +129,5 @@ find 1 3 0 at 3 number 0 level - weight 0 first 1 last 1\norder 0 1 0\nend 3\n",
 
 #[test]
 fn names(rt: HostRuntime) {
-    assert_eq!(rt; Flaw::Tickets.name(), "tickets");
+    same(&rt, 0, Flaw::Tickets.name(), "tickets");
 }

@@ -1,6 +1,7 @@
 //! What the moves of whole inputs cost, as text. The values are those of worked examples, and of a
 //! program that was written apart from this one.
 
+use crate::sameness::same_text;
 use move_cost::{CostLine, costs, costs_text};
 use std::alloc::Global;
 use std::process::Abort;
@@ -15,10 +16,6 @@ fn costs_of(alloc: Global, text: &[u8]) -> Result<Vec<CostLine>, Fail> {
     let input = input_of(alloc, text)?;
     let (plan, distances) = plan_of(alloc, &input)?;
     Ok(costs(alloc, &input, &plan, &distances)?)
-}
-
-fn same(rt: &impl Abort, text: &[u8], wanted: &str, row: usize) {
-    assert_eq!(rt; text, wanted.as_bytes(), "row {row}");
 }
 
 // The input of a row: its format, a network, and its actors with their calls.
@@ -40,7 +37,7 @@ fn tell_costs(
         let (format, actors, wanted) = rows[row];
         let text = text_of(alloc, format, network, actors)?;
         let lines = costs_of(alloc, text.as_bytes())?;
-        same(rt, &costs_text(alloc, &lines)?, wanted, row);
+        same_text(rt, row, &costs_text(alloc, &lines)?, wanted.as_bytes());
     }
     Ok(())
 }

@@ -1,4 +1,5 @@
 //! The table of words, both ways, and words of no kind.
+use crate::sameness::same;
 use entry_word::{Address, PresenceMark, pack_address, pack_mark, unpack_address, unpack_mark};
 use std::test::Fail;
 
@@ -17,8 +18,10 @@ fn the_table_of_marks(rt: HostRuntime) -> Result<(), Fail> {
         ),
         (PresenceMark::Off { number: 0 }, 0x0004_0000_0000_0000),
     ];
-    for (mark, word) in rows {
-        assert_eq!(rt; (pack_mark(mark), unpack_mark(word)), (word, Some(mark)));
+    for place in 0..rows.len() {
+        let (mark, word) = rows[place];
+        let found = (pack_mark(mark), unpack_mark(word));
+        same(&rt, place, found, (word, Some(mark)));
     }
     Ok(())
 }
@@ -29,9 +32,10 @@ fn the_table_of_entries(rt: HostRuntime) -> Result<(), Fail> {
         (None, 0),
         (Some(Address { number: 1, node: 2 }), 0x0001_0000_0001_0002),
     ];
-    for (address, word) in rows {
+    for place in 0..rows.len() {
+        let (address, word) = rows[place];
         let found = (pack_address(address), unpack_address(word));
-        assert_eq!(rt; found, (word, Some(address)));
+        same(&rt, place, found, (word, Some(address)));
     }
     Ok(())
 }
@@ -46,21 +50,22 @@ fn words_of_no_mark(rt: HostRuntime) -> Result<(), Fail> {
         0x0005_0000_0000_0000,
         u64::MAX,
     ];
-    for word in words {
-        assert_eq!(rt; unpack_mark(word), None, "{word}");
+    for place in 0..words.len() {
+        same(&rt, place, unpack_mark(words[place]), None);
     }
     Ok(())
 }
 
 #[test]
 fn words_of_no_address(rt: HostRuntime) -> Result<(), Fail> {
-    for word in [
+    let words = [
         1,
         0x0000_0000_0001_0000,
         0x0002_0000_0001_0002,
         0x0003_0000_0001_0003,
-    ] {
-        assert_eq!(rt; unpack_address(word), None, "{word}");
+    ];
+    for place in 0..words.len() {
+        same(&rt, place, unpack_address(words[place]), None);
     }
     Ok(())
 }

@@ -3,26 +3,16 @@ ghost use Rattle.std.specs.Prelude.{◌≤◌, length};
 ghost use Rattle.net_reader.specs.Reading.{most_bytes};
 
 use crate::loads::load_of;
-use crate::same::same_text;
+use crate::sameness::same_text;
 use input_text::{InputLines, Listing, input_text};
 use make_load::{Workload, load_text, make_input};
-use net_reader::{Input, MAX_BYTES, ReadRefusal, read_input};
+use net_reader::Input;
 use std::alloc::{AllocError, Global};
 use std::process::Abort;
 use std::test::Fail;
+use test_networks::input_of;
 
 const MOST_SCRIPTS: usize = 128;
-
-fn input_of(alloc: Global, text: &[u8]) -> Result<Input, Fail> {
-    if text.len() > MAX_BYTES {
-        return Err(AllocError.into());
-    }
-    match read_input(alloc, text) {
-        Ok(input) => Ok(input),
-        Err(ReadRefusal::Fault(fault)) => Err(fault.into()),
-        Err(ReadRefusal::OutOfMemory) => Err(AllocError.into()),
-    }
-}
 
 // The text of an input, which has few scripts.
 fn text_of(alloc: Global, input: &Input) -> Result<Vec<u8>, Fail> {

@@ -23,7 +23,7 @@ mod plan_text_tests;
 #[cfg(test)]
 mod report_tests;
 #[cfg(test)]
-mod same;
+mod sameness;
 #[cfg(test)]
 mod summary_tests;
 #[cfg(test)]

@@ -1,6 +1,6 @@
 //! The texts of small loads whole, and of large ones by their length and their sum.
 use crate::loads::load_of;
-use crate::same::{same_number, same_text};
+use crate::sameness::{same, same_text};
 use make_load::load_text;
 use std::alloc::Global;
 use std::process::Abort;
@@ -82,8 +82,8 @@ fn large_loads(rt: HostRuntime) -> Result<(), Fail> {
     ];
     for (words, long, wanted) in rows {
         let text = text_of(rt.alloc(), words)?;
-        same_number(&rt, 0, text.len() as u64, long);
-        same_number(&rt, 1, sum_of(&text), wanted);
+        same(&rt, 0, text.len() as u64, long);
+        same(&rt, 1, sum_of(&text), wanted);
     }
     Ok(())
 }

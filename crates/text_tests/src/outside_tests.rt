@@ -2,7 +2,7 @@
 //! writers do below them.
 ghost use Rattle.std.specs.Prelude.{Some};
 
-use crate::same::same_text;
+use crate::sameness::{same, same_text};
 use outside::{Gave, MemorySink, MemorySource, Sink, Source, StdSink, StdSource, Took};
 use std::io::{Error, ErrorKind, Read, Write};
 use std::process::Abort;
@@ -13,7 +13,7 @@ fn reads(rt: &impl Abort, source: &mut impl Source, buffer: &mut [u8], rows: &[(
     for place in 0..rows.len() {
         let (took, bytes) = rows[place];
         assert!(rt; buffer.len() > 0);
-        assert_eq!(rt; source.read(buffer), took, "read {place}");
+        same(rt, place, source.read(buffer), took);
         same_text(rt, place, buffer, bytes);
     }
 }
@@ -37,7 +37,7 @@ fn writes(rt: &impl Abort, sink: &mut impl Sink, rows: &[(&[u8], Gave)]) {
     for place in 0..rows.len() {
         let (bytes, gave) = rows[place];
         assert!(rt; bytes.len() > 0);
-        assert_eq!(rt; sink.write(bytes), gave, "write {place}");
+        same(rt, place, sink.write(bytes), gave);
     }
 }
 
@@ -176,9 +176,10 @@ fn source_over_a_long_reader(rt: HostRuntime) -> Result<(), Fail> {
         into.get(16_383) == Some(&b'a'),
         into.get(16_384) == Some(&b'-'),
     );
-    assert!(rt; first == Took::Got(16_384) && edge == (true, true));
+    same(&rt, 0, (first, edge), (Took::Got(16_384), (true, true)));
     let next = (source.read(&mut into), source.read(&mut into));
-    assert!(rt; next == (Took::Got(3), Took::End) && into.starts_with(b"bcda"));
+    let begins = into.starts_with(b"bcda");
+    same(&rt, 1, (next, begins), ((Took::Got(3), Took::End), true));
     Ok(())
 }
 

@@ -1,7 +1,7 @@
 //! The texts of plans: of two nodes, whose one level has two clusters of both, and of paths.
 ghost use Rattle.std.specs.Prelude.{◌≤◌};
 
-use crate::same::same_text;
+use crate::sameness::same_text;
 use net_graph::{MAX_NODES, MAX_WEIGHT};
 use region_plan::Plan;
 use report_text::{PlanParts, plan_text};
@@ -92,6 +92,35 @@ fn play(rt: &impl Abort, alloc: Global, plan: &Plan, wanted: &[Part<'_>]) -> Res
     Ok(())
 }
 
+// The parts of the text of the plan of a path.
+fn play_on_path(
+    rt: &impl Abort,
+    alloc: Global,
+    n: u32,
+    weight: u64,
+    k: u32,
+    wanted: &[Part<'_>],
+) -> Result<(), Fail>
+    requires some { 1 ≤ n }
+    requires few { n ≤ MAX_NODES }
+    requires positive { 1 ≤ weight }
+    requires light { weight ≤ MAX_WEIGHT }
+    requires low { 1 ≤ k }
+    requires high { k ≤ 8 }
+{
+    let plan = plan_of(alloc, n, weight, k)?;
+    play(rt, alloc, &plan, wanted)
+}
+
+// The parts of the text of the flat plan of a path.
+fn play_flat(rt: &impl Abort, alloc: Global, n: u32, wanted: &[Part<'_>]) -> Result<(), Fail>
+    requires some { 1 ≤ n }
+    requires few { n ≤ MAX_NODES }
+{
+    let plan = flat_of(alloc, n)?;
+    play(rt, alloc, &plan, wanted)
+}
+
 #[test]
 fn parts_of_the_plan_of_two_nodes(rt: HostRuntime) -> Result<(), Fail> {
     let parts = [
@@ -105,7 +134,7 @@ fn parts_of_the_plan_of_two_nodes(rt: HostRuntime) -> Result<(), Fail> {
         Part::Is(" 0 1\n"),
         Part::Is("end\n"),
     ];
-    play(&rt, rt.alloc(), &plan_of(rt.alloc(), 2, 1, 1)?, &parts)
+    play_on_path(&rt, rt.alloc(), 2, 1, 1, &parts)
 }
 
 // The second level has the clusters of the first, so that its body is one part.
@@ -132,7 +161,7 @@ fn parts_of_levels_with_the_same_clusters(rt: HostRuntime) -> Result<(), Fail> {
         Part::Is(" 0 0\n"),
         Part::Is("end\n"),
     ];
-    play(&rt, rt.alloc(), &plan_of(rt.alloc(), 2, 4, 2)?, &parts)
+    play_on_path(&rt, rt.alloc(), 2, 4, 2, &parts)
 }
 
 // No part has more than 64 numbers.
@@ -151,7 +180,7 @@ fn parts_past_a_word(rt: HostRuntime) -> Result<(), Fail> {
         Part::Is(" 0 0\n"),
         Part::Is("end\n"),
     ];
-    play(&rt, rt.alloc(), &flat_of(rt.alloc(), 130)?, &parts)
+    play_flat(&rt, rt.alloc(), 130, &parts)
 }
 
 // Digits and blanks of the members 0 to 1023 are 4,010, and of the homes 2,048.

@@ -1,5 +1,5 @@
 //! The report of a few calls, whole and line by line, and the lines that refuse inputs.
-use crate::same::{same_numbers, same_text};
+use crate::sameness::{same_numbers, same_text};
 use directory::{Done, Outcome, Why};
 use net_reader::{InputCause, InputFault};
 use report_text::{Lines, refused_line, report};

@@ -1,5 +1,5 @@
 //! Summaries and the JSON of no call, and of calls of each kind.
-use crate::same::same_text;
+use crate::sameness::same_text;
 use directory::{Done, Outcome, Why};
 use json_form::report_json;
 use report_text::summary;

@@ -1,4 +1,5 @@
 //! Words that are read, on both sides of each limit.
+use crate::sameness::same;
 use std::alloc::Global;
 use std::process::Abort;
 use std::test::Fail;
@@ -24,7 +25,7 @@ fn play(
 ) -> Result<(), Fail> {
     for place in 0..rows.len() {
         let (line, wanted) = &rows[place];
-        assert_eq!(rt; read_words(&words(alloc, line)?), *wanted, "{line}");
+        same(rt, place, &read_words(&words(alloc, line)?), wanted);
     }
     Ok(())
 }

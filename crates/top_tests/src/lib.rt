@@ -21,7 +21,7 @@ mod run_tests;
 #[cfg(test)]
 mod runs;
 #[cfg(test)]
-mod same;
+mod sameness;
 #[cfg(test)]
 mod thread_tests;
 #[cfg(test)]

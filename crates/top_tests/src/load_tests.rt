@@ -1,7 +1,7 @@
 //! Made inputs and the summaries of their replays: worked texts, what reads nothing, and the
 //! limits.
 use crate::runs::{ROOM, Run, ends, perform};
-use crate::same::same_numbers;
+use crate::sameness::same_numbers;
 use std::alloc::Global;
 use std::process::Abort;
 use std::test::Fail;

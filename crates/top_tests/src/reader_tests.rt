@@ -4,6 +4,7 @@ ghost use Rattle.net_reader.specs.Reading.{most_bytes};
 
 use crate::rows::parts_of;
 use crate::runs::{FOUR, Lines, text_of};
+use crate::sameness::same;
 use net_graph::{Arc, Graph};
 use net_reader::{Call, Input, InputCause, InputFault, MAX_BYTES, ReadRefusal, Reader, read_input};
 use std::alloc::{AllocError, Global};
@@ -49,7 +50,7 @@ fn is_refused(
         Some((line, cause)) => Some(InputFault { line, cause }),
         None => None,
     };
-    assert_eq!(rt; fault, wanted, "at {place}");
+    same(rt, place, fault, wanted);
 }
 
 // The input of a text that is read in pieces of one length.

@@ -2,7 +2,7 @@
 //! reports at the limits.
 use crate::rows::play_rows;
 use crate::runs::{FOUR, Lines, ROOM, Ran, Row, Run, perform, play, play_words, text_of};
-use crate::same::{same_numbers, same_text};
+use crate::sameness::{same_numbers, same_text};
 use std::alloc::Global;
 use std::process::Abort;
 use std::test::Fail;

@@ -1,7 +1,7 @@
 //! How tests run the program: words and an input, over a source and a sink in memory.
 ghost use Rattle.std.specs.Prelude.{◌≤◌};
 
-use crate::same::{same_numbers, same_text};
+use crate::sameness::{same_numbers, same_text};
 use outside::{MemorySink, MemorySource};
 use runner::{Gate, OpenGate, RUN_TRIES};
 use std::alloc::Global;

@@ -4,7 +4,7 @@ ghost use Rattle.std.specs.Prelude.{◌<◌, false};
 
 use crate::rows::play_rows;
 use crate::runs::{FOUR, Lines, ROOM, Ran, Run, perform, perform_by_threads, text_of};
-use crate::same::{same_numbers, same_text};
+use crate::sameness::{same_numbers, same_text};
 use runner::{Gate, OpenGate, RUN_TRIES};
 use std::alloc::Global;
 use std::process::Abort;

@@ -1,6 +1,6 @@
 //! The bound over the plan of the line 0 - 1 - 2 - 3 of unit weights, and at its limits.
 
-use crate::same::same_numbers;
+use crate::sameness::same_numbers;
 use std::test::Fail;
 use stretch_laws::bound;
 use test_networks::line_of_four;

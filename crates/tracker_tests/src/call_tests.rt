@@ -10,6 +10,7 @@ use crate::parties::{Task, next_pass};
 use crate::scripts::{play_on_line, play_on_most_nodes};
 use crate::steps::{Call, Seen, Step};
 use directory::Found;
+use distances::Distances;
 use handset::MoveFault;
 use net_graph::MAX_NODES;
 use region_plan::Plan;
@@ -244,18 +245,31 @@ fn open_last(alloc: Global, plan: &Plan, visits: u64) -> Result<(Tracker, Pass),
     Ok((tracker, pass))
 }
 
+// What the last caller's find of the last subscriber answers, and what its pass then says: its
+// actor, how many visits it knows of, and for how many it has room.
+fn find_of_last(
+    alloc: Global,
+    plan: &Plan,
+    distances: &Distances,
+) -> Result<(Option<Found>, [u64; 3]), Fail>
+    requires nodes { nodes_of plan.now ≡ MAX_NODES }
+    requires copy { plan.now.distances ≡ distances.now }
+{
+    let (tracker, mut pass) = open_last(alloc, plan, 1029)?;
+    let found = find_now(&tracker, &mut pass, plan, distances, 64, 0, 63).ok();
+    Ok((found, [u64::from(pass.actor()), pass.seen(), pass.spare()]))
+}
+
 #[test]
 fn a_find_among_all(rt: HostRuntime) -> Result<(), Fail> {
-    let (plan, distances) = plan_of_most_nodes(rt.alloc())?;
-    let (tracker, mut pass) = open_last(rt.alloc(), &plan, 1029)?;
-    let found = find_now(&tracker, &mut pass, &plan, &distances, 64, 0, 63).ok();
     let wanted = Found::At {
         node: 1023,
         number: 0,
         level: Some(0),
         weight: 1023,
     };
-    let counts = [u64::from(pass.actor()), pass.seen(), pass.spare()];
+    let (plan, distances) = plan_of_most_nodes(rt.alloc())?;
+    let (found, counts) = find_of_last(rt.alloc(), &plan, &distances)?;
     assert!(rt; found == Some(wanted) && counts == [127, 3, 1026]);
     Ok(())
 }

@@ -12,7 +12,7 @@ mod parties;
 #[cfg(test)]
 mod room_tests;
 #[cfg(test)]
-mod same;
+mod sameness;
 #[cfg(test)]
 mod scripts;
 #[cfg(test)]

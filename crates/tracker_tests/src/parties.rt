@@ -44,17 +44,34 @@ pub fn open(
         pair.1.handset) }
 {
     let handset = handset_for(alloc, plan, home, task)?;
-    let (tracker, mut passes) = Tracker::new(alloc, plan, &[home], 2)?;
-    let other = next_pass(&tracker, &mut passes, 2, visits)?;
-    let caller = next_pass(&tracker, &mut passes, 1, visits)?;
-    let own = next_pass(&tracker, &mut passes, 0, visits)?;
-    let parties = Parties {
+    let (tracker, passes) = Tracker::new(alloc, plan, &[home], 2)?;
+    let parties = parties_of(&tracker, passes, handset, visits)?;
+    Ok((tracker, parties))
+}
+
+// The parties of the fresh passes of a tracker, each with room for so many visits.
+fn parties_of(
+    tracker: &Tracker,
+    mut passes: Vec<Pass>,
+    handset: Handset,
+    visits: u64,
+) -> Result<Parties, Fail>
+    requires fresh { AreFresh tracker.now passes.items }
+    requires count { length passes.items ≡ 3 }
+    requires handset { IsHandsetOf tracker.now.setup (fresh_view tracker.now.setup 0) handset }
+    requires few { visits ≤ 2 ^ 56 }
+    ensures { IfOk result (λ parties. AreReady tracker.now parties.own parties.caller parties.other
+        parties.handset) }
+{
+    let other = next_pass(tracker, &mut passes, 2, visits)?;
+    let caller = next_pass(tracker, &mut passes, 1, visits)?;
+    let own = next_pass(tracker, &mut passes, 0, visits)?;
+    Ok(Parties {
         own,
         caller,
         other,
         handset,
-    };
-    Ok((tracker, parties))
+    })
 }
 
 // The last of some fresh passes, with room for so many visits.

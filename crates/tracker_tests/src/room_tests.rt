@@ -7,7 +7,7 @@ ghost use Rattle.station.specs.Passes.{AreFresh, IsFree, IsPassOf};
 ghost use Rattle.station.specs.Setup.{nodes_in, subs_in};
 
 use crate::parties::next_pass;
-use crate::same::same_numbers;
+use crate::sameness::same_numbers;
 use entry_word::{Key, PresenceMark, pack_mark};
 use net_graph::MAX_NODES;
 use region_plan::Plan;
@@ -41,12 +41,20 @@ fn rooms(mut pass: Pass) -> [u64; 5]
     [first, more, pass.spare(), some, most + 2 * few]
 }
 
+// The same of the subscriber's pass of a new tracker, which has room for 9 visits.
+fn rooms_over(alloc: Global, plan: &Plan) -> Result<[u64; 5], Fail>
+    requires nodes { nodes_of plan.now ≡ 4 }
+{
+    let (tracker, mut passes) = Tracker::new(alloc, plan, &[3], 0)?;
+    let pass = next_pass(&tracker, &mut passes, 0, 9)?;
+    Ok(rooms(pass))
+}
+
 #[test]
 fn room_for_many_visits(rt: HostRuntime) -> Result<(), Fail> {
     let (plan, _) = line_of_four(rt.alloc())?;
-    let (tracker, mut passes) = Tracker::new(rt.alloc(), &plan, &[3], 0)?;
-    let pass = next_pass(&tracker, &mut passes, 0, 9)?;
-    same_numbers(&rt, 0, &rooms(pass), &[9, 1_048_576, 1_048_576, 1, 2]);
+    let found = rooms_over(rt.alloc(), &plan)?;
+    same_numbers(&rt, 0, &found, &[9, 1_048_576, 1_048_576, 1, 2]);
     Ok(())
 }
 

@@ -6,6 +6,7 @@ ghost use Rattle.tracker_tests.specs.Ready.{AreReady, IsOver};
 
 use crate::between::{census_between, find_between, hear_between};
 use crate::parties::{Parties, Task, close, open};
+use crate::sameness::same;
 use crate::steps::{
     Seen, Step, ask, ask_while_held, begin, hear, make_step, make_step_while_held, put, whole_move,
 };
@@ -80,10 +81,6 @@ fn take<R: Wait>(
     }
 }
 
-fn same(rt: &impl Abort, at: usize, seen: Seen, wanted: Seen) {
-    assert_eq!(rt; seen, wanted, "at step {at}");
-}
-
 // Each step of a script is to be seen as the script says.
 fn play<R: Wait + Abort>(
     rt: &R,
@@ -137,10 +134,6 @@ fn play_over<R: Wait + Abort>(
     Ok(order)
 }
 
-fn same_order(rt: &impl Abort, order: &[u32], wanted: &[u32]) {
-    assert_eq!(rt; order, wanted, "the actors of the tickets");
-}
-
 // Plays a script over the line 0 - 1 - 2 - 3 with the subscriber at node 3, where each pass has
 // room for so many visits, and compares the actors of the tickets.
 pub fn play_on_line<R: Wait + Abort>(
@@ -155,7 +148,7 @@ pub fn play_on_line<R: Wait + Abort>(
 {
     let (plan, distances) = line_of_four(alloc)?;
     let order = play_over(rt, alloc, &plan, &distances, 3, task, visits, script)?;
-    same_order(rt, &order, wanted);
+    same(rt, script.len(), order.as_slice(), wanted);
     Ok(())
 }
 
@@ -180,6 +173,6 @@ pub fn play_on_most_nodes<R: Wait + Abort>(
         visits,
         script,
     )?;
-    same_order(rt, &order, wanted);
+    same(rt, script.len(), order.as_slice(), wanted);
     Ok(())
 }

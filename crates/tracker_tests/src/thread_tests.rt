@@ -1,6 +1,7 @@
 //! Two threads over one tracker: looks side by side, and calls that lose a turn and try again.
 
-ghost use Rattle.std.specs.Prelude.{◌<◌, ◌≤◌, ◌^◌};
+ghost use Rattle.std.specs.Prelude.{◌≡◌, ◌<◌, ◌≤◌, ◌^◌};
+ghost use Rattle.region_plan.specs.Plan.{nodes_of};
 ghost use Rattle.std.specs.Thread.{IsSync};
 ghost use Rattle.station.specs.Handsets.{IsHandsetOf};
 ghost use Rattle.station.specs.Passes.{IsFree};
@@ -249,8 +250,23 @@ fn act_on_line<R: Threads + Wait + Sync>(
     requires { visits ≤ 2 ^ 56 }
 {
     let (plan, distances) = line_of_four(alloc)?;
-    let (tracker, parties) = open(alloc, &plan, 3, Task::Rest, visits)?;
-    Ok(act(rt, &tracker, &plan, &distances, parties, pair))
+    act_over(rt, alloc, &plan, &distances, visits, pair)
+}
+
+fn act_over<R: Threads + Wait + Sync>(
+    rt: &R,
+    alloc: Global,
+    plan: &Plan,
+    distances: &Distances,
+    visits: u64,
+    pair: Pair,
+) -> Result<Both, Fail>
+    requires few { visits ≤ 2 ^ 56 }
+    requires nodes { nodes_of plan.now ≡ 4 }
+    requires copy { plan.now.distances ≡ distances.now }
+{
+    let (tracker, parties) = open(alloc, plan, 3, Task::Rest, visits)?;
+    Ok(act(rt, &tracker, plan, distances, parties, pair))
 }
 
 #[test]

@@ -3,6 +3,3 @@ use Rattle.network_tests.proofs.graph_tests.plain_weights.Given as goal
 
 abbrev pub invariant-loop : goal.invariant-loop
 invariant-loop l = length l.weights.items ≡ l.n
-
-abbrev pub invariant-loop-edge : goal.invariant-loop-edge
-invariant-loop-edge l = length l.weights.items ≡ l.n

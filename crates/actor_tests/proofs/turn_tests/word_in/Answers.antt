@@ -2,7 +2,7 @@ use Rattle.std.proofs.Common.{◌≡◌, ℕ, length, sym, ap, ◌∙◌, subst}
 use Rattle.net_reader.specs.declared.input.Input.{Input}
 use Rattle.visit_log.specs.Cells.{GoWith}
 use Rattle.region_plan.specs.Cells.{IsCell}
-use Rattle.actor_tests.proofs.machine_tests.word_in.Goals as goal
+use Rattle.actor_tests.proofs.turn_tests.word_in.Goals as goal
 
 pub look-requires-clause-goes : goal.look-requires-clause-goes
 look-requires-clause-goes c =

@@ -1,8 +1,0 @@
-//! Comparisons that tell what was found where it isn't what was wanted.
-
-use std::process::Abort;
-
-/// Stops with both lists where they differ. `place` tells which of a test's comparisons it is.
-pub fn same_numbers(rt: &impl Abort, place: usize, found: &[u64], wanted: &[u64]) {
-    assert_eq!(rt; found, wanted, "at {place}");
-}
