@@ -1,6 +1,6 @@
 -- Short fields that are kept, and what is written over the bytes behind a line.
-use Rattle.std.proofs.Common.{◌≡◌, ℕ, ◌+◌, ◌<◌, ◌≤◌, List, [], ◌∷◌, ◌++◌, length, ◌-◌, get_or, set, take, drop, refl, sym, ◌∙◌, ap, subst, inl, inr, arith}
-use Rattle.std.proofs.lemmas.List.{get_or-append_right, get_or_append_left, length-append, length-take, take-append-le}
+use Rattle.std.proofs.Common.{◌≡◌, ℕ, ◌+◌, ◌<◌, ◌≤◌, List, [], ◌∷◌, ◌++◌, length, get_or, set, take, drop, refl, sym, ◌∙◌, ap, subst, inl, inr, arith}
+use Rattle.std.proofs.lemmas.List.{get_or_append_left, get_or_push, length-take, length_push, take-append-le}
 use Rattle.std.proofs.Math.Seq.{set-append_seam, take-append-add, take-set-lt}
 use Rattle.std.proofs.lemmas.Bool.{cases_lt}
 use borrow.Rule.Slice.PartMut.{put_mid}
@@ -23,3 +23,15 @@ other_byte line bytes text at end byte is below written =
     ∙ ap (λ xs. set xs at byte) written
     ∙ ap (λ i. set (line ++ 32 ∷ text) i byte) (sym is)
     ∙ set-append_seam line 32 text byte
+
+-- one short field more
+pub short_more : (shorts : List (List ℕ)) (short : List ℕ) → AreShort shorts → IsShort (length shorts) short
+    → AreShort (shorts ++ short ∷ [])
+short_more shorts short are is number below = elim (cases_lt number (length shorts)) [
+  | inl less ↦ subst (λ s. IsShort number s) (sym (get_or_append_left shorts (short ∷ []) [] number less))
+      (are number less)
+  | inr over ↦
+      let here : length shorts ≡ number = omega (arith, over, below, length_push shorts short) in
+      subst (λ n. IsShort n (get_or (shorts ++ short ∷ []) n [])) here
+      (subst (λ s. IsShort (length shorts) s) (sym (get_or_push shorts short [] (length shorts) refl)) is)
+]
