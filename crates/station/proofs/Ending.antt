@@ -1,19 +1,20 @@
 -- How the passes of all actors tell the order of all tickets.
-use Rattle.std.proofs.Common.{◌≡◌, ◌≢◌, ℕ, zero, suc, ◌≤◌, ◌==◌, eq-eqb, ne_eqb, List, [], ◌∷◌, ◌++◌, length, map, take, drop, get_or, refl, sym, ap, ◌∙◌, arith, Option, Some, length-append}
-use Rattle.std.specs.Prelude.{slice_get, slice_index, if◌then◌else◌, unwrap_or}
+use Rattle.std.proofs.Common.{◌≡◌, ◌≢◌, ℕ, zero, suc, ◌+◌, ◌≤◌, ◌==◌, eq-eqb, ne_eqb, List, [], ◌∷◌, ◌++◌, length, map, take, drop, get_or, refl, sym, ap, ◌∙◌, arith, Option, Some, length-append}
+use Rattle.std.specs.Prelude.{option_to_list, slice_get, slice_index, if◌then◌else◌, unwrap_or}
 use mathlib.Core.Logic.{dite}
 use native.Mathlib.Decide.{ℕ_discrete, dec_le}
 use Rattle.node_set.specs.Ascending.{has}
 use Rattle.entry_word.specs.declared.visit.Visit.{Visit}
 use Rattle.directory.specs.Histories.{History, IsFront, own, tickets}
-use Rattle.station.specs.Passes.{PassData, actor_of}
+use Rattle.station.specs.Passes.{NoteData, PassData, actor_of}
 use Rattle.station.specs.Closing.{HasNoPass}
 use Rattle.station.specs.Plays.{longer}
+use Rattle.station.specs.Visits.{HasHeard}
 use Rattle.station.specs.TicketLaws.{front-rest, own-nil}
 use Rattle.station.proofs.Joining.{longer_one, longer_other}
 
 -- the longer of a front and its whole is the whole
-pub longer-whole : (xs zs : List Visit) → IsFront xs zs → longer xs zs ≡ zs
+longer-whole : (xs zs : List Visit) → IsFront xs zs → longer xs zs ≡ zs
 longer-whole xs zs f = dite (dec_le (length zs) (length xs))
     (λ h. longer_one xs zs h ∙ same (drop (length xs) zs) (front-rest xs zs f) h)
     (λ h. longer_other xs zs (omega arith))
@@ -23,7 +24,7 @@ longer-whole xs zs f = dite (dec_le (length zs) (length xs))
     same (r ∷ rest) e h = absurd (omega (arith, ap length e, length-append xs (r ∷ rest), h))
 
 -- the last of the first passes
-pub last_left : (all left : List PassData) (pass : PassData) → left ++ pass ∷ [] ≡ take (length (left ++ pass ∷ [])) all
+last_left : (all left : List PassData) (pass : PassData) → left ++ pass ∷ [] ≡ take (length (left ++ pass ∷ [])) all
     → (left ≡ take (length left) all) × (slice_get all (length left) ≡ Some pass)
 last_left [] [] pass e = absurd (omega (arith, ap length e))
 last_left [] (x ∷ left) pass e = absurd (omega (arith, ap length e))
@@ -86,3 +87,18 @@ pub stamp_more : (old new : List ℕ) (i : ℕ) (visit : Visit) (actor : ℕ) (h
 stamp_more old new i visit actor history told is other = dite (ℕ_discrete visit.actor actor)
     (λ e. is ∙ (ap (λ b. if b then actor else slice_index old i) (told ∙ eq-eqb visit.actor actor e) ∙ sym e))
     (λ ne. is ∙ (ap (λ b. if b then actor else slice_index old i) (told ∙ ne_eqb visit.actor actor ne) ∙ other ne))
+
+-- the pass that is taken from the end of those that are left
+pub taken : (all before left : List PassData) (o : Option PassData) (pass : PassData)
+    → before ≡ left ++ option_to_list o → o ≡ Some pass → before ≡ take (length before) all
+    → (left ≡ take (length left) all) × (slice_get all (length left) ≡ Some pass) × (length before ≡ length left + 1)
+taken all before left o pass items is rest =
+    let popped : before ≡ left ++ pass ∷ [] = items ∙ ap (λ x. left ++ option_to_list x) is in
+    let t = last_left all left pass (sym popped ∙ (rest ∙ ap (λ (l : List PassData). take (length l) all) popped)) in
+    (t.0, t.1, ap length popped ∙ length-append left (pass ∷ []))
+
+-- a pass that hears of a history that goes on from its own has seen that
+pub heard_whole : (whole : History) (pass new : PassData) (note : NoteData) → HasHeard pass note new
+    → note.view.seen ≡ whole → IsFront pass.view.seen whole → new.view.seen ≡ whole
+heard_whole whole pass new note heard told front =
+    heard.seen ∙ (ap (longer pass.view.seen) told ∙ longer-whole pass.view.seen whole front)

@@ -1,7 +1,9 @@
 -- The words of the opening, laid one after another.
 use Rattle.std.proofs.Common.{◌≡◌, ◌≢◌, ◌⊎◌, ℕ, zero, suc, ◌+◌, ◌*◌, ◌<◌, ◌≤◌, ◌==◌, eqb, eq-eqb, ne_eqb, Bool, true, false, cond, List, [], ◌∷◌, ◌++◌, length, take, get_or, refl, sym, ap, ◌∙◌, subst, inl, inr, ⊎_elim, arith, length-append, add-one}
 use Rattle.std.specs.Prelude.{slice_index, nat_lt, ◌&&◌, if◌then◌else◌}
+use Rattle.std.specs.List.{sum_by}
 use Rattle.std.proofs.Common.{lt-ltb}
+use Rattle.std.proofs.Math.Seq.{take-length}
 use Rattle.node_set.specs.Ascending.{sift}
 use Rattle.entry_word.specs.declared.visit.Key.{Key}
 use Rattle.entry_word.specs.declared.visit.Key.TheVariants.{Presence}
@@ -10,9 +12,10 @@ use Rattle.entry_word.specs.declared.mark.PresenceMark.TheVariants.{Empty, Here}
 use Rattle.directory.specs.Settings.{Setting, subs, start}
 use Rattle.directory.specs.Histories.{cell}
 use Rattle.directory.specs.Census.{census}
-use Rattle.visit_log.specs.Numbers.{cell_number, NumbersApart}
+use Rattle.region_plan.specs.Plan.{PlanData, levels_of, nodes_of}
+use Rattle.visit_log.specs.Numbers.{cell_number, clusters_below, NumbersApart}
 use Rattle.station.specs.Setup.{Setup, setting_in, nodes_in, subs_in, IsCellOf, lock_word, tally_word, cell_word}
-use Rattle.station.specs.Opening.{AreLaid}
+use Rattle.station.specs.Opening.{AreLaid, AreOpening, setup_of}
 use Rattle.station.proofs.Apart.{behind, behind_tally, same_number}
 
 at_push : (ws : List ℕ) (x i : ℕ) → i < length (ws ++ x ∷ [])
@@ -42,6 +45,18 @@ laid_push setup ws x o first lock tally cell_is =
           ∙ cell_is key known t.0) (at_push ws x (cell_word setup key) h);
     }
 
+before_tally : (n k node : ℕ) → k < n → suc k ≡ suc (n + node) → ⊥
+before_tally n k node h e = omega arith
+
+before_cell : (n k c : ℕ) → k < n → suc k ≡ suc (2 * n + c) → ⊥
+before_cell n k c h e = omega arith
+
+pub laid_lock : (setup : Setup) (ws : List ℕ) (k : ℕ) → k < nodes_in setup → length ws ≡ suc k → AreLaid setup ws
+    → AreLaid setup (ws ++ 0 ∷ [])
+laid_lock setup ws k known at o = laid_push setup ws 0 o (λ e. refl) (λ node inside e. refl)
+    (λ node inside e. absurd (before_tally (nodes_in setup) k node known (sym at ∙ e)))
+    (λ key _ e. absurd (before_cell (nodes_in setup) k (cell_number setup.plan (subs_in setup) key) known (sym at ∙ e)))
+
 zero_cell : (n c : ℕ) → 0 ≡ suc (2 * n + c) → ⊥
 zero_cell n c e = omega arith
 
@@ -66,6 +81,31 @@ laid_cell law setup ws x key known at is o = laid_push setup ws x o
     (λ other inside e. let same : key ≡ other = law setup.plan (subs_in setup) key other known inside (same_number
     (nodes_in setup) _ _ (sym at ∙ e)) in
     subst (λ (k : Key). x ≡ cell (setting_in setup) [] k) same is)
+
+none_below : (n : ℕ) → suc n < 1 → ⊥
+none_below n h = omega arith
+
+pub first_laid : (setup : Setup) → AreLaid setup (0 ∷ [])
+first_laid setup =
+    record {
+      ticket = λ h. refl;
+      locks = λ node known h. absurd (none_below _ h);
+      tallies = λ node known h. absurd (none_below _ h);
+      cells = λ key known h. absurd (none_below _ h);
+    }
+
+counted : (w n c d l : ℕ) → w ≡ 1 + 2 * n + (n + c) * l → c ≡ d → w ≡ suc (2 * n + (n + d) * l)
+counted w n c d l is e = is ∙ (ap (λ (k : ℕ). 1 + 2 * n + (n + k) * l) e ∙ omega arith)
+
+pub opening_of : (plan : PlanData) (homes words : List ℕ) → AreLaid (setup_of plan homes 0) words → length words
+    ≡ 1 + 2 * nodes_of plan + (nodes_of plan + clusters_below plan (levels_of plan)) * length homes
+    → (actors : ℕ) → AreOpening (setup_of plan homes actors) words
+opening_of plan homes words o at actors =
+    record {
+      laid = record { ticket = o.ticket; locks = o.locks; tallies = o.tallies; cells = o.cells };
+      size = counted (length words) (nodes_of plan) _ _ (length homes) at
+          (ap (sum_by (λ l. length l.clusters)) (take-length plan.levels));
+    }
 
 -- who starts at a node
 

@@ -9,7 +9,7 @@ use Rattle.entry_word.specs.declared.visit.Visit.{Visit}
 use Rattle.directory.specs.Histories.{History, IsFront, before, own, tickets, tickets_from}
 use Rattle.directory.specs.Legal.{IsLegal}
 use Rattle.station.specs.Setup.{setting_in, subs_in}
-use Rattle.station.specs.Plays.{Draws, view_inside, view_outside, visit_by, key_put, MayDo}
+use Rattle.station.specs.Plays.{Draws, view_after_put, view_after_tally, view_held, view_inside, view_outside, visit_by, key_put, MayDo}
 use Rattle.station.specs.Passes.{IsPass, PassData, actor_of}
 use Rattle.station.specs.Turns.{HasHadTurn, Logs}
 use Rattle.station.specs.declared.view.TurnEvent.TheVariants.{GivenBack, Won}
@@ -80,6 +80,40 @@ left_by there new e unwritten clear = subst (λ (v : View). HasLeft there v) (sy
   unwritten = unwritten;
   clear = clear;
 }
+
+pub left_put : (there new : View) → new ≡ view_outside (view_after_tally (view_after_put there)) new.turns
+    → HasLeft there new
+left_put there new e = subst (λ (v : View). HasLeft there v) (sym e) record {
+  low = refl;
+  high = refl;
+  real = refl;
+  setup = refl;
+  seen = refl;
+  lost = refl;
+  inside = refl;
+  undrawn = refl;
+  unwritten = refl;
+  clear = refl;
+}
+
+-- a lost turn leaves a pass a pass
+pub lost_pass : (me new : Me Act View) (actor seen spare node word : ℕ) (kept : List ℕ) (room : ℕ)
+    → IsPass me actor seen spare kept room → new ≡ (view_held me.0 node word new.0.turns, me.1)
+    → IsPass new actor seen spare kept room
+lost_pass me new actor seen spare node word kept room p e =
+    subst (λ (m : Me Act View). IsPass m actor seen spare kept room) (sym e) record {
+      slots = p.slots;
+      low = p.low;
+      high = p.high;
+      real = p.real;
+      undrawn = p.undrawn;
+      unwritten = p.unwritten;
+      clear = p.clear;
+      seen_is = p.seen_is;
+      tickets_are = p.tickets_are;
+      room_is = p.room_is;
+      few = p.few;
+    }
 
 -- from the pass before to the pass after a whole visit
 pub pass_done : (me two new : Me Act View) (actor seen spare left node ticket : ℕ) (kept : List ℕ) (room : ℕ)

@@ -22,12 +22,28 @@ pub fn opening_words(alloc: Global, plan: &Plan, homes: &[u32]) -> Result<Vec<u6
         → AreOpening (setup_of plan.now homes.now actors) words.items) }
 {
     let cells = PlainCells::new(alloc, plan, homes)?;
+    lay_words(alloc, plan, homes, &cells)
+}
+
+// The words of each kind, one kind after another.
+fn lay_words(
+    alloc: Global,
+    plan: &Plan,
+    homes: &[u32],
+    cells: &PlainCells,
+) -> Result<Vec<u64>, OutOfMemory>
+    requires few { length homes.now ≤ 64 }
+    requires goes { GoWith plan.now cells.now }
+    requires hold { Hold plan.now homes.now cells.now [] }
+    ensures opening { IfOk result (λ words. (actors : ℕ)
+        → AreOpening (setup_of plan.now homes.now actors) words.items) }
+{
     let mut words = Vec::new(alloc);
     words.push(0)?;
     lay_locks(&mut words, plan, homes)?;
     lay_tallies(&mut words, plan, homes)?;
-    lay_presences(&mut words, plan, homes, &cells)?;
-    lay_entries(&mut words, plan, homes, &cells)?;
+    lay_presences(&mut words, plan, homes, cells)?;
+    lay_entries(&mut words, plan, homes, cells)?;
     Ok(words)
 }
 

@@ -1,10 +1,11 @@
 //! The shared object.
-ghost use Rattle.std.specs.Prelude.{◌≡◌, ◌+◌, ◌<◌, ◌≤◌, [], All, IfOk, length};
+ghost use Rattle.std.specs.Prelude.{◌≡◌, ◌+◌, ◌^◌, ◌<◌, ◌≤◌, [], All, IfOk, length};
 ghost use Rattle.std.specs.Vec.{vec_capacity};
 ghost use Rattle.region_plan.specs.Plan.{nodes_of};
 ghost use Rattle.station.specs.Opening.{setup_of};
 ghost use Rattle.station.specs.Passes.{AreFresh, IsPassOf};
 ghost use Rattle.station.specs.Plays.{IsWitnessed, first_view};
+ghost use Rattle.station.specs.Setup.{word_count};
 
 use crate::opening::{opening_words, words_are_few};
 use crate::pass::Pass;
@@ -65,26 +66,41 @@ impl Tracker {
         ensures count { IfOk result (λ made. length made.1.items
             ≡ length homes.now + callers) }
     {
-        cell_numbers();
-        plan_is_sound(plan);
-        let words = opening_words(alloc, plan, homes)?;
-        let places = Places::new(alloc, plan)?;
-        words_are_few(&words);
-        let starts = Vec::from_slice(alloc, homes)?;
         let subs = homes.len() as u32;
         let actors = subs + callers;
-        let about = About::new(plan, &starts, actors);
         let mut passes = Vec::with_capacity(alloc, actors as usize)?;
-        let (table, seat) = Table::of_words(alloc, &words, &about)?;
+        let (tracker, seat) = Tracker::set_up(alloc, plan, homes, actors)?;
+        tracker.deal(alloc, seat, &mut passes);
+        Ok((tracker, passes))
+    }
+
+    // A tracker at the opening, and one seat for all its actors.
+    fn set_up(
+        alloc: Global,
+        plan: &Plan,
+        homes: &[u32],
+        actors: u32,
+    ) -> Result<(Tracker, Seat<Act, View>), OutOfMemory>
+        requires some { 1 ≤ length homes.now }
+        requires few { length homes.now ≤ 64 }
+        requires inside { All (λ home. home < nodes_of plan.now) homes.now }
+        requires actors { 1 ≤ actors }
+        requires few_actors { actors ≤ 128 }
+        ensures setup { IfOk result (λ made. made.0.setup ≡ setup_of plan.now homes.now actors) }
+        ensures table { IfOk result (λ made. made.1.table_id ≡ made.0.table) }
+        ensures first { IfOk result (λ made. made.1.me ≡ (first_view made.0.setup, [])) }
+    {
+        plan_is_sound(plan);
+        let places = Places::new(alloc, plan)?;
+        let (table, seat) = open_table(alloc, plan, homes, actors)?;
         let tracker = Tracker {
             table,
             nodes: plan.nodes(),
-            subs,
+            subs: homes.len() as u32,
             actors,
             places,
         };
-        tracker.deal(alloc, seat, &mut passes);
-        Ok((tracker, passes))
+        Ok((tracker, seat))
     }
 
     // Deals the actors of the first seat to a pass each.
@@ -112,4 +128,32 @@ impl Tracker {
     {
         self.table.shared.load::<Witness>(&mut pass.seat, 0);
     }
+}
+
+// The table of the words at the opening, and its first seat.
+fn open_table(
+    alloc: Global,
+    plan: &Plan,
+    homes: &[u32],
+    actors: u32,
+) -> Result<(Table<Act, View, About, Watch, Global>, Seat<Act, View>), OutOfMemory>
+    requires some { 1 ≤ length homes.now }
+    requires few { length homes.now ≤ 64 }
+    requires inside { All (λ home. home < nodes_of plan.now) homes.now }
+    requires few_actors { actors ≤ 128 }
+    ensures opened { IfOk result (λ made.
+        (made.0.shared.table_id.words ≡ word_count (setup_of plan.now homes.now actors))
+        × (word_count (setup_of plan.now homes.now actors) < 2 ^ 64)
+        × (made.0.shared.table_id.slots ≡ 0)
+        × (made.0.shared.key ≡ setup_of plan.now homes.now actors)
+        × (made.1.table_id ≡ made.0.shared.table_id)
+        × (made.1.me ≡ (first_view (setup_of plan.now homes.now actors), []))) }
+{
+    cell_numbers();
+    plan_is_sound(plan);
+    let words = opening_words(alloc, plan, homes)?;
+    words_are_few(&words);
+    let starts = Vec::from_slice(alloc, homes)?;
+    let about = About::new(plan, &starts, actors);
+    Table::of_words(alloc, &words, &about)
 }

@@ -1,5 +1,7 @@
-use Rattle.std.proofs.Common.{◌≡◌, [], ◌∷◌, rules, arith, sym, ap, ◌∙◌, subst, length, length-append}
+use Rattle.std.proofs.Common.{◌≡◌, ◌+◌, ◌*◌, [], ◌∷◌, rules, arith, sym, ap, ◌∙◌, subst, length, length-append}
 use Rattle.entry_word.specs.declared.visit.Key.TheVariants.{Entry}
+use Rattle.region_plan.specs.Plan.{clusters_of, nodes_of}
+use Rattle.visit_log.specs.Numbers.{clusters_below}
 use Rattle.station.specs.Opening.{AreLaid, setup_of}
 use Rattle.station.specs.Setup.{cell_word, IsCellOf}
 use Rattle.station.proofs.Laying.{laid_cell}
@@ -19,3 +21,24 @@ loop-sub-preserved c =
       ap length items
           ∙ omega (arith, was.1, length-append c.loop-sub.words.items (c.look-word.result ∷ [])),
     )
+
+pub loop-cluster-init : goal.loop-cluster-init
+loop-cluster-init c = (c.requires.laid, omega (arith, c.requires.at))
+
+pub loop-sub-init : goal.loop-sub-init
+loop-sub-init c = (c.loop-cluster.invariant.0, omega (arith, c.loop-cluster.invariant.1))
+
+pub loop-cluster-preserved : goal.loop-cluster-preserved
+loop-cluster-preserved c =
+    let below = c.loop-sub.auto.sub-end in (
+      c.loop-sub.invariant.0,
+      omega (arith, c.loop-sub.invariant.1, below, c.loop-sub-test.false),
+    )
+
+pub returns-clause-at : goal.returns-clause-at
+returns-clause-at c =
+    let below = c.loop-cluster.auto.cluster-end in
+    let end : c.loop-cluster.cluster ≡ clusters_of c.args.plan.now c.args.level =
+    omega (arith, below, c.loop-cluster-test.false, c.clusters-cluster-end.ensures) in
+    c.loop-cluster.invariant.1 ∙ ap (λ count. 1 + 2 * nodes_of c.args.plan.now + (nodes_of c.args.plan.now
+    + (clusters_below c.args.plan.now c.args.level + count)) * length c.args.homes.now) end

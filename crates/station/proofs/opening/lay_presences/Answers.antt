@@ -1,5 +1,6 @@
-use Rattle.std.proofs.Common.{◌≡◌, [], ◌∷◌, rules, arith, sym, ap, ◌∙◌, subst, length, length-append}
+use Rattle.std.proofs.Common.{◌≡◌, ◌+◌, ◌*◌, [], ◌∷◌, rules, arith, sym, ap, ◌∙◌, subst, length, length-append}
 use Rattle.entry_word.specs.declared.visit.Key.TheVariants.{Presence}
+use Rattle.region_plan.specs.Plan.{nodes_of}
 use Rattle.station.specs.Opening.{AreLaid, setup_of}
 use Rattle.station.specs.Setup.{cell_word, IsCellOf}
 use Rattle.station.proofs.Laying.{laid_cell}
@@ -19,3 +20,23 @@ loop-sub-preserved c =
       ap length items
           ∙ omega (arith, was.1, length-append c.loop-sub.words.items (c.look-word.result ∷ [])),
     )
+
+pub loop-node-init : goal.loop-node-init
+loop-node-init c = (c.requires.laid, omega (arith, c.requires.at))
+
+pub loop-sub-init : goal.loop-sub-init
+loop-sub-init c = (c.loop-node.invariant.0, omega (arith, c.loop-node.invariant.1))
+
+pub loop-node-preserved : goal.loop-node-preserved
+loop-node-preserved c =
+    let below = c.loop-sub.auto.sub-end in (
+      c.loop-sub.invariant.0,
+      omega (arith, c.loop-sub.invariant.1, below, c.loop-sub-test.false),
+    )
+
+pub returns-clause-at : goal.returns-clause-at
+returns-clause-at c =
+    let below = c.loop-node.auto.node-end in
+    let end : c.loop-node.node ≡ nodes_of c.args.plan.now =
+    omega (arith, below, c.loop-node-test.false, c.nodes-node-end.ensures.count) in
+    c.loop-node.invariant.1 ∙ ap (λ count. 1 + 2 * nodes_of c.args.plan.now + count * length c.args.homes.now) end

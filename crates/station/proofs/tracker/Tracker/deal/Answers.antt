@@ -1,6 +1,10 @@
-use Rattle.std.proofs.Common.{rules, arith, ◌≡◌, ◌∙◌, sym, ap}
+use Rattle.std.proofs.Common.{rules, arith, ◌≡◌, ◌∙◌, ◌+◌, ◌-◌, ℕ, [], ◌∷◌, sym, ap, add-one, length, length-append}
+use Rattle.atomic_table.specs.Table.{Me}
+use Rattle.entry_word.specs.declared.visit.Act.{Act}
+use Rattle.station.specs.Plays.{view_of_rest}
 use Rattle.station.specs.declared.view.View.{View}
 use Rattle.station.proofs.Forking.{deals}
+use Rattle.station.proofs.Fresh.{dealt_fresh, fresh_own, fresh_push, last_fresh, rest_view}
 use Rattle.station.proofs.tracker.Tracker.deal.Goals as goal
 
 pub split_seat-next-requires : goal.split_seat-next-requires
@@ -16,4 +20,84 @@ split_seat-next-requires c =
       omega (arith, c.self.invariant.words),
       deals setup c.loop-actor.seat.id v (omega (arith, low, high, near, c.self.invariant.actors_are)) (ap
           (λ m. m.0.inside) same) (ap (λ m. m.0.unwritten) same),
+    )
+
+pub of-requires : goal.of-requires
+of-requires c =
+    fresh_own c.args.self.now.setup c.loop-actor.actor c.split_seat-next.result.me
+    (dealt_fresh _ _ c.loop-actor.seat.me _ c.loop-actor.invariant.view c.split_seat-next.ensures.4)
+
+pub push_reserved-requires : goal.push_reserved-requires
+push_reserved-requires c =
+    let d = c.loop-actor.invariant in
+    let actors = ap (λ t. t.setup.actors) c.self.view_is in
+    omega (arith, c.loop-actor.passes.ok, d.count, d.room, actors, c.self.invariant.actors_are, c.loop-actor-test.true)
+
+pub loop-actor-preserved : goal.loop-actor-preserved
+loop-actor-preserved c =
+    let d = c.loop-actor.invariant in
+    let items = c.push_reserved.ensures.items in
+    let told = c.split_seat-next.ensures in
+    record {
+      table = told.0 ∙ d.table;
+      view = told.2 ∙ (ap {B = Me Act View} (λ (m : Me Act View). (view_of_rest m.0, m.1)) d.view
+          ∙ ap {B = Me Act View} (λ (a : ℕ). (rest_view c.args.self.now.setup a, []))
+          (sym (add-one c.loop-actor.actor)));
+      fresh = fresh_push c.args.self.now c.loop-actor.passes.items c.push_reserved.new.self.items c.of.result
+          c.loop-actor.actor c.split_seat-next.result.id c.split_seat-next.result.table_id c.split_seat-next.result.me
+          d.fresh d.count (told.3 ∙ d.table) (dealt_fresh _ _ c.loop-actor.seat.me _ d.view told.4) c.of.ensures items;
+      count = ap length items ∙ (length-append c.loop-actor.passes.items (c.of.result ∷ []) ∙ ap (λ n. n + 1) d.count);
+      room = omega (arith, d.room, c.push_reserved.ensures.capacity);
+    }
+
+pub of-requires-2 : goal.of-requires-2
+of-requires-2 c =
+    let actors = ap (λ t. t.setup.actors) c.self.view_is in
+    let end = c.loop-actor.auto.actor-end in
+    fresh_own c.args.self.now.setup (c.self.inside.actors - 1) c.loop-actor.seat.me
+    (last_fresh _ _ _ _ c.loop-actor.invariant.view (omega (arith, end, c.loop-actor-test.false))
+    (omega (arith, actors, c.self.invariant.actors_are, c.self.invariant.some_actors)))
+
+pub push_reserved-requires-2 : goal.push_reserved-requires-2
+push_reserved-requires-2 c =
+    let d = c.loop-actor.invariant in
+    let actors = ap (λ t. t.setup.actors) c.self.view_is in
+    let end = c.loop-actor.auto.actor-end in
+    omega (
+      arith,
+      c.loop-actor.passes.ok,
+      d.count,
+      d.room,
+      actors,
+      c.self.invariant.actors_are,
+      c.self.invariant.some_actors,
+      end,
+    )
+
+pub returns-clause-fresh : goal.returns-clause-fresh
+returns-clause-fresh c =
+    let d = c.loop-actor.invariant in
+    let actors = ap (λ t. t.setup.actors) c.self.view_is in
+    let end = c.loop-actor.auto.actor-end in
+    let at : c.loop-actor.actor ≡ c.self.inside.actors - 1 = omega (arith, end, c.loop-actor-test.false) in
+    fresh_push c.args.self.now c.loop-actor.passes.items c.push_reserved-2.new.self.items c.of-2.result
+    (c.self.inside.actors - 1) c.loop-actor.seat.id c.loop-actor.seat.table_id c.loop-actor.seat.me
+    d.fresh (d.count ∙ at) d.table (last_fresh _ _ _ _ d.view at
+    (omega (arith, actors, c.self.invariant.actors_are, c.self.invariant.some_actors))) c.of-2.ensures
+    c.push_reserved-2.ensures.items
+
+pub returns-clause-count : goal.returns-clause-count
+returns-clause-count c =
+    let actors = ap (λ t. t.setup.actors) c.self.view_is in
+    let end = c.loop-actor.auto.actor-end in
+    let items = c.push_reserved-2.ensures.items in
+    ap length items ∙ omega (
+      arith,
+      length-append c.loop-actor.passes.items (c.of-2.result ∷ []),
+      c.loop-actor.invariant.count,
+      end,
+      c.loop-actor-test.false,
+      actors,
+      c.self.invariant.actors_are,
+      c.self.invariant.some_actors,
     )

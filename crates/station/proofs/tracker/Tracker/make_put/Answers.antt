@@ -1,8 +1,14 @@
-use Rattle.std.proofs.Common.{subst, sym, ap, ◌≡◌, ◌<◌}
+use Rattle.std.proofs.Common.{subst, sym, ap, ◌∙◌, ◌≡◌, ◌<◌, ℕ}
+use Rattle.atomic_table.specs.Table.{Me}
+use Rattle.entry_word.specs.declared.visit.Act.{Act}
 use Rattle.directory.specs.Keys.{key_sub, key_node}
 use Rattle.station.specs.Setup.{Setup, setting_in, subs_in}
 use Rattle.station.specs.Handsets.{Moves}
+use Rattle.station.specs.Plays.{view_outside}
+use Rattle.station.specs.Turns.{Logs}
+use Rattle.station.specs.declared.view.TurnEvent.TheVariants.{GivenBack, Won}
 use Rattle.station.specs.declared.view.View.{View}
+use Rattle.station.proofs.Ticketing.{left_put}
 use Rattle.station.proofs.Putting.{moves}
 use Rattle.station.proofs.tracker.Tracker.make_put.Goals as goal
 
@@ -18,3 +24,18 @@ put_there-requires-clause-moves c =
     (subst (λ (s : Setup). key_node (setting_in s) c.args.key ≡ c.args.node) back (sym c.requires.node))
     (ap (λ (v : View). v.seen) d.view) (ap (λ (v : View). v.owes) d.view) (ap (λ (v : View). v.tally) d.view) (ap
     (λ (v : View). v.before) d.view))
+
+pub returns-clause-made : goal.returns-clause-made
+returns-clause-made c =
+    let there : View = c.draw.new.seat.me.0 in
+    let new : View = c.give_back.new.seat.me.0 in
+    let put = c.put_there.ensures.done in
+    record {
+      there = there;
+      won = subst (λ (a : ℕ). Logs c.args.seat.now.me.0.turns (Won a c.args.node) there.turns) (sym c.requires.low)
+          c.in_ok-ticket.ensures.logs;
+      draws = c.in_ok-ticket.ensures.drawn;
+      left = left_put there new (ap (λ m. m.0) c.give_back.ensures.left ∙ ap (λ m. view_outside m.0 new.turns) put);
+      given_back = subst (λ (m : Me Act View). Logs m.0.turns (GivenBack m.0.low c.args.node) new.turns) put
+          c.give_back.ensures.logs;
+    }

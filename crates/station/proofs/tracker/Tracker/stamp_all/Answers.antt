@@ -1,14 +1,42 @@
-use Rattle.std.proofs.Common.{arith, ap, sym, ◌∙◌, ◌≡◌, ◌<◌, ◌+◌, ◌++◌, ◌∷◌, [], ℕ, List, take, length, length-append, subst}
-use Rattle.std.specs.Prelude.{slice_get, slice_index, option_to_list, if◌then◌else◌}
+use Rattle.std.proofs.Common.{arith, ap, sym, ◌∙◌, ◌≡◌, ◌<◌, ℕ, List, length, refl, subst}
+use Rattle.std.specs.Prelude.{slice_get, slice_index, if◌then◌else◌}
+use Rattle.std.proofs.Math.Seq.{take-length}
+use Rattle.std.proofs.lemmas.Option.{get_or_from_slice_get, slice_get_within}
 use mathlib.Core.Logic.{dite}
 use native.Mathlib.Decide.{ℕ_discrete, dec_le}
 use Rattle.node_set.specs.Ascending.{has}
 use Rattle.directory.specs.Histories.{History, own, tickets}
-use Rattle.station.specs.Passes.{PassData, IsNoteOf, actor_of}
-use Rattle.station.specs.Plays.{longer}
-use Rattle.station.proofs.Ending.{find_pass, last_left, longer-whole, order_is, own_there, same_pass, stamp_more}
+use Rattle.station.specs.Passes.{PassData, IsNoteOf, IsPassOf, actor_of}
+use Rattle.station.proofs.Ending.{find_pass, heard_whole, order_is, own_there, same_pass, stamp_more, taken}
 use Rattle.station.proofs.Ticketing.{tickets-has}
 use Rattle.station.proofs.tracker.Tracker.stamp_all.Goals as goal
+
+pub hear-requires-clause-of : goal.hear-requires-clause-of
+hear-requires-clause-of c =
+    let all : List PassData = c.args.passes.items in
+    let left : List PassData = c.pop.new.self.items in
+    let pass : PassData = c.in-Some.pass in
+    let t = taken all c.loop-pass.passes.items left c.pop.result pass c.pop.ensures.items c.in-Some.is
+    c.loop-pass.invariant.left in
+    subst (IsPassOf c.args.self.now) (get_or_from_slice_get all (length left) pass pass t.1)
+    (c.requires.of (length left) pass (slice_get_within all (length left) pass t.1))
+
+pub stamp-requires : goal.stamp-requires
+stamp-requires c =
+    let all : List PassData = c.args.passes.items in
+    let d = c.loop-pass.invariant in
+    let left : List PassData = c.pop.new.self.items in
+    let pass : PassData = c.in-Some.pass in
+    let t = taken all c.loop-pass.passes.items left c.pop.result pass c.pop.ensures.items c.in-Some.is d.left in
+    let seen = ap length (heard_whole c.args.longest.now.view.seen pass c.hear.new.pass c.copy-note.result
+    c.hear.ensures.heard (c.copy-note.ensures.seen ∙ d.same) (c.requires.gathered.seen (length left) pass t.1)) in
+    record { room = omega (arith, seen, d.size, c.requires.room) }
+
+pub loop-pass-smaller : goal.loop-pass-smaller
+loop-pass-smaller c =
+    let t = taken c.args.passes.items c.loop-pass.passes.items c.pop.new.self.items c.pop.result c.in-Some.pass
+    c.pop.ensures.items c.in-Some.is c.loop-pass.invariant.left in
+    omega (arith, t.2)
 
 pub loop-pass-preserved : goal.loop-pass-preserved
 loop-pass-preserved c =
@@ -17,14 +45,11 @@ loop-pass-preserved c =
     let whole : History = c.args.longest.now.view.seen in
     let left : List PassData = c.pop.new.self.items in
     let pass : PassData = c.in-Some.pass in
-    let popped : c.loop-pass.passes.items ≡ left ++ pass ∷ [] = c.pop.ensures.items
-    ∙ ap (λ o. left ++ option_to_list o) c.in-Some.is in
-    let count : length c.loop-pass.passes.items ≡ length left + 1 = ap length popped ∙ length-append left (pass ∷ []) in
-    let t = last_left all left pass (sym popped ∙ (d.left ∙ ap (λ (l : List PassData). take (length l) all) popped)) in
+    let t = taken all c.loop-pass.passes.items left c.pop.result pass c.pop.ensures.items c.in-Some.is d.left in
+    let count = t.2 in
     let heard = c.hear.ensures.heard in
-    let note : c.copy-note.result.view.seen ≡ whole = c.copy-note.ensures.seen ∙ d.same in
-    let seen : c.hear.new.pass.view.seen ≡ whole = heard.seen ∙ (ap (longer pass.view.seen) note
-    ∙ longer-whole pass.view.seen whole (c.requires.gathered.seen (length left) pass t.1)) in
+    let seen : c.hear.new.pass.view.seen ≡ whole = heard_whole whole pass c.hear.new.pass c.copy-note.result heard
+    (c.copy-note.ensures.seen ∙ d.same) (c.requires.gathered.seen (length left) pass t.1) in
     let mine : own (actor_of pass) whole ≡ own (actor_of pass) pass.view.seen = ap (own (actor_of pass))
     (sym seen) ∙ heard.visits in
     record {
@@ -71,4 +96,16 @@ returns c =
         known = g.known;
         legal = g.legal;
       };
+    }
+
+pub loop-pass-init : goal.loop-pass-init
+loop-pass-init c =
+    let all : List PassData = c.args.passes.items in
+    record {
+      left = sym (take-length all);
+      of = c.requires.longest;
+      same = refl;
+      size = refl;
+      visits = λ j pass h e. absurd (omega (arith, h, slice_get_within all j pass e));
+      stamped = λ i j visit pass there h e is. absurd (omega (arith, h, slice_get_within all j pass e));
     }

@@ -14,7 +14,7 @@ use Rattle.entry_word.specs.declared.visit.Act.{Act}
 use Rattle.station.specs.declared.view.View.{View}
 use Rattle.station.proofs.Growing.{census-counted}
 use Rattle.station.proofs.Turning.{no_key}
-use Rattle.station.proofs.Ticketing.{before_last, left_by, look_done, may_draw, pass_is, pass_wins, seen_done, visit_done}
+use Rattle.station.proofs.Ticketing.{before_last, left_by, lost_pass, look_done, may_draw, pass_is, pass_wins, seen_done, visit_done}
 use Rattle.station.proofs.tracker.Tracker.visit_census.Goals as goal
 
 pub draw-requires-clause-may : goal.draw-requires-clause-may
@@ -79,3 +79,7 @@ returns c =
         },
       );
     }
+
+pub invariant_of-pass : goal.invariant_of-pass
+invariant_of-pass c =
+    lost_pass c.pass.inside.seat.me c.draw.new.seat.me _ _ _ _ _ _ _ c.pass.invariant c.in_err-ticket.ensures.drawn.2

@@ -12,7 +12,7 @@ use Rattle.directory.specs.Keys.{key_node}
 use Rattle.station.specs.Setup.{setting_in}
 use Rattle.station.specs.declared.view.View.{View}
 use Rattle.station.proofs.Turning.{no_key}
-use Rattle.station.proofs.Ticketing.{before_last, left_by, look_done, may_draw, pass_is, pass_wins, seen_done, visit_done}
+use Rattle.station.proofs.Ticketing.{before_last, left_by, lost_pass, look_done, may_draw, pass_is, pass_wins, seen_done, visit_done}
 use Rattle.station.proofs.tracker.Tracker.visit_look.Goals as goal
 
 pub draw-requires-clause-may : goal.draw-requires-clause-may
@@ -75,3 +75,7 @@ returns c =
             ∙ (cell-push setting key d.earlier (visit_by old act) ∙ sym (ap (λ h. cell setting h key) earlier))),
       );
     }
+
+pub invariant_of-pass : goal.invariant_of-pass
+invariant_of-pass c =
+    lost_pass c.pass.inside.seat.me c.draw.new.seat.me _ _ _ _ _ _ _ c.pass.invariant c.in_err-ticket.ensures.drawn.2

@@ -13,7 +13,7 @@ use Rattle.station.specs.Passes.{PassData}
 use Rattle.station.specs.Visits.{HasVisited, Makes}
 use Rattle.station.specs.declared.view.View.{View}
 use Rattle.station.proofs.Putting.{may_put, handset_after, put_due, write-sub}
-use Rattle.station.proofs.Ticketing.{own_few, pass_done, visit_done, pass_is, seen_done}
+use Rattle.station.proofs.Ticketing.{lost_pass, own_few, pass_done, visit_done, pass_is, seen_done}
 use Rattle.station.proofs.tracker.Tracker.visit_put.Goals as goal
 
 pub make_put-requires-clause-may : goal.make_put-requires-clause-may
@@ -94,3 +94,8 @@ returns c =
       goes_on = is_due (λ (visit : Visit). (own : IsHandsetOf setup old.view c.args.handset.now)
           → HandsetGoesOn setup old.view c.make_put.new.seat.me.0 c.made.new.self own.steps visit) made_by;
     }
+
+pub invariant_of-pass : goal.invariant_of-pass
+invariant_of-pass c =
+    lost_pass c.pass.inside.seat.me c.make_put.new.seat.me _ _ _ _ _ _ _ c.pass.invariant
+    c.in_err-ticket.ensures.made.0.2
