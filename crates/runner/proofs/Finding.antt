@@ -1,5 +1,5 @@
 -- A caller's part of a worker: its next look is made.
-use Rattle.std.proofs.Common.{◌≡◌, ℕ, suc, ◌+◌, ◌-◌, ◌<◌, ◌≤◌, ◌^◌, true, false, List, [], ◌∷◌, ◌++◌, Option, length, map, take, drop, get_or, refl, sym, ap, ◌∙◌, subst, arith}
+use Rattle.std.proofs.Common.{◌≡◌, ℕ, suc, ◌+◌, ◌-◌, ◌<◌, ◌≤◌, ◌^◌, true, List, [], ◌∷◌, ◌++◌, Option, length, map, take, drop, get_or, refl, sym, ap, ◌∙◌, subst, arith}
 use Rattle.std.specs.Prelude.{All, option_map, Some, None, sum_by}
 use Rattle.std.specs.Option.{is_some}
 use Rattle.std.proofs.lemmas.List.{length-map, length-drop, take_all, take-append-le}
@@ -13,12 +13,12 @@ use Rattle.directory.specs.Histories.{History, before, cell}
 use Rattle.directory.specs.Legal.{IsLegal}
 use Rattle.directory.specs.Looks.{look_by}
 use Rattle.directory.specs.HistoryLaws.{next-caller}
-use Rattle.directory.specs.Orders.{AreValid, Caller as Seeker, IsFindCall, after_read, caller_in, finds_of, key_in, next, next_key, with_stage}
+use Rattle.directory.specs.Orders.{AreValid, Caller as Seeker, IsFindCall, after_read, caller_in, finds_of, key_in, with_stage}
 use Rattle.directory.specs.Statements.{CallersKept, CallersRead, LooksFall}
 use Rattle.directory.specs.declared.answers.Found.{Found}
 use Rattle.distances.specs.Table.{DistanceTable}
 use Rattle.machine.specs.Stands.{IsWalking}
-use Rattle.machine.specs.WalkingLaws.{Walks, drop-more, idle-done, read-on, walking}
+use Rattle.machine.specs.WalkingLaws.{Walks, drop-more, read-on, walking}
 use Rattle.net_reader.specs.declared.said.Call.{Call}
 use Rattle.net_reader.specs.Input.{Contents}
 use Rattle.net_reader.specs.Valid.{IsSearch, IsValid}
@@ -29,8 +29,7 @@ use Rattle.scripts.specs.ScriptLaws.{calls-few, finds-are}
 use Rattle.scripts.specs.Scripts.{IsSettingOf, find_of, scripts_of}
 use Rattle.station.specs.Passes.{PassData}
 use Rattle.station.specs.Setup.{Setup, setting_in, subs_in}
-use Rattle.station.specs.Visits.{HasLost, HasVisited}
-use Rattle.station.specs.declared.turns.Held.{Held}
+use Rattle.station.specs.Visits.{HasVisited}
 use Rattle.trail_laws.specs.Trail.{EntriesTell, MarksTell}
 use Rattle.trail_laws.specs.Within.{HistoryFrontsAreLegal}
 use Rattle.walk.specs.LookLaws.{word-wanted}
@@ -39,7 +38,6 @@ use Rattle.runner.specs.Playing.{HasMadeNext, looks_after}
 use Rattle.runner.specs.PlayLaws.{caller-in}
 use Rattle.runner.specs.Roles.{HasLookedOn, IsFinder, IsSetFor}
 use Rattle.runner.specs.declared.finder.Finder.{Finder}
-use Rattle.directory.specs.ListLaws.{is_some-none}
 
 -- the walk of a caller's part
 pub walking-of : (input : Contents) (setup : Setup) (actor : ℕ) (seen : History) (spare : ℕ) (finder : Finder)

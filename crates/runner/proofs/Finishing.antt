@@ -1,6 +1,6 @@
 -- What becomes of a run in the end.
 use Rattle.std.proofs.Common.{◌≡◌, ◌⊎◌, inl, inr, ℕ, zero, suc, ◌+◌, ◌<◌, ◌≤◌, List, [], ◌∷◌, ◌++◌, length, map, take, drop, get_or, refl, sym, ap, ◌∙◌, subst, arith}
-use Rattle.std.specs.Prelude.{All, IfOk, Result, Ok, Err, Some, slice_get, option_to_list}
+use Rattle.std.specs.Prelude.{All, Some, slice_get, option_to_list}
 use Rattle.std.proofs.lemmas.List.{get_or-map, length-map, take_all, take-append-le}
 use Rattle.std.proofs.lemmas.Bool.{cases_lt}
 use Rattle.directory.specs.Settings.{Setting}
@@ -27,7 +27,6 @@ use Rattle.runner.specs.Roles.{IsSetFor}
 use Rattle.runner.specs.Runs.{AreWorkersOf, HasFinished, IsOutcomeOfRun, actors_of}
 use Rattle.runner.specs.Workers.{IsWorkerOf, MayServe}
 use Rattle.runner.specs.declared.worker.Worker.{Worker}
-use Rattle.std.proofs.lemmas.Option.{slice_get-get_or}
 
 get-map : {A B : Type 0} (f : A → B) (xs : List A) (k : ℕ) (x : A) → slice_get xs k ≡ Some x
     → slice_get (map f xs) k ≡ Some (f x)

@@ -1,6 +1,6 @@
 -- A subscriber's part of a worker: the next step of its script begins, and its next put is made.
 use Rattle.std.proofs.Common.{◌≡◌, ◌≢◌, ℕ, suc, ◌-◌, ◌<◌, ◌≤◌, true, false, List, [], ◌∷◌, ◌++◌, Option, length, take, get_or, refl, sym, ap, ◌∙◌, subst, arith}
-use Rattle.std.specs.Prelude.{Some, None, slice_get, option_map, IfSome, IsSome}
+use Rattle.std.specs.Prelude.{Some, None, slice_get, IfSome, IsSome}
 use Rattle.std.specs.Option.{is_some}
 use Rattle.std.proofs.lemmas.Option.{slice_get_within}
 use Rattle.std.proofs.lemmas.List.{append-nil, take_all, length_push, length-map}
@@ -40,7 +40,7 @@ use Rattle.runner.specs.Playing.{HasMadeNext, next_of}
 use Rattle.runner.specs.PlayLaws.{own-next}
 use Rattle.runner.specs.Roles.{HasBegun, IsMover, IsSetFor, IsUnderWay}
 use Rattle.runner.specs.declared.mover.Mover.{Mover}
-use Rattle.directory.specs.ListLaws.{option_map-some, is_some-none}
+use Rattle.directory.specs.ListLaws.{option_map-some}
 
 pub due-some : {A : Type 0} (o : Option A) → IsSome o → (x : A) × (o ≡ Some x)
 due-some None h = cc

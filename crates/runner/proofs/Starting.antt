@@ -3,7 +3,7 @@ use Rattle.std.proofs.Common.{◌≡◌, inl, inr, ℕ, ◌<◌, ◌≤◌, List
 use Rattle.std.proofs.lemmas.Bool.{cases_lt}
 use Rattle.std.proofs.lemmas.List.{get_or-map, length-map}
 use Rattle.directory.specs.Settings.{Setting, start}
-use Rattle.directory.specs.Courses.{Course, MaySteps, course_at}
+use Rattle.directory.specs.Courses.{course_at}
 use Rattle.directory.specs.Finds.{at_origin}
 use Rattle.directory.specs.Histories.{own, puts_to, words_after}
 use Rattle.directory.specs.Legal.{IsScript}

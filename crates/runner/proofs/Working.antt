@@ -137,6 +137,14 @@ worker-reserved input plan tracker pass reserved role visits (Ok done) may of it
     (room ∙ ap (λ k. record pass { spare = k }) (sym spare)) refl
 worker-reserved input plan tracker pass reserved role visits (Err e) may of its few fine room = cc
 
+-- of a pass that has room made for it nothing else changes
+pub pass-reserved : (pass reserved : PassData) (visits : ℕ) (result : Result (Unit {0}) AllocError)
+    → is_err result ≡ false → OnOk result (reserved ≡ record pass { spare = max pass.spare visits })
+    → reserved ≡ record pass { spare = reserved.spare }
+pass-reserved pass reserved visits (Ok done) fine room =
+    room ∙ ap (λ k. record pass { spare = k }) (sym (ap (λ (p : PassData). p.spare) room))
+pass-reserved pass reserved visits (Err e) fine room = cc
+
 -- a worker that is prepared
 pub role-gone : (input : Contents) (tracker : TrackerData) (old : Worker) (role : Role)
     → IsWorkerOf input tracker old → IsRole input tracker.setup old.pass.view old.pass.spare role

@@ -1,4 +1,4 @@
-use Rattle.std.proofs.Common.{◌≡◌, ◌+◌, ℕ, List, [], ◌∷◌, Some, None, Option, length, sym, ap, ◌∙◌, subst, arith}
+use Rattle.std.proofs.Common.{◌≡◌, ◌+◌, List, [], ◌∷◌, Some, None, Option, length, sym, ap, ◌∙◌, subst, arith}
 use Rattle.directory.specs.Histories.{History, IsFront}
 use Rattle.entry_word.specs.declared.visit.Visit.{Visit}
 use Rattle.station.specs.declared.view.NodeTurn.{NodeTurn}

@@ -14,3 +14,18 @@ returns-in-Mover c = record {
       c.put.ensures.tries input (subst (IsRole input setup view c.args.pass.now.spare) c.in-Mover.is role)
       (subst (λ p. next_of input setup view ≡ due (setting_of p []) c.in-Mover.mover.handset) (sym set.plan_is) due_is);
 }
+
+pub look-requires-clause-its : goal.look-requires-clause-its
+look-requires-clause-its c =
+    let its = c.requires.its in (
+      its.0,
+      its.1,
+      subst (IsRole its.0 c.args.tracker.now.setup c.args.pass.now.view c.args.pass.now.spare) c.in-Finder.is its.2,
+    )
+
+pub returns-in-Finder : goal.returns-in-Finder
+returns-in-Finder c = record {
+  tries = λ input set role prepared left.
+      c.look.ensures.tries input set (subst (IsRole input c.args.tracker.now.setup c.args.pass.now.view
+      c.args.pass.now.spare) c.in-Finder.is role);
+}

@@ -2,8 +2,31 @@ use Rattle.std.proofs.Common.{◌+◌, refl, ap, arith}
 use Rattle.net_reader.specs.Input.{Contents}
 use Rattle.runner.specs.Workers.{MayPlay}
 use Rattle.runner.specs.declared.worker.Worker.{Worker}
-use Rattle.runner.proofs.Working.{gone-on, kept-gone, kept-may, may-try, prepared-gone, some-left}
+use Rattle.runner.proofs.Working.{gone-on, kept-gone, kept-may, may-try, prepared-gone, role-gone, some-left}
 use Rattle.runner.proofs.worker.Worker.play.Goals as goal
+
+pub tries-init : goal.tries-init
+tries-init g c = record {
+  may = c.requires.may;
+  gone = λ input may. role-gone input c.args.tracker.now c.args.self.now c.args.self.now.role may.worker_is
+      may.worker_is.role;
+  few = omega arith;
+  kept = λ is_open. refl;
+}
+
+pub prepare-requires : goal.prepare-requires
+prepare-requires g c =
+    let may = c.tries.invariant.may.1 in
+    record {
+      its = (
+        c.tries.invariant.may.0,
+        c.args.tracker.now.setup,
+        c.tries.self.pass.view,
+        c.tries.self.pass.spare,
+        may.set,
+        may.worker_is.role,
+      );
+    }
 
 pub returns-then-held-kept-clause-played : goal.returns-then-held-kept-clause-played
 returns-then-held-kept-clause-played g c = λ input may.
