@@ -1,6 +1,6 @@
 -- A subscriber's next step, as the code reads it.
-use Rattle.std.proofs.Common.{◌≡◌, ℕ, ◌-◌, ◌<◌, ◌≤◌, ◌^◌, true, List, [], ◌∷◌, ◌++◌, length, get_or, refl, sym, ap, ◌∙◌, subst, arith, Vec, Global}
-use Rattle.std.specs.Prelude.{Option, Some, None, Result, Ok, Err, OnErr, OnSome, slice_get}
+use Rattle.std.proofs.Common.{◌≡◌, ℕ, ◌-◌, ◌<◌, ◌≤◌, ◌^◌, true, false, List, [], ◌∷◌, ◌++◌, length, get_or, refl, sym, ap, ◌∙◌, subst, arith, Vec, Global}
+use Rattle.std.specs.Prelude.{Option, Some, None, Result, Ok, Err, OnErr, OnOk, OnSome, slice_get}
 use Rattle.std.specs.Result.{is_err}
 use Rattle.std.proofs.lemmas.List.{length-map}
 use Rattle.entry_word.specs.declared.visit.Visit.{Visit}
@@ -77,6 +77,10 @@ ready scripts input plan distances history sub old held script place default tog
 
 pub on-some : {A : Type 0} (P : Type 0) (r : Option A) (x : A) → r ≡ Some x → OnSome r P → P
 on-some P r x e h = subst (λ o. OnSome o P) e h
+
+pub on-ok : {A E : Type 0} (P : Type 0) (r : Result A E) → is_err r ≡ false → OnOk r P → P
+on-ok P (Ok x) e h = h
+on-ok P (Err x) e h = cc
 
 pub on-err : {A E : Type 0} (P : Type 0) (r : Result A E) → is_err r ≡ true → OnErr r P → P
 on-err P (Ok x) e h = cc

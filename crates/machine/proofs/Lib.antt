@@ -21,3 +21,4 @@ mod MovedEntries
 mod Owing
 mod Putting
 mod OwnCells
+mod Appended

@@ -1,6 +1,6 @@
 -- A caller's look: which cell it is at, which nodes its word names, and how far the caller is after it.
 use Rattle.std.proofs.Common.{◌≡◌, ℕ, ◌-◌, ◌^◌, ◌<◌, ◌≤◌, true, false, List, [], ◌∷◌, length, map, drop, get_or, refl, sym, ap, ◌∙◌, subst, arith}
-use Rattle.std.specs.Prelude.{All, Some}
+use Rattle.std.specs.Prelude.{All, Some, vec_capacity, vec_len}
 use Rattle.std.proofs.lemmas.List.{get_or-map, length-map, length-drop}
 use Rattle.entry_word.specs.declared.visit.Key.{Key}
 use Rattle.directory.specs.Histories.{History, cell}
@@ -53,6 +53,13 @@ call-known input plan actor n call later valid high low left =
     ) in
     subst (IsFindCall (setting_over input plan)) (at.2 call)
     (valid.finds (actor - length input.homes) [] short n call at.0)
+
+-- a caller's walk goes with the plan
+pub walks-over : (input : Contents) (plan : PlanData) (history : History) (actor : ℕ) (caller : Caller)
+    (walk : WalkData) → IsCaller input plan history actor caller → caller.walk ≡ Some walk → IsWalkOver plan walk
+walks-over input plan history actor caller walk its held =
+    let seeker : Seeker = caller_in (setting_over input plan) (scripts_of input) history actor in
+    (walking plan seeker.calls seeker.stage caller.walk walk held its.walk).goes
 
 -- the subscriber that a caller looks for
 pub sub-known : ScriptsAreValid → (input : Contents) (plan : PlanData) (distances : DistanceTable) (history : History)
@@ -117,20 +124,33 @@ script-searches input plan actor script count valid nodes high low same few =
     (subst (λ s. All (IsSearch input.nodes (length input.homes)) s) (sym same)
     (valid.searches actor high low)))
 
+-- a caller that has a walk has lines for fewer finds than it makes
+pub finds-left : (input : Contents) (plan : PlanData) (history : History) (actor : ℕ) (caller : Caller)
+    (walk : WalkData) → IsCaller input plan history actor caller → caller.walk ≡ Some walk
+    → length caller.lines.items < length (finds_of (setting_over input plan) (scripts_of input) actor)
+finds-left input plan history actor caller walk its held =
+    let seeker : Seeker = caller_in (setting_over input plan) (scripts_of input) history actor in
+    let at : Walks plan seeker.calls seeker.stage walk =
+    walking plan seeker.calls seeker.stage caller.walk walk held its.walk in
+    (drop-more (length caller.lines.items) (finds_of (setting_over input plan) (scripts_of input) actor)
+    at.call at.later (sym at.calls_are ∙ its.left)).0
+
+-- so there is room for one more
+pub room-left : (input : Contents) (plan : PlanData) (history : History) (actor : ℕ) (caller : Caller)
+    (walk : WalkData) → IsCaller input plan history actor caller → caller.walk ≡ Some walk
+    → vec_capacity caller.lines ≤ vec_len caller.lines → ⊥
+room-left input plan history actor caller walk its held full =
+    omega (arith, finds-left input plan history actor caller walk its held, its.room, full, caller.lines.ok.0)
+
 -- a caller that has a walk has lines for fewer finds than its script has
 pub place-low : (input : Contents) (plan : PlanData) (history : History) (actor : ℕ) (caller : Caller)
     (walk : WalkData) → length input.homes ≤ actor → actor < length input.scripts
     → IsCaller input plan history actor caller → caller.walk ≡ Some walk
     → length caller.lines.items < length (get_or input.scripts actor [])
 place-low input plan history actor caller walk high low its held =
-    let seeker : Seeker = caller_in (setting_over input plan) (scripts_of input) history actor in
-    let at : Walks plan seeker.calls seeker.stage walk =
-    walking plan seeker.calls seeker.stage caller.walk walk held its.walk in
-    let more = drop-more (length caller.lines.items) (finds_of (setting_over input plan) (scripts_of input) actor)
-    at.call at.later (sym at.calls_are ∙ its.left) in
     omega (
       arith,
-      more.0,
+      finds-left input plan history actor caller walk its held,
       ap length (finds-are input (setting_over input plan) actor refl high low),
       length-map (get_or input.scripts actor []) find_of,
     )

@@ -15,7 +15,7 @@ use visit_log::{Homes, PlainCells};
 
 /// A write ahead: the place of its cell among those of the subscriber, whether it commits a move,
 /// and its word.
-#[derive(Clone, Copy, PartialEq, Eq, Debug)]
+#[derive(Clone, Copy)]
 pub struct Ahead {
     pub place: u32,
     pub commits: bool,

@@ -4,7 +4,11 @@ ghost use Rattle.directory.specs.Histories.{History};
 ghost use Rattle.directory.specs.Orders.{after_turn, after_turns, history_of, last_turns, most_turns, next, IsDone};
 ghost use Rattle.directory.specs.Outcomes.{outcome_in, result_of};
 ghost use Rattle.net_reader.specs.Seen.{seen_input};
-ghost use Rattle.net_reader.specs.Valid.{count_calls};
+ghost use Rattle.net_reader.specs.Valid.{IsValid};
+ghost use Rattle.region_plan.specs.Plan.{nodes_of};
+ghost use Rattle.visit_log.specs.Cells.{GoWith, Hold};
+ghost use Rattle.visit_log.specs.Homes.{AreHomes};
+ghost use Rattle.visit_log.specs.Routes.{AreRoutes};
 ghost use Rattle.trail_laws.specs.Lines.{IsRightLine, TellInTurn, TellRisingNumbers};
 ghost use Rattle.machine.specs.Callers.{IsCaller};
 ghost use Rattle.machine.specs.Machines.{HasStridden, IsSame, HasHistory, scripts_at, setting_at};
@@ -17,7 +21,7 @@ ghost use Rattle.machine.specs.declared.turn.Turn.TheVariants.{Finished};
 use crate::caller::Caller;
 use crate::lines::{push_finds, push_steps};
 use crate::order::{log_run, room_for, run_end};
-use crate::room::{count_calls, most_visits};
+use crate::room::rooms_for;
 use crate::subscriber::Subscriber;
 use crate::turn::Turn;
 use directory::{
@@ -62,14 +66,10 @@ impl<'a> Machine<'a> {
             × (machine.distances.now ≡ distances.now)) }
         ensures stands { IfOk result (λ machine. HasHistory machine []) }
     {
-        let homes = Homes::new(alloc, plan)?;
-        let routes = Routes::new(alloc, plan)?;
-        let cells = PlainCells::new(alloc, plan, &input.homes)?;
+        let (homes, routes, cells) = cells_of(alloc, input, plan)?;
         let subscribers = subscribers_of(alloc, input, plan, distances)?;
         let callers = callers_of(alloc, input, plan, distances)?;
-        let visits = most_visits(plan, &routes, &input.scripts)?;
-        let order = Vec::with_capacity(alloc, visits as usize)?;
-        let calls = Vec::with_capacity(alloc, count_calls(&input.scripts)?)?;
+        let (order, calls) = rooms_for(alloc, input, plan, &routes)?;
         Ok(Machine {
             input,
             plan,
@@ -297,6 +297,25 @@ impl<'a> Machine<'a> {
         log_run(&mut self.order, actor, count);
         count
     }
+}
+
+// The homes and the routes of a plan, and the cells before the first visit.
+fn cells_of(
+    alloc: Global,
+    input: &Input,
+    plan: &Plan,
+) -> Result<(Homes, Routes, PlainCells), AllocError>
+    requires valid { IsValid (seen_input input.now) }
+    requires nodes { nodes_of plan.now ≡ input.now.nodes }
+    ensures homes { IfOk result (λ made. AreHomes plan.now made.0) }
+    ensures routes { IfOk result (λ made. AreRoutes plan.now made.1) }
+    ensures goes { IfOk result (λ made. GoWith plan.now made.2) }
+    ensures opening { IfOk result (λ made. Hold plan.now input.now.homes.items made.2 []) }
+{
+    let homes = Homes::new(alloc, plan)?;
+    let routes = Routes::new(alloc, plan)?;
+    let cells = PlainCells::new(alloc, plan, &input.homes)?;
+    Ok((homes, routes, cells))
 }
 
 // The subscribers, before their first steps.

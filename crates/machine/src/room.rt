@@ -1,5 +1,5 @@
-//! How many calls scripts have, and visits at most.
-ghost use Rattle.std.specs.Prelude.{◌≡◌, ◌<◌, All, IfOk, List, ℕ, map};
+//! How many calls scripts have, and visits at most, and room for them.
+ghost use Rattle.std.specs.Prelude.{◌≡◌, ◌<◌, ◌≤◌, [], All, IfOk, List, ℕ, map, vec_capacity};
 ghost use Rattle.net_reader.specs.Valid.{count_calls};
 ghost use Rattle.scripts.specs.Scripts.{most_in, most_of, most_visits};
 ghost use Rattle.machine.specs.Stands.{BeginInside, BeginsInside};
@@ -7,10 +7,34 @@ ghost use Rattle.region_plan.specs.Settings.{setting_of};
 ghost use Rattle.region_plan.specs.Plan.{nodes_of};
 ghost use Rattle.visit_log.specs.Routes.{AreRoutes};
 
-use net_reader::Call;
+use directory::Done;
+use net_reader::{Call, Input};
 use region_plan::Plan;
-use std::alloc::AllocError;
+use std::alloc::{AllocError, Global};
 use visit_log::Routes;
+
+// Room for the actors of all visits, and for the lines of all calls.
+pub fn rooms_for(
+    alloc: Global,
+    input: &Input,
+    plan: &Plan,
+    routes: &Routes,
+) -> Result<(Vec<u32>, Vec<Done>), AllocError>
+    requires routes { AreRoutes plan.now routes.now }
+    requires inside { All (λ script. BeginInside (nodes_of plan.now) script.items)
+        input.now.scripts.items }
+    ensures empty { IfOk result (λ rooms. (rooms.0.items ≡ []) × (rooms.1.items ≡ [])) }
+    ensures visits { IfOk result (λ rooms. (starts : List ℕ)
+        → most_visits (setting_of plan.now starts)
+        (map (λ script. script.items) input.now.scripts.items) ≤ vec_capacity rooms.0) }
+    ensures lines { IfOk result (λ rooms. count_calls
+        (map (λ script. script.items) input.now.scripts.items) ≤ vec_capacity rooms.1) }
+{
+    let visits = most_visits(plan, routes, &input.scripts)?;
+    let order = Vec::with_capacity(alloc, visits as usize)?;
+    let calls = Vec::with_capacity(alloc, count_calls(&input.scripts)?)?;
+    Ok((order, calls))
+}
 
 // The most visits of a call.
 fn most_of(plan: &Plan, routes: &Routes, call: Call) -> u64
@@ -42,7 +66,7 @@ fn most_of_script(plan: &Plan, routes: &Routes, script: &[Call]) -> Result<u64, 
 }
 
 // The most visits of all scripts.
-pub fn most_visits(plan: &Plan, routes: &Routes, scripts: &[Vec<Call>]) -> Result<u64, AllocError>
+fn most_visits(plan: &Plan, routes: &Routes, scripts: &[Vec<Call>]) -> Result<u64, AllocError>
     requires routes { AreRoutes plan.now routes.now }
     requires inside { All (λ script. BeginInside (nodes_of plan.now) script.items) scripts.now }
     ensures { IfOk result (λ most. (starts : List ℕ) → most
@@ -57,7 +81,7 @@ pub fn most_visits(plan: &Plan, routes: &Routes, scripts: &[Vec<Call>]) -> Resul
 }
 
 // How many calls scripts have.
-pub fn count_calls(scripts: &[Vec<Call>]) -> Result<usize, AllocError>
+fn count_calls(scripts: &[Vec<Call>]) -> Result<usize, AllocError>
     ensures { IfOk result
         (λ count. count ≡ count_calls (map (λ script. script.items) scripts.now)) }
 {

@@ -4,12 +4,12 @@ use Rattle.std.proofs.lemmas.Bool.{eq-eqb, ne_eqb}
 use Rattle.entry_word.specs.declared.visit.Act.TheVariants.{Put}
 use Rattle.entry_word.specs.declared.visit.Key.TheVariants.{Entry}
 use Rattle.handset.specs.Entries.{EntryWrite, at_entry, entry_put, entry_write, erasure_to}
-use Rattle.handset.specs.Kept.{GoesWith, IsMoveStage}
-use Rattle.handset.specs.NextEntries.{IsNextEntry}
+use Rattle.handset.specs.Kept.{GoesWith, HandsetData, IsMoveStage}
+use Rattle.handset.specs.NextEntries.{IsNextEntry, erasures_from}
 use Rattle.handset.specs.Progress.{first_with, is_old}
 use Rattle.handset.specs.declared.entries.Erasures.{Erasures}
 use Rattle.handset.specs.declared.entries.EntryStage.TheVariants as entries
-use Rattle.region_plan.specs.Plan.{home, levels_of, nodes_of}
+use Rattle.region_plan.specs.Plan.{PlanData, home, levels_of, nodes_of}
 use Rattle.region_plan.specs.Settings.{setting_of}
 use Rattle.visit_log.specs.Homes.{home_place}
 use Rattle.machine.specs.Owed.{IsAhead}
@@ -17,6 +17,33 @@ use Rattle.machine.proofs.MovedEntries.{at-stage, first-found, first-passed}
 use Rattle.machine.proofs.Owing.{ahead-more, ahead-none}
 use Rattle.machine.proofs.ahead.push_erasures.Goals as goal
 use Rattle.machine.proofs.ahead.push_erasures.Goals.{then-old-new, else-old-new}
+
+-- a level that is looked at is one of the plan's
+low-above : (plan : PlanData) (handset : HandsetData) (erasures : Erasures) (above : ℕ) → GoesWith plan handset
+    → erasures ≡ erasures_from handset erasures.level → above < erasures.last + 1 → above < levels_of plan
+low-above plan handset erasures above goes they below =
+    omega (arith, goes.renewed, below, ap (λ (e : Erasures). e.last) they)
+
+-- the node of an address is one of the plan's
+node-inside : (plan : PlanData) (handset : HandsetData) (addresses : List ℕ) (above : ℕ) → GoesWith plan handset
+    → addresses ≡ handset.addresses → above < levels_of plan → get_or addresses above 0 < nodes_of plan
+node-inside plan handset addresses above goes same low =
+    subst (λ (xs : List ℕ). slice_index xs above < nodes_of plan) (sym same) (goes.inside above low)
+
+pub bounds-of-above : goal.bounds-of-above
+bounds-of-above c =
+    let low = low-above c.args.plan.now c.args.handset.now c.args.erasures c.loop-above.above c.requires.goes
+    c.requires.they c.loop-above-test.true in
+    subst (λ n. c.loop-above.above < n) (sym (c.of-in-loop-above.ensures.count c.args.plan.now c.requires.homes
+    (node-inside c.args.plan.now c.args.handset.now c.addresses-addresses.result.now c.loop-above.above c.requires.goes
+    c.addresses-addresses.ensures low))) low
+
+pub bounds-new-above : goal.bounds-new-above
+bounds-new-above c =
+    subst (λ n. c.loop-above.above < n) (sym (c.of-new.ensures.count c.args.plan.now c.requires.homes
+    (subst (λ n. n < nodes_of c.args.plan.now) (sym (ap (λ (e : Erasures). e.node) c.requires.they))
+    c.requires.goes.to))) (low-above c.args.plan.now c.args.handset.now c.args.erasures c.loop-above.above
+    c.requires.goes c.requires.they c.loop-above-test.true)
 
 pub loop-above-init : goal.loop-above-init
 loop-above-init c =
@@ -31,9 +58,8 @@ loop-above-init c =
       subst (λ s. IsMoveStage (nodes_of plan) handset.last s) c.requires.stage c.requires.goes.stage,
       c.requires.goes.renewed,
     ) in
-    let inside : get_or c.addresses-addresses.result.now at 0 < nodes_of plan =
-    subst (λ (xs : List ℕ). slice_index xs at < nodes_of plan) (sym c.addresses-addresses.ensures)
-    (c.requires.goes.inside at low) in
+    let inside = node-inside plan handset c.addresses-addresses.result.now at c.requires.goes
+    c.addresses-addresses.ensures low in
     let here_place : get_or c.of.result.now at 0 ≡ home_place plan (slice_index handset.addresses at) at =
     c.of.ensures.places plan c.requires.homes inside at low
     ∙ ap (λ (xs : List ℕ). home_place plan (slice_index xs at) at) c.addresses-addresses.ensures in
@@ -55,10 +81,9 @@ loop-above-preserved c =
     let above : ℕ = c.loop-above.above in
     let below : above ≤ handset.last.renewed =
     omega (arith, c.loop-above-test.true, ap (λ (e : Erasures). e.last) c.requires.they) in
-    let high : above < levels_of plan = omega (arith, below, c.requires.goes.renewed) in
-    let inside : get_or c.addresses-addresses.result.now above 0 < nodes_of plan =
-    subst (λ (xs : List ℕ). slice_index xs above < nodes_of plan) (sym c.addresses-addresses.ensures)
-    (c.requires.goes.inside above high) in
+    let high = low-above plan handset c.args.erasures above c.requires.goes c.requires.they c.loop-above-test.true in
+    let inside = node-inside plan handset c.addresses-addresses.result.now above c.requires.goes
+    c.addresses-addresses.ensures high in
     let here : get_or c.of-in-loop-above.result.now above 0
     ≡ home_place plan (slice_index handset.addresses above) above =
     c.of-in-loop-above.ensures.places plan c.requires.homes inside above high

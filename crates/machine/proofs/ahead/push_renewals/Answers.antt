@@ -1,12 +1,13 @@
-use Rattle.std.proofs.Common.{◌≡◌, ◌<◌, ◌+◌, ◌-◌, ℕ, false, suc, [], Some, ap, subst, sym, arith, refl, ◌∙◌, length, get_or}
+use Rattle.std.proofs.Common.{◌≡◌, ◌<◌, ◌≤◌, ◌+◌, ◌-◌, ℕ, false, suc, [], Some, ap, subst, sym, arith, refl, ◌∙◌, length, get_or}
+use Rattle.std.specs.Prelude.{min}
 use Rattle.std.proofs.Math.Nat.{min-le_left, min-le_right}
 use Rattle.entry_word.specs.declared.visit.Key.TheVariants.{Entry}
 use Rattle.handset.specs.Entries.{EntryWrite, at_entry, entry_put, entry_write}
-use Rattle.handset.specs.Kept.{GoesWith}
-use Rattle.handset.specs.NextEntries.{IsNextEntry}
+use Rattle.handset.specs.Kept.{GoesWith, HandsetData}
+use Rattle.handset.specs.NextEntries.{IsNextEntry, renewals_from}
 use Rattle.handset.specs.declared.entries.EntryStage.TheVariants as entries
 use Rattle.handset.specs.declared.entries.Renewals.{Renewals}
-use Rattle.region_plan.specs.Plan.{home, levels_of, nodes_of}
+use Rattle.region_plan.specs.Plan.{PlanData, home, levels_of, nodes_of}
 use Rattle.region_plan.specs.Settings.{setting_of}
 use Rattle.std.proofs.lemmas.List.{length_push}
 use Rattle.visit_log.specs.Homes.{home_place}
@@ -14,6 +15,21 @@ use Rattle.machine.specs.Owed.{IsAhead}
 use Rattle.machine.proofs.MovedEntries.{at-stage, renewal-at}
 use Rattle.machine.proofs.Owing.{ahead-more, ahead-none}
 use Rattle.machine.proofs.ahead.push_renewals.Goals as goal
+
+-- a level that is renewed is one of the plan's
+level-low : (plan : PlanData) (handset : HandsetData) (renewals : Renewals) (at room most : ℕ) → GoesWith plan handset
+    → renewals ≡ renewals_from handset renewals.level → most ≡ min room (renewals.end - renewals.level)
+    → renewals.level ≤ at → at < renewals.level + most → (at < handset.last.renewed) × (at < levels_of plan)
+level-low plan handset renewals at room most goes they few from to =
+    let below : at < handset.last.renewed = omega (
+      arith,
+      to,
+      from,
+      few,
+      min-le_right room (renewals.end - renewals.level),
+      ap (λ (r : Renewals). r.end) they,
+    ) in
+    (below, omega (arith, below, goes.renewed))
 
 pub loop-level-init : goal.loop-level-init
 loop-level-init c =
@@ -36,6 +52,14 @@ loop-level-init c =
           (ahead-none c.args.plan.now subs handset c.args.ahead.now c.requires.goes);
     }
 
+pub bounds-places-level : goal.bounds-places-level
+bounds-places-level c =
+    subst (λ n. c.loop-level.level < n) (sym (c.of-places.ensures.count c.args.plan.now c.requires.homes
+    (subst (λ n. n < nodes_of c.args.plan.now) (sym (ap (λ (r : Renewals). r.node) c.requires.they))
+    c.requires.goes.to))) (level-low c.args.plan.now c.args.handset.now c.args.renewals c.loop-level.level
+    (c.capacity.result - c.len.result) c.min.result c.requires.goes c.requires.they c.min.ensures
+    c.loop-level.auto.level c.loop-level-test.true).1
+
 pub loop-level-preserved : goal.loop-level-preserved
 loop-level-preserved c =
     let plan = c.args.plan.now in
@@ -47,24 +71,15 @@ loop-level-preserved c =
       word = c.args.renewals.word;
       next = entries.Renewing (suc at);
     } in
-    let below : at < handset.last.renewed =
-    omega (
-      arith,
-      c.loop-level-test.true,
-      c.loop-level.auto.level,
-      c.min.ensures,
-      min-le_right (c.capacity.result - c.len.result) (c.args.renewals.end - c.args.renewals.level),
-      ap (λ (r : Renewals). r.end) c.requires.they,
-    )
-    in
-    let low : at < levels_of plan = omega (arith, below, c.requires.goes.renewed) in
+    let low = level-low plan handset c.args.renewals at (c.capacity.result - c.len.result) c.min.result c.requires.goes
+    c.requires.they c.min.ensures c.loop-level.auto.level c.loop-level-test.true in
     let place : ℕ = get_or c.of-places.result.now at 0 in
     let node : c.args.renewals.node ≡ handset.last.to = ap (λ (r : Renewals). r.node) c.requires.they in
     let there : place ≡ home_place plan handset.last.to at =
     c.of-places.ensures.places plan c.requires.homes
-    (subst (λ n. n < nodes_of plan) (sym node) c.requires.goes.to) at low ∙ ap (λ n. home_place plan n at) node in
+    (subst (λ n. n < nodes_of plan) (sym node) c.requires.goes.to) at low.1 ∙ ap (λ n. home_place plan n at) node in
     let is : entry_write (setting_of plan []) handset (entries.Renewing at) ≡ Some write =
-    renewal-at plan handset at (home plan at handset.last.to) c.args.renewals.word below refl
+    renewal-at plan handset at (home plan at handset.last.to) c.args.renewals.word low.0 refl
     (sym (ap (λ (r : Renewals). r.word) c.requires.they))
     in
     let its : IsNextEntry plan handset (entries.Renewing at) write =
@@ -99,7 +114,7 @@ loop-level-preserved c =
             commits = refl;
             cell = record {
               cell = record {
-                place = (low, c.plan_is_sound.ensures.matched.homes at handset.last.to low c.requires.goes.to);
+                place = (low.1, c.plan_is_sound.ensures.matched.homes at handset.last.to low.1 c.requires.goes.to);
                 known = known;
               };
               owner = refl;

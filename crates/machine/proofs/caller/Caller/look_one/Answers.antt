@@ -4,7 +4,8 @@ use Rattle.std.proofs.lemmas.List.{length_push}
 use Rattle.directory.specs.Orders.{finds_of}
 use Rattle.scripts.specs.Scripts.{scripts_of}
 use Rattle.machine.specs.Stands.{setting_over}
-use Rattle.machine.proofs.Looking.{ok-of}
+use Rattle.machine.proofs.Beginning.{on-err}
+use Rattle.machine.proofs.Looking.{ok-of, room-left}
 use Rattle.directory.specs.Outcomes.{found_line}
 use Rattle.net_reader.specs.Seen.{seen_input}
 use Rattle.region_plan.specs.Plan.{nodes_of}
@@ -69,6 +70,12 @@ offset_bounds-script-len c =
 
 pub bounds-script-len : goal.bounds-script-len
 bounds-script-len c = low-here c
+
+pub unreachable-requires-then-is_err : goal.unreachable-requires-then-is_err
+unreachable-requires-then-is_err c =
+    room-left (seen_input c.args.input.now) c.args.plan.now c.requires.stands.0 c.args.actor c.args.self.now
+    c.in-Some.walk c.requires.stands.3 c.in-Some.is
+    (on-err _ c.push.result (sym c.is_err.ensures.value ∙ c.if-is_err.true) c.push.ensures.full)
 
 pub walk_at-self-requires : goal.walk_at-self-requires
 walk_at-self-requires c = record {

@@ -8,7 +8,7 @@ use Rattle.walk.specs.Climbs.{IsClimbOf, climb_past}
 use Rattle.machine.specs.Callers.{HasPassed}
 use Rattle.machine.proofs.ClimbCells.{ahead-cell, ahead-word}
 use Rattle.machine.proofs.Climbing.{past-from}
-use Rattle.machine.proofs.Looking.{scripts-low, sub-known}
+use Rattle.machine.proofs.Looking.{scripts-low, sub-known, walks-over}
 use Rattle.machine.proofs.Passing.{LooksAhead, behind, behind-none, behind-some, passed-ahead, passed-none}
 use Rattle.machine.proofs.caller.Caller.pass.Goals as goal
 
@@ -26,6 +26,16 @@ count_ahead-count-requires-clause-known g c =
     c.requires.high (scripts-low c.args.input.now.scripts.items c.args.actor c.requires.low) c.requires.stands.3
     c.in-Some.is in
     omega (arith, c.sub.ensures, known.1, c.requires.stands.1.hold.subs)
+
+pub count_ahead-count-requires-clause-over : goal.count_ahead-count-requires-clause-over
+count_ahead-count-requires-clause-over g c =
+    c.in-Some-climb.ensures.over c.args.plan.now (walks-over (seen_input c.args.input.now) c.args.plan.now
+    c.requires.stands.0 c.args.actor c.args.self.now c.in-Some.walk c.requires.stands.3 c.in-Some.is)
+
+pub climb_past-requires-clause-over : goal.climb_past-requires-clause-over
+climb_past-requires-clause-over g c =
+    c.in-Some-climb.ensures.over c.args.plan.now (walks-over (seen_input c.args.input.now) c.args.plan.now
+    c.requires.stands.0 c.args.actor c.args.self.now c.in-Some.walk c.requires.stands.3 c.in-Some.is)
 
 pub returns-then-count-gt0-clause-passed : goal.returns-then-count-gt0-clause-passed
 returns-then-count-gt0-clause-passed g c = λ history sees place its.
