@@ -1,5 +1,5 @@
 //! The entries that climbs look at, by the places of their cells.
-ghost use Rattle.std.specs.Prelude.{◌≡◌, ◌≤◌, ◌<◌, ◌+◌, ◌*◌, ℕ, IfOk, List, OnOk, length, slice_index};
+ghost use Rattle.std.specs.Prelude.{◌≡◌, ◌≤◌, ◌<◌, ◌+◌, ◌*◌, ◌∷◌, [], ℕ, IfOk, List, OnOk, length, slice_index};
 ghost use Rattle.directory.specs.Finds.{most_looks};
 ghost use Rattle.region_plan.specs.Plan.{PlanData, levels_of, nodes_of};
 ghost use Rattle.region_plan.specs.Settings.{setting_of};
@@ -134,10 +134,9 @@ impl Routes {
         // Nodes and levels are few.
         plan_is_sound(plan);
         let parts = plan.nodes() as usize * plan.levels() as usize;
-        let mut starts = Vec::with_capacity(alloc, parts + 1)?;
-        starts.push(0)?;
-        let mut ways = Vec::with_capacity(alloc, readers.checked_add(1).ok_or(AllocError)?)?;
-        ways.push(0)?;
+        let ways_room = readers.checked_add(1).ok_or(AllocError)?;
+        let starts = row_from(alloc, 0, parts + 1)?;
+        let ways = row_from(alloc, 0, ways_room)?;
         Ok(Routes {
             levels: plan.levels(),
             starts,
@@ -193,6 +192,15 @@ impl Routes {
         self.starts.push(self.places.len() as u32)?;
         Ok(())
     }
+}
+
+// A row with this number at first, and room for so many.
+fn row_from<T: Copy>(alloc: Global, first: T, count: usize) -> Result<Vec<T>, AllocError>
+    ensures { IfOk result (λ row. row.items ≡ first ∷ []) }
+{
+    let mut row = Vec::with_capacity(alloc, count)?;
+    row.push(first)?;
+    Ok(row)
 }
 
 // How many readers all nodes have on all levels, so that there is room for them from the beginning.

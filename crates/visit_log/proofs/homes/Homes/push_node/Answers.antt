@@ -2,9 +2,11 @@ use Rattle.std.proofs.Common.{◌≡◌, ℕ, suc, ◌+◌, ◌*◌, ◌<◌, []
 use Rattle.std.specs.Prelude.{slice_index}
 use Rattle.std.proofs.lemmas.Bool.{cases_lt}
 use Rattle.std.proofs.lemmas.List.{get_or_append_left, get_or_push, length_push}
-use Rattle.region_plan.specs.Plan.{PlanData, levels_of}
+use Rattle.region_plan.specs.Plan.{PlanData, home, levels_of}
 use Rattle.visit_log.specs.Homes.{HaveHomes, HomeData, home_place}
+use Rattle.entry_word.specs.declared.visit.Key.TheVariants.{Entry}
 use Rattle.visit_log.proofs.Adding.{same-part}
+use Rattle.visit_log.proofs.Apart.{place-below}
 use Rattle.visit_log.proofs.homes.Homes.push_node.Goals as goal
 
 -- one home more
@@ -44,3 +46,19 @@ loop-level-preserved c =
     c.args.node c.loop-level.level (c.first.result + c.home.result) low c.loop-level.invariant
     refl c.in_ok-push.ensures.items
     (omega (arith, c.first.ensures, c.requires.places.firsts c.loop-level.level low, c.home.ensures))
+
+pub overflow_add-place : goal.overflow_add-place
+overflow_add-place c =
+    let plan = c.args.plan.now in
+    let level : ℕ = c.loop-level.level in
+    let low : level < levels_of plan = omega (arith, c.loop-level-test.true, c.levels-level-end.ensures) in
+    omega (
+      arith,
+      c.first.ensures,
+      c.requires.places.firsts level low,
+      c.home.ensures,
+      place-below plan (Entry level (home plan level c.args.node) 0)
+          (low, c.plan_is_sound.ensures.matched.homes level c.args.node low c.requires.node),
+      c.requires.places.width,
+      c.requires.places.few,
+    )

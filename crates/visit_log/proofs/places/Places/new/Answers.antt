@@ -1,0 +1,68 @@
+use Rattle.std.proofs.Common.{◌≡◌, ℕ, ◌+◌, ◌*◌, ◌<◌, ◌≤◌, List, [], ◌∷◌, ◌++◌, length, get_or, ap, sym, ◌∙◌, subst, inl, inr, arith}
+use Rattle.std.proofs.Math.Nat.{le_antisymm}
+use Rattle.std.proofs.lemmas.Bool.{cases_lt}
+use Rattle.std.proofs.lemmas.List.{get_or_append_left, get_or_push, length_push, take_all}
+use Rattle.std.proofs.lemmas.List.Sums.{sum_by_more}
+use Rattle.std.specs.Prelude.{sum_by}
+use Rattle.region_plan.specs.Kept.{IsKept}
+use Rattle.region_plan.specs.Plan.{PlanData, clusters_of, levels_of, no_level, nodes_of}
+use Rattle.visit_log.specs.Numbers.{clusters_below}
+use Rattle.visit_log.proofs.Apart.{size}
+use Rattle.visit_log.proofs.places.Places.new.Goals as goal
+
+-- the first place of one level more
+record HaveFirsts (plan : PlanData) (firsts : List ℕ) (level first : ℕ) : Type 0 where
+  count : length firsts ≡ level
+  each : (k : ℕ) → k < level → get_or firsts k 0 ≡ nodes_of plan + clusters_below plan k
+  next : first ≡ nodes_of plan + clusters_below plan level
+  few : first ≤ 1024 * (level + 1)
+
+more-firsts : (plan : PlanData) (old new : List ℕ) (level first : ℕ) → IsKept plan → level < levels_of plan
+    → HaveFirsts plan old level first → new ≡ old ++ first ∷ []
+    → HaveFirsts plan new (level + 1) (first + clusters_of plan level)
+more-firsts plan old new level first kept low have items = record {
+  count = omega (arith, have.count, ap length items, length_push old first);
+  each = λ k below. elim (cases_lt k level) [
+    | inl less ↦
+        ap (λ xs. get_or xs k 0) items
+        ∙ (get_or_append_left old (first ∷ []) 0 k (omega (arith, less, have.count)) ∙ have.each k less)
+    | inr over ↦
+        let at : k ≡ level = omega (arith, below, over) in
+        subst (λ n. get_or new n 0 ≡ nodes_of plan + clusters_below plan n) (sym at)
+        (ap (λ xs. get_or xs level 0) items
+        ∙ (get_or_push old first 0 level (omega (arith, have.count)) ∙ have.next))
+  ];
+  next = omega (arith, have.next, sum_by_more size plan.levels level no_level low);
+  few = omega (arith, have.few, (kept.levels level no_level low).clusters, kept.metric.few);
+}
+
+pub loop-level-preserved : goal.loop-level-preserved
+loop-level-preserved c =
+    let plan = c.args.plan.now in
+    let more = more-firsts plan c.loop-level.firsts.items c.push.new.self.items c.loop-level.level c.loop-level.first
+    c.nodes-first.ensures.sound (omega (arith, c.loop-level-test.true, c.levels-level-end.ensures)) (record {
+      count = sym c.loop-level.firsts.ok.0 ∙ c.loop-level.invariant.count;
+      each = c.loop-level.invariant.firsts;
+      next = c.loop-level.invariant.first;
+      few = c.loop-level.invariant.few;
+    }) c.in_ok-push.ensures.items in
+    record {
+      count = c.push.new.self.ok.0 ∙ more.count;
+      firsts = more.each;
+      first = ap (λ n. c.loop-level.first + n) c.clusters-first.ensures ∙ more.next;
+      few = subst (λ n. c.loop-level.first + n ≤ 1024 * (c.loop-level.level + 1 + 1)) (sym c.clusters-first.ensures)
+          more.few;
+    }
+
+pub returns : goal.returns
+returns c =
+    let plan = c.args.plan.now in
+    let all : c.loop-level.level ≡ levels_of plan =
+    le_antisymm c.loop-level.auto.level-end c.loop-level-test.false ∙ c.levels-level-end.ensures in
+    record {
+      width = c.loop-level.invariant.first ∙ ap (λ n. nodes_of plan + n)
+          (ap (sum_by size) (take_all c.loop-level.level plan.levels (omega (arith, all))));
+      few = omega (arith, c.loop-level.invariant.few, all, c.nodes-first.ensures.sound.few);
+      levels = sym c.loop-level.firsts.ok.0 ∙ (c.loop-level.invariant.count ∙ all);
+      firsts = λ level low. c.loop-level.invariant.firsts level (subst (λ n. level < n) (sym all) low);
+    }

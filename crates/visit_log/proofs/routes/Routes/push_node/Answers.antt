@@ -1,0 +1,20 @@
+use Rattle.std.proofs.Common.{◌≡◌, ℕ, ◌+◌, ◌*◌, ◌∙◌, add_assoc, arith, subst}
+use Rattle.std.proofs.Math.Nat.{le_antisymm}
+use Rattle.region_plan.specs.Plan.{levels_of}
+use Rattle.visit_log.specs.Routes.{HaveParts}
+use Rattle.visit_log.proofs.routes.Routes.push_node.Goals as goal
+
+pub loop-level-preserved : goal.loop-level-preserved
+loop-level-preserved c =
+    subst (HaveParts c.args.plan.now c.push_part.new.self)
+    (add_assoc (c.args.node * levels_of c.args.plan.now) c.loop-level.level 1) c.in_ok-push_part.ensures
+
+all-levels : (node level levels : ℕ) → level ≡ levels → node * levels + level ≡ (node + 1) * levels
+all-levels node level levels all = omega (arith, all)
+
+pub returns : goal.returns
+returns c =
+    subst (HaveParts c.args.plan.now c.loop-level.self)
+    (all-levels c.args.node c.loop-level.level (levels_of c.args.plan.now)
+    (le_antisymm c.loop-level.auto.level-end c.loop-level-test.false ∙ c.levels-level-end.ensures))
+    c.loop-level.invariant
