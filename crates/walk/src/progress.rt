@@ -4,7 +4,7 @@ use directory::Found;
 
 /// What a find keeps as it chases: the greatest number of a Gone that it read, the level that it
 /// climbed to, its weight so far, and how many hops it has left.
-#[derive(Clone, Copy, PartialEq, Eq, Debug)]
+#[derive(Clone, Copy)]
 pub struct Chase {
     pub known: Option<u32>,
     pub level: Option<u32>,
@@ -26,7 +26,7 @@ pub struct Climb {
 
 /// At its origin; at the entry of a reader, by level and place among the readers; chasing at a
 /// node; or ended.
-#[derive(Clone, Copy, PartialEq, Eq, Debug)]
+#[derive(Clone, Copy)]
 pub enum Progress {
     AtOrigin,
     Climbing {
