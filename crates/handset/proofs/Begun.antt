@@ -2,15 +2,16 @@
 use Rattle.std.proofs.Common.{◌≡◌, ℕ, suc, ◌+◌, ◌<◌, ◌≤◌, Bool, true, false, cond, List, [], ◌∷◌, ◌++◌, length, map, fold, take, drop, replicate, refl, sym, ap, ◌∙◌, subst, arith, length-append}
 use Rattle.std.specs.Prelude.{get_or, nat_le, slice_set, ◌==◌, ◌||◌}
 use Rattle.std.proofs.lemmas.Bool.Decides.{nat_tests}
-use Rattle.std.proofs.lemmas.List.{append-nil, take-append-le, get_or-set_same, get_or-set_other, get_or-replicate, length-replicate}
+use Rattle.std.proofs.lemmas.List.{append-nil, take-append-le, get_or-set_same, get_or-set_other, get_or-replicate, length-replicate, length-set}
 use Rattle.node_set.specs.Ascending.{has}
 use Rattle.entry_word.specs.declared.mark.PresenceMark.TheVariants.{Off, Here}
 use Rattle.directory.specs.Settings.{Setting, levels, start}
 use Rattle.directory.specs.Courses.{Step, move_to, switch_off, switch_on, Move, Course, last_stop, gathered_weight, renewal, next_move}
 use Rattle.directory.specs.Writes.{visit_of, visits, step_writes, trail, mark_at, move_writes, writes}
+use Rattle.region_plan.specs.Kept.{IsKept}
 use Rattle.region_plan.specs.Plan.{PlanData, nodes_of, levels_of}
 use Rattle.handset.specs.declared.stage.Stage.TheVariants.{Resting, Coming, Switching}
-use Rattle.handset.specs.Kept.{HandsetData}
+use Rattle.handset.specs.Kept.{GoesWith, HandsetData}
 use Rattle.handset.specs.Progress.{left_at}
 use Rattle.handset.specs.Beginning.{begin_move, handset_at, journey_to, renewal_in, gathered_then}
 use Rattle.directory.specs.Amid.{course_of}
@@ -231,3 +232,22 @@ new-stands setting plan sub home nodes count starts inside = record {
     at_start : (node : ℕ) → node < nodes_of plan → get_or (slice_set (replicate
         (nodes_of plan) false) home true) node false ≡ (node == start setting sub || false)
     at_start node h = at_test node h (node == home) refl ∙ ap (λ n. node == n || false) (sym starts)
+
+-- it goes with its plan
+pub new-goes : (plan : PlanData) (sub home : ℕ) → IsKept plan → home < nodes_of plan
+    → GoesWith plan (handset_at plan sub home)
+new-goes plan sub home kept inside = record {
+  addresses = length-replicate (levels_of plan) home;
+  gathered = length-replicate (levels_of plan) 0;
+  trail = length-set (replicate (nodes_of plan) false) home true ∙ length-replicate (nodes_of plan) false;
+  place = inside;
+  from = inside;
+  to = inside;
+  renewed = kept.some;
+  inside = λ level low.
+      subst (λ n. n < nodes_of plan) (sym (get_or-replicate (levels_of plan) level home 0 low)) inside;
+  light = λ level low. omega (arith, get_or-replicate {A = ℕ} (levels_of plan) level 0 0 low);
+  counted = refl;
+  numbered = omega arith;
+  stage = tt;
+}

@@ -3,7 +3,7 @@ ghost use Rattle.std.specs.Prelude.{◌≡◌};
 ghost use Rattle.handset.specs.Beginning.{is_committing, is_rest};
 
 /// The write that comes next: none at rest; those of a move in their order; the one of a switch.
-#[derive(Clone, Copy, PartialEq, Eq, Debug)]
+#[derive(Clone, Copy)]
 pub enum Stage {
     Resting,
     Coming,
@@ -36,7 +36,7 @@ impl Stage {
 
 /// A move: its number, counted from 1, its two nodes and their distance, and the highest level that
 /// it renews.
-#[derive(Clone, Copy, PartialEq, Eq, Debug)]
+#[derive(Clone, Copy)]
 pub struct Journey {
     pub number: u32,
     pub from: u32,
