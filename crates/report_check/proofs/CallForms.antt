@@ -12,7 +12,7 @@ use Rattle.report_check.specs.declared.calls.Visits.{Visits}
 use Rattle.report_check.specs.declared.slots.Slot.{Slot}
 use Rattle.report_check.specs.declared.slots.Slot.TheVariants.{Move, Switch, Find}
 use Rattle.report_check.specs.Forms.{AreVisitsBelow, IsCallBelow, IsLevelBelow, IsPlaceBelow, IsWhyBelow, slot_told}
-use Rattle.report_check.specs.Reading.{again_in, answer, answer_in, call_in, empty_or_other, found_or_other, labelled_in, level_in, level_or_dash, most, move_in, number_in, off_or_again, other_why, place_in, switch_in, visits_in, why_in, word_in}
+use Rattle.report_check.specs.Reading.{again_in, answer, answer_in, call_in, closing_in, empty_or_other, found_or_other, given_in, labelled_in, level_in, level_or_dash, most, move_in, number_in, off_or_again, other_why, place_in, switch_in, visits_in, why_in, word_in}
 use Rattle.report_check.proofs.CallTexts.{bind-elim, value-is}
 use Rattle.report_check.proofs.Texts.{number-low}
 
@@ -25,55 +25,54 @@ label-low : (label : List ℕ) (limit : ℕ) (text : List ℕ) (found : ℕ × L
 label-low label limit text found e =
     bind-elim (word_in label text) (number_in limit) found e (λ mid em nm. number-low limit found.0 mid found.1 nm)
 
+pub closing-low : (label text : List ℕ) (found : ℕ × List ℕ) → closing_in label text ≡ Some found → found.0 < most
+closing-low label text found e =
+    bind-elim (labelled_in label most text) _ found e (λ l el nl.
+    bind-elim (word_in (10 ∷ []) l.1) _ found nl (λ r er nr.
+    subst (λ n. n < most) (value-is l.0 found.0 r found.1 nr) (label-low label most text l el)))
+
 move-formed : (bounds : Bounds) (actor number from to : ℕ) (text rest : List ℕ) (call : Done)
     → move_in actor number from to text ≡ Some (call, rest) → IsFormed bounds (Move actor number from to) call
 move-formed bounds actor number from to text rest call e =
-    bind-elim (word_in (codes "move") text) _ (call, rest) e (λ r0 e0 n0.
-    bind-elim (word_in (fields (actor ∷ number ∷ from ∷ to ∷ [])) r0) _ (call, rest) n0 (λ r1 e1 n1.
-    bind-elim (labelled_in (codes " weight") most r1) _ (call, rest) n1 (λ w ew nw.
+    bind-elim (given_in (codes "move") (actor ∷ number ∷ from ∷ to ∷ []) text) _ (call, rest) e (λ r er nr.
+    bind-elim (labelled_in (codes " weight") most r) _ (call, rest) nr (λ w ew nw.
     bind-elim (labelled_in (codes " first") most w.1) _ (call, rest) nw (λ f ef nf.
     bind-elim (labelled_in (codes " commit") most f.1) _ (call, rest) nf (λ c ec nc.
-    bind-elim (labelled_in (codes " last") most c.1) _ (call, rest) nc (λ l el nl.
-    bind-elim (word_in (10 ∷ []) l.1) _ (call, rest) nl (λ r er nr.
+    bind-elim (closing_in (codes " last") c.1) _ (call, rest) nc (λ l el nl.
     subst (IsFormed bounds (Move actor number from to))
-    (value-is (Moved actor number from to w.0 f.0 c.0 l.0) call r rest nr) (
+    (value-is (Moved actor number from to w.0 f.0 c.0 l.0) call l.1 rest nl) (
       refl,
       (
-        label-low (codes " weight") most r1 w ew,
+        label-low (codes " weight") most r w ew,
         label-low (codes " first") most w.1 f ef,
         label-low (codes " commit") most f.1 c ec,
-        label-low (codes " last") most c.1 l el,
+        closing-low (codes " last") c.1 l el,
       ),
-    ))))))))
+    ))))))
 
 switch-formed : (bounds : Bounds) (actor : ℕ) (off : Bool) (node number : ℕ) (text rest : List ℕ) (call : Done)
     → switch_in actor off node number text ≡ Some (call, rest) → IsFormed bounds (Switch actor off node number) call
 switch-formed bounds actor off node number text rest call e =
-    bind-elim (word_in (codes "switch") text) _ (call, rest) e (λ r0 e0 n0.
-    bind-elim (word_in (fields (actor ∷ [])) r0) _ (call, rest) n0 (λ r1 e1 n1.
-    bind-elim (word_in (switch_field off) r1) _ (call, rest) n1 (λ r2 e2 n2.
-    bind-elim (word_in (fields (node ∷ [])) r2) _ (call, rest) n2 (λ r3 e3 n3.
-    bind-elim (word_in (codes " number") r3) _ (call, rest) n3 (λ r4 e4 n4.
-    bind-elim (word_in (fields (number ∷ [])) r4) _ (call, rest) n4 (λ r5 e5 n5.
-    bind-elim (labelled_in (codes " ticket") most r5) _ (call, rest) n5 (λ t et nt.
-    bind-elim (word_in (10 ∷ []) t.1) _ (call, rest) nt (λ r er nr.
+    bind-elim (given_in (codes "switch") (actor ∷ []) text) _ (call, rest) e (λ r0 e0 n0.
+    bind-elim (given_in (switch_field off) (node ∷ []) r0) _ (call, rest) n0 (λ r1 e1 n1.
+    bind-elim (given_in (codes " number") (number ∷ []) r1) _ (call, rest) n1 (λ r2 e2 n2.
+    bind-elim (closing_in (codes " ticket") r2) _ (call, rest) n2 (λ t et nt.
     subst (IsFormed bounds (Switch actor off node number))
-    (value-is (Switched actor off node number t.0) call r rest nr)
-    (refl, label-low (codes " ticket") most r5 t et)))))))))
+    (value-is (Switched actor off node number t.0) call t.1 rest nt)
+    (refl, closing-low (codes " ticket") r2 t et)))))
 
 visits-low : (text rest : List ℕ) (v : Visits) → visits_in text ≡ Some (v, rest)
     → AreVisitsBelow v.weight v.first v.last
 visits-low text rest v e =
     bind-elim (labelled_in (codes " weight") most text) _ (v, rest) e (λ w ew nw.
     bind-elim (labelled_in (codes " first") most w.1) _ (v, rest) nw (λ f ef nf.
-    bind-elim (labelled_in (codes " last") most f.1) _ (v, rest) nf (λ l el nl.
-    bind-elim (word_in (10 ∷ []) l.1) _ (v, rest) nl (λ r er nr.
+    bind-elim (closing_in (codes " last") f.1) _ (v, rest) nf (λ l el nl.
     subst (λ (u : Visits). AreVisitsBelow u.weight u.first u.last)
-    (value-is (record { weight = w.0; first = f.0; last = l.0 }) v r rest nr) (
+    (value-is (record { weight = w.0; first = f.0; last = l.0 }) v l.1 rest nl) (
       label-low (codes " weight") most text w ew,
       label-low (codes " first") most w.1 f ef,
-      label-low (codes " last") most f.1 l el,
-    )))))
+      closing-low (codes " last") f.1 l el,
+    ))))
 
 level-low : (levels : ℕ) (text rest : List ℕ) (level : Option ℕ) (o : Option (ℕ × List ℕ)) → number_in levels text ≡ o
     → level_or_dash text o ≡ Some (level, rest) → IsLevelBelow levels level

@@ -11,7 +11,7 @@ use Rattle.report_check.specs.declared.calls.Place.{Place}
 use Rattle.report_check.specs.declared.calls.Visits.{Visits}
 use Rattle.report_check.specs.declared.slots.Slot.{Slot}
 use Rattle.report_check.specs.declared.slots.Slot.TheVariants.{Move, Switch, Find}
-use Rattle.report_check.specs.Reading.{◌>>=◌, again_in, answer, answer_in, call_in, empty_or_other, found_or_other, labelled_in, level_in, level_or_dash, most, move_in, number_in, off_or_again, other_why, place_in, switch_in, visits_in, why_in, word_in}
+use Rattle.report_check.specs.Reading.{◌>>=◌, again_in, answer, answer_in, call_in, closing_in, empty_or_other, found_or_other, given_in, labelled_in, level_in, level_or_dash, most, move_in, number_in, off_or_again, other_why, place_in, switch_in, visits_in, why_in, word_in}
 use Rattle.report_check.proofs.Texts.{bind-inv, number-text, word-text}
 
 -- words in front of what follows
@@ -54,41 +54,6 @@ rest-is x y text rest e = ap (λ o. second-of o) e
     second-of None = []
     second-of (Some p) = p.1
 
--- the end of a line
-line-end : {A : Type 0} (x y : A) (text mid rest : List ℕ) → word_in (10 ∷ []) text ≡ Some mid
-    → ◌≡◌ {A = Option (A × List ℕ)} (Some (x, mid)) (Some (y, rest)) → text ≡ (10 ∷ []) ++ rest
-line-end x y text mid rest e last =
-    word-text (10 ∷ []) text mid e ∙ ap (λ (xs : List ℕ). 10 ∷ xs) (rest-is x y mid rest last)
-
-pub visits-text : (text rest : List ℕ) (v : Visits) → visits_in text ≡ Some (v, rest)
-    → text ≡ visit_fields v.weight v.first v.last ++ rest
-visits-text text rest v e =
-    let a : (w : ℕ × List ℕ) × (labelled_in (codes " weight") most text ≡ Some w)
-    × ((labelled_in (codes " first") most w.1 >>= (λ (f : ℕ × List ℕ).
-    labelled_in (codes " last") most f.1 >>= (λ (l : ℕ × List ℕ).
-    word_in (10 ∷ []) l.1 >>= (λ (r : List ℕ).
-    Some (record { weight = w.0; first = f.0; last = l.0 }, r))))) ≡ Some (v, rest)) =
-    bind-inv (labelled_in (codes " weight") most text) _ (v, rest) e in
-    let b : (f : ℕ × List ℕ) × (labelled_in (codes " first") most a.0.1 ≡ Some f)
-    × ((labelled_in (codes " last") most f.1 >>= (λ (l : ℕ × List ℕ).
-    word_in (10 ∷ []) l.1 >>= (λ (r : List ℕ).
-    Some (record { weight = a.0.0; first = f.0; last = l.0 }, r)))) ≡ Some (v, rest)) =
-    bind-inv (labelled_in (codes " first") most a.0.1) _ (v, rest) a.2 in
-    let c : (l : ℕ × List ℕ) × (labelled_in (codes " last") most b.0.1 ≡ Some l)
-    × ((word_in (10 ∷ []) l.1 >>= (λ (r : List ℕ).
-    Some (record { weight = a.0.0; first = b.0.0; last = l.0 }, r))) ≡ Some (v, rest)) =
-    bind-inv (labelled_in (codes " last") most b.0.1) _ (v, rest) b.2 in
-    let d : (r : List ℕ) × (word_in (10 ∷ []) c.0.1 ≡ Some r)
-    × (◌≡◌ {A = Option (Visits × List ℕ)}
-    (Some (record { weight = a.0.0; first = b.0.0; last = c.0.0 }, r)) (Some (v, rest))) =
-    bind-inv (word_in (10 ∷ []) c.0.1) _ (v, rest) c.2 in
-    let made : Visits = record { weight = a.0.0; first = b.0.0; last = c.0.0 } in
-    label-front (codes " weight") most text a.0 _ rest (omega arith) a.1
-    (label-front (codes " first") most a.0.1 b.0 _ rest (omega arith) b.1
-    (label-front (codes " last") most b.0.1 c.0 (10 ∷ []) rest (omega arith) c.1
-    (line-end made v c.0.1 d.0 rest d.1 d.2)))
-    ∙ ap (λ (w : Visits). visit_fields w.weight w.first w.last ++ rest) (value-is made v d.0 rest d.2)
-
 high : most ≤ 2 ^ 63
 high = omega arith
 
@@ -97,58 +62,79 @@ pub bind-elim : {A B P : Type 0} (o : Option A) (f : A → Option B) (y : B) →
 bind-elim None f y e go = let bad : None ≡ Some y = e in cc
 bind-elim (Some x) f y e go = go x refl e
 
+-- a label and a number at the end of a line
+pub closing-front : (label text : List ℕ) (found : ℕ × List ℕ) (rest : List ℕ)
+    → closing_in label text ≡ Some found → found.1 ≡ rest → text ≡ (label ++ (field found.0 ++ 10 ∷ [])) ++ rest
+closing-front label text found rest e later =
+    bind-elim (labelled_in label most text) _ found e (λ l el nl.
+    bind-elim (word_in (10 ∷ []) l.1) _ found nl (λ r er nr.
+    label-front label most text l (10 ∷ []) rest high el
+    (word-text (10 ∷ []) l.1 r er ∙ ap (λ (xs : List ℕ). 10 ∷ xs) (rest-is l.0 found.0 r found.1 nr ∙ later))
+    ∙ ap (λ n. (label ++ (field n ++ 10 ∷ [])) ++ rest) (value-is l.0 found.0 r found.1 nr)))
+
+-- a word and numbers in front of what follows
+given-front : (word numbers text mid more rest : List ℕ) → given_in word numbers text ≡ Some mid
+    → mid ≡ more ++ rest → text ≡ (word ++ (fields numbers ++ more)) ++ rest
+given-front word numbers text mid more rest e later =
+    bind-elim (word_in word text) (word_in (fields numbers)) mid e (λ r er nr.
+    word-front word text r (fields numbers ++ more) rest er (word-front (fields numbers) r mid more rest nr later))
+
+-- the same of one number
+one-front : (word : List ℕ) (n : ℕ) (text mid more rest : List ℕ) → given_in word (n ∷ []) text ≡ Some mid
+    → mid ≡ more ++ rest → text ≡ (word ++ (field n ++ more)) ++ rest
+one-front word n text mid more rest e later =
+    given-front word (n ∷ []) text mid more rest e later
+    ∙ ap (λ (xs : List ℕ). (word ++ (xs ++ more)) ++ rest) (append-nil (field n))
+
+pub visits-text : (text rest : List ℕ) (v : Visits) → visits_in text ≡ Some (v, rest)
+    → text ≡ visit_fields v.weight v.first v.last ++ rest
+visits-text text rest v e =
+    bind-elim (labelled_in (codes " weight") most text) _ (v, rest) e (λ w ew nw.
+    bind-elim (labelled_in (codes " first") most w.1) _ (v, rest) nw (λ f ef nf.
+    bind-elim (closing_in (codes " last") f.1) _ (v, rest) nf (λ l el nl.
+    let made : Visits = record { weight = w.0; first = f.0; last = l.0 } in
+    let lasts : List ℕ = codes " last" ++ (field l.0 ++ 10 ∷ []) in
+    label-front (codes " weight") most text w (codes " first" ++ (field f.0 ++ lasts)) rest high ew
+    (label-front (codes " first") most w.1 f lasts rest high ef
+    (closing-front (codes " last") f.1 l rest el (rest-is made v l.1 rest nl)))
+    ∙ ap (λ (u : Visits). visit_fields u.weight u.first u.last ++ rest) (value-is made v l.1 rest nl))))
+
 move-text : (actor number from to : ℕ) (text rest : List ℕ) (call : Done)
     → move_in actor number from to text ≡ Some (call, rest) → text ≡ call_line call ++ rest
 move-text actor number from to text rest call e =
-    bind-elim (word_in (codes "move") text) _ (call, rest) e (λ r0 e0 n0.
-    bind-elim (word_in (fields (actor ∷ number ∷ from ∷ to ∷ [])) r0) _ (call, rest) n0 (λ r1 e1 n1.
-    bind-elim (labelled_in (codes " weight") most r1) _ (call, rest) n1 (λ w ew nw.
+    bind-elim (given_in (codes "move") (actor ∷ number ∷ from ∷ to ∷ []) text) _ (call, rest) e (λ r er nr.
+    bind-elim (labelled_in (codes " weight") most r) _ (call, rest) nr (λ w ew nw.
     bind-elim (labelled_in (codes " first") most w.1) _ (call, rest) nw (λ f ef nf.
     bind-elim (labelled_in (codes " commit") most f.1) _ (call, rest) nf (λ c ec nc.
-    bind-elim (labelled_in (codes " last") most c.1) _ (call, rest) nc (λ l el nl.
-    bind-elim (word_in (10 ∷ []) l.1) _ (call, rest) nl (λ r er nr.
+    bind-elim (closing_in (codes " last") c.1) _ (call, rest) nc (λ l el nl.
+    let made : Done = Moved actor number from to w.0 f.0 c.0 l.0 in
     let lasts : List ℕ = codes " last" ++ (field l.0 ++ 10 ∷ []) in
     let commits : List ℕ = codes " commit" ++ (field c.0 ++ lasts) in
     let firsts : List ℕ = codes " first" ++ (field f.0 ++ commits) in
     let weights : List ℕ = codes " weight" ++ (field w.0 ++ firsts) in
-    word-front (codes "move") text r0 (fields (actor ∷ number ∷ from ∷ to ∷ []) ++ weights) rest e0
-    (word-front (fields (actor ∷ number ∷ from ∷ to ∷ [])) r0 r1 weights rest e1
-    (label-front (codes " weight") most r1 w firsts rest high ew
+    given-front (codes "move") (actor ∷ number ∷ from ∷ to ∷ []) text r weights rest er
+    (label-front (codes " weight") most r w firsts rest high ew
     (label-front (codes " first") most w.1 f commits rest high ef
     (label-front (codes " commit") most f.1 c lasts rest high ec
-    (label-front (codes " last") most c.1 l (10 ∷ []) rest high el
-    (line-end (Moved actor number from to w.0 f.0 c.0 l.0) call l.1 r rest er nr))))))
-    ∙ ap (λ (d : Done). call_line d ++ rest)
-    (value-is (Moved actor number from to w.0 f.0 c.0 l.0) call r rest nr))))))))
-
-one-field : (n : ℕ) (text rest : List ℕ) → word_in (fields (n ∷ [])) text ≡ Some rest
-    → word_in (field n) text ≡ Some rest
-one-field n text rest e = ap (λ (ws : List ℕ). word_in ws text) (sym (append-nil (field n))) ∙ e
+    (closing-front (codes " last") c.1 l rest el (rest-is made call l.1 rest nl)))))
+    ∙ ap (λ (d : Done). call_line d ++ rest) (value-is made call l.1 rest nl))))))
 
 switch-text : (actor : ℕ) (off : Bool) (node number : ℕ) (text rest : List ℕ) (call : Done)
     → switch_in actor off node number text ≡ Some (call, rest) → text ≡ call_line call ++ rest
 switch-text actor off node number text rest call e =
-    bind-elim (word_in (codes "switch") text) _ (call, rest) e (λ r0 e0 n0.
-    bind-elim (word_in (fields (actor ∷ [])) r0) _ (call, rest) n0 (λ r1 e1 n1.
-    bind-elim (word_in (switch_field off) r1) _ (call, rest) n1 (λ r2 e2 n2.
-    bind-elim (word_in (fields (node ∷ [])) r2) _ (call, rest) n2 (λ r3 e3 n3.
-    bind-elim (word_in (codes " number") r3) _ (call, rest) n3 (λ r4 e4 n4.
-    bind-elim (word_in (fields (number ∷ [])) r4) _ (call, rest) n4 (λ r5 e5 n5.
-    bind-elim (labelled_in (codes " ticket") most r5) _ (call, rest) n5 (λ t et nt.
-    bind-elim (word_in (10 ∷ []) t.1) _ (call, rest) nt (λ r er nr.
+    bind-elim (given_in (codes "switch") (actor ∷ []) text) _ (call, rest) e (λ r0 e0 n0.
+    bind-elim (given_in (switch_field off) (node ∷ []) r0) _ (call, rest) n0 (λ r1 e1 n1.
+    bind-elim (given_in (codes " number") (number ∷ []) r1) _ (call, rest) n1 (λ r2 e2 n2.
+    bind-elim (closing_in (codes " ticket") r2) _ (call, rest) n2 (λ t et nt.
+    let made : Done = Switched actor off node number t.0 in
     let tickets : List ℕ = codes " ticket" ++ (field t.0 ++ 10 ∷ []) in
     let numbers : List ℕ = codes " number" ++ (field number ++ tickets) in
     let states : List ℕ = switch_field off ++ (field node ++ numbers) in
-    word-front (codes "switch") text r0 (field actor ++ states) rest e0
-    (word-front (field actor) r0 r1 states rest (one-field actor r0 r1 e1)
-    (word-front (switch_field off) r1 r2 (field node ++ numbers) rest e2
-    (word-front (field node) r2 r3 numbers rest (one-field node r2 r3 e3)
-    (word-front (codes " number") r3 r4 (field number ++ tickets) rest e4
-    (word-front (field number) r4 r5 tickets rest (one-field number r4 r5 e5)
-    (label-front (codes " ticket") most r5 t (10 ∷ []) rest high et
-    (line-end (Switched actor off node number t.0) call t.1 r rest er nr)))))))
-    ∙ ap (λ (d : Done). call_line d ++ rest)
-    (value-is (Switched actor off node number t.0) call r rest nr)))))))))
+    one-front (codes "switch") actor text r0 states rest e0
+    (one-front (switch_field off) node r0 r1 numbers rest e1
+    (one-front (codes " number") number r1 r2 tickets rest e2
+    (closing-front (codes " ticket") r2 t rest et (rest-is made call t.1 rest nt))))
+    ∙ ap (λ (d : Done). call_line d ++ rest) (value-is made call t.1 rest nt)))))
 
 level-cases : (levels : ℕ) (text rest : List ℕ) (level : Option ℕ) (o : Option (ℕ × List ℕ)) → levels ≤ 2 ^ 63
     → number_in levels text ≡ o → level_or_dash text o ≡ Some (level, rest) → text ≡ level_field level ++ rest

@@ -1,5 +1,5 @@
 -- What report_text writes of an outcome of the form of reports is read as the outcome.
-use Rattle.std.proofs.Common.{◌≡◌, ℕ, zero, suc, ◌+◌, ◌-◌, ◌*◌, ◌^◌, ◌<◌, ◌≤◌, Bool, true, false, cond, eqb, ltb, List, [], ◌∷◌, ◌++◌, length, get_or, Option, Some, None, refl, ap, ◌∙◌, arith, codes, rules, append_assoc, append-nil}
+use Rattle.std.proofs.Common.{◌≡◌, ℕ, zero, suc, ◌+◌, ◌-◌, ◌*◌, ◌^◌, ◌<◌, ◌≤◌, Bool, true, false, cond, eqb, ltb, List, [], ◌∷◌, ◌++◌, length, get_or, Option, Some, None, refl, ap, sym, ◌∙◌, arith, codes, rules, append_assoc, append-nil}
 use Rattle.std.proofs.lemmas.Bool.{and_parts}
 use Rattle.std.proofs.lemmas.Bool.Decides.{nat_tests}
 use Rattle.std.proofs.lemmas.Fmt.{digits_decimal, digits_value-decimal, first_decimal, decimal_digit, decimal_nonempty}
@@ -15,7 +15,7 @@ use Rattle.directory.specs.declared.answers.Why.TheVariants.{Empty, NoEntry, Cha
 use Rattle.report_text.specs.ReportText.{call_line, level_field, place_fields, switch_field, visit_fields, why_field}
 use Rattle.report_check.specs.declared.calls.Bounds.{Bounds}
 use Rattle.report_check.specs.Forms.{IsCallBelow, IsLevelBelow, IsWhyBelow, slot_told}
-use Rattle.report_check.specs.Reading.{◌>>=◌, again_in, answer, answer_in, call_in, digits_from, digits_in, digits_of, labelled_in, level_in, level_or_dash, most, move_in, number_in, place_in, starts_with_digit, switch_in, visits_in, why_in, word_in}
+use Rattle.report_check.specs.Reading.{◌>>=◌, again_in, answer, answer_in, call_in, closing_in, digits_from, digits_in, digits_of, given_in, labelled_in, level_in, level_or_dash, most, move_in, number_in, place_in, starts_with_digit, switch_in, visits_in, why_in, word_in}
 
 -- ---- words and numbers
 
@@ -117,11 +117,20 @@ word-then ws more rest f y h =
     ap (λ xs. word_in ws xs >>= f) (append_assoc ws more rest)
     ∙ ap (λ o. o >>= f) (word-reads ws (more ++ rest)) ∙ h
 
--- so it does where a number stands behind a blank
-field-then : {B : Type 0} (n : ℕ) (more rest : List ℕ) (f : List ℕ → Option B) (y : Option B)
-    → f (more ++ rest) ≡ y → (word_in (fields (n ∷ [])) ((field n ++ more) ++ rest) >>= f) ≡ y
-field-then n more rest f y h =
-    ap (λ ws. word_in ws ((field n ++ more) ++ rest) >>= f) (append-nil (field n)) ∙ word-then (field n) more rest f y h
+-- so it does behind a word and numbers
+given-then : {B : Type 0} (word numbers more rest : List ℕ) (f : List ℕ → Option B) (y : Option B)
+    → f (more ++ rest) ≡ y → (given_in word numbers ((word ++ (fields numbers ++ more)) ++ rest) >>= f) ≡ y
+given-then word numbers more rest f y h =
+    ap (λ o. o >>= f) (word-then word (fields numbers ++ more) rest (word_in (fields numbers)) (Some (more ++ rest))
+    (ap (word_in (fields numbers)) (append_assoc (fields numbers) more rest) ∙ word-reads (fields numbers) (more ++ rest)))
+    ∙ h
+
+-- and behind a word and one number
+one-then : {B : Type 0} (word : List ℕ) (n : ℕ) (more rest : List ℕ) (f : List ℕ → Option B) (y : Option B)
+    → f (more ++ rest) ≡ y → (given_in word (n ∷ []) ((word ++ (field n ++ more)) ++ rest) >>= f) ≡ y
+one-then word n more rest f y h =
+    ap (λ (xs : List ℕ). given_in word (n ∷ []) ((word ++ (xs ++ more)) ++ rest) >>= f) (sym (append-nil (field n)))
+    ∙ given-then word (n ∷ []) more rest f y h
 
 -- and behind a label
 pub label-then : {B : Type 0} (label : List ℕ) (limit n : ℕ) (more rest : List ℕ) (f : ℕ × List ℕ → Option B)
@@ -140,6 +149,12 @@ bind-to o x f y e h = ap (λ p. p >>= f) e ∙ h
 high : most ≤ 2 ^ 63
 high = omega arith
 
+-- a label and a number at the end of a line are read
+pub closing-reads : (label : List ℕ) (n : ℕ) (rest : List ℕ) → n < most
+    → closing_in label ((label ++ (field n ++ 10 ∷ [])) ++ rest) ≡ Some (n, rest)
+closing-reads label n rest low =
+    label-then label most n (10 ∷ []) rest _ _ low high refl (word-then (10 ∷ []) [] rest _ _ refl)
+
 -- ---- lines of calls
 
 move-reads : (actor number from to weight first commit last : ℕ) (rest : List ℕ) → weight < most → first < most
@@ -151,13 +166,11 @@ move-reads actor number from to weight first commit last rest w f c l =
     let commits : List ℕ = codes " commit" ++ (field commit ++ lasts) in
     let firsts : List ℕ = codes " first" ++ (field first ++ commits) in
     let weights : List ℕ = codes " weight" ++ (field weight ++ firsts) in
-    word-then (codes "move") (fields (actor ∷ number ∷ from ∷ to ∷ []) ++ weights) rest _ _
-    (word-then (fields (actor ∷ number ∷ from ∷ to ∷ [])) weights rest _ _
+    given-then (codes "move") (actor ∷ number ∷ from ∷ to ∷ []) weights rest _ _
     (label-then (codes " weight") most weight firsts rest _ _ w high refl
     (label-then (codes " first") most first commits rest _ _ f high refl
     (label-then (codes " commit") most commit lasts rest _ _ c high refl
-    (label-then (codes " last") most last (10 ∷ []) rest _ _ l high refl
-    (word-then (10 ∷ []) [] rest _ _ refl))))))
+    (bind-to _ (last, rest) _ _ (closing-reads (codes " last") last rest l) refl))))
 
 switch-reads : (actor : ℕ) (off : Bool) (node number ticket : ℕ) (rest : List ℕ) → ticket < most
     → switch_in actor off node number (call_line (Switched actor off node number ticket) ++ rest)
@@ -166,14 +179,10 @@ switch-reads actor off node number ticket rest t =
     let tickets : List ℕ = codes " ticket" ++ (field ticket ++ 10 ∷ []) in
     let numbers : List ℕ = codes " number" ++ (field number ++ tickets) in
     let states : List ℕ = switch_field off ++ (field node ++ numbers) in
-    word-then (codes "switch") (field actor ++ states) rest _ _
-    (field-then actor states rest _ _
-    (word-then (switch_field off) (field node ++ numbers) rest _ _
-    (field-then node numbers rest _ _
-    (word-then (codes " number") (field number ++ tickets) rest _ _
-    (field-then number tickets rest _ _
-    (label-then (codes " ticket") most ticket (10 ∷ []) rest _ _ t high refl
-    (word-then (10 ∷ []) [] rest _ _ refl)))))))
+    one-then (codes "switch") actor states rest _ _
+    (one-then (switch_field off) node numbers rest _ _
+    (one-then (codes " number") number tickets rest _ _
+    (bind-to _ (ticket, rest) _ _ (closing-reads (codes " ticket") ticket rest t) refl)))
 
 visits-read : (weight first last : ℕ) (rest : List ℕ) → weight < most → first < most → last < most
     → visits_in (visit_fields weight first last ++ rest)
@@ -183,8 +192,7 @@ visits-read weight first last rest w f l =
     let firsts : List ℕ = codes " first" ++ (field first ++ lasts) in
     label-then (codes " weight") most weight firsts rest _ _ w high refl
     (label-then (codes " first") most first lasts rest _ _ f high refl
-    (label-then (codes " last") most last (10 ∷ []) rest _ _ l high refl
-    (word-then (10 ∷ []) [] rest _ _ refl)))
+    (bind-to _ (last, rest) _ _ (closing-reads (codes " last") last rest l) refl))
 
 no-digits : (t : Bool) → ◌≡◌ {A = Option (ℕ × List ℕ)} (cond {A = Option (ℕ × List ℕ)} t None None) None
 no-digits true = refl

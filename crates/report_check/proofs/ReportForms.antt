@@ -15,9 +15,9 @@ use Rattle.report_text.specs.ReportText.{call_line, last_line, report_of}
 use Rattle.report_check.specs.declared.calls.Bounds.{Bounds}
 use Rattle.report_check.specs.declared.slots.Slot.{Slot}
 use Rattle.report_check.specs.Forms.{HasForm, IsCallBelow, ReadReportsAreText, slot_told}
-use Rattle.report_check.specs.Reading.{◌>>=◌, and_then, call_in, calls_in, end_in, ended, ends_with, in_order, labelled_in, lines_before_end, lines_more, most, nothing_behind, number_in, numbers_in, or_lines, order_in, order_line_count, orders_in, word_in}
-use Rattle.report_check.proofs.CallForms.{IsFormed, call-formed}
-use Rattle.report_check.proofs.CallTexts.{bind-elim, call-text, rest-is, value-is}
+use Rattle.report_check.specs.Reading.{◌>>=◌, and_then, call_in, calls_in, end_in, ended, ends_with, in_order, lines_before_end, lines_more, most, nothing_behind, number_in, numbers_in, or_lines, order_in, order_line_count, orders_in, word_in}
+use Rattle.report_check.proofs.CallForms.{IsFormed, call-formed, closing-low}
+use Rattle.report_check.proofs.CallTexts.{bind-elim, call-text, closing-front}
 use Rattle.report_check.proofs.ReportRead.{AreSmall, text-parts}
 use Rattle.report_check.proofs.Texts.{number-low, number-text, word-text}
 
@@ -250,19 +250,10 @@ record IsEnd (text : List ℕ) (n : ℕ) (rest : List ℕ) : Type 0 where
 
 end-parts : (text rest : List ℕ) (n : ℕ) → end_in text ≡ Some (n, rest) → IsEnd text n rest
 end-parts text rest n e =
-    bind-elim (labelled_in (codes "end") most text) _ (n, rest) e (λ v ev nv.
-    bind-elim (word_in (10 ∷ []) v.1) _ (n, rest) nv (λ r er nr.
-    bind-elim (word_in (codes "end") text) (number_in most) v ev (λ mid em nm.
-    let same : v.0 ≡ n = value-is v.0 n r rest nr in
     record {
-      low = subst (λ k. k < most) same (number-low most v.0 mid v.1 nm);
-      parts = word-text (codes "end") text mid em
-          ∙ ap (λ (xs : List ℕ). codes "end" ++ xs) (number-text most v.0 mid v.1 (omega arith) nm
-          ∙ ap (λ (xs : List ℕ). field v.0 ++ xs) (word-text (10 ∷ []) v.1 r er
-          ∙ ap (λ (xs : List ℕ). 10 ∷ xs) (rest-is v.0 n r rest nr))
-          ∙ sym (append_assoc (field v.0) (10 ∷ []) rest))
-          ∙ ap (λ k. last_line k ++ rest) same;
-    })))
+      low = closing-low (codes "end") text (n, rest) e;
+      parts = closing-front (codes "end") text (n, rest) rest e refl;
+    }
 
 -- an outcome whose last line was read
 record IsWhole (text : List ℕ) (made outcome : Outcome) : Type 0 where

@@ -15,7 +15,7 @@ use Rattle.report_text.specs.ReportText.{call_line, last_line, report_of}
 use Rattle.report_check.specs.declared.calls.Bounds.{Bounds}
 use Rattle.report_check.specs.Forms.{IsCallBelow, ReportsAreRead, slot_told}
 use Rattle.report_check.specs.Reading.{◌>>=◌, and_then, call_in, calls_in, ends_with, in_order, lines_before_end, lines_more, most, number_in, numbers_in, or_lines, order_in, order_line_count, orders_in, report_end, report_in, starts_with_digit, word_in}
-use Rattle.report_check.proofs.ReadBack.{call-reads, label-then, number-reads, word-reads, word-then}
+use Rattle.report_check.proofs.ReadBack.{call-reads, closing-reads, number-reads, word-reads}
 
 -- ---- the calls
 
@@ -169,8 +169,7 @@ end-reads : (outcome : Outcome) → length outcome.order < most
     → report_end outcome (last_line (length outcome.order) ++ []) ≡ Ok outcome
 end-reads outcome low =
     ap (λ o. ends_with (lines_before_end outcome) o outcome)
-    (label-then (codes "end") most (length outcome.order) (10 ∷ []) [] _ (Some (length outcome.order, [])) low
-    (omega arith) refl (word-then (10 ∷ []) [] [] _ _ refl))
+    (closing-reads (codes "end") (length outcome.order) [] low)
     ∙ same-count (lines_before_end outcome) (length outcome.order) outcome refl
 
 pub text-parts : (outcome : Outcome)

@@ -71,14 +71,26 @@ labelled_in label limit text = do
   rest ← word_in label text
   number_in limit rest
 
+-- a number behind a label and a blank, and the line's end
+abbrev pub closing_in : List ℕ → List ℕ → Option (ℕ × List ℕ)
+closing_in label text = do
+  found ← labelled_in label most text
+  rest ← word_in (10 ∷ []) found.1
+  Some (found.0, rest)
+
+-- what stands behind a word and these numbers
+abbrev pub given_in : List ℕ → List ℕ → List ℕ → Option (List ℕ)
+given_in word numbers text = do
+  rest ← word_in word text
+  word_in (fields numbers) rest
+
 -- what a find weighs, its first ticket and its last, and the line's end
 abbrev pub visits_in : List ℕ → Option (Visits × List ℕ)
 visits_in text = do
   weight ← labelled_in (codes " weight") most text
   first ← labelled_in (codes " first") most weight.1
-  last ← labelled_in (codes " last") most first.1
-  rest ← word_in (10 ∷ []) last.1
-  Some (record { weight = weight.0; first = first.0; last = last.0 }, rest)
+  last ← closing_in (codes " last") first.1
+  Some (record { weight = weight.0; first = first.0; last = last.0 }, last.1)
 
 -- a level, or a dash
 abbrev pub level_or_dash : List ℕ → Option (ℕ × List ℕ) → Option (Option ℕ × List ℕ)
@@ -121,27 +133,21 @@ why_in bounds text = empty_or_other bounds text (word_in (codes " empty") text)
 -- the line of a move
 abbrev pub move_in : ℕ → ℕ → ℕ → ℕ → List ℕ → Option (Done × List ℕ)
 move_in actor number from to text = do
-  rest ← word_in (codes "move") text
-  rest ← word_in (fields (actor ∷ number ∷ from ∷ to ∷ [])) rest
+  rest ← given_in (codes "move") (actor ∷ number ∷ from ∷ to ∷ []) text
   weight ← labelled_in (codes " weight") most rest
   first ← labelled_in (codes " first") most weight.1
   commit ← labelled_in (codes " commit") most first.1
-  last ← labelled_in (codes " last") most commit.1
-  rest ← word_in (10 ∷ []) last.1
-  Some (Moved actor number from to weight.0 first.0 commit.0 last.0, rest)
+  last ← closing_in (codes " last") commit.1
+  Some (Moved actor number from to weight.0 first.0 commit.0 last.0, last.1)
 
 -- the line of a switch
 abbrev pub switch_in : ℕ → Bool → ℕ → ℕ → List ℕ → Option (Done × List ℕ)
 switch_in actor off node number text = do
-  rest ← word_in (codes "switch") text
-  rest ← word_in (fields (actor ∷ [])) rest
-  rest ← word_in (switch_field off) rest
-  rest ← word_in (fields (node ∷ [])) rest
-  rest ← word_in (codes " number") rest
-  rest ← word_in (fields (number ∷ [])) rest
-  ticket ← labelled_in (codes " ticket") most rest
-  rest ← word_in (10 ∷ []) ticket.1
-  Some (Switched actor off node number ticket.0, rest)
+  rest ← given_in (codes "switch") (actor ∷ []) text
+  rest ← given_in (switch_field off) (node ∷ []) rest
+  rest ← given_in (codes " number") (number ∷ []) rest
+  ticket ← closing_in (codes " ticket") rest
+  Some (Switched actor off node number ticket.0, ticket.1)
 
 -- what becomes of a find that answers
 abbrev pub answer : Bool → ℕ → ℕ → ℕ → Place → Visits → Done
@@ -251,10 +257,7 @@ orders_in (suc more) before text =
 
 -- the number of visits, and the line's end
 abbrev pub end_in : List ℕ → Option (ℕ × List ℕ)
-end_in text = do
-  visits ← labelled_in (codes "end") most text
-  rest ← word_in (10 ∷ []) visits.1
-  Some (visits.0, rest)
+end_in = closing_in (codes "end")
 
 -- nothing stands behind the end
 abbrev pub nothing_behind : ℕ → List ℕ → Outcome → Result Outcome ℕ

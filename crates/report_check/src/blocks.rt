@@ -10,7 +10,7 @@ use crate::calls::Line;
 use std::alloc::{AllocError, Global};
 
 /// The places of some lines, from the first up to behind the last.
-#[derive(Clone, Copy, Debug, PartialEq, Eq)]
+#[derive(Clone, Copy)]
 pub(crate) struct Block {
     pub(crate) start: usize,
     pub(crate) end: usize,

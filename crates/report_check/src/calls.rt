@@ -1,5 +1,6 @@
 //! The lines of a report, read one after another.
 ghost use Rattle.std.specs.Prelude.{◌≡◌, ◌≤◌, ◌<◌, ◌^◌, ◌++◌, ◌∷◌, [], ℕ, List, Some, None, Ok, Err, IfSome, IfNone, IfOk, OnOk, drop, length, map, take};
+ghost use Rattle.report_text.specs.ReportText.{switch_field};
 ghost use Rattle.report_check.specs.Reading.{again_in, answer_in, call_in, find_in, level_in, most, move_in, number_in, place_in, switch_in, visits_in, why_in};
 ghost use Rattle.report_check.specs.Lines.{done_of};
 
@@ -11,14 +12,14 @@ use directory::Why;
 pub(crate) const MOST: u64 = 1 << 63;
 
 /// How many nodes and levels there are.
-#[derive(Clone, Copy, Debug, PartialEq, Eq)]
+#[derive(Clone, Copy)]
 pub(crate) struct Bounds {
     pub(crate) nodes: u32,
     pub(crate) levels: u32,
 }
 
 /// Where a find answers.
-#[derive(Clone, Copy, Debug, PartialEq, Eq)]
+#[derive(Clone, Copy)]
 pub(crate) struct Place {
     pub(crate) node: u32,
     pub(crate) number: u64,
@@ -26,7 +27,7 @@ pub(crate) struct Place {
 }
 
 /// What a find weighs, its first ticket and its last.
-#[derive(Clone, Copy, Debug, PartialEq, Eq)]
+#[derive(Clone, Copy)]
 pub(crate) struct Visits {
     pub(crate) weight: u64,
     pub(crate) first: u64,
@@ -34,7 +35,7 @@ pub(crate) struct Visits {
 }
 
 /// What the line of a call says.
-#[derive(Clone, Copy, Debug, PartialEq, Eq)]
+#[derive(Clone, Copy)]
 pub(crate) enum Line {
     Move {
         actor: u32,
@@ -70,6 +71,13 @@ pub(crate) enum Line {
     },
 }
 
+// The word of a switch, behind its actor.
+fn switch_word(off: bool) -> &'static str
+    ensures { result.now ≡ switch_field off }
+{
+    if off { " off" } else { " on" }
+}
+
 impl<'a> Cursor<'a> {
     // What a find weighs, its first ticket and its last, and the line's end.
     fn visits(&mut self) -> Option<Visits>
@@ -79,8 +87,7 @@ impl<'a> Cursor<'a> {
     {
         let weight = self.labelled(" weight", MOST)?;
         let first = self.labelled(" first", MOST)?;
-        let last = self.labelled(" last", MOST)?;
-        self.bytes(b"\n")?;
+        let last = self.closing(" last")?;
         Some(Visits {
             weight,
             first,
@@ -119,13 +126,12 @@ impl<'a> Cursor<'a> {
             ≡ Some (place, self.new.rest.now)) }
         ensures none { IfNone result (place_in bounds self.old.rest.now ≡ None) }
     {
-        self.word(" at")?;
-        let node = self.small(bounds.nodes)?;
+        let node = self.labelled(" at", u64::from(bounds.nodes))?;
         let number = self.labelled(" number", MOST)?;
         self.word(" level")?;
         let level = self.level(bounds.levels)?;
         Some(Place {
-            node,
+            node: node as u32,
             number,
             level,
         })
@@ -154,13 +160,11 @@ impl<'a> Cursor<'a> {
             ≡ Some (done_of line, self.new.rest.now)) }
         ensures none { IfNone result (move_in actor number from to self.old.rest.now ≡ None) }
     {
-        self.word("move")?;
-        self.all_given(&[actor, number, from, to])?;
+        self.given_behind("move", &[actor, number, from, to])?;
         let weight = self.labelled(" weight", MOST)?;
         let first = self.labelled(" first", MOST)?;
         let commit = self.labelled(" commit", MOST)?;
-        let last = self.labelled(" last", MOST)?;
-        self.bytes(b"\n")?;
+        let last = self.closing(" last")?;
         Some(Line::Move {
             actor,
             number,
@@ -179,14 +183,10 @@ impl<'a> Cursor<'a> {
             ≡ Some (done_of line, self.new.rest.now)) }
         ensures none { IfNone result (switch_in actor off node number self.old.rest.now ≡ None) }
     {
-        self.word("switch")?;
-        self.all_given(&[actor])?;
-        self.word(if off { " off" } else { " on" })?;
-        self.all_given(&[node])?;
-        self.word(" number")?;
-        self.all_given(&[number])?;
-        let ticket = self.labelled(" ticket", MOST)?;
-        self.bytes(b"\n")?;
+        self.one_behind("switch", actor)?;
+        self.one_behind(switch_word(off), node)?;
+        self.one_behind(" number", number)?;
+        let ticket = self.closing(" ticket")?;
         Some(Line::Switch {
             actor,
             off,

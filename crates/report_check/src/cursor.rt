@@ -1,13 +1,13 @@
 //! A place in a report that is read from its front.
 ghost use Rattle.std.specs.Prelude.{◌≡◌, ◌≤◌, ◌<◌, ◌^◌, ◌++◌, ◌∷◌, [], ℕ, List, Some, None, IfSome, IfNone, drop, length};
 ghost use Rattle.outside.specs.Texts.{field, fields};
-ghost use Rattle.report_check.specs.Reading.{digits_from, digits_in, labelled_in, most, number_in, starts_with_digit, word_in};
+ghost use Rattle.report_check.specs.Reading.{closing_in, digits_from, digits_in, given_in, labelled_in, most, number_in, starts_with_digit, word_in};
 
 use crate::calls::MOST;
 use itoa::Buffer;
 
 // What is left of a report.
-#[derive(Clone, Copy, Debug)]
+#[derive(Clone, Copy)]
 pub(crate) struct Cursor<'a> {
     pub(crate) rest: &'a [u8],
 }
@@ -194,6 +194,17 @@ impl<'a> Cursor<'a> {
         self.number(limit)
     }
 
+    // A label, a blank, a number, and the line's end.
+    pub(crate) fn closing(&mut self, label: &str) -> Option<u64>
+        ensures some { IfSome result (λ n. closing_in label.now self.old.rest.now
+            ≡ Some (n, self.new.rest.now)) }
+        ensures none { IfNone result (closing_in label.now self.old.rest.now ≡ None) }
+    {
+        let number = self.labelled(label, MOST)?;
+        self.bytes(b"\n")?;
+        Some(number)
+    }
+
     // A blank, and this number.
     fn given(&mut self, number: u32) -> Option<()>
         ensures some { IfSome result (λ done. word_in (field number) self.old.rest.now
@@ -215,5 +226,24 @@ impl<'a> Cursor<'a> {
             self.given(*number)?;
         }
         Some(())
+    }
+
+    // A word, and these numbers.
+    pub(crate) fn given_behind(&mut self, word: &str, numbers: &[u32]) -> Option<()>
+        ensures some { IfSome result (λ done. given_in word.now numbers.now self.old.rest.now
+            ≡ Some self.new.rest.now) }
+        ensures none { IfNone result (given_in word.now numbers.now self.old.rest.now ≡ None) }
+    {
+        self.word(word)?;
+        self.all_given(numbers)
+    }
+
+    // A word, and this number.
+    pub(crate) fn one_behind(&mut self, word: &str, number: u32) -> Option<()>
+        ensures some { IfSome result (λ done. given_in word.now (number ∷ []) self.old.rest.now
+            ≡ Some self.new.rest.now) }
+        ensures none { IfNone result (given_in word.now (number ∷ []) self.old.rest.now ≡ None) }
+    {
+        self.given_behind(word, &[number])
     }
 }

@@ -344,7 +344,9 @@ fn end_before(last: bool, line: &Line) -> Option<u64>
     if last { None } else { Some(end_of(line)) }
 }
 
-// The verdict on a report that was read.
+// The verdict on a report that was read. It is apart from what reads the report, so that its loop
+// stays short.
+#[inline(never)]
 pub(crate) fn judge(
     ground: &Ground<'_>,
     scripts: &[Vec<Call>],

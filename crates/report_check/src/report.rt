@@ -1,9 +1,9 @@
 //! A whole report: the lines of the calls, the lines of the order, and the end.
 ghost use Rattle.std.specs.Prelude.{◌≡◌, ◌≤◌, ◌<◌, ◌^◌, ◌++◌, ◌∷◌, [], ℕ, List, Some, None, Ok, Err, IfSome, IfNone, IfOk, IfErr, OnOk, OnSome, drop, length, map, take};
-ghost use Rattle.report_check.specs.Reading.{calls_in, end_in, numbers_in, order_in, order_line_count, orders_in, report_end, report_in};
-ghost use Rattle.report_check.specs.Lines.{AreRead, IsReadLine, done_of, read_of};
+ghost use Rattle.report_check.specs.Reading.{calls_in, numbers_in, order_in, order_line_count, orders_in, report_end, report_in};
+ghost use Rattle.report_check.specs.Lines.{AreRead, IsReadLine, done_of, read_of, seen};
 
-use crate::calls::{Bounds, Line, MOST};
+use crate::calls::{Bounds, Line};
 use crate::cursor::Cursor;
 use crate::slots::Slot;
 use std::alloc::{AllocError, Global};
@@ -11,7 +11,7 @@ use std::alloc::{AllocError, Global};
 const MOST_ON_A_LINE: usize = 64;
 
 /// What a report says.
-#[derive(Debug, Drop)]
+#[derive(Drop)]
 pub(crate) struct Report {
     pub(crate) calls: Vec<Line>,
     pub(crate) order: Vec<u64>,
@@ -104,14 +104,22 @@ impl<'a> Cursor<'a> {
         Ok(Ok(order))
     }
 
-    // How many visits the last line tells.
-    fn end(&mut self) -> Option<u64>
-        ensures some { IfSome result (λ n. end_in self.old.rest.now ≡ Some (n, self.new.rest.now)) }
-        ensures none { IfNone result (end_in self.old.rest.now ≡ None) }
+    // Whether what a report says ends here, and else how many of its lines can be read.
+    fn end(&mut self, report: &Report) -> Result<(), usize>
+        ensures ok { IfOk result (λ done. report_end (seen report.now) self.old.rest.now
+            ≡ Ok (seen report.now)) }
+        ensures err { IfErr result (λ lines. report_end (seen report.now) self.old.rest.now
+            ≡ Err lines) }
     {
-        let visits = self.labelled("end", MOST)?;
-        self.bytes(b"\n")?;
-        Some(visits)
+        let lines = report.calls.len() + line_count(&report.order);
+        match self.closing("end") {
+            Some(visits) if visits == report.order.len() as u64 => {}
+            _ => return Err(lines),
+        }
+        if !self.rest.is_empty() {
+            return Err(lines + 1);
+        }
+        Ok(())
     }
 }
 
@@ -133,13 +141,9 @@ pub(crate) fn read_report(
         Ok(order) => order,
         Err(lines) => return Ok(Err(calls.len() + lines)),
     };
-    let lines = calls.len() + line_count(&order);
-    match cursor.end() {
-        Some(visits) if visits == order.len() as u64 => {}
-        _ => return Ok(Err(lines)),
+    let report = Report { calls, order };
+    match cursor.end(&report) {
+        Ok(()) => Ok(Ok(report)),
+        Err(lines) => Ok(Err(lines)),
     }
-    if !cursor.rest.is_empty() {
-        return Ok(Err(lines + 1));
-    }
-    Ok(Ok(Report { calls, order }))
 }

@@ -8,7 +8,7 @@ use net_reader::{Call, Input};
 use std::alloc::{AllocError, Global};
 
 /// What an input says of the line of a call.
-#[derive(Clone, Copy, PartialEq, Eq, Debug)]
+#[derive(Clone, Copy)]
 pub(crate) enum Slot {
     Move {
         actor: u32,

@@ -10,7 +10,7 @@ use crate::calls::Line;
 
 /// Where a subscriber is, how many moves it has made, whether it is off, and the commit and the
 /// weight of its last move.
-#[derive(Clone, Copy, Debug, PartialEq, Eq)]
+#[derive(Clone, Copy)]
 pub(crate) struct Told {
     pub(crate) node: u32,
     pub(crate) number: u64,

@@ -50,13 +50,7 @@ pub fn verdict_line(alloc: Global, verdict: Verdict) -> Result<Vec<u8>, AllocErr
     let mut text = String::new(alloc);
     match verdict {
         Verdict::Sound => write!(text, "yes\n")?,
-        Verdict::Unsound { line, cause } => match cause {
-            Flaw::Form => write!(text, "no {line} form\n")?,
-            Flaw::Tickets => write!(text, "no {line} tickets\n")?,
-            Flaw::Place => write!(text, "no {line} place\n")?,
-            Flaw::Again => write!(text, "no {line} again\n")?,
-            Flaw::Weight => write!(text, "no {line} weight\n")?,
-        },
+        Verdict::Unsound { line, cause } => write!(text, "no {line} {}\n", cause.name())?,
     }
     Ok(text.into_bytes())
 }
