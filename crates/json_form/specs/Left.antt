@@ -132,14 +132,14 @@ pub record PartsState : Type 0 where
 -- the values that are kept of an object
 abbrev pub seen_values : Kept → InputValues
 seen_values kept = record {
-  callers = view kept.callers;
-  calls = view kept.calls;
-  edges = view kept.edges;
-  k = view kept.k;
-  nodes = view kept.nodes;
-  order = view kept.order;
-  subs = view kept.subs;
-  track = view kept.track;
+  callers = view kept.first.callers;
+  calls = view kept.first.calls;
+  edges = view kept.first.edges;
+  k = view kept.first.k;
+  nodes = view kept.last.nodes;
+  order = view kept.last.order;
+  subs = view kept.last.subs;
+  track = view kept.last.track;
 }
 
 -- the line of an item, where it has its shape

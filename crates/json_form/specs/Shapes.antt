@@ -118,6 +118,23 @@ abbrev pub if_all : Members → InputValues → Option InputValues
 if_all no_members values = Some values
 if_all (member name value rest) values = None
 
+-- the values, where the members have exactly the keys behind the first four, whose values these are
+abbrev pub values_from : Data → Data → Data → Data → Members → Option InputValues
+values_from callers calls edges k members = do
+  nodes ← next_member (codes "nodes") members
+  subs ← next_member (codes "subs") (order_member nodes.1).1
+  track ← next_member (codes "track") subs.1
+  if_all track.1 (record {
+    callers = callers;
+    calls = calls;
+    edges = edges;
+    k = k;
+    nodes = nodes.0;
+    order = (order_member nodes.1).0;
+    subs = subs.0;
+    track = track.0;
+  })
+
 -- the values, where the members have exactly these keys; they ascend in each object that is read
 abbrev pub values_of : Members → Option InputValues
 values_of members = do
@@ -125,19 +142,7 @@ values_of members = do
   calls ← next_member (codes "calls") callers.1
   edges ← next_member (codes "edges") calls.1
   k ← next_member (codes "k") edges.1
-  nodes ← next_member (codes "nodes") k.1
-  subs ← next_member (codes "subs") (order_member nodes.1).1
-  track ← next_member (codes "track") subs.1
-  if_all track.1 (record {
-    callers = callers.0;
-    calls = calls.0;
-    edges = edges.0;
-    k = k.0;
-    nodes = nodes.0;
-    order = (order_member nodes.1).0;
-    subs = subs.0;
-    track = track.0;
-  })
+  values_from callers.0 calls.0 edges.0 k.0 k.1
 
 -- the listing that these values are
 abbrev pub listing_of_values : InputValues → Option ListingValue

@@ -1,10 +1,10 @@
 //! The JSON of an input.
-ghost use Rattle.std.specs.Prelude.{◌≡◌, ◌≤◌, ◌++◌, [], length, IfOk, OnOk, true};
+ghost use Rattle.std.specs.Prelude.{◌≡◌, ◌≤◌, ◌++◌, [], length, IfOk, OnOk, codes, true};
 ghost use Rattle.net_reader.specs.Seen.{seen_input};
 ghost use Rattle.serde_json.specs.Written.{compact_text};
 ghost use Rattle.json_form.specs.Inputs.{call_value, edge_value, input_json_of};
-ghost use Rattle.json_form.specs.Left.{list_left, opening};
-ghost use Rattle.json_form.specs.Values.{list_by, whole};
+ghost use Rattle.json_form.specs.Left.{list_left, member_text, opening};
+ghost use Rattle.json_form.specs.Values.{list_by, whole, wholes};
 
 use crate::lists::{
     push_line, push_numbers, write_closing, write_opening, write_others, write_small,
@@ -95,6 +95,60 @@ fn push_calls(text: &mut Vec<u8>, line: &mut Line, calls: &[ActorCall]) -> Resul
     push_line(text, line)
 }
 
+// The keys up to `calls`.
+fn push_to_calls(
+    text: &mut Vec<u8>,
+    line: &mut Line,
+    callers: u32,
+    calls: &[ActorCall],
+) -> Result<(), AllocError>
+    requires { line.old ≡ [] }
+    ensures text { OnOk result (text.new.items ≡ (text.old.items
+        ++ (member_text (codes "{\"callers\"") callers ++ codes ",\"calls\":"))
+        ++ compact_text (list_by call_value calls.now)) }
+    ensures clear { OnOk result (line.new ≡ []) }
+{
+    write_small(line, "{\"callers\"", callers);
+    line.word(",\"calls\":");
+    push_line(text, line)?;
+    push_calls(text, line, calls)
+}
+
+// The keys from `edges` to `order`.
+fn push_to_order(text: &mut Vec<u8>, line: &mut Line, input: &Input) -> Result<(), AllocError>
+    requires { line.old ≡ [] }
+    ensures text { OnOk result (text.new.items ≡ (((text.old.items ++ codes ",\"edges\":")
+        ++ compact_text (list_by edge_value input.now.edges.items))
+        ++ ((member_text (codes ",\"k\"") input.now.k
+        ++ member_text (codes ",\"nodes\"") input.now.nodes) ++ codes ",\"order\":"))
+        ++ compact_text (wholes input.now.order.items)) }
+    ensures clear { OnOk result (line.new ≡ []) }
+{
+    line.word(",\"edges\":");
+    push_line(text, line)?;
+    push_edges(text, line, &input.edges)?;
+    write_small(line, ",\"k\"", input.k);
+    write_small(line, ",\"nodes\"", input.nodes);
+    line.word(",\"order\":");
+    push_line(text, line)?;
+    push_numbers(text, line, &input.order)
+}
+
+// The keys from `subs` on, and the end of the line.
+fn push_to_end(text: &mut Vec<u8>, line: &mut Line, input: &Input) -> Result<(), AllocError>
+    requires { line.old ≡ [] }
+    ensures { OnOk result (text.new.items ≡ ((text.old.items ++ codes ",\"subs\":")
+        ++ compact_text (wholes input.now.homes.items))
+        ++ (member_text (codes ",\"track\"") input.now.format ++ codes "}\n")) }
+{
+    line.word(",\"subs\":");
+    push_line(text, line)?;
+    push_numbers(text, line, &input.homes)?;
+    write_small(line, ",\"track\"", input.format);
+    line.word("}\n");
+    push_line(text, line)
+}
+
 /// The JSON of an input: one line, with its keys ascending and its calls by actor.
 /// docs/FORMATS.md ("JSON") tells its shape.
 pub fn input_json(alloc: Global, input: &Input) -> Result<Vec<u8>, AllocError>
@@ -104,23 +158,8 @@ pub fn input_json(alloc: Global, input: &Input) -> Result<Vec<u8>, AllocError>
     let calls = calls_by_actor(alloc, &input.scripts)?;
     let mut line = Line::new(alloc, FAST_NUMBERS)?;
     let mut text = Vec::new(alloc);
-    write_small(&mut line, "{\"callers\"", input.callers);
-    line.word(",\"calls\":");
-    push_line(&mut text, &mut line)?;
-    push_calls(&mut text, &mut line, &calls)?;
-    line.word(",\"edges\":");
-    push_line(&mut text, &mut line)?;
-    push_edges(&mut text, &mut line, &input.edges)?;
-    write_small(&mut line, ",\"k\"", input.k);
-    write_small(&mut line, ",\"nodes\"", input.nodes);
-    line.word(",\"order\":");
-    push_line(&mut text, &mut line)?;
-    push_numbers(&mut text, &mut line, &input.order)?;
-    line.word(",\"subs\":");
-    push_line(&mut text, &mut line)?;
-    push_numbers(&mut text, &mut line, &input.homes)?;
-    write_small(&mut line, ",\"track\"", input.format);
-    line.word("}\n");
-    push_line(&mut text, &mut line)?;
+    push_to_calls(&mut text, &mut line, input.callers, &calls)?;
+    push_to_order(&mut text, &mut line, input)?;
+    push_to_end(&mut text, &mut line, input)?;
     Ok(text)
 }

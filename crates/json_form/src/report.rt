@@ -1,5 +1,5 @@
 //! The JSON of a report, part by part.
-ghost use Rattle.std.specs.Prelude.{◌≡◌, ◌≢◌, ◌<◌, ◌≤◌, ◌+◌, ◌++◌, [], length, true, false, IfOk, None, codes};
+ghost use Rattle.std.specs.Prelude.{◌≡◌, ◌≢◌, ◌<◌, ◌≤◌, ◌+◌, ◌++◌, [], length, true, false, IfOk, None, OnOk, codes};
 ghost use Rattle.std.specs.List.{concat};
 ghost use Rattle.directory.specs.CallLines.{find_of, line_of_find};
 ghost use Rattle.directory.specs.Outcomes.{result_of};
@@ -183,7 +183,7 @@ fn write_done(line: &mut Line, call: &Done)
 
 // What comes next: the head, a call or the end of their list, some tickets or the end of theirs, or
 // nothing. A list is begun where its bracket was written.
-#[derive(Clone, Copy, Debug, PartialEq, Eq)]
+#[derive(Clone, Copy, Debug)]
 enum NextPart {
     Open,
     Calls { begun: bool },
@@ -312,14 +312,22 @@ impl<'a> ReportParts<'a> {
     }
 }
 
+// The parts that are left, behind a text.
+fn push_parts(text: &mut Vec<u8>, parts: &mut ReportParts<'_>) -> Result<(), AllocError>
+    ensures { OnOk result (text.new.items ≡ text.old.items ++ parts.old.left) }
+{
+    'parts: while parts.advance() {
+        text.extend_from_slice(parts.part())?;
+    }
+    Ok(())
+}
+
 /// The JSON of the report of an outcome: one line, with its keys ascending.
 pub fn report_json(alloc: Global, outcome: &Outcome) -> Result<Vec<u8>, AllocError>
     ensures { IfOk result (λ text. text.items ≡ report_json_of (result_of outcome.now)) }
 {
     let mut parts = ReportParts::new(alloc, outcome)?;
     let mut text = Vec::new(alloc);
-    'parts: while parts.advance() {
-        text.extend_from_slice(parts.part())?;
-    }
+    push_parts(&mut text, &mut parts)?;
     Ok(text)
 }

@@ -148,14 +148,14 @@ fn text_of_values(alloc: Global, values: &InputValues) -> Result<Vec<u8>, JsonFa
 {
     let mut line = Line::new(alloc, FAST_NUMBERS)?;
     let mut text = Vec::new(alloc);
-    push_number(&mut text, &mut line, "track", &values.track)?;
-    push_number(&mut text, &mut line, "nodes", &values.nodes)?;
-    push_number(&mut text, &mut line, "k", &values.k)?;
-    push_items(&mut text, &mut line, Kind::Edge, &values.edges)?;
-    push_items(&mut text, &mut line, Kind::Sub, &values.subs)?;
-    push_number(&mut text, &mut line, "callers", &values.callers)?;
-    push_items(&mut text, &mut line, Kind::Call, &values.calls)?;
-    push_order(&mut text, &mut line, &values.order)?;
+    push_number(&mut text, &mut line, "track", &values.last.track)?;
+    push_number(&mut text, &mut line, "nodes", &values.last.nodes)?;
+    push_number(&mut text, &mut line, "k", &values.first.k)?;
+    push_items(&mut text, &mut line, Kind::Edge, &values.first.edges)?;
+    push_items(&mut text, &mut line, Kind::Sub, &values.last.subs)?;
+    push_number(&mut text, &mut line, "callers", &values.first.callers)?;
+    push_items(&mut text, &mut line, Kind::Call, &values.first.calls)?;
+    push_order(&mut text, &mut line, &values.last.order)?;
     Ok(text)
 }
 

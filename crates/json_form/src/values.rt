@@ -1,25 +1,37 @@
 //! The values of the keys of an object.
 ghost use Rattle.std.specs.Prelude.{◌≡◌, IfSome, IfNone, Some, None, is_some, option_and_then};
-ghost use Rattle.serde_json.specs.Data.{Members};
+ghost use Rattle.serde_json.specs.Data.{Data, Members};
 ghost use Rattle.serde_json.specs.Find.{as_object};
 ghost use Rattle.serde_json.specs.View.{members_view, view};
 ghost use Rattle.json_form.specs.Left.{seen_values};
-ghost use Rattle.json_form.specs.Shapes.{next_member, order_member, values_of};
+ghost use Rattle.json_form.specs.Shapes.{next_member, order_member, values_from, values_of};
 
 use serde_json::{Map, Value};
 use std::alloc::Global;
 
-// The values of an input's keys.
+// The values of an input's first four keys.
 #[derive(Drop)]
-pub(crate) struct InputValues {
+pub(crate) struct FirstValues {
     pub(crate) callers: Value,
     pub(crate) calls: Value,
     pub(crate) edges: Value,
     pub(crate) k: Value,
+}
+
+// The values of the keys behind them.
+#[derive(Drop)]
+pub(crate) struct LastValues {
     pub(crate) nodes: Value,
     pub(crate) order: Value,
     pub(crate) subs: Value,
     pub(crate) track: Value,
+}
+
+// The values of an input's keys.
+#[derive(Drop)]
+pub(crate) struct InputValues {
+    pub(crate) first: FirstValues,
+    pub(crate) last: LastValues,
 }
 
 // Takes the first member, where it has this key.
@@ -71,6 +83,52 @@ pub(crate) fn take_values(alloc: Global, value: Value) -> Option<InputValues>
     take_all(alloc, members)
 }
 
+// Takes the members of the first four keys, where the members begin with them.
+fn take_first(members: &mut Map<String, Value>) -> Option<FirstValues>
+    ensures some { IfSome result (λ first. values_of (members_view members.old.entries)
+        ≡ values_from (view first.callers) (view first.calls) (view first.edges) (view first.k)
+        (members_view members.new.entries)) }
+    ensures none { IfNone result (values_of (members_view members.old.entries) ≡ None) }
+{
+    Some(FirstValues {
+        callers: take_member(members, "callers")?,
+        calls: take_member(members, "calls")?,
+        edges: take_member(members, "edges")?,
+        k: take_member(members, "k")?,
+    })
+}
+
+// Takes the other members, where they have exactly the other keys.
+fn take_last(alloc: Global, members: &mut Map<String, Value>) -> Option<LastValues>
+    ensures some { (callers calls edges k : Data) → IfSome result (λ last.
+        values_from callers calls edges k (members_view members.old.entries) ≡ Some (record {
+          callers = callers;
+          calls = calls;
+          edges = edges;
+          k = k;
+          nodes = view last.nodes;
+          order = view last.order;
+          subs = view last.subs;
+          track = view last.track;
+        })) }
+    ensures none { (callers calls edges k : Data) → IfNone result
+        (values_from callers calls edges k (members_view members.old.entries) ≡ None) }
+{
+    let nodes = take_member(members, "nodes")?;
+    let order = take_order(alloc, members);
+    let subs = take_member(members, "subs")?;
+    let track = take_member(members, "track")?;
+    if !members.is_empty() {
+        return None;
+    }
+    Some(LastValues {
+        nodes,
+        order,
+        subs,
+        track,
+    })
+}
+
 // The values, where the members have exactly the keys of an input.
 fn take_all(alloc: Global, members: Map<String, Value>) -> Option<InputValues>
     ensures some { IfSome result (λ values. values_of (members_view members.entries)
@@ -78,25 +136,7 @@ fn take_all(alloc: Global, members: Map<String, Value>) -> Option<InputValues>
     ensures none { IfNone result (values_of (members_view members.entries) ≡ None) }
 {
     let mut left = members;
-    let callers = take_member(&mut left, "callers")?;
-    let calls = take_member(&mut left, "calls")?;
-    let edges = take_member(&mut left, "edges")?;
-    let k = take_member(&mut left, "k")?;
-    let nodes = take_member(&mut left, "nodes")?;
-    let order = take_order(alloc, &mut left);
-    let subs = take_member(&mut left, "subs")?;
-    let track = take_member(&mut left, "track")?;
-    if !left.is_empty() {
-        return None;
-    }
-    Some(InputValues {
-        callers,
-        calls,
-        edges,
-        k,
-        nodes,
-        order,
-        subs,
-        track,
-    })
+    let first = take_first(&mut left)?;
+    let last = take_last(alloc, &mut left)?;
+    Some(InputValues { first, last })
 }

@@ -1,0 +1,8 @@
+use Rattle.std.proofs.Common.{◌≡◌, ◌++◌, length}
+use Rattle.json_form.proofs.report.push_parts.Given as goal
+
+abbrev pub invariant-parts : goal.invariant-parts
+invariant-parts l = l.text.items ++ l.parts.left ≡ l.fn.text.items ++ l.fn.parts.left
+
+abbrev pub decreases-parts : goal.decreases-parts
+decreases-parts l = length l.parts.left
