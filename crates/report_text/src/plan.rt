@@ -1,5 +1,5 @@
 //! The text of a plan, part by part.
-ghost use Rattle.std.specs.Prelude.{◌≡◌, ◌≢◌, ℕ, ◌<◌, ◌≤◌, ◌+◌, ◌-◌, ◌*◌, ◌++◌, [], length, take, drop, true, false, IfOk};
+ghost use Rattle.std.specs.Prelude.{◌≡◌, ◌≢◌, ℕ, ◌<◌, ◌≤◌, ◌+◌, ◌-◌, ◌*◌, ◌++◌, [], length, take, drop, true, false, IfOk, OnOk};
 ghost use Rattle.region_plan.specs.Plan.{level_at, cluster_at, members_of, nodes_of, levels_of, clusters_of};
 ghost use Rattle.region_plan.specs.Kept.{IsKept};
 ghost use Rattle.outside.specs.Texts.{fields};
@@ -18,7 +18,7 @@ use text_line::Line;
 const MOST_IN_A_PART: usize = 64;
 
 /// What the next part begins with.
-#[derive(Clone, Copy, Debug)]
+#[derive(Clone, Copy)]
 enum NextPart {
     Measures,
     Level {
@@ -332,14 +332,22 @@ impl<'a> PlanParts<'a> {
     }
 }
 
+// The parts that are left, behind a text.
+fn push_parts(text: &mut Vec<u8>, parts: &mut PlanParts<'_>) -> Result<(), AllocError>
+    ensures { OnOk result (text.new.items ≡ text.old.items ++ parts.old.left) }
+{
+    'parts: while parts.advance() {
+        text.extend_from_slice(parts.part())?;
+    }
+    Ok(())
+}
+
 /// The text of a plan: its measures, and level by level its clusters and the homes of its nodes.
 pub fn plan_text(alloc: Global, plan: &Plan) -> Result<Vec<u8>, AllocError>
     ensures { IfOk result (λ text. text.items ≡ plan_text_of plan.now) }
 {
     let mut parts = PlanParts::new(alloc, plan)?;
     let mut text = Vec::new(alloc);
-    'parts: while parts.advance() {
-        text.extend_from_slice(parts.part())?;
-    }
+    push_parts(&mut text, &mut parts)?;
     Ok(text)
 }

@@ -1,7 +1,10 @@
 //! The text of a report, line by line.
-ghost use Rattle.std.specs.Prelude.{◌≡◌, ◌≤◌, ◌+◌, ◌++◌, ◌∷◌, [], length, drop, true, false, IfOk, IfSome, IfNone, None};
+ghost use Rattle.std.specs.Prelude.{◌≡◌, ◌≤◌, ◌+◌, ◌++◌, ◌∷◌, [], length, drop, true, false, IfOk, IfSome, IfNone, None, OnOk, codes};
 ghost use types.Logic.{sem};
 ghost use mir.Syntax.{named};
+ghost use Rattle.std.specs.List.{concat};
+ghost use Rattle.directory.specs.declared.answers.Done.TheVariants.{Switched};
+ghost use Rattle.outside.specs.Texts.{◌then◌, field};
 ghost use Rattle.std.specs.Io.BufRead.{Rests};
 ghost use Rattle.report_text.specs.contracts.report_lines.Lines.{the_row};
 ghost use Rattle.report_text.specs.ReportText.{call_line, place_fields, report_lines, report_of, visit_fields, why_field};
@@ -97,6 +100,34 @@ fn write_find(line: &mut Line, find: FindLine)
     }
 }
 
+// What a move weighs, and its tickets.
+fn write_tickets(line: &mut Line, weight: u64, first: u64, commit: u64, last: u64)
+    requires { length line.old ≤ 500 }
+    ensures { line.new ≡ line.old ++ (codes " weight" then field weight then codes " first"
+        then field first then codes " commit" then field commit then codes " last"
+        then field last then 10 ∷ []) }
+{
+    line.label_number(" weight", weight);
+    line.label_number(" first", first);
+    line.label_number(" commit", commit);
+    line.label_number(" last", last);
+    line.word("\n");
+}
+
+// The line of a switch.
+fn write_switch(line: &mut Line, actor: u32, off: bool, node: u32, number: u32, ticket: u64)
+    requires { line.old ≡ [] }
+    ensures { line.new ≡ call_line (Switched actor off node number ticket) }
+{
+    line.word("switch");
+    line.number(u64::from(actor));
+    line.word(if off { " off" } else { " on" });
+    line.number(u64::from(node));
+    line.label_number(" number", u64::from(number));
+    line.label_number(" ticket", ticket);
+    line.word("\n");
+}
+
 // The line of a move or of a switch.
 fn write_step(line: &mut Line, call: &Done)
     requires empty { line.old ≡ [] }
@@ -116,11 +147,7 @@ fn write_step(line: &mut Line, call: &Done)
         } => {
             line.word("move");
             line.numbers(&[actor, number, from, to]);
-            line.label_number(" weight", weight);
-            line.label_number(" first", first);
-            line.label_number(" commit", commit);
-            line.label_number(" last", last);
-            line.word("\n");
+            write_tickets(line, weight, first, commit, last);
         }
         Done::Switched {
             actor,
@@ -128,15 +155,7 @@ fn write_step(line: &mut Line, call: &Done)
             node,
             number,
             ticket,
-        } => {
-            line.word("switch");
-            line.number(u64::from(actor));
-            line.word(if off { " off" } else { " on" });
-            line.number(u64::from(node));
-            line.label_number(" number", u64::from(number));
-            line.label_number(" ticket", ticket);
-            line.word("\n");
-        }
+        } => write_switch(line, actor, off, node, number, ticket),
         Done::Found { .. } | Done::Off { .. } | Done::Again { .. } => unreachable!(),
     }
 }
@@ -233,14 +252,22 @@ impl<'a> Lines<'a> {
     }
 }
 
+// The lines that are left, behind a text.
+fn push_lines(text: &mut Vec<u8>, lines: &mut Lines<'_>) -> Result<(), AllocError>
+    ensures { OnOk result (text.new.items ≡ text.old.items ++ concat lines.old.left) }
+{
+    'lines: while let Some(line) = lines.next_line() {
+        text.extend_from_slice(line)?;
+    }
+    Ok(())
+}
+
 /// The text of the report of an outcome.
 pub fn report(alloc: Global, outcome: &Outcome) -> Result<Vec<u8>, AllocError>
     ensures { IfOk result (λ text. text.items ≡ report_of (result_of outcome.now)) }
 {
     let mut lines = Lines::new(alloc, outcome)?;
     let mut text = Vec::new(alloc);
-    'lines: while let Some(line) = lines.next_line() {
-        text.extend_from_slice(line)?;
-    }
+    push_lines(&mut text, &mut lines)?;
     Ok(text)
 }

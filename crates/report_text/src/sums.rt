@@ -1,5 +1,5 @@
 //! The line that tells an outcome in sums.
-ghost use Rattle.std.specs.Prelude.{◌≡◌, ◌<◌, ◌+◌, ◌^◌, ◌++◌, IfOk, OnOk, count_by, if◌then◌else◌};
+ghost use Rattle.std.specs.Prelude.{◌≡◌, ◌<◌, ◌+◌, ◌^◌, ◌++◌, IfOk, OnOk, codes, count_by, if◌then◌else◌};
 ghost use Rattle.std.specs.List.{sum_by};
 ghost use Rattle.directory.specs.Outcomes.{result_of};
 ghost use Rattle.outside.specs.Texts.{field};
@@ -10,7 +10,7 @@ use itoa::Buffer;
 use std::alloc::{AllocError, Global};
 
 // The sums over some calls.
-#[derive(Clone, Copy, Debug)]
+#[derive(Clone, Copy)]
 struct Sums {
     moves: u64,
     moved: u128,
@@ -78,7 +78,7 @@ fn sums_of(calls: &[Done]) -> Sums
 }
 
 // A label, a blank and a number, behind what stands there.
-fn push_field(text: &mut Vec<u8>, label: &str, number: u128) -> Result<(), AllocError>
+pub(crate) fn push_field(text: &mut Vec<u8>, label: &str, number: u128) -> Result<(), AllocError>
     ensures { OnOk result (text.new.items ≡ text.old.items ++ label.now ++ field number) }
 {
     let mut buffer = Buffer::new();
@@ -88,17 +88,27 @@ fn push_field(text: &mut Vec<u8>, label: &str, number: u128) -> Result<(), Alloc
     Ok(())
 }
 
+// The sums over the calls, behind what stands there.
+fn push_sums(text: &mut Vec<u8>, sums: &Sums) -> Result<(), AllocError>
+    ensures { OnOk result (text.new.items ≡ text.old.items
+        ++ codes " moves" ++ field sums.now.moves ++ codes " moved" ++ field sums.now.moved
+        ++ codes " finds" ++ field sums.now.finds ++ codes " again" ++ field sums.now.again
+        ++ codes " travelled" ++ field sums.now.travelled) }
+{
+    push_field(text, " moves", u128::from(sums.moves))?;
+    push_field(text, " moved", sums.moved)?;
+    push_field(text, " finds", u128::from(sums.finds))?;
+    push_field(text, " again", u128::from(sums.again))?;
+    push_field(text, " travelled", sums.travelled)
+}
+
 /// The line that tells an outcome in sums, of 128 bits.
 pub fn summary(alloc: Global, outcome: &Outcome) -> Result<Vec<u8>, AllocError>
     ensures { IfOk result (λ text. text.items ≡ summary_of (result_of outcome.now)) }
 {
     let sums = sums_of(&outcome.calls);
     let mut text = Vec::from_slice(alloc, b"summary")?;
-    push_field(&mut text, " moves", u128::from(sums.moves))?;
-    push_field(&mut text, " moved", sums.moved)?;
-    push_field(&mut text, " finds", u128::from(sums.finds))?;
-    push_field(&mut text, " again", u128::from(sums.again))?;
-    push_field(&mut text, " travelled", sums.travelled)?;
+    push_sums(&mut text, &sums)?;
     push_field(&mut text, " visits", outcome.order.len() as u128)?;
     text.push(b'\n')?;
     Ok(text)

@@ -1,9 +1,8 @@
 use Rattle.std.proofs.Common.{◌≡◌, ◌++◌, length}
-use Rattle.report_text.specs.PlanText.{plan_text_of}
-use Rattle.report_text.proofs.plan.plan_text.Given as goal
+use Rattle.report_text.proofs.plan.push_parts.Given as goal
 
 abbrev pub invariant-parts : goal.invariant-parts
-invariant-parts l = l.text.items ++ l.parts.left ≡ plan_text_of l.plan
+invariant-parts l = l.text.items ++ l.parts.left ≡ l.fn.text.items ++ l.fn.parts.left
 
 abbrev pub decreases-parts : goal.decreases-parts
 decreases-parts l = length l.parts.left
