@@ -1,20 +1,25 @@
 -- A graph's plan is the plan of the edges that it was made of.
-use Rattle.std.proofs.Common.{◌≡◌, ℕ, ◌<◌, ◌≤◌, Bool, true, false, List, subst, arith}
+use Rattle.std.proofs.Common.{◌≡◌, ℕ, ◌<◌, ◌≤◌, Bool, true, false, List, Err, subst, arith}
 use Rattle.std.specs.Prelude.{◌==◌, if◌then◌else◌}
 use Rattle.net_graph.specs.declared.edge.Edge.{Edge}
 use Rattle.net_graph.specs.declared.edge.TheConstants.{MAX_NODES}
 use Rattle.net_graph.specs.Network.{Network, IsFirstApart, IsGraphOf, IsNetwork}
 use Rattle.net_graph.specs.Walks.{IsReached, everywhere}
 use Rattle.net_reader.specs.Input.{Contents}
+use Rattle.net_reader.specs.Reading.{IsReadWithGraph}
 use Rattle.net_reader.specs.Table.{most_nodes}
 use Rattle.net_reader.specs.Valid.{IsValid}
+use Rattle.net_reader.specs.declared.fault.ReadRefusal.{ReadRefusal}
+use Rattle.net_reader.specs.declared.fault.ReadRefusal.TheVariants as refusals
+use Rattle.word_line.specs.declared.command.Command.{Command}
 use Rattle.region_plan.specs.Coverings.{trade_off_of}
 use Rattle.plan_laws.specs.SameWalks.{CoveredPlansOfSameWalks, PlansOfSameWalks}
 use Rattle.region_plan.specs.Meanings.{CoveredPlansMean, PlansMean}
 use Rattle.region_plan.specs.Plan.{nodes_of}
 use Rattle.region_plan.specs.Regions.{covered_plan, plan_of}
 use Rattle.region_plan.specs.declared.covering.Covering.{Covering}
-use Rattle.track.specs.Results.{network_of, plan_for}
+use Rattle.track.specs.Results.{IsInputText, IsJudged, IsRefused, network_of, plan_for}
+use Rattle.track.specs.declared.status.Status.{Status}
 
 -- ---- the plan of the input's network
 
@@ -68,3 +73,17 @@ not_apart n edges given node same connected apart =
     let is : IsFirstApart n edges node = subst (λ (es : List Edge). IsFirstApart n es node) same apart in
     let reached = connected node is.below in
     is.apart reached.steps reached.walk
+
+-- ---- bytes that are refused
+
+pub refused-text : (command : Command) (bytes : List ℕ) (refusal : ReadRefusal) (status : Status) (text : List ℕ)
+    → IsReadWithGraph bytes (Err refusal) → IsRefused refusal status text → IsInputText command bytes status text
+refused-text command bytes (refusals.Fault fault) status text says is =
+    record { input = Err fault; says = says; answer = is }
+refused-text command bytes refusals.OutOfMemory status text says is = elim is [ ]
+
+pub refused-verdict : (part report : List ℕ) (refusal : ReadRefusal) (status : Status) (text : List ℕ)
+    → IsReadWithGraph part (Err refusal) → IsRefused refusal status text → IsJudged part report status text
+refused-verdict part report (refusals.Fault fault) status text says is =
+    record { input = Err fault; says = says; answer = is }
+refused-verdict part report refusals.OutOfMemory status text says is = elim is [ ]

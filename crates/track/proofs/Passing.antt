@@ -1,11 +1,16 @@
 -- A text that is passed on piece by piece: what was written, and what waits.
-use Rattle.std.proofs.Common.{◌≡◌, ℕ, List, [], ◌++◌, Option, Result, Ok, Err, sym, ap, subst, ◌∙◌, append_assoc, append-nil}
+use Rattle.std.proofs.Common.{◌≡◌, ℕ, List, [], ◌++◌, Option, Some, None, Result, Ok, Err, refl, sym, ap, subst, ◌∙◌, append_assoc, append-nil}
 use Rattle.std.specs.Prelude.{IfErr}
 use Rattle.std.specs.Result.{IsErrAnd, OnOk}
 use Rattle.outside.specs.Bytes.{append_known, append_known-append}
 use Rattle.track.specs.declared.stop.WriteStop.{WriteStop}
 use Rattle.track.specs.declared.stop.WriteStop.TheVariants.{Failed}
 use Rattle.track.specs.Transfer.{HasFaultedOnce, IsOnItsWay, IsWrittenPart, StopsWriting}
+
+-- nothing more was written
+pub none-more : (bytes : Option (List ℕ)) → bytes ≡ append_known bytes []
+none-more None = refl
+none-more (Some bytes) = ap (λ (b : List ℕ). Some b) (sym (append-nil bytes))
 
 -- all that waited was written, and a piece behind it
 pub long-moved : {E : Type 0} (result : Result (Unit {0}) E) (before mid now : Option (List ℕ))

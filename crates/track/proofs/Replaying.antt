@@ -1,6 +1,9 @@
 -- The report of a valid input over a plan, under any order, says what is right, and within the
 -- bound.
-use Rattle.std.proofs.Common.{◌≡◌, ℕ, ◌≤◌, ◌^◌, Bool, true, false, ◌<◌, List, length, Option, Some, None, refl, sym, ap, ◌∙◌, arith}
+use Rattle.std.proofs.Common.{◌≡◌, ℕ, ◌≤◌, ◌+◌, ◌^◌, ◌++◌, ◌∷◌, [], Bool, true, false, ◌<◌, List, length, Option, Some, None, refl, sym, ap, subst, ◌∙◌, arith}
+use Rattle.std.proofs.Math.ListN.{get_or-append}
+use Rattle.std.proofs.Math.Seq.{get_or-append_seam}
+use borrow.Author.Count.{below_more}
 use Rattle.std.specs.Prelude.{◌==◌, ◌&&◌, not, if◌then◌else◌, slice_index, slice_index_or}
 use Rattle.node_set.specs.Ascending.{sift}
 use Rattle.node_set.specs.SetLaws.{passing_same}
@@ -104,3 +107,13 @@ pub text-of_places : (contents : Contents) (places : List (Option ℕ)) → AreL
 text-of_places contents places are =
     texts-same (who_at places) (who_ends_at contents.homes (scripts_of contents)) contents.nodes
     (λ node below. who-same contents places are node)
+
+-- one place more at the end of those that were told
+pub place-more : (told : ℕ → Option ℕ) (places : List (Option ℕ)) (n : ℕ) (place : Option ℕ) → length places ≡ n
+    → ((sub : ℕ) → sub < n → slice_index_or places sub None ≡ told sub) → place ≡ told n
+    → (sub : ℕ) → sub < n + 1 → slice_index_or (places ++ place ∷ []) sub None ≡ told sub
+place-more told places n place long each here =
+    below_more (λ sub. slice_index_or (places ++ place ∷ []) sub None ≡ told sub) n
+    (λ sub below. get_or-append places (place ∷ []) None sub (omega (arith, long, below)) ∙ each sub below)
+    (subst (λ k. slice_index_or (places ++ place ∷ []) k None ≡ place) long
+    (get_or-append_seam places place [] None) ∙ here)

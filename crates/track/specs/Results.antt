@@ -8,6 +8,8 @@
 use Rattle.std.specs.Prelude.{◌≡◌, ◌⊎◌, ℕ, ◌+◌, ◌-◌, ◌*◌, ◌++◌, ◌∷◌, [], Bool, true, false, All, List, Option, Some, None, Result, Ok, Err, ◌<◌, codes, length}
 use Rattle.net_graph.specs.Network.{Network}
 use Rattle.net_reader.specs.declared.fault.InputFault.{InputFault}
+use Rattle.net_reader.specs.declared.fault.ReadRefusal.{ReadRefusal}
+use Rattle.net_reader.specs.declared.fault.ReadRefusal.TheVariants as refusals
 use Rattle.net_reader.specs.Input.{Contents, IsInput}
 use Rattle.directory.specs.Census.{census}
 use Rattle.directory.specs.Histories.{History}
@@ -209,6 +211,11 @@ abbrev pub IsRightAnswer : Command → Result Contents InputFault → Status →
 IsRightAnswer command (Ok contents) status text = (status ≡ Done) × IsResult command contents text
 IsRightAnswer command (Err fault) status text =
     (status ≡ Refused) × (text ≡ refused_line_of fault)
+
+-- the text that answers bytes that are refused, and the status that goes with it
+abbrev pub IsRefused : ReadRefusal → Status → List ℕ → Type 0
+IsRefused (refusals.Fault fault) status text = (status ≡ Refused) × (text ≡ refused_line_of fault)
+IsRefused refusals.OutOfMemory status text = ⊥
 
 -- the text of a command to which all bytes are an input, and the status that goes with it
 pub record IsInputText (command : Command) (bytes : List ℕ) (status : Status)

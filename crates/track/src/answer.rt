@@ -1,19 +1,22 @@
 //! What answers an input.
-ghost use Rattle.std.specs.Prelude.{◌≡◌, ℕ, List, [], IfOk, true};
+ghost use Rattle.std.specs.Prelude.{◌≡◌, ℕ, List, [], IfOk, Ok, true};
 ghost use Rattle.net_reader.specs.Reading.{StandsFor};
 ghost use Rattle.net_reader.specs.Seen.{seen_input};
 ghost use Rattle.net_reader.specs.Valid.{IsValid};
 ghost use Rattle.net_graph.specs.Network.{IsGraphOf};
 ghost use Rattle.directory.specs.Orders.{history_of};
 ghost use Rattle.directory.specs.Outcomes.{result_of};
+ghost use Rattle.machine.specs.Stands.{BelongTogether};
 ghost use Rattle.machine.specs.Machines.{IsSame, scripts_at, setting_at, HasHistory};
 ghost use Rattle.report_text.specs.ReportText.{report_of};
+ghost use Rattle.trail_laws.specs.Lines.{TellInTurn};
 ghost use Rattle.track.specs.Bodies.{text_of};
 ghost use Rattle.region_plan.specs.Coverings.{trade_off_of};
 ghost use Rattle.region_plan.specs.Regions.{covered_plan};
 ghost use Rattle.report_text.specs.PlanText.{plan_text_of};
 ghost use Rattle.track.specs.Results.{IsInputText, IsMeanPlanText, IsReport, IsReportOver, IsResult};
-ghost use Rattle.track.specs.Results.{is_made_alike, network_of, outcome_for, outcome_over};
+ghost use Rattle.track.specs.Results.{IsRefused, IsRightAnswer, is_made_alike, network_of};
+ghost use Rattle.track.specs.Results.{outcome_for, outcome_over};
 
 use crate::census::census;
 use crate::cost::cost_text;
@@ -82,6 +85,23 @@ fn mean_cover(alloc: Global, input: &Input, graph: &Graph) -> Result<Plan, Alloc
     cover(alloc, Covering::Mean(input.k), input, graph)
 }
 
+// What becomes of an input's calls under its order, over a plan.
+fn replay_over(
+    alloc: Global,
+    input: &Input,
+    plan: &Plan,
+    distances: &Distances,
+) -> Result<Outcome, AllocError>
+    requires together { BelongTogether (seen_input input.now) plan.now distances.now }
+    ensures { IfOk result (λ outcome. (result_of outcome
+        ≡ outcome_over plan.now (seen_input input.now)) × TellInTurn (result_of outcome).calls) }
+{
+    all_scripts_done();
+    let mut machine = Machine::new(alloc, input, plan, distances)?;
+    play(&mut machine, &input.order);
+    Ok(machine.outcome())
+}
+
 // What becomes of an input's calls under its order, over its plan of a covering.
 pub(crate) fn replay(
     alloc: Global,
@@ -103,14 +123,11 @@ pub(crate) fn replay(
     plans_track();
     plan_outcomes_are_near();
     scripts_are_valid();
-    all_scripts_done();
     covered_plan_means();
     covered_plan_of_same_walks();
     let distances = Distances::new(alloc, graph)?;
     let plan = Plan::build_by(alloc, graph, &distances, covering)?;
-    let mut machine = Machine::new(alloc, input, &plan, &distances)?;
-    play(&mut machine, &input.order);
-    Ok(machine.outcome())
+    replay_over(alloc, input, &plan, &distances)
 }
 
 // What becomes of an input's calls under its order, over the plan of its network: its report is
@@ -171,6 +188,38 @@ fn body_of(
     }
 }
 
+// What answers a valid input.
+fn answer_valid(
+    alloc: Global,
+    command: Command,
+    input: &Input,
+    graph: &Graph,
+) -> Result<Answer, AllocError>
+    requires served { is_made_alike command ≡ true }
+    requires valid { IsValid (seen_input input.now) }
+    requires graph { IsGraphOf input.now.nodes input.now.edges.items graph.now }
+    ensures { IfOk result (λ answer. IsRightAnswer command (Ok (seen_input input.now))
+        answer.status (text_of answer.body)) }
+{
+    Ok(Answer {
+        status: Status::Done,
+        body: body_of(alloc, command, input, graph)?,
+    })
+}
+
+// What answers bytes that are refused.
+pub(crate) fn answer_refused(refusal: ReadRefusal) -> Result<Answer, AllocError>
+    ensures { IfOk result (λ answer. IsRefused refusal answer.status (text_of answer.body)) }
+{
+    match refusal {
+        ReadRefusal::Fault(fault) => Ok(Answer {
+            status: Status::Refused,
+            body: Body::Refusal(fault),
+        }),
+        ReadRefusal::OutOfMemory => Err(AllocError),
+    }
+}
+
 // What answers the bytes that the reader stands for.
 pub(crate) fn make_answer(
     alloc: Global,
@@ -185,15 +234,8 @@ pub(crate) fn make_answer(
     match reader.end_with_graph(alloc) {
         Ok(found) => {
             let (input, graph) = found;
-            Ok(Answer {
-                status: Status::Done,
-                body: body_of(alloc, command, &input, &graph)?,
-            })
+            answer_valid(alloc, command, &input, &graph)
         }
-        Err(ReadRefusal::Fault(fault)) => Ok(Answer {
-            status: Status::Refused,
-            body: Body::Refusal(fault),
-        }),
-        Err(ReadRefusal::OutOfMemory) => Err(AllocError),
+        Err(refusal) => answer_refused(refusal),
     }
 }

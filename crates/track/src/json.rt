@@ -6,8 +6,9 @@ ghost use Rattle.track.specs.Results.{IsJsonAnswer, IsMadeBy};
 
 use crate::answer::{Answer, Body};
 use crate::status::Status;
+use crate::transfer::reader_of;
 use json_form::{JsonFault, json_text};
-use net_reader::{ReadRefusal, Reader};
+use net_reader::ReadRefusal;
 use std::alloc::{AllocError, Global};
 
 // A reader counts its bytes in 32 bits.
@@ -30,8 +31,7 @@ fn answer_made(alloc: Global, made: Vec<u8>) -> Result<Answer, AllocError>
     if made.len() > MOST_READ {
         return Err(AllocError);
     }
-    let mut reader = Reader::new(alloc)?;
-    reader.feed(&made)?;
+    let reader = reader_of(alloc, &made)?;
     match reader.end(alloc) {
         Ok(_) => Ok(Answer {
             status: Status::Done,

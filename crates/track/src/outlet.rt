@@ -14,7 +14,7 @@ const ROOM: usize = 65_536;
 
 // Bytes that wait for a sink, in room for 65,536. They are written where one piece more doesn't
 // fit.
-#[derive(Debug, Drop)]
+#[derive(Drop)]
 pub(crate) struct Outlet {
     waiting: Vec<u8>,
 }

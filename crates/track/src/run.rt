@@ -1,5 +1,5 @@
 //! What answers an input to `run`: its calls are made by threads.
-ghost use Rattle.std.specs.Prelude.{List, ℕ, IfOk};
+ghost use Rattle.std.specs.Prelude.{List, ℕ, IfOk, Ok};
 ghost use Rattle.directory.specs.Outcomes.{result_of};
 ghost use Rattle.net_graph.specs.Network.{IsGraphOf};
 ghost use Rattle.net_reader.specs.Reading.{StandsFor};
@@ -8,14 +8,14 @@ ghost use Rattle.net_reader.specs.Valid.{IsValid};
 ghost use Rattle.report_text.specs.ReportText.{report_of};
 ghost use Rattle.word_line.specs.declared.command.Command.TheVariants.{Run};
 ghost use Rattle.track.specs.Bodies.{text_of};
-ghost use Rattle.track.specs.Results.{IsInputText, IsRunReport};
+ghost use Rattle.track.specs.Results.{IsInputText, IsRightAnswer, IsRunReport};
 
-use crate::answer::{Answer, Body};
+use crate::answer::{Answer, Body, answer_refused};
 use crate::status::Status;
 use directory::{Outcome, each_visit_is_next};
 use distances::Distances;
 use net_graph::Graph;
-use net_reader::{Input, ReadRefusal, Reader, inputs_are_valid};
+use net_reader::{Input, Reader, inputs_are_valid};
 use own_reports::own_reports_are_sound;
 use plan_laws::plan_of_same_walks;
 use region_plan::{Plan, plan_means};
@@ -54,6 +54,26 @@ fn run<R: Threads + Sync, G: Gate>(
     run_workers(rt, alloc, input, &plan, &distances, gate, tries)
 }
 
+// What answers a valid input.
+fn answer_run<R: Threads + Sync, G: Gate>(
+    rt: &R,
+    alloc: Global,
+    input: &Input,
+    graph: &Graph,
+    gate: &G,
+    tries: u64,
+) -> Result<Answer, AllocError>
+    requires valid { IsValid (seen_input input.now) }
+    requires graph { IsGraphOf input.now.nodes input.now.edges.items graph.now }
+    ensures { IfOk result (λ answer. IsRightAnswer Run (Ok (seen_input input.now))
+        answer.status (text_of answer.body)) }
+{
+    Ok(Answer {
+        status: Status::Done,
+        body: Body::Report(run(rt, alloc, input, graph, gate, tries)?),
+    })
+}
+
 // What answers the bytes that the reader stands for.
 pub(crate) fn answer_by_threads<R: Threads + Sync, G: Gate>(
     rt: &R,
@@ -69,15 +89,8 @@ pub(crate) fn answer_by_threads<R: Threads + Sync, G: Gate>(
     match reader.end_with_graph(alloc) {
         Ok(found) => {
             let (input, graph) = found;
-            Ok(Answer {
-                status: Status::Done,
-                body: Body::Report(run(rt, alloc, &input, &graph, gate, tries)?),
-            })
+            answer_run(rt, alloc, &input, &graph, gate, tries)
         }
-        Err(ReadRefusal::Fault(fault)) => Ok(Answer {
-            status: Status::Refused,
-            body: Body::Refusal(fault),
-        }),
-        Err(ReadRefusal::OutOfMemory) => Err(AllocError),
+        Err(refusal) => answer_refused(refusal),
     }
 }

@@ -8,7 +8,7 @@ use crate::status::Status;
 use std::alloc::AllocError;
 
 // Why not all was read.
-#[derive(Clone, Copy, Debug, PartialEq, Eq)]
+#[derive(Clone, Copy)]
 pub(crate) enum ReadStop {
     OutOfMemory,
     Failed,
@@ -16,7 +16,7 @@ pub(crate) enum ReadStop {
 }
 
 // Why a text wasn't written whole.
-#[derive(Clone, Copy, Debug, PartialEq, Eq)]
+#[derive(Clone, Copy)]
 pub(crate) enum WriteStop {
     OutOfMemory,
     Failed,

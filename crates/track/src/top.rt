@@ -2,7 +2,7 @@
 ghost use Rattle.std.specs.Prelude.{◌≡◌, IfErr, IfSome, IsSome, OnOk, false, true};
 ghost use Rattle.word_line.specs.declared.command.Command.TheVariants.{Check, FromJson, Run};
 ghost use Rattle.word_line.specs.Forms.{bytes_of, command_of};
-ghost use Rattle.track.specs.Bodies.{IsEnded};
+ghost use Rattle.track.specs.Bodies.{IsAnswered, IsEnded};
 ghost use Rattle.track.specs.Results.{HasLoad, is_made_alike, is_served, text_alone};
 ghost use Rattle.track.specs.Ends.{EndsAs, EndsIf, Tells, streams};
 ghost use Rattle.track.specs.Transfer.{IsEndOf, write_status};
@@ -29,16 +29,24 @@ use word_line::{Command, read_words};
 // How many bytes a text may have that has a report.
 const MAX_TEXT_BYTES: usize = 67_108_864;
 
+// Writes an answer, and tells the status to end with.
+fn write_whole<K: Sink>(alloc: Global, answer: &Answer, sink: &mut K) -> Status
+    ensures { IsAnswered answer.now result
+        (K.written sink.old) (K.written sink.new) (K.faults sink.old) (K.faults sink.new) }
+{
+    match write_body(alloc, &answer.body, sink) {
+        Ok(()) => answer.status,
+        Err(stop) => Status::from(stop),
+    }
+}
+
 // Writes an answer, if there was memory for one, and tells the status to end with.
 fn write_answer<K: Sink>(alloc: Global, answer: Result<Answer, AllocError>, sink: &mut K) -> Status
     ensures { IsEnded answer result
         (K.written sink.old) (K.written sink.new) (K.faults sink.old) (K.faults sink.new) }
 {
     match answer {
-        Ok(answer) => match write_body(alloc, &answer.body, sink) {
-            Ok(()) => answer.status,
-            Err(stop) => Status::from(stop),
-        },
+        Ok(answer) => write_whole(alloc, &answer, sink),
         Err(AllocError) => Status::OutOfMemory,
     }
 }

@@ -1,6 +1,6 @@
 //! All bytes of a source into a reader, and a whole text into a sink.
-ghost use Rattle.std.specs.Prelude.{◌≡◌, IfOk, IfErr, OnOk};
-ghost use Rattle.net_reader.specs.Reading.{most_bytes};
+ghost use Rattle.std.specs.Prelude.{◌≡◌, ◌<◌, ◌^◌, IfOk, IfErr, OnOk, length};
+ghost use Rattle.net_reader.specs.Reading.{StandsFor, most_bytes};
 ghost use Rattle.outside.specs.Bytes.{append_known};
 ghost use Rattle.track.specs.declared.stop.WriteStop.TheVariants.{Failed};
 ghost use Rattle.track.specs.Transfer.{HasFaultedOnce, IsAllRead, IsEndOf, IsTextRead, IsWrittenPart, StopsReading};
@@ -8,7 +8,7 @@ ghost use Rattle.track.specs.Transfer.{HasFaultedOnce, IsAllRead, IsEndOf, IsTex
 use crate::stop::{ReadStop, WriteStop};
 use net_reader::{MAX_BYTES, Reader};
 use outside::{Gave, Sink, Source, Took};
-use std::alloc::Global;
+use std::alloc::{AllocError, Global};
 
 const PIECE: usize = 16_384;
 
@@ -59,6 +59,16 @@ pub(crate) fn read_text<S: Source>(
         }
     }
     Err(ReadStop::TooLong)
+}
+
+// A reader of a whole text.
+pub(crate) fn reader_of(alloc: Global, text: &[u8]) -> Result<Reader, AllocError>
+    requires { length text.now < 2 ^ 32 }
+    ensures { IfOk result (λ reader. StandsFor reader text.now) }
+{
+    let mut reader = Reader::new(alloc)?;
+    reader.feed(text)?;
+    Ok(reader)
 }
 
 // The whole text into the sink. It stops at the first fault.

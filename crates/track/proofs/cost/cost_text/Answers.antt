@@ -22,9 +22,9 @@ returns c =
       nodes = plan-nodes c.plan_means.ensures contents c.requires.valid;
       starts = refl;
     }) in
-    IfOk-weaker c.costs_text.result _ _ (λ text is. record {
-      text_is = is ∙ ap costs_text_of (c.deref.ensures.value ∙ c.in_ok-lines.ensures.lines
-          ∙ ap (λ (p : PlanData). cost_lines (setting_of p contents.homes) (scripts_of contents)) same);
+    IfOk-weaker c.cost_text_over.result _ _ (λ text is. record {
+      text_is = is ∙ ap (λ (p : PlanData). costs_text_of (cost_lines (setting_of p contents.homes)
+          (scripts_of contents))) same;
       within = c.network_lines_are_within_rate.ensures (network_of contents) contents.k contents.homes
           (scripts_of contents) (network-valid contents c.requires.valid) c.requires.valid.k_some scripts;
-    }) c.costs_text.ensures
+    }) c.cost_text_over.ensures

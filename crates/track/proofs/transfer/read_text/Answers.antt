@@ -1,4 +1,4 @@
-use Rattle.std.proofs.Common.{◌++◌, take, sym, ap, ◌∙◌}
+use Rattle.std.proofs.Common.{◌≡◌, ◌++◌, List, ℕ, take, sym, ap, ◌∙◌, rules}
 use Rattle.outside.specs.Bytes.{prepend_known, prepend_known-append}
 use Rattle.track.proofs.transfer.read_text.Goals as goal
 
@@ -10,4 +10,17 @@ returns-in_err-extend_from_slice-in-Got-clause-rest g c =
       front = bytes ++ piece;
       parts = c.pieces.invariant.parts ∙ ap (prepend_known bytes) c.in-Got.ensures.bytes
           ∙ sym (prepend_known-append bytes piece (g.S.Source.left c.fill.new.self));
+    }
+
+pub pieces-preserved : goal.pieces-preserved
+pieces-preserved g c =
+    let bytes = c.pieces.text.items in
+    let piece = take c.in-Got.more c.fill.new.into in
+    let left = g.S.Source.left c.fill.new.self in
+    let grown : c.extend_from_slice.new.self.items ≡ bytes ++ piece = search rules in
+    record {
+      parts = c.pieces.invariant.parts ∙ ap (prepend_known bytes) c.in-Got.ensures.bytes
+          ∙ sym (prepend_known-append bytes piece left)
+          ∙ ap (λ (t : List ℕ). prepend_known t left) (sym grown);
+      no_fault = c.in-Got.ensures.count ∙ c.pieces.invariant.no_fault;
     }

@@ -1,6 +1,5 @@
-use Rattle.std.proofs.Common.{◌≡◌, ◌∙◌, ap, subst, sym}
-use Rattle.std.proofs.lemmas.Result.{IfOk-weaker}
-use Rattle.make_load.specs.Load.{load_contents}
+use Rattle.std.specs.Prelude.{IfOk}
+use Rattle.std.proofs.Common.{◌≡◌, subst, sym}
 use Rattle.report_text.specs.SummaryText.{summary_of}
 use Rattle.net_graph.specs.Faults.{IsGraphFault}
 use Rattle.net_reader.specs.Input.{Contents}
@@ -12,11 +11,9 @@ use Rattle.track.proofs.trial.trial.Goals as goal
 
 pub returns-in-Ok : goal.returns-in-Ok
 returns-in-Ok c =
-    let same : summary_of (outcome_for (seen_input c.in_ok-input.input))
-    ≡ summary_of (outcome_for (load_contents c.args.load)) =
-    ap (λ (contents : Contents). summary_of (outcome_for contents)) c.in_ok-input.ensures in
-    IfOk-weaker c.summary.result _ _ (λ text is. is ∙ ap summary_of c.in_ok-outcome-in-Ok.ensures.is ∙ same)
-    c.summary.ensures
+    subst (λ (contents : Contents). IfOk c.replay_summary.result
+    (λ text. text.items ≡ summary_of (outcome_for contents)))
+    c.in_ok-input.ensures c.replay_summary.ensures
 
 pub unreachable-requires : goal.unreachable-requires
 unreachable-requires c =

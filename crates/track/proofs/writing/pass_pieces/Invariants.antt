@@ -1,6 +1,6 @@
 use Rattle.std.proofs.Common.{◌≡◌, ◌++◌, List, ℕ}
 use Rattle.track.specs.Transfer.{IsOnItsWay}
-use Rattle.track.proofs.writing.write_pieces.Given as goal
+use Rattle.track.proofs.writing.pass_pieces.Given as goal
 
 abbrev pub invariant-pieces : goal.invariant-pieces
 invariant-pieces g l = record {

@@ -1,7 +1,7 @@
 use Rattle.std.proofs.Common.{◌++◌, refl, ap, sym, ◌∙◌}
 use Rattle.track.specs.Transfer.{StopsWriting}
 use Rattle.track.proofs.Passing.{ends-stopped, err-then, no-parts, onward, part-first, part-more, stopped-writing}
-use Rattle.track.proofs.writing.write_pieces.Goals as goal
+use Rattle.track.proofs.writing.pass_pieces.Goals as goal
 
 pub pieces-preserved : goal.pieces-preserved
 pieces-preserved g c =
