@@ -1,8 +1,8 @@
 //! What an input says.
 ghost use Rattle.std.specs.Prelude.{◌≡◌, [], map, IfOk, Ok};
 ghost use Rattle.net_reader.specs.Said.{script_of};
-ghost use Rattle.net_reader.specs.Input.{numbers_from};
-ghost use Rattle.net_reader.specs.Seen.{seen_known, KeepsLimits, Answers};
+ghost use Rattle.net_reader.specs.Input.{contents_of, numbers_from};
+ghost use Rattle.net_reader.specs.Seen.{seen_input, seen_known, KeepsLimits, Answers};
 ghost use Rattle.net_reader.specs.Sound.{IsSound};
 
 use crate::fault::{InputCause, InputFault, ReadRefusal};
@@ -60,6 +60,25 @@ fn scripts_of(alloc: Global, actors: u32, calls: &[Spoken]) -> Result<Vec<Vec<Ca
     Ok(scripts)
 }
 
+// The input that was read.
+fn input_of(alloc: Global, known: Known) -> Result<Input, AllocError>
+    requires { KeepsLimits known }
+    ensures { IfOk result (λ input. seen_input input ≡ contents_of (seen_known known)) }
+{
+    let actors = known.homes.len() as u32 + known.callers;
+    let scripts = scripts_of(alloc, actors, &known.calls)?;
+    Ok(Input {
+        format: known.format,
+        nodes: known.nodes,
+        k: known.k,
+        edges: known.edges,
+        homes: known.homes,
+        callers: known.callers,
+        scripts,
+        order: known.order,
+    })
+}
+
 // The input that was read and the graph of its network, where each node has a walk from node 0.
 pub(crate) fn answer(alloc: Global, known: Known, lines: u32) -> Result<(Input, Graph), ReadRefusal>
     requires kept { KeepsLimits known }
@@ -68,18 +87,7 @@ pub(crate) fn answer(alloc: Global, known: Known, lines: u32) -> Result<(Input, 
 {
     match Graph::new(alloc, known.nodes, &known.edges) {
         Ok(graph) => {
-            let actors = known.homes.len() as u32 + known.callers;
-            let scripts = scripts_of(alloc, actors, &known.calls)?;
-            let input = Input {
-                format: known.format,
-                nodes: known.nodes,
-                k: known.k,
-                edges: known.edges,
-                homes: known.homes,
-                callers: known.callers,
-                scripts,
-                order: known.order,
-            };
+            let input = input_of(alloc, known)?;
             Ok((input, graph))
         }
         Err(GraphFault::Apart { node }) => Err(ReadRefusal::Fault(InputFault {
