@@ -41,6 +41,8 @@ pub fn wrong_ends()
         (streams None 0 None 1) → ⊥ }
     ensures both_faults { EndsAs Cover WriteFailed (streams None 0 None 0)
         (streams None 1 None 1) → ⊥ }
+    ensures lost { EndsAs Cover WriteFailed (streams (Some []) 0 (Some (1 ∷ [])) 0)
+        (streams (Some []) 0 (Some []) 1) → ⊥ }
     ensures long_spoke { EndsAs Cover TooLong (streams None 0 (Some []) 0)
         (streams None 0 (Some (1 ∷ [])) 0) → ⊥ }
     ensures long_fault { EndsAs Cover TooLong (streams None 0 None 0)
