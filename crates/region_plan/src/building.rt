@@ -117,6 +117,36 @@ fn threshold_for(i: u32) -> u64
     if i == 0 { 1 } else { u64::from(two_to(i - 1)) }
 }
 
+// Adds the levels up to the top one.
+fn push_levels(
+    alloc: Global,
+    graph: &Graph,
+    distances: &Distances,
+    spread: &Spread,
+    covering: Covering,
+    top: u32,
+    levels: &mut Levels,
+) -> Result<(), OutOfMemory>
+    requires belongs { AreDistancesOf graph.now distances.now }
+    requires metric { IsMetric distances.now }
+    requires low { 1 ≤ trade_off_of covering }
+    requires high { trade_off_of covering ≤ 8 }
+    requires few { top ≤ 30 }
+    requires spread { IsSpreadOf distances.now spread.now }
+    requires below { AreLevelsOf graph.now distances.now covering 0 levels.old }
+    ensures { OnOk result (AreLevelsOf graph.now distances.now covering (top + 1) levels.new) }
+{
+    let nodes = graph.nodes();
+    let mut sets = empty_sets(alloc, nodes as usize, nodes)?;
+    let mut work = Workspace::new(alloc, nodes)?;
+    for i in 0..top + 1 {
+        push_level(
+            alloc, graph, distances, spread, covering, i, &mut sets, &mut work, levels,
+        )?;
+    }
+    Ok(())
+}
+
 // The levels of the plan over the covering, up to the top one.
 pub fn build_levels(
     alloc: Global,
@@ -132,23 +162,8 @@ pub fn build_levels(
     requires few { top ≤ 30 }
     ensures levels { IfOk result (AreLevelsOf graph.now distances.now covering (top + 1)) }
 {
-    let nodes = graph.nodes();
-    let mut levels = Levels::with_capacity(alloc, top as usize + 1)?;
     let spread = Spread::new(alloc, distances)?;
-    let mut sets = empty_sets(alloc, nodes as usize, nodes)?;
-    let mut work = Workspace::new(alloc, nodes)?;
-    for i in 0..top + 1 {
-        push_level(
-            alloc,
-            graph,
-            distances,
-            &spread,
-            covering,
-            i,
-            &mut sets,
-            &mut work,
-            &mut levels,
-        )?;
-    }
+    let mut levels = Levels::with_capacity(alloc, top as usize + 1)?;
+    push_levels(alloc, graph, distances, &spread, covering, top, &mut levels)?;
     Ok(levels)
 }

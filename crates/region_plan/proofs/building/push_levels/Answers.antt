@@ -1,7 +1,7 @@
 use Rattle.std.proofs.Common.{◌∙◌, ap, sym, ◌≡◌, ◌++◌, length, take, drop}
 use Rattle.std.proofs.lemmas.List.{take_at}
 use Rattle.node_set.specs.Nodes.{Nodes}
-use Rattle.region_plan.proofs.building.build_levels.Goals as goal
+use Rattle.region_plan.proofs.building.push_levels.Goals as goal
 
 pub loop-i-preserved : goal.loop-i-preserved
 loop-i-preserved c =

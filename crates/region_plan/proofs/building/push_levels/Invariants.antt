@@ -3,7 +3,7 @@ use Rattle.std.specs.Prelude.{All}
 use Rattle.node_set.specs.Nodes.{Nodes}
 use Rattle.node_set.specs.Workspaces.{IsWorkspace}
 use Rattle.region_plan.specs.Kept.{AreLevelsOf}
-use Rattle.region_plan.proofs.building.build_levels.Given as goal
+use Rattle.region_plan.proofs.building.push_levels.Given as goal
 
 abbrev pub invariant-loop-i : goal.invariant-loop-i
 invariant-loop-i l = record {
