@@ -31,7 +31,7 @@ use Rattle.make_load.specs.Load.{IsLoad, load_contents, load_text_of}
 use Rattle.report_text.specs.SummaryText.{summary_of}
 use Rattle.move_cost.specs.Costs.{cost_lines}
 use Rattle.move_cost.specs.CostText.{costs_text_of}
-use Rattle.move_cost.specs.Plans.{IsWithinRate}
+use Rattle.move_cost.specs.Rate.{IsWithinRate}
 use Rattle.input_text.specs.Listing.{ListingValue, listing_text}
 use Rattle.json_form.specs.TextOfJson.{IsListed, IsNoJson, IsShapeless}
 use Rattle.json_form.specs.Inputs.{input_json_of}
