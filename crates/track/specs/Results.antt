@@ -62,7 +62,7 @@ plan_for contents = plan_of (network_of contents) contents.k
 abbrev pub mean_plan_for : Contents → PlanData
 mean_plan_for contents = mean_plan (network_of contents) contents.k
 
--- a plan with the homes of an input's subscribers
+-- the setting of a plan, in which an input's subscribers start at their nodes
 abbrev pub plan_setting : PlanData → Contents → Setting
 plan_setting plan contents = setting_of plan contents.homes
 
@@ -96,8 +96,8 @@ pub record IsReportOver (plan : PlanData) (contents : Contents) (text : List ℕ
   pub right : All (IsRightLine (plan_setting plan contents) (history_over plan contents))
       (outcome_over plan contents).calls
   -- of two answers about one subscriber, the one with the later last visit tells no lower number;
-  -- and a caller's later finds have no earlier last visits, so that along its finds of a subscriber
-  -- the numbers never fall
+  -- and of a caller's finds that answer, a later one has no earlier last visit, so that along its
+  -- finds of a subscriber the numbers never fall
   pub rising : TellRisingNumbers (outcome_over plan contents).calls
   pub in_turn : TellInTurn (outcome_over plan contents).calls
   -- a quiet find has its answer, and its weight is within the plan's bound: the stretch times the
