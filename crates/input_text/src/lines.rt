@@ -132,7 +132,8 @@ impl<'a> InputLines<'a> {
         })
     }
 
-    /// Makes the next line, and answers whether there was one left. It can't fail for want of memory.
+    /// Makes the next line, and answers whether there was one left. It can't fail for want of
+    /// memory.
     pub fn advance(&mut self) -> bool
         ensures line { result ≡ true → self.old.left ≡ self.new.line ∷ self.new.left }
         ensures none { result ≡ false → (self.old.left ≡ []) × (self.new.left ≡ []) }
@@ -157,7 +158,8 @@ impl<'a> InputLines<'a> {
         true
     }
 
-    /// The line that was made last, with its line feed.
+    /// The line that `advance` has just made, with its line feed. Before the first `advance`, and
+    /// after one that answered false, nothing is said of it.
     pub fn line(&self) -> &[u8]
         ensures { result.now ≡ self.now.line }
     {
