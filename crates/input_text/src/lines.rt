@@ -14,7 +14,7 @@ use std::alloc::{AllocError, Global};
 use std::marker::Model;
 use text_line::{Line, write_next_order};
 
-// Numbers below this are written fast.
+// Numbers below this are written fast: those of all nodes, and of all actors, are among them.
 const FAST_NUMBERS: usize = 1_024;
 
 /// The line that is next, where one of the first few is, or else what has one line for each part.
