@@ -10,7 +10,8 @@ use Rattle.region_plan.specs.Plan.{PlanData, nodes_of}
 use Rattle.region_plan.specs.Settings.{setting_of}
 use Rattle.visit_log.specs.Cells.{CellData, Hold}
 use Rattle.census_text.specs.TextLaws.{texts-same}
-use Rattle.census_text.specs.CensusText.{census_text_of, count_below, is_there, node_line, node_lines, presence_at}
+use Rattle.census_text.specs.CensusText.{census_text_of, count_below, node_line, node_lines}
+use Rattle.census_text.specs.Presence.{is_there, presence_at}
 
 -- one number more that passes a test, or doesn't
 pub list-takes : (test : ℕ → Bool) (i : ℕ) (before after : List ℕ) → test i ≡ true → before ≡ sift test 0 i

@@ -1,2 +1,3 @@
 pub mod CensusText
+pub mod Presence
 pub mod TextLaws

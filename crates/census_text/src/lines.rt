@@ -6,7 +6,8 @@ ghost use Rattle.region_plan.specs.Plan.{nodes_of};
 ghost use Rattle.region_plan.specs.Settings.{setting_of};
 ghost use Rattle.visit_log.specs.Cells.{GoWith, Hold};
 ghost use Rattle.outside.specs.Texts.{fields};
-ghost use Rattle.census_text.specs.CensusText.{census_text_of, count_below, is_place, is_there, node_line, node_lines, presence_at, who_at};
+ghost use Rattle.census_text.specs.CensusText.{census_text_of, count_below, is_place, node_line, node_lines, who_at};
+ghost use Rattle.census_text.specs.Presence.{is_there, presence_at};
 
 use entry_word::{Key, PresenceMark, unpack_mark};
 use region_plan::Plan;

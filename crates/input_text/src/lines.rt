@@ -14,7 +14,7 @@ use std::alloc::{AllocError, Global};
 use std::marker::Model;
 use text_line::{Line, write_next_order};
 
-// Numbers below this are written fast.
+// Numbers below this are written fast: those of all nodes, and of all actors, are among them.
 const FAST_NUMBERS: usize = 1_024;
 
 /// The line that is next, where one of the first few is, or else what has one line for each part.
@@ -132,7 +132,8 @@ impl<'a> InputLines<'a> {
         })
     }
 
-    /// Makes the next line, and answers whether there was one left. It takes no memory.
+    /// Makes the next line, and answers whether there was one left. It can't fail for want of
+    /// memory.
     pub fn advance(&mut self) -> bool
         ensures line { result ≡ true → self.old.left ≡ self.new.line ∷ self.new.left }
         ensures none { result ≡ false → (self.old.left ≡ []) × (self.new.left ≡ []) }
@@ -157,14 +158,16 @@ impl<'a> InputLines<'a> {
         true
     }
 
-    /// The line that was made last, with its line feed.
+    /// The line that `advance` has just made, with its line feed. Before the first `advance`, and
+    /// after one that answered false, nothing is said of it.
     pub fn line(&self) -> &[u8]
         ensures { result.now ≡ self.now.line }
     {
         self.line.bytes()
     }
 
-    /// The next line with its line feed, and None where none is left. It takes no memory.
+    /// The next line with its line feed, and None where none is left. It can't fail for want of
+    /// memory.
     pub fn next_line(&mut self) -> Option<&[u8]>
         ensures line { IfSome result (λ line. self.old.left ≡ line.now ∷ drop 1 self.old.left) }
         ensures none { IfNone result (self.old.left ≡ []) }

@@ -11,6 +11,7 @@ pub enum JsonFault {
     Json,
     /// They are JSON, and it hasn't the shape of an input.
     Shape,
+    /// Memory is wanting, and of the bytes nothing is said.
     OutOfMemory,
 }
 

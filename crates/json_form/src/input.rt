@@ -15,7 +15,7 @@ use net_reader::{Call, Input};
 use std::alloc::{AllocError, Global};
 use text_line::Line;
 
-// Numbers below this are written fast.
+// Numbers below this are written fast: those of all nodes, and of all actors, are among them.
 const FAST_NUMBERS: usize = 1_024;
 
 // An edge, behind what stands before it.

@@ -289,8 +289,8 @@ impl<'a> ReportParts<'a> {
         })
     }
 
-    /// Makes the next part, which isn't empty, and answers whether there was one left. It takes no
-    /// memory.
+    /// Makes the next part, which isn't empty, and answers whether there was one left. It
+    /// can't fail for want of memory.
     pub fn advance(&mut self) -> bool
         ensures part { result ≡ true → self.old.left ≡ self.new.part ++ self.new.left }
         ensures some { result ≡ true → 0 < length self.new.part }
@@ -304,7 +304,8 @@ impl<'a> ReportParts<'a> {
         true
     }
 
-    /// The part that was made last.
+    /// The part that `advance` has just made. Before the first `advance`, and after one that
+    /// answered false, nothing is said of it.
     pub fn part(&self) -> &[u8]
         ensures { result.now ≡ self.now.part }
     {

@@ -8,6 +8,7 @@ ghost use Rattle.json_form.specs.Shapes.{call_in, call_of, each_in, edge_in, num
 use serde_json::Value;
 use text_line::Line;
 
+// The greatest number that a field of an input can hold: eighteen digits.
 const MOST_NUMBER: u64 = 999_999_999_999_999_999;
 
 // What the items of a list are.

@@ -18,8 +18,10 @@ use serde_json::Value;
 use std::alloc::Global;
 use text_line::Line;
 
+// Numbers below this are written fast: those of all nodes, and of all actors, are among them.
 const FAST_NUMBERS: usize = 1_024;
 
+// How many numbers a line of the order has at most.
 const MOST_ON_A_LINE: usize = 64;
 
 // The value that bytes are.

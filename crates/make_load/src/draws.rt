@@ -11,8 +11,10 @@ use rand_pcg::Lcg64Xsh32;
 use std::alloc::{AllocError, Global};
 use word_line::Load;
 
+// The generator's stream. Another one would change every made input (docs/FORMATS.md).
 const STREAM: u64 = 54;
 
+// The greatest weight of an edge.
 const MOST_WEIGHT: u32 = 16;
 
 // The generator of the draws that start here.

@@ -25,8 +25,9 @@ use Rattle.scripts.specs.ScriptLaws.{steps-are}
 use Rattle.move_cost.specs.declared.line.CostLine.{CostLine}
 use Rattle.move_cost.specs.Costs.{cost_line, cost_lines, moved, weight_of_steps}
 use Rattle.move_cost.specs.Counting.{IsCounted}
-use Rattle.move_cost.specs.Pace.{PurgedIsBounded, WrittenIsBounded, writing_rate}
-use Rattle.move_cost.specs.Plans.{IsWithinRate, LinesAreWithinRate, NetworkLinesAreWithinRate, PlansArePaced}
+use Rattle.move_cost.specs.Pace.{PurgedIsBounded, WrittenIsBounded}
+use Rattle.move_cost.specs.Plans.{LinesAreWithinRate, NetworkLinesAreWithinRate, PlansArePaced}
+use Rattle.move_cost.specs.Rate.{IsWithinRate, writing_rate}
 use Rattle.move_cost.proofs.Fitting.{all-sifted}
 
 -- a line of no moves

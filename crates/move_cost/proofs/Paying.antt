@@ -12,7 +12,8 @@ use Rattle.directory.specs.Courses.{Course, MayMove, MayStep, MaySteps, Move, St
 use Rattle.directory.specs.StepLaws.{highest-low}
 use Rattle.directory.specs.Writes.{old_home}
 use Rattle.move_cost.specs.Costs.{step_weight, weight_of_steps}
-use Rattle.move_cost.specs.Pace.{IsPaced, MoveWeighs, WrittenIsBounded, writing_rate}
+use Rattle.move_cost.specs.Pace.{IsPaced, MoveWeighs, WrittenIsBounded}
+use Rattle.move_cost.specs.Rate.{writing_rate}
 use Rattle.move_cost.proofs.MoveParts.{last-after}
 use Rattle.move_cost.proofs.Sums.{sum_from, sum-add, sum-le, sum-powers, sum-same, sum-sift, sum-split, sum-times}
 

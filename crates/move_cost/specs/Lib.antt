@@ -1,4 +1,5 @@
 pub mod Costs
+pub mod Rate
 pub mod Pace
 pub mod Plans
 pub mod Counting

@@ -12,6 +12,7 @@ use Rattle.directory.specs.Legal.{IsScript}
 use Rattle.directory.specs.Writes.{erasure_writes, numbers_from, old_home, purge_writes, step_writes}
 use Rattle.trail_laws.specs.Trail.{HasMetric}
 use Rattle.move_cost.specs.Costs.{erased_levels, is_erasure, is_purge, moved, purged, step_weight, written}
+use Rattle.move_cost.specs.Rate.{writing_rate}
 
 -- a setting whose levels are renewed at such a pace, and whose clusters are at most so many radii
 -- wide: distances are those of a network, in which two nodes are apart; twice the threshold of a
@@ -29,10 +30,6 @@ pub record IsPaced (setting : Setting) (width : ℕ) : Type 0 where
       ≤ setting.inside i (setting.home i v) v
   pub wide : (i v : ℕ) → i ≤ setting.top → v < setting.nodes
       → setting.inside i (setting.home i v) v ≤ width * 2 ^ i
-
--- how many times its way a subscriber writes at most
-abbrev pub writing_rate : ℕ → ℕ → ℕ
-writing_rate width count = (16 * width + 4) * count
 
 -- a subscriber writes at most so many times how far it goes (`written_is_bounded`)
 abbrev pub WrittenIsBounded : Type 0

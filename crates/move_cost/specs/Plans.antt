@@ -1,5 +1,5 @@
 -- What moves cost over the plan of an input: what an input, its plan and its distances have to do
--- with one another, and within which rate the lines of a plan are that bounds its finds.
+-- with one another, and that the lines of a plan that bounds its finds are within its rate.
 -- Key laws: `costs`, by its clauses `lines` and `bounded`; `plans_are_paced` and
 -- `lines_are_within_rate` (the bounds, over every plan that bounds its finds),
 -- `network_lines_are_within_rate` (over the plan of every network).
@@ -15,7 +15,8 @@ use Rattle.region_plan.specs.Regions.{plan_of}
 use Rattle.region_plan.specs.Settings.{setting_of}
 use Rattle.move_cost.specs.declared.line.CostLine.{CostLine}
 use Rattle.move_cost.specs.Costs.{cost_lines}
-use Rattle.move_cost.specs.Pace.{IsPaced, writing_rate}
+use Rattle.move_cost.specs.Pace.{IsPaced}
+use Rattle.move_cost.specs.Rate.{IsWithinRate}
 
 -- the input is valid, and the plan is one of its nodes, with these distances
 pub record GoTogether (input : Contents) (plan : PlanData) (distances : DistanceTable) : Type 0
@@ -23,12 +24,6 @@ pub record GoTogether (input : Contents) (plan : PlanData) (distances : Distance
     pub valid : IsValid input
     pub nodes : nodes_of plan ≡ input.nodes
     pub belongs : plan.distances ≡ distances
-
--- with clusters of this width and so many levels, what is written is at most the rate times the
--- way, and no more is purged than moves are made
-pub record IsWithinRate (width count : ℕ) (line : CostLine) : Type 0 where
-  pub written : line.written ≤ writing_rate width count * line.moved
-  pub purged : line.purged ≤ line.moves
 
 -- what the moves of scripts cost over a plan is within the rate of its reach and its levels
 abbrev pub AreWithinRate : PlanData → List CostLine → Type 0

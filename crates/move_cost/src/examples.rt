@@ -5,7 +5,8 @@ ghost use Rattle.directory.specs.Courses.{move_to, switch_off, switch_on};
 ghost use Rattle.plan_laws.specs.Examples.{line_scripts, line_setting};
 ghost use Rattle.move_cost.specs.CostText.{costs_text_of};
 ghost use Rattle.move_cost.specs.Costs.{cost_lines};
-ghost use Rattle.move_cost.specs.Pace.{IsPaced, writing_rate};
+ghost use Rattle.move_cost.specs.Pace.{IsPaced};
+ghost use Rattle.move_cost.specs.Rate.{writing_rate};
 
 use crate::laws::plans_are_paced;
 use plan_laws::line_has_its_plan;

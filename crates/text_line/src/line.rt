@@ -50,12 +50,17 @@ fn short_fields(alloc: Global, count: usize) -> Result<Vec<[u8; 8]>, AllocError>
     Ok(shorts)
 }
 
-// A line that isn't at its end, in room for 4,096 bytes, of which those before `end` are written;
-// and the fields of the numbers that are written most, and of a full line of one actor.
+/// A line of text under way, for whoever writes many lines one after another: it takes its memory
+/// once, in `new`, and `clear` begins the next line in the same room. A line has room for 4,096
+/// bytes. Each call that writes asks, by its `requires`, that what it writes fits: a number with
+/// the byte before it counts as 41 bytes. So none of them has an error to answer.
 #[derive(Debug, Drop)]
 pub struct Line {
+    // Those before `end` are written.
     bytes: Vec<u8>,
     end: usize,
+    // The fields of the numbers that are written most, and those of a full line of one actor: they
+    // are copied in place of being made anew.
     shorts: Vec<[u8; 8]>,
     run: Run,
 }
@@ -74,7 +79,8 @@ impl Model for Line {
 }
 
 impl Line {
-    // An empty line, which writes the numbers below `count` and 1,024 fast.
+    /// An empty line. Numbers below `count`, and below 1,024, are written fast, by fields that are
+    /// made here, 8 bytes each. It answers `AllocError` where memory is wanting.
     pub fn new(alloc: Global, count: usize) -> Result<Line, AllocError>
         ensures { IfOk result (λ line. line ≡ []) }
     {
@@ -86,20 +92,21 @@ impl Line {
         })
     }
 
-    // The bytes of the line.
+    /// The bytes that were written since `new` or the last `clear`.
     pub fn bytes(&self) -> &[u8]
         ensures { result.now ≡ self.now }
     {
         &self.bytes[..self.end]
     }
 
+    /// Begins the next line: nothing is written, and the room is kept.
     pub fn clear(&mut self)
         ensures { self.new ≡ [] }
     {
         self.end = 0;
     }
 
-    // A word behind what stands there.
+    /// Writes a word as it is, behind what stands there, with no blank before it.
     pub fn word(&mut self, word: &str)
         requires { length self.old + length word.now ≤ 4096 }
         ensures text { self.new ≡ self.old ++ word.now }
@@ -110,7 +117,7 @@ impl Line {
         self.end = end;
     }
 
-    // A blank and a number.
+    /// Writes a blank and a number, in decimal digits without leading zeros.
     #[inline(always)]
     pub fn number(&mut self, number: u64)
         requires { length self.old + 41 ≤ 4096 }
@@ -123,7 +130,7 @@ impl Line {
         };
     }
 
-    // A byte, and a number behind it.
+    /// Writes a byte and a number behind it, as JSON has its commas and brackets.
     #[inline(always)]
     pub fn number_after(&mut self, byte: u8, number: u64)
         requires { length self.old + 41 ≤ 4096 }
@@ -135,7 +142,7 @@ impl Line {
         self.bytes[at] = byte;
     }
 
-    // Numbers, each behind a blank.
+    /// Writes numbers in turn, each behind a blank.
     pub fn numbers(&mut self, numbers: &[u32])
         requires { length self.old + 41 * length numbers.now ≤ 4096 }
         ensures text { self.new ≡ self.old ++ fields numbers.now }
@@ -146,8 +153,8 @@ impl Line {
         }
     }
 
-    // The actors of a line, each behind a blank. What a full line of one actor is made of is kept
-    // for the next line of that actor.
+    /// Writes the actors of a line of an order, each behind a blank, as `numbers` does. The fields
+    /// of 64 times one actor are kept, and copied for the next such line of that actor.
     pub fn actors(&mut self, actors: &[u32])
         requires { length self.old + 41 * length actors.now ≤ 4096 }
         ensures text { self.new ≡ self.old ++ fields actors.now }
@@ -175,7 +182,7 @@ impl Line {
         }
     }
 
-    // A label, a blank and a number.
+    /// Writes a label as it is, and a blank and a number behind it.
     pub fn label_number(&mut self, label: &str, number: u64)
         requires { length self.old + length label.now + 41 ≤ 4096 }
         ensures text { self.new ≡ self.old ++ (label.now ++ field number) }

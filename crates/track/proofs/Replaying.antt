@@ -27,7 +27,7 @@ use Rattle.report_text.specs.ReportText.{report_of}
 use Rattle.own_reports.specs.Reports.{OwnReportsAreSound}
 use Rattle.report_check.specs.declared.verdict.Verdict.TheVariants.{Sound}
 use Rattle.track.specs.Results.{IsCensusText, IsReportOver, history_for, in_order, outcome_for, outcome_over, plan_for, setting_for, verdict_for}
-use Rattle.track.specs.Results.{setting_over}
+use Rattle.track.specs.Results.{plan_setting}
 use Rattle.track.proofs.Answering.{plan-nodes}
 use Rattle.scripts.specs.Laws.{ScriptsAreValid}
 use Rattle.scripts.specs.ScriptLaws.{few-nodes}
@@ -46,13 +46,13 @@ pub report-says : (plan : PlanData) (contents : Contents) (order : List ℕ)
     → IsReportOver plan (in_order contents order) text
 report-says plan contents order turn right rise track near scripts text valid nodes bounds text_is =
     let few : nodes_of plan ≤ 2 ^ 16 = omega (arith, nodes, few-nodes contents valid) in
-    let valid_scripts = scripts contents (setting_over plan contents) valid (record { nodes = nodes; starts = refl }) in
+    let valid_scripts = scripts contents (plan_setting plan contents) valid (record { nodes = nodes; starts = refl }) in
     record {
       text_is = text_is;
-      right = right (setting_over plan contents) (scripts_of contents) order few
+      right = right (plan_setting plan contents) (scripts_of contents) order few
           (track plan contents.homes bounds).whole valid_scripts;
       in_turn = turn;
-      rising = rise (setting_over plan contents) (scripts_of contents) order few valid_scripts;
+      rising = rise (plan_setting plan contents) (scripts_of contents) order few valid_scripts;
       near = near plan contents.homes (scripts_of contents) order few bounds valid_scripts;
     }
 

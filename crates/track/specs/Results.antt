@@ -31,7 +31,7 @@ use Rattle.make_load.specs.Load.{IsLoad, load_contents, load_text_of}
 use Rattle.report_text.specs.SummaryText.{summary_of}
 use Rattle.move_cost.specs.Costs.{cost_lines}
 use Rattle.move_cost.specs.CostText.{costs_text_of}
-use Rattle.move_cost.specs.Plans.{IsWithinRate}
+use Rattle.move_cost.specs.Rate.{IsWithinRate}
 use Rattle.input_text.specs.Listing.{ListingValue, listing_text}
 use Rattle.json_form.specs.TextOfJson.{IsListed, IsNoJson, IsShapeless}
 use Rattle.json_form.specs.Inputs.{input_json_of}
@@ -62,23 +62,23 @@ plan_for contents = plan_of (network_of contents) contents.k
 abbrev pub mean_plan_for : Contents → PlanData
 mean_plan_for contents = mean_plan (network_of contents) contents.k
 
--- a plan with the homes of an input's subscribers
-abbrev pub setting_over : PlanData → Contents → Setting
-setting_over plan contents = setting_of plan contents.homes
+-- the setting of a plan, in which an input's subscribers start at their nodes
+abbrev pub plan_setting : PlanData → Contents → Setting
+plan_setting plan contents = setting_of plan contents.homes
 
 -- the history of an input's calls under its order, over a plan
 abbrev pub history_over : PlanData → Contents → History
 history_over plan contents =
-    history_of (setting_over plan contents) (scripts_of contents) contents.order
+    history_of (plan_setting plan contents) (scripts_of contents) contents.order
 
 -- what becomes of an input's calls under its order, over a plan
 abbrev pub outcome_over : PlanData → Contents → Outcome
 outcome_over plan contents =
-    outcome_of (setting_over plan contents) (scripts_of contents) contents.order
+    outcome_of (plan_setting plan contents) (scripts_of contents) contents.order
 
 -- the same over the plan of the input's network
 abbrev pub setting_for : Contents → Setting
-setting_for contents = setting_over (plan_for contents) contents
+setting_for contents = plan_setting (plan_for contents) contents
 
 -- its history
 abbrev pub history_for : Contents → History
@@ -93,16 +93,16 @@ pub record IsReportOver (plan : PlanData) (contents : Contents) (text : List ℕ
   pub text_is : text ≡ report_of (outcome_over plan contents)
   -- an answer names where its subscriber stood at the find's last visit, and a find that is to be
   -- made again had a visit of a move of its subscriber within it
-  pub right : All (IsRightLine (setting_over plan contents) (history_over plan contents))
+  pub right : All (IsRightLine (plan_setting plan contents) (history_over plan contents))
       (outcome_over plan contents).calls
   -- of two answers about one subscriber, the one with the later last visit tells no lower number;
-  -- and a caller's later finds have no earlier last visits, so that along its finds of a subscriber
-  -- the numbers never fall
+  -- and of a caller's finds that answer, a later one has no earlier last visit, so that along its
+  -- finds of a subscriber the numbers never fall
   pub rising : TellRisingNumbers (outcome_over plan contents).calls
   pub in_turn : TellInTurn (outcome_over plan contents).calls
   -- a quiet find has its answer, and its weight is within the plan's bound: the stretch times the
   -- distance, and twice an open passage
-  pub near : All (IsLineWithin (bound_of plan) (setting_over plan contents)
+  pub near : All (IsLineWithin (bound_of plan) (plan_setting plan contents)
       (history_over plan contents)) (outcome_over plan contents).calls
 
 -- the verdict on a report of an input, over the plan of its network

@@ -2,7 +2,7 @@
 ghost use Rattle.std.specs.Prelude.{◌≡◌, ◌<◌, ◌+◌, ◌-◌, ◌*◌, All, List, length, ℕ};
 ghost use Rattle.directory.specs.Census.{census};
 ghost use Rattle.move_cost.specs.Costs.{cost_lines};
-ghost use Rattle.move_cost.specs.Plans.{IsWithinRate};
+ghost use Rattle.move_cost.specs.Rate.{IsWithinRate};
 ghost use Rattle.net_reader.specs.Input.{Contents};
 ghost use Rattle.region_plan.specs.Matched.{BoundsFinds, HasSmallSum};
 ghost use Rattle.region_plan.specs.Plan.{levels_of};

@@ -10,6 +10,7 @@ use outside::Sink;
 use std::alloc::{AllocError, Global};
 use std::marker::Model;
 
+// How many bytes wait at most, so that the writer is called seldom.
 const ROOM: usize = 65_536;
 
 // Bytes that wait for a sink, in room for 65,536. They are written where one piece more doesn't

@@ -8,7 +8,7 @@ use report_text::{Lines, PlanParts};
 
 /// A text that is made piece by piece.
 pub(crate) trait Pieces {
-    /// The piece that was made last.
+    /// What `made` hands out.
     ghost piece: { Self → List ℕ };
 
     /// What is left of the text.
@@ -23,7 +23,8 @@ pub(crate) trait Pieces {
         ensures less { result ≡ true → size self.new < size self.old }
         ensures none { result ≡ false → left self.old ≡ [] };
 
-    /// The piece that was made last.
+    /// The piece that `make_next` has just made. Before the first, and where none was left, nothing
+    /// is said of it.
     fn made(&self) -> &[u8]
         ensures { result.now ≡ piece self.now };
 }

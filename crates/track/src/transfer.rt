@@ -10,6 +10,8 @@ use net_reader::{MAX_BYTES, Reader};
 use outside::{Gave, Sink, Source, Took};
 use std::alloc::{AllocError, Global};
 
+// How much is read at once. The piece is set to zero in each run, so that a greater one would make
+// small runs dearer.
 const PIECE: usize = 16_384;
 
 // A reader of all that is left in the source, where it isn't too much. It stops at the first fault.

@@ -10,7 +10,7 @@ ghost use Rattle.directory.specs.Parts.{climb_weight};
 ghost use Rattle.directory.specs.Settings.{Setting};
 ghost use Rattle.directory.specs.Standing.{number, passage, standing};
 ghost use Rattle.directory.specs.declared.answers.Found.{Found};
-ghost use Rattle.move_cost.specs.Plans.{IsWithinRate};
+ghost use Rattle.move_cost.specs.Rate.{IsWithinRate};
 ghost use Rattle.plan_laws.specs.Examples.{line_setting};
 ghost use Rattle.stretch_laws.specs.Costs.{AfterConfirm, AtRest, ClimbsEndEarly, Costs, CurrentAfterConfirm, InPassage, IsMet, NewBeforeCommit, OldBeforeCommit, ReadingIsBounded, readers_up_to};
 ghost use Rattle.stretch_laws.specs.Tracking.{IsTracking, RestingFindsAreNearer, radius};

@@ -1,5 +1,5 @@
 use Rattle.std.proofs.Common.{sym, ◌∙◌}
-use Rattle.census_text.specs.CensusText.{is_there}
+use Rattle.census_text.specs.Presence.{is_there}
 use Rattle.census_text.proofs.Steps.{list-skips, list-takes}
 use Rattle.census_text.proofs.lines.list_by_cells.Goals as goal
 use Rattle.census_text.proofs.lines.list_by_cells.Goals.{then-is_there+in_ok-push, else-is_there}

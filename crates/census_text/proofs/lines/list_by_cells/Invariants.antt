@@ -1,6 +1,6 @@
 use Rattle.std.proofs.Common.{◌≡◌}
 use Rattle.node_set.specs.Ascending.{sift}
-use Rattle.census_text.specs.CensusText.{is_there}
+use Rattle.census_text.specs.Presence.{is_there}
 use Rattle.census_text.proofs.lines.list_by_cells.Given as goal
 
 abbrev pub invariant-loop-sub : goal.invariant-loop-sub

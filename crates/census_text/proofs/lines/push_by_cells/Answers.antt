@@ -1,5 +1,6 @@
 use Rattle.std.proofs.Common.{◌≡◌, ◌+◌, ◌++◌, ◌<◌, ◌^◌, length, ◌∙◌, ap, arith, string_bytes, subst}
-use Rattle.census_text.specs.CensusText.{node_line, presence_at}
+use Rattle.census_text.specs.CensusText.{node_line}
+use Rattle.census_text.specs.Presence.{presence_at}
 use Rattle.census_text.proofs.Steps.{count-more, few-listed, lines-more}
 use Rattle.census_text.proofs.lines.push_by_cells.Goals as goal
 

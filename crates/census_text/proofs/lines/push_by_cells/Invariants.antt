@@ -1,5 +1,6 @@
 use Rattle.std.proofs.Common.{◌≡◌, ◌≤◌, ◌*◌, ◌^◌, ◌++◌, string_bytes}
-use Rattle.census_text.specs.CensusText.{count_below, node_lines, presence_at}
+use Rattle.census_text.specs.CensusText.{count_below, node_lines}
+use Rattle.census_text.specs.Presence.{presence_at}
 use Rattle.census_text.proofs.lines.push_by_cells.Given as goal
 
 abbrev pub invariant-loop-node : goal.invariant-loop-node
