@@ -84,6 +84,17 @@ abbrev pub KeptNone : Played → Type 0
 KeptNone Finished = Unit {0}
 KeptNone (Stopped held kept) = kept ≡ 0
 
+-- no turn was lost
+abbrev pub HeldNone : Played → Type 0
+HeldNone Finished = Unit {0}
+HeldNone (Stopped held kept) = held ≡ 0
+
+-- a worker has played at a shut gate: no turn is taken, and no visit made
+pub record HasStayed (old new : Worker) (played : Played) : Type 0 where
+  pub pass : new.pass ≡ old.pass
+  pub made : new.made ≡ old.made
+  pub held : HeldNone played
+
 -- a worker has played
 pub record HasPlayed (input : Contents) (tracker : TrackerData) (tries : ℕ) (old new : Worker)
     (played : Played) : Type 0 where

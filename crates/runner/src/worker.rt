@@ -4,7 +4,7 @@ ghost use Rattle.net_reader.specs.Input.{Contents};
 ghost use Rattle.net_reader.specs.Seen.{seen_input};
 ghost use Rattle.station.specs.Passes.{IsPassOf, TrackerData};
 ghost use Rattle.runner.specs.Roles.{IsRoleAt, MayStart};
-ghost use Rattle.runner.specs.Workers.{HasAttempted, HasPlayed, IsWorkerOf, KeptNone, MayPlay, MayServe, MayTry};
+ghost use Rattle.runner.specs.Workers.{HasAttempted, HasPlayed, HasStayed, IsWorkerOf, KeptNone, MayPlay, MayServe, MayTry};
 
 use crate::finder::Finder;
 use crate::gate::Gate;
@@ -96,6 +96,7 @@ impl Worker {
             → MayPlay input tracker.now plan.now distances.now self.old
             → HasPlayed input tracker.now tries self.old self.new result }
         ensures closed { G.is_open gate.now ≡ true → KeptNone result }
+        ensures shut { G.is_shut gate.now ≡ true → HasStayed self.old self.new result }
     {
         let mut held = 0;
         let mut kept = 0;
@@ -133,6 +134,7 @@ impl Worker {
             → MayTry input tracker.now plan.now distances.now self.old
             → HasAttempted input tracker.now self.old self.new result }
         ensures closed { G.is_open gate.now ≡ true → result ≢ Attempt.Kept }
+        ensures shut { G.is_shut gate.now ≡ true → result ≡ Attempt.Kept }
     {
         lines_grow();
         if !gate.may_go(self.pass.actor(), self.made) {

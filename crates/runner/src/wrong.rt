@@ -16,7 +16,7 @@ ghost use Rattle.runner.specs.Examples.{HasSeen, count_by, idle_input, line_setu
 ghost use Rattle.runner.specs.Playing.{next_of};
 ghost use Rattle.runner.specs.Roles.{IsSetFor};
 ghost use Rattle.runner.specs.Runs.{AreWorkersOf, HasFinished, IsOutcomeOfRun};
-ghost use Rattle.runner.specs.Workers.{HasPlayed, IsWorkerOf, KeptNone};
+ghost use Rattle.runner.specs.Workers.{HasPlayed, HasStayed, IsWorkerOf, KeptNone};
 ghost use Rattle.runner.specs.declared.finder.Finder.{Finder};
 ghost use Rattle.runner.specs.declared.mover.Mover.{Mover};
 ghost use Rattle.runner.specs.declared.role.Role.TheVariants as roles;
@@ -56,7 +56,8 @@ pub fn wrong_workers()
 
 /// A play goes on from what its pass had seen, by the same actor at the same seat. It is finished
 /// where no visit is left, with no more turns lost than it had tries, and it stops where one is
-/// left and its tries are used up, by the turns that it lost and the gates that were closed.
+/// left and its tries are used up, by the turns that it lost and the gates that were closed. At a
+/// shut gate it loses no turn, and its pass and its count stay as they are.
 pub fn wrong_plays()
     ensures finished { (input : Contents) (tracker : TrackerData) (tries : ℕ) (old new : Worker)
         (visit : Visit) → HasPlayed input tracker tries old new Finished
@@ -85,6 +86,11 @@ pub fn wrong_plays()
         (played : Played) → HasPlayed input tracker tries old new played
         → IsWorkerOf input tracker new }
     ensures closed { KeptNone (Stopped 2 1) → ⊥ }
+    ensures shut { (old new : Worker) → HasStayed old new (Stopped 1 2) → ⊥ }
+    ensures visited { (old new : Worker) (played : Played) → HasSeen old 0 []
+        → HasSeen new 0 (count_by 0 ∷ []) → HasStayed old new played → ⊥ }
+    ensures counted { (old new : Worker) (played : Played) → new.made ≡ suc old.made
+        → HasStayed old new played → ⊥ }
 {}
 
 /// A run has a worker for each actor, in their order, on a tracker that was made for its input.

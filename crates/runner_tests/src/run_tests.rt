@@ -1,29 +1,12 @@
 //! Runs whose outcome no order changes: one actor alone has visits.
-ghost use Rattle.std.specs.Prelude.{false};
 
-use crate::runs::{run, same_outcome};
+use crate::runs::{ShutGate, run, same_outcome};
 use directory::Done;
 use runner::{Gate, OpenGate, RUN_TRIES, Worker};
 use std::alloc::Global;
 use std::process::Abort;
 use std::test::Fail;
 use std::thread::Threads;
-
-// A gate that never opens.
-struct ShutGate;
-
-impl Gate for ShutGate {
-    ghost is_open = { λ _. false };
-
-    fn may_go(&self, actor: u32, done: u64) -> bool {
-        let _ = (actor, done);
-        false
-    }
-
-    fn made(&self, actor: u32, done: u64) {
-        let _ = (actor, done);
-    }
-}
 
 const FIND: &str = "callers 1\nfind 1 0 0\n";
 

@@ -1,5 +1,5 @@
 //! Inputs over the line 0 - 1 - 2 - 3 of unit weights, and their runs.
-ghost use Rattle.std.specs.Prelude.{◌≡◌, IfOk};
+ghost use Rattle.std.specs.Prelude.{◌≡◌, IfOk, false, true};
 ghost use Rattle.net_reader.specs.Seen.{seen_input};
 ghost use Rattle.net_reader.specs.Valid.{IsValid};
 ghost use Rattle.region_plan.specs.Plan.{nodes_of};
@@ -54,6 +54,24 @@ pub fn plan_of(alloc: Global, input: &Input) -> Result<(Plan, Distances), Fail>
     let distances = Distances::new(alloc, &graph)?;
     let plan = Plan::build(alloc, &graph, &distances, input.k)?;
     Ok((plan, distances))
+}
+
+/// A gate that never opens.
+pub struct ShutGate;
+
+impl Gate for ShutGate {
+    ghost is_open = { λ _. false };
+
+    ghost is_shut = { λ _. true };
+
+    fn may_go(&self, actor: u32, done: u64) -> bool {
+        let _ = (actor, done);
+        false
+    }
+
+    fn made(&self, actor: u32, done: u64) {
+        let _ = (actor, done);
+    }
 }
 
 /// Stops where the calls and the order of an outcome aren't these.
