@@ -3,7 +3,7 @@ ghost use Rattle.std.specs.Prelude.{◌≡◌, ◌≢◌, ◌≤◌, ◌^◌, tr
 ghost use Rattle.net_reader.specs.Input.{Contents};
 ghost use Rattle.net_reader.specs.Seen.{seen_input};
 ghost use Rattle.station.specs.Passes.{IsPassOf, TrackerData};
-ghost use Rattle.runner.specs.Roles.{IsRoleAt, MayStart};
+ghost use Rattle.runner.specs.Roles.{HasBegunNone, IsRoleAt, MayStart};
 ghost use Rattle.runner.specs.Workers.{HasAttempted, HasPlayed, HasStayed, IsWorkerOf, KeptNone, MayPlay, MayServe, MayTry};
 
 use crate::finder::Finder;
@@ -63,6 +63,8 @@ impl Worker {
             → IsWorkerOf (seen_input input.now) tracker worker) }
         ensures pass { IfOk result
             (λ worker. worker.pass ≡ record pass { spare = worker.pass.spare }) }
+        ensures fresh { IfOk result
+            (λ worker. (worker.made ≡ 0) × HasBegunNone worker.role) }
         ensures refused { IfErr result (λ refused. refused.pass ≡ pass) }
     {
         let Ok((role, visits)) = role_of(alloc, pass.actor(), input, plan) else {
@@ -159,6 +161,7 @@ fn role_of(alloc: Global, actor: u32, input: &Input, plan: &Plan) -> Result<(Rol
     ensures role { IfOk result
         (λ made. IsRoleAt (seen_input input.now) plan.now actor made.1 made.0) }
     ensures few { IfOk result (λ made. made.1 ≤ 2 ^ 56) }
+    ensures fresh { IfOk result (λ made. HasBegunNone made.0) }
 {
     lines_grow();
     moves_are_short();

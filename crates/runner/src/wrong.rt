@@ -15,7 +15,7 @@ ghost use Rattle.station.specs.Setup.{Setup, setting_in, subs_in};
 ghost use Rattle.runner.specs.Examples.{HasSeen, count_by, idle_input, line_setup, switching_input};
 ghost use Rattle.runner.specs.Playing.{next_of};
 ghost use Rattle.runner.specs.Roles.{IsSetFor};
-ghost use Rattle.runner.specs.Runs.{AreWorkersOf, HasFinished, IsOutcomeOfRun};
+ghost use Rattle.runner.specs.Runs.{AreFreshWorkers, AreWorkersOf, HasFinished, IsOutcomeOfRun};
 ghost use Rattle.runner.specs.Workers.{HasPlayed, HasStayed, IsWorkerOf, KeptNone};
 ghost use Rattle.runner.specs.declared.finder.Finder.{Finder};
 ghost use Rattle.runner.specs.declared.mover.Mover.{Mover};
@@ -93,9 +93,10 @@ pub fn wrong_plays()
         → HasStayed old new played → ⊥ }
 {}
 
-/// A run has a worker for each actor, in their order, on a tracker that was made for its input.
-/// Once it is finished, its history has all that a worker has seen, no other visits, and each as
-/// its actor's next one; and its outcome is that of its order.
+/// A run has a worker for each actor, in their order, on a tracker that was made for its input; and
+/// it opens with workers that have made no visit, lost no turn and begun no call. Once it is
+/// finished, its history has all that a worker has seen, no other visits, and each as its actor's
+/// next one; and its outcome is that of its order.
 pub fn wrong_runs()
     ensures few { (tracker : TrackerData) (worker : Worker)
         → AreWorkersOf idle_input tracker (worker ∷ []) → ⊥ }
@@ -103,6 +104,19 @@ pub fn wrong_runs()
         → HasSeen worker 1 [] → AreWorkersOf input tracker (worker ∷ other ∷ []) → ⊥ }
     ensures serves { (input : Contents) (tracker : TrackerData) (worker other : Worker)
         → AreWorkersOf input tracker (worker ∷ other ∷ []) → IsWorkerOf input tracker other }
+    ensures visited { (tracker : TrackerData) (worker : Worker) → HasSeen worker 0 (count_by 0 ∷ [])
+        → AreFreshWorkers tracker (worker ∷ []) → ⊥ }
+    ensures turned { (tracker : TrackerData) (worker : Worker)
+        → worker.pass.view.lost ≡ record { node = 2; word = 6 } ∷ []
+        → AreFreshWorkers tracker (worker ∷ []) → ⊥ }
+    ensures counted { (tracker : TrackerData) (worker : Worker) → worker.made ≡ 1
+        → AreFreshWorkers tracker (worker ∷ []) → ⊥ }
+    ensures begun { (tracker : TrackerData) (worker : Worker) (mover : Mover)
+        → worker.role ≡ roles.Mover mover → mover.begun ≡ 1
+        → AreFreshWorkers tracker (worker ∷ []) → ⊥ }
+    ensures done { (tracker : TrackerData) (worker : Worker) (finder : Finder)
+        → worker.role ≡ roles.Finder finder → finder.done ≡ 1
+        → AreFreshWorkers tracker (worker ∷ []) → ⊥ }
     ensures plan { (input : Contents) (setup : Setup) (plan : PlanData) (distances : DistanceTable)
         → IsSetFor input setup plan distances → setup.plan ≡ plan }
     ensures distances { (input : Contents) (setup : Setup) (plan : PlanData)
