@@ -23,7 +23,10 @@ use std::alloc::{AllocError, Global};
 use std::thread;
 use std::thread::Threads;
 
-/// How many tries a worker of a program has: turns lost to others in one play.
+/// How many tries a worker of a program has in one play: turns lost to others and closed gates
+/// together. There is a bound, since a thread may rest inside a node and a play is to end all the
+/// same; and it is high, since what a worker that stops leaves is made by one thread in the end. No
+/// clause depends on which number it is, and none was measured against another.
 pub const RUN_TRIES: u64 = 10_000;
 
 /// Serves all actors of an input on one tracker, each in a thread of its own where one can be made,
