@@ -10,8 +10,8 @@ ghost use Rattle.runner.specs.Roles.{IsSetFor};
 ghost use Rattle.runner.specs.Runs.{AreWorkersOf};
 ghost use Rattle.runner.specs.Workers.{IsWorkerOf};
 
-use crate::runs::{ShutGate, input_of_calls, plan_of, same_outcome};
-use directory::{Done, Outcome};
+use crate::runs::{MOVED, ShutGate, input_of_calls, same_outcome};
+use directory::Outcome;
 use distances::Distances;
 use net_reader::Input;
 use region_plan::Plan;
@@ -20,6 +20,7 @@ use station::{Pass, Tracker};
 use std::alloc::{AllocError, Global};
 use std::process::Abort;
 use std::test::Fail;
+use test_networks::plan_of;
 
 const TRIES: u64 = 5;
 
@@ -154,17 +155,6 @@ fn around_a_stay(alloc: Global, calls: &str, node: u32) -> Result<([Played; 2], 
     }
     around_a_stay_over(alloc, &input, &plan, &distances, node)
 }
-
-const MOVED: [Done; 1] = [Done::Moved {
-    actor: 0,
-    number: 1,
-    from: 3,
-    to: 2,
-    weight: 1,
-    first: 0,
-    commit: 3,
-    last: 5,
-}];
 
 // The play at a gate ends so, and the move is made in any case.
 fn ends_so<R: Abort, G: Gate>(

@@ -1,6 +1,6 @@
 //! Runs whose outcome no order changes: one actor alone has visits.
 
-use crate::runs::{ShutGate, run, same_outcome};
+use crate::runs::{MOVED, ShutGate, run, same_outcome};
 use directory::Done;
 use runner::{Gate, OpenGate, RUN_TRIES, Worker};
 use std::alloc::Global;
@@ -40,17 +40,6 @@ fn tries_change_nothing(rt: HostRuntime) -> Result<(), Fail> {
     is_found(&rt, rt.alloc(), &OpenGate, 0)?;
     is_found(&rt, rt.alloc(), &ShutGate, 3)
 }
-
-const MOVED: [Done; 1] = [Done::Moved {
-    actor: 0,
-    number: 1,
-    from: 3,
-    to: 2,
-    weight: 1,
-    first: 0,
-    commit: 3,
-    last: 5,
-}];
 
 #[test]
 fn a_move_is_made(rt: HostRuntime) -> Result<(), Fail> {
