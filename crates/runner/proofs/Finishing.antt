@@ -23,9 +23,9 @@ use Rattle.station.specs.declared.view.View.{View}
 use Rattle.station.specs.Setup.{Setup, setting_in}
 use Rattle.runner.specs.Playing.{IsPlayedBy}
 use Rattle.runner.specs.PlayLaws.{all-played, get-either, own-none, played-in}
-use Rattle.runner.specs.Roles.{IsSetFor}
-use Rattle.runner.specs.Runs.{AreWorkersOf, HasFinished, IsOutcomeOfRun, actors_of}
-use Rattle.runner.specs.Workers.{IsWorkerOf, MayServe}
+use Rattle.runner.specs.Roles.{HasBegunNone, IsSetFor}
+use Rattle.runner.specs.Runs.{AreFreshWorkers, AreWorkersOf, HasFinished, IsOutcomeOfRun, actors_of}
+use Rattle.runner.specs.Workers.{IsFreshWorker, IsWorkerOf, MayServe}
 use Rattle.runner.specs.declared.worker.Worker.{Worker}
 
 get-map : {A B : Type 0} (f : A → B) (xs : List A) (k : ℕ) (x : A) → slice_get xs k ≡ Some x
@@ -162,6 +162,34 @@ one-more input tracker workers worker each its actor k one at =
     new zero h e = let same : worker ≡ one = cc in
         subst (λ (w : Worker). IsWorkerOf input tracker w × (actor_of w.pass ≡ k)) same (its, omega (arith, actor, e))
     new (suc j) h e = cc
+
+-- which has done nothing
+pub fresh-worker : (tracker : TrackerData) (actor : ℕ) (pass : PassData) (worker : Worker)
+    → IsFreshPass tracker actor pass → worker.pass ≡ record pass { spare = worker.pass.spare } → worker.made ≡ 0
+    → HasBegunNone worker.role → IsFreshWorker tracker actor worker
+fresh-worker tracker actor pass worker fresh same none role = record {
+  view = ap (λ (p : PassData). p.view) same ∙ fresh.view;
+  made = none;
+  role = role;
+}
+
+-- one such worker more
+pub one-fresh : (tracker : TrackerData) (workers : List Worker) (worker : Worker) (actor : ℕ)
+    → AreFreshWorkers tracker workers → actor ≡ length workers → IsFreshWorker tracker actor worker
+    → AreFreshWorkers tracker (workers ++ worker ∷ [])
+one-fresh tracker workers worker actor each last its k one at =
+    elim (get-either workers (worker ∷ []) k one at) [
+      | inl there ↦ each k one there.0
+      | inr new ↦ at_end new.0 new.1 new.2
+    ]
+  where
+    at_end : (j : ℕ) → slice_get (worker ∷ []) j ≡ Some one → k ≡ length workers + j → IsFreshWorker tracker k one
+    at_end zero h e =
+        let same : worker ≡ one = cc in
+        let here : actor ≡ k = omega (arith, last, e) in
+        subst (λ (w : Worker). IsFreshWorker tracker k w) same
+        (subst (λ a. IsFreshWorker tracker a worker) here its)
+    at_end (suc j) h e = cc
 
 -- what stands between two parts of a list
 get-seam : {A : Type 0} (before later : List A) (x : A) → slice_get (before ++ x ∷ later) (length before) ≡ Some x

@@ -118,6 +118,11 @@ IsRole input setup view spare (roles.Mover mover) = IsMover input setup view spa
 IsRole input setup view spare (roles.Finder finder) = IsFinder input setup view.low view.seen spare
     finder
 
+-- no call of its script is begun by a subscriber, and none done by a caller
+abbrev pub HasBegunNone : Role → Type 0
+HasBegunNone (roles.Mover mover) = mover.begun ≡ 0
+HasBegunNone (roles.Finder finder) = finder.done ≡ 0
+
 -- a subscriber's step is begun, if one is left: the handset has the next visit
 abbrev pub IsPrepared : Contents → Setup → View → Role → Type 0
 IsPrepared input setup view (roles.Mover mover) =

@@ -12,7 +12,7 @@ use Rattle.net_reader.specs.Input.{Contents}
 use Rattle.scripts.specs.Scripts.{scripts_of}
 use Rattle.station.specs.Passes.{TrackerData, actor_of}
 use Rattle.station.specs.Setup.{Setup, setting_in, subs_in}
-use Rattle.runner.specs.Workers.{IsWorkerOf}
+use Rattle.runner.specs.Workers.{IsFreshWorker, IsWorkerOf}
 use Rattle.runner.specs.declared.worker.Worker.{Worker}
 
 -- workers of a tracker, one for each actor of an input, in ascending number
@@ -21,6 +21,11 @@ pub record AreWorkersOf (input : Contents) (tracker : TrackerData)
   pub count : length workers ≡ length input.scripts
   pub each : (k : ℕ) (worker : Worker) → slice_get workers k ≡ Some worker
       → IsWorkerOf input tracker worker × (actor_of worker.pass ≡ k)
+
+-- workers that have done nothing, those of the first actors, in ascending number
+abbrev pub AreFreshWorkers : TrackerData → List Worker → Type 0
+AreFreshWorkers tracker workers =
+    (k : ℕ) (worker : Worker) → slice_get workers k ≡ Some worker → IsFreshWorker tracker k worker
 
 -- the actors of a history, ticket by ticket
 abbrev pub actors_of : History → List ℕ

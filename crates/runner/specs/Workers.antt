@@ -9,11 +9,11 @@ use Rattle.directory.specs.Histories.{IsFront, own, puts_to}
 use Rattle.net_reader.specs.Input.{Contents}
 use Rattle.region_plan.specs.Plan.{PlanData}
 use Rattle.scripts.specs.Scripts.{scripts_of}
-use Rattle.station.specs.Passes.{IsPassOf, PassData, TrackerData, actor_of}
+use Rattle.station.specs.Passes.{IsPassOf, PassData, TrackerData, actor_of, fresh_view}
 use Rattle.station.specs.Setup.{Setup, setting_in}
 use Rattle.station.specs.Visits.{IsSamePass}
 use Rattle.runner.specs.Playing.{IsPlayedBy, next_of}
-use Rattle.runner.specs.Roles.{IsPrepared, IsRole, IsSetFor}
+use Rattle.runner.specs.Roles.{HasBegunNone, IsPrepared, IsRole, IsSetFor}
 use Rattle.runner.specs.declared.worker.Attempt.{Attempt}
 use Rattle.runner.specs.declared.worker.Attempt.TheVariants.{Made, Held, Kept}
 use Rattle.runner.specs.declared.worker.Played.{Played}
@@ -40,6 +40,13 @@ pub record MayServe (input : Contents) (plan : PlanData) (pass : PassData) : Typ
   pub none : own (actor_of pass) pass.view.seen ≡ []
   pub bare : puts_to (actor_of pass) pass.view.seen ≡ []
   pub few : pass.spare ≤ 2 ^ 56
+
+-- a worker that has done nothing: its pass has the view that the actor has of a new tracker, so
+-- that it has made no visit and lost no turn, and no call of the script is begun
+pub record IsFreshWorker (tracker : TrackerData) (actor : ℕ) (worker : Worker) : Type 0 where
+  pub view : worker.pass.view ≡ fresh_view tracker.setup actor
+  pub made : worker.made ≡ 0
+  pub role : HasBegunNone worker.role
 
 -- a worker may play
 pub record MayPlay (input : Contents) (tracker : TrackerData) (plan : PlanData)
@@ -83,6 +90,17 @@ Says input setup tries lost pass (Stopped held kept) =
 abbrev pub KeptNone : Played → Type 0
 KeptNone Finished = Unit {0}
 KeptNone (Stopped held kept) = kept ≡ 0
+
+-- no turn was lost
+abbrev pub HeldNone : Played → Type 0
+HeldNone Finished = Unit {0}
+HeldNone (Stopped held kept) = held ≡ 0
+
+-- a worker has played at a shut gate: no turn is taken, and no visit made
+pub record HasStayed (old new : Worker) (played : Played) : Type 0 where
+  pub pass : new.pass ≡ old.pass
+  pub made : new.made ≡ old.made
+  pub held : HeldNone played
 
 -- a worker has played
 pub record HasPlayed (input : Contents) (tracker : TrackerData) (tries : ℕ) (old new : Worker)

@@ -7,7 +7,7 @@ ghost use Rattle.net_reader.specs.Seen.{seen_input};
 ghost use Rattle.scripts.specs.Scripts.{scripts_of};
 ghost use Rattle.station.specs.Passes.{AreFresh, TrackerData, actor_of};
 ghost use Rattle.runner.specs.Roles.{IsSetFor};
-ghost use Rattle.runner.specs.Runs.{AreWorkersOf, HasFinished, IsOutcomeOfRun};
+ghost use Rattle.runner.specs.Runs.{AreFreshWorkers, AreWorkersOf, HasFinished, IsOutcomeOfRun};
 ghost use Rattle.runner.specs.Workers.{IsWorkerOf, MayPlay};
 ghost use Rattle.runner.specs.declared.worker.Worker.{Worker};
 
@@ -23,7 +23,10 @@ use std::alloc::{AllocError, Global};
 use std::thread;
 use std::thread::Threads;
 
-/// How many tries a worker of a program has: turns lost to others in one play.
+/// How many tries a worker of a program has in one play: turns lost to others and closed gates
+/// together. There is a bound, since a thread may rest inside a node and a play is to end all the
+/// same; and it is high, since what a worker that stops leaves is made by one thread in the end. No
+/// clause depends on which number it is, and none was measured against another.
 pub const RUN_TRIES: u64 = 10_000;
 
 /// Serves all actors of an input on one tracker, each in a thread of its own where one can be made,
@@ -49,8 +52,9 @@ pub fn run_workers<R: Threads + Sync, G: Gate>(
     finish_run(alloc, input, plan, distances, tracker, workers)
 }
 
-/// Opens a tracker for an input, and makes a worker for each of its actors, in ascending number.
-/// [`run_workers`] begins so; who lets workers play by hand calls [`finish_run`] in the end.
+/// Opens a tracker for an input, and makes a worker for each of its actors, in ascending number; no
+/// worker has made a visit, lost a turn or begun a call. [`run_workers`] begins so; who lets
+/// workers play by hand calls [`finish_run`] in the end.
 pub fn open_run(
     alloc: Global,
     input: &Input,
@@ -61,6 +65,7 @@ pub fn open_run(
         plan.now.distances) }
     ensures workers { IfOk result (λ opened. AreWorkersOf (seen_input input.now) opened.0
         opened.1.items) }
+    ensures fresh { IfOk result (λ opened. AreFreshWorkers opened.0 opened.1.items) }
 {
     let (tracker, passes) = Tracker::new(alloc, plan, &input.homes, input.callers)?;
     let workers = workers_of(alloc, passes, input, plan)?;
@@ -138,9 +143,12 @@ fn workers_of(
     requires count { length passes.items ≡ length (seen_input input.now).scripts }
     requires fresh { (tracker : TrackerData) × AreFresh tracker passes.items
         × IsSetFor (seen_input input.now) tracker.setup plan.now plan.now.distances }
-    ensures { IfOk result (λ workers. (tracker : TrackerData) → AreFresh tracker passes.items
+    ensures workers { IfOk result (λ workers. (tracker : TrackerData)
+        → AreFresh tracker passes.items
         → IsSetFor (seen_input input.now) tracker.setup plan.now plan.now.distances
         → AreWorkersOf (seen_input input.now) tracker workers.items) }
+    ensures fresh { IfOk result (λ workers. (tracker : TrackerData)
+        → AreFresh tracker passes.items → AreFreshWorkers tracker workers.items) }
 {
     let mut workers = Vec::with_capacity(alloc, passes.len())?;
     'passes: for pass in passes {

@@ -3,8 +3,8 @@ ghost use Rattle.std.specs.Prelude.{◌≡◌, ◌≢◌, ◌≤◌, ◌^◌, tr
 ghost use Rattle.net_reader.specs.Input.{Contents};
 ghost use Rattle.net_reader.specs.Seen.{seen_input};
 ghost use Rattle.station.specs.Passes.{IsPassOf, TrackerData};
-ghost use Rattle.runner.specs.Roles.{IsRoleAt, MayStart};
-ghost use Rattle.runner.specs.Workers.{HasAttempted, HasPlayed, IsWorkerOf, KeptNone, MayPlay, MayServe, MayTry};
+ghost use Rattle.runner.specs.Roles.{HasBegunNone, IsRoleAt, MayStart};
+ghost use Rattle.runner.specs.Workers.{HasAttempted, HasPlayed, HasStayed, IsWorkerOf, KeptNone, MayPlay, MayServe, MayTry};
 
 use crate::finder::Finder;
 use crate::gate::Gate;
@@ -63,6 +63,8 @@ impl Worker {
             → IsWorkerOf (seen_input input.now) tracker worker) }
         ensures pass { IfOk result
             (λ worker. worker.pass ≡ record pass { spare = worker.pass.spare }) }
+        ensures fresh { IfOk result
+            (λ worker. (worker.made ≡ 0) × HasBegunNone worker.role) }
         ensures refused { IfErr result (λ refused. refused.pass ≡ pass) }
     {
         let Ok((role, visits)) = role_of(alloc, pass.actor(), input, plan) else {
@@ -96,6 +98,7 @@ impl Worker {
             → MayPlay input tracker.now plan.now distances.now self.old
             → HasPlayed input tracker.now tries self.old self.new result }
         ensures closed { G.is_open gate.now ≡ true → KeptNone result }
+        ensures shut { G.is_shut gate.now ≡ true → HasStayed self.old self.new result }
     {
         let mut held = 0;
         let mut kept = 0;
@@ -133,6 +136,7 @@ impl Worker {
             → MayTry input tracker.now plan.now distances.now self.old
             → HasAttempted input tracker.now self.old self.new result }
         ensures closed { G.is_open gate.now ≡ true → result ≢ Attempt.Kept }
+        ensures shut { G.is_shut gate.now ≡ true → result ≡ Attempt.Kept }
     {
         lines_grow();
         if !gate.may_go(self.pass.actor(), self.made) {
@@ -157,6 +161,7 @@ fn role_of(alloc: Global, actor: u32, input: &Input, plan: &Plan) -> Result<(Rol
     ensures role { IfOk result
         (λ made. IsRoleAt (seen_input input.now) plan.now actor made.1 made.0) }
     ensures few { IfOk result (λ made. made.1 ≤ 2 ^ 56) }
+    ensures fresh { IfOk result (λ made. HasBegunNone made.0) }
 {
     lines_grow();
     moves_are_short();

@@ -15,8 +15,8 @@ ghost use Rattle.station.specs.Setup.{Setup, setting_in, subs_in};
 ghost use Rattle.runner.specs.Examples.{HasSeen, count_by, idle_input, line_setup, switching_input};
 ghost use Rattle.runner.specs.Playing.{next_of};
 ghost use Rattle.runner.specs.Roles.{IsSetFor};
-ghost use Rattle.runner.specs.Runs.{AreWorkersOf, HasFinished, IsOutcomeOfRun};
-ghost use Rattle.runner.specs.Workers.{HasPlayed, IsWorkerOf, KeptNone};
+ghost use Rattle.runner.specs.Runs.{AreFreshWorkers, AreWorkersOf, HasFinished, IsOutcomeOfRun};
+ghost use Rattle.runner.specs.Workers.{HasPlayed, HasStayed, IsWorkerOf, KeptNone};
 ghost use Rattle.runner.specs.declared.finder.Finder.{Finder};
 ghost use Rattle.runner.specs.declared.mover.Mover.{Mover};
 ghost use Rattle.runner.specs.declared.role.Role.TheVariants as roles;
@@ -56,7 +56,8 @@ pub fn wrong_workers()
 
 /// A play goes on from what its pass had seen, by the same actor at the same seat. It is finished
 /// where no visit is left, with no more turns lost than it had tries, and it stops where one is
-/// left and its tries are used up, by the turns that it lost and the gates that were closed.
+/// left and its tries are used up, by the turns that it lost and the gates that were closed. At a
+/// shut gate it loses no turn, and its pass and its count stay as they are.
 pub fn wrong_plays()
     ensures finished { (input : Contents) (tracker : TrackerData) (tries : ℕ) (old new : Worker)
         (visit : Visit) → HasPlayed input tracker tries old new Finished
@@ -85,11 +86,17 @@ pub fn wrong_plays()
         (played : Played) → HasPlayed input tracker tries old new played
         → IsWorkerOf input tracker new }
     ensures closed { KeptNone (Stopped 2 1) → ⊥ }
+    ensures shut { (old new : Worker) → HasStayed old new (Stopped 1 2) → ⊥ }
+    ensures visited { (old new : Worker) (played : Played) → HasSeen old 0 []
+        → HasSeen new 0 (count_by 0 ∷ []) → HasStayed old new played → ⊥ }
+    ensures counted { (old new : Worker) (played : Played) → new.made ≡ suc old.made
+        → HasStayed old new played → ⊥ }
 {}
 
-/// A run has a worker for each actor, in their order, on a tracker that was made for its input.
-/// Once it is finished, its history has all that a worker has seen, no other visits, and each as
-/// its actor's next one; and its outcome is that of its order.
+/// A run has a worker for each actor, in their order, on a tracker that was made for its input; and
+/// it opens with workers that have made no visit, lost no turn and begun no call. Once it is
+/// finished, its history has all that a worker has seen, no other visits, and each as its actor's
+/// next one; and its outcome is that of its order.
 pub fn wrong_runs()
     ensures few { (tracker : TrackerData) (worker : Worker)
         → AreWorkersOf idle_input tracker (worker ∷ []) → ⊥ }
@@ -97,6 +104,19 @@ pub fn wrong_runs()
         → HasSeen worker 1 [] → AreWorkersOf input tracker (worker ∷ other ∷ []) → ⊥ }
     ensures serves { (input : Contents) (tracker : TrackerData) (worker other : Worker)
         → AreWorkersOf input tracker (worker ∷ other ∷ []) → IsWorkerOf input tracker other }
+    ensures visited { (tracker : TrackerData) (worker : Worker) → HasSeen worker 0 (count_by 0 ∷ [])
+        → AreFreshWorkers tracker (worker ∷ []) → ⊥ }
+    ensures turned { (tracker : TrackerData) (worker : Worker)
+        → worker.pass.view.lost ≡ record { node = 2; word = 6 } ∷ []
+        → AreFreshWorkers tracker (worker ∷ []) → ⊥ }
+    ensures counted { (tracker : TrackerData) (worker : Worker) → worker.made ≡ 1
+        → AreFreshWorkers tracker (worker ∷ []) → ⊥ }
+    ensures begun { (tracker : TrackerData) (worker : Worker) (mover : Mover)
+        → worker.role ≡ roles.Mover mover → mover.begun ≡ 1
+        → AreFreshWorkers tracker (worker ∷ []) → ⊥ }
+    ensures done { (tracker : TrackerData) (worker : Worker) (finder : Finder)
+        → worker.role ≡ roles.Finder finder → finder.done ≡ 1
+        → AreFreshWorkers tracker (worker ∷ []) → ⊥ }
     ensures plan { (input : Contents) (setup : Setup) (plan : PlanData) (distances : DistanceTable)
         → IsSetFor input setup plan distances → setup.plan ≡ plan }
     ensures distances { (input : Contents) (setup : Setup) (plan : PlanData)

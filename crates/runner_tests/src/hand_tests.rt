@@ -10,25 +10,27 @@ ghost use Rattle.runner.specs.Roles.{IsSetFor};
 ghost use Rattle.runner.specs.Runs.{AreWorkersOf};
 ghost use Rattle.runner.specs.Workers.{IsWorkerOf};
 
-use crate::runs::{input_of_calls, plan_of, same_outcome};
-use directory::{Done, Outcome};
+use crate::runs::{MOVED, ShutGate, input_of_calls, same_outcome};
+use directory::Outcome;
 use distances::Distances;
 use net_reader::Input;
 use region_plan::Plan;
-use runner::{OpenGate, Played, Worker, finish_run, open_run};
+use runner::{Gate, OpenGate, Played, Worker, finish_run, open_run};
 use station::{Pass, Tracker};
 use std::alloc::{AllocError, Global};
+use std::process::Abort;
 use std::test::Fail;
+use test_networks::plan_of;
 
 const TRIES: u64 = 5;
 
-// The worker of actor 0 plays, if it is to.
-fn play_first(
+// The worker of actor 0 plays at this gate, if there is one.
+fn play_first<G: Gate>(
     workers: &mut Vec<Worker>,
     tracker: &Tracker,
     plan: &Plan,
     distances: &Distances,
-    plays: bool,
+    gate: Option<&G>,
 ) -> Option<Played>
     requires set { (input : Contents) × IsSetFor input tracker.now.setup plan.now distances.now
         × AreWorkersOf input tracker.now workers.old.items }
@@ -36,33 +38,38 @@ fn play_first(
         → AreWorkersOf input tracker.now workers.old.items
         → AreWorkersOf input tracker.now workers.new.items }
 {
-    if !plays || workers.is_empty() {
+    let gate = gate?;
+    if workers.is_empty() {
         return None;
     }
-    Some(workers[0].play(tracker, plan, distances, &OpenGate, TRIES))
+    Some(workers[0].play(tracker, plan, distances, gate, TRIES))
 }
 
 // How the worker of actor 0 ends, where it plays, and what becomes of all calls over this plan.
-fn by_hand_over(
+fn by_hand_over<G: Gate>(
     alloc: Global,
     input: &Input,
     plan: &Plan,
     distances: &Distances,
-    plays: bool,
+    gate: Option<&G>,
 ) -> Result<(Option<Played>, Outcome), Fail>
     requires together { BelongTogether (seen_input input.now) plan.now distances.now }
 {
     let (tracker, mut workers) = open_run(alloc, input, plan)?;
-    let played = play_first(&mut workers, &tracker, plan, distances, plays);
+    let played = play_first(&mut workers, &tracker, plan, distances, gate);
     let outcome = finish_run(alloc, input, plan, distances, tracker, workers)?;
     Ok((played, outcome))
 }
 
 // The same over the line.
-fn by_hand(alloc: Global, calls: &str, plays: bool) -> Result<(Option<Played>, Outcome), Fail> {
+fn by_hand<G: Gate>(
+    alloc: Global,
+    calls: &str,
+    gate: Option<&G>,
+) -> Result<(Option<Played>, Outcome), Fail> {
     let input = input_of_calls(alloc, calls)?;
     let (plan, distances) = plan_of(alloc, &input)?;
-    by_hand_over(alloc, &input, &plan, &distances, plays)
+    by_hand_over(alloc, &input, &plan, &distances, gate)
 }
 
 // The workers of actors 0 and 1.
@@ -149,25 +156,25 @@ fn around_a_stay(alloc: Global, calls: &str, node: u32) -> Result<([Played; 2], 
     around_a_stay_over(alloc, &input, &plan, &distances, node)
 }
 
+// The play at a gate ends so, and the move is made in any case.
+fn ends_so<R: Abort, G: Gate>(
+    rt: &R,
+    alloc: Global,
+    gate: Option<&G>,
+    wanted: Option<Played>,
+) -> Result<(), Fail> {
+    let (played, outcome) = by_hand(alloc, "callers 1\nmove 0 2\n", gate)?;
+    assert!(rt; played == wanted);
+    same_outcome(rt, &outcome, &MOVED, &[0; 6]);
+    Ok(())
+}
+
 #[test]
 fn one_worker_or_none_has_played(rt: HostRuntime) -> Result<(), Fail> {
-    let moved = [Done::Moved {
-        actor: 0,
-        number: 1,
-        from: 3,
-        to: 2,
-        weight: 1,
-        first: 0,
-        commit: 3,
-        last: 5,
-    }];
-    let ends = [(true, Some(Played::Finished)), (false, None)];
-    'ends: for (plays, wanted) in ends {
-        let (played, outcome) = by_hand(rt.alloc(), "callers 1\nmove 0 2\n", plays)?;
-        assert!(rt; played == wanted);
-        same_outcome(&rt, &outcome, &moved, &[0; 6]);
-    }
-    Ok(())
+    let kept = Played::Stopped { held: 0, kept: 5 };
+    ends_so(&rt, rt.alloc(), Some(&OpenGate), Some(Played::Finished))?;
+    ends_so(&rt, rt.alloc(), Some(&ShutGate), Some(kept))?;
+    ends_so(&rt, rt.alloc(), None::<&OpenGate>, None)
 }
 
 #[test]

@@ -77,6 +77,8 @@ fn sees(flag: &AtomicU64) -> bool {
 impl Gate for Meeting {
     ghost is_open = { λ _. false };
 
+    ghost is_shut = { λ _. false };
+
     fn may_go(&self, actor: u32, done: u64) -> bool {
         let (own, other) = (self.own(actor), self.other(actor));
         if done == 0 {

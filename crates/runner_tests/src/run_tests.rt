@@ -1,29 +1,12 @@
 //! Runs whose outcome no order changes: one actor alone has visits.
-ghost use Rattle.std.specs.Prelude.{false};
 
-use crate::runs::{run, same_outcome};
+use crate::runs::{MOVED, ShutGate, run, same_outcome};
 use directory::Done;
 use runner::{Gate, OpenGate, RUN_TRIES, Worker};
 use std::alloc::Global;
 use std::process::Abort;
 use std::test::Fail;
 use std::thread::Threads;
-
-// A gate that never opens.
-struct ShutGate;
-
-impl Gate for ShutGate {
-    ghost is_open = { λ _. false };
-
-    fn may_go(&self, actor: u32, done: u64) -> bool {
-        let _ = (actor, done);
-        false
-    }
-
-    fn made(&self, actor: u32, done: u64) {
-        let _ = (actor, done);
-    }
-}
 
 const FIND: &str = "callers 1\nfind 1 0 0\n";
 
@@ -57,17 +40,6 @@ fn tries_change_nothing(rt: HostRuntime) -> Result<(), Fail> {
     is_found(&rt, rt.alloc(), &OpenGate, 0)?;
     is_found(&rt, rt.alloc(), &ShutGate, 3)
 }
-
-const MOVED: [Done; 1] = [Done::Moved {
-    actor: 0,
-    number: 1,
-    from: 3,
-    to: 2,
-    weight: 1,
-    first: 0,
-    commit: 3,
-    last: 5,
-}];
 
 #[test]
 fn a_move_is_made(rt: HostRuntime) -> Result<(), Fail> {

@@ -1,36 +1,19 @@
 //! Inputs over the line 0 - 1 - 2 - 3 of unit weights, and their runs.
-ghost use Rattle.std.specs.Prelude.{◌≡◌, IfOk};
+ghost use Rattle.std.specs.Prelude.{IfOk, false, true};
 ghost use Rattle.net_reader.specs.Seen.{seen_input};
 ghost use Rattle.net_reader.specs.Valid.{IsValid};
-ghost use Rattle.region_plan.specs.Plan.{nodes_of};
 
 use directory::{Done, Outcome};
-use distances::Distances;
-use net_graph::Graph;
-use net_reader::{Input, MAX_BYTES, inputs_are_valid, read_input};
-use region_plan::Plan;
+use net_reader::Input;
 use runner::{Gate, run_workers};
-use std::alloc::{AllocError, Global};
+use std::alloc::Global;
 use std::process::Abort;
 use std::test::Fail;
 use std::thread::Threads;
+use test_networks::{input_of, plan_of};
 
 /// The line, with one subscriber at node 3.
 pub const LINE: &str = "track 1\nnodes 4\nk 2\nedge 0 1 1\nedge 1 2 1\nedge 2 3 1\nsub 3\n";
-
-// The input of a text.
-fn input_of(alloc: Global, text: &[u8]) -> Result<Input, Fail>
-    ensures { IfOk result (λ input. IsValid (seen_input input)) }
-{
-    inputs_are_valid();
-    if text.len() > MAX_BYTES {
-        return Err(AllocError.into());
-    }
-    match read_input(alloc, text) {
-        Ok(input) => Ok(input),
-        Err(_) => Err(AllocError.into()),
-    }
-}
 
 /// The input of these calls on the line.
 pub fn input_of_calls(alloc: Global, calls: &str) -> Result<Input, Fail>
@@ -41,19 +24,34 @@ pub fn input_of_calls(alloc: Global, calls: &str) -> Result<Input, Fail>
     input_of(alloc, text.as_bytes())
 }
 
-/// The plan of an input, and its distances.
-pub fn plan_of(alloc: Global, input: &Input) -> Result<(Plan, Distances), Fail>
-    requires { IsValid (seen_input input.now) }
-    ensures copy { IfOk result (λ pair. pair.0.distances ≡ pair.1) }
-    ensures nodes { IfOk result (λ pair. nodes_of pair.0 ≡ input.now.nodes) }
-{
-    let graph = match Graph::new(alloc, input.nodes, &input.edges) {
-        Ok(graph) => graph,
-        Err(_) => return Err(AllocError.into()),
-    };
-    let distances = Distances::new(alloc, &graph)?;
-    let plan = Plan::build(alloc, &graph, &distances, input.k)?;
-    Ok((plan, distances))
+/// What becomes of the move of the subscriber to node 2, where nobody else has a visit.
+pub const MOVED: [Done; 1] = [Done::Moved {
+    actor: 0,
+    number: 1,
+    from: 3,
+    to: 2,
+    weight: 1,
+    first: 0,
+    commit: 3,
+    last: 5,
+}];
+
+/// A gate that never opens.
+pub struct ShutGate;
+
+impl Gate for ShutGate {
+    ghost is_open = { λ _. false };
+
+    ghost is_shut = { λ _. true };
+
+    fn may_go(&self, actor: u32, done: u64) -> bool {
+        let _ = (actor, done);
+        false
+    }
+
+    fn made(&self, actor: u32, done: u64) {
+        let _ = (actor, done);
+    }
 }
 
 /// Stops where the calls and the order of an outcome aren't these.

@@ -254,6 +254,8 @@ impl Meeting {
 impl Gate for Meeting {
     ghost is_open = { λ _. false };
 
+    ghost is_shut = { λ _. false };
+
     fn may_go(&self, actor: u32, done: u64) -> bool {
         match (actor, done) {
             (1, 0) => self.first(0, 1),

@@ -9,6 +9,9 @@ returns-clause-set c =
 
 pub returns-clause-workers : goal.returns-clause-workers
 returns-clause-workers c =
-    c.in_ok-workers.ensures c.in_ok-tracker.tracker c.in_ok-tracker.ensures.fresh
+    c.in_ok-workers.ensures.workers c.in_ok-tracker.tracker c.in_ok-tracker.ensures.fresh
     (new-set (seen_input c.args.input.now) c.args.plan.now c.in_ok-tracker.tracker.setup c.deref.result.now
     c.requires.together c.deref.ensures.value c.in_ok-tracker.ensures.setup)
+
+pub returns-clause-fresh : goal.returns-clause-fresh
+returns-clause-fresh c = c.in_ok-workers.ensures.fresh c.in_ok-tracker.tracker c.in_ok-tracker.ensures.fresh

@@ -5,7 +5,7 @@ use Rattle.std.proofs.lemmas.List.{length_push}
 use Rattle.net_reader.specs.Seen.{seen_input}
 use Rattle.station.specs.Passes.{PassData}
 use Rattle.station.specs.declared.view.View.{View}
-use Rattle.runner.proofs.Finishing.{at-seam, at-some, fresh-actor, fresh-serves, one-more}
+use Rattle.runner.proofs.Finishing.{at-seam, at-some, fresh-actor, fresh-serves, fresh-worker, one-fresh, one-more}
 use Rattle.runner.proofs.running.workers_of.Goals as goal
 
 pub new-requires : goal.new-requires
@@ -42,12 +42,18 @@ passes-preserved c =
           }))
           (fresh-actor tracker (length c.passes.yielded) c.in-Some.pass c.in-Ok.worker.pass mine c.in-Ok.ensures.pass
           ∙ sym c.passes.invariant.count) k one (ap (λ xs. slice_get xs k) (sym pushed) ∙ there);
+      fresh = λ tracker fresh k one there.
+          let mine = fresh (length c.passes.yielded) c.in-Some.pass at in
+          one-fresh tracker c.passes.workers.items c.in-Ok.worker (length c.passes.yielded)
+          (c.passes.invariant.fresh tracker fresh) (sym c.passes.invariant.count)
+          (fresh-worker tracker (length c.passes.yielded) c.in-Some.pass c.in-Ok.worker mine c.in-Ok.ensures.pass
+          c.in-Ok.ensures.fresh.0 c.in-Ok.ensures.fresh.1) k one (ap (λ xs. slice_get xs k) (sym pushed) ∙ there);
       all = c.passes.invariant.all ∙ (ap (λ (rest : List PassData). c.passes.yielded ++ rest) c.in-Some.ensures.steps.0
           ∙ sym (append_assoc c.passes.yielded (c.in-Some.pass ∷ []) (into_iter_items c.next.new.self)));
     }
 
-pub returns : goal.returns
-returns c = λ tracker fresh set. record {
+pub returns-clause-workers : goal.returns-clause-workers
+returns-clause-workers c = λ tracker fresh set. record {
   count = omega (
     arith,
     c.passes.invariant.count,
@@ -58,3 +64,6 @@ returns c = λ tracker fresh set. record {
   );
   each = c.passes.invariant.each tracker fresh set;
 }
+
+pub returns-clause-fresh : goal.returns-clause-fresh
+returns-clause-fresh c = c.passes.invariant.fresh

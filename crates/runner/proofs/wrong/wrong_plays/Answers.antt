@@ -1,6 +1,7 @@
-use Rattle.std.proofs.Common.{◌≡◌, ◌+◌, List, [], ◌∷◌, Some, None, Option, length, sym, ap, ◌∙◌, subst, arith}
+use Rattle.std.proofs.Common.{◌≡◌, ℕ, ◌+◌, List, [], ◌∷◌, Some, None, Option, length, sym, ap, ◌∙◌, subst, arith}
 use Rattle.directory.specs.Histories.{History, IsFront}
 use Rattle.entry_word.specs.declared.visit.Visit.{Visit}
+use Rattle.station.specs.Passes.{PassData}
 use Rattle.station.specs.declared.view.NodeTurn.{NodeTurn}
 use Rattle.runner.specs.Examples.{count_by}
 use Rattle.runner.proofs.wrong.wrong_plays.Goals as goal
@@ -10,6 +11,9 @@ none-no visit e = cc
 
 front-no : (visit : Visit) → IsFront (visit ∷ []) [] → ⊥
 front-no visit e = cc
+
+some-no : (visit : Visit) → ◌≡◌ {A = List Visit} (visit ∷ []) [] → ⊥
+some-no visit e = cc
 
 pub returns-clause-finished : goal.returns-clause-finished
 returns-clause-finished c = λ input tracker tries old new visit played left.
@@ -48,3 +52,14 @@ returns-clause-seat c = λ input tracker tries old new played has other. omega (
 
 pub returns-clause-serves : goal.returns-clause-serves
 returns-clause-serves c = λ input tracker tries old new played has. has.gone.worker
+
+pub returns-clause-shut : goal.returns-clause-shut
+returns-clause-shut c = λ old new stayed. let e : ◌≡◌ {A = ℕ} 1 0 = stayed.held in omega (arith, e)
+
+pub returns-clause-visited : goal.returns-clause-visited
+returns-clause-visited c = λ old new played none one stayed.
+    some-no (count_by 0)
+    (sym one.seen_is ∙ (ap (λ (p : PassData). p.view.seen) stayed.pass ∙ none.seen_is))
+
+pub returns-clause-counted : goal.returns-clause-counted
+returns-clause-counted c = λ old new played more stayed. omega (arith, more, stayed.made)

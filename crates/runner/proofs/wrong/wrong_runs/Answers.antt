@@ -8,7 +8,10 @@ use Rattle.directory.specs.declared.answers.Done.{Done}
 use Rattle.entry_word.specs.declared.visit.Visit.{Visit}
 use Rattle.scripts.specs.Scripts.{scripts_of}
 use Rattle.station.specs.Setup.{setting_in}
+use Rattle.station.specs.declared.view.NodeTurn.{NodeTurn}
+use Rattle.station.specs.declared.view.View.{View}
 use Rattle.runner.specs.Examples.{count_by, idle_input, line_setup, switching_input}
+use Rattle.runner.specs.Roles.{HasBegunNone}
 use Rattle.runner.specs.Runs.{actors_of}
 use Rattle.runner.proofs.wrong.wrong_runs.Goals as goal
 
@@ -36,6 +39,28 @@ returns-clause-swapped c = λ input tracker worker other seen its.
 
 pub returns-clause-serves : goal.returns-clause-serves
 returns-clause-serves c = λ input tracker worker other its. (its.each 1 other refl).0
+
+turn-no : (turn : NodeTurn) → ◌≡◌ {A = List NodeTurn} (turn ∷ []) [] → ⊥
+turn-no turn e = cc
+
+pub returns-clause-visited : goal.returns-clause-visited
+returns-clause-visited c = λ tracker worker seen fresh.
+    some-no (count_by 0) (sym seen.seen_is ∙ ap (λ (v : View). v.seen) (fresh 0 worker refl).view)
+
+pub returns-clause-turned : goal.returns-clause-turned
+returns-clause-turned c = λ tracker worker lost fresh.
+    turn-no _ (sym lost ∙ ap (λ (v : View). v.lost) (fresh 0 worker refl).view)
+
+pub returns-clause-counted : goal.returns-clause-counted
+returns-clause-counted c = λ tracker worker one fresh. omega (arith, one, (fresh 0 worker refl).made)
+
+pub returns-clause-begun : goal.returns-clause-begun
+returns-clause-begun c = λ tracker worker mover is one fresh.
+    let none : mover.begun ≡ 0 = subst HasBegunNone is (fresh 0 worker refl).role in omega (arith, one, none)
+
+pub returns-clause-done : goal.returns-clause-done
+returns-clause-done c = λ tracker worker finder is one fresh.
+    let none : finder.done ≡ 0 = subst HasBegunNone is (fresh 0 worker refl).role in omega (arith, one, none)
 
 pub returns-clause-home : goal.returns-clause-home
 returns-clause-home c = λ setup plan distances set other.

@@ -2,7 +2,7 @@ use Rattle.runner_tests.proofs.Hands.{first-played, first-there}
 use Rattle.runner_tests.proofs.hand_tests.play_first.Goals as goal
 
 pub play-requires-clause-may : goal.play-requires-clause-may
-play-requires-clause-may c κs =
+play-requires-clause-may g c κs within =
     let input = c.requires.set.0 in
     let there = first-there input c.args.tracker.now c.args.plan.now c.args.distances.now c.args.workers.now.items
     c.index_mut.result.now c.requires.set.1 c.requires.set.2 c.index_mut.ensures.value in (
@@ -11,7 +11,7 @@ play-requires-clause-may c κs =
     )
 
 pub returns : goal.returns
-returns c = λ input set are.
+returns g c = λ input set are.
     let there = first-there input c.args.tracker.now c.args.plan.now c.args.distances.now c.args.workers.now.items
     c.index_mut.result.now set are c.index_mut.ensures.value in
     let played = c.play.ensures.played input (record {

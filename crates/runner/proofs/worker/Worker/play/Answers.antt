@@ -1,9 +1,17 @@
-use Rattle.std.proofs.Common.{◌+◌, refl, ap, arith}
+use Rattle.std.proofs.Common.{◌≡◌, ◌+◌, refl, ap, ◌∙◌, arith}
 use Rattle.net_reader.specs.Input.{Contents}
 use Rattle.runner.specs.Workers.{MayPlay}
+use Rattle.runner.specs.declared.worker.Attempt.{Attempt}
+use Rattle.runner.specs.declared.worker.Attempt.TheVariants.{Made, Held, Kept}
 use Rattle.runner.specs.declared.worker.Worker.{Worker}
 use Rattle.runner.proofs.Working.{gone-on, kept-gone, kept-may, may-try, prepared-gone, role-gone, some-left}
 use Rattle.runner.proofs.worker.Worker.play.Goals as goal
+
+made-no : ◌≡◌ {A = Attempt} Made Kept → ⊥
+made-no e = cc
+
+held-no : ◌≡◌ {A = Attempt} Held Kept → ⊥
+held-no e = cc
 
 pub tries-init : goal.tries-init
 tries-init g c = record {
@@ -12,6 +20,7 @@ tries-init g c = record {
       may.worker_is.role;
   few = omega arith;
   kept = λ is_open. refl;
+  shut = λ is_shut. (refl, refl, refl);
 }
 
 pub prepare-requires : goal.prepare-requires
@@ -93,6 +102,7 @@ tries-preserved-in-Made g c =
           (try_of input (record { set = may.set; worker_is = gone.worker })).0 (omega arith);
       few = c.tries.invariant.few;
       kept = c.tries.invariant.kept;
+      shut = λ is_shut. absurd (made-no (c.in-Made.ensures.shut is_shut));
     }
 
 pub tries-smaller-in-Held : goal.tries-smaller-in-Held
@@ -133,6 +143,7 @@ tries-preserved-in-Held g c =
           (try_of input (record { set = may.set; worker_is = gone.worker })).0 (omega arith);
       few = omega (arith, c.tries.invariant.few, c.if-held-kept.false);
       kept = c.tries.invariant.kept;
+      shut = λ is_shut. absurd (held-no (c.in-Held.ensures.shut is_shut));
     }
 
 pub tries-smaller : goal.tries-smaller
@@ -174,6 +185,13 @@ tries-preserved g c =
           (try_of input (record { set = may.set; worker_is = gone.worker }));
       few = omega (arith, c.tries.invariant.few, c.if-held-kept.false);
       kept = λ is_open. absurd (c.in-Kept.ensures.closed is_open refl);
+      shut = λ is_shut.
+          let still = c.tries.invariant.shut is_shut in
+          let same = try_of c.tries.invariant.may.0 c.tries.invariant.may.1 in (
+            ap (λ (w : Worker). w.pass) same ∙ still.0,
+            ap (λ (w : Worker). w.made) same ∙ still.1,
+            still.2,
+          );
     }
 
 pub returns-clause-played : goal.returns-clause-played

@@ -10,6 +10,8 @@ invariant-tries g l = record {
       → HasGoneOn input l.tracker l.fn.self l.self l.held;
   few : l.held + l.kept ≤ l.tries;
   kept : g.G.Gate.is_open l.gate ≡ true → l.kept ≡ 0;
+  shut : g.G.Gate.is_shut l.gate ≡ true
+      → (l.self.pass ≡ l.fn.self.pass) × (l.self.made ≡ l.fn.self.made) × (l.held ≡ 0);
 }
 
 abbrev pub decreases-tries : goal.decreases-tries
