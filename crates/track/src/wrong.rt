@@ -1,11 +1,13 @@
 //! Ends that no status may tell: each is wrong in one part.
-ghost use Rattle.std.specs.Prelude.{[], ◌∷◌, ◌<◌, ℕ, List, length, Some, None, true, false};
+ghost use Rattle.std.specs.Prelude.{◌≡◌, [], ◌∷◌, ◌<◌, ℕ, Bool, List, Option, length, map, Some, None, true, false};
 ghost use Rattle.net_reader.specs.Reading.{most_bytes};
 ghost use Rattle.report_check.specs.Cuts.{input_part};
 ghost use Rattle.report_check.specs.Verdicts.{most_bytes as most_text_bytes};
+ghost use Rattle.word_line.specs.declared.command.Command.{Command};
 ghost use Rattle.word_line.specs.declared.command.Command.TheVariants.{Check, Cover, Replay, Run};
 ghost use Rattle.track.specs.declared.status.Status.TheVariants.{Done, Refused, BadWords, OutOfMemory, ReadFailed, WriteFailed, TooLong, Unsound};
-ghost use Rattle.track.specs.Ends.{Ends, EndsAlone, EndsAs, Streams, streams};
+ghost use Rattle.track.specs.Ends.{Ends, EndsAlone, EndsAs, Streams, Tells, status_number, streams};
+ghost use Rattle.track.specs.Transfer.{IsEndOf};
 
 /// A status with bytes left, a fault, or something written that it may not come with.
 pub fn wrong_ends()
@@ -110,4 +112,25 @@ pub fn wrong_counts()
         (streams None 0 None 2) → ⊥ }
     ensures alone { EndsAlone [] WriteFailed (streams None 0 None 0)
         (streams None 0 None 2) → ⊥ }
+{}
+
+/// What is left is an end of what was left: neither other bytes, nor more than were left.
+pub fn wrong_rests()
+    ensures other { IsEndOf (Some (1 ∷ [])) (Some (2 ∷ [])) → ⊥ }
+    ensures more { IsEndOf (Some []) (Some (1 ∷ [])) → ⊥ }
+    ensures front { IsEndOf (Some (1 ∷ 2 ∷ [])) (Some (1 ∷ [])) → ⊥ }
+    ensures unknown { IsEndOf (Some []) None → ⊥ }
+{}
+
+/// The statuses by number; words of no command end with 2 alone, and no status has 7.
+pub fn told_numbers()
+    ensures numbers { map status_number (Done ∷ Refused ∷ BadWords ∷ OutOfMemory ∷ ReadFailed
+        ∷ WriteFailed ∷ TooLong ∷ Unsound ∷ []) ≡ 0 ∷ 1 ∷ 2 ∷ 3 ∷ 4 ∷ 5 ∷ 6 ∷ 8 ∷ [] }
+    ensures no_form { (before now : Streams) → Tells false None 0 before now → ⊥ }
+    ensures bad_words { (threads : Bool) (before now : Streams) (number : ℕ)
+        → Tells threads None number before now → number ≡ 2 }
+    ensures spoke { Tells false None 2 (streams None 0 (Some []) 0)
+        (streams None 0 (Some (1 ∷ [])) 0) → ⊥ }
+    ensures seven { (threads : Bool) (command : Option Command) (before now : Streams)
+        → Tells threads command 7 before now → ⊥ }
 {}
