@@ -33,7 +33,7 @@ pub use chases::{worked_chases, wrong_chases};
 pub use closing::{wrong_causes, wrong_orders};
 pub use costs::{worked_climbs, worked_costs, wrong_costs, wrong_rates};
 pub use faults::{worked_move_faults, worked_switch_faults, wrong_find_faults, wrong_move_faults};
-pub use finds::worked_finds;
+pub use finds::{worked_finds, worked_parts, wrong_parts};
 pub use grammar::{
     worked_apart, worked_bytes, worked_calls, worked_limits, worked_lines, worked_places,
 };
@@ -42,7 +42,7 @@ pub use moments::told_moments;
 pub use moves::{worked_moves, wrong_moves};
 pub use orders::worked_orders;
 pub use others::worked_others;
-pub use passes::{worked_bits, wrong_censuses, wrong_notes, wrong_turns};
+pub use passes::{worked_bits, wrong_censuses, wrong_notes, wrong_stays, wrong_turns};
 pub use plans::{worked_levels, worked_measures, wrong_matches, wrong_overlaps};
 pub use puts::worked_puts;
 pub use rules::{told_tickets, wrong_logs, wrong_moments, wrong_views};
