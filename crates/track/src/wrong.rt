@@ -1,4 +1,5 @@
-//! Ends that no status may tell: each is wrong in one part.
+//! Ends that no status may tell, each wrong in one part; the numbers of statuses; and what the laws
+//! of the top calls say of one command.
 ghost use Rattle.std.specs.Prelude.{◌≡◌, [], ◌∷◌, ◌<◌, ◌≤◌, ℕ, Bool, List, Option, length, map, Ok, Some, None, true, false};
 ghost use Rattle.net_reader.specs.Input.{Contents, IsInput};
 ghost use Rattle.net_reader.specs.Reading.{most_bytes};

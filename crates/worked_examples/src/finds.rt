@@ -1,4 +1,4 @@
-//! Finds over given words, computed.
+//! Finds over given words, computed, and what is no part of a find.
 ghost use Rattle.std.specs.Prelude.{◌≡◌, ℕ, [], ◌∷◌, Option, Some, None};
 ghost use Rattle.directory.specs.Standing.{number};
 ghost use Rattle.plan_laws.specs.Examples.{line_setting};

@@ -1,5 +1,5 @@
-//! What a pass doesn't do when it loses a turn, takes a census or hears a note: each is wrong in
-//! one part.
+//! What a pass doesn't do when it loses a turn, stays in a node, takes a census or hears a note:
+//! each is wrong in one part.
 ghost use Rattle.std.specs.Prelude.{◌≡◌, ◌++◌, ◌<◌, [], ◌∷◌, ℕ, List, Some, None, suc, length};
 ghost use Rattle.directory.specs.Legal.{IsLegal};
 ghost use Rattle.entry_word.specs.declared.visit.Act.TheVariants.{Census};
