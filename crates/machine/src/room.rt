@@ -1,5 +1,5 @@
 //! How many calls scripts have, and visits at most, and room for them.
-ghost use Rattle.std.specs.Prelude.{◌≡◌, ◌<◌, ◌≤◌, [], All, IfOk, List, ℕ, map, vec_capacity};
+ghost use Rattle.std.specs.Prelude.{◌≡◌, [], All, IfOk, List, ℕ, map, vec_capacity};
 ghost use Rattle.net_reader.specs.Valid.{count_calls};
 ghost use Rattle.scripts.specs.Scripts.{most_in, most_of, most_visits};
 ghost use Rattle.machine.specs.Stands.{BeginInside, BeginsInside};

@@ -1,7 +1,11 @@
 //! Worked examples, computed.
-ghost use Rattle.std.specs.Prelude.{◌≡◌, ◌++◌, ◌∷◌, [], codes};
+ghost use Rattle.std.specs.Prelude.{◌≡◌, ◌++◌, ◌∷◌, [], ℕ, List, None, Some, codes, false, true};
+ghost use Rattle.directory.specs.declared.answers.Done.TheVariants.{Switched};
 ghost use Rattle.report_check.specs.Cuts.{input_part, report_part};
+ghost use Rattle.report_check.specs.Laws.{CallsAreText, NumbersAreText, WordsAreText};
+ghost use Rattle.report_check.specs.Reading.{call_in, number_in, word_in};
 ghost use Rattle.report_check.specs.VerdictText.{verdict_line_of};
+ghost use Rattle.report_check.specs.declared.slots.Slot.TheVariants.{Switch};
 ghost use Rattle.report_check.specs.declared.verdict.Flaw.TheVariants.{Form, Tickets, Place, Again, Weight};
 ghost use Rattle.report_check.specs.declared.verdict.Verdict.TheVariants.{Sound, Unsound};
 ghost use Rattle.report_check.specs.Examples.{◌then◌, lone_find, near_find, one_move, switches, two_moves, two_moves_near, verdict_for};
@@ -272,4 +276,28 @@ pub fn moves_by_commits()
         codes "move 0 2 2 0 weight 2 first 3 commit 4 last 6" then
         codes "find 1 0 0 at 0 number 2 level - weight 5 first 5 last 5" then
         codes "order 0 0 0 0 0 1 0" then codes "end 7" then []) ≡ Unsound 3 Weight }
+{}
+
+/// Words, numbers and lines that are read, and what the laws say of the texts that they are read
+/// from: a number has a blank before it, no leading zeros, and is below its limit.
+pub fn example_readings()
+    ensures word { word_in (codes "end") (codes "end 9") ≡ Some (codes " 9") }
+    ensures short_word { word_in (codes "end") (codes "en") ≡ None }
+    ensures begins { WordsAreText → (text : List ℕ)
+        → word_in (codes "end") text ≡ Some (codes " 9") → text ≡ codes "end 9" }
+    ensures number { number_in 80 (codes " 79 x") ≡ Some (79, codes " x") }
+    ensures limit { number_in 79 (codes " 79 x") ≡ None }
+    ensures zeros { number_in 80 (codes " 079") ≡ None }
+    ensures no_blank { number_in 80 (codes "79") ≡ None }
+    ensures digits { NumbersAreText → (text : List ℕ)
+        → number_in 80 text ≡ Some (79, codes " x") → text ≡ codes " 79 x" }
+    ensures call { call_in (record { nodes = 4; levels = 3 }) (Switch 0 true 3 1)
+        (codes "switch 0 off 3 number 1 ticket 6" then codes "end 7")
+        ≡ Some (Switched 0 true 3 1 6, codes "end 7") }
+    ensures other_slot { call_in (record { nodes = 4; levels = 3 }) (Switch 0 false 3 1)
+        (codes "switch 0 off 3 number 1 ticket 6" then codes "end 7") ≡ None }
+    ensures line { CallsAreText → (text : List ℕ)
+        → call_in (record { nodes = 4; levels = 3 }) (Switch 0 true 3 1) text
+        ≡ Some (Switched 0 true 3 1 6, codes "end 7")
+        → text ≡ codes "switch 0 off 3 number 1 ticket 6" then codes "end 7" }
 {}

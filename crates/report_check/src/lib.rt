@@ -19,8 +19,9 @@ mod verdict;
 pub use checker::check;
 pub use cut::{CutText, cut_text};
 pub use examples::{
-    example_cuts, example_verdicts, flaws_of_form, flaws_of_place, flaws_of_tickets,
-    moves_by_commits, moves_by_tickets, moves_of_nobody, switches_by_tickets, worked_reports,
+    example_cuts, example_readings, example_verdicts, flaws_of_form, flaws_of_place,
+    flaws_of_tickets, moves_by_commits, moves_by_tickets, moves_of_nobody, switches_by_tickets,
+    worked_reports,
 };
 pub use forms::reports_are_read;
 pub use laws::{calls_are_text, numbers_are_text, words_are_text};

@@ -20,4 +20,6 @@ mod wrong;
 
 pub use laws::{bytes_have_one_text, complete, reports_tell, runs_are_replayed, texts_tell};
 pub use top::{command, command_with_threads};
-pub use wrong::{wrong_counts, wrong_ends, wrong_ends_alone, wrong_lengths};
+pub use wrong::{
+    told_laws, told_numbers, wrong_counts, wrong_ends, wrong_ends_alone, wrong_lengths, wrong_rests,
+};

@@ -1,11 +1,21 @@
-//! Ends that no status may tell: each is wrong in one part.
-ghost use Rattle.std.specs.Prelude.{[], ◌∷◌, ◌<◌, ℕ, List, length, Some, None, true, false};
+//! Ends that no status may tell, each wrong in one part; the numbers of statuses; and what the laws
+//! of the top calls say of one command.
+ghost use Rattle.std.specs.Prelude.{◌≡◌, [], ◌∷◌, ◌<◌, ◌≤◌, ℕ, Bool, List, Option, length, map, Ok, Some, None, true, false};
+ghost use Rattle.net_reader.specs.Input.{Contents, IsInput};
 ghost use Rattle.net_reader.specs.Reading.{most_bytes};
-ghost use Rattle.report_check.specs.Cuts.{input_part};
+ghost use Rattle.report_check.specs.Cuts.{input_part, report_part};
 ghost use Rattle.report_check.specs.Verdicts.{most_bytes as most_text_bytes};
-ghost use Rattle.word_line.specs.declared.command.Command.TheVariants.{Check, Cover, Replay, Run};
+ghost use Rattle.report_check.specs.declared.verdict.Flaw.{Flaw};
+ghost use Rattle.report_check.specs.declared.verdict.Verdict.TheVariants.{Unsound as Flawed};
+ghost use Rattle.report_text.specs.ReportText.{report_of};
+ghost use Rattle.word_line.specs.declared.command.Command.{Command};
+ghost use Rattle.word_line.specs.declared.command.Command.TheVariants.{Census, Check, Cover, Replay, Run};
+ghost use Rattle.track.specs.declared.status.Status.{Status};
 ghost use Rattle.track.specs.declared.status.Status.TheVariants.{Done, Refused, BadWords, OutOfMemory, ReadFailed, WriteFailed, TooLong, Unsound};
-ghost use Rattle.track.specs.Ends.{Ends, EndsAlone, EndsAs, Streams, streams};
+ghost use Rattle.track.specs.Ends.{Ends, EndsAlone, EndsAs, IsShort, Streams, Tells, status_number, streams};
+ghost use Rattle.track.specs.Laws.{BytesHaveOneText, IsComplete, IsCompleteAlone, RunsAreReplayed};
+ghost use Rattle.track.specs.Results.{IsText, in_order, outcome_for, verdict_for};
+ghost use Rattle.track.specs.Transfer.{IsEndOf};
 
 /// A status with bytes left, a fault, or something written that it may not come with.
 pub fn wrong_ends()
@@ -110,4 +120,60 @@ pub fn wrong_counts()
         (streams None 0 None 2) → ⊥ }
     ensures alone { EndsAlone [] WriteFailed (streams None 0 None 0)
         (streams None 0 None 2) → ⊥ }
+{}
+
+/// What is left is an end of what was left: neither other bytes, nor more than were left.
+pub fn wrong_rests()
+    ensures other { IsEndOf (Some (1 ∷ [])) (Some (2 ∷ [])) → ⊥ }
+    ensures more { IsEndOf (Some []) (Some (1 ∷ [])) → ⊥ }
+    ensures front { IsEndOf (Some (1 ∷ 2 ∷ [])) (Some (1 ∷ [])) → ⊥ }
+    ensures unknown { IsEndOf (Some []) None → ⊥ }
+{}
+
+/// The statuses by number; words of no command end with 2 alone, and no status has 7.
+pub fn told_numbers()
+    ensures numbers { map status_number (Done ∷ Refused ∷ BadWords ∷ OutOfMemory ∷ ReadFailed
+        ∷ WriteFailed ∷ TooLong ∷ Unsound ∷ []) ≡ 0 ∷ 1 ∷ 2 ∷ 3 ∷ 4 ∷ 5 ∷ 6 ∷ 8 ∷ [] }
+    ensures no_form { (before now : Streams) → Tells false None 0 before now → ⊥ }
+    ensures bad_words { (threads : Bool) (before now : Streams) (number : ℕ)
+        → Tells threads None number before now → number ≡ 2 }
+    ensures spoke { Tells false None 2 (streams None 0 (Some []) 0)
+        (streams None 0 (Some (1 ∷ [])) 0) → ⊥ }
+    ensures seven { (threads : Bool) (command : Option Command) (before now : Streams)
+        → Tells threads command 7 before now → ⊥ }
+{}
+
+/// What the laws of the top calls say where all that they ask for holds: two texts of a cover are
+/// one, and it isn't refused too; a census that has memory is done, and a check whose report has a
+/// flaw says so; and a run prints an order whole, of which each replay has the same text.
+pub fn told_laws()
+    ensures one { BytesHaveOneText → (bytes one other : List ℕ) (s t : Status)
+        → IsText Cover bytes s one → IsText Cover bytes t other → one ≡ other }
+    ensures refused { BytesHaveOneText → (bytes one other : List ℕ)
+        → IsText Cover bytes Done one → IsText Cover bytes Refused other → ⊥ }
+    ensures done { IsComplete → (bytes : List ℕ) (contents : Contents) (status : Status)
+        (left written : Option (List ℕ)) → EndsAs Census status
+        (streams (Some bytes) 0 (Some []) 0) (streams left 0 written 0)
+        → length bytes ≤ most_bytes → IsInput bytes (Ok contents)
+        → (status ≡ OutOfMemory → ⊥) → status ≡ Done }
+    ensures checked { IsComplete → (bytes : List ℕ) (contents : Contents) (status : Status)
+        (left written : Option (List ℕ)) (line : ℕ) (flaw : Flaw) → EndsAs Check status
+        (streams (Some bytes) 0 (Some []) 0) (streams left 0 written 0)
+        → IsShort Check bytes → IsInput (input_part bytes) (Ok contents)
+        → verdict_for contents (report_part bytes) ≡ Flawed line flaw
+        → (status ≡ OutOfMemory → ⊥) → status ≡ Unsound }
+    ensures alone { IsCompleteAlone → (text : List ℕ) (status : Status)
+        (left written : Option (List ℕ)) → EndsAlone text status
+        (streams left 0 (Some []) 0) (streams left 0 written 0)
+        → (status ≡ OutOfMemory → ⊥) → status ≡ Done }
+    ensures printed { RunsAreReplayed → (bytes : List ℕ) (contents : Contents) (status : Status)
+        (text : List ℕ) → IsInput bytes (Ok contents) → IsText Run bytes status text
+        → ((order : List ℕ) → text ≡ report_of (outcome_for (in_order contents order))
+        → (outcome_for (in_order contents order)).order ≡ order → ⊥) → ⊥ }
+    ensures replayed { RunsAreReplayed → (bytes : List ℕ) (contents : Contents) (status : Status)
+        (text : List ℕ) → IsInput bytes (Ok contents) → IsText Run bytes status text
+        → ((order : List ℕ) → text ≡ report_of (outcome_for (in_order contents order))
+        → ((others : List ℕ) (other : Status) (replayed : List ℕ)
+        → IsInput others (Ok (in_order contents order)) → IsText Replay others other replayed
+        → replayed ≡ text) → ⊥) → ⊥ }
 {}

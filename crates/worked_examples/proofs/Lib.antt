@@ -2,3 +2,4 @@ mod Apart
 mod Looks
 mod Held
 mod Named
+mod Square

@@ -6,4 +6,5 @@ pub mod Moments
 pub mod Passes
 pub mod Plans
 pub mod Trails
+pub mod Trees
 pub mod Words

@@ -1,9 +1,10 @@
-//! Finds over given words, computed.
-ghost use Rattle.std.specs.Prelude.{◌≡◌, [], ◌∷◌, Some, None};
+//! Finds over given words, computed, and what is no part of a find.
+ghost use Rattle.std.specs.Prelude.{◌≡◌, ℕ, [], ◌∷◌, Option, Some, None};
 ghost use Rattle.directory.specs.Standing.{number};
 ghost use Rattle.plan_laws.specs.Examples.{line_setting};
 ghost use Rattle.worked_examples.specs.Examples.{find_from};
 ghost use Rattle.directory.specs.Finds.{find, answer_of, key_of};
+ghost use Rattle.directory.specs.Parts.{AreNothing, LeadOn};
 ghost use Rattle.entry_word.specs.Marks.{mark_word};
 ghost use Rattle.entry_word.specs.Addresses.{address_word};
 ghost use Rattle.entry_word.specs.declared.visit.Key.TheVariants.{Presence, Entry};
@@ -65,4 +66,34 @@ pub fn worked_finds()
         ≡ Some (OffAt 1 1 (Some 0) 8) }
     ensures off_at_origin { answer_of (find line_setting (find_from 3) (mark_word (Off 1) ∷ []))
         ≡ Some (OffAt 3 1 None 0) }
+{}
+
+/// Marks that lead on from node 3, one that is Gone and then one that is Coming, with the way over
+/// them and what is known behind them.
+pub fn worked_parts()
+    ensures leads { LeadOn line_setting None 3 (mark_word (Gone 4 0) ∷ mark_word (Coming 5 2) ∷ [])
+        (Some 4) 2 5 }
+    ensures nothing { AreNothing (address_word None ∷ address_word None ∷ []) }
+{}
+
+/// An address is not nothing, behind entries of nothing too. Neither a Here leads on, nor a Coming
+/// whose number is known; and marks that lead on tell where to, over which way, and what is known.
+pub fn wrong_parts()
+    ensures address { AreNothing (address_word (Some (record { number = 1; node = 1 })) ∷ []) → ⊥ }
+    ensures later { AreNothing
+        (address_word None ∷ address_word (Some (record { number = 1; node = 1 })) ∷ []) → ⊥ }
+    ensures here { (known last_known : Option ℕ) (last weight : ℕ)
+        → LeadOn line_setting known 3 (mark_word (Here 4) ∷ []) last_known last weight → ⊥ }
+    ensures coming { (last_known : Option ℕ) (last weight : ℕ)
+        → LeadOn line_setting (Some 4) 3 (mark_word (Coming 4 2) ∷ []) last_known last weight
+        → ⊥ }
+    ensures to { (last_known : Option ℕ) (last weight : ℕ)
+        → LeadOn line_setting None 3 (mark_word (Gone 4 0) ∷ []) last_known last weight
+        → last ≡ 0 }
+    ensures way { (last_known : Option ℕ) (last weight : ℕ)
+        → LeadOn line_setting None 3 (mark_word (Gone 4 0) ∷ []) last_known last weight
+        → weight ≡ 3 }
+    ensures known { (last_known : Option ℕ) (last weight : ℕ)
+        → LeadOn line_setting None 3 (mark_word (Gone 4 0) ∷ []) last_known last weight
+        → last_known ≡ Some 4 }
 {}

@@ -15,10 +15,11 @@ ghost use Rattle.station.specs.Setup.{Setup, setting_in};
 ghost use Rattle.tracker_calls.specs.Added.{HasAdded};
 ghost use Rattle.tracker_calls.specs.WholeMoves.{HasMoved, after_writes};
 ghost use Rattle.tracker_calls.specs.declared.whole_moves.Moved.{Moved};
-ghost use Rattle.worked_examples.specs.Passes.{HasPass, line_setup};
+ghost use Rattle.worked_examples.specs.Passes.{HasPass, count_by, line_setup};
 
 /// The first move of the line's subscriber, to node 2: its pass has made the six puts of the move,
-/// they are all of its own visits, and its handset stands for this one step.
+/// they are all of its own visits, behind those that it had made before, and its handset stands for
+/// this one step.
 pub fn worked_moves()
     ensures count { (old new : PassData) (handset after : HandsetData) (moved : Moved)
         (made : HasMoved line_setup old handset 2 moved new after) → HasPass old 0 []
@@ -27,6 +28,10 @@ pub fn worked_moves()
         (made : HasMoved line_setup old handset 2 moved new after) → HasPass old 0 []
         → made.steps ≡ []
         → own 0 new.view.seen ≡ visits line_setting 0 (move_to 2 ∷ []) }
+    ensures behind { (old new : PassData) (handset after : HandsetData) (moved : Moved)
+        (made : HasMoved line_setup old handset 2 moved new after)
+        → HasPass old 0 (count_by 0 0 ∷ []) → made.steps ≡ []
+        → own 0 new.view.seen ≡ count_by 0 0 ∷ visits line_setting 0 (move_to 2 ∷ []) }
     ensures steps { (old new : PassData) (handset after : HandsetData) (moved : Moved)
         (made : HasMoved line_setup old handset 2 moved new after) → made.steps ≡ []
         → made.its.steps ≡ move_to 2 ∷ [] }

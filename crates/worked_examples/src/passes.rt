@@ -1,13 +1,14 @@
-//! What a pass doesn't do when it loses a turn, takes a census or hears a note: each is wrong in
-//! one part.
+//! What a pass doesn't do when it loses a turn, stays in a node, takes a census or hears a note:
+//! each is wrong in one part.
 ghost use Rattle.std.specs.Prelude.{◌≡◌, ◌++◌, ◌<◌, [], ◌∷◌, ℕ, List, Some, None, suc, length};
 ghost use Rattle.directory.specs.Legal.{IsLegal};
 ghost use Rattle.entry_word.specs.declared.visit.Act.TheVariants.{Census};
-ghost use Rattle.station.specs.Passes.{NoteData, PassData, actor_of};
+ghost use Rattle.station.specs.Passes.{IsStayOf, NoteData, PassData, actor_of};
 ghost use Rattle.station.specs.Setup.{setting_in, subs_in};
 ghost use Rattle.station.specs.Turns.{lock_in};
 ghost use Rattle.station.specs.Views.{turn_at};
 ghost use Rattle.station.specs.Visits.{HasHeard, HasLost, HasVisited, IsCensus};
+ghost use Rattle.station.specs.declared.turns.Stay.{Stay};
 ghost use Rattle.station.specs.declared.view.TurnEvent.{TurnEvent};
 ghost use Rattle.station.specs.declared.view.TurnEvent.TheVariants.{GivenBack, Lost, Won};
 ghost use Rattle.worked_examples.specs.Passes.{HasNote, HasPass, count_by, line_setup};
@@ -38,6 +39,18 @@ pub fn wrong_turns()
         → new.view.turns ≡ earlier ++ Lost (actor_of old) 2 6 ∷ [] → lock_in earlier 2 ≡ 6 }
     ensures seen { (old new : PassData) → HasPass old 1 [] → HasPass new 1 (count_by 0 0 ∷ [])
         → HasLost old 2 (record { node = 2; by = 5 }) new → ⊥ }
+{}
+
+/// A stay is its pass's own, whose pass is inside the node of the stay, one of the plan's.
+pub fn wrong_stays()
+    ensures outside { (stay : Stay) (pass : PassData) → pass.view.inside ≡ None
+        → IsStayOf stay pass → ⊥ }
+    ensures elsewhere { (stay : Stay) (pass : PassData) → pass.view.inside ≡ Some 2
+        → stay.node ≡ 1 → IsStayOf stay pass → ⊥ }
+    ensures other { (stay : Stay) (pass : PassData) → HasPass pass 0 [] → stay.actor ≡ 1
+        → IsStayOf stay pass → ⊥ }
+    ensures unknown { (stay : Stay) (pass : PassData) → HasPass pass 0 [] → stay.node ≡ 4
+        → IsStayOf stay pass → ⊥ }
 {}
 
 /// The bits of a census are those of its subscribers, 0 and 2 here, and no others; and there are

@@ -9,7 +9,7 @@ ghost use Rattle.entry_word.specs.declared.visit.Act.{Act};
 ghost use Rattle.entry_word.specs.declared.visit.Act.TheVariants.{Put};
 ghost use Rattle.entry_word.specs.declared.visit.Key.{Key};
 ghost use Rattle.station.specs.Moments.{ComesAt, HasLocks, IsLoggedAt, IsMoment};
-ghost use Rattle.station.specs.Plays.{visit_by};
+ghost use Rattle.station.specs.Plays.{IsWitnessed, visit_by};
 ghost use Rattle.station.specs.Rule.{IsViewOf, KeepsRule};
 ghost use Rattle.station.specs.Setup.{Setup, lock_word, nodes_in, setting_in};
 ghost use Rattle.station.specs.Turns.{HasLogged, IsLog, events_of, lock_in};
@@ -63,7 +63,8 @@ pub fn wrong_logs()
 {}
 
 /// A pass has lost no turn of its own, and just those that it has logged as lost; all its events
-/// are in what it has logged; and the lock words are as the log leaves them.
+/// are in what it has logged; and the lock words are as the log leaves them. A view that is
+/// witnessed is one of a state that keeps the rule.
 pub fn wrong_views()
     ensures own { (setup : Setup) (words : List ℕ) (history : History) (owner : ℕ → ℕ) (seat : ℕ)
         (view : View) → view.low ≡ 5 → view.high ≡ 6 → view.lost ≡ turn_at 2 6 ∷ []
@@ -80,6 +81,10 @@ pub fn wrong_views()
         → slice_index state.words (lock_word node) ≡ lock_in rule.turns node }
     ensures strangers { (setup : Setup) (state : State Act View) (rule : KeepsRule setup state)
         (actor : ℕ) → setup.actors ≤ actor → events_of actor rule.turns ≡ [] }
+    ensures witnessed { (view : View) (seen : IsWitnessed view)
+        → KeepsRule view.setup seen.state }
+    ensures seat { (view : View) (seen : IsWitnessed view)
+        → IsViewOf seen.state.views seen.seat view }
 {}
 
 /// No other pass is inside a node just before a turn there is won or given back. A log in which a

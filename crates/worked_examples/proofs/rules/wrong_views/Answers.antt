@@ -46,3 +46,9 @@ returns-clause-locked c = λ setup state rule. rule.lock_words
 
 pub returns-clause-strangers : goal.returns-clause-strangers
 returns-clause-strangers c = λ setup state rule. rule.strangers
+
+pub returns-clause-witnessed : goal.returns-clause-witnessed
+returns-clause-witnessed c = λ view seen. seen.kept
+
+pub returns-clause-seat : goal.returns-clause-seat
+returns-clause-seat c = λ view seen. seen.view_is

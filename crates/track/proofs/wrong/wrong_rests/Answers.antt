@@ -1,0 +1,36 @@
+use Rattle.std.proofs.Common.{◌≡◌, ℕ, List, [], ◌∷◌, ◌++◌, Option, Some, None}
+use Rattle.track.proofs.wrong.wrong_rests.Goals as goal
+
+-- known bytes are one list
+same : (one other : List ℕ) → ◌≡◌ {A = Option (List ℕ)} (Some one) (Some other) → one ≡ other
+same one other e = cc
+
+some-no : (bytes : List ℕ) → ◌≡◌ {A = Option (List ℕ)} (Some bytes) None → ⊥
+some-no bytes e = cc
+
+other-end : (front : List ℕ) → ◌≡◌ {A = List ℕ} (1 ∷ []) (front ++ 2 ∷ []) → ⊥
+other-end [] e = cc
+other-end (x ∷ []) e = cc
+other-end (x ∷ y ∷ front) e = cc
+
+front-end : (front : List ℕ) → ◌≡◌ {A = List ℕ} (1 ∷ 2 ∷ []) (front ++ 1 ∷ []) → ⊥
+front-end [] e = cc
+front-end (x ∷ []) e = cc
+front-end (x ∷ y ∷ []) e = cc
+front-end (x ∷ y ∷ z ∷ front) e = cc
+
+more-end : (front : List ℕ) → ◌≡◌ {A = List ℕ} [] (front ++ 1 ∷ []) → ⊥
+more-end [] e = cc
+more-end (x ∷ front) e = cc
+
+pub returns-clause-other : goal.returns-clause-other
+returns-clause-other c = λ is. other-end is.front (same (1 ∷ []) (is.front ++ 2 ∷ []) is.parts)
+
+pub returns-clause-more : goal.returns-clause-more
+returns-clause-more c = λ is. more-end is.front (same [] (is.front ++ 1 ∷ []) is.parts)
+
+pub returns-clause-front : goal.returns-clause-front
+returns-clause-front c = λ is. front-end is.front (same (1 ∷ 2 ∷ []) (is.front ++ 1 ∷ []) is.parts)
+
+pub returns-clause-unknown : goal.returns-clause-unknown
+returns-clause-unknown c = λ is. some-no [] is.parts

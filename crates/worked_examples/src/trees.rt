@@ -1,0 +1,32 @@
+//! The parents in a tree of least walks, on a square with two ways to its far corner.
+ghost use Rattle.std.specs.Prelude.{◌≡◌, [], ◌∷◌, ℕ, List, Option, Some, None, length};
+ghost use Rattle.net_graph.specs.Trees.{AreParents, at_node};
+ghost use Rattle.worked_examples.specs.Trees.{joined_twice, square, square_weights};
+
+/// The parents in the square: none at the root, and at the far corner the lower of two that lead
+/// there.
+pub fn worked_parents()
+    ensures { AreParents square 0 square_weights (None ∷ Some 0 ∷ Some 0 ∷ Some 1 ∷ []) }
+{}
+
+/// What no parents are: one too few, one at the root, none elsewhere, one that isn't a node, the
+/// higher of two, one over no edge or from a node that is farther, and one over the heavier of two
+/// edges.
+pub fn wrong_parents()
+    ensures few { (parents : List (Option ℕ)) → length parents ≡ 3
+        → AreParents square 0 square_weights parents → ⊥ }
+    ensures root { (weights parents : List (Option ℕ)) (parent : ℕ)
+        → at_node parents 0 ≡ Some parent → AreParents square 0 weights parents → ⊥ }
+    ensures missing { (parents : List (Option ℕ)) → at_node parents 2 ≡ None
+        → AreParents square 0 square_weights parents → ⊥ }
+    ensures beyond { (weights parents : List (Option ℕ)) → at_node parents 2 ≡ Some 4
+        → AreParents square 0 weights parents → ⊥ }
+    ensures higher { (parents : List (Option ℕ)) → at_node parents 3 ≡ Some 2
+        → AreParents square 0 square_weights parents → ⊥ }
+    ensures far { (parents : List (Option ℕ)) → at_node parents 3 ≡ Some 0
+        → AreParents square 0 square_weights parents → ⊥ }
+    ensures farther { (parents : List (Option ℕ)) → at_node parents 1 ≡ Some 3
+        → AreParents square 0 square_weights parents → ⊥ }
+    ensures heavier { (parents : List (Option ℕ)) → at_node parents 1 ≡ Some 0
+        → AreParents joined_twice 0 (Some 0 ∷ Some 2 ∷ []) parents → ⊥ }
+{}
