@@ -15,8 +15,9 @@ A plant is a name, a file with what stands there and what stands there instead, 
 are written, whose proofs it doesn't read, and at least one must not be proved; each is checked with
 no plant first. `by: CRATE test` has the crate's tests run, with no proof, and one must fail; one
 that runs out of time fails too, so play these on a machine at rest.
-`by: bench` names work thrown away, which the counts of instructions alone refuse
-(bench/instructions.py); this script passes over it.
+`by: bench` names work or memory thrown away, which the counts of instructions or the least memory
+alone refuse (bench/instructions.py, bench/least_memory.py), and `by: examples` what examples/check
+refuses by its inputs at the limits; this script passes over both.
 
 The gate plays no plants: each takes from half a minute to some minutes. JOBS says how many are
 played at once (1, if it isn't set).
@@ -149,13 +150,13 @@ def main(words):
     found = [it for it in found if not words or any(w in it.source or w in it.name for w in words)]
     by_crate = {}
     for plant in found:
-        if plant.crate != "bench":
+        if plant.crate not in ("bench", "examples"):
             of_tests = plant.functions == ["test"]
             by_crate.setdefault((plant.crate, of_tests), []).append(plant)
     with concurrent.futures.ThreadPoolExecutor(int(os.environ.get("JOBS", "1"))) as pool:
         told = sum(pool.map(lambda plants: play_all(plants, top), by_crate.values()), [])
     refused = told.count("refused")
-    print(f"{refused} of {len(told)} plants refused, {len(found) - len(told)} for a bench")
+    print(f"{refused} of {len(told)} plants refused, {len(found) - len(told)} for benches and examples")
     return 0 if refused == len(told) else 1
 
 

@@ -7,6 +7,7 @@ ghost use Rattle.directory.specs.Writes.{visits};
 ghost use Rattle.region_plan.specs.Plan.{PlanData, home, nodes_of};
 ghost use Rattle.region_plan.specs.Kept.{IsKept};
 ghost use Rattle.region_plan.specs.Settings.{setting_of};
+ghost use Rattle.handset.specs.Beginning.{is_committing};
 ghost use Rattle.handset.specs.Kept.{GoesWith};
 ghost use Rattle.handset.specs.Progress.{after_write, due, erasing_from, first_with, go_on, is_behind, purging_at, settle};
 ghost use Rattle.handset.specs.Stands.{StandsForSteps, is_commit};
@@ -35,9 +36,10 @@ impl Handset {
         self.due(plan)
     }
 
-    /// Whether the write that comes next commits a move.
+    /// Whether the write that comes next commits a move; not so where none comes.
     pub fn commits(&self) -> bool
-        ensures { (plan : PlanData) (visit : Visit) → nodes_of plan ≤ 2 ^ 16
+        ensures stage { result ≡ is_committing self.now.stage }
+        ensures commit { (plan : PlanData) (visit : Visit) → nodes_of plan ≤ 2 ^ 16
             → GoesWith plan self.now → due (setting_of plan []) self.now ≡ Some visit
             → result ≡ is_commit visit.act }
     {

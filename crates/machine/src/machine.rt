@@ -4,14 +4,15 @@ ghost use Rattle.directory.specs.Histories.{History};
 ghost use Rattle.directory.specs.Orders.{after_turn, after_turns, history_of, last_turns, most_turns, next, IsDone};
 ghost use Rattle.directory.specs.Outcomes.{outcome_in, result_of};
 ghost use Rattle.net_reader.specs.Seen.{seen_input};
-ghost use Rattle.net_reader.specs.Valid.{IsValid};
+ghost use Rattle.net_reader.specs.Valid.{IsValid, count_calls};
+ghost use Rattle.scripts.specs.Scripts.{most_visits};
 ghost use Rattle.region_plan.specs.Plan.{nodes_of};
 ghost use Rattle.visit_log.specs.Cells.{GoWith, Hold};
 ghost use Rattle.visit_log.specs.Homes.{AreHomes};
 ghost use Rattle.visit_log.specs.Routes.{AreRoutes};
 ghost use Rattle.trail_laws.specs.Lines.{IsRightLine, TellInTurn, TellRisingNumbers};
 ghost use Rattle.machine.specs.Callers.{IsCaller};
-ghost use Rattle.machine.specs.Machines.{HasStridden, IsSame, HasHistory, scripts_at, setting_at};
+ghost use Rattle.machine.specs.Machines.{HasStridden, IsSame, HasHistory, input_at, scripts_at, setting_at};
 ghost use Rattle.machine.specs.Stands.{BelongTogether};
 ghost use Rattle.machine.specs.Subscribers.{IsSubscriber};
 ghost use Rattle.machine.specs.declared.caller.Caller.{Caller};
@@ -53,7 +54,8 @@ pub struct Machine<'a> {
 }
 
 impl<'a> Machine<'a> {
-    /// All actors before their first turns. It takes all memory that the machine needs.
+    /// All actors before their first turns. It takes all memory that the machine needs: room for the
+    /// actors of as many visits as the scripts may have, and for the lines of their calls, no more.
     pub fn new(
         alloc: Global,
         input: &'a Input,
@@ -65,6 +67,9 @@ impl<'a> Machine<'a> {
             (λ machine. (machine.input.now ≡ input.now) × (machine.plan.now ≡ plan.now)
             × (machine.distances.now ≡ distances.now)) }
         ensures stands { IfOk result (λ machine. HasHistory machine []) }
+        ensures room { IfOk result (λ machine. (vec_capacity machine.order
+            ≡ most_visits (setting_at machine) (input_at machine).scripts)
+            × (vec_capacity machine.calls ≡ count_calls (input_at machine).scripts)) }
     {
         let (homes, routes, cells) = cells_of(alloc, input, plan)?;
         let subscribers = subscribers_of(alloc, input, plan, distances)?;

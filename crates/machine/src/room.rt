@@ -13,7 +13,7 @@ use region_plan::Plan;
 use std::alloc::{AllocError, Global};
 use visit_log::Routes;
 
-// Room for the actors of all visits, and for the lines of all calls.
+// Room for the actors of all visits, and for the lines of all calls, and no more.
 pub fn rooms_for(
     alloc: Global,
     input: &Input,
@@ -26,9 +26,9 @@ pub fn rooms_for(
     ensures empty { IfOk result (λ rooms. (rooms.0.items ≡ []) × (rooms.1.items ≡ [])) }
     ensures visits { IfOk result (λ rooms. (starts : List ℕ)
         → most_visits (setting_of plan.now starts)
-        (map (λ script. script.items) input.now.scripts.items) ≤ vec_capacity rooms.0) }
+        (map (λ script. script.items) input.now.scripts.items) ≡ vec_capacity rooms.0) }
     ensures lines { IfOk result (λ rooms. count_calls
-        (map (λ script. script.items) input.now.scripts.items) ≤ vec_capacity rooms.1) }
+        (map (λ script. script.items) input.now.scripts.items) ≡ vec_capacity rooms.1) }
 {
     let visits = most_visits(plan, routes, &input.scripts)?;
     let order = Vec::with_capacity(alloc, visits as usize)?;

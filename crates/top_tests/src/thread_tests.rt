@@ -184,6 +184,29 @@ fn a_run_is_replayed(rt: HostRuntime) -> Result<(), Fail> {
     Ok(())
 }
 
+// A caller that makes all calls an input may have: its worker has room for their visits.
+#[test]
+fn a_script_of_all_calls(rt: HostRuntime) -> Result<(), Fail> {
+    let head = "track 2\nnodes 2\nk 1\nedge 0 1 1\nsub 0\ncallers 1\n";
+    let input = text_of(rt.alloc(), Lines(head, "", b"find 1 0 0\n", 16_384))?;
+    let run = Run {
+        most: 65_536,
+        room: 4_194_304,
+        ..run_of(&["run"], &input)
+    };
+    let ran = perform_by_threads(&rt, rt.alloc(), &run, &OpenGate, RUN_TRIES)?;
+    let replayed = perform(
+        rt.alloc(),
+        &Run {
+            words: &["replay"],
+            ..run
+        },
+    )?;
+    same_numbers(&rt, 0, &[u64::from(ran.status)], &[0]);
+    same_text(&rt, 0, &ran.written, &replayed.written);
+    Ok(())
+}
+
 // How often a caller reads the other's flag before it gives up.
 const MOST_READS: u64 = 200_000_000;
 

@@ -18,11 +18,15 @@ pub struct Places {
 }
 
 impl Model for Places {
+    ghost use Rattle.std.specs.Prelude.{◌≡◌, vec_capacity, vec_len};
     ghost use Rattle.visit_log.specs.Numbers.{PlaceData};
 
     ghost Value = { PlaceData };
 
     ghost view = { λ p. record { width = p.width; firsts = p.firsts.items } };
+
+    // No room is kept beside what is told.
+    ghost invariant = { λ p. vec_capacity p.firsts ≡ vec_len p.firsts };
 }
 
 impl Places {
@@ -33,7 +37,7 @@ impl Places {
         let mut first = plan.nodes();
         let mut firsts = Vec::with_capacity(alloc, plan.levels() as usize)?;
         for level in 0..plan.levels() {
-            firsts.push(first)?;
+            firsts.push_reserved(first);
             first += plan.clusters(level);
         }
         Ok(Places {

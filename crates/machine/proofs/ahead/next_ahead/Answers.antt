@@ -18,7 +18,7 @@ returns-clause-next c =
       visit = visit;
       key = c.in-Put.key;
       act = c.in-Put.is;
-      commits = c.commits-commits.ensures plan visit (omega (arith, c.plan_is_sound.ensures.sound.metric.few))
+      commits = c.commits-commits.ensures.commit plan visit (omega (arith, c.plan_is_sound.ensures.sound.metric.few))
           c.requires.goes is;
       cell = record { cell = cell.0; owner = cell.1; place = c.place.ensures };
       next = λ starts steps made stands. sym (c.write.ensures.visit starts steps made stands) ∙ c.in-Some.is;

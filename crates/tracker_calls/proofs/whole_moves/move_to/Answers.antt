@@ -48,7 +48,7 @@ puts-preserved-then-commits g c =
           c.put_when_free.new.handset ticket c.requires.of.setup put.1 c.puts.invariant.moving put.2
           c.commits-commits.result
           (subst (λ p. nodes_of p ≤ 2 ^ 16) c.requires.plan (omega (arith, c.plan_is_sound.ensures.sound.metric.few)))
-          c.commits-commits.ensures);
+          c.commits-commits.ensures.commit);
     }
 
 pub puts-preserved : goal.puts-preserved
@@ -65,7 +65,7 @@ puts-preserved g c =
           c.put_when_free.new.handset ticket c.requires.of.setup put.1 c.puts.invariant.moving put.2
           c.commits-commits.result
           (subst (λ p. nodes_of p ≤ 2 ^ 16) c.requires.plan (omega (arith, c.plan_is_sound.ensures.sound.metric.few)))
-          c.commits-commits.ensures);
+          c.commits-commits.ensures.commit);
     }
 
 pub returns : goal.returns

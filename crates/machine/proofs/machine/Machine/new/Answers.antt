@@ -1,4 +1,4 @@
-use Rattle.std.proofs.Common.{sym, ◌∙◌, refl}
+use Rattle.std.proofs.Common.{arith, sym, ◌∙◌, refl}
 use Rattle.net_reader.specs.Seen.{seen_input}
 use Rattle.region_plan.specs.Plan.{nodes_of}
 use Rattle.scripts.specs.Scripts.{scripts_of}
@@ -24,11 +24,15 @@ returns-clause-stands c = record {
     hold = c.in_ok-homes.ensures.opening;
   };
   order = c.in_ok-order.ensures.empty.0;
-  room = c.in_ok-order.ensures.visits c.args.input.now.homes.items;
+  room = omega (arith, c.in_ok-order.ensures.visits c.args.input.now.homes.items);
   subscribers_count = sym c.in_ok-subscribers.subscribers.ok.0 ∙ c.in_ok-subscribers.ensures.count;
   callers_count = sym c.in_ok-callers.callers.ok.0 ∙ c.in_ok-callers.ensures.count;
   subscribers = c.in_ok-subscribers.ensures.each;
   callers = c.in_ok-callers.ensures.each;
   calls = c.in_ok-order.ensures.empty.1;
-  total = c.in_ok-order.ensures.lines;
+  total = omega (arith, c.in_ok-order.ensures.lines);
 }
+
+pub returns-clause-room : goal.returns-clause-room
+returns-clause-room c =
+    (sym (c.in_ok-order.ensures.visits c.args.input.now.homes.items), sym c.in_ok-order.ensures.lines)

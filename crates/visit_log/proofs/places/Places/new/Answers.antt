@@ -39,19 +39,20 @@ more-firsts plan old new level first kept low have items = record {
 pub loop-level-preserved : goal.loop-level-preserved
 loop-level-preserved c =
     let plan = c.args.plan.now in
-    let more = more-firsts plan c.loop-level.firsts.items c.push.new.self.items c.loop-level.level c.loop-level.first
+    let more = more-firsts plan c.loop-level.firsts.items c.push_reserved.new.self.items c.loop-level.level c.loop-level.first
     c.nodes-first.ensures.sound (omega (arith, c.loop-level-test.true, c.levels-level-end.ensures)) (record {
       count = sym c.loop-level.firsts.ok.0 ∙ c.loop-level.invariant.count;
       each = c.loop-level.invariant.firsts;
       next = c.loop-level.invariant.first;
       few = c.loop-level.invariant.few;
-    }) c.in_ok-push.ensures.items in
+    }) c.push_reserved.ensures.items in
     record {
-      count = c.push.new.self.ok.0 ∙ more.count;
+      count = c.push_reserved.new.self.ok.0 ∙ more.count;
       firsts = more.each;
       first = ap (λ n. c.loop-level.first + n) c.clusters-first.ensures ∙ more.next;
       few = subst (λ n. c.loop-level.first + n ≤ 1024 * (c.loop-level.level + 1 + 1)) (sym c.clusters-first.ensures)
           more.few;
+      room = c.push_reserved.ensures.capacity ∙ c.loop-level.invariant.room;
     }
 
 pub returns : goal.returns
