@@ -1,6 +1,6 @@
 //! Handsets over the line 0 - 1 - 2 - 3 of unit weights, and over paths.
 ghost use Rattle.std.specs.Prelude.{◌≡◌, IfOk};
-ghost use Rattle.handset.specs.Kept.{GoesWith};
+ghost use Rattle.handset.specs.Condition.{GoesWith};
 
 use crate::sameness::same;
 use distances::Distances;

@@ -11,7 +11,7 @@ use Rattle.node_set.specs.SetLaws.{share_from, share_gives}
 use Rattle.whole_powers.specs.Bounds.{PowersAdd}
 use Rattle.whole_powers.specs.PowerLaws.{zero_pow}
 use Rattle.coarse_cover.specs.Coarsening.{is_enough, cluster_of, phase}
-use Rattle.coarse_cover.specs.Progress.{IsReady}
+use Rattle.coarse_cover.specs.HalfMade.{IsReady}
 use Rattle.node_set.specs.Balls.{ball, union_of, touches, growth, least, GrownCluster, IsShaped, is_homed}
 use Rattle.node_set.specs.GrowthLaws.{touching_below}
 use Rattle.node_set.specs.HomeLaws.{homed_here, homed_later, homed_cases}

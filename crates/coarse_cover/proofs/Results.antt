@@ -11,7 +11,7 @@ use Rattle.whole_powers.specs.Bounds.{PowersAdd, OnePhase}
 use Rattle.coarse_cover.specs.Coarsening.{without_home, all_clusters, coarsening, HomesAreFound}
 use Rattle.coarse_cover.specs.Coarsening.{ClustersAreShaped, CoversAreSparse}
 use Rattle.coarse_cover.specs.Covers.{cluster_list, as_cluster, IsCover, AreApart, member_lists}
-use Rattle.coarse_cover.specs.Progress.{phases_of, Agrees, IsBetween}
+use Rattle.coarse_cover.specs.HalfMade.{phases_of, Agrees, IsBetween}
 use Rattle.coarse_cover.specs.declared.cover.Cluster.{Cluster}
 use Rattle.coarse_cover.specs.declared.cover.Cover.{Cover}
 use Rattle.coarse_cover.proofs.Phase.{IsPhase, apart, phase_apart}

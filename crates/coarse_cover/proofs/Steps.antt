@@ -9,7 +9,7 @@ use Rattle.node_set.specs.HomeLaws.{home_step}
 use Rattle.node_set.specs.SetLaws.{has-passing, passing_over, ascending-passing}
 use Rattle.coarse_cover.specs.Coarsening.{cluster_of, phase, phases, without_home, all_clusters, coarsening}
 use Rattle.coarse_cover.specs.Covers.{cluster_list, as_cluster}
-use Rattle.coarse_cover.specs.Progress.{phase_of, phases_of, IsReady, Agrees, IsInPhase, IsBetween, IsAdded}
+use Rattle.coarse_cover.specs.HalfMade.{phase_of, phases_of, IsReady, Agrees, IsInPhase, IsBetween, IsAdded}
 use Rattle.coarse_cover.specs.declared.cover.Cluster.{Cluster}
 use Rattle.coarse_cover.specs.declared.cover.Cover.{Cover}
 use Rattle.node_set.specs.declared.workspace.Workspace.{Workspace}

@@ -10,7 +10,7 @@ use Rattle.node_set.specs.Ascending.{has}
 use Rattle.whole_powers.specs.Bounds.{PowersAdd, OnePhase}
 use Rattle.whole_powers.specs.PowerLaws.{zero_pow}
 use Rattle.coarse_cover.specs.Coarsening.{phase, without_home, phases, all_clusters}
-use Rattle.coarse_cover.specs.Progress.{IsReady}
+use Rattle.coarse_cover.specs.HalfMade.{IsReady}
 use Rattle.node_set.specs.Balls.{GrownCluster, IsShaped, is_homed}
 use Rattle.node_set.specs.FilterLaws.{filter-has, filter_halves, filter_fewer}
 use Rattle.coarse_cover.proofs.Phase.{IsPhase, ready_filter, phase_is, phase_size, phase_count, phase_once}

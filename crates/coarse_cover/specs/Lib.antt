@@ -1,4 +1,4 @@
 pub mod Coarsening
 pub mod Covers
 pub mod CoverLaws
-pub mod Progress
+pub mod HalfMade

@@ -5,7 +5,7 @@ ghost use Rattle.node_set.specs.Nodes.{Nodes};
 ghost use Rattle.coarse_cover.specs.Coarsening.{cluster_of};
 ghost use Rattle.node_set.specs.Turned.{AreTurned};
 ghost use Rattle.node_set.specs.Balls.{touches, sets};
-ghost use Rattle.coarse_cover.specs.Progress.{IsReady};
+ghost use Rattle.coarse_cover.specs.HalfMade.{IsReady};
 
 use node_set::{Growth, NodeSet, OutOfMemory, absorb_balls, empty_set, touch};
 use std::alloc::Global;

@@ -4,7 +4,7 @@ ghost use Rattle.std.specs.Prelude.{◌≡◌, ℕ, ◌+◌, ◌≤◌, ◌<◌,
 ghost use Rattle.node_set.specs.Nodes.{Nodes};
 ghost use Rattle.coarse_cover.specs.Coarsening.{cluster_of};
 ghost use Rattle.node_set.specs.Balls.{sets, AreCentred};
-ghost use Rattle.coarse_cover.specs.Progress.{IsReady, IsAdded, IsBetween};
+ghost use Rattle.coarse_cover.specs.HalfMade.{IsReady, IsAdded, IsBetween};
 ghost use Rattle.node_set.specs.Workspaces.{IsWorkspace};
 ghost use Rattle.node_set.specs.Turned.{AreTurned};
 

@@ -9,9 +9,9 @@ use Rattle.entry_word.specs.declared.visit.Act.TheVariants.{Look}
 use Rattle.entry_word.specs.declared.visit.Visit.{Visit}
 use Rattle.directory.specs.Settings.{Setting, subs}
 use Rattle.directory.specs.Histories.{History, cell, own, words_of, words_after, words_read}
-use Rattle.directory.specs.Finds.{FindCall, Stage, at_origin, after_word, answer_of, most_looks, looks_left}
+use Rattle.directory.specs.Finds.{FindCall, Pursuit, at_origin, after_word, answer_of, most_looks, looks_left}
 use Rattle.directory.specs.Looks.{look_by}
-use Rattle.directory.specs.Orders.{Scripts, finds_of, Caller, caller_at, with_stage, read_by, after_read, caller_after, caller_in, key_in, next_key, next, IsPlayed}
+use Rattle.directory.specs.Orders.{Scripts, finds_of, Caller, caller_at, with_pursuit, read_by, after_read, caller_after, caller_in, key_in, next_key, next, IsPlayed}
 use Rattle.directory.specs.declared.answers.Found.{Found}
 use Rattle.directory.proofs.HistoryLaws.{words-push}
 use Rattle.directory.proofs.FindLaws.{looks-fall}
@@ -59,9 +59,9 @@ played-words setting scripts history actor high played =
         (rw (append-nil (words_read setting actor (take t history)), append-nil (own actor (take t history))) same)
 
 -- the most looks that a caller still makes
-unfoldable pub left_of : Setting → List FindCall → Stage → ℕ
-left_of setting [] stage = 0
-left_of setting (call ∷ later) stage = looks_left setting call stage + sum_by
+unfoldable pub left_of : Setting → List FindCall → Pursuit → ℕ
+left_of setting [] pursuit = 0
+left_of setting (call ∷ later) pursuit = looks_left setting call pursuit + sum_by
     (λ (c : FindCall). most_looks setting c.from) later
 
 pub left_at_origin : (setting : Setting) (calls : List FindCall)
@@ -70,30 +70,30 @@ unfolding left_of
 left_at_origin setting [] = refl
 left_at_origin setting (call ∷ later) = sym (sum_by-cons (λ (c : FindCall). most_looks setting c.from) call later)
 
-stage_left : (setting : Setting) (caller : Caller) (call : FindCall) (later : List FindCall) (stage : Stage)
+pursuit_left : (setting : Setting) (caller : Caller) (call : FindCall) (later : List FindCall) (pursuit : Pursuit)
     (answer : Option Found) → caller.calls ≡ call ∷ later
-    → left_of setting (with_stage caller call later stage answer).calls
-    (with_stage caller call later stage answer).stage
-    ≤ looks_left setting call stage + sum_by (λ (c : FindCall). most_looks setting c.from) later
+    → left_of setting (with_pursuit caller call later pursuit answer).calls
+    (with_pursuit caller call later pursuit answer).pursuit
+    ≤ looks_left setting call pursuit + sum_by (λ (c : FindCall). most_looks setting c.from) later
 unfolding left_of
-stage_left setting caller call later stage None same =
-    subst (λ calls. left_of setting calls stage ≤ looks_left setting call stage + sum_by
+pursuit_left setting caller call later pursuit None same =
+    subst (λ calls. left_of setting calls pursuit ≤ looks_left setting call pursuit + sum_by
     (λ (c : FindCall). most_looks setting c.from) later) (sym same) (omega arith)
-stage_left setting caller call later stage (Some found) same = omega (arith, left_at_origin setting later)
+pursuit_left setting caller call later pursuit (Some found) same = omega (arith, left_at_origin setting later)
 
 -- each word leaves fewer
 pub read_left : (setting : Setting) (caller : Caller) (calls : List FindCall) (word : ℕ) (key : Key)
-    → caller.calls ≡ calls → key_in calls caller.stage ≡ Some key
+    → caller.calls ≡ calls → key_in calls caller.pursuit ≡ Some key
     → left_of setting (read_by setting caller calls word).calls
-    (read_by setting caller calls word).stage < left_of setting calls caller.stage
+    (read_by setting caller calls word).pursuit < left_of setting calls caller.pursuit
 unfolding left_of
 read_left setting caller [] word key same h = cc
 read_left setting caller (call ∷ later) word key same h =
     omega (
       arith,
-      looks-fall setting call caller.stage word key h,
-      stage_left setting caller call later (after_word setting call caller.stage word)
-          (answer_of (after_word setting call caller.stage word)) same,
+      looks-fall setting call caller.pursuit word key h,
+      pursuit_left setting caller call later (after_word setting call caller.pursuit word)
+          (answer_of (after_word setting call caller.pursuit word)) same,
     )
 
 pub caller-push : (setting : Setting) (calls : List FindCall) (words : List ℕ) (word : ℕ)
@@ -118,19 +118,19 @@ caller-look setting scripts history actor visit high h = at_key
 pub caller-few : (setting : Setting) (scripts : Scripts) (history : History) (actor : ℕ) → subs setting ≤ actor
     → IsPlayed setting scripts history
     → length (own actor history) + left_of setting (caller_in setting scripts history actor).calls
-    (caller_in setting scripts history actor).stage
+    (caller_in setting scripts history actor).pursuit
     ≤ sum_by (λ (call : FindCall). most_looks setting call.from) (finds_of setting scripts actor)
 unfolding words_after
 caller-few setting scripts history actor high played =
     by_fronts (λ front. length (own actor front) + left_of setting (caller_in setting scripts front actor).calls
-    (caller_in setting scripts front actor).stage
+    (caller_in setting scripts front actor).pursuit
     ≤ sum_by (λ (call : FindCall). most_looks setting call.from) (finds_of setting scripts actor)) history
     (omega (arith, left_at_origin setting (finds_of setting scripts actor)))
     (λ t visit h few. step t visit h few (visit.actor == actor) refl)
   where
     Few : History → Type 0
     Few front = length (own actor front) + left_of setting (caller_in setting scripts front actor).calls
-        (caller_in setting scripts front actor).stage
+        (caller_in setting scripts front actor).pursuit
         ≤ sum_by (λ (call : FindCall). most_looks setting call.from) (finds_of setting scripts actor)
 
     step : (t : ℕ) (visit : Visit) → slice_get history t ≡ Some visit → Few (take t history) → (b : Bool)

@@ -91,7 +91,7 @@ chase-hops setting call known last_known level weight way hops node last (word �
     ap (λ h. fold (after_word setting call) (after_mark setting
     (record { known = known; level = level; weight = weight; hops_left = h }) node (mark_in word)) words)
     (let e : suc (length words) + hops ≡ suc (length words + hops) = omega arith in e)
-    ∙ (ap (λ stage. fold (after_word setting call) stage words)
+    ∙ (ap (λ pursuit. fold (after_word setting call) pursuit words)
     (hop-once setting known level weight (length words + hops) node (mark_in word) leads.0 leads.2)
     ∙ (chase-hops setting call (known_after known (mark_in word)) last_known level
     (weight + setting.distance node leads.0) leads.1 hops leads.0 last words leads.4

@@ -8,9 +8,9 @@ use Rattle.directory.specs.Settings.{Setting}
 use Rattle.directory.specs.Histories.{History, cell, tickets, words_read}
 use Rattle.directory.specs.Courses.{after_step}
 use Rattle.directory.specs.Writes.{step_writes, writes}
-use Rattle.directory.specs.Finds.{Stage, after_word, answer_of}
+use Rattle.directory.specs.Finds.{Pursuit, after_word, answer_of}
 use Rattle.directory.specs.Looks.{look_by}
-use Rattle.directory.specs.Orders.{Scripts, finds_of, Answer, Caller, with_stage, caller_in, after_turns, most_turns, IsDone}
+use Rattle.directory.specs.Orders.{Scripts, finds_of, Answer, Caller, with_pursuit, caller_in, after_turns, most_turns, IsDone}
 use Rattle.directory.specs.Outcomes.{step_line, step_lines, found_line, answer_line}
 use Rattle.directory.specs.declared.answers.Found.{Found}
 use Rattle.directory.specs.Statements.{TurnsEndAlike, StepLinesGrow, CallersRead, CallerLinesGrow, CallersKept, CallersCount}
@@ -126,13 +126,13 @@ caller_lines-push setting scripts history actor key call later high played same 
       eq-eqb actor actor refl,
       same,
     )
-    (at_answer (answer_of stage))
+    (at_answer (answer_of pursuit))
   where
     caller : Caller
     caller = caller_in setting scripts history actor
 
-    stage : Stage
-    stage = after_word setting call caller.stage (cell setting history key)
+    pursuit : Pursuit
+    pursuit = after_word setting call caller.pursuit (cell setting history key)
 
     seen : List ℕ
     seen = tickets actor history
@@ -145,7 +145,7 @@ caller_lines-push setting scripts history actor key call later high played same 
     at_end = get_or_push seen (length history) 0 (length seen) refl
 
     at_answer : (o : Option Found)
-        → map (answer_line actor (seen ++ length history ∷ [])) (with_stage caller call later stage o).answers
+        → map (answer_line actor (seen ++ length history ∷ [])) (with_pursuit caller call later pursuit o).answers
         ≡ map (answer_line actor seen) caller.answers
         ++ option_to_list (option_map (λ (found : Found). found_line actor call found
         (slice_index (seen ++ length history ∷ []) caller.first) (length history)) o)

@@ -12,7 +12,7 @@ use Rattle.directory.specs.Histories.{History, word_after, cell, before, puts_to
 use Rattle.directory.specs.Writes.{writes, visits}
 use Rattle.directory.specs.Puts.{node_put, mark_put}
 use Rattle.directory.specs.Standing.{Commit, commits, confirms, standing, passage_of, passage}
-use Rattle.directory.specs.Finds.{FindCall, Stage, after_word, looks_left}
+use Rattle.directory.specs.Finds.{FindCall, Pursuit, after_word, looks_left}
 use Rattle.directory.specs.Looks.{look_by, AreLooks}
 use Rattle.directory.specs.Orders.{steps_of, caller_in, next_key, next}
 use Rattle.directory.proofs.HistoryLaws.{cell-after}
@@ -85,16 +85,17 @@ pub passage-last : (setting : Setting) (sub : ℕ) (history : History) (earlier 
 passage-last setting sub history earlier last h = ap (passage_of setting (puts_to sub history))
     (ap (last_or None) h ∙ last_or-push None earlier last)
 
--- a find has no look more than its stage leaves
-pub looks-short : (setting : Setting) (history : History) (actor : ℕ) (call : FindCall) (earliest : ℕ) (stage : Stage)
+-- a find has no look more than its pursuit leaves
+pub looks-short : (setting : Setting) (history : History) (actor : ℕ) (call : FindCall) (earliest : ℕ)
+    (pursuit : Pursuit)
     (tickets : List ℕ)
-    → AreLooks setting history actor call earliest stage tickets → length tickets ≤ looks_left setting call stage
+    → AreLooks setting history actor call earliest pursuit tickets → length tickets ≤ looks_left setting call pursuit
 unfolding AreLooks
-looks-short setting history actor call earliest stage [] looks = omega arith
-looks-short setting history actor call earliest stage (ticket ∷ later) (first, (key, wanted, is_look, rest)) =
+looks-short setting history actor call earliest pursuit [] looks = omega arith
+looks-short setting history actor call earliest pursuit (ticket ∷ later) (first, (key, wanted, is_look, rest)) =
     omega (
       arith,
-      looks-fall setting call stage (cell setting (before ticket history) key) key wanted,
+      looks-fall setting call pursuit (cell setting (before ticket history) key) key wanted,
       looks-short setting history actor call (suc ticket)
-          (after_word setting call stage (cell setting (before ticket history) key)) later rest,
+          (after_word setting call pursuit (cell setting (before ticket history) key)) later rest,
     )

@@ -12,16 +12,16 @@ use Rattle.entry_word.specs.declared.visit.Key.{Key}
 use Rattle.entry_word.specs.declared.visit.Visit.{Visit}
 use Rattle.directory.specs.Settings.{Setting, subs}
 use Rattle.directory.specs.Histories.{History, before, cell, tickets_from, tickets, words_of, words_by, words_at, words_after, words_read}
-use Rattle.directory.specs.Finds.{FindCall, Stage, at_origin, after_word, key_of, answer_of}
+use Rattle.directory.specs.Finds.{FindCall, Pursuit, at_origin, after_word, key_of, answer_of}
 use Rattle.directory.specs.Looks.{look_by, AreLooks, IsFind}
-use Rattle.directory.specs.Orders.{Scripts, finds_of, Answer, Caller, with_stage, read_by, caller_in, key_in, next_key, next, IsPlayed}
+use Rattle.directory.specs.Orders.{Scripts, finds_of, Answer, Caller, with_pursuit, read_by, caller_in, key_in, next_key, next, IsPlayed}
 use Rattle.directory.specs.Outcomes.{FollowEachOther}
 use Rattle.directory.specs.declared.answers.Found.{Found}
 use Rattle.directory.proofs.HistoryLaws.{words-push}
 use Rattle.directory.proofs.CallerLaws.{caller-look, caller-push}
 use Rattle.directory.proofs.TicketLaws.{tickets-push}
 use Rattle.directory.specs.StepLaws.{by_fronts}
-use Rattle.directory.specs.LookLaws.{stage_after, stage-step, answer-ends}
+use Rattle.directory.specs.LookLaws.{pursuit_after, pursuit-step, answer-ends}
 
 unfoldable pub after_last : ℕ → List ℕ → ℕ
 after_last earliest [] = earliest
@@ -38,29 +38,30 @@ flat_map-push f [] x = append-nil (f x)
 flat_map-push f (y ∷ xs) x = ap (λ zs. f y ++ zs) (flat_map-push f xs x)
     ∙ sym (append_assoc (f y) (flat_map f xs) (f x))
 
-stage-push : (setting : Setting) (history : History) (actor : ℕ) (call : FindCall) (stage : Stage) (sofar : List ℕ)
+pursuit-push : (setting : Setting) (history : History) (actor : ℕ) (call : FindCall) (pursuit : Pursuit)
+    (sofar : List ℕ)
     (ticket : ℕ) (key : Key) → slice_get history ticket ≡ Some (look_by actor key)
-    → stage_after setting history call stage (sofar ++ ticket ∷ [])
-    ≡ after_word setting call (stage_after setting history call stage sofar)
+    → pursuit_after setting history call pursuit (sofar ++ ticket ∷ [])
+    ≡ after_word setting call (pursuit_after setting history call pursuit sofar)
     (cell setting (before ticket history) key)
-stage-push setting history actor call stage sofar ticket key h =
-    ap (fold (after_word setting call) stage) (flat_map-push (words_at setting history) sofar ticket
+pursuit-push setting history actor call pursuit sofar ticket key h =
+    ap (fold (after_word setting call) pursuit) (flat_map-push (words_at setting history) sofar ticket
     ∙ ap (λ ws. flat_map (words_at setting history) sofar ++ ws)
     (words_at-look setting history actor ticket key h))
-    ∙ fold-append (after_word setting call) stage (flat_map (words_at setting history) sofar)
+    ∙ fold-append (after_word setting call) pursuit (flat_map (words_at setting history) sofar)
     (cell setting (before ticket history) key ∷ [])
 
 -- one look more
 looks-push : (setting : Setting) (history : History) (actor : ℕ) (call : FindCall) (sofar : List ℕ) (earliest : ℕ)
-    (stage : Stage) (ticket : ℕ) (key : Key)
-    → AreLooks setting history actor call earliest stage sofar → after_last earliest sofar ≤ ticket
-    → key_of call (stage_after setting history call stage sofar) ≡ Some key
+    (pursuit : Pursuit) (ticket : ℕ) (key : Key)
+    → AreLooks setting history actor call earliest pursuit sofar → after_last earliest sofar ≤ ticket
+    → key_of call (pursuit_after setting history call pursuit sofar) ≡ Some key
     → slice_get history ticket ≡ Some (look_by actor key)
-    → AreLooks setting history actor call earliest stage (sofar ++ ticket ∷ [])
+    → AreLooks setting history actor call earliest pursuit (sofar ++ ticket ∷ [])
 unfolding AreLooks after_last
-looks-push setting history actor call [] earliest stage ticket key looks low wanted is_look =
+looks-push setting history actor call [] earliest pursuit ticket key looks low wanted is_look =
     (low, (key, wanted, is_look, tt))
-looks-push setting history actor call (t ∷ sofar) earliest stage ticket key
+looks-push setting history actor call (t ∷ sofar) earliest pursuit ticket key
     (first, (k, is_wanted, its_look, rest)) low wanted is_look = (
       first,
       (
@@ -68,9 +69,9 @@ looks-push setting history actor call (t ∷ sofar) earliest stage ticket key
         is_wanted,
         its_look,
         looks-push setting history actor call sofar (suc t)
-            (after_word setting call stage (cell setting (before t history) k)) ticket key rest low
-            (subst (λ (s : Stage). key_of call s ≡ Some key)
-            (stage-step setting history actor call stage t k sofar its_look) wanted) is_look,
+            (after_word setting call pursuit (cell setting (before t history) k)) ticket key rest low
+            (subst (λ (s : Pursuit). key_of call s ≡ Some key)
+            (pursuit-step setting history actor call pursuit t k sofar its_look) wanted) is_look,
       ),
     )
 
@@ -80,11 +81,11 @@ unfolding after_last
 after_last-push earliest [] ticket = refl
 after_last-push earliest (t ∷ sofar) ticket = after_last-push (suc t) sofar ticket
 
--- a find that is at a stage: these looks were made, before this ticket
-pub record IsAt (setting : Setting) (history : History) (actor : ℕ) (call : FindCall) (now : ℕ) (stage : Stage)
+-- a find that is at a pursuit: these looks were made, before this ticket
+pub record IsAt (setting : Setting) (history : History) (actor : ℕ) (call : FindCall) (now : ℕ) (pursuit : Pursuit)
     (seen : List ℕ) : Type 0 where
   pub looks : AreLooks setting history actor call 0 at_origin seen
-  pub reads : stage_after setting history call at_origin seen ≡ stage
+  pub reads : pursuit_after setting history call at_origin seen ≡ pursuit
   pub low : after_last 0 seen ≤ now
 
 -- a find that was answered: its looks have the tickets from its first place to its last
@@ -124,14 +125,14 @@ pub record IsUnderWay (setting : Setting) (history : History) (actor : ℕ) (fin
   pub done : All (IsAnswered setting history actor ticketed) caller.answers
   pub script : finds ≡ map (λ (answer : Answer). answer.call) caller.answers ++ caller.calls
   pub current : (call : FindCall) (later : List FindCall) → caller.calls ≡ call ∷ later
-      → IsAt setting history actor call now caller.stage (drop caller.first ticketed)
+      → IsAt setting history actor call now caller.pursuit (drop caller.first ticketed)
   pub follow : FollowEachOther 0 caller.answers
   pub ends : end_place 0 caller.answers ≤ caller.first
 
-later_than : (setting : Setting) (history : History) (actor : ℕ) (call : FindCall) (now more : ℕ) (stage : Stage)
-    (seen : List ℕ) → now ≤ more → IsAt setting history actor call now stage seen
-    → IsAt setting history actor call more stage seen
-later_than setting history actor call now more stage seen h far = record
+later_than : (setting : Setting) (history : History) (actor : ℕ) (call : FindCall) (now more : ℕ) (pursuit : Pursuit)
+    (seen : List ℕ) → now ≤ more → IsAt setting history actor call now pursuit seen
+    → IsAt setting history actor call more pursuit seen
+later_than setting history actor call now more pursuit seen h far = record
     { looks = far.looks; reads = far.reads; low = omega (arith, h, far.low) }
 
 -- the tickets of a find that was answered stay
@@ -166,30 +167,30 @@ answered-more setting history actor ticketed more (answer ∷ answers) all =
 look_more : (setting : Setting) (history : History) (actor : ℕ) (finds : List FindCall) (ticketed : List ℕ) (now : ℕ)
     (caller : Caller) (call : FindCall) (later : List FindCall) (key : Key)
     → IsUnderWay setting history actor finds ticketed now caller → caller.calls ≡ call ∷ later
-    → key_of call caller.stage ≡ Some key → slice_get history now ≡ Some (look_by actor key)
-    → (o : Option Found) → answer_of (after_word setting call caller.stage (cell setting (before now history) key))
+    → key_of call caller.pursuit ≡ Some key → slice_get history now ≡ Some (look_by actor key)
+    → (o : Option Found) → answer_of (after_word setting call caller.pursuit (cell setting (before now history) key))
     ≡ o
     → IsUnderWay setting history actor finds (ticketed ++ now ∷ []) (suc now)
-    (with_stage caller call later (after_word setting call caller.stage (cell setting (before now history) key))
+    (with_pursuit caller call later (after_word setting call caller.pursuit (cell setting (before now history) key))
     o)
 unfolding AreLooks after_last
 look_more setting history actor finds ticketed now caller call later key far calls wanted is_look o answer = at_answer
     o answer
   where
-    stage : Stage
-    stage = after_word setting call caller.stage (cell setting (before now history) key)
+    pursuit : Pursuit
+    pursuit = after_word setting call caller.pursuit (cell setting (before now history) key)
 
-    so_far : IsAt setting history actor call now caller.stage (drop caller.first ticketed)
+    so_far : IsAt setting history actor call now caller.pursuit (drop caller.first ticketed)
     so_far = far.current call later calls
 
     longer : drop caller.first (ticketed ++ now ∷ []) ≡ drop caller.first ticketed ++ now ∷ []
     longer = drop-append-le caller.first ticketed (now ∷ []) (omega (arith, far.low, far.count))
 
-    pushed : IsAt setting history actor call (suc now) stage (drop caller.first ticketed ++ now ∷ [])
+    pushed : IsAt setting history actor call (suc now) pursuit (drop caller.first ticketed ++ now ∷ [])
     pushed = record {
       looks = looks-push setting history actor call (drop caller.first ticketed) 0 at_origin now key so_far.looks
-          so_far.low (subst (λ (s : Stage). key_of call s ≡ Some key) (sym so_far.reads) wanted) is_look;
-      reads = stage-push setting history actor call at_origin (drop caller.first ticketed) now key is_look
+          so_far.low (subst (λ (s : Pursuit). key_of call s ≡ Some key) (sym so_far.reads) wanted) is_look;
+      reads = pursuit-push setting history actor call at_origin (drop caller.first ticketed) now key is_look
           ∙ ap (λ s. after_word setting call s (cell setting (before now history) key)) so_far.reads;
       low = omega (arith, after_last-push 0 (drop caller.first ticketed) now);
     }
@@ -197,18 +198,18 @@ look_more setting history actor finds ticketed now caller call later key far cal
     counted : suc caller.next ≡ length (ticketed ++ now ∷ [])
     counted = omega (arith, far.count, length_push ticketed now)
 
-    at_answer : (o : Option Found) → answer_of stage ≡ o
+    at_answer : (o : Option Found) → answer_of pursuit ≡ o
         → IsUnderWay setting history actor finds (ticketed ++ now ∷ []) (suc now)
-        (with_stage caller call later stage o)
+        (with_pursuit caller call later pursuit o)
     at_answer None e = record {
       count = counted;
       low = omega (arith, far.low);
       done = answered-more setting history actor ticketed (now ∷ []) caller.answers far.done;
       script = far.script;
       current = λ c l same. let its : call ∷ later ≡ c ∷ l = sym calls ∙ same in let is_call : call ≡ c = cc in
-          subst (λ (x : FindCall). IsAt setting history actor x (suc now) stage
+          subst (λ (x : FindCall). IsAt setting history actor x (suc now) pursuit
           (drop caller.first (ticketed ++ now ∷ []))) is_call
-          (subst (λ seen. IsAt setting history actor call (suc now) stage seen) (sym longer) pushed);
+          (subst (λ seen. IsAt setting history actor call (suc now) pursuit seen) (sym longer) pushed);
       follow = far.follow;
       ends = far.ends;
     }
@@ -247,7 +248,7 @@ look_more setting history actor finds ticketed now caller call later key far cal
           within = omega (arith, counted);
           order = far.low;
           find = subst (λ seen. IsFind setting history actor call found seen) (sym all_seen)
-              (record { looks = pushed.looks; answer = pushed.reads ∙ answer-ends stage found e });
+              (record { looks = pushed.looks; answer = pushed.reads ∙ answer-ends pursuit found e });
         }
 
         none_left : drop (suc caller.next) (ticketed ++ now ∷ []) ≡ []
@@ -324,7 +325,7 @@ under_way setting scripts history actor high played =
             read : words_of setting (take t history) visit.act ≡ cell setting (take t history) key ∷ []
             read = ap (λ (v : Visit). words_of setting (take t history) v.act) is_look
 
-            at_calls : (calls : List FindCall) → caller.calls ≡ calls → key_in calls caller.stage ≡ Some key
+            at_calls : (calls : List FindCall) → caller.calls ≡ calls → key_in calls caller.pursuit ≡ Some key
                 → IsUnderWay setting history actor (finds_of setting scripts actor)
                 (tickets actor (take t history) ++ t ∷ []) (suc t)
                 (read_by setting caller calls (cell setting (take t history) key))
@@ -334,4 +335,4 @@ under_way setting scripts history actor high played =
                 (tickets actor (take t history)) t caller call later key
                 (subst (λ n. IsUnderWay setting history actor (finds_of setting scripts actor)
                 (tickets actor (take t history)) n caller) here far) same k (h ∙ ap Some is_look)
-                (answer_of (after_word setting call caller.stage (cell setting (before t history) key))) refl
+                (answer_of (after_word setting call caller.pursuit (cell setting (before t history) key))) refl

@@ -14,7 +14,7 @@ use Rattle.directory.specs.Keys.{key_sub, opening, same_key}
 use Rattle.directory.specs.Histories.{History, cell, own, puts_to, tickets, word_after, IsFront}
 use Rattle.directory.specs.Courses.{Course, MayStep, Step, after_steps, stop, move_to}
 use Rattle.directory.specs.Writes.{step_writes, visit_of, visits, writes, most_writes}
-use Rattle.directory.specs.Finds.{FindCall, after_word, answer_of, Stage, key_of, looks_left}
+use Rattle.directory.specs.Finds.{FindCall, after_word, answer_of, Pursuit, key_of, looks_left}
 use Rattle.directory.specs.Looks.{look_by}
 use Rattle.directory.specs.Puts.{course_in, ends_off, mark_put, mark_step, node_put, puts_left, steps_in}
 use Rattle.directory.specs.Amid.{IsAmid}
@@ -89,9 +89,10 @@ MovesAreShort =
 -- each look of a find leaves fewer (`looks_fall`)
 abbrev pub LooksFall : Type 0
 LooksFall =
-    (setting : Setting) (call : FindCall) (stage : Stage) (word : ℕ) (key : Key)
-    → key_of call stage ≡ Some key
-    → looks_left setting call (after_word setting call stage word) < looks_left setting call stage
+    (setting : Setting) (call : FindCall) (pursuit : Pursuit) (word : ℕ) (key : Key)
+    → key_of call pursuit ≡ Some key
+    → looks_left setting call (after_word setting call pursuit word)
+    < looks_left setting call pursuit
 
 -- a census lists just the subscribers whose presence cell at the node says that they are here
 -- (`census_members`)
@@ -342,7 +343,7 @@ CallerLinesGrow =
     ++ option_to_list (option_map (λ found. found_line actor call found
     (slice_index (tickets actor history ++ length history ∷ [])
     (caller_in setting scripts history actor).first) (length history))
-    (answer_of (after_word setting call (caller_in setting scripts history actor).stage
+    (answer_of (after_word setting call (caller_in setting scripts history actor).pursuit
     (cell setting history key))))
 
 -- a visit of another changes nothing of a caller (`lines_grow`)

@@ -1,6 +1,6 @@
 //! Laws of finds.
 ghost use Rattle.std.specs.Prelude.{List, Option, fold, length, ℕ, ◌++◌, ◌+◌, ◌≡◌, ◌≤◌};
-ghost use Rattle.directory.specs.Finds.{FindCall, Reader, Stage, after_word, chases, climb, ended, looks_left};
+ghost use Rattle.directory.specs.Finds.{FindCall, Reader, Pursuit, after_word, chases, climb, ended, looks_left};
 ghost use Rattle.directory.specs.Histories.{History, tickets};
 ghost use Rattle.directory.specs.Looks.{AreLooks};
 ghost use Rattle.directory.specs.Parts.{AreNothing, LeadOn, climb_weight};
@@ -22,9 +22,9 @@ pub fn looks_fall()
 /// So no find is longer than its most looks.
 pub fn finds_are_short()
     ensures { (setting : Setting) (history : History) (actor : ℕ) (call : FindCall) (earliest : ℕ)
-        (stage : Stage) (tickets : List ℕ)
-        → AreLooks setting history actor call earliest stage tickets
-        → length tickets ≤ looks_left setting call stage }
+        (pursuit : Pursuit) (tickets : List ℕ)
+        → AreLooks setting history actor call earliest pursuit tickets
+        → length tickets ≤ looks_left setting call pursuit }
 {}
 
 /// The climb and the chase of a find: looks that find nothing, and looks that lead on.

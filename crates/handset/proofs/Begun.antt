@@ -11,8 +11,8 @@ use Rattle.directory.specs.Writes.{visit_of, visits, step_writes, trail, mark_at
 use Rattle.region_plan.specs.Kept.{IsKept}
 use Rattle.region_plan.specs.Plan.{PlanData, nodes_of, levels_of}
 use Rattle.handset.specs.declared.stage.Stage.TheVariants.{Resting, Coming, Switching}
-use Rattle.handset.specs.Kept.{GoesWith, HandsetData}
-use Rattle.handset.specs.Progress.{left_at}
+use Rattle.handset.specs.Condition.{GoesWith, HandsetData}
+use Rattle.handset.specs.StepWrites.{left_at}
 use Rattle.handset.specs.Beginning.{begin_move, handset_at, journey_to, renewal_in, gathered_then}
 use Rattle.directory.specs.Amid.{course_of}
 use Rattle.handset.specs.Stands.{switch_to, commits_in, Shows, StandsAt, StandsForSteps}

@@ -14,8 +14,8 @@ use Rattle.region_plan.specs.Settings.{setting_of}
 use Rattle.handset.specs.declared.stage.Stage.{Stage}
 use Rattle.handset.specs.declared.stage.Stage.TheVariants.{Resting, Coming, Renewing, Committing, Confirming, Erasing, Purging, Switching}
 use Rattle.handset.specs.Beginning.{is_committing}
-use Rattle.handset.specs.Kept.{GoesWith, HandsetData, begun_at}
-use Rattle.handset.specs.Progress.{due, due_at, erasure}
+use Rattle.handset.specs.Condition.{GoesWith, HandsetData, begun_at}
+use Rattle.handset.specs.StepWrites.{due, due_at, erasure}
 use Rattle.handset.specs.Stands.{is_commit}
 
 pub commits-is : MarksUnpack → (plan : PlanData) (handset : HandsetData) (visit : Visit) → GoesWith plan handset

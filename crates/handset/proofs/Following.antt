@@ -6,8 +6,8 @@ use Rattle.directory.specs.Settings.{Setting}
 use Rattle.region_plan.specs.Plan.{PlanData}
 use Rattle.region_plan.specs.Settings.{setting_of}
 use Rattle.handset.specs.Entries.{EntryWrite, at_entry, entry_put, entry_write, erasure_to, stage_at}
-use Rattle.handset.specs.Kept.{GoesWith, HandsetData}
-use Rattle.handset.specs.Progress.{after_write, due, erasing_at, first_with, go_on, is_old}
+use Rattle.handset.specs.Condition.{GoesWith, HandsetData}
+use Rattle.handset.specs.StepWrites.{after_write, due, erasing_at, first_with, go_on, is_old}
 use Rattle.handset.specs.declared.entries.EntryStage.{EntryStage}
 use Rattle.handset.specs.declared.entries.EntryStage.TheVariants as entries
 use Rattle.handset.specs.declared.stage.Stage.TheVariants.{Renewing, Committing, Erasing}

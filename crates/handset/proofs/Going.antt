@@ -10,8 +10,8 @@ use Rattle.region_plan.specs.Kept.{IsKept}
 use Rattle.region_plan.specs.Settings.{setting_of}
 use Rattle.handset.specs.declared.stage.Stage.{Stage}
 use Rattle.handset.specs.declared.stage.Stage.TheVariants.{Resting, Coming, Renewing, Committing, Confirming, Erasing, Purging, Switching}
-use Rattle.handset.specs.Kept.{HandsetData, GoesWith, IsMoveStage, begun_at}
-use Rattle.handset.specs.Progress.{first_with, is_old, is_behind, purging_at, purging_from, erasing_at, erasing_from, settle, go_on}
+use Rattle.handset.specs.Condition.{HandsetData, GoesWith, IsMoveStage, begun_at}
+use Rattle.handset.specs.StepWrites.{first_with, is_old, is_behind, purging_at, purging_from, erasing_at, erasing_from, settle, go_on}
 use Rattle.handset.specs.Beginning.{gathered_then, gathered_after, journey_to, begin_move}
 use Rattle.handset.proofs.Lists.{first-inside, numbers-from-zero}
 use Rattle.directory.specs.StepLaws.{highest-low}

@@ -6,8 +6,8 @@ use Rattle.directory.specs.Settings.{Setting, levels}
 use Rattle.directory.specs.Courses.{Step, Move, Course, address_node, gathered_weight, next_move}
 use Rattle.directory.specs.Writes.{visit_of, visits, trail}
 use Rattle.handset.specs.declared.stage.Stage.{Stage}
-use Rattle.handset.specs.Kept.{HandsetData}
-use Rattle.handset.specs.Progress.{left_at}
+use Rattle.handset.specs.Condition.{HandsetData}
+use Rattle.handset.specs.StepWrites.{left_at}
 use Rattle.directory.specs.Amid.{course_of}
 use Rattle.handset.specs.Stands.{ComesNext, Shows, StandsAt, StandsForSteps, number_at, place_at, under_way}
 

@@ -5,7 +5,7 @@ use Rattle.std.specs.Prelude.{slice_get, get_or, not, nat_le, ◌==◌}
 use Rattle.node_set.specs.Ascending.{sift}
 use Rattle.directory.specs.Courses.{highest}
 use Rattle.directory.specs.Writes.{numbers_from}
-use Rattle.handset.specs.Progress.{first_with}
+use Rattle.handset.specs.StepWrites.{first_with}
 
 -- a test of some numbers up to an end, at one of them and at the end
 pub first-step : (test : ℕ → Bool) (x limit : ℕ) → x < limit → first_with test x (limit - x)

@@ -13,8 +13,8 @@ use Rattle.handset.specs.declared.stage.Stage.{Stage}
 use Rattle.handset.specs.declared.stage.Stage.TheVariants.{Resting, Coming, Renewing, Committing, Confirming, Erasing, Purging, Switching}
 use Rattle.region_plan.specs.Kept.{IsKept}
 use Rattle.region_plan.specs.Settings.{setting_of}
-use Rattle.handset.specs.Kept.{HandsetData, GoesWith, begun_at}
-use Rattle.handset.specs.Progress.{renew_from, erase_from, due_at, due, left_at, go_on, after_write, erasing_from, purging_from}
+use Rattle.handset.specs.Condition.{HandsetData, GoesWith, begun_at}
+use Rattle.handset.specs.StepWrites.{renew_from, erase_from, due_at, due, left_at, go_on, after_write, erasing_from, purging_from}
 use Rattle.directory.specs.Amid.{course_of}
 use Rattle.handset.specs.Stands.{switch_to, Shows, StandsAt, StandsForSteps}
 use Rattle.handset.proofs.Lists.{drop-head, drop-tail, drop-inside, drop-none}

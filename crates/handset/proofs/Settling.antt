@@ -8,8 +8,8 @@ use Rattle.directory.specs.Settings.{Setting, start}
 use Rattle.directory.specs.Courses.{Step, move_to, Course, course_at, last_stop, address_node, gathered_weight, next_move, after_step, after_steps}
 use Rattle.directory.specs.Writes.{visits, trail}
 use Rattle.handset.specs.declared.stage.Stage.TheVariants.{Confirming}
-use Rattle.handset.specs.Kept.{HandsetData}
-use Rattle.handset.specs.Progress.{settle}
+use Rattle.handset.specs.Condition.{HandsetData}
+use Rattle.handset.specs.StepWrites.{settle}
 use Rattle.directory.specs.Amid.{course_of}
 use Rattle.handset.specs.Stands.{Shows, StandsForSteps}
 use Rattle.handset.proofs.Going.{readdressed}

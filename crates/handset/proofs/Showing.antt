@@ -13,7 +13,7 @@ use Rattle.directory.specs.Settings.{Setting, start}
 use Rattle.directory.specs.Puts.{ends_off, mark_put, node_put}
 use Rattle.directory.specs.Standing.{Commit, commit_of}
 use Rattle.directory.specs.Writes.{mark_at, entry_at, visit_of}
-use Rattle.handset.specs.Kept.{HandsetData}
+use Rattle.handset.specs.Condition.{HandsetData}
 use Rattle.handset.specs.Stands.{commits_in, Shows}
 use Rattle.handset.proofs.Lists.{take-next}
 

@@ -8,8 +8,8 @@ use Rattle.directory.specs.Settings.{Setting, levels}
 use Rattle.directory.specs.Courses.{Course, address_node}
 use Rattle.directory.specs.Writes.{Write, mark_at, entry_at, new_address, numbers_from, old_home, erasure_writes, purge_writes, trail, move_writes}
 use Rattle.handset.specs.declared.stage.Stage.TheVariants.{Resting, Coming, Renewing, Committing}
-use Rattle.handset.specs.Kept.{HandsetData}
-use Rattle.handset.specs.Progress.{erasure, is_old, is_behind, purge_from, erase_from, commit, renew_from, left_at, first_with, purging_at, purging_from, erasing_at, erasing_from}
+use Rattle.handset.specs.Condition.{HandsetData}
+use Rattle.handset.specs.StepWrites.{erasure, is_old, is_behind, purge_from, erase_from, commit, renew_from, left_at, first_with, purging_at, purging_from, erasing_at, erasing_from}
 use Rattle.handset.proofs.Lists.{first-inside, passing-none, passing-some, map-passing-same}
 
 -- the purge

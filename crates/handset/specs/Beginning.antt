@@ -11,7 +11,7 @@ use Rattle.handset.specs.declared.fault.MoveFault.{MoveFault}
 use Rattle.handset.specs.declared.fault.MoveFault.TheVariants.{NoNode, SamePlace, UnderWay, IsOff, NumbersSpent}
 use Rattle.handset.specs.declared.fault.SwitchFault.{SwitchFault}
 use Rattle.handset.specs.declared.fault.SwitchFault.TheVariants.{UnderWay as StillUnderWay, Already}
-use Rattle.handset.specs.Kept.{HandsetData}
+use Rattle.handset.specs.Condition.{HandsetData}
 
 -- whether no write is left at a stage
 abbrev pub is_rest : Stage → Bool

@@ -9,8 +9,8 @@ use Rattle.entry_word.specs.declared.visit.Act.TheVariants.{Put}
 use Rattle.entry_word.specs.declared.visit.Key.TheVariants.{Entry}
 use Rattle.entry_word.specs.declared.visit.Visit.{Visit}
 use Rattle.directory.specs.Settings.{Setting}
-use Rattle.handset.specs.Kept.{HandsetData}
-use Rattle.handset.specs.Progress.{first_with, is_old}
+use Rattle.handset.specs.Condition.{HandsetData}
+use Rattle.handset.specs.StepWrites.{first_with, is_old}
 use Rattle.handset.specs.declared.entries.EntryStage.{EntryStage}
 use Rattle.handset.specs.declared.entries.EntryStage.TheVariants as entries
 use Rattle.handset.specs.declared.stage.Stage.{Stage}

@@ -1,5 +1,5 @@
-pub mod Kept
-pub mod Progress
+pub mod Condition
+pub mod StepWrites
 pub mod Beginning
 pub mod Stands
 pub mod Trails

@@ -10,7 +10,7 @@ use Rattle.directory.specs.Settings.{Setting}
 use Rattle.directory.specs.Amid.{course_of}
 use Rattle.directory.specs.Courses.{Step, last_stop}
 use Rattle.directory.specs.Writes.{visits}
-use Rattle.handset.specs.Kept.{HandsetData}
+use Rattle.handset.specs.Condition.{HandsetData}
 use Rattle.handset.specs.Stands.{StandsAt, StandsForSteps}
 
 -- a stage at rest is Resting

@@ -17,8 +17,8 @@ use Rattle.directory.specs.Puts.{ends_off, mark_put, node_put}
 use Rattle.directory.specs.Standing.{Commit, commit_of}
 use Rattle.handset.specs.declared.stage.Stage.{Stage}
 use Rattle.handset.specs.declared.stage.Stage.TheVariants.{Resting, Coming, Renewing, Committing, Confirming, Erasing, Purging, Switching}
-use Rattle.handset.specs.Kept.{HandsetData}
-use Rattle.handset.specs.Progress.{left_at}
+use Rattle.handset.specs.Condition.{HandsetData}
+use Rattle.handset.specs.StepWrites.{left_at}
 
 -- the step that a switch is
 abbrev pub switch_to : Bool → Step

@@ -1,6 +1,6 @@
 //! The entries that a handset writes, one behind the other.
 ghost use Rattle.std.specs.Prelude.{◌≡◌, ◌≢◌, ℕ, IfNone, IfSome};
-ghost use Rattle.handset.specs.Kept.{GoesWith};
+ghost use Rattle.handset.specs.Condition.{GoesWith};
 ghost use Rattle.handset.specs.Entries.{at_entry};
 ghost use Rattle.handset.specs.NextEntries.{EntryWritesAreNext, erasures_from, renewals_from};
 

@@ -8,7 +8,7 @@ ghost use Rattle.directory.specs.Writes.{visits};
 ghost use Rattle.region_plan.specs.Plan.{PlanData, home, nodes_of};
 ghost use Rattle.region_plan.specs.Kept.{IsKept};
 ghost use Rattle.region_plan.specs.Settings.{setting_of};
-ghost use Rattle.handset.specs.Kept.{GoesWith};
+ghost use Rattle.handset.specs.Condition.{GoesWith};
 ghost use Rattle.handset.specs.Stands.{StandsForSteps, switch_to};
 ghost use Rattle.handset.specs.Beginning.{begin_move, handset_at, move_fault, switch_fault};
 
@@ -38,7 +38,7 @@ pub struct Handset {
 }
 
 impl Model for Handset {
-    ghost use Rattle.handset.specs.Kept.{HandsetData, move_of};
+    ghost use Rattle.handset.specs.Condition.{HandsetData, move_of};
     ghost use Rattle.handset.specs.Trails.{flags};
 
     ghost Value = { HandsetData };

@@ -2,7 +2,7 @@
 ghost use Rattle.std.specs.Prelude.{◌≡◌, ◌<◌, ◌≤◌, ◌+◌, ◌-◌, ◌^◌, ◌++◌, [], ℕ, suc, not, ◌==◌, length, drop, replicate, slice_index};
 ghost use Rattle.region_plan.specs.Plan.{home, levels_of, nodes_of};
 ghost use Rattle.region_plan.specs.Settings.{setting_of};
-ghost use Rattle.handset.specs.Progress.{first_with};
+ghost use Rattle.handset.specs.StepWrites.{first_with};
 ghost use Rattle.handset.specs.Beginning.{gathered_after, renewal_in};
 
 use crate::stage::Journey;

@@ -1,6 +1,6 @@
 //! The nodes of a handset's trail, as bits.
 ghost use Rattle.std.specs.Prelude.{◌≡◌, ◌<◌, ◌≤◌, ◌-◌, true, false, not, ◌==◌, ◌&&◌, IfOk, length, replicate, slice_index_or, slice_set};
-ghost use Rattle.handset.specs.Progress.{first_with};
+ghost use Rattle.handset.specs.StepWrites.{first_with};
 ghost use Rattle.handset.specs.Trails.{flags};
 
 use node_set::NodeSet;

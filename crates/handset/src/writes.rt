@@ -8,8 +8,8 @@ ghost use Rattle.region_plan.specs.Plan.{PlanData, home, nodes_of};
 ghost use Rattle.region_plan.specs.Kept.{IsKept};
 ghost use Rattle.region_plan.specs.Settings.{setting_of};
 ghost use Rattle.handset.specs.Beginning.{is_committing};
-ghost use Rattle.handset.specs.Kept.{GoesWith};
-ghost use Rattle.handset.specs.Progress.{after_write, due, erasing_from, first_with, go_on, is_behind, purging_at, settle};
+ghost use Rattle.handset.specs.Condition.{GoesWith};
+ghost use Rattle.handset.specs.StepWrites.{after_write, due, erasing_from, first_with, go_on, is_behind, purging_at, settle};
 ghost use Rattle.handset.specs.Stands.{StandsForSteps, is_commit};
 ghost use Rattle.handset.specs.declared.stage.Stage.{Stage};
 

@@ -6,7 +6,7 @@ use Rattle.std.specs.List.{concat, list_any}
 use Rattle.net_graph.specs.declared.edge.Edge.{Edge}
 use Rattle.net_graph.specs.Network.{IsEdge}
 use Rattle.net_reader.specs.Input.{after_line, read_from}
-use Rattle.net_reader.specs.Lines.{lines_of, fields_of}
+use Rattle.net_reader.specs.TextLines.{lines_of, fields_of}
 use Rattle.net_reader.specs.Said.{Said, actors, nothing}
 use Rattle.net_reader.specs.Table.{Row, judge, may_stand, most_nodes, verdict, track_row, nodes_row, k_row, edge_row, sub_row, callers_row, order_row}
 use Rattle.outside.specs.Texts.{fields}

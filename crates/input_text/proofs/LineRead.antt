@@ -12,7 +12,7 @@ use Rattle.std.specs.Int.{IsInRange}
 use Rattle.std.specs.Str.Parse.{AllDigits, digits_value}
 use Rattle.word_line.specs.Forms.{number_of}
 use Rattle.net_reader.specs.declared.fault.InputCause.TheVariants.{Form}
-use Rattle.net_reader.specs.Lines.{begins_comment, fields_from, fields_of, is_blank, lines_from, lines_of, numbers_of, piece, without_return, word_of}
+use Rattle.net_reader.specs.TextLines.{begins_comment, fields_from, fields_of, is_blank, lines_from, lines_of, numbers_of, piece, without_return, word_of}
 use Rattle.net_reader.specs.Said.{Said}
 use Rattle.net_reader.specs.Table.{Row, judge_word, may_stand, verdict}
 use Rattle.outside.specs.Texts.{fields}

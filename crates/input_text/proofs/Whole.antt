@@ -8,7 +8,7 @@ use Rattle.net_reader.specs.declared.fault.InputFault.{InputFault}
 use Rattle.net_reader.specs.declared.said.Call.{Call}
 use Rattle.net_reader.specs.declared.said.Spoken.{Spoken}
 use Rattle.net_reader.specs.Input.{IsAnswer, IsInput, read, read_from}
-use Rattle.net_reader.specs.Lines.{lines_of}
+use Rattle.net_reader.specs.TextLines.{lines_of}
 use Rattle.net_reader.specs.Said.{Said, nothing, script_of}
 use Rattle.net_reader.specs.Table.{callers_row, k_row, may_stand, nodes_row, track_row}
 use Rattle.net_reader.specs.Valid.{IsCourse, IsSearch}

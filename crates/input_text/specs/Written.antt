@@ -28,6 +28,6 @@ lines_left next_lines.Network listing = network_lines listing
 lines_left next_lines.Calls listing = call_lines listing
 
 -- the lines of a listing: the one that was made last, and those that are left
-pub record LinesState : Type 0 where
+pub record ListingState : Type 0 where
   pub line : List ℕ
   pub left : List (List ℕ)

@@ -113,9 +113,9 @@ pub struct InputLines<'a> {
 }
 
 impl<'a> Model for InputLines<'a> {
-    ghost use Rattle.input_text.specs.Written.{LinesState, lines_left, seen_listing};
+    ghost use Rattle.input_text.specs.Written.{ListingState, lines_left, seen_listing};
 
-    ghost Value = { LinesState };
+    ghost Value = { ListingState };
 
     ghost view = { λ l. record { line = l.line; left = lines_left l.next (seen_listing l.left) } };
 }

@@ -20,7 +20,7 @@ use Rattle.serde_json.specs.Written.{compact_text, items_text}
 use Rattle.json_form.specs.declared.report.Left.{Left}
 use Rattle.json_form.specs.declared.report.NextPart.{NextPart}
 use Rattle.json_form.specs.declared.report.NextPart.TheVariants as parts
-use Rattle.json_form.specs.declared.values.InputValues.{InputValues as Kept}
+use Rattle.json_form.specs.declared.values.InputValues.{InputValues as ValuesKept}
 use Rattle.json_form.specs.declared.rows.Kind.{Kind}
 use Rattle.json_form.specs.declared.rows.Kind.TheVariants as kinds
 use Rattle.json_form.specs.Reports.{done_value}
@@ -130,7 +130,7 @@ pub record PartsState : Type 0 where
   pub left : List ℕ
 
 -- the values that are kept of an object
-abbrev pub seen_values : Kept → InputValues
+abbrev pub seen_values : ValuesKept → InputValues
 seen_values kept = record {
   callers = view kept.first.callers;
   calls = view kept.first.calls;

@@ -12,8 +12,8 @@ use Rattle.net_reader.specs.declared.input.Input.{Input}
 use Rattle.net_reader.specs.declared.said.Call.{Call}
 use Rattle.net_reader.specs.Seen.{seen_input}
 use Rattle.region_plan.specs.Plan.{PlanData}
-use Rattle.handset.specs.Kept.{HandsetData}
-use Rattle.handset.specs.Progress.{due}
+use Rattle.handset.specs.Condition.{HandsetData}
+use Rattle.handset.specs.StepWrites.{due}
 use Rattle.handset.specs.Stands.{StandsForSteps}
 use Rattle.scripts.specs.Scripts.{scripts_of, step_of}
 use Rattle.scripts.specs.Laws.{ScriptsAreValid}

@@ -5,9 +5,9 @@ use Rattle.std.proofs.lemmas.List.{length-map, length-drop, take_all, get_or-dro
 use Rattle.directory.specs.Settings.{Setting, start}
 use Rattle.directory.specs.Courses.{Course, Step, after_step, after_steps, course_at}
 use Rattle.directory.specs.Histories.{History, own, tickets, words_read}
-use Rattle.directory.specs.Finds.{FindCall, Stage, after_word, answer_of}
+use Rattle.directory.specs.Finds.{FindCall, Pursuit, after_word, answer_of}
 use Rattle.directory.specs.Writes.{numbers_from, step_writes, visit_of, visits, writes}
-use Rattle.directory.specs.Orders.{Caller as Seeker, after_read, caller_at, caller_in, finds_of, read_by, script_visits, steps_of, with_stage, IsDone}
+use Rattle.directory.specs.Orders.{Caller as Seeker, after_read, caller_at, caller_in, finds_of, read_by, script_visits, steps_of, with_pursuit, IsDone}
 use Rattle.directory.specs.Outcomes.{answer_line, caller_lines, outcome_in, step_lines, sub_lines}
 use Rattle.directory.specs.StepLaws.{writes-append, past-end}
 use Rattle.directory.specs.declared.answers.Done.{Done}
@@ -127,13 +127,13 @@ flat-few f (x ∷ xs) (script ∷ scripts) each within =
     )
 
 -- a caller has no more answers than finds
-stage-count : (caller : Seeker) (call : FindCall) (later : List FindCall) (stage : Stage) (answer : Option Found)
+pursuit-count : (caller : Seeker) (call : FindCall) (later : List FindCall) (pursuit : Pursuit) (answer : Option Found)
     → caller.calls ≡ call ∷ later
-    → length (with_stage caller call later stage answer).answers + length
-    (with_stage caller call later stage answer).calls
+    → length (with_pursuit caller call later pursuit answer).answers + length
+    (with_pursuit caller call later pursuit answer).calls
     ≡ length caller.answers + length caller.calls
-stage-count caller call later stage None same = refl
-stage-count caller call later stage (Some found) same =
+pursuit-count caller call later pursuit None same = refl
+pursuit-count caller call later pursuit (Some found) same =
     omega (
       arith,
       length-append caller.answers (record {
@@ -154,8 +154,8 @@ read-count setting caller word = at_calls caller.calls refl
         → length (read_by setting caller calls word).answers + length (read_by setting caller calls word).calls
         ≡ length caller.answers + length caller.calls
     at_calls [] same = refl
-    at_calls (call ∷ later) same = stage-count caller call later (after_word setting call caller.stage word)
-        (answer_of (after_word setting call caller.stage word)) same
+    at_calls (call ∷ later) same = pursuit-count caller call later (after_word setting call caller.pursuit word)
+        (answer_of (after_word setting call caller.pursuit word)) same
 
 words-count : (setting : Setting) (words : List ℕ) (caller : Seeker)
     → length (fold (after_read setting) caller words).answers + length (fold (after_read setting) caller words).calls

@@ -8,9 +8,9 @@ use Rattle.std.proofs.Math.ListN.{get_or-append}
 use Rattle.entry_word.specs.declared.visit.Key.{Key}
 use Rattle.directory.specs.Settings.{Setting}
 use Rattle.directory.specs.Histories.{History, cell, tickets}
-use Rattle.directory.specs.Finds.{FindCall, Stage, after_word, answer_of, at_origin, key_of}
+use Rattle.directory.specs.Finds.{FindCall, Pursuit, after_word, answer_of, at_origin, key_of}
 use Rattle.directory.specs.Looks.{look_by}
-use Rattle.directory.specs.Orders.{Caller as Seeker, Scripts, caller_in, finds_of, next, with_stage}
+use Rattle.directory.specs.Orders.{Caller as Seeker, Scripts, caller_in, finds_of, next, with_pursuit}
 use Rattle.directory.specs.Outcomes.{caller_lines, found_line}
 use Rattle.directory.specs.Statements.{CallerLinesGrow, CallersCount, CallersRead, TicketsGrow}
 use Rattle.directory.specs.declared.answers.Done.{Done}
@@ -18,7 +18,7 @@ use Rattle.directory.specs.declared.answers.Found.{Found}
 use Rattle.net_reader.specs.Input.{Contents}
 use Rattle.region_plan.specs.Plan.{PlanData}
 use Rattle.region_plan.specs.Settings.{setting_of}
-use Rattle.walk.specs.Walks.{IsWalkOver, WalkData, call_of, stage_of}
+use Rattle.walk.specs.Walks.{IsWalkOver, WalkData, call_of, pursuit_of}
 use Rattle.visit_log.specs.Cells.{CellData}
 use Rattle.machine.specs.declared.caller.Caller.{Caller}
 use Rattle.scripts.specs.Scripts.{scripts_of}
@@ -47,14 +47,14 @@ first-is first next ticket seen kept same count low = at_test (nat_lt first next
 pub by-parts : (input : Contents) (plan : PlanData) (history : History) (actor : ℕ) (seeker : Seeker)
     (seen : List ℕ) (caller : Caller)
     → caller_in (setting_over input plan) (scripts_of input) history actor ≡ seeker → tickets actor history ≡ seen
-    → IsWalking plan seeker.calls seeker.stage caller.walk → caller.first ≡ first_ticket seeker seen
+    → IsWalking plan seeker.calls seeker.pursuit caller.walk → caller.first ≡ first_ticket seeker seen
     → caller.lines.items ≡ caller_lines (setting_over input plan) (scripts_of input) history actor
     → seeker.calls ≡ drop (length caller.lines.items) (finds_of (setting_over input plan) (scripts_of input) actor)
     → length (finds_of (setting_over input plan) (scripts_of input) actor) ≤ vec_capacity caller.lines
     → IsCaller input plan history actor caller
 by-parts input plan history actor seeker seen caller e t walks first lines left room =
     record {
-      walk = subst (λ (s : Seeker). IsWalking plan s.calls s.stage caller.walk) (sym e) walks;
+      walk = subst (λ (s : Seeker). IsWalking plan s.calls s.pursuit caller.walk) (sym e) walks;
       first = first ∙ (ap (λ s. first_ticket s seen) (sym e)
           ∙ ap (first_ticket (caller_in (setting_over input plan) (scripts_of input) history actor)) (sym t));
       lines = lines;
@@ -69,8 +69,8 @@ pub record Looks (input : Contents) (plan : PlanData) (history : History) (actor
   pub later : List FindCall
   pub calls_are : (caller_in (setting_over input plan) (scripts_of input) history actor).calls ≡ call ∷ later
   pub turn : next (setting_over input plan) (scripts_of input) history actor ≡ Some (look_by actor key)
-  pub stage : stage_of plan next_walk ≡ after_word (setting_over input plan) call
-      (caller_in (setting_over input plan) (scripts_of input) history actor).stage
+  pub pursuit : pursuit_of plan next_walk ≡ after_word (setting_over input plan) call
+      (caller_in (setting_over input plan) (scripts_of input) history actor).pursuit
       (cell (setting_over input plan) history key)
   pub its : call_of next_walk ≡ call
   pub seen : tickets actor (history ++ look_by actor key ∷ []) ≡ tickets actor history ++ length history ∷ []
@@ -78,25 +78,25 @@ pub record Looks (input : Contents) (plan : PlanData) (history : History) (actor
 pub looks : TicketsGrow → (input : Contents) (plan : PlanData) (history : History) (actor : ℕ) (caller : Caller)
     (walk next_walk : WalkData) (key : Key) (word : ℕ) → length input.homes ≤ actor
     → IsCaller input plan history actor caller → caller.walk ≡ Some walk
-    → key_of (call_of walk) (stage_of plan walk) ≡ Some key
+    → key_of (call_of walk) (pursuit_of plan walk) ≡ Some key
     → word ≡ cell (setting_over input plan) history key → call_of next_walk ≡ call_of walk
-    → stage_of plan next_walk ≡ after_word (setting_of plan []) (call_of walk) (stage_of plan walk) word
+    → pursuit_of plan next_walk ≡ after_word (setting_of plan []) (call_of walk) (pursuit_of plan walk) word
     → Looks input plan history actor caller key next_walk
 looks grow input plan history actor caller walk next_walk key word high its held wants reads same saw =
     let seeker : Seeker = caller_in (setting_over input plan) (scripts_of input) history actor in
-    let at : Walks plan seeker.calls seeker.stage walk =
-    walking plan seeker.calls seeker.stage caller.walk walk held its.walk in
+    let at : Walks plan seeker.calls seeker.pursuit walk =
+    walking plan seeker.calls seeker.pursuit caller.walk walk held its.walk in
     record {
       call = at.call;
       later = at.later;
       calls_are = at.calls_are;
       turn = next-caller (setting_over input plan) (scripts_of input) history actor high
           ∙ ap (option_map (look_by actor)) (sym (key-wanted plan seeker walk at) ∙ wants);
-      stage = saw
-          ∙ (ap (after_word (setting_of plan []) (call_of walk) (stage_of plan walk)) reads
+      pursuit = saw
+          ∙ (ap (after_word (setting_of plan []) (call_of walk) (pursuit_of plan walk)) reads
           ∙ (ap (λ s. after_word (setting_of plan []) (call_of walk) s (cell (setting_over input plan) history key))
           at.so_far
-          ∙ ap (λ c. after_word (setting_of plan []) c seeker.stage (cell (setting_over input plan) history key))
+          ∙ ap (λ c. after_word (setting_of plan []) c seeker.pursuit (cell (setting_over input plan) history key))
           at.its));
       its = same ∙ at.its;
       seen = grow actor history (look_by actor key)
@@ -107,7 +107,7 @@ looks grow input plan history actor caller walk next_walk key word high its held
 pub looked-on : CallersRead → CallerLinesGrow → CallersCount → (input : Contents) (plan : PlanData) (cells : CellData)
     (history : History) (actor ticket : ℕ) (old new : Caller) (key : Key) (walk : WalkData) → length input.homes ≤ actor
     → Sees input plan cells history → length history ≡ ticket → IsCaller input plan history actor old
-    → Looks input plan history actor old key walk → IsWalkOver plan walk → None ≡ answer_of (stage_of plan walk)
+    → Looks input plan history actor old key walk → IsWalkOver plan walk → None ≡ answer_of (pursuit_of plan walk)
     → new ≡ record old { walk = Some walk; first = Some (unwrap_or old.first ticket) }
     → (k : Key) × (next (setting_over input plan) (scripts_of input) history actor ≡ Some (look_by actor k))
     × IsCaller input plan (history ++ look_by actor k ∷ []) actor new
@@ -115,11 +115,11 @@ looked-on read grow count input plan cells history actor ticket old new key walk
     let setting : Setting = setting_over input plan in
     let scripts : Scripts = scripts_of input in
     let seeker : Seeker = caller_in setting scripts history actor in
-    let stage : Stage = after_word setting at.call seeker.stage (cell setting history key) in
+    let pursuit : Pursuit = after_word setting at.call seeker.pursuit (cell setting history key) in
     let counted = count setting scripts history actor high sees.played in
-    let unanswered : answer_of stage ≡ None = ap answer_of (sym at.stage) ∙ sym none in
+    let unanswered : answer_of pursuit ≡ None = ap answer_of (sym at.pursuit) ∙ sym none in
     let after : caller_in setting scripts (history ++ look_by actor key ∷ []) actor
-    ≡ with_stage seeker at.call at.later stage None =
+    ≡ with_pursuit seeker at.call at.later pursuit None =
     read setting scripts history actor key
     ∙ read-on setting seeker at.call at.later (cell setting history key) None at.calls_are unanswered in
     let first : unwrap_or old.first ticket ≡ slice_index (tickets actor history ++ ticket ∷ []) seeker.first =
@@ -129,10 +129,10 @@ looked-on read grow count input plan cells history actor ticket old new key walk
     let low : nat_lt seeker.first (suc seeker.next) ≡ true = grind (arith, nat_tests, counted.1) in
     let there : IsCaller input plan (history ++ look_by actor key ∷ []) actor
     (record old { walk = Some walk; first = Some (unwrap_or old.first ticket) }) =
-    by-parts input plan (history ++ look_by actor key ∷ []) actor (with_stage seeker at.call at.later stage None)
+    by-parts input plan (history ++ look_by actor key ∷ []) actor (with_pursuit seeker at.call at.later pursuit None)
     (tickets actor history ++ ticket ∷ []) (record old { walk = Some walk; first = Some (unwrap_or old.first ticket) })
     after seen
-    (subst (λ cs. IsWalking plan cs stage (Some walk)) (sym at.calls_are) (at.its, at.stage, goes, unanswered))
+    (subst (λ cs. IsWalking plan cs pursuit (Some walk)) (sym at.calls_are) (at.its, at.pursuit, goes, unanswered))
     (ap Some first ∙ sym (ap (λ b. if b then Some (slice_index (tickets actor history ++ ticket ∷ []) seeker.first)
     else None) low))
     (its.lines ∙ (sym (append-nil (caller_lines setting scripts history actor))
@@ -149,7 +149,7 @@ pub looked-up : CallersRead → CallerLinesGrow → CallersCount → (input : Co
     (line : Done)
     (left : ℕ) → length input.homes ≤ actor
     → Sees input plan cells history → length history ≡ ticket → IsCaller input plan history actor old
-    → Looks input plan history actor old key walk → Some found ≡ answer_of (stage_of plan walk)
+    → Looks input plan history actor old key walk → Some found ≡ answer_of (pursuit_of plan walk)
     → ((call : FindCall) (later : List FindCall)
     → call ∷ later ≡ drop (length old.lines.items) (finds_of (setting_over input plan) (scripts_of input) actor)
     → line ≡ found_line actor call found (unwrap_or old.first ticket) ticket)
@@ -163,11 +163,11 @@ looked-up read grow count input plan cells history actor ticket old new key walk
     let setting : Setting = setting_over input plan in
     let scripts : Scripts = scripts_of input in
     let seeker : Seeker = caller_in setting scripts history actor in
-    let stage : Stage = after_word setting at.call seeker.stage (cell setting history key) in
+    let pursuit : Pursuit = after_word setting at.call seeker.pursuit (cell setting history key) in
     let counted = count setting scripts history actor high sees.played in
-    let ends : answer_of stage ≡ Some found = ap answer_of (sym at.stage) ∙ sym answered in
+    let ends : answer_of pursuit ≡ Some found = ap answer_of (sym at.pursuit) ∙ sym answered in
     let after : caller_in setting scripts (history ++ look_by actor key ∷ []) actor
-    ≡ with_stage seeker at.call at.later stage (Some found) =
+    ≡ with_pursuit seeker at.call at.later pursuit (Some found) =
     read setting scripts history actor key
     ∙ read-on setting seeker at.call at.later (cell setting history key) (Some found) at.calls_are ends in
     let first : unwrap_or old.first ticket ≡ slice_index (tickets actor history ++ ticket ∷ []) seeker.first =
@@ -188,7 +188,7 @@ looked-up read grow count input plan cells history actor ticket old new key walk
     (sym place)) in
     let there : IsCaller input plan (history ++ look_by actor key ∷ []) actor new =
     by-parts input plan (history ++ look_by actor key ∷ []) actor
-    (with_stage seeker at.call at.later stage (Some found)) (tickets actor history ++ ticket ∷ []) new
+    (with_pursuit seeker at.call at.later pursuit (Some found)) (tickets actor history ++ ticket ∷ []) new
     after seen
     (subst (λ cs. IsWalking plan cs at_origin new.walk)
     (ap (λ n. drop n (finds_of setting scripts actor)) left_is ∙ sym more.1) walks)

@@ -11,7 +11,7 @@ use Rattle.trail_laws.specs.Trail.{EntriesTell, MarksTell}
 use Rattle.region_plan.specs.Matched.{IsMatched}
 use Rattle.region_plan.specs.Plan.{PlanData, nodes_of}
 use Rattle.region_plan.specs.Cells.{IsCell}
-use Rattle.walk.specs.Walks.{IsWalkOver, IsWordBelow, WalkData, call_of, stage_of}
+use Rattle.walk.specs.Walks.{IsWalkOver, IsWordBelow, WalkData, call_of, pursuit_of}
 use Rattle.std.specs.Prelude.{Result, Ok, Err}
 use Rattle.std.specs.Result.{is_err, is_ok}
 use Rattle.walk.specs.LookLaws.{cell-wanted, word-wanted}
@@ -31,10 +31,10 @@ use Rattle.scripts.specs.Laws.{ScriptsAreValid}
 use Rattle.scripts.specs.ScriptLaws.{finds-are}
 
 pub key-wanted : (plan : PlanData) (seeker : Seeker) (walk : WalkData)
-    → Walks plan seeker.calls seeker.stage walk → key_of (call_of walk) (stage_of plan walk) ≡ next_key seeker
+    → Walks plan seeker.calls seeker.pursuit walk → key_of (call_of walk) (pursuit_of plan walk) ≡ next_key seeker
 key-wanted plan seeker walk at =
     ap (λ s. key_of (call_of walk) s) at.so_far
-    ∙ (ap (λ c. key_of c seeker.stage) at.its ∙ sym (ap (λ cs. key_in cs seeker.stage) at.calls_are))
+    ∙ (ap (λ c. key_of c seeker.pursuit) at.its ∙ sym (ap (λ cs. key_in cs seeker.pursuit) at.calls_are))
 
 -- the find that a caller is at is one of its script
 pub call-known : (input : Contents) (plan : PlanData) (actor n : ℕ) (call : FindCall) (later : List FindCall)
@@ -59,7 +59,7 @@ pub walks-over : (input : Contents) (plan : PlanData) (history : History) (actor
     (walk : WalkData) → IsCaller input plan history actor caller → caller.walk ≡ Some walk → IsWalkOver plan walk
 walks-over input plan history actor caller walk its held =
     let seeker : Seeker = caller_in (setting_over input plan) (scripts_of input) history actor in
-    (walking plan seeker.calls seeker.stage caller.walk walk held its.walk).goes
+    (walking plan seeker.calls seeker.pursuit caller.walk walk held its.walk).goes
 
 -- the subscriber that a caller looks for
 pub sub-known : ScriptsAreValid → (input : Contents) (plan : PlanData) (distances : DistanceTable) (history : History)
@@ -68,8 +68,8 @@ pub sub-known : ScriptsAreValid → (input : Contents) (plan : PlanData) (distan
     → IsWalkOver plan walk × (walk.sub < length input.homes)
 sub-known scripts input plan distances history actor caller walk together high low its held =
     let seeker : Seeker = caller_in (setting_over input plan) (scripts_of input) history actor in
-    let at : Walks plan seeker.calls seeker.stage walk =
-    walking plan seeker.calls seeker.stage caller.walk walk held its.walk in
+    let at : Walks plan seeker.calls seeker.pursuit walk =
+    walking plan seeker.calls seeker.pursuit caller.walk walk held its.walk in
     let valid : AreValid (setting_over input plan) (scripts_of input) =
     scripts input (setting_over input plan) together.valid (over input plan distances together) in
     let known : IsFindCall (setting_over input plan) at.call =
@@ -88,7 +88,7 @@ pub wanted : MarksTell → EntriesTell → PlayedIsLegal → ScriptsAreValid →
     (key : Key) → BelongTogether input plan distances → IsMatched plan → length input.homes ≤ actor
     → actor < length input.scripts → Sees input plan cells history → IsCaller input plan history actor caller
     → caller.walk ≡ Some walk
-    → key_of (call_of walk) (stage_of plan walk) ≡ Some key → Wanted input plan cells history walk key
+    → key_of (call_of walk) (pursuit_of plan walk) ≡ Some key → Wanted input plan cells history walk key
 wanted marks entries legal scripts input plan distances cells history actor caller walk key together matched high low
     sees its held wants =
     let valid : AreValid (setting_over input plan) (scripts_of input) =
@@ -130,8 +130,8 @@ pub finds-left : (input : Contents) (plan : PlanData) (history : History) (actor
     → length caller.lines.items < length (finds_of (setting_over input plan) (scripts_of input) actor)
 finds-left input plan history actor caller walk its held =
     let seeker : Seeker = caller_in (setting_over input plan) (scripts_of input) history actor in
-    let at : Walks plan seeker.calls seeker.stage walk =
-    walking plan seeker.calls seeker.stage caller.walk walk held its.walk in
+    let at : Walks plan seeker.calls seeker.pursuit walk =
+    walking plan seeker.calls seeker.pursuit caller.walk walk held its.walk in
     (drop-more (length caller.lines.items) (finds_of (setting_over input plan) (scripts_of input) actor)
     at.call at.later (sym at.calls_are ∙ its.left)).0
 

@@ -14,7 +14,7 @@ use Rattle.directory.specs.Writes.{visits}
 use Rattle.directory.specs.declared.answers.Done.{Done}
 use Rattle.directory.specs.declared.answers.Done.TheVariants.{Moved, Switched, Found as FoundBy, Off as OffBy, Again as AgainBy}
 use Rattle.distances.specs.Table.{DistanceTable}
-use Rattle.handset.specs.Kept.{GoesWith, HandsetData}
+use Rattle.handset.specs.Condition.{GoesWith, HandsetData}
 use Rattle.handset.specs.Stands.{StandsForSteps}
 use Rattle.net_reader.specs.Input.{Contents}
 use Rattle.region_plan.specs.Plan.{PlanData}

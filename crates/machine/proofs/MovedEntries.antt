@@ -5,8 +5,8 @@ use Rattle.entry_word.specs.Addresses.{address_word}
 use Rattle.region_plan.specs.Plan.{PlanData, home}
 use Rattle.region_plan.specs.Settings.{setting_of}
 use Rattle.handset.specs.Entries.{at_entry, entry_write, stage_at}
-use Rattle.handset.specs.Kept.{HandsetData}
-use Rattle.handset.specs.Progress.{first_with}
+use Rattle.handset.specs.Condition.{HandsetData}
+use Rattle.handset.specs.StepWrites.{first_with}
 use Rattle.handset.specs.declared.entries.EntryStage.{EntryStage}
 use Rattle.handset.specs.declared.entries.EntryStage.TheVariants as entries
 

@@ -16,7 +16,7 @@ use Rattle.net_reader.specs.declared.said.Call.TheVariants as calls
 use Rattle.net_reader.specs.Input.{Contents}
 use Rattle.net_reader.specs.Valid.{IsCourse, IsSearch, IsValid}
 use Rattle.region_plan.specs.Plan.{PlanData}
-use Rattle.handset.specs.Kept.{GoesWith}
+use Rattle.handset.specs.Condition.{GoesWith}
 use Rattle.handset.specs.Stands.{StandsForSteps}
 use Rattle.machine.specs.declared.caller.Caller.{Caller}
 use Rattle.machine.specs.declared.subscriber.Subscriber.{Subscriber}

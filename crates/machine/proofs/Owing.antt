@@ -8,7 +8,7 @@ use Rattle.entry_word.specs.declared.visit.Key.{Key}
 use Rattle.entry_word.specs.declared.visit.Visit.{Visit}
 use Rattle.directory.specs.Histories.{History}
 use Rattle.region_plan.specs.Plan.{PlanData}
-use Rattle.handset.specs.Kept.{GoesWith, HandsetData}
+use Rattle.handset.specs.Condition.{GoesWith, HandsetData}
 use Rattle.visit_log.specs.Cells.{CellData, GoWith, Hold, IsPlaceOf}
 use Rattle.machine.specs.declared.ahead.Ahead.{Ahead}
 use Rattle.machine.specs.Owed.{HasCome, IsAhead, IsNextAhead, MayPut, Owes}

@@ -11,8 +11,8 @@ use Rattle.directory.specs.Writes.{Write, entry_at, mark_at, new_address, visit_
 use Rattle.region_plan.specs.Cells.{IsCell}
 use Rattle.region_plan.specs.Plan.{PlanData, clusters_of, home, levels_of, nodes_of}
 use Rattle.region_plan.specs.Settings.{setting_of}
-use Rattle.handset.specs.Kept.{GoesWith, HandsetData, IsMoveStage}
-use Rattle.handset.specs.Progress.{after_write, due, due_at, erasing_from, erasure, go_on, purging_from, switch_mark}
+use Rattle.handset.specs.Condition.{GoesWith, HandsetData, IsMoveStage}
+use Rattle.handset.specs.StepWrites.{after_write, due, due_at, erasing_from, erasure, go_on, purging_from, switch_mark}
 use Rattle.handset.specs.declared.stage.Stage.{Stage}
 use Rattle.handset.specs.declared.stage.Stage.TheVariants.{Resting, Coming, Renewing, Committing, Confirming, Erasing, Purging, Switching}
 

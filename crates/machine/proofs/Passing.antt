@@ -121,7 +121,7 @@ passed-more grow read lines counts more input plan cells history actor ticket ol
     ∙ at.empty count low) in
     let seen = looks grow input plan now actor (behind walk old ticket here count) (walk_at walk here)
     (walk_at walk there) key 0 at.high passed.its (behind-walk walk old ticket here count) entry.key
-    reads refl entry.stage in
+    reads refl entry.pursuit in
     let size : length passed.visits ≡ count =
     sym (length-map passed.visits (λ (v : Visit). v.actor)) ∙ (ap length passed.actors ∙ length-replicate count actor)
     in

@@ -15,7 +15,7 @@ use Rattle.directory.specs.Statements.{MoreIsPlayed, TicketsGrow, OwnGrow, Ticke
 use Rattle.directory.specs.Writes.{visits}
 use Rattle.directory.specs.declared.answers.Done.{Done}
 use Rattle.distances.specs.Table.{DistanceTable}
-use Rattle.handset.specs.Kept.{GoesWith, HandsetData}
+use Rattle.handset.specs.Condition.{GoesWith, HandsetData}
 use Rattle.handset.specs.Stands.{StandsForSteps}
 use Rattle.net_reader.specs.declared.said.Call.{Call}
 use Rattle.net_reader.specs.Input.{Contents}

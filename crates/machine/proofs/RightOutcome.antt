@@ -5,7 +5,7 @@ use Rattle.entry_word.specs.declared.visit.Visit.{Visit}
 use Rattle.directory.specs.Histories.{History}
 use Rattle.directory.specs.Orders.{IsDone}
 use Rattle.directory.specs.Outcomes.{outcome_in}
-use Rattle.trail_laws.specs.Lines.{IsRightLine, NumbersRise, OutcomesAreRight, TellRisingNumbers}
+use Rattle.trail_laws.specs.RightOutcomes.{IsRightLine, NumbersRise, OutcomesAreRight, TellRisingNumbers}
 use Rattle.region_plan.specs.Matched.{IsMatched}
 use Rattle.machine.specs.declared.machine.Machine.{Machine}
 use Rattle.machine.specs.Machines.{HasHistory, input_at, scripts_at, setting_at}

@@ -27,7 +27,7 @@ pub record IsCaller (input : Contents) (plan : PlanData) (history : History) (ac
     (caller : Caller) : Type 0 where
   pub walk : IsWalking plan
       (caller_in (setting_over input plan) (scripts_of input) history actor).calls
-      (caller_in (setting_over input plan) (scripts_of input) history actor).stage caller.walk
+      (caller_in (setting_over input plan) (scripts_of input) history actor).pursuit caller.walk
   pub first : caller.first
       ≡ first_ticket (caller_in (setting_over input plan) (scripts_of input) history actor)
       (tickets actor history)

@@ -12,8 +12,8 @@ use Rattle.directory.specs.Histories.{History}
 use Rattle.directory.specs.Writes.{visits}
 use Rattle.region_plan.specs.Plan.{PlanData}
 use Rattle.region_plan.specs.Settings.{setting_of}
-use Rattle.handset.specs.Kept.{GoesWith, HandsetData}
-use Rattle.handset.specs.Progress.{due}
+use Rattle.handset.specs.Condition.{GoesWith, HandsetData}
+use Rattle.handset.specs.StepWrites.{due}
 use Rattle.handset.specs.Stands.{StandsForSteps, is_commit}
 use Rattle.visit_log.specs.Cells.{CellData, GoWith, Hold, IsPlaceOf}
 use Rattle.machine.specs.declared.ahead.Ahead.{Ahead}

@@ -7,8 +7,8 @@ use Rattle.directory.specs.Amid.{course_of}
 use Rattle.directory.specs.Courses.{MayStep, Step}
 use Rattle.directory.specs.Settings.{Setting}
 use Rattle.directory.specs.Writes.{visit_of}
-use Rattle.handset.specs.Kept.{HandsetData}
-use Rattle.handset.specs.Progress.{due, due_at}
+use Rattle.handset.specs.Condition.{HandsetData}
+use Rattle.handset.specs.StepWrites.{due, due_at}
 use Rattle.handset.specs.StageLaws.{IsRestAfter, rest-after}
 use Rattle.handset.specs.Stands.{StandsForSteps}
 use Rattle.handset.specs.declared.stage.Stage.{Stage}

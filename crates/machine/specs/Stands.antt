@@ -5,7 +5,7 @@ use Rattle.std.specs.Prelude.{◌≡◌, refl, ℕ, ◌<◌, List, [], ◌∷◌
 use Rattle.distances.specs.Table.{DistanceTable}
 use Rattle.directory.specs.Settings.{Setting}
 use Rattle.directory.specs.Histories.{History}
-use Rattle.directory.specs.Finds.{FindCall, Stage, answer_of}
+use Rattle.directory.specs.Finds.{FindCall, Pursuit, answer_of}
 use Rattle.directory.specs.Orders.{IsPlayed, after_turns}
 use Rattle.net_reader.specs.Input.{Contents}
 use Rattle.net_reader.specs.Valid.{IsValid}
@@ -14,7 +14,7 @@ use Rattle.net_reader.specs.declared.said.Call.TheVariants as calls
 use Rattle.region_plan.specs.Plan.{PlanData, nodes_of}
 use Rattle.region_plan.specs.Settings.{setting_of}
 use Rattle.visit_log.specs.Cells.{CellData, GoWith, Hold}
-use Rattle.walk.specs.Walks.{IsWalkOver, WalkData, call_of, stage_of}
+use Rattle.walk.specs.Walks.{IsWalkOver, WalkData, call_of, pursuit_of}
 use Rattle.scripts.specs.Scripts.{IsSettingOf, scripts_of}
 
 -- a find begins at one of so many nodes
@@ -62,11 +62,11 @@ pub record AreMade (input : Contents) (plan : PlanData) (cells : CellData) (hist
   pub sees : Sees input plan cells (history ++ visits)
   pub its : Holds (history ++ visits)
 
--- a walk is that of the first of the finds that are left, at this stage, and none where none is
-abbrev pub IsWalking : PlanData → List FindCall → Stage → Option WalkData → Type 0
-IsWalking plan [] stage None = Unit {0}
-IsWalking plan [] stage (Some walk) = ⊥
-IsWalking plan (call ∷ later) stage None = ⊥
-IsWalking plan (call ∷ later) stage (Some walk) =
-    (call_of walk ≡ call) × (stage_of plan walk ≡ stage) × IsWalkOver plan walk
-    × (answer_of stage ≡ None)
+-- a walk is that of the first of the finds that are left, at this pursuit, and none where none is
+abbrev pub IsWalking : PlanData → List FindCall → Pursuit → Option WalkData → Type 0
+IsWalking plan [] pursuit None = Unit {0}
+IsWalking plan [] pursuit (Some walk) = ⊥
+IsWalking plan (call ∷ later) pursuit None = ⊥
+IsWalking plan (call ∷ later) pursuit (Some walk) =
+    (call_of walk ≡ call) × (pursuit_of plan walk ≡ pursuit) × IsWalkOver plan walk
+    × (answer_of pursuit ≡ None)

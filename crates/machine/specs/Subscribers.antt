@@ -20,7 +20,7 @@ use Rattle.net_reader.specs.declared.said.Call.TheVariants as calls
 use Rattle.net_reader.specs.Input.{Contents}
 use Rattle.region_plan.specs.Plan.{PlanData, nodes_of}
 use Rattle.region_plan.specs.Settings.{setting_of}
-use Rattle.handset.specs.Kept.{GoesWith, HandsetData}
+use Rattle.handset.specs.Condition.{GoesWith, HandsetData}
 use Rattle.handset.specs.Stands.{StandsForSteps}
 use Rattle.visit_log.specs.Cells.{CellData, GoWith, Hold}
 use Rattle.machine.specs.declared.subscriber.Subscriber.{Subscriber}

@@ -9,8 +9,8 @@ use Rattle.std.specs.Result.{result_ok}
 use Rattle.std.proofs.lemmas.Bool.Decides.{nat_tests}
 use Rattle.std.proofs.lemmas.List.{get_or-map, length-map}
 use Rattle.directory.specs.Settings.{Setting}
-use Rattle.directory.specs.Finds.{FindCall, Stage, after_word, answer_of, at_origin}
-use Rattle.directory.specs.Orders.{Caller as Seeker, after_read, key_in, read_by, with_stage}
+use Rattle.directory.specs.Finds.{FindCall, Pursuit, after_word, answer_of, at_origin}
+use Rattle.directory.specs.Orders.{Caller as Seeker, after_read, key_in, read_by, with_pursuit}
 use Rattle.directory.specs.declared.answers.Found.{Found}
 use Rattle.net_reader.specs.declared.said.Call.{Call}
 use Rattle.net_reader.specs.declared.said.Call.TheVariants as calls
@@ -20,55 +20,56 @@ use Rattle.scripts.specs.Scripts.{find_of}
 use Rattle.walk.specs.declared.progress.Progress.TheVariants.{AtOrigin}
 use Rattle.walk.specs.declared.walk.WalkFault.{WalkFault}
 use Rattle.walk.specs.declared.walk.WalkFault.TheVariants.{NoNode, NoSubscriber}
-use Rattle.walk.specs.Walks.{IsWalkOver, WalkData, call_of, stage_of, walk_or_fault}
+use Rattle.walk.specs.Walks.{IsWalkOver, WalkData, call_of, pursuit_of, walk_or_fault}
 use Rattle.machine.specs.Stands.{IsWalking}
 
 -- the walk of the find that a caller is at
-pub record Walks (plan : PlanData) (calls : List FindCall) (stage : Stage) (walk : WalkData) : Type
-    0 where
+pub record Walks (plan : PlanData) (calls : List FindCall) (pursuit : Pursuit) (walk : WalkData)
+    : Type 0 where
   pub call : FindCall
   pub later : List FindCall
   pub calls_are : calls ≡ call ∷ later
   pub its : call_of walk ≡ call
-  pub so_far : stage_of plan walk ≡ stage
+  pub so_far : pursuit_of plan walk ≡ pursuit
   pub goes : IsWalkOver plan walk
-  pub unanswered : answer_of stage ≡ None
+  pub unanswered : answer_of pursuit ≡ None
 
-pub walking : (plan : PlanData) (calls : List FindCall) (stage : Stage) (held : Option WalkData)
+pub walking : (plan : PlanData) (calls : List FindCall) (pursuit : Pursuit) (held : Option WalkData)
     (walk : WalkData)
-    → held ≡ Some walk → IsWalking plan calls stage held → Walks plan calls stage walk
-walking plan [] stage None walk same h = cc
-walking plan (call ∷ later) stage None walk same h = cc
-walking plan [] stage (Some other) walk same h = absurd h
-walking plan (call ∷ later) stage (Some other) walk same h =
+    → held ≡ Some walk → IsWalking plan calls pursuit held → Walks plan calls pursuit walk
+walking plan [] pursuit None walk same h = cc
+walking plan (call ∷ later) pursuit None walk same h = cc
+walking plan [] pursuit (Some other) walk same h = absurd h
+walking plan (call ∷ later) pursuit (Some other) walk same h =
     let e : other ≡ walk = cc in
     record {
       call = call;
       later = later;
       calls_are = refl;
       its = subst (λ w. call_of w ≡ call) e h.0;
-      so_far = subst (λ w. stage_of plan w ≡ stage) e h.1;
+      so_far = subst (λ w. pursuit_of plan w ≡ pursuit) e h.1;
       goes = subst (IsWalkOver plan) e h.2;
       unanswered = h.3;
     }
 
-pub idle-done : (plan : PlanData) (calls : List FindCall) (stage : Stage) (held : Option WalkData)
+pub idle-done : (plan : PlanData) (calls : List FindCall) (pursuit : Pursuit)
+    (held : Option WalkData)
     → held ≡ None
-    → IsWalking plan calls stage held → key_in calls stage ≡ None
-idle-done plan [] stage held same h = refl
-idle-done plan (call ∷ later) stage None same h = absurd h
-idle-done plan (call ∷ later) stage (Some walk) same h = cc
+    → IsWalking plan calls pursuit held → key_in calls pursuit ≡ None
+idle-done plan [] pursuit held same h = refl
+idle-done plan (call ∷ later) pursuit None same h = absurd h
+idle-done plan (call ∷ later) pursuit (Some walk) same h = cc
 
 -- a caller that has read one word more
 pub read-on : (setting : Setting) (seeker : Seeker) (call : FindCall) (later : List FindCall)
     (word : ℕ)
     (answer : Option Found) → seeker.calls ≡ call ∷ later
-    → answer_of (after_word setting call seeker.stage word) ≡ answer
+    → answer_of (after_word setting call seeker.pursuit word) ≡ answer
     → after_read setting seeker word
-    ≡ with_stage seeker call later (after_word setting call seeker.stage word) answer
+    ≡ with_pursuit seeker call later (after_word setting call seeker.pursuit word) answer
 read-on setting seeker call later word answer same ends =
     ap (λ cs. read_by setting seeker cs word) same
-    ∙ ap (with_stage seeker call later (after_word setting call seeker.stage word)) ends
+    ∙ ap (with_pursuit seeker call later (after_word setting call seeker.pursuit word)) ends
 
 -- the calls that are left are the last of the script
 pub drop-more : {A : Type 0} (n : ℕ) (xs : List A) (x : A) (later : List A) → x ∷ later ≡ drop n xs

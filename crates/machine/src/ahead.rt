@@ -1,7 +1,7 @@
 //! The writes that a subscriber has ahead.
 ghost use Rattle.std.specs.Prelude.{◌≡◌, ◌≤◌, ◌<◌, ◌-◌, [], ℕ, IfNone, IfSome, drop, length, vec_capacity, vec_len};
 ghost use Rattle.region_plan.specs.Plan.{PlanData};
-ghost use Rattle.handset.specs.Kept.{GoesWith, HandsetData};
+ghost use Rattle.handset.specs.Condition.{GoesWith, HandsetData};
 ghost use Rattle.handset.specs.NextEntries.{erasures_from, renewals_from};
 ghost use Rattle.handset.specs.declared.stage.Stage.{Stage};
 ghost use Rattle.visit_log.specs.Cells.{GoWith};

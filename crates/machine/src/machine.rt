@@ -10,7 +10,7 @@ ghost use Rattle.region_plan.specs.Plan.{nodes_of};
 ghost use Rattle.visit_log.specs.Cells.{GoWith, Hold};
 ghost use Rattle.visit_log.specs.Homes.{AreHomes};
 ghost use Rattle.visit_log.specs.Routes.{AreRoutes};
-ghost use Rattle.trail_laws.specs.Lines.{IsRightLine, TellInTurn, TellRisingNumbers};
+ghost use Rattle.trail_laws.specs.RightOutcomes.{IsRightLine, TellInTurn, TellRisingNumbers};
 ghost use Rattle.machine.specs.Callers.{IsCaller};
 ghost use Rattle.machine.specs.Machines.{HasStridden, IsSame, HasHistory, input_at, scripts_at, setting_at};
 ghost use Rattle.machine.specs.Stands.{BelongTogether};

@@ -19,7 +19,7 @@ use Rattle.node_set.specs.SetLaws.{ascending-passing, same_members, share_from}
 use Rattle.whole_powers.specs.Bounds.{PowersAdd}
 use Rattle.whole_powers.specs.PowerLaws.{zero_pow}
 use Rattle.mean_cover.specs.Covering.{is_last, mean_cluster, mean_clusters, mean_covering, sum_of_sizes}
-use Rattle.mean_cover.specs.Progress.{IsReady}
+use Rattle.mean_cover.specs.HalfMade.{IsReady}
 use Rattle.mean_cover.proofs.Growth.{growths_few, last_means}
 
 -- ---- one cluster

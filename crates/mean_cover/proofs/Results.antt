@@ -15,7 +15,7 @@ use Rattle.whole_powers.specs.Bounds.{PowersAdd}
 use Rattle.mean_cover.specs.Covering.{MeanClustersAreShaped, MeanCoversAreSmall, MeanHomesAreFound, mean_clusters}
 use Rattle.mean_cover.specs.Covering.{mean_covering, sum_of_sizes}
 use Rattle.mean_cover.specs.MeanCovers.{IsMeanCover, as_mean_cluster, member_lists}
-use Rattle.mean_cover.specs.Progress.{IsUnderWay, clusters_from}
+use Rattle.mean_cover.specs.HalfMade.{IsUnderWay, clusters_from}
 use Rattle.mean_cover.specs.declared.cover.MeanCluster.{MeanCluster}
 use Rattle.mean_cover.specs.declared.cover.MeanCover.{MeanCover}
 use Rattle.mean_cover.proofs.Clusters.{all_homed, all_shaped, covering_mean, covering_small}

@@ -12,7 +12,7 @@ use Rattle.node_set.specs.FilterLaws.{has-filter}
 use Rattle.node_set.specs.HomeLaws.{home_step}
 use Rattle.mean_cover.specs.Covering.{mean_cluster, mean_clusters, mean_covering}
 use Rattle.mean_cover.specs.MeanCovers.{as_mean_cluster}
-use Rattle.mean_cover.specs.Progress.{IsAdded, IsReady, IsUnderWay, clusters_from}
+use Rattle.mean_cover.specs.HalfMade.{IsAdded, IsReady, IsUnderWay, clusters_from}
 use Rattle.mean_cover.specs.declared.cover.MeanCluster.{MeanCluster}
 use Rattle.mean_cover.specs.declared.cover.MeanCover.{MeanCover}
 use Rattle.node_set.specs.declared.workspace.Workspace.{Workspace}

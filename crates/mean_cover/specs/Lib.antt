@@ -1,4 +1,4 @@
 pub mod Covering
 pub mod MeanCovers
-pub mod Progress
+pub mod HalfMade
 pub mod Examples

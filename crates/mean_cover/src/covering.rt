@@ -8,7 +8,7 @@ ghost use Rattle.node_set.specs.Turned.{AreTurned};
 ghost use Rattle.node_set.specs.Workspaces.{IsWorkspace};
 ghost use Rattle.mean_cover.specs.Covering.{mean_cluster, mean_covering};
 ghost use Rattle.mean_cover.specs.MeanCovers.{IsMeanCover, member_lists};
-ghost use Rattle.mean_cover.specs.Progress.{IsReady, IsAdded};
+ghost use Rattle.mean_cover.specs.HalfMade.{IsReady, IsAdded};
 
 use crate::cover::{MeanCluster, MeanCover};
 use crate::growing::grow;

@@ -5,7 +5,7 @@ ghost use Rattle.node_set.specs.Nodes.{Nodes};
 ghost use Rattle.node_set.specs.Balls.{AreInside, sets};
 ghost use Rattle.node_set.specs.Turned.{AreTurned};
 ghost use Rattle.mean_cover.specs.Covering.{mean_cluster};
-ghost use Rattle.mean_cover.specs.Progress.{IsReady};
+ghost use Rattle.mean_cover.specs.HalfMade.{IsReady};
 
 use node_set::{Growth, NodeSet, OutOfMemory, absorb_balls, empty_set, touch};
 use std::alloc::Global;

@@ -12,8 +12,8 @@ use Rattle.directory.specs.Courses.{Step}
 use Rattle.directory.specs.Writes.{Write, visit_of, visits}
 use Rattle.region_plan.specs.Plan.{PlanData, nodes_of}
 use Rattle.region_plan.specs.Settings.{setting_of}
-use Rattle.handset.specs.Kept.{HandsetData}
-use Rattle.handset.specs.Progress.{after_write, erasing_from, go_on, left_at, purging_from}
+use Rattle.handset.specs.Condition.{HandsetData}
+use Rattle.handset.specs.StepWrites.{after_write, erasing_from, go_on, left_at, purging_from}
 use Rattle.handset.specs.declared.stage.Stage.{Stage}
 use Rattle.handset.specs.declared.stage.Stage.TheVariants.{Resting, Coming, Renewing, Committing, Confirming, Erasing, Purging, Switching}
 use Rattle.handset.specs.Stands.{StandsForSteps}

@@ -17,8 +17,8 @@ use Rattle.region_plan.specs.Regions.{plan_of}
 use Rattle.region_plan.specs.Plan.{PlanData, levels_of}
 use Rattle.region_plan.specs.Settings.{setting_of}
 use Rattle.handset.specs.Beginning.{handset_at}
-use Rattle.handset.specs.Kept.{GoesWith, HandsetData}
-use Rattle.handset.specs.Progress.{due}
+use Rattle.handset.specs.Condition.{GoesWith, HandsetData}
+use Rattle.handset.specs.StepWrites.{due}
 use Rattle.handset.specs.Stands.{StandsForSteps}
 use Rattle.scripts.specs.Scripts.{scripts_of, step_of}
 use Rattle.scripts.specs.ScriptLaws.{steps-are}

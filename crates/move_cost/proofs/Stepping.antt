@@ -23,8 +23,8 @@ use Rattle.region_plan.specs.Kept.{IsKept}
 use Rattle.region_plan.specs.Matched.{IsMatched}
 use Rattle.region_plan.specs.Plan.{PlanData, distance, levels_of, nodes_of}
 use Rattle.region_plan.specs.Settings.{setting_of}
-use Rattle.handset.specs.Kept.{GoesWith, HandsetData, begun_at}
-use Rattle.handset.specs.Progress.{due, due_at}
+use Rattle.handset.specs.Condition.{GoesWith, HandsetData, begun_at}
+use Rattle.handset.specs.StepWrites.{due, due_at}
 use Rattle.handset.specs.StageLaws.{IsRestAfter, rest-after}
 use Rattle.handset.specs.Stands.{StandsAt, StandsForSteps}
 use Rattle.handset.specs.declared.stage.Stage.TheVariants.{Resting}

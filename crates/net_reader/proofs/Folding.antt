@@ -6,7 +6,7 @@ use Rattle.net_reader.specs.declared.fault.InputCause.TheVariants as causes
 use Rattle.net_reader.specs.declared.fault.InputFault.{InputFault}
 use Rattle.net_reader.specs.declared.word.Word.{Word}
 use Rattle.net_reader.specs.Said.{Said, nothing}
-use Rattle.net_reader.specs.Lines.{word_of, numbers_of, is_skipped, lines_of, fields_of}
+use Rattle.net_reader.specs.TextLines.{word_of, numbers_of, is_skipped, lines_of, fields_of}
 use Rattle.net_reader.specs.Table.{judge_word, judge, verdict, row_of, may_stand, place_of_word}
 use Rattle.net_reader.specs.Input.{after_line, read_from, read}
 

@@ -6,7 +6,7 @@ use Rattle.std.proofs.lemmas.List.Sums.{fold-append}
 use Rattle.std.specs.List.{list_all}
 use Rattle.net_reader.specs.declared.line.Open.{Open}
 use Rattle.net_reader.specs.declared.line.Open.TheVariants as opens
-use Rattle.net_reader.specs.Lines.{is_blank}
+use Rattle.net_reader.specs.TextLines.{is_blank}
 use Rattle.net_reader.specs.Steps.{IsRun, LineState, close, close_as, is_inside, is_plain, keep, more, pack, put}
 use Rattle.std.proofs.lemmas.Bool.{and_parts, and_from}
 

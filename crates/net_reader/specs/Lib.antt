@@ -1,4 +1,4 @@
-pub mod Lines
+pub mod TextLines
 pub mod Said
 pub mod Table
 pub mod Input

@@ -1,7 +1,7 @@
 //! A line that isn't at its end yet: its fields are counted and none of its bytes is kept.
 ghost use Rattle.std.specs.Prelude.{◌≡◌, ◌≢◌, ◌≤◌, IfOk, OnOk, IsTrue, true, false, length, take, fold};
 ghost use Rattle.std.specs.List.{list_all};
-ghost use Rattle.net_reader.specs.Lines.{is_blank};
+ghost use Rattle.net_reader.specs.TextLines.{is_blank};
 ghost use Rattle.net_reader.specs.declared.line.Open.TheVariants.{Number, Word};
 ghost use Rattle.net_reader.specs.Steps.{IsRun, LineState, pack, more, more_digits, close, keep, put, fresh, is_inside, is_plain};
 ghost use Rattle.net_reader.specs.Seen.{seen_line};

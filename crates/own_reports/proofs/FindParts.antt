@@ -31,9 +31,9 @@ use Rattle.region_plan.specs.Plan.{PlanData}
 use Rattle.region_plan.specs.Settings.{setting_of}
 use Rattle.region_plan.specs.Measures.{stretch_of}
 use Rattle.report_check.specs.Parts.{is_light, is_number, is_switch_at, is_ticket, is_told, meets_move, next_ticket, open_passage, told_before, unconfirmed}
-use Rattle.stretch_laws.specs.Lines.{IsLimited, IsLineWithin}
+use Rattle.stretch_laws.specs.NearOutcomes.{IsLimited, IsLineWithin}
 use Rattle.stretch_laws.specs.Plans.{bound_of}
-use Rattle.trail_laws.specs.Lines.{IsRightLine}
+use Rattle.trail_laws.specs.RightOutcomes.{IsRightLine}
 use Rattle.own_reports.specs.Reports.{KeepsParts}
 use Rattle.own_reports.proofs.Cuts.{IsOver, Laws, all_writes, commits-before, cut-below, cut-past, made_before, off-before, puts-before}
 use Rattle.own_reports.proofs.FindRuns.{caller-runs}

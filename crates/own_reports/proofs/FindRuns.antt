@@ -3,11 +3,11 @@ use Rattle.std.proofs.Common.{◌≡◌, ℕ, suc, ◌≤◌, List, [], ◌∷�
 use Rattle.std.specs.Prelude.{slice_index}
 use Rattle.std.proofs.lemmas.List.{map-append}
 use Rattle.directory.specs.Settings.{Setting, subs}
-use Rattle.directory.specs.Finds.{FindCall, Stage, after_word, answer_of, at_origin, chases, climbs, ended, key_of}
+use Rattle.directory.specs.Finds.{FindCall, Pursuit, after_word, answer_of, at_origin, chases, climbs, ended, key_of}
 use Rattle.directory.specs.Histories.{History, tickets, words_read}
 use Rattle.directory.specs.HistoryLaws.{next-caller}
 use Rattle.directory.specs.Looks.{look_by}
-use Rattle.directory.specs.Orders.{Answer, Caller, IsDone, IsPlayed, Scripts, after_read, caller_at, caller_in, finds_of, key_in, next_key, read_by, with_stage}
+use Rattle.directory.specs.Orders.{Answer, Caller, IsDone, IsPlayed, Scripts, after_read, caller_at, caller_in, finds_of, key_in, next_key, read_by, with_pursuit}
 use Rattle.directory.specs.Outcomes.{answer_line, caller_lines, found_line}
 use Rattle.directory.specs.Statements.{CallersCount}
 use Rattle.directory.specs.declared.answers.Found.{Found}
@@ -39,20 +39,20 @@ pub record IsCalling (finds : List FindCall) (caller : Caller) : Type 0 where
   pub joined : AreJoined 0 caller.answers caller.first
   pub low : caller.first ≤ caller.next
   pub ended : caller.calls ≡ [] → caller.first ≡ caller.next
-  pub going : answer_of caller.stage ≡ None
+  pub going : answer_of caller.pursuit ≡ None
   pub finds_are : map (λ (answer : Answer). answer.call) caller.answers ++ caller.calls ≡ finds
 
-with-stage : (finds later : List FindCall) (caller : Caller) (call : FindCall) (stage : Stage) (o : Option Found)
-    → IsCalling finds caller → caller.calls ≡ call ∷ later → answer_of stage ≡ o
-    → IsCalling finds (with_stage caller call later stage o)
-with-stage finds later caller call stage None calling here none = record {
+with-pursuit : (finds later : List FindCall) (caller : Caller) (call : FindCall) (pursuit : Pursuit) (o : Option Found)
+    → IsCalling finds caller → caller.calls ≡ call ∷ later → answer_of pursuit ≡ o
+    → IsCalling finds (with_pursuit caller call later pursuit o)
+with-pursuit finds later caller call pursuit None calling here none = record {
   joined = calling.joined;
   low = omega (arith, calling.low);
   ended = λ over. let bad : call ∷ later ≡ [] = sym here ∙ over in cc;
   going = none;
   finds_are = calling.finds_are;
 }
-with-stage finds later caller call stage (Some found) calling here some = record {
+with-pursuit finds later caller call pursuit (Some found) calling here some = record {
   joined = joined-more 0 caller.first caller.answers
       (record { call = call; found = found; first = caller.first; last = caller.next }) calling.joined refl calling.low;
   low = omega arith;
@@ -71,8 +71,8 @@ read-step : (setting : Setting) (finds calls : List FindCall) (caller : Caller) 
     → caller.calls ≡ calls → IsCalling finds (read_by setting caller calls word)
 read-step setting finds [] caller word calling here = calling
 read-step setting finds (call ∷ later) caller word calling here =
-    with-stage finds later caller call (after_word setting call caller.stage word)
-    (answer_of (after_word setting call caller.stage word)) calling here refl
+    with-pursuit finds later caller call (after_word setting call caller.pursuit word)
+    (answer_of (after_word setting call caller.pursuit word)) calling here refl
 
 read-all : (setting : Setting) (finds : List FindCall) (caller : Caller) (words : List ℕ) → IsCalling finds caller
     → IsCalling finds (fold (after_read setting) caller words)
@@ -95,22 +95,23 @@ calling-in setting scripts history actor =
     })
 
 -- a find without its answer wants a cell
-wants : (call : FindCall) (stage : Stage) → answer_of stage ≡ None → key_of call stage ≡ None → ⊥
+wants : (call : FindCall) (pursuit : Pursuit) → answer_of pursuit ≡ None → key_of call pursuit ≡ None → ⊥
 wants call at_origin going none = cc
 wants call (climbs known weight reader later) going none = cc
 wants call (chases chase node) going none = cc
 wants call (ended found) going none = cc
 
-no-calls : (calls : List FindCall) (stage : Stage) → answer_of stage ≡ None → key_in calls stage ≡ None → calls ≡ []
-no-calls [] stage going none = refl
-no-calls (call ∷ later) stage going none = absurd (wants call stage going none)
+no-calls : (calls : List FindCall) (pursuit : Pursuit) → answer_of pursuit ≡ None → key_in calls pursuit ≡ None
+    → calls ≡ []
+no-calls [] pursuit going none = refl
+no-calls (call ∷ later) pursuit going none = absurd (wants call pursuit going none)
 
 -- a caller that is done has no find left
 pub finds-over : (setting : Setting) (scripts : Scripts) (history : History) (actor : ℕ) → subs setting ≤ actor
     → IsDone setting scripts history actor → (caller_in setting scripts history actor).calls ≡ []
 finds-over setting scripts history actor high done =
     let caller : Caller = caller_in setting scripts history actor in
-    no-calls caller.calls caller.stage (calling-in setting scripts history actor).going
+    no-calls caller.calls caller.pursuit (calling-in setting scripts history actor).going
     (option_map-none (look_by actor) (next_key caller) (sym (next-caller setting scripts history actor high) ∙ done))
 
 found-run : (seen : List ℕ) (actor p e first last : ℕ) (call : FindCall) (found : Found) → HasEnds seen p e first last

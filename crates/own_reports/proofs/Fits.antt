@@ -12,10 +12,10 @@ use Rattle.entry_word.specs.declared.visit.Key.{Key}
 use Rattle.entry_word.specs.declared.visit.Key.TheVariants.{Presence, Entry}
 use Rattle.node_set.specs.Ascending.{has}
 use Rattle.directory.specs.Settings.{Setting, levels}
-use Rattle.directory.specs.Finds.{Chase, FindCall, Reader, Stage, after_entry, after_mark, after_origin, after_word, all_readers, at_origin, chases, climb, climbs, ended, found_weight, hop, is_known, key_of, known_with, looks_left, way_in}
+use Rattle.directory.specs.Finds.{Chase, FindCall, Reader, Pursuit, after_entry, after_mark, after_origin, after_word, all_readers, at_origin, chases, climb, climbs, ended, found_weight, hop, is_known, key_of, known_with, looks_left, way_in}
 use Rattle.directory.specs.Histories.{History, before, cell}
 use Rattle.directory.specs.Legal.{IsLegal}
-use Rattle.directory.specs.LookLaws.{stage-step, stage_after}
+use Rattle.directory.specs.LookLaws.{pursuit-step, pursuit_after}
 use Rattle.directory.specs.Looks.{AreLooks, IsFind}
 use Rattle.directory.specs.Statements.{LooksFall}
 use Rattle.directory.specs.Writes.{numbers_from}
@@ -38,8 +38,8 @@ IsFit setting (OffAt node number level weight) =
     (node < setting.nodes) × IsLevelBelow (levels setting) level × (weight ≤ most_weight)
 IsFit setting (Again why weight) = IsWhyBelow setting.nodes why × (weight ≤ most_weight)
 
--- the weight of a stage
-abbrev weight_of : Stage → ℕ
+-- the weight of a pursuit
+abbrev weight_of : Pursuit → ℕ
 weight_of at_origin = 0
 weight_of (climbs known weight reader later) = weight
 weight_of (chases chase node) = chase.weight
@@ -79,8 +79,8 @@ module _ (setting : Setting) (small : IsSmall setting) (call : FindCall) (from_i
       (level-readers from (setting.readers from call.from) (omega (arith, fits)) (λ c found. found))
       (readers-from (suc from) count (omega (arith, fits)))
 
-  -- where a stage is, and what it may answer
-  abbrev IsPlaced : Stage → Type 0
+  -- where a pursuit is, and what it may answer
+  abbrev IsPlaced : Pursuit → Type 0
   IsPlaced at_origin = Unit {0}
   IsPlaced (climbs known weight reader later) = AreReaders (reader ∷ later)
   IsPlaced (chases chase node) = (node < setting.nodes) × IsLevelBelow (levels setting) chase.level
@@ -100,9 +100,9 @@ module _ (setting : Setting) (small : IsSmall setting) (call : FindCall) (from_i
   IsAddressInside None = Unit {0}
   IsAddressInside (Some address) = address.node < setting.nodes
 
-  -- one stage more: where it is, and that it weighs little more
-  abbrev IsNext : Stage → Stage → Type 0
-  IsNext stage next = IsPlaced next × (weight_of next ≤ weight_of stage + 2 ^ 36)
+  -- one pursuit more: where it is, and that it weighs little more
+  abbrev IsNext : Pursuit → Pursuit → Type 0
+  IsNext pursuit next = IsPlaced next × (weight_of next ≤ weight_of pursuit + 2 ^ 36)
 
   climb-next : (known : Option ℕ) (weight most : ℕ) (readers : List Reader) → AreReaders readers → weight ≤ most
       → IsPlaced (climb known weight readers) × (weight_of (climb known weight readers) ≤ most)
@@ -173,8 +173,8 @@ module _ (setting : Setting) (small : IsSmall setting) (call : FindCall) (from_i
     entry-inside h level cluster None tells = tt
     entry-inside h level cluster (Some address) tells = tells.0
 
-    word-next : (stage : Stage) (t : ℕ) (key : Key) → IsPlaced stage → key_of call stage ≡ Some key
-        → IsNext stage (after_word setting call stage (cell setting (before t history) key))
+    word-next : (pursuit : Pursuit) (t : ℕ) (key : Key) → IsPlaced pursuit → key_of call pursuit ≡ Some key
+        → IsNext pursuit (after_word setting call pursuit (cell setting (before t history) key))
     word-next at_origin t key placed wanted =
         let e : Presence call.from call.sub ≡ key = cc in
         subst (λ k. IsNext at_origin (after_word setting call at_origin (cell setting (before t history) k))) e
@@ -198,24 +198,24 @@ module _ (setting : Setting) (small : IsSmall setting) (call : FindCall) (from_i
         (marks setting call.sub (before t history) few (legal t) node placed.0)))
     word-next (ended found) t key placed wanted = let bad : None ≡ Some key = wanted in cc
 
-    looks-fit : LooksFall → (actor earliest : ℕ) (stage : Stage) (seen : List ℕ)
-        → AreLooks setting history actor call earliest stage seen → IsPlaced stage
-        → weight_of stage + 2 ^ 36 * looks_left setting call stage ≤ most_weight
-        → IsPlaced (stage_after setting history call stage seen)
-        × (weight_of (stage_after setting history call stage seen) ≤ most_weight)
+    looks-fit : LooksFall → (actor earliest : ℕ) (pursuit : Pursuit) (seen : List ℕ)
+        → AreLooks setting history actor call earliest pursuit seen → IsPlaced pursuit
+        → weight_of pursuit + 2 ^ 36 * looks_left setting call pursuit ≤ most_weight
+        → IsPlaced (pursuit_after setting history call pursuit seen)
+        × (weight_of (pursuit_after setting history call pursuit seen) ≤ most_weight)
     unfolding AreLooks
-    looks-fit fall actor earliest stage [] looks placed light = (placed, omega (arith, light))
-    looks-fit fall actor earliest stage (t ∷ seen) (later, (key, wanted, there, looks)) placed light =
+    looks-fit fall actor earliest pursuit [] looks placed light = (placed, omega (arith, light))
+    looks-fit fall actor earliest pursuit (t ∷ seen) (later, (key, wanted, there, looks)) placed light =
         let word : ℕ = cell setting (before t history) key in
-        let next : Stage = after_word setting call stage word in
-        let goes : IsNext stage next = word-next stage t key placed wanted in
-        let fewer : looks_left setting call next < looks_left setting call stage = fall setting call stage word key
+        let next : Pursuit = after_word setting call pursuit word in
+        let goes : IsNext pursuit next = word-next pursuit t key placed wanted in
+        let fewer : looks_left setting call next < looks_left setting call pursuit = fall setting call pursuit word key
         wanted in
         subst (λ s. IsPlaced s × (weight_of s ≤ most_weight))
-        (sym (stage-step setting history actor call stage t key seen there))
+        (sym (pursuit-step setting history actor call pursuit t key seen there))
         (looks-fit fall actor (suc t) next seen looks goes.0
-        (less (weight_of stage) (weight_of next) (looks_left setting call stage) (looks_left setting call next) goes.1
-        fewer
+        (less (weight_of pursuit) (weight_of next) (looks_left setting call pursuit) (looks_left setting call next)
+        goes.1 fewer
         light))
       where
         less : (w v l k : ℕ) → v ≤ w + 2 ^ 36 → k < l → w + 2 ^ 36 * l ≤ most_weight → v + 2 ^ 36 * k ≤ most_weight

@@ -37,7 +37,7 @@ use Rattle.report_check.specs.Reading.{most}
 use Rattle.report_check.specs.Verdicts.{bounds_of}
 use Rattle.scripts.specs.Laws.{VisitsAreFew}
 use Rattle.scripts.specs.Scripts.{most_in, most_of, most_visits, scripts_of}
-use Rattle.trail_laws.specs.Lines.{IsRightLine}
+use Rattle.trail_laws.specs.RightOutcomes.{IsRightLine}
 use Rattle.trail_laws.specs.Trail.{EntriesTell, MarksTell}
 use Rattle.own_reports.specs.Reports.{OutcomesHaveForm, plan_in}
 use Rattle.own_reports.proofs.Cuts.{IsOver, Laws, legal-before}

@@ -9,7 +9,7 @@ use Rattle.std.proofs.lemmas.Option.{slice_get-map}
 use Rattle.entry_word.specs.declared.visit.Key.{Key}
 use Rattle.entry_word.specs.declared.visit.Visit.{Visit}
 use Rattle.directory.specs.Settings.{Setting, start, subs}
-use Rattle.directory.specs.Finds.{FindCall, Stage, at_origin, ended, find}
+use Rattle.directory.specs.Finds.{FindCall, Pursuit, at_origin, ended, find}
 use Rattle.directory.specs.Histories.{History, before, is_put_for, own, puts_to, through, words_at}
 use Rattle.directory.specs.HistoryLaws.{next-caller, next-sub}
 use Rattle.directory.specs.Looks.{AreLooks, IsFind, first_of, last_of, look_by, moves_at, moves_by}
@@ -29,14 +29,14 @@ use Rattle.directory.specs.ListLaws.{option_map-some}
 abbrev pub IsLook : History → ℕ → Type 0
 IsLook history t = (actor : ℕ) × (key : Key) × (slice_get history t ≡ Some (look_by actor key))
 
-each-look : (setting : Setting) (history : History) (actor : ℕ) (call : FindCall) (earliest : ℕ) (stage : Stage)
-    (seen : List ℕ) (i : ℕ) → AreLooks setting history actor call earliest stage seen → i < length seen
+each-look : (setting : Setting) (history : History) (actor : ℕ) (call : FindCall) (earliest : ℕ) (pursuit : Pursuit)
+    (seen : List ℕ) (i : ℕ) → AreLooks setting history actor call earliest pursuit seen → i < length seen
     → IsLook history (slice_index seen i)
 unfolding AreLooks
-each-look setting history actor call earliest stage [] i looks low = absurd (omega (arith, low))
-each-look setting history actor call earliest stage (t ∷ seen) zero looks low =
+each-look setting history actor call earliest pursuit [] i looks low = absurd (omega (arith, low))
+each-look setting history actor call earliest pursuit (t ∷ seen) zero looks low =
     (actor, looks.1.0, looks.1.2)
-each-look setting history actor call earliest stage (t ∷ seen) (suc i) looks low =
+each-look setting history actor call earliest pursuit (t ∷ seen) (suc i) looks low =
     each-look setting history actor call (suc t) _ seen i looks.1.3 (omega (arith, low))
 
 some-looks : (setting : Setting) (history : History) (call : FindCall) (found : Found) (seen : List ℕ)

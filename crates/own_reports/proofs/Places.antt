@@ -9,9 +9,9 @@ use Rattle.region_plan.specs.Meanings.{PlansMean}
 use Rattle.region_plan.specs.Plan.{PlanData}
 use Rattle.scripts.specs.Laws.{ScriptsAreValid}
 use Rattle.scripts.specs.Scripts.{scripts_of}
-use Rattle.stretch_laws.specs.Lines.{PlanOutcomesAreNear}
+use Rattle.stretch_laws.specs.NearOutcomes.{PlanOutcomesAreNear}
 use Rattle.stretch_laws.specs.Plans.{PlansTrack}
-use Rattle.trail_laws.specs.Lines.{OutcomesAreRight}
+use Rattle.trail_laws.specs.RightOutcomes.{OutcomesAreRight}
 use Rattle.own_reports.specs.Reports.{PlacesAreTold, plan_in}
 use Rattle.own_reports.proofs.Cuts.{IsOver, Laws}
 use Rattle.own_reports.proofs.FindParts.{line-keeps}

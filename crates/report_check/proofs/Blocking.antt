@@ -14,7 +14,7 @@ use Rattle.directory.specs.declared.answers.Done.TheVariants.{Moved, Switched, F
 use Rattle.report_check.specs.declared.blocks.Block.{Block}
 use Rattle.report_check.specs.declared.blocks.LinesByActor.{LinesByActor}
 use Rattle.report_check.specs.declared.calls.Line.{Line}
-use Rattle.report_check.specs.Lines.{done_of}
+use Rattle.report_check.specs.ReadLines.{done_of}
 use Rattle.report_check.specs.declared.told.Told.{Told}
 use Rattle.report_check.specs.Blocks.{AreBlocks, IsBlock, SwitchesAlike, TellsAlike, grown, is_switched, no_block}
 use Rattle.report_check.specs.Parts.{is_of}

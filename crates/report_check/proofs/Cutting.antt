@@ -6,7 +6,7 @@ use Rattle.std.specs.Str.{bytes_eq}
 use Rattle.std.proofs.lemmas.Bool.Decides.{Decides-eqb, nat_tests}
 use Rattle.std.proofs.lemmas.List.{take_all, take_more}
 use Rattle.std.proofs.lemmas.Slice.Eq.{bytes_eq-Decides}
-use Rattle.net_reader.specs.Lines.{fields_from, is_blank, without_return}
+use Rattle.net_reader.specs.TextLines.{fields_from, is_blank, without_return}
 use Rattle.report_check.specs.Cuts.{behind_blanks, is_cut, is_report_alone}
 use Rattle.report_check.specs.Reading.{word_in}
 

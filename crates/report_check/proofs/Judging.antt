@@ -10,7 +10,7 @@ use Rattle.report_check.specs.declared.verdict.Flaw.{Flaw}
 use Rattle.report_check.specs.declared.verdict.Flaw.TheVariants as flaws
 use Rattle.report_check.specs.declared.verdict.Verdict.{Verdict}
 use Rattle.report_check.specs.declared.verdict.Verdict.TheVariants.{Sound, Unsound}
-use Rattle.report_check.specs.Lines.{done_of}
+use Rattle.report_check.specs.ReadLines.{done_of}
 use Rattle.directory.specs.CallLines.{actor_of}
 use Rattle.report_check.specs.Parts.{end_of}
 use Rattle.report_check.specs.Verdicts.{end_before, flaw_of, has_call, is_first_last, is_last, is_last_at, line_behind, or_flaw, strangers, verdict_from}

@@ -5,7 +5,7 @@ use Rattle.std.proofs.lemmas.List.{drop_more, drop_all}
 use Rattle.directory.specs.declared.answers.Done.{Done}
 use Rattle.report_check.specs.declared.calls.Bounds.{Bounds}
 use Rattle.report_check.specs.declared.slots.Slot.{Slot}
-use Rattle.report_check.specs.Lines.{IsReadLine}
+use Rattle.report_check.specs.ReadLines.{IsReadLine}
 use Rattle.report_check.specs.Reading.{◌>>=◌, call_in, calls_in, ended, in_order, most, number_in, numbers_in, or_lines, order_in, order_line_count, orders_in, word_in}
 
 pub calls-bad : (bounds : Bounds) (before : List Done) (slots : List Slot) (i : ℕ) (d : Slot) (text : List ℕ)

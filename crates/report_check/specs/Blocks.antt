@@ -7,7 +7,7 @@ use Rattle.directory.specs.declared.answers.Done.{Done}
 use Rattle.directory.specs.declared.answers.Done.TheVariants.{Moved, Switched, Found, Off, Again}
 use Rattle.report_check.specs.declared.blocks.Block.{Block}
 use Rattle.report_check.specs.declared.blocks.LinesByActor.{LinesByActor}
-use Rattle.report_check.specs.Lines.{done_of}
+use Rattle.report_check.specs.ReadLines.{done_of}
 use Rattle.report_check.specs.declared.told.Told.{Told}
 use Rattle.report_check.specs.Parts.{is_of, is_switch_at, tell}
 

@@ -4,7 +4,7 @@
 -- Key laws: `cut_text` parts a text so; `example_cuts` computes some.
 use Rattle.std.specs.Prelude.{ℕ, ◌==◌, Bool, false, if◌then◌else◌, List, [], ◌∷◌, ◌++◌, codes}
 use Rattle.std.specs.Str.{bytes_eq}
-use Rattle.net_reader.specs.Lines.{fields_of, is_blank}
+use Rattle.net_reader.specs.TextLines.{fields_of, is_blank}
 
 -- whether `report` is the only one of these fields
 abbrev pub is_report_alone : List (List ℕ) → Bool

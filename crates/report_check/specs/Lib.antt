@@ -1,6 +1,6 @@
 pub mod Slots
 pub mod Reading
-pub mod Lines
+pub mod ReadLines
 pub mod Parts
 pub mod Verdicts
 pub mod VerdictText

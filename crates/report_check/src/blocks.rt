@@ -2,7 +2,7 @@
 ghost use Rattle.std.specs.Prelude.{◌≡◌, ◌<◌, ◌^◌, ℕ, IfOk, length, map, slice_index_or};
 ghost use Rattle.report_check.specs.Blocks.{AreBehind, AreBlocks, SwitchesAlike, TellsAlike, IsBlock, grown, is_switched, no_block};
 ghost use Rattle.report_check.specs.Parts.{is_of};
-ghost use Rattle.report_check.specs.Lines.{done_of};
+ghost use Rattle.report_check.specs.ReadLines.{done_of};
 ghost use Rattle.std.specs.List.{list_any};
 ghost use Rattle.directory.specs.CallLines.{actor_of};
 

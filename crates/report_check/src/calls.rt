@@ -2,7 +2,7 @@
 ghost use Rattle.std.specs.Prelude.{◌≡◌, ◌≤◌, ◌<◌, ◌^◌, ◌++◌, ◌∷◌, [], ℕ, List, Some, None, Ok, Err, IfSome, IfNone, IfOk, OnOk, drop, length, map, take};
 ghost use Rattle.report_text.specs.ReportText.{switch_field};
 ghost use Rattle.report_check.specs.Reading.{again_in, answer_in, call_in, find_in, level_in, most, move_in, number_in, place_in, switch_in, visits_in, why_in};
-ghost use Rattle.report_check.specs.Lines.{done_of};
+ghost use Rattle.report_check.specs.ReadLines.{done_of};
 
 use crate::cursor::Cursor;
 use crate::slots::Slot;

@@ -4,7 +4,7 @@ ghost use Rattle.net_reader.specs.Seen.{seen_input};
 ghost use Rattle.net_reader.specs.Valid.{IsValid};
 ghost use Rattle.region_plan.specs.Plan.{PlanData};
 ghost use Rattle.report_check.specs.Grounds.{IsGround, IsGroundAlone};
-ghost use Rattle.report_check.specs.Lines.{seen};
+ghost use Rattle.report_check.specs.ReadLines.{seen};
 ghost use Rattle.report_check.specs.Verdicts.{judged, most_bytes, verdict_of};
 
 use crate::blocks::{LinesByActor, behind_tickets, blocks_of, switch_block};

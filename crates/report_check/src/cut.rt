@@ -1,7 +1,7 @@
 //! Where a text is cut that has an input and a report.
 ghost use Rattle.std.specs.Prelude.{◌≡◌, ◌≤◌, length};
 ghost use Rattle.report_check.specs.Cuts.{behind_blanks, input_part, is_cut, report_part};
-ghost use Rattle.net_reader.specs.Lines.{is_blank, without_return};
+ghost use Rattle.net_reader.specs.TextLines.{is_blank, without_return};
 
 use crate::cursor::Cursor;
 

@@ -3,7 +3,7 @@ ghost use Rattle.std.specs.Prelude.{◌≡◌, ◌+◌, ◌*◌, ◌<◌, ◌≤
 ghost use Rattle.std.specs.List.{list_all};
 ghost use Rattle.region_plan.specs.Plan.{PlanData};
 ghost use Rattle.region_plan.specs.Settings.{setting_of};
-ghost use Rattle.report_check.specs.Lines.{done_of};
+ghost use Rattle.report_check.specs.ReadLines.{done_of};
 ghost use Rattle.report_check.specs.Parts.{again_holds, end_of, has_tickets, is_light, is_number, is_told, is_ticket, none_left, open_passage, place_holds, tickets_hold, unconfirmed, weight_holds};
 ghost use Rattle.report_check.specs.Verdicts.{flaw_of, has_call, is_last_at, judged, line_behind};
 ghost use Rattle.report_check.specs.Blocks.{AreBehind, AreBlocks};

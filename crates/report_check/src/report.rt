@@ -1,7 +1,7 @@
 //! A whole report: the lines of the calls, the lines of the order, and the end.
 ghost use Rattle.std.specs.Prelude.{◌≡◌, ◌≤◌, ◌<◌, ◌^◌, ◌++◌, ◌∷◌, [], ℕ, List, Some, None, Ok, Err, IfSome, IfNone, IfOk, IfErr, OnOk, OnSome, drop, length, map, take};
 ghost use Rattle.report_check.specs.Reading.{calls_in, numbers_in, order_in, order_line_count, orders_in, report_end, report_in};
-ghost use Rattle.report_check.specs.Lines.{AreRead, IsReadLine, done_of, read_of, seen};
+ghost use Rattle.report_check.specs.ReadLines.{AreRead, IsReadLine, done_of, read_of, seen};
 
 use crate::calls::{Bounds, Line};
 use crate::cursor::Cursor;

@@ -2,7 +2,7 @@
 ghost use Rattle.std.specs.Prelude.{◌≡◌, ◌-◌, ◌<◌, ◌^◌, Some, None, drop, fold, length, map, suc};
 ghost use Rattle.std.specs.List.{list_any};
 ghost use Rattle.report_check.specs.Blocks.{AreBlocks};
-ghost use Rattle.report_check.specs.Lines.{done_of};
+ghost use Rattle.report_check.specs.ReadLines.{done_of};
 ghost use Rattle.report_check.specs.Parts.{at_start, first_from, is_of_move, is_switch_at, meets_from, meets_move, next_ticket, tell, told_before};
 
 use crate::blocks::LinesByActor;

@@ -26,7 +26,7 @@ word_of (Off node number level weight) = codes "off"
 word_of (Again why weight) = codes "again"
 
 -- the lines of a report: the one that was made last, and those that are left
-pub record LinesState : Type 0 where
+pub record ReportState : Type 0 where
   pub line : List ℕ
   pub left : List (List ℕ)
 

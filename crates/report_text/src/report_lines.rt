@@ -182,9 +182,9 @@ pub struct Lines<'a> {
 }
 
 impl<'a> Model for Lines<'a> {
-    ghost use Rattle.report_text.specs.Written.{LinesState, lines_left};
+    ghost use Rattle.report_text.specs.Written.{ReportState, lines_left};
 
-    ghost Value = { LinesState };
+    ghost Value = { ReportState };
 
     ghost view = { λ l. record {
       line = l.line;

@@ -8,12 +8,12 @@ use Rattle.entry_word.specs.declared.visit.Key.{Key}
 use Rattle.entry_word.specs.declared.visit.Act.{Act}
 use Rattle.entry_word.specs.declared.visit.Act.TheVariants.{Look}
 use Rattle.directory.specs.Settings.{Setting}
-use Rattle.directory.specs.Finds.{FindCall, Stage, after_word, answer_of, at_origin, chases, climbs, ended, key_of, looks_left, most_looks}
+use Rattle.directory.specs.Finds.{FindCall, Pursuit, after_word, answer_of, at_origin, chases, climbs, ended, key_of, looks_left, most_looks}
 use Rattle.directory.specs.Histories.{History, before, cell}
 use Rattle.directory.specs.Legal.{IsLegal}
 use Rattle.directory.specs.Looks.{look_by}
 use Rattle.directory.specs.HistoryLaws.{next-caller}
-use Rattle.directory.specs.Orders.{AreValid, Caller as Seeker, IsFindCall, after_read, caller_in, finds_of, key_in, with_stage}
+use Rattle.directory.specs.Orders.{AreValid, Caller as Seeker, IsFindCall, after_read, caller_in, finds_of, key_in, with_pursuit}
 use Rattle.directory.specs.Statements.{CallersKept, CallersRead, LooksFall}
 use Rattle.directory.specs.declared.answers.Found.{Found}
 use Rattle.distances.specs.Table.{DistanceTable}
@@ -33,7 +33,7 @@ use Rattle.station.specs.Visits.{HasVisited}
 use Rattle.trail_laws.specs.Trail.{EntriesTell, MarksTell}
 use Rattle.trail_laws.specs.Within.{HistoryFrontsAreLegal}
 use Rattle.walk.specs.LookLaws.{word-wanted}
-use Rattle.walk.specs.Walks.{IsWalkOver, IsWordBelow, WalkData, call_of, stage_of}
+use Rattle.walk.specs.Walks.{IsWalkOver, IsWordBelow, WalkData, call_of, pursuit_of}
 use Rattle.runner.specs.Playing.{HasMadeNext, looks_after}
 use Rattle.runner.specs.PlayLaws.{caller-in}
 use Rattle.runner.specs.Roles.{HasLookedOn, IsFinder, IsSetFor}
@@ -43,10 +43,10 @@ use Rattle.runner.specs.declared.finder.Finder.{Finder}
 pub walking-of : (input : Contents) (setup : Setup) (actor : ℕ) (seen : History) (spare : ℕ) (finder : Finder)
     (walk : WalkData) → IsFinder input setup actor seen spare finder → finder.walk ≡ Some walk
     → Walks setup.plan (caller_in (setting_in setup) (scripts_of input) seen actor).calls
-    (caller_in (setting_in setup) (scripts_of input) seen actor).stage walk
+    (caller_in (setting_in setup) (scripts_of input) seen actor).pursuit walk
 walking-of input setup actor seen spare finder walk its some =
     walking setup.plan (caller_in (setting_in setup) (scripts_of input) seen actor).calls
-    (caller_in (setting_in setup) (scripts_of input) seen actor).stage finder.walk walk some its.walk
+    (caller_in (setting_in setup) (scripts_of input) seen actor).pursuit finder.walk walk some its.walk
 
 -- what an option holds, by its test
 pub some-is : {A : Type 0} (o : Option A) → is_some o ≡ true → (x : A) × (o ≡ Some x)
@@ -87,15 +87,15 @@ pub walk-known : ScriptsAreValid → (input : Contents) (setup : Setup) (plan : 
 walk-known scripts input setup plan distances actor seen spare finder walk set its some =
     let setting = setting_in setup in
     let seeker = caller_in setting (scripts_of input) seen actor in
-    let at = walking setup.plan seeker.calls seeker.stage finder.walk walk some its.walk in
+    let at = walking setup.plan seeker.calls seeker.pursuit finder.walk walk some its.walk in
     let valid = scripts input setting set.together.valid (set-setting input setup plan distances set) in
     let known = call-known input setup actor finder.done at.call at.later valid set.homes its.high its.low
     (sym at.calls_are ∙ its.left) in
     subst (λ (c : FindCall). c.sub < subs_in setup) (sym at.its) known.known
 
 -- the looks that are left of a find without an answer are some
-left-some : (setting : Setting) (call : FindCall) (stage : Stage) → answer_of stage ≡ None
-    → 1 ≤ looks_left setting call stage
+left-some : (setting : Setting) (call : FindCall) (pursuit : Pursuit) → answer_of pursuit ≡ None
+    → 1 ≤ looks_left setting call pursuit
 left-some setting call at_origin none = omega arith
 left-some setting call (climbs known weight reader later) none = omega arith
 left-some setting call (chases chase node) none = omega arith
@@ -107,12 +107,12 @@ pub look-room : (input : Contents) (setup : Setup) (actor : ℕ) (seen : History
 look-room input setup actor seen spare finder walk its some =
     let setting = setting_in setup in
     let seeker = caller_in setting (scripts_of input) seen actor in
-    let at = walking setup.plan seeker.calls seeker.stage finder.walk walk some its.walk in
+    let at = walking setup.plan seeker.calls seeker.pursuit finder.walk walk some its.walk in
     omega (
       arith,
-      left-some setting at.call seeker.stage at.unanswered,
+      left-some setting at.call seeker.pursuit at.unanswered,
       its.room,
-      ap (λ cs. looks_after setting cs seeker.stage) at.calls_are,
+      ap (λ cs. looks_after setting cs seeker.pursuit) at.calls_are,
     )
 
 -- the finds of a caller's script begin within the plan
@@ -132,11 +132,11 @@ pub looks-origin : (setting : Setting) (finds : List FindCall)
 looks-origin setting [] = refl
 looks-origin setting (call ∷ later) = sym (sum_by-cons (λ (find : FindCall). most_looks setting find.from) call later)
 
-pub room-of : (setting : Setting) (spare : ℕ) (one two : List FindCall) (stage other : Stage) → one ≡ two
-    → stage ≡ other
-    → looks_after setting two other ≤ spare → looks_after setting one stage ≤ spare
-room-of setting spare one two stage other e f room =
-    subst (λ finds. looks_after setting finds stage ≤ spare) (sym e)
+pub room-of : (setting : Setting) (spare : ℕ) (one two : List FindCall) (pursuit other : Pursuit) → one ≡ two
+    → pursuit ≡ other
+    → looks_after setting two other ≤ spare → looks_after setting one pursuit ≤ spare
+room-of setting spare one two pursuit other e f room =
+    subst (λ finds. looks_after setting finds pursuit ≤ spare) (sym e)
     (subst (λ s. looks_after setting two s ≤ spare) (sym f) room)
 
 -- a caller that has a walk has done fewer finds than its script has, and these are few
@@ -146,7 +146,7 @@ pub done-low : (input : Contents) (setup : Setup) (actor : ℕ) (seen : History)
 done-low input setup actor seen spare finder walk valid homes its some =
     let setting = setting_in setup in
     let seeker = caller_in setting (scripts_of input) seen actor in
-    let at = walking setup.plan seeker.calls seeker.stage finder.walk walk some its.walk in
+    let at = walking setup.plan seeker.calls seeker.pursuit finder.walk walk some its.walk in
     let more = drop-more finder.done (finds_of setting (scripts_of input) actor) at.call at.later
     (sym at.calls_are ∙ its.left) in
     omega (
@@ -163,18 +163,18 @@ pub record Looked (input : Contents) (setup : Setup) (old new : PassData) (finde
   pub made : HasMadeNext input setup old new
   pub call : FindCall
   pub later : List FindCall
-  pub stage : Stage
+  pub pursuit : Pursuit
   pub word : ℕ
   pub left : call ∷ later ≡ drop finder.done (finds_of (setting_in setup) (scripts_of input) old.view.low)
   pub its : call_of moved ≡ call
-  pub stage_is : stage_of setup.plan moved ≡ stage
+  pub pursuit_is : pursuit_of setup.plan moved ≡ pursuit
   pub goes : IsWalkOver setup.plan moved
-  pub is : (answer : Option Found) → answer_of stage ≡ answer
+  pub is : (answer : Option Found) → answer_of pursuit ≡ answer
       → caller_in (setting_in setup) (scripts_of input) new.view.seen old.view.low
-      ≡ with_stage (caller_in (setting_in setup) (scripts_of input) old.view.seen old.view.low) call later stage
+      ≡ with_pursuit (caller_in (setting_in setup) (scripts_of input) old.view.seen old.view.low) call later pursuit
       answer
   pub unanswered : (caller_in (setting_in setup) (scripts_of input) old.view.seen old.view.low).calls ≡ call ∷ later
-  pub fewer : looks_left (setting_in setup) call stage
+  pub fewer : looks_left (setting_in setup) call pursuit
       + sum_by (λ (find : FindCall). most_looks (setting_in setup) find.from) later < old.spare
 
 pub looked : CallersKept → CallersRead → LooksFall → (input : Contents) (setup : Setup) (old new : PassData)
@@ -186,7 +186,7 @@ looked kept read fall input setup old new finder walk moved homes its some on =
     let scripts = scripts_of input in
     let actor = old.view.low in
     let seeker = caller_in setting scripts old.view.seen actor in
-    let at = walking setup.plan seeker.calls seeker.stage finder.walk walk some its.walk in
+    let at = walking setup.plan seeker.calls seeker.pursuit finder.walk walk some its.walk in
     let visited : HasVisited old (Look on.key) on.ticket new = on.visited in
     let front : before on.ticket new.view.seen ≡ visited.earlier =
     ap (take on.ticket) visited.seen
@@ -194,9 +194,9 @@ looked kept read fall input setup old new finder walk moved homes its some on =
     ∙ (take-append-le (length visited.earlier) visited.earlier (look_by actor on.key ∷ []) (omega arith)
     ∙ take_all (length visited.earlier) visited.earlier (omega arith))) in
     let word = cell setting visited.earlier on.key in
-    let stage = after_word setting at.call seeker.stage word in
-    let key : key_of at.call seeker.stage ≡ Some on.key =
-    ap (λ c. key_of c seeker.stage) (sym at.its) ∙ (ap (key_of (call_of walk)) (sym at.so_far) ∙ on.wanted) in
+    let pursuit = after_word setting at.call seeker.pursuit word in
+    let key : key_of at.call seeker.pursuit ≡ Some on.key =
+    ap (λ c. key_of c seeker.pursuit) (sym at.its) ∙ (ap (key_of (call_of walk)) (sym at.so_far) ∙ on.wanted) in
     let reads : caller_in setting scripts new.view.seen actor ≡ after_read setting seeker word =
     ap (λ h. caller_in setting scripts h actor) visited.seen
     ∙ (read setting scripts visited.earlier actor on.key
@@ -209,33 +209,33 @@ looked kept read fall input setup old new finder walk moved homes its some on =
         visited = visited;
         is_next = next-caller setting scripts old.view.seen actor (omega (arith, its.high, ap length homes))
             ∙ ap (λ o. option_map (look_by actor) o)
-            (ap (λ cs. key_in cs seeker.stage) at.calls_are ∙ key);
+            (ap (λ cs. key_in cs seeker.pursuit) at.calls_are ∙ key);
       };
       call = at.call;
       later = at.later;
-      stage = stage;
+      pursuit = pursuit;
       word = word;
       left = sym at.calls_are ∙ its.left;
       its = on.call ∙ at.its;
-      stage_is = on.stage
-          ∙ (ap (λ h. after_word setting (call_of walk) (stage_of setup.plan walk) (cell setting h on.key)) front
+      pursuit_is = on.pursuit
+          ∙ (ap (λ h. after_word setting (call_of walk) (pursuit_of setup.plan walk) (cell setting h on.key)) front
           ∙ (ap (λ s. after_word setting (call_of walk) s word) at.so_far
-          ∙ ap (λ c. after_word setting c seeker.stage word) at.its));
+          ∙ ap (λ c. after_word setting c seeker.pursuit word) at.its));
       goes = on.goes;
       is = λ answer ends. reads ∙ read-on setting seeker at.call at.later word answer at.calls_are ends;
       unanswered = at.calls_are;
       fewer = omega (
         arith,
-        fall setting at.call seeker.stage word on.key key,
+        fall setting at.call seeker.pursuit word on.key key,
         its.room,
-        ap (λ cs. looks_after setting cs seeker.stage) at.calls_are,
+        ap (λ cs. looks_after setting cs seeker.pursuit) at.calls_are,
       );
     }
 
 -- the find goes on
 pub looked-on : (input : Contents) (setup : Setup) (old new : PassData) (first last : Finder)
     (moved : WalkData) → IsFinder input setup old.view.low old.view.seen old.spare first
-    → Looked input setup old new first moved → answer_of (stage_of setup.plan moved) ≡ None
+    → Looked input setup old new first moved → answer_of (pursuit_of setup.plan moved) ≡ None
     → last.script.items ≡ first.script.items → last.subs ≡ first.subs → last.done ≡ first.done
     → last.walk ≡ Some moved
     → IsFinder input setup new.view.low new.view.seen new.spare last
@@ -243,32 +243,32 @@ looked-on input setup old new first last moved its at none script subs done walk
     let setting = setting_in setup in
     let scripts = scripts_of input in
     let visited = at.made.visited in
-    let unanswered : answer_of at.stage ≡ None = ap answer_of (sym at.stage_is) ∙ none in
+    let unanswered : answer_of at.pursuit ≡ None = ap answer_of (sym at.pursuit_is) ∙ none in
     let is = at.is None unanswered in
     let finds : (caller_in setting scripts new.view.seen old.view.low).calls ≡ at.call ∷ at.later =
     ap (λ (s : Seeker). s.calls) is ∙ at.unanswered in
-    let stage : (caller_in setting scripts new.view.seen old.view.low).stage ≡ at.stage =
-    ap (λ (s : Seeker). s.stage) is in
+    let pursuit : (caller_in setting scripts new.view.seen old.view.low).pursuit ≡ at.pursuit =
+    ap (λ (s : Seeker). s.pursuit) is in
     subst (λ a. IsFinder input setup a new.view.seen new.spare last) (sym visited.same.actor)
     (record {
       high = its.high;
       low = its.low;
       script = script ∙ its.script;
       subs = subs ∙ its.subs;
-      walk = subst (λ cs. IsWalking setup.plan cs (caller_in setting scripts new.view.seen old.view.low).stage
+      walk = subst (λ cs. IsWalking setup.plan cs (caller_in setting scripts new.view.seen old.view.low).pursuit
           last.walk)
           (sym finds)
-          (subst (λ s. IsWalking setup.plan (at.call ∷ at.later) s last.walk) (sym stage)
-          (subst (IsWalking setup.plan (at.call ∷ at.later) at.stage) (sym walk)
-          (at.its, at.stage_is, at.goes, unanswered)));
+          (subst (λ s. IsWalking setup.plan (at.call ∷ at.later) s last.walk) (sym pursuit)
+          (subst (IsWalking setup.plan (at.call ∷ at.later) at.pursuit) (sym walk)
+          (at.its, at.pursuit_is, at.goes, unanswered)));
       left = finds ∙ (at.left ∙ ap (λ n. drop n (finds_of setting scripts old.view.low)) (sym done));
-      room = room-of setting new.spare _ _ _ _ finds stage (omega (arith, at.fewer, visited.spare));
+      room = room-of setting new.spare _ _ _ _ finds pursuit (omega (arith, at.fewer, visited.spare));
     })
 
 -- the find has its answer, and the next one begins
 pub looked-up : (input : Contents) (setup : Setup) (old new : PassData) (first last : Finder)
     (moved : WalkData) (found : Found) → IsFinder input setup old.view.low old.view.seen old.spare first
-    → Looked input setup old new first moved → answer_of (stage_of setup.plan moved) ≡ Some found
+    → Looked input setup old new first moved → answer_of (pursuit_of setup.plan moved) ≡ Some found
     → last.script.items ≡ first.script.items → last.subs ≡ first.subs → last.done ≡ suc first.done
     → IsWalking setup.plan (drop last.done (map find_of first.script.items)) at_origin last.walk
     → setup.homes ≡ input.homes
@@ -277,11 +277,11 @@ looked-up input setup old new first last moved found its at some script subs don
     let setting = setting_in setup in
     let scripts = scripts_of input in
     let visited = at.made.visited in
-    let is = at.is (Some found) (ap answer_of (sym at.stage_is) ∙ some) in
+    let is = at.is (Some found) (ap answer_of (sym at.pursuit_is) ∙ some) in
     let finds : (caller_in setting scripts new.view.seen old.view.low).calls ≡ at.later =
     ap (λ (s : Seeker). s.calls) is in
-    let stage : (caller_in setting scripts new.view.seen old.view.low).stage ≡ at_origin =
-    ap (λ (s : Seeker). s.stage) is in
+    let pursuit : (caller_in setting scripts new.view.seen old.view.low).pursuit ≡ at_origin =
+    ap (λ (s : Seeker). s.pursuit) is in
     let more = drop-more first.done (finds_of setting scripts old.view.low) at.call at.later at.left in
     let later : at.later ≡ drop last.done (finds_of setting scripts old.view.low) =
     more.1 ∙ ap (λ n. drop n (finds_of setting scripts old.view.low)) (sym done) in
@@ -293,13 +293,13 @@ looked-up input setup old new first last moved found its at some script subs don
       low = its.low;
       script = script ∙ its.script;
       subs = subs ∙ its.subs;
-      walk = subst (λ cs. IsWalking setup.plan cs (caller_in setting scripts new.view.seen old.view.low).stage
+      walk = subst (λ cs. IsWalking setup.plan cs (caller_in setting scripts new.view.seen old.view.low).pursuit
           last.walk)
           (sym (finds ∙ (later ∙ ap (drop last.done) (sym all))))
           (subst (λ s. IsWalking setup.plan (drop last.done (map find_of first.script.items)) s last.walk)
-          (sym stage) walk);
+          (sym pursuit) walk);
       left = finds ∙ later;
-      room = room-of setting new.spare _ _ _ _ finds stage
+      room = room-of setting new.spare _ _ _ _ finds pursuit
           (omega (arith, at.fewer, visited.spare, looks-origin setting at.later));
     })
 
@@ -308,7 +308,7 @@ pub word-seen : MarksTell → EntriesTell → HistoryFrontsAreLegal → (setup :
     (old new : PassData) (act : Act) (ticket word : ℕ) (walk : WalkData) (key : Key) → plan ≡ setup.plan
     → IsMatched plan → old.view.setup ≡ setup → HasVisited old act ticket new
     → word ≡ cell (setting_in setup) (before ticket new.view.seen) key → walk.sub < subs_in setup
-    → IsWalkOver setup.plan walk → key_of (call_of walk) (stage_of setup.plan walk) ≡ Some key
+    → IsWalkOver setup.plan walk → key_of (call_of walk) (pursuit_of setup.plan walk) ≡ Some key
     → IsWordBelow (nodes_of plan) walk.progress word
 word-seen marks entries fronts setup plan old new act ticket word walk key same matched told visited reads known goes
     wanted =

@@ -14,8 +14,8 @@ use Rattle.directory.specs.Legal.{IsScript}
 use Rattle.directory.specs.Orders.{AreValid, next, script_visits, steps_of}
 use Rattle.directory.specs.StepLaws.{past-end, take-append, take-more, visits-append, visits_in}
 use Rattle.directory.specs.Writes.{visit_of, visits}
-use Rattle.handset.specs.Kept.{GoesWith, HandsetData}
-use Rattle.handset.specs.Progress.{due, due_at}
+use Rattle.handset.specs.Condition.{GoesWith, HandsetData}
+use Rattle.handset.specs.StepWrites.{due, due_at}
 use Rattle.handset.specs.StageLaws.{IsRestAfter}
 use Rattle.handset.specs.Stands.{StandsForSteps}
 use Rattle.machine.specs.RestLaws.{IsStep, course-steps, may-begin, rests}

@@ -10,7 +10,7 @@ use Rattle.directory.specs.Legal.{IsScript}
 use Rattle.directory.specs.Orders.{Caller as Seeker, Scripts, caller_at, caller_in, finds_of, steps_of}
 use Rattle.directory.specs.Statements.{CallersKept, MovesAreShort}
 use Rattle.directory.specs.Writes.{visit_of, writes}
-use Rattle.handset.specs.Kept.{GoesWith}
+use Rattle.handset.specs.Condition.{GoesWith}
 use Rattle.handset.specs.Stands.{StandsForSteps}
 use Rattle.machine.specs.Stands.{BeginInside, BeginsInside, IsWalking}
 use Rattle.net_reader.specs.declared.said.Call.{Call}
@@ -151,19 +151,20 @@ finder-at kept input plan actor visits finder high low script subs done walk mos
     let new : caller_in setting scripts view.seen actor ≡ caller_at finds =
     caller-in kept setting scripts actor [] view.seen refl none ∙ caller-new setting scripts actor in
     let calls_are : (caller_in setting scripts view.seen actor).calls ≡ finds = ap (λ (s : Seeker). s.calls) new in
-    let stage : (caller_in setting scripts view.seen actor).stage ≡ at_origin = ap (λ (s : Seeker). s.stage) new in
+    let pursuit : (caller_in setting scripts view.seen actor).pursuit ≡ at_origin =
+    ap (λ (s : Seeker). s.pursuit) new in
     subst (λ a. IsFinder input setup a view.seen spare finder) (sym is)
     (record {
       high = high;
       low = low;
       script = script;
       subs = subs;
-      walk = subst (λ cs. IsWalking setup.plan cs (caller_in setting scripts view.seen actor).stage finder.walk)
+      walk = subst (λ cs. IsWalking setup.plan cs (caller_in setting scripts view.seen actor).pursuit finder.walk)
           (sym (calls_are ∙ all))
-          (subst (λ s. IsWalking setup.plan (map find_of finder.script.items) s finder.walk) (sym stage)
+          (subst (λ s. IsWalking setup.plan (map find_of finder.script.items) s finder.walk) (sym pursuit)
           (subst (λ p. IsWalking p (map find_of finder.script.items) at_origin finder.walk) set.plan_is walk));
       left = calls_are ∙ sym (ap (λ n. drop n finds) done);
-      room = room-of setting spare _ _ _ _ (calls_are ∙ all) stage (omega (
+      room = room-of setting spare _ _ _ _ (calls_are ∙ all) pursuit (omega (
         arith,
         enough,
         most setup.homes,

@@ -8,7 +8,7 @@ use Rattle.std.specs.Prelude.{◌≡◌, ℕ, ◌+◌, List, [], ◌∷◌, Opti
 use Rattle.entry_word.specs.declared.visit.Act.{Act}
 use Rattle.entry_word.specs.declared.visit.Visit.{Visit}
 use Rattle.directory.specs.Settings.{Setting}
-use Rattle.directory.specs.Finds.{FindCall, Stage, looks_left, most_looks}
+use Rattle.directory.specs.Finds.{FindCall, Pursuit, looks_left, most_looks}
 use Rattle.directory.specs.Histories.{History, before}
 use Rattle.directory.specs.Orders.{Scripts, next}
 use Rattle.net_reader.specs.Input.{Contents}
@@ -36,8 +36,8 @@ pub record HasMadeNext (input : Contents) (setup : Setup) (old new : PassData) :
   pub visited : HasVisited old act ticket new
   pub is_next : next_of input setup old.view ≡ Some (visit_by old.view act)
 
--- the most looks that are left of these finds, the first of which is at this stage
-abbrev pub looks_after : Setting → List FindCall → Stage → ℕ
-looks_after setting [] stage = 0
-looks_after setting (call ∷ later) stage =
-    looks_left setting call stage + sum_by (λ find. most_looks setting find.from) later
+-- the most looks that are left of these finds, the first of which is at this pursuit
+abbrev pub looks_after : Setting → List FindCall → Pursuit → ℕ
+looks_after setting [] pursuit = 0
+looks_after setting (call ∷ later) pursuit =
+    looks_left setting call pursuit + sum_by (λ find. most_looks setting find.from) later

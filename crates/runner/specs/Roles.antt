@@ -8,7 +8,7 @@ use Rattle.distances.specs.Table.{DistanceTable}
 use Rattle.directory.specs.Courses.{Step}
 use Rattle.directory.specs.Writes.{visits}
 use Rattle.directory.specs.Orders.{caller_in, finds_of, script_visits, steps_of}
-use Rattle.handset.specs.Progress.{due}
+use Rattle.handset.specs.StepWrites.{due}
 use Rattle.machine.specs.Stands.{BelongTogether, IsWalking}
 use Rattle.net_reader.specs.Input.{Contents}
 use Rattle.region_plan.specs.Plan.{PlanData}
@@ -22,7 +22,7 @@ use Rattle.directory.specs.Finds.{after_word, answer_of, key_of}
 use Rattle.directory.specs.Histories.{History, before, cell, own, puts_to}
 use Rattle.entry_word.specs.declared.visit.Act.TheVariants.{Look}
 use Rattle.entry_word.specs.declared.visit.Key.{Key}
-use Rattle.walk.specs.Walks.{IsWalkOver, WalkData, call_of, stage_of}
+use Rattle.walk.specs.Walks.{IsWalkOver, WalkData, call_of, pursuit_of}
 use Rattle.station.specs.declared.turns.Held.{Held}
 use Rattle.station.specs.declared.view.View.{View}
 use Rattle.runner.specs.Playing.{HasMadeNext, looks_after, next_of}
@@ -76,12 +76,12 @@ pub record IsFinder (input : Contents) (setup : Setup) (actor : ℕ) (seen : His
   pub subs : finder.subs ≡ length input.homes
   pub walk : IsWalking setup.plan
       (caller_in (setting_in setup) (scripts_of input) seen actor).calls
-      (caller_in (setting_in setup) (scripts_of input) seen actor).stage finder.walk
+      (caller_in (setting_in setup) (scripts_of input) seen actor).pursuit finder.walk
   pub left : (caller_in (setting_in setup) (scripts_of input) seen actor).calls
       ≡ drop finder.done (finds_of (setting_in setup) (scripts_of input) actor)
   pub room : looks_after (setting_in setup)
       (caller_in (setting_in setup) (scripts_of input) seen actor).calls
-      (caller_in (setting_in setup) (scripts_of input) seen actor).stage ≤ spare
+      (caller_in (setting_in setup) (scripts_of input) seen actor).pursuit ≤ spare
 
 -- a walk of a pass may go on: it has a look left, and the pass may make it
 pub record MayWalkOn (tracker : TrackerData) (plan : PlanData) (distances : DistanceTable)
@@ -93,17 +93,17 @@ pub record MayWalkOn (tracker : TrackerData) (plan : PlanData) (distances : Dist
   pub spare : 1 ≤ pass.spare
   pub goes : IsWalkOver tracker.setup.plan walk
   pub known : walk.sub < subs_in tracker.setup
-  pub left : answer_of (stage_of tracker.setup.plan walk) ≡ None
+  pub left : answer_of (pursuit_of tracker.setup.plan walk) ≡ None
 
 -- a walk has made its next look
 pub record HasLookedOn (setup : Setup) (old : PassData) (walk : WalkData) (new : PassData)
     (moved : WalkData) : Type 0 where
   pub key : Key
-  pub wanted : key_of (call_of walk) (stage_of setup.plan walk) ≡ Some key
+  pub wanted : key_of (call_of walk) (pursuit_of setup.plan walk) ≡ Some key
   pub ticket : ℕ
   pub visited : HasVisited old (Look key) ticket new
-  pub stage : stage_of setup.plan moved ≡ after_word (setting_in setup) (call_of walk)
-      (stage_of setup.plan walk) (cell (setting_in setup) (before ticket new.view.seen) key)
+  pub pursuit : pursuit_of setup.plan moved ≡ after_word (setting_in setup) (call_of walk)
+      (pursuit_of setup.plan walk) (cell (setting_in setup) (before ticket new.view.seen) key)
   pub call : call_of moved ≡ call_of walk
   pub goes : IsWalkOver setup.plan moved
 

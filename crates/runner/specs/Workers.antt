@@ -15,7 +15,7 @@ use Rattle.station.specs.Visits.{IsSamePass}
 use Rattle.runner.specs.Playing.{IsPlayedBy, next_of}
 use Rattle.runner.specs.Roles.{HasBegunNone, IsPrepared, IsRole, IsSetFor}
 use Rattle.runner.specs.declared.worker.Attempt.{Attempt}
-use Rattle.runner.specs.declared.worker.Attempt.TheVariants.{Made, Held, Kept}
+use Rattle.runner.specs.declared.worker.Attempt.TheVariants.{Made, Held, Shut}
 use Rattle.runner.specs.declared.worker.Played.{Played}
 use Rattle.runner.specs.declared.worker.Played.TheVariants.{Finished, Stopped}
 use Rattle.runner.specs.declared.worker.Worker.{Worker}
@@ -76,7 +76,7 @@ HasAttempted input tracker old new Made =
     HasGoneOn input tracker old new 0 × (new.pass.spare + 1 ≡ old.pass.spare)
 HasAttempted input tracker old new Held =
     HasGoneOn input tracker old new 1 × (new.pass.spare ≡ old.pass.spare)
-HasAttempted input tracker old new Kept = new ≡ old
+HasAttempted input tracker old new Shut = new ≡ old
 
 -- what an answer says of a play that has lost so many turns: no visit is left, and each lost turn
 -- was a try; or one is left, and the tries are used up

@@ -2,8 +2,8 @@
 ghost use Rattle.std.specs.Prelude.{◌≡◌, ◌<◌, ◌↔◌, ◌++◌, ◌∷◌, [], ℕ, List, None, IfOk, IsSome, false, not, slice_index};
 ghost use Rattle.directory.specs.Courses.{Step};
 ghost use Rattle.directory.specs.Settings.{Setting};
-ghost use Rattle.handset.specs.Kept.{GoesWith};
-ghost use Rattle.handset.specs.Progress.{due};
+ghost use Rattle.handset.specs.Condition.{GoesWith};
+ghost use Rattle.handset.specs.StepWrites.{due};
 ghost use Rattle.handset.specs.Stands.{StandsForSteps, switch_to};
 ghost use Rattle.machine.specs.Subscribers.{MayBegin};
 ghost use Rattle.net_reader.specs.Input.{Contents};

@@ -47,7 +47,7 @@ pub enum Played {
 enum Attempt {
     Made,
     Held,
-    Kept,
+    Shut,
 }
 
 impl Worker {
@@ -109,7 +109,7 @@ impl Worker {
             match self.attempt(tracker, plan, distances, gate) {
                 Attempt::Made => {}
                 Attempt::Held => held += 1,
-                Attempt::Kept => kept += 1,
+                Attempt::Shut => kept += 1,
             }
         }
         Played::Finished
@@ -135,12 +135,12 @@ impl Worker {
         ensures tried { (input : Contents)
             → MayTry input tracker.now plan.now distances.now self.old
             → HasAttempted input tracker.now self.old self.new result }
-        ensures closed { G.is_open gate.now ≡ true → result ≢ Attempt.Kept }
-        ensures shut { G.is_shut gate.now ≡ true → result ≡ Attempt.Kept }
+        ensures closed { G.is_open gate.now ≡ true → result ≢ Attempt.Shut }
+        ensures shut { G.is_shut gate.now ≡ true → result ≡ Attempt.Shut }
     {
         lines_grow();
         if !gate.may_go(self.pass.actor(), self.made) {
-            return Attempt::Kept;
+            return Attempt::Shut;
         }
         if self
             .role

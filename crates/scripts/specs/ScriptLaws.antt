@@ -83,7 +83,7 @@ calls-few input a valid = elim valid.format as (λ _. length (get_or input.scrip
 -- a caller without finds looks at nothing, whatever it reads
 pub keyless : (setting : Setting) (words : List ℕ) (seeker : Seeker) → seeker.calls ≡ []
     → next_key (fold (after_read setting) seeker words) ≡ None
-keyless setting [] seeker none = ap (λ calls. key_in calls seeker.stage) none
+keyless setting [] seeker none = ap (λ calls. key_in calls seeker.pursuit) none
 keyless setting (word ∷ words) seeker none =
     keyless setting words (after_read setting seeker word)
     (ap (λ calls. (read_by setting seeker calls word).calls) none ∙ none)

@@ -21,8 +21,8 @@ use Rattle.region_plan.specs.Plan.{PlanData, nodes_of, levels_of}
 use Rattle.region_plan.specs.Settings.{setting_of}
 use Rattle.region_plan.specs.Cells.{IsPlace}
 use Rattle.visit_log.specs.Cells.{HasHomes}
-use Rattle.handset.specs.Kept.{GoesWith, HandsetData, IsMoveStage}
-use Rattle.handset.specs.Progress.{after_write, due, due_at, erasing_from, erasure, go_on, purging_from, switch_mark}
+use Rattle.handset.specs.Condition.{GoesWith, HandsetData, IsMoveStage}
+use Rattle.handset.specs.StepWrites.{after_write, due, due_at, erasing_from, erasure, go_on, purging_from, switch_mark}
 use Rattle.handset.specs.Stands.{StandsForSteps}
 use Rattle.handset.specs.declared.stage.Stage.{Stage}
 use Rattle.handset.specs.declared.stage.Stage.TheVariants.{Resting, Coming, Renewing, Committing, Confirming, Erasing, Purging, Switching}

@@ -11,7 +11,7 @@ use Rattle.directory.specs.Settings.{Setting, start}
 use Rattle.directory.specs.StepLaws.{take-append, visits-append, visits_in}
 use Rattle.directory.specs.Writes.{visits}
 use Rattle.handset.specs.Beginning.{begin_move, is_rest, move_fault}
-use Rattle.handset.specs.Kept.{GoesWith, HandsetData, begun_at}
+use Rattle.handset.specs.Condition.{GoesWith, HandsetData, begun_at}
 use Rattle.directory.specs.Amid.{course_of}
 use Rattle.handset.specs.Stands.{StandsForSteps}
 use Rattle.handset.specs.declared.fault.MoveFault.TheVariants.{NoNode, SamePlace, UnderWay, IsOff, NumbersSpent}

@@ -12,7 +12,7 @@ use Rattle.directory.specs.Census.{census}
 use Rattle.directory.specs.Courses.{Step}
 use Rattle.directory.specs.Legal.{IsScript}
 use Rattle.directory.specs.Writes.{visits}
-use Rattle.handset.specs.Kept.{GoesWith, HandsetData}
+use Rattle.handset.specs.Condition.{GoesWith, HandsetData}
 use Rattle.handset.specs.Stands.{StandsForSteps}
 use Rattle.station.specs.Setup.{Setup, setting_in}
 use Rattle.station.specs.declared.view.View.{View}

@@ -8,7 +8,7 @@ use Rattle.entry_word.specs.declared.visit.Visit.{Visit}
 use Rattle.directory.specs.Histories.{is_put_for, puts_to}
 use Rattle.directory.specs.Legal.{ArePuts, IsScript}
 use Rattle.directory.specs.Writes.{visits}
-use Rattle.handset.specs.Kept.{HandsetData}
+use Rattle.handset.specs.Condition.{HandsetData}
 use Rattle.handset.specs.Stands.{StandsForSteps}
 use Rattle.station.specs.Handsets.{IsHandsetOf}
 use Rattle.station.specs.Passes.{NoteData, PassData}

@@ -17,7 +17,7 @@ use Rattle.directory.specs.declared.answers.Found.{Found}
 use Rattle.directory.specs.declared.answers.Found.TheVariants.{At, Off as OffAt, Again}
 use Rattle.region_plan.specs.Settings.{setting_of}
 use Rattle.trail_laws.specs.Rightness.{IsAnswered}
-use Rattle.stretch_laws.specs.Lines.{IsLimited, IsLineWithin, OutcomesAreNear, PlanOutcomesAreNear}
+use Rattle.stretch_laws.specs.NearOutcomes.{IsLimited, IsLineWithin, OutcomesAreNear, PlanOutcomesAreNear}
 use Rattle.stretch_laws.specs.Plans.{bound_of, PlanFindsAreNear}
 use Rattle.stretch_laws.specs.Tracking.{QuietFindsAreNear, stretch}
 

@@ -2,4 +2,4 @@ pub mod Tracking
 pub mod Costs
 pub mod Plans
 pub mod Examples
-pub mod Lines
+pub mod NearOutcomes

@@ -1,5 +1,5 @@
 //! Laws of the weight of the finds of outcomes.
-ghost use Rattle.stretch_laws.specs.Lines.{OutcomesAreNear, PlanOutcomesAreNear};
+ghost use Rattle.stretch_laws.specs.NearOutcomes.{OutcomesAreNear, PlanOutcomesAreNear};
 
 use crate::laws::quiet_finds_are_near;
 use crate::plans::plan_finds_are_near;

@@ -17,9 +17,9 @@ use Rattle.region_plan.specs.Plan.{PlanData, nodes_of}
 use Rattle.directory.specs.Orders.{AreValid, steps_of}
 use Rattle.directory.specs.Places.{Place, place_at_end}
 use Rattle.trail_laws.specs.Censuses.{CensusesEndByScripts, CensusesEndRight, is_on_at, who_ends_at}
-use Rattle.trail_laws.specs.Lines.{NumbersRise, OutcomesAreRight}
-use Rattle.stretch_laws.specs.Lines.{PlanOutcomesAreNear}
-use Rattle.trail_laws.specs.Lines.{TellInTurn}
+use Rattle.trail_laws.specs.RightOutcomes.{NumbersRise, OutcomesAreRight}
+use Rattle.stretch_laws.specs.NearOutcomes.{PlanOutcomesAreNear}
+use Rattle.trail_laws.specs.RightOutcomes.{TellInTurn}
 use Rattle.scripts.specs.Scripts.{scripts_of}
 use Rattle.census_text.specs.CensusText.{census_text_of, is_place, who_at}
 use Rattle.census_text.specs.TextLaws.{texts-same}

@@ -17,12 +17,12 @@ use Rattle.directory.specs.Orders.{history_of}
 use Rattle.directory.specs.Outcomes.{Outcome, outcome_of}
 use Rattle.directory.specs.Settings.{Setting}
 use Rattle.trail_laws.specs.Censuses.{IsCounted, who_ends_at}
-use Rattle.trail_laws.specs.Lines.{IsRightLine}
+use Rattle.trail_laws.specs.RightOutcomes.{IsRightLine}
 use Rattle.region_plan.specs.Plan.{PlanData, levels_of}
 use Rattle.region_plan.specs.Settings.{setting_of}
 use Rattle.stretch_laws.specs.Plans.{bound_of}
-use Rattle.stretch_laws.specs.Lines.{IsLineWithin}
-use Rattle.trail_laws.specs.Lines.{TellInTurn, TellRisingNumbers}
+use Rattle.stretch_laws.specs.NearOutcomes.{IsLineWithin}
+use Rattle.trail_laws.specs.RightOutcomes.{TellInTurn, TellRisingNumbers}
 use Rattle.scripts.specs.Scripts.{scripts_of}
 use Rattle.region_plan.specs.Matched.{BoundsFinds, HasSmallSum}
 use Rattle.region_plan.specs.Regions.{mean_plan, plan_of}

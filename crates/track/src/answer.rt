@@ -9,7 +9,7 @@ ghost use Rattle.directory.specs.Outcomes.{result_of};
 ghost use Rattle.machine.specs.Stands.{BelongTogether};
 ghost use Rattle.machine.specs.Machines.{IsSame, scripts_at, setting_at, HasHistory};
 ghost use Rattle.report_text.specs.ReportText.{report_of};
-ghost use Rattle.trail_laws.specs.Lines.{TellInTurn};
+ghost use Rattle.trail_laws.specs.RightOutcomes.{TellInTurn};
 ghost use Rattle.track.specs.Bodies.{text_of};
 ghost use Rattle.region_plan.specs.Coverings.{trade_off_of};
 ghost use Rattle.region_plan.specs.Regions.{covered_plan};

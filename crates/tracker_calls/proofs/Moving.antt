@@ -11,8 +11,8 @@ use Rattle.directory.specs.Settings.{Setting, start}
 use Rattle.directory.specs.StepLaws.{own-push, visits-append}
 use Rattle.directory.specs.Writes.{Write, step_writes, visit_of, visits, writes}
 use Rattle.handset.specs.Beginning.{begin_move, is_rest}
-use Rattle.handset.specs.Kept.{GoesWith, HandsetData}
-use Rattle.handset.specs.Progress.{after_write, due, due_at, left_at}
+use Rattle.handset.specs.Condition.{GoesWith, HandsetData}
+use Rattle.handset.specs.StepWrites.{after_write, due, due_at, left_at}
 use Rattle.directory.specs.Amid.{course_of}
 use Rattle.handset.specs.Stands.{StandsForSteps}
 use Rattle.handset.specs.declared.stage.Stage.{Stage}

@@ -4,8 +4,8 @@ use Rattle.std.specs.Prelude.{IfSome, IsSome, Some, None}
 use Rattle.std.specs.Option.{is_some}
 use Rattle.entry_word.specs.declared.visit.Visit.{Visit}
 use Rattle.directory.specs.Keys.{act_node}
-use Rattle.handset.specs.Kept.{HandsetData}
-use Rattle.handset.specs.Progress.{after_write, due}
+use Rattle.handset.specs.Condition.{HandsetData}
+use Rattle.handset.specs.StepWrites.{after_write, due}
 use Rattle.region_plan.specs.Plan.{PlanData}
 use Rattle.region_plan.specs.Settings.{setting_of}
 use Rattle.station.specs.Handsets.{HandsetGoesOn, IsHandsetOf}

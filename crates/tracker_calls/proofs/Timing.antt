@@ -6,8 +6,8 @@ use Rattle.std.proofs.lemmas.Bool.{ltb-false}
 use Rattle.directory.specs.Courses.{Move}
 use Rattle.directory.specs.Settings.{Setting}
 use Rattle.handset.specs.Beginning.{begin_move, is_rest, journey_to}
-use Rattle.handset.specs.Kept.{HandsetData, IsMoveStage}
-use Rattle.handset.specs.Progress.{after_write, erasing_at, first_with, go_on, is_behind, is_old, purging_at, purging_from}
+use Rattle.handset.specs.Condition.{HandsetData, IsMoveStage}
+use Rattle.handset.specs.StepWrites.{after_write, erasing_at, first_with, go_on, is_behind, is_old, purging_at, purging_from}
 use Rattle.handset.specs.declared.stage.Stage.{Stage}
 use Rattle.handset.specs.declared.stage.Stage.TheVariants.{Resting, Coming, Renewing, Committing, Confirming, Erasing, Purging, Switching}
 use Rattle.tracker_calls.specs.WholeMoves.{commit_place}

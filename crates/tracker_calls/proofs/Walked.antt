@@ -14,8 +14,8 @@ use Rattle.station.specs.Passes.{PassData, actor_of}
 use Rattle.station.specs.Setup.{Setup, nodes_in, setting_in, subs_in}
 use Rattle.stretch_laws.specs.Plans.{PlanFindsAreNear}
 use Rattle.trail_laws.specs.Rightness.{AnswersAreRight, QuietFindsAnswer}
-use Rattle.walk.specs.Walks.{IsWalkOver, WalkData, call_of, stage_of}
-use Rattle.handset.specs.Kept.{HandsetData}
+use Rattle.walk.specs.Walks.{IsWalkOver, WalkData, call_of, pursuit_of}
+use Rattle.handset.specs.Condition.{HandsetData}
 use Rattle.station.specs.Handsets.{IsHandsetOf}
 use Rattle.station.specs.StayLaws.{handset-stays, handset-visited}
 use Rattle.station.specs.Visits.{HasVisited}
@@ -34,12 +34,12 @@ pub record IsWalked (setup : Setup) (begun : PassData) (call : FindCall) (pass :
   pub added : HasAdded setup begun made pass
   pub keeps : KeepsHandsets setup begun pass
   pub looks : AreLooks (setting_in setup) pass.view.seen (actor_of begun) call 0 at_origin made
-  pub stage : stage_of setup.plan walk
+  pub pursuit : pursuit_of setup.plan walk
       ≡ find (setting_in setup) call (flat_map (words_at (setting_in setup) pass.view.seen) made)
   pub late : 1 ≤ length made → length begun.view.seen ≤ last_of made
   pub goes : IsWalkOver setup.plan walk
   pub its : call_of walk ≡ call
-  pub room : looks_left (setting_in setup) call (stage_of setup.plan walk) ≤ pass.spare
+  pub room : looks_left (setting_in setup) call (pursuit_of setup.plan walk) ≤ pass.spare
 
 -- a handset goes on over a look, and over lost turns
 seen-on : (setup : Setup) (pass new : PassData) (key : Key) (ticket : ℕ) → pass.view.setup ≡ setup
@@ -63,7 +63,7 @@ unfolding AreLooks
 no-looks setting history actor call = tt
 
 pub walked-first : BeginsWithItself → (setup : Setup) (pass : PassData) (walk : WalkData) → IsWalkOver setup.plan walk
-    → stage_of setup.plan walk ≡ at_origin → pass.view.inside ≡ None
+    → pursuit_of setup.plan walk ≡ at_origin → pass.view.inside ≡ None
     → most_looks (setting_in setup) walk.from ≤ pass.spare → IsWalked setup pass (call_of walk) pass walk
 walked-first itself setup pass walk goes origin outside room =
     record {
@@ -71,7 +71,7 @@ walked-first itself setup pass walk goes origin outside room =
       added = added-none itself setup pass outside;
       keeps = λ handset its. its;
       looks = no-looks (setting_in setup) pass.view.seen (actor_of pass) (call_of walk);
-      stage = origin;
+      pursuit = origin;
       late = λ h. absurd (omega (arith, h));
       goes = goes;
       its = refl;
@@ -84,7 +84,7 @@ front-short xs zs front = omega (arith, ap length front, length-take (length xs)
 pub walked-on : BeginsWithFront → BeginsThrough → LooksFall → (setup : Setup) (begun : PassData) (call : FindCall)
     (pass new : PassData) (walk moved : WalkData) (key : Key) → pass.view.setup ≡ setup
     → (at : IsWalked setup begun call pass walk)
-    → key_of (call_of walk) (stage_of setup.plan walk) ≡ Some key
+    → key_of (call_of walk) (pursuit_of setup.plan walk) ≡ Some key
     → HasLookedOn setup pass walk key new moved → IsWalked setup begun call new moved
 walked-on longer through fall setup begun call pass new walk moved key told at wanted looked =
     let setting : Setting = setting_in setup in
@@ -98,20 +98,20 @@ walked-on longer through fall setup begun call pass new walk moved key told at w
     let last : slice_get new.view.seen looked.ticket ≡ Some visit =
     ap (slice_get new.view.seen) (sym visited.count)
     ∙ (ap (λ (l : History). slice_get l (length visited.earlier)) visited.seen ∙ get-last visited.earlier visit) in
-    let wants : key_of call (stage_of setup.plan walk) ≡ Some key =
-    subst (λ c. key_of c (stage_of setup.plan walk) ≡ Some key) at.its wanted in
+    let wants : key_of call (pursuit_of setup.plan walk) ≡ Some key =
+    subst (λ c. key_of c (pursuit_of setup.plan walk) ≡ Some key) at.its wanted in
     let more = looks-more setting pass.view.seen new.view.seen (actor_of begun) call key looked.ticket front late
     (subst (λ a. slice_get new.view.seen looked.ticket ≡ Some (look_by a key)) mine last)
-    at.made 0 at_origin (omega arith) at.looks (subst (λ s. key_of call s ≡ Some key) at.stage wants) in
+    at.made 0 at_origin (omega arith) at.looks (subst (λ s. key_of call s ≡ Some key) at.pursuit wants) in
     let word = cell setting (before looked.ticket new.view.seen) key in
-    let stage : stage_of setup.plan moved ≡ after_word setting call (stage_of setup.plan walk) word =
-    looked.stage ∙ ap (λ c. after_word setting c (stage_of setup.plan walk) word) at.its in
+    let pursuit : pursuit_of setup.plan moved ≡ after_word setting call (pursuit_of setup.plan walk) word =
+    looked.pursuit ∙ ap (λ c. after_word setting c (pursuit_of setup.plan walk) word) at.its in
     record {
       made = at.made ++ looked.ticket ∷ [];
       added = added-more longer through setup begun pass new at.made (Look key) looked.ticket told at.added visited;
       keeps = λ handset its. seen-on setup pass new key looked.ticket told visited handset (at.keeps handset its);
       looks = more.0;
-      stage = stage ∙ (ap (λ s. after_word setting call s word) at.stage ∙ sym more.1);
+      pursuit = pursuit ∙ (ap (λ s. after_word setting call s word) at.pursuit ∙ sym more.1);
       late = λ some. omega (
         arith,
         last-push at.made looked.ticket,
@@ -122,8 +122,8 @@ walked-on longer through fall setup begun call pass new walk moved key told at w
       its = looked.call ∙ at.its;
       room = omega (
         arith,
-        fall setting call (stage_of setup.plan walk) word key wants,
-        ap (looks_left setting call) stage,
+        fall setting call (pursuit_of setup.plan walk) word key wants,
+        ap (looks_left setting call) pursuit,
         at.room,
         visited.spare,
       );
@@ -140,7 +140,7 @@ walked-tried setup begun call pass tried walk lost at =
       keeps = λ handset its. tried-on setup pass tried lost handset (at.keeps handset its);
       looks = subst (λ (h : History). AreLooks (setting_in setup) h (actor_of begun) call 0 at_origin at.made)
           (sym seen) at.looks;
-      stage = at.stage
+      pursuit = at.pursuit
           ∙ ap (λ h. find (setting_in setup) call (flat_map (words_at (setting_in setup) h) at.made)) (sym seen);
       late = at.late;
       goes = at.goes;
@@ -152,9 +152,9 @@ walked-tried setup begun call pass tried walk lost at =
 pub walked-out : AnswersAreRight → QuietFindsAnswer → PlanFindsAreNear → (setup : Setup) (begun : PassData)
     (call : FindCall) (pass : PassData) (walk : WalkData) (found : Found) → IsMatched setup.plan
     → call.from < nodes_in setup → call.sub < subs_in setup → IsWalked setup begun call pass walk
-    → stage_of setup.plan walk ≡ ended found → HasFound setup begun call found pass
+    → pursuit_of setup.plan walk ≡ ended found → HasFound setup begun call found pass
 walked-out answers answer near setup begun call pass walk found matched from known at ends =
-    let all = sym at.stage ∙ ends in
+    let all = sym at.pursuit ∙ ends in
     let some : 1 ≤ length at.made = looked-once (setting_in setup) pass.view.seen call found at.made all in
     let its : IsFind (setting_in setup) pass.view.seen (actor_of begun) call found at.made =
     record { looks = at.looks; answer = all } in

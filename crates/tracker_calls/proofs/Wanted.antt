@@ -8,7 +8,7 @@ use Rattle.directory.specs.Finds.{key_of}
 use Rattle.trail_laws.specs.Trail.{EntriesTell, MarksTell}
 use Rattle.region_plan.specs.Plan.{PlanData, nodes_of}
 use Rattle.region_plan.specs.Matched.{IsMatched}
-use Rattle.walk.specs.Walks.{IsWalkOver, IsWordBelow, WalkData, call_of, stage_of}
+use Rattle.walk.specs.Walks.{IsWalkOver, IsWordBelow, WalkData, call_of, pursuit_of}
 use Rattle.station.specs.Passes.{PassData}
 use Rattle.station.specs.Setup.{Setup, setting_in, subs_in}
 use Rattle.station.specs.Visits.{HasVisited}
@@ -29,7 +29,7 @@ pub word-seen : MarksTell → EntriesTell → HistoryFrontsAreLegal → (setup :
     (old new : PassData) (act : Act) (ticket word : ℕ) (walk : WalkData) (key : Key) → plan ≡ setup.plan
     → IsMatched plan → old.view.setup ≡ setup → HasVisited old act ticket new
     → word ≡ cell (setting_in setup) (before ticket new.view.seen) key → walk.sub < subs_in setup
-    → IsWalkOver setup.plan walk → key_of (call_of walk) (stage_of setup.plan walk) ≡ Some key
+    → IsWalkOver setup.plan walk → key_of (call_of walk) (pursuit_of setup.plan walk) ≡ Some key
     → IsWordBelow (nodes_of plan) walk.progress word
 word-seen marks entries fronts setup plan old new act ticket word walk key same matched told visited reads known goes
     wanted =

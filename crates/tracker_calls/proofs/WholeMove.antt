@@ -12,8 +12,8 @@ use Rattle.directory.specs.Standing.{Commit, commit_of}
 use Rattle.directory.specs.Writes.{visits}
 use Rattle.directory.specs.Looks.{first_of, last_of}
 use Rattle.handset.specs.Beginning.{begin_move, is_rest, journey_to}
-use Rattle.handset.specs.Kept.{GoesWith, HandsetData}
-use Rattle.handset.specs.Progress.{due}
+use Rattle.handset.specs.Condition.{GoesWith, HandsetData}
+use Rattle.handset.specs.StepWrites.{due}
 use Rattle.handset.specs.Stands.{commits_in, is_commit}
 use Rattle.region_plan.specs.Plan.{PlanData, nodes_of}
 use Rattle.region_plan.specs.Settings.{setting_of}

@@ -13,7 +13,7 @@ use Rattle.station.specs.Passes.{PassData, actor_of, IsPassOf, TrackerData}
 use Rattle.station.specs.Setup.{Setup, nodes_in, setting_in, subs_in}
 use Rattle.station.specs.Visits.{HasLost, HasVisited}
 use Rattle.station.specs.declared.turns.Held.{Held}
-use Rattle.walk.specs.Walks.{IsWalkOver, WalkData, call_of, stage_of}
+use Rattle.walk.specs.Walks.{IsWalkOver, WalkData, call_of, pursuit_of}
 use Rattle.tracker_calls.specs.Added.{HasAdded, KeepsHandsets}
 use Rattle.tracker_calls.specs.RightAnswers.{TellsRightly}
 use Rattle.tracker_calls.specs.declared.finds.FindFault.{FindFault}
@@ -38,8 +38,8 @@ pub record HasLookedOn (setup : Setup) (old : PassData) (walk : WalkData) (key :
     (new : PassData) (moved : WalkData) : Type 0 where
   pub ticket : ℕ
   pub visited : HasVisited old (Look key) ticket new
-  pub stage : stage_of setup.plan moved ≡ after_word (setting_in setup) (call_of walk)
-      (stage_of setup.plan walk) (cell (setting_in setup) (before ticket new.view.seen) key)
+  pub pursuit : pursuit_of setup.plan moved ≡ after_word (setting_in setup) (call_of walk)
+      (pursuit_of setup.plan walk) (cell (setting_in setup) (before ticket new.view.seen) key)
   pub call : call_of moved ≡ call_of walk
   pub goes : IsWalkOver setup.plan moved
 

@@ -8,8 +8,8 @@ use Rattle.directory.specs.Histories.{own, puts_to}
 use Rattle.directory.specs.Looks.{first_of, last_of}
 use Rattle.directory.specs.Writes.{most_writes, step_writes, visit_of}
 use Rattle.handset.specs.Beginning.{begin_move, journey_to, move_fault}
-use Rattle.handset.specs.Kept.{HandsetData}
-use Rattle.handset.specs.Progress.{after_write, due}
+use Rattle.handset.specs.Condition.{HandsetData}
+use Rattle.handset.specs.StepWrites.{after_write, due}
 use Rattle.directory.specs.Amid.{course_of}
 use Rattle.handset.specs.Stands.{StandsForSteps}
 use Rattle.handset.specs.declared.fault.MoveFault.TheVariants as begins

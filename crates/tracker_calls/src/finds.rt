@@ -3,7 +3,7 @@ ghost use Rattle.std.specs.Prelude.{◌≡◌, None, MatchResult};
 ghost use Rattle.directory.specs.Finds.{FindCall, at_origin};
 ghost use Rattle.station.specs.Passes.{IsPassOf, TrackerData};
 ghost use Rattle.station.specs.Setup.{subs_in};
-ghost use Rattle.walk.specs.Walks.{IsWalkOver, call_of, stage_of};
+ghost use Rattle.walk.specs.Walks.{IsWalkOver, call_of, pursuit_of};
 ghost use Rattle.tracker_calls.specs.Finds.{HasFound, IsFindFault, IsRefusal, MayFind};
 
 use crate::walking::{walk_on, walk_through};
@@ -105,7 +105,7 @@ fn begin_walk(pass: &Pass, plan: &Plan, subs: u32, from: u32, sub: u32) -> Resul
         → let call : FindCall = record { from = from; sub = sub } in MatchResult result
         (λ walk. MayFind tracker.setup pass.now call
         × (call_of walk ≡ call)
-        × IsWalkOver tracker.setup.plan walk × (stage_of tracker.setup.plan walk ≡ at_origin))
+        × IsWalkOver tracker.setup.plan walk × (pursuit_of tracker.setup.plan walk ≡ at_origin))
         (λ refusal. IsRefusal tracker.setup pass.now call refusal) }
 {
     let walk = match Walk::new(from, sub, subs, plan) {

@@ -5,7 +5,7 @@ ghost use Rattle.directory.specs.Keys.{key_node};
 ghost use Rattle.station.specs.Passes.{PassData};
 ghost use Rattle.station.specs.Setup.{setting_in};
 ghost use Rattle.station.specs.Visits.{HasLost};
-ghost use Rattle.walk.specs.Walks.{call_of, stage_of};
+ghost use Rattle.walk.specs.Walks.{call_of, pursuit_of};
 ghost use Rattle.tracker_calls.specs.Added.{HasTried};
 ghost use Rattle.tracker_calls.specs.Finds.{HasFound, HasLookedOn, HasStopped, MayWalkOn};
 
@@ -31,7 +31,7 @@ pub fn walk_on(
     walk: &mut Walk,
 ) -> Result<Found, Held>
     requires way { MayWalkOn tracker.now plan.now distances.now pass.old walk.old }
-    requires origin { stage_of tracker.now.setup.plan walk.old ≡ at_origin }
+    requires origin { pursuit_of tracker.now.setup.plan walk.old ≡ at_origin }
     requires spare { most_looks (setting_in tracker.now.setup) walk.old.from ≤ pass.old.spare }
     ensures found { MatchResult result
         (λ found. HasFound tracker.now.setup pass.old (call_of walk.old) found pass.new
@@ -64,7 +64,7 @@ pub fn walk_through<R: Wait>(
     walk: &mut Walk,
 ) -> Found
     requires way { MayWalkOn tracker.now plan.now distances.now pass.old walk.old }
-    requires origin { stage_of tracker.now.setup.plan walk.old ≡ at_origin }
+    requires origin { pursuit_of tracker.now.setup.plan walk.old ≡ at_origin }
     requires spare { most_looks (setting_in tracker.now.setup) walk.old.from ≤ pass.old.spare }
     ensures found { HasFound tracker.now.setup pass.old (call_of walk.old) result pass.new }
 {
@@ -96,7 +96,7 @@ fn look_when_free<R: Wait>(
 )
     requires way { MayWalkOn tracker.now plan.now distances.now pass.old walk.old }
     requires spare { 1 ≤ pass.old.spare }
-    requires wanted { key_of (call_of walk.old) (stage_of tracker.now.setup.plan walk.old)
+    requires wanted { key_of (call_of walk.old) (pursuit_of tracker.now.setup.plan walk.old)
         ≡ Some key }
     ensures looked { (tried : PassData) × HasTried pass.old tried
         × HasLookedOn tracker.now.setup tried walk.old key pass.new walk.new }
@@ -120,7 +120,7 @@ fn look_on(
 ) -> Result<(), Held>
     requires way { MayWalkOn tracker.now plan.now distances.now pass.old walk.old }
     requires spare { 1 ≤ pass.old.spare }
-    requires wanted { key_of (call_of walk.old) (stage_of tracker.now.setup.plan walk.old)
+    requires wanted { key_of (call_of walk.old) (pursuit_of tracker.now.setup.plan walk.old)
         ≡ Some key }
     ensures looked { MatchResult result
         (λ _. HasLookedOn tracker.now.setup pass.old walk.old key pass.new walk.new)

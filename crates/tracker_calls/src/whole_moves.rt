@@ -1,7 +1,7 @@
 //! Whole moves, which wait at each node on the way.
 ghost use Rattle.std.specs.Prelude.{◌≡◌, ◌≤◌, [], None, IsSome, MatchResult};
-ghost use Rattle.handset.specs.Kept.{GoesWith};
-ghost use Rattle.handset.specs.Progress.{due};
+ghost use Rattle.handset.specs.Condition.{GoesWith};
+ghost use Rattle.handset.specs.StepWrites.{due};
 ghost use Rattle.region_plan.specs.Settings.{setting_of};
 ghost use Rattle.station.specs.Handsets.{IsHandsetOf};
 ghost use Rattle.station.specs.Passes.{IsPassOf, PassData};

@@ -2,7 +2,7 @@
 -- `AreReady` (passes outside all nodes, and the handset of the first of them).
 use Rattle.std.specs.Prelude.{◌≡◌}
 use Rattle.distances.specs.Table.{DistanceTable}
-use Rattle.handset.specs.Kept.{HandsetData}
+use Rattle.handset.specs.Condition.{HandsetData}
 use Rattle.region_plan.specs.Plan.{PlanData}
 use Rattle.station.specs.Handsets.{IsHandsetOf}
 use Rattle.station.specs.Passes.{IsFree, PassData, TrackerData}

@@ -61,9 +61,9 @@ fn look_at_once<R: Threads + Sync>(
     )
 }
 
-fn wait_for(rt: &impl Wait, reached: &AtomicU64, stage: u64) {
+fn wait_for(rt: &impl Wait, reached: &AtomicU64, point: u64) {
     'waits: for _ in rt.forever() {
-        if reached.load(Ordering::SeqCst) >= stage {
+        if reached.load(Ordering::SeqCst) >= point {
             break;
         }
         yield_now();
@@ -144,17 +144,17 @@ fn find_beside<R: Threads + Wait + Sync>(
     requires other { IsFree tracker.now 0 other }
 {
     let reached = AtomicU64::new(0);
-    let stage = &reached;
+    let shared = &reached;
     join(
         rt,
         || -> bool
             requires { IsSync R.row × (3 < nodes_in tracker.now.setup)
                 × IsFree tracker.now 0 other }
-        { hold(rt, tracker, other, 3, stage) },
+        { hold(rt, tracker, other, 3, shared) },
         || -> Seen
             requires { IsSync R.row × IsOver tracker.now plan.now distances.now
                 × IsFree tracker.now 0 caller }
-        { find_late(rt, tracker, plan, distances, caller, stage) },
+        { find_late(rt, tracker, plan, distances, caller, shared) },
     )
 }
 
@@ -175,17 +175,17 @@ fn move_beside<R: Threads + Wait + Sync>(
     requires other { IsFree tracker.now 0 other }
 {
     let reached = AtomicU64::new(0);
-    let stage = &reached;
+    let shared = &reached;
     join(
         rt,
         || -> bool
             requires { IsSync R.row × (3 < nodes_in tracker.now.setup)
                 × IsFree tracker.now 0 other }
-        { hold(rt, tracker, other, 3, stage) },
+        { hold(rt, tracker, other, 3, shared) },
         || -> Seen
             requires { IsSync R.row × IsOver tracker.now plan.now distances.now
                 × IsFree tracker.now 0 own × IsHandsetOf tracker.now.setup own.view handset }
-        { move_late(rt, tracker, plan, distances, own, handset, stage) },
+        { move_late(rt, tracker, plan, distances, own, handset, shared) },
     )
 }
 

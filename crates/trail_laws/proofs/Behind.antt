@@ -7,7 +7,7 @@ use Rattle.entry_word.specs.declared.mark.PresenceMark.{PresenceMark}
 use Rattle.entry_word.specs.declared.mark.PresenceMark.TheVariants.{Empty, Here, Gone, Coming, Off}
 use Rattle.directory.specs.Settings.{Setting, start}
 use Rattle.directory.specs.Histories.{before, History}
-use Rattle.directory.specs.Finds.{after_word, at_origin, chases, climbs, ended, FindCall, is_known, Stage}
+use Rattle.directory.specs.Finds.{after_word, at_origin, chases, climbs, ended, FindCall, is_known, Pursuit}
 use Rattle.directory.specs.Standing.{Commit, commits, number}
 use Rattle.trail_laws.specs.Trail.{GoesUp}
 use Rattle.trail_laws.specs.Phases.{moves_begun}
@@ -65,15 +65,15 @@ behind-later setting sub t u history behind known node h is = record {
         inr (ap (λ (cs : List Commit). stop_after (start setting sub) cs behind.place) more.1
         ∙ (stop-kept (start setting sub) (commits sub (before t history)) more.0 behind.place is.few ∙ stop))
 
--- what is known at a stage
-abbrev pub IsTracked : Setting → ℕ → History → Behind → Stage → Type 0
+-- what is known at a pursuit
+abbrev pub IsTracked : Setting → ℕ → History → Behind → Pursuit → Type 0
 IsTracked setting sub seen behind at_origin = behind ≡ nothing
 IsTracked setting sub seen behind (climbs known weight reader later) = behind ≡ nothing
 IsTracked setting sub seen behind (chases chase node) = IsBehind setting sub seen behind chase.known node
 IsTracked setting sub seen behind (ended found) = Unit {0}
 
-pub tracked-nothing : (setting : Setting) (sub : ℕ) (seen : History) (stage : Stage)
-    → IsTracked setting sub seen nothing stage
+pub tracked-nothing : (setting : Setting) (sub : ℕ) (seen : History) (pursuit : Pursuit)
+    → IsTracked setting sub seen nothing pursuit
 tracked-nothing setting sub seen at_origin = refl
 tracked-nothing setting sub seen (climbs known weight reader later) = refl
 tracked-nothing setting sub seen (chases chase node) = behind-nothing setting sub seen chase.known node
@@ -158,10 +158,10 @@ one-more behind (Coming q from) later low up begun rest = record {
     joined (next ∷ more) head on = (goes-back q next head.0 head.1, on)
 
 -- no mark is read after the end
-pub ended-none : (setting : Setting) (call : FindCall) (stage : Stage) (words : List ℕ)
-    → ((word : ℕ) → (mark_chased stage word ≡ []) × (after_word setting call stage word ≡ stage))
-    → marks_chased setting call stage words ≡ []
-ended-none setting call stage [] still = refl
-ended-none setting call stage (word ∷ words) still =
-    ap (λ ms. ms ++ marks_chased setting call (after_word setting call stage word) words) (still word).0
-    ∙ (ap (λ s. marks_chased setting call s words) (still word).1 ∙ ended-none setting call stage words still)
+pub ended-none : (setting : Setting) (call : FindCall) (pursuit : Pursuit) (words : List ℕ)
+    → ((word : ℕ) → (mark_chased pursuit word ≡ []) × (after_word setting call pursuit word ≡ pursuit))
+    → marks_chased setting call pursuit words ≡ []
+ended-none setting call pursuit [] still = refl
+ended-none setting call pursuit (word ∷ words) still =
+    ap (λ ms. ms ++ marks_chased setting call (after_word setting call pursuit word) words) (still word).0
+    ∙ (ap (λ s. marks_chased setting call s words) (still word).1 ∙ ended-none setting call pursuit words still)

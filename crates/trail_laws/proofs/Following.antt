@@ -15,7 +15,7 @@ use Rattle.directory.specs.Histories.{before, cell, History, puts_to, words_at, 
 use Rattle.directory.specs.Courses.{Move}
 use Rattle.directory.specs.Puts.{course_in}
 use Rattle.directory.specs.Legal.{IsLegal}
-use Rattle.directory.specs.Finds.{after_mark, after_word, at_origin, Chase, chases, climbs, ended, FindCall, hop, is_known, key_of, known_with, Stage}
+use Rattle.directory.specs.Finds.{after_mark, after_word, at_origin, Chase, chases, climbs, ended, FindCall, hop, is_known, key_of, known_with, Pursuit}
 use Rattle.directory.specs.Looks.{AreLooks}
 use Rattle.directory.specs.Standing.{Commit, commit_by, commits, number, off, standing}
 use Rattle.directory.specs.Statements.{FrontsAreLegal}
@@ -169,9 +169,9 @@ module _ (laws : ChaseLaws) (setting : Setting) (history : History) (call : Find
     (node : ℕ) (words : List ℕ) (behind : Behind) (low : setting.nodes ≤ 2 ^ 16)
     (legal : IsLegal setting call.sub (before t history))
     (is : IsBehind setting call.sub (before t history) behind chase.known node) where
-  abbrev pub Later : Stage → Type 0
-  Later stage = (b : Behind) → IsTracked setting call.sub (before (suc t) history) b stage
-      → Rises b (marks_chased setting call stage words)
+  abbrev pub Later : Pursuit → Type 0
+  Later pursuit = (b : Behind) → IsTracked setting call.sub (before (suc t) history) b pursuit
+      → Rises b (marks_chased setting call pursuit words)
 
   ended-so : (found : Found) → marks_chased setting call (ended found) words ≡ []
   ended-so found = ended-none setting call (ended found) words (λ word. (refl, refl))
@@ -224,15 +224,16 @@ module _ (laws : ChaseLaws) (setting : Setting) (history : History) (call : Find
       tells = laws.marks setting call.sub (before t history) low legal node inside
 
 -- one look of a find
-look-rises : ChaseLaws → (setting : Setting) (history : History) (call : FindCall) (t : ℕ) (stage : Stage) (key : Key)
+look-rises : ChaseLaws → (setting : Setting) (history : History) (call : FindCall) (t : ℕ) (pursuit : Pursuit)
+    (key : Key)
     (words : List ℕ) (behind : Behind) → setting.nodes ≤ 2 ^ 16 → IsLegal setting call.sub (before t history)
-    → IsSafe setting (number call.sub (before t history)) stage
-    → IsTracked setting call.sub (before t history) behind stage → key_of call stage ≡ Some key
+    → IsSafe setting (number call.sub (before t history)) pursuit
+    → IsTracked setting call.sub (before t history) behind pursuit → key_of call pursuit ≡ Some key
     → ((b : Behind) → IsTracked setting call.sub (before (suc t) history) b
-    (after_word setting call stage (cell setting (before t history) key))
+    (after_word setting call pursuit (cell setting (before t history) key))
     → Rises b (marks_chased setting call
-    (after_word setting call stage (cell setting (before t history) key)) words))
-    → Rises behind (marks_chased setting call stage (cell setting (before t history) key ∷ words))
+    (after_word setting call pursuit (cell setting (before t history) key)) words))
+    → Rises behind (marks_chased setting call pursuit (cell setting (before t history) key ∷ words))
 look-rises laws setting history call t at_origin key words behind low legal safe tracked wanted more =
     subst (λ b. Rises b (marks_chased setting call at_origin (cell setting (before t history) key ∷ words)))
     (sym tracked) (more nothing (tracked-nothing setting call.sub (before (suc t) history) _))
@@ -252,15 +253,15 @@ look-rises laws setting history call t (chases chase node) key words behind low 
     (chase-rises laws setting history call t chase node words behind low legal tracked safe.1) more
 look-rises laws setting history call t (ended found) key words behind low legal safe tracked wanted more = cc
 
-good-safe : (setting : Setting) (sub : ℕ) (seen : History) (stage : Stage) → IsGood setting sub seen stage
-    → IsSafe setting (number sub seen) stage
+good-safe : (setting : Setting) (sub : ℕ) (seen : History) (pursuit : Pursuit) → IsGood setting sub seen pursuit
+    → IsSafe setting (number sub seen) pursuit
 good-safe setting sub seen at_origin good = tt
 good-safe setting sub seen (climbs known weight reader later) good = good
 good-safe setting sub seen (chases chase node) good = good
 good-safe setting sub seen (ended found) good = tt
 
-tracked-later : (setting : Setting) (sub t u : ℕ) (history : History) (behind : Behind) (stage : Stage) → t ≤ u
-    → IsTracked setting sub (before t history) behind stage → IsTracked setting sub (before u history) behind stage
+tracked-later : (setting : Setting) (sub t u : ℕ) (history : History) (behind : Behind) (pursuit : Pursuit) → t ≤ u
+    → IsTracked setting sub (before t history) behind pursuit → IsTracked setting sub (before u history) behind pursuit
 tracked-later setting sub t u history behind at_origin h tracked = tracked
 tracked-later setting sub t u history behind (climbs known weight reader later) h tracked = tracked
 tracked-later setting sub t u history behind (chases chase node) h tracked =
@@ -270,49 +271,49 @@ tracked-later setting sub t u history behind (ended found) h tracked = tt
 -- the looks of a find
 looks-rise : ChaseLaws → (setting : Setting) (history : History) (actor : ℕ) (call : FindCall)
     → setting.nodes ≤ 2 ^ 16 → call.from < setting.nodes → IsLegal setting call.sub history
-    → (tickets : List ℕ) (earliest : ℕ) (stage : Stage) (behind : Behind)
-    → IsSafe setting (number call.sub (before earliest history)) stage
-    → IsTracked setting call.sub (before earliest history) behind stage
-    → AreLooks setting history actor call earliest stage tickets
-    → Rises behind (marks_chased setting call stage (flat_map (words_at setting history) tickets))
+    → (tickets : List ℕ) (earliest : ℕ) (pursuit : Pursuit) (behind : Behind)
+    → IsSafe setting (number call.sub (before earliest history)) pursuit
+    → IsTracked setting call.sub (before earliest history) behind pursuit
+    → AreLooks setting history actor call earliest pursuit tickets
+    → Rises behind (marks_chased setting call pursuit (flat_map (words_at setting history) tickets))
 unfolding AreLooks
-looks-rise laws setting history actor call low inside legal [] earliest stage behind safe tracked looks =
+looks-rise laws setting history actor call low inside legal [] earliest pursuit behind safe tracked looks =
     none-rise behind
-looks-rise laws setting history actor call low inside legal (t ∷ later) earliest stage behind safe tracked
+looks-rise laws setting history actor call low inside legal (t ∷ later) earliest pursuit behind safe tracked
     (first, (key, wanted, is_look, rest)) =
     subst (Rises behind) (sym read)
-    (look-rises laws setting history call t stage key (flat_map (words_at setting history) later) behind low
+    (look-rises laws setting history call t pursuit key (flat_map (words_at setting history) later) behind low
     legal_now safe_now
-    (tracked-later setting call.sub earliest t history behind stage first tracked) wanted
+    (tracked-later setting call.sub earliest t history behind pursuit first tracked) wanted
     (λ b its. looks-rise laws setting history actor call low inside legal later (suc t) next b safe_next its rest))
   where
     word : ℕ
     word = cell setting (before t history) key
 
-    next : Stage
-    next = after_word setting call stage (cell setting (before t history) key)
+    next : Pursuit
+    next = after_word setting call pursuit (cell setting (before t history) key)
 
-    read : marks_chased setting call stage (flat_map (words_at setting history) (t ∷ later))
-        ≡ marks_chased setting call stage
+    read : marks_chased setting call pursuit (flat_map (words_at setting history) (t ∷ later))
+        ≡ marks_chased setting call pursuit
         (cell setting (before t history) key ∷ flat_map (words_at setting history) later)
-    read = ap (λ o. marks_chased setting call stage (words_by setting (before t history) o
+    read = ap (λ o. marks_chased setting call pursuit (words_by setting (before t history) o
         ++ flat_map (words_at setting history) later)) is_look
 
     legal_now : IsLegal setting call.sub (before t history)
     legal_now = front-legal laws.fronts setting call.sub history t low legal
 
-    safe_now : IsSafe setting (number call.sub (before t history)) stage
+    safe_now : IsSafe setting (number call.sub (before t history)) pursuit
     safe_now = safe-later setting (number call.sub (before earliest history)) (number call.sub (before t history))
-        stage (number-grows call.sub earliest t history first) safe
+        pursuit (number-grows call.sub earliest t history first) safe
 
     safe_next : IsSafe setting (number call.sub (before (suc t) history))
-        (after_word setting call stage (cell setting (before t history) key))
+        (after_word setting call pursuit (cell setting (before t history) key))
     safe_next = safe-later setting (number call.sub (before t history)) (number call.sub (before (suc t) history))
-        (after_word setting call stage (cell setting (before t history) key))
+        (after_word setting call pursuit (cell setting (before t history) key))
         (number-grows call.sub t (suc t) history (omega arith))
         (good-safe setting call.sub (before t history)
-        (after_word setting call stage (cell setting (before t history) key))
-        (look-good laws.marks laws.entries setting (before t history) call stage key low inside legal_now safe_now
+        (after_word setting call pursuit (cell setting (before t history) key))
+        (look-good laws.marks laws.entries setting (before t history) call pursuit key low inside legal_now safe_now
         wanted))
 
 pub chases-rise : ChaseLaws → ChasesRise

@@ -5,16 +5,16 @@ use Rattle.node_set.specs.Ascending.{IsAscending}
 use Rattle.directory.specs.Settings.{Setting, start, subs}
 use Rattle.directory.specs.Statements.{CallersCount, FindsFollow, TicketsAscend}
 use Rattle.directory.specs.Courses.{Course, Step, after_step, course_at, move_to, switch_off, switch_on}
-use Rattle.directory.specs.Finds.{FindCall, Stage, after_word, answer_of}
+use Rattle.directory.specs.Finds.{FindCall, Pursuit, after_word, answer_of}
 use Rattle.directory.specs.Histories.{History, tickets, words_read}
-use Rattle.directory.specs.Orders.{Answer, Caller as Seeker, IsPlayed, Scripts, after_read, caller_at, caller_in, finds_of, read_by, steps_of, with_stage}
+use Rattle.directory.specs.Orders.{Answer, Caller as Seeker, IsPlayed, Scripts, after_read, caller_at, caller_in, finds_of, read_by, steps_of, with_pursuit}
 use Rattle.directory.specs.Outcomes.{FollowEachOther, answer_line, caller_lines, found_line, step_line, step_lines, sub_lines}
 use Rattle.directory.specs.Writes.{numbers_from, step_writes}
 use Rattle.directory.specs.CallLines.{actor_of}
 use Rattle.directory.specs.declared.answers.Done.{Done}
 use Rattle.directory.specs.declared.answers.Found.{Found}
 use Rattle.directory.specs.declared.answers.Found.TheVariants.{At, Off as OffAt, Again}
-use Rattle.trail_laws.specs.Lines.{LinesAreInTurn, TellsNumber}
+use Rattle.trail_laws.specs.RightOutcomes.{LinesAreInTurn, TellsNumber}
 use Rattle.node_set.specs.SetLaws.{below_each}
 
 -- where an element of joined lists lies
@@ -57,11 +57,12 @@ follow-last place (x ∷ answers) (suc i) (suc j) a b follows le at_a at_b =
 abbrev AreLooked : ℕ → List Answer → Type 0
 AreLooked next answers = (i : ℕ) (a : Answer) → slice_get answers i ≡ Some a → a.last < next
 
-looked-on : (caller : Seeker) (call : FindCall) (later : List FindCall) (stage : Stage) (answer : Option Found)
+looked-on : (caller : Seeker) (call : FindCall) (later : List FindCall) (pursuit : Pursuit) (answer : Option Found)
     → AreLooked caller.next caller.answers
-    → AreLooked (with_stage caller call later stage answer).next (with_stage caller call later stage answer).answers
-looked-on caller call later stage None h = λ i a at. omega (arith, h i a at)
-looked-on caller call later stage (Some found) h = λ i a at.
+    → AreLooked (with_pursuit caller call later pursuit answer).next
+    (with_pursuit caller call later pursuit answer).answers
+looked-on caller call later pursuit None h = λ i a at. omega (arith, h i a at)
+looked-on caller call later pursuit (Some found) h = λ i a at.
     elim (append-at caller.answers _ i a at) [
       | inl here ↦ omega (arith, h i a here)
       | inr there ↦ one there.0 a there.2
@@ -81,8 +82,8 @@ looked-more : (setting : Setting) (caller : Seeker) (calls : List FindCall) (wor
     → AreLooked (read_by setting caller calls word).next (read_by setting caller calls word).answers
 looked-more setting caller [] word h = h
 looked-more setting caller (call ∷ later) word h =
-    looked-on caller call later (after_word setting call caller.stage word)
-    (answer_of (after_word setting call caller.stage word)) h
+    looked-on caller call later (after_word setting call caller.pursuit word)
+    (answer_of (after_word setting call caller.pursuit word)) h
 
 looked-all : (setting : Setting) (words : List ℕ) (caller : Seeker) → AreLooked caller.next caller.answers
     → AreLooked (fold (after_read setting) caller words).next (fold (after_read setting) caller words).answers

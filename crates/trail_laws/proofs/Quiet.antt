@@ -15,7 +15,7 @@ use Rattle.directory.specs.Settings.{levels, Setting}
 use Rattle.directory.specs.Histories.{before, cell, History, words_at}
 use Rattle.directory.specs.Writes.{numbers_from}
 use Rattle.directory.specs.Legal.{IsLegal}
-use Rattle.directory.specs.Finds.{after_entry, after_mark, after_origin, after_word, all_readers, at_origin, Chase, chases, climb, climbs, ended, find, FindCall, hop, is_known, known_with, Reader, Stage, way_in, found_weight}
+use Rattle.directory.specs.Finds.{after_entry, after_mark, after_origin, after_word, all_readers, at_origin, Chase, chases, climb, climbs, ended, find, FindCall, hop, is_known, known_with, Reader, Pursuit, way_in, found_weight}
 use Rattle.directory.specs.Looks.{AreLooks, first_of, IsFind, IsQuiet, last_of, look_by, moves_at}
 use Rattle.directory.specs.declared.answers.Found.{Found}
 use Rattle.directory.specs.declared.answers.Found.TheVariants.{At, Again}
@@ -28,22 +28,22 @@ use Rattle.trail_laws.proofs.Sure.{IsSure, Used, look-sure, sure-until}
 
 -- ---- all looks
 -- the last look comes no earlier than the first
-pub last-late : (setting : Setting) (history : History) (actor : ℕ) (call : FindCall) (earliest : ℕ) (stage : Stage)
+pub last-late : (setting : Setting) (history : History) (actor : ℕ) (call : FindCall) (earliest : ℕ) (pursuit : Pursuit)
     (t : ℕ)
-    (later : List ℕ) → AreLooks setting history actor call earliest stage (t ∷ later) → t ≤ last_of (t ∷ later)
+    (later : List ℕ) → AreLooks setting history actor call earliest pursuit (t ∷ later) → t ≤ last_of (t ∷ later)
 unfolding AreLooks
-last-late setting history actor call earliest stage t [] looks = omega arith
-last-late setting history actor call earliest stage t (u ∷ later) (first, (key, wanted, is_look, rest)) =
+last-late setting history actor call earliest pursuit t [] looks = omega arith
+last-late setting history actor call earliest pursuit t (u ∷ later) (first, (key, wanted, is_look, rest)) =
     rw (last-more t u later)
     (omega (
       arith,
       rest.0,
       last-late setting history actor call (suc t)
-          (after_word setting call stage (cell setting (before t history) key)) u later rest,
+          (after_word setting call pursuit (cell setting (before t history) key)) u later rest,
     ))
 
--- after a look the stage is no more the first
-IsBegun : Stage → Type 0
+-- after a look the pursuit is no more the first
+IsBegun : Pursuit → Type 0
 IsBegun at_origin = ⊥
 IsBegun (climbs known weight reader later) = Unit {0}
 IsBegun (chases chase node) = Unit {0}
@@ -92,8 +92,8 @@ entry-begun setting call known weight reader later None = climb-begun known
     (weight + 2 * way_in setting call reader) later
 entry-begun setting call known weight reader later (Some address) = tt
 
-word-begun : (setting : Setting) (call : FindCall) (stage : Stage) (word : ℕ)
-    → IsBegun (after_word setting call stage word)
+word-begun : (setting : Setting) (call : FindCall) (pursuit : Pursuit) (word : ℕ)
+    → IsBegun (after_word setting call pursuit word)
 unfolding IsBegun
 word-begun setting call at_origin word = origin-begun setting call (mark_in word)
 word-begun setting call (climbs known weight reader later) word =
@@ -101,40 +101,40 @@ word-begun setting call (climbs known weight reader later) word =
 word-begun setting call (chases chase node) word = mark-begun setting chase node (mark_in word)
 word-begun setting call (ended found) word = tt
 
-begun : (setting : Setting) (call : FindCall) (stage : Stage) (word : ℕ)
-    → after_word setting call stage word ≡ at_origin
+begun : (setting : Setting) (call : FindCall) (pursuit : Pursuit) (word : ℕ)
+    → after_word setting call pursuit word ≡ at_origin
     → ⊥
 unfolding IsBegun
-begun setting call stage word e = subst IsBegun e (word-begun setting call stage word)
+begun setting call pursuit word e = subst IsBegun e (word-begun setting call pursuit word)
 
 sure-looks : Used → (setting : Setting) (history : History) (actor : ℕ) (call : FindCall) (Within : ℕ → Type 0)
     (found : Found) → setting.nodes ≤ 2 ^ 16 → call.from < setting.nodes → IsLegal setting call.sub history
-    → (later : List ℕ) (t : ℕ) (stage : Stage) → (stage ≡ at_origin → ⊥)
-    → IsSure setting call.sub (before t history) call Within stage
-    → AreLooks setting history actor call (suc t) stage later
+    → (later : List ℕ) (t : ℕ) (pursuit : Pursuit) → (pursuit ≡ at_origin → ⊥)
+    → IsSure setting call.sub (before t history) call Within pursuit
+    → AreLooks setting history actor call (suc t) pursuit later
     → ((u : ℕ) → t ≤ u → u ≤ last_of (t ∷ later) → moves_at call.sub history u ≡ false)
-    → fold (after_word setting call) stage (flat_map (words_at setting history) later) ≡ ended found
+    → fold (after_word setting call) pursuit (flat_map (words_at setting history) later) ≡ ended found
     → IsAnswered found × Within (found_weight found)
 unfolding AreLooks
-sure-looks used setting history actor call Within found low inside legal [] t stage is_begun sure looks quiet ends =
+sure-looks used setting history actor call Within found low inside legal [] t pursuit is_begun sure looks quiet ends =
     subst (IsSure setting call.sub (before t history) call Within) ends sure
-sure-looks used setting history actor call Within found low inside legal (u ∷ later) t stage is_begun sure
+sure-looks used setting history actor call Within found low inside legal (u ∷ later) t pursuit is_begun sure
     (first, (key, wanted, is_look, rest)) quiet ends =
     sure-looks used setting history actor call Within found low inside legal later u
-    (after_word setting call stage (cell setting (before u history) key))
-    (begun setting call stage (cell setting (before u history) key))
-    (look-sure used setting (before u history) call Within stage key (λ e. absurd (is_begun e)) low inside
+    (after_word setting call pursuit (cell setting (before u history) key))
+    (begun setting call pursuit (cell setting (before u history) key))
+    (look-sure used setting (before u history) call Within pursuit key (λ e. absurd (is_begun e)) low inside
     (front-legal used.fronts setting call.sub history u low legal) waited wanted) rest
     (λ x h g. quiet x (omega (arith, first, h)) (omega (arith, g, last-more t u later)))
-    (sym (read-one setting history actor u key call stage later is_look) ∙ ends)
+    (sym (read-one setting history actor u key call pursuit later is_look) ∙ ends)
   where
     late : u ≤ last_of (u ∷ later)
-    late = last-late setting history actor call (suc t) stage u later (first, (key, wanted, is_look, rest))
+    late = last-late setting history actor call (suc t) pursuit u later (first, (key, wanted, is_look, rest))
 
-    waited : IsSure setting call.sub (before u history) call Within stage
+    waited : IsSure setting call.sub (before u history) call Within pursuit
     waited = let e : (u - t) + t ≡ u = omega (arith, first) in
-        subst (λ n. IsSure setting call.sub (before n history) call Within stage) e
-        (sure-until used setting call.sub history call Within (u - t) t stage low legal
+        subst (λ n. IsSure setting call.sub (before n history) call Within pursuit) e
+        (sure-until used setting call.sub history call Within (u - t) t pursuit low legal
         (omega (arith, first, slice_get_within history u (look_by actor key) is_look))
         (λ x h g. quiet x h (omega (arith, first, g, late, last-more t u later))) sure)
 

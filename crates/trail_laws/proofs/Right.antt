@@ -16,7 +16,7 @@ use Rattle.directory.specs.Settings.{levels, Setting, start}
 use Rattle.directory.specs.Histories.{before, cell, History, through, words_at, words_by}
 use Rattle.directory.specs.Writes.{numbers_from}
 use Rattle.directory.specs.Legal.{IsLegal}
-use Rattle.directory.specs.Finds.{after_entry, after_mark, after_origin, after_word, all_readers, at_origin, Chase, chases, climb, climbs, ended, find, FindCall, hop, is_known, key_of, known_with, Reader, Stage, way_in}
+use Rattle.directory.specs.Finds.{after_entry, after_mark, after_origin, after_word, all_readers, at_origin, Chase, chases, climb, climbs, ended, find, FindCall, hop, is_known, key_of, known_with, Reader, Pursuit, way_in}
 use Rattle.directory.specs.Looks.{AreLooks, last_of, look_by}
 use Rattle.entry_word.specs.declared.visit.Visit.{Visit}
 use Rattle.directory.specs.Puts.{ends_off, mark_put, node_put}
@@ -29,18 +29,18 @@ use Rattle.trail_laws.specs.Rightness.{AnswersAreRight, HasNumber, IsRight, Numb
 use Rattle.trail_laws.proofs.Passing.{front-legal, number-grows, through-puts}
 use Rattle.trail_laws.proofs.Chases.{knows-with}
 
--- a stage that isn't the end
-abbrev pub IsUnderWay : Stage → Type 0
+-- a pursuit that isn't the end
+abbrev pub IsUnderWay : Pursuit → Type 0
 IsUnderWay at_origin = Unit {0}
 IsUnderWay (climbs known weight reader later) = Unit {0}
 IsUnderWay (chases chase node) = Unit {0}
 IsUnderWay (ended found) = ⊥
 
--- what a find knows at a stage is at most the number, and its readers are of levels of the plan
+-- what a find knows at a pursuit is at most the number, and its readers are of levels of the plan
 abbrev pub Low : Setting → Reader → Type 0
 Low setting reader = reader.level ≤ setting.top
 
-abbrev pub IsSafe : Setting → ℕ → Stage → Type 0
+abbrev pub IsSafe : Setting → ℕ → Pursuit → Type 0
 IsSafe setting most at_origin = Unit {0}
 IsSafe setting most (climbs known weight reader later) = KnowsAtMost most known × All (Low setting) (reader ∷ later)
 IsSafe setting most (chases chase node) = KnowsAtMost most chase.known × (node < setting.nodes)
@@ -50,8 +50,8 @@ pub knows-more : (most more : ℕ) (known : Option ℕ) → most ≤ more → Kn
 knows-more most more None h k = tt
 knows-more most more (Some n) h k = omega (arith, k)
 
-pub safe-later : (setting : Setting) (most more : ℕ) (stage : Stage) → most ≤ more → IsSafe setting most stage
-    → IsSafe setting more stage
+pub safe-later : (setting : Setting) (most more : ℕ) (pursuit : Pursuit) → most ≤ more → IsSafe setting most pursuit
+    → IsSafe setting more pursuit
 safe-later setting most more at_origin h safe = tt
 safe-later setting most more (climbs known weight reader later) h safe = (knows-more most more known h safe.0, safe.1)
 safe-later setting most more (chases chase node) h safe = (knows-more most more chase.known h safe.0, safe.1)
@@ -65,8 +65,8 @@ RightAt setting sub seen (OffAt node q level weight) = (node ≡ standing settin
     × (off sub seen ≡ true)
 RightAt setting sub seen (Again why weight) = Unit {0}
 
--- a stage after a look: safe, and right where it is the end
-abbrev pub IsGood : Setting → ℕ → History → Stage → Type 0
+-- a pursuit after a look: safe, and right where it is the end
+abbrev pub IsGood : Setting → ℕ → History → Pursuit → Type 0
 IsGood setting sub seen at_origin = Unit {0}
 IsGood setting sub seen (climbs known weight reader later) = IsSafe setting (number sub seen)
     (climbs known weight reader later)
@@ -162,10 +162,10 @@ mark-good setting sub seen chase node (Coming q from) knows tells = at_known (is
         tells.1
 
 -- one look
-pub look-good : MarksTell → EntriesTell → (setting : Setting) (seen : History) (call : FindCall) (stage : Stage)
+pub look-good : MarksTell → EntriesTell → (setting : Setting) (seen : History) (call : FindCall) (pursuit : Pursuit)
     (key : Key) → setting.nodes ≤ 2 ^ 16 → call.from < setting.nodes → IsLegal setting call.sub seen
-    → IsSafe setting (number call.sub seen) stage → key_of call stage ≡ Some key
-    → IsGood setting call.sub seen (after_word setting call stage (cell setting seen key))
+    → IsSafe setting (number call.sub seen) pursuit → key_of call pursuit ≡ Some key
+    → IsGood setting call.sub seen (after_word setting call pursuit (cell setting seen key))
 look-good marks entries setting seen call at_origin key low inside legal safe wanted =
     let e : Presence call.from call.sub ≡ key = cc in
     subst (λ (k : Key). IsGood setting call.sub seen (after_origin setting call (mark_in (cell setting seen k)))) e
@@ -214,35 +214,35 @@ last-more t u later = ap (λ n. slice_index (t ∷ u ∷ later) n)
     (let e : length (t ∷ u ∷ later) - 1 ≡ suc (length later) = omega arith in e)
     ∙ sym (ap (λ n. slice_index (u ∷ later) n) (let e : length (u ∷ later) - 1 ≡ length later = omega arith in e))
 
-pub read-one : (setting : Setting) (history : History) (actor t : ℕ) (key : Key) (call : FindCall) (stage : Stage)
+pub read-one : (setting : Setting) (history : History) (actor t : ℕ) (key : Key) (call : FindCall) (pursuit : Pursuit)
     (later : List ℕ) → slice_get history t ≡ Some (look_by actor key)
-    → fold (after_word setting call) stage (flat_map (words_at setting history) (t ∷ later))
-    ≡ fold (after_word setting call) (after_word setting call stage (cell setting (before t history) key))
+    → fold (after_word setting call) pursuit (flat_map (words_at setting history) (t ∷ later))
+    ≡ fold (after_word setting call) (after_word setting call pursuit (cell setting (before t history) key))
     (flat_map (words_at setting history) later)
-read-one setting history actor t key call stage later h = ap
-    (λ o. fold (after_word setting call) stage (words_by setting (before t history) o ++ flat_map
+read-one setting history actor t key call pursuit later h = ap
+    (λ o. fold (after_word setting call) pursuit (words_by setting (before t history) o ++ flat_map
     (words_at setting history) later)) h
 
 -- the looks of a find end with a right answer
 right-looks : MarksTell → EntriesTell → FrontsAreLegal
     → (setting : Setting) (history : History) (actor : ℕ) (call : FindCall) (found : Found) → setting.nodes ≤ 2 ^ 16
     → call.from < setting.nodes → IsLegal setting call.sub history
-    → (tickets : List ℕ) (earliest : ℕ) (stage : Stage) → IsUnderWay stage
-    → IsSafe setting (number call.sub (before earliest history)) stage
-    → AreLooks setting history actor call earliest stage tickets
-    → fold (after_word setting call) stage (flat_map (words_at setting history) tickets) ≡ ended found
+    → (tickets : List ℕ) (earliest : ℕ) (pursuit : Pursuit) → IsUnderWay pursuit
+    → IsSafe setting (number call.sub (before earliest history)) pursuit
+    → AreLooks setting history actor call earliest pursuit tickets
+    → fold (after_word setting call) pursuit (flat_map (words_at setting history) tickets) ≡ ended found
     → IsRight setting history call.sub found (last_of tickets)
 unfolding AreLooks
-right-looks marks entries fronts setting history actor call found low inside legal [] earliest stage open_stage safe
-    looks ends = absurd (subst IsUnderWay ends open_stage)
+right-looks marks entries fronts setting history actor call found low inside legal [] earliest pursuit open_pursuit safe
+    looks ends = absurd (subst IsUnderWay ends open_pursuit)
 right-looks marks entries fronts setting history actor call found low inside legal
-    (t ∷ later) earliest stage open_stage safe (first, (key, wanted, is_look, rest)) ends =
-    at_next (after_word setting call stage (cell setting (before t history) key)) refl
-    (look-good marks entries setting (before t history) call stage key low inside
+    (t ∷ later) earliest pursuit open_pursuit safe (first, (key, wanted, is_look, rest)) ends =
+    at_next (after_word setting call pursuit (cell setting (before t history) key)) refl
+    (look-good marks entries setting (before t history) call pursuit key low inside
     (front-legal fronts setting call.sub history t low legal)
-    (safe-later setting (number call.sub (before earliest history)) (number call.sub (before t history)) stage
+    (safe-later setting (number call.sub (before earliest history)) (number call.sub (before t history)) pursuit
     (number-grows call.sub earliest t history first) safe) wanted)
-    rest (sym (read-one setting history actor t key call stage later is_look) ∙ ends)
+    rest (sym (read-one setting history actor t key call pursuit later is_look) ∙ ends)
     (λ s o g a e. right-looks marks entries fronts setting history actor call found low inside legal later
     (suc t) s o g a e)
   where
@@ -250,12 +250,12 @@ right-looks marks entries fronts setting history actor call found low inside leg
     seen_later = number-grows call.sub t (suc t) history (omega arith)
 
     Further : Type 0
-    Further = (s : Stage) → IsUnderWay s → IsSafe setting (number call.sub (before (suc t) history)) s
+    Further = (s : Pursuit) → IsUnderWay s → IsSafe setting (number call.sub (before (suc t) history)) s
         → AreLooks setting history actor call (suc t) s later
         → fold (after_word setting call) s (flat_map (words_at setting history) later) ≡ ended found
         → IsRight setting history call.sub found (last_of later)
 
-    longer : (s : Stage) → IsUnderWay s → (ts : List ℕ)
+    longer : (s : Pursuit) → IsUnderWay s → (ts : List ℕ)
         → fold (after_word setting call) s (flat_map (words_at setting history) ts) ≡ ended found
         → IsRight setting history call.sub found (last_of ts)
         → IsRight setting history call.sub found (last_of (t ∷ ts))
@@ -270,31 +270,31 @@ right-looks marks entries fronts setting history actor call found low inside leg
         (right-through setting history call.sub actor t key f is_look right)
     over f (u ∷ ts) (h, (k, w, l, r)) e right = cc
 
-    at_next : (s : Stage) → after_word setting call stage (cell setting (before t history) key) ≡ s
-        → IsGood setting call.sub (before t history) (after_word setting call stage
+    at_next : (s : Pursuit) → after_word setting call pursuit (cell setting (before t history) key) ≡ s
+        → IsGood setting call.sub (before t history) (after_word setting call pursuit
         (cell setting (before t history) key))
-        → AreLooks setting history actor call (suc t) (after_word setting call stage
+        → AreLooks setting history actor call (suc t) (after_word setting call pursuit
         (cell setting (before t history) key)) later
-        → fold (after_word setting call) (after_word setting call stage (cell setting (before t history) key))
+        → fold (after_word setting call) (after_word setting call pursuit (cell setting (before t history) key))
         (flat_map (words_at setting history) later) ≡ ended found → Further
         → IsRight setting history call.sub found (last_of (t ∷ later))
-    at_next s same good looks e more = at_stage s
+    at_next s same good looks e more = at_pursuit s
         (subst (IsGood setting call.sub (before t history)) same good)
         (subst (λ x. AreLooks setting history actor call (suc t) x later) same looks)
         (subst (λ x. fold (after_word setting call) x (flat_map (words_at setting history) later) ≡ ended found) same
         e)
       where
-        at_stage : (s : Stage) → IsGood setting call.sub (before t history) s
+        at_pursuit : (s : Pursuit) → IsGood setting call.sub (before t history) s
             → AreLooks setting history actor call (suc t) s later
             → fold (after_word setting call) s (flat_map (words_at setting history) later) ≡ ended found
             → IsRight setting history call.sub found (last_of (t ∷ later))
-        at_stage at_origin g a e = longer at_origin tt later e (more at_origin tt tt a e)
-        at_stage (climbs known weight reader rest) g a e = longer (climbs known weight reader rest) tt later e
+        at_pursuit at_origin g a e = longer at_origin tt later e (more at_origin tt tt a e)
+        at_pursuit (climbs known weight reader rest) g a e = longer (climbs known weight reader rest) tt later e
             (more (climbs known weight reader rest) tt
             (safe-later setting _ _ (climbs known weight reader rest) seen_later g) a e)
-        at_stage (chases chase node) g a e = longer (chases chase node) tt later e
+        at_pursuit (chases chase node) g a e = longer (chases chase node) tt later e
             (more (chases chase node) tt (safe-later setting _ _ (chases chase node) seen_later g) a e)
-        at_stage (ended f) g a e = over f later a e g
+        at_pursuit (ended f) g a e = over f later a e g
 
 pub answers-right : MarksTell → EntriesTell → FrontsAreLegal → AnswersAreRight
 answers-right marks entries fronts setting history actor call found tickets low inside legal find =

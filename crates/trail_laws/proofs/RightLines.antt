@@ -16,7 +16,7 @@ use Rattle.directory.specs.declared.answers.Done.TheVariants.{Moved, Switched, F
 use Rattle.directory.specs.declared.answers.Found.{Found}
 use Rattle.directory.specs.declared.answers.Found.TheVariants.{At, Off as OffAt, Again}
 use Rattle.trail_laws.specs.Rightness.{AgainHasItsCause, AnswersAreRight, HasNumber, NumbersNeverFall, ReadsTop}
-use Rattle.trail_laws.specs.Lines.{IsRightLine, NumbersRise, OutcomesAreRight, TellsNumber}
+use Rattle.trail_laws.specs.RightOutcomes.{IsRightLine, NumbersRise, OutcomesAreRight, TellsNumber}
 
 -- what is answered to a find is right
 right_find : AnswersAreRight → AgainHasItsCause → (setting : Setting) (history : History) (actor : ℕ)

@@ -9,7 +9,7 @@ use Rattle.entry_word.specs.declared.visit.Key.TheVariants.{Presence}
 use Rattle.entry_word.specs.declared.visit.Visit.{Visit}
 use Rattle.directory.specs.Settings.{Setting}
 use Rattle.directory.specs.Histories.{before, cell, History, is_put_for, puts_to, through}
-use Rattle.directory.specs.Finds.{after_word, at_origin, ended, FindCall, Stage}
+use Rattle.directory.specs.Finds.{after_word, at_origin, ended, FindCall, Pursuit}
 use Rattle.directory.specs.Legal.{ArePuts, IsLegal}
 use Rattle.directory.specs.Looks.{AreLooks, last_of, look_by, moves_at, moves_by}
 use Rattle.directory.specs.Puts.{is_of_move, steps_in}
@@ -103,16 +103,16 @@ still-until used rested setting sub history (suc k) t low legal within quiet =
         still)
 
 -- the last look of a find is a visit of the history
-last-inside : (setting : Setting) (history : History) (actor : ℕ) (call : FindCall) (earliest : ℕ) (stage : Stage)
+last-inside : (setting : Setting) (history : History) (actor : ℕ) (call : FindCall) (earliest : ℕ) (pursuit : Pursuit)
     (t : ℕ)
-    (later : List ℕ) → AreLooks setting history actor call earliest stage (t ∷ later)
+    (later : List ℕ) → AreLooks setting history actor call earliest pursuit (t ∷ later)
     → last_of (t ∷ later) < length history
 unfolding AreLooks
-last-inside setting history actor call earliest stage t [] (first, (key, wanted, is_look, rest)) =
+last-inside setting history actor call earliest pursuit t [] (first, (key, wanted, is_look, rest)) =
     slice_get_within history t (look_by actor key) is_look
-last-inside setting history actor call earliest stage t (u ∷ later) (first, (key, wanted, is_look, rest)) =
+last-inside setting history actor call earliest pursuit t (u ∷ later) (first, (key, wanted, is_look, rest)) =
     rw (last-more t u later) (last-inside setting history actor call (suc t)
-    (after_word setting call stage (cell setting (before t history) key)) u later rest)
+    (after_word setting call pursuit (cell setting (before t history) key)) u later rest)
 
 pub stand-still : Used → RestIsSettled → PassagesAreOpen → StandsInside → QuietFindsStandStill
 stand-still used rested opens inside setting history actor call found [] low legal find quiet =

@@ -1,4 +1,4 @@
--- What makes a find sure of an answer at each stage: a look keeps it, and what is no put of a move.
+-- What makes a find sure of an answer at each pursuit: a look keeps it, and what is no put of a move.
 use Rattle.std.proofs.Common.{◌≡◌, ℕ, zero, suc, ◌+◌, ◌*◌, ◌<◌, ◌≤◌, ◌^◌, Bool, true, false, cond, List, [], ◌∷◌, ◌++◌, Option, Some, None, length, refl, sym, ap, ◌∙◌, subst, arith}
 use Rattle.std.specs.Prelude.{slice_get}
 use Rattle.entry_word.specs.Marks.{mark_in}
@@ -12,7 +12,7 @@ use Rattle.entry_word.specs.declared.visit.Visit.{Visit}
 use Rattle.directory.specs.Settings.{Setting}
 use Rattle.directory.specs.Histories.{before, cell, History}
 use Rattle.directory.specs.Legal.{IsLegal}
-use Rattle.directory.specs.Finds.{after_entry, after_mark, after_origin, after_word, all_readers, at_origin, Chase, chases, climb, climbs, ended, FindCall, hop, is_known, key_of, known_with, Reader, Stage, way_in, found_weight}
+use Rattle.directory.specs.Finds.{after_entry, after_mark, after_origin, after_word, all_readers, at_origin, Chase, chases, climb, climbs, ended, FindCall, hop, is_known, key_of, known_with, Reader, Pursuit, way_in, found_weight}
 use Rattle.directory.specs.Looks.{moves_at, moves_by}
 use Rattle.directory.specs.Parts.{known_after, lead}
 use Rattle.directory.specs.Standing.{number, standing}
@@ -26,8 +26,8 @@ use Rattle.trail_laws.proofs.Passing.{front-legal}
 use Rattle.trail_laws.proofs.Right.{gone-known}
 use Rattle.trail_laws.proofs.Alike.{alike-step, IsAlike, led-alike}
 
--- what makes a find sure of an answer within what is allowed, at a stage
-abbrev pub IsSure : Setting → ℕ → History → FindCall → (ℕ → Type 0) → Stage → Type 0
+-- what makes a find sure of an answer within what is allowed, at a pursuit
+abbrev pub IsSure : Setting → ℕ → History → FindCall → (ℕ → Type 0) → Pursuit → Type 0
 IsSure setting sub seen call Within at_origin = Unit {0}
 IsSure setting sub seen call Within (climbs known weight reader later) =
     KnowsAtMost (number sub seen) known × Affords setting sub seen call Within weight (reader ∷ later)
@@ -74,8 +74,8 @@ affords-alike setting sub one other call Within alike weight (reader ∷ later) 
     (λ a. address-alike setting sub one other call Within alike weight reader a) h
 
 pub sure-alike : (setting : Setting) (sub : ℕ) (one other : History) (call : FindCall) (Within : ℕ → Type 0)
-    → IsAlike setting sub one other → (stage : Stage) → IsSure setting sub one call Within stage
-    → IsSure setting sub other call Within stage
+    → IsAlike setting sub one other → (pursuit : Pursuit) → IsSure setting sub one call Within pursuit
+    → IsSure setting sub other call Within pursuit
 sure-alike setting sub one other call Within alike at_origin sure = tt
 sure-alike setting sub one other call Within alike (climbs known weight reader later) sure = (
   subst (λ n. KnowsAtMost n known) (sym alike.count) sure.0,
@@ -106,36 +106,36 @@ pub record Used : Type 0 where
 -- one ticket on, where it is no visit of a move
 pub sure-next : Used → (setting : Setting) (sub : ℕ) (history : History) (call : FindCall) (Within : ℕ → Type 0)
     (t : ℕ)
-    (stage : Stage) → setting.nodes ≤ 2 ^ 16 → IsLegal setting sub history → t < length history
-    → moves_at sub history t ≡ false → IsSure setting sub (before t history) call Within stage
-    → IsSure setting sub (before (suc t) history) call Within stage
-sure-next used setting sub history call Within t stage low legal within quiet sure =
+    (pursuit : Pursuit) → setting.nodes ≤ 2 ^ 16 → IsLegal setting sub history → t < length history
+    → moves_at sub history t ≡ false → IsSure setting sub (before t history) call Within pursuit
+    → IsSure setting sub (before (suc t) history) call Within pursuit
+sure-next used setting sub history call Within t pursuit low legal within quiet sure =
     at_visit (slice_get-within history t within)
   where
     at_visit : (visit : Visit) × (slice_get history t ≡ Some visit)
-        → IsSure setting sub (before (suc t) history) call Within stage
+        → IsSure setting sub (before (suc t) history) call Within pursuit
     at_visit (visit, found) =
         let more : before (suc t) history ≡ before t history ++ visit ∷ [] = take-more history t visit found in
-        subst (λ h. IsSure setting sub h call Within stage) (sym more)
+        subst (λ h. IsSure setting sub h call Within pursuit) (sym more)
         (sure-alike setting sub (before t history) (before t history ++ visit ∷ []) call Within
         (alike-step used.cells used.marks_left used.rests setting sub (before t history) visit low
         (front-legal used.fronts setting sub history t low legal)
         (subst (IsLegal setting sub) more (front-legal used.fronts setting sub history (suc t) low legal))
-        (sym (ap (λ o. moves_by sub (before t history) o) found) ∙ quiet)) stage sure)
+        (sym (ap (λ o. moves_by sub (before t history) o) found) ∙ quiet)) pursuit sure)
 
 -- and so it is up to a later ticket
 pub sure-until : Used → (setting : Setting) (sub : ℕ) (history : History) (call : FindCall) (Within : ℕ → Type 0)
-    (k t : ℕ) (stage : Stage) → setting.nodes ≤ 2 ^ 16 → IsLegal setting sub history → k + t ≤ length history
+    (k t : ℕ) (pursuit : Pursuit) → setting.nodes ≤ 2 ^ 16 → IsLegal setting sub history → k + t ≤ length history
     → ((u : ℕ) → t ≤ u → u < k + t → moves_at sub history u ≡ false)
-    → IsSure setting sub (before t history) call Within stage
-    → IsSure setting sub (before (k + t) history) call Within stage
-sure-until used setting sub history call Within zero t stage low legal within quiet sure =
+    → IsSure setting sub (before t history) call Within pursuit
+    → IsSure setting sub (before (k + t) history) call Within pursuit
+sure-until used setting sub history call Within zero t pursuit low legal within quiet sure =
     let e : 0 + t ≡ t = omega arith in rw e sure
-sure-until used setting sub history call Within (suc k) t stage low legal within quiet sure =
+sure-until used setting sub history call Within (suc k) t pursuit low legal within quiet sure =
     let e : suc k + t ≡ suc (k + t) = omega arith in
-    rw e (sure-next used setting sub history call Within (k + t) stage low legal (omega arith)
+    rw e (sure-next used setting sub history call Within (k + t) pursuit low legal (omega arith)
     (quiet (k + t) (omega arith) (omega arith))
-    (sure-until used setting sub history call Within k t stage low legal (omega arith)
+    (sure-until used setting sub history call Within k t pursuit low legal (omega arith)
     (λ u h g. quiet u h (omega arith)) sure))
 
 -- ---- one look
@@ -269,11 +269,11 @@ mark-sure setting sub seen call Within chase node (Coming q from) same (suc hops
         (subst Within (let e2 : chase.weight + way ≡ chase.weight + setting.distance node led.0 + led.1 =
         omega (arith, led.3) in e2) allowed))
 
-pub look-sure : Used → (setting : Setting) (seen : History) (call : FindCall) (Within : ℕ → Type 0) (stage : Stage)
-    (key : Key) → (stage ≡ at_origin → Begins setting seen call Within) → setting.nodes ≤ 2 ^ 16
-    → call.from < setting.nodes → IsLegal setting call.sub seen → IsSure setting call.sub seen call Within stage
-    → key_of call stage ≡ Some key
-    → IsSure setting call.sub seen call Within (after_word setting call stage (cell setting seen key))
+pub look-sure : Used → (setting : Setting) (seen : History) (call : FindCall) (Within : ℕ → Type 0) (pursuit : Pursuit)
+    (key : Key) → (pursuit ≡ at_origin → Begins setting seen call Within) → setting.nodes ≤ 2 ^ 16
+    → call.from < setting.nodes → IsLegal setting call.sub seen → IsSure setting call.sub seen call Within pursuit
+    → key_of call pursuit ≡ Some key
+    → IsSure setting call.sub seen call Within (after_word setting call pursuit (cell setting seen key))
 unfolding Affords
 look-sure used setting seen call Within at_origin key begins low inside legal sure wanted =
     let e : Presence call.from call.sub ≡ key = cc in

@@ -10,7 +10,7 @@ use Rattle.entry_word.specs.declared.mark.PresenceMark.TheVariants.{Empty, Here,
 use Rattle.directory.specs.Settings.{Setting}
 use Rattle.directory.specs.Histories.{History, words_at}
 use Rattle.directory.specs.Legal.{IsLegal}
-use Rattle.directory.specs.Finds.{FindCall, Stage, after_word, at_origin, chases, climbs, ended}
+use Rattle.directory.specs.Finds.{FindCall, Pursuit, after_word, at_origin, chases, climbs, ended}
 use Rattle.directory.specs.Looks.{AreLooks}
 use Rattle.trail_laws.specs.Trail.{GoesUp}
 
@@ -50,17 +50,18 @@ abbrev pub ChaseRises : List PresenceMark → Type 0
 ChaseRises marks = FollowOn marks × IsAscending (filter_map gone_number marks)
 
 -- the mark in a word, where the find chases
-abbrev pub mark_chased : Stage → ℕ → List PresenceMark
+abbrev pub mark_chased : Pursuit → ℕ → List PresenceMark
 mark_chased at_origin word = []
 mark_chased (climbs known weight reader later) word = []
 mark_chased (chases chase node) word = mark_in word ∷ []
 mark_chased (ended found) word = []
 
--- the marks that a find reads in its chase, when it reads these words from a stage on
-abbrev pub marks_chased : Setting → FindCall → Stage → List ℕ → List PresenceMark
-marks_chased setting call stage [] = []
-marks_chased setting call stage (word ∷ words) =
-    mark_chased stage word ++ marks_chased setting call (after_word setting call stage word) words
+-- the marks that a find reads in its chase, when it reads these words from a pursuit on
+abbrev pub marks_chased : Setting → FindCall → Pursuit → List ℕ → List PresenceMark
+marks_chased setting call pursuit [] = []
+marks_chased setting call pursuit (word ∷ words) =
+    mark_chased pursuit word
+    ++ marks_chased setting call (after_word setting call pursuit word) words
 
 -- so rises the chase of each find in a legal history, whether the find has its answer or is under
 -- way (`chases_rise`)

@@ -4,5 +4,5 @@ pub mod Ways
 pub mod Chased
 pub mod Within
 pub mod Phases
-pub mod Lines
+pub mod RightOutcomes
 pub mod Censuses

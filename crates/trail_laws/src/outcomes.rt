@@ -1,5 +1,5 @@
 //! The laws of outcomes.
-ghost use Rattle.trail_laws.specs.Lines.{LinesAreInTurn, NumbersRise, OutcomesAreRight};
+ghost use Rattle.trail_laws.specs.RightOutcomes.{LinesAreInTurn, NumbersRise, OutcomesAreRight};
 
 use crate::answers::{again_has_its_cause, answers_are_right, numbers_never_fall};
 use directory::{

@@ -2,7 +2,7 @@
 use Rattle.std.proofs.Common.{◌≡◌, ℕ, suc, ◌+◌, ◌*◌, ◌^◌, ◌<◌, ◌≤◌, [], ◌++◌, length, drop, refl, sym, ap, ◌∙◌, subst, arith, inl, inr}
 use Rattle.std.specs.Prelude.{None}
 use Rattle.std.proofs.lemmas.Bool.{cases_lt, le-ltb, lt-ltb}
-use Rattle.directory.specs.Finds.{FindCall, after_word, climb as climb_stage}
+use Rattle.directory.specs.Finds.{FindCall, after_word, climb as climb_pursuit}
 use Rattle.region_plan.specs.Plan.{PlanData, levels_of, readers}
 use Rattle.region_plan.specs.Kept.{IsKept}
 use Rattle.region_plan.specs.Matched.{IsMatched, IsWithinReach}
@@ -10,7 +10,7 @@ use Rattle.region_plan.specs.Settings.{setting_of}
 use Rattle.walk.specs.declared.progress.Climb.{Climb}
 use Rattle.walk.specs.Climbs.{ClimbsGoOn, GoesOn, IsClimbOver, PassesEntry, cluster_at, next_climb, progress_of, walk-over, walk_at, weight_behind}
 use Rattle.region_plan.specs.ReaderLaws.{reader-held, readers-few, readers-some, way-light}
-use Rattle.walk.specs.Walks.{IsWalkOver, WalkData, readers_above, readers_at, stage_at}
+use Rattle.walk.specs.Walks.{IsWalkOver, WalkData, readers_above, readers_at, pursuit_at}
 use Rattle.walk.proofs.Readers.{above-more, answer-climbing, next-climbing, readers-spent, word-climbing}
 
 module _ (plan : PlanData) (climb : Climb) (kept : IsKept plan) (matched : IsMatched plan)
@@ -69,28 +69,28 @@ module _ (plan : PlanData) (climb : Climb) (kept : IsKept plan) (matched : IsMat
   ]
 
   -- what is left behind the entry
-  next-stage : (sub : ℕ)
+  next-pursuit : (sub : ℕ)
       → (let call : FindCall = record { from = climb.from; sub = sub } in
-      stage_at (setting_of plan []) climb.from (progress_of (next_climb plan climb))
-      ≡ after_word (setting_of plan []) call (stage_at (setting_of plan []) climb.from (progress_of climb)) 0)
-  next-stage sub =
+      pursuit_at (setting_of plan []) climb.from (progress_of (next_climb plan climb))
+      ≡ after_word (setting_of plan []) call (pursuit_at (setting_of plan []) climb.from (progress_of climb)) 0)
+  next-pursuit sub =
       let call : FindCall = record { from = climb.from; sub = sub } in
       let left = drop (suc climb.index) (readers_at (setting_of plan []) climb.from climb.level) in
       let later = readers_above (setting_of plan []) climb.from (suc climb.level) in
-      let read : climb_stage climb.known (weight_behind plan climb) (left ++ later)
-      ≡ after_word (setting_of plan []) call (stage_at (setting_of plan []) climb.from (progress_of climb)) 0 =
+      let read : climb_pursuit climb.known (weight_behind plan climb) (left ++ later)
+      ≡ after_word (setting_of plan []) call (pursuit_at (setting_of plan []) climb.from (progress_of climb)) 0 =
       sym (word-climbing plan climb.from sub climb.known climb.weight climb.level climb.index 0 None over.progress.1 refl)
       in
       elim (cases_lt (suc climb.index) reader_count) [
         | inl low ↦
-            ap (λ c. stage_at (setting_of plan []) climb.from (progress_of c)) (next-within low) ∙ read
+            ap (λ c. pursuit_at (setting_of plan []) climb.from (progress_of c)) (next-within low) ∙ read
         | inr high ↦
             let there : suc climb.level < levels_of plan =
             subst (λ (c : Climb). c.level < levels_of plan) (next-above high) up in
-            ap (λ c. stage_at (setting_of plan []) climb.from (progress_of c)) (next-above high)
-            ∙ (ap (climb_stage climb.known (weight_behind plan climb))
+            ap (λ c. pursuit_at (setting_of plan []) climb.from (progress_of c)) (next-above high)
+            ∙ (ap (climb_pursuit climb.known (weight_behind plan climb))
             (sym (above-more (setting_of plan []) climb.from (suc climb.level) (omega (arith, there, matched.some))))
-            ∙ (ap (λ rs. climb_stage climb.known (weight_behind plan climb) (rs ++ later))
+            ∙ (ap (λ rs. climb_pursuit climb.known (weight_behind plan climb) (rs ++ later))
             (sym (readers-spent (setting_of plan []) climb.from climb.level (suc climb.index) (omega (arith, high))))
             ∙ read))
       ]
@@ -104,7 +104,7 @@ module _ (plan : PlanData) (climb : Climb) (kept : IsKept plan) (matched : IsMat
       record {
         key = sym (next-climbing plan (walk_at own climb) climb.known climb.weight climb.level climb.index
             (cluster_at plan climb) refl (walk-over plan own climb refl over) refl);
-        stage = next-stage walk.sub;
+        pursuit = next-pursuit walk.sub;
         on = sym (answer-climbing plan climb.from (progress_of next) next.known next.weight next.level next.index refl
             there.progress);
         over = there;

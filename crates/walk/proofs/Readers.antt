@@ -14,7 +14,7 @@ use Rattle.region_plan.specs.Plan.{PlanData, inside, readers}
 use Rattle.region_plan.specs.Settings.{setting_of}
 use Rattle.walk.specs.declared.progress.Progress.{Progress}
 use Rattle.walk.specs.declared.progress.Progress.TheVariants.{AtOrigin, Chasing, Climbing, Ended}
-use Rattle.walk.specs.Walks.{IsWalkOver, IsProgressWithin, IsWordBelow, StandsForWords, WalkData, call_of, reader_in, readers_at, readers_above, stage_at, stage_of}
+use Rattle.walk.specs.Walks.{IsWalkOver, IsProgressWithin, IsWordBelow, StandsForWords, WalkData, call_of, reader_in, readers_at, readers_above, pursuit_at, pursuit_of}
 use Rattle.walk.specs.ReaderLaws.{climb-here}
 
 -- the readers of a level and those above
@@ -53,34 +53,34 @@ above-empty setting node level h none =
 -- a walk that climbs
 pub answer-climbing : (plan : PlanData) (from : ℕ) (progress : Progress) (known : Option ℕ)
     (weight level index : ℕ) → progress ≡ Climbing known weight level index → IsProgressWithin plan from progress
-    → None ≡ answer_of (stage_at (setting_of plan []) from progress)
+    → None ≡ answer_of (pursuit_at (setting_of plan []) from progress)
 answer-climbing plan from progress known weight level index same within =
     let inside = subst (IsProgressWithin plan from) same within in
-    sym (ap (λ q. answer_of (stage_at (setting_of plan []) from q)) same
+    sym (ap (λ q. answer_of (pursuit_at (setting_of plan []) from q)) same
     ∙ ap answer_of (climb-here (setting_of plan []) from known weight level index (readers_above
     (setting_of plan []) from (suc level)) inside.1))
 
 pub next-climbing : (plan : PlanData) (walk : WalkData) (known : Option ℕ) (weight level index cluster : ℕ)
     → walk.progress ≡ Climbing known weight level index → IsWalkOver plan walk
     → cluster ≡ get_or (readers plan level walk.from) index 0 → Some (Entry level cluster walk.sub)
-    ≡ key_of (call_of walk) (stage_of plan walk)
+    ≡ key_of (call_of walk) (pursuit_of plan walk)
 next-climbing plan walk known weight level index cluster same goes here =
     let inside = subst (IsProgressWithin plan walk.from) same goes.progress in
     ap (λ c. Some (Entry level c walk.sub)) here
-    ∙ sym (ap (λ q. key_of (call_of walk) (stage_at (setting_of plan []) walk.from q)) same
+    ∙ sym (ap (λ q. key_of (call_of walk) (pursuit_at (setting_of plan []) walk.from q)) same
     ∙ ap (key_of (call_of walk)) (climb-here (setting_of plan []) walk.from known weight level index (readers_above
     (setting_of plan []) walk.from (suc level)) inside.1))
 
 pub word-climbing : (plan : PlanData) (from sub : ℕ) (known : Option ℕ) (weight level index word : ℕ)
     (address : Option Address) → index < length (readers plan level from) → address_in word ≡ address
-    → (let call : FindCall = record { from = from; sub = sub } in after_word (setting_of plan []) call (stage_at
+    → (let call : FindCall = record { from = from; sub = sub } in after_word (setting_of plan []) call (pursuit_at
     (setting_of plan []) from (Climbing known weight level index)) word)
     ≡ after_entry (setting_of plan []) (record { from = from; sub = sub }) known weight
     (reader_in plan from level index)
     (drop (suc index) (readers_at (setting_of plan []) from level) ++ readers_above (setting_of plan []) from
     (suc level)) address
 word-climbing plan from sub known weight level index word address inside same =
-    ap (λ stage. after_word (setting_of plan []) (record { from = from; sub = sub }) stage word)
+    ap (λ pursuit. after_word (setting_of plan []) (record { from = from; sub = sub }) pursuit word)
     (climb-here (setting_of plan []) from known weight level index (readers_above (setting_of plan []) from
     (suc level)) inside)
     ∙ ap (after_entry (setting_of plan []) (record { from = from; sub = sub }) known weight
@@ -90,10 +90,10 @@ word-climbing plan from sub known weight level index word address inside same =
 
 -- one word more
 pub find-more : (plan : PlanData) (old new : WalkData) (words : List ℕ) (word : ℕ) → call_of new ≡ call_of old
-    → stage_of plan new ≡ after_word (setting_of plan []) (call_of old) (stage_of plan old) word
+    → pursuit_of plan new ≡ after_word (setting_of plan []) (call_of old) (pursuit_of plan old) word
     → StandsForWords plan old words → StandsForWords plan new (words ++ word ∷ [])
-find-more plan old new words word same stage stands =
-    stage ∙ (ap (λ s. after_word (setting_of plan []) (call_of old) s word) stands
+find-more plan old new words word same pursuit stands =
+    pursuit ∙ (ap (λ s. after_word (setting_of plan []) (call_of old) s word) stands
     ∙ (sym (fold-append (after_word (setting_of plan []) (call_of old)) at_origin words (word ∷ []))
     ∙ ap (λ c. find (setting_of plan []) c (words ++ word ∷ [])) (sym same)))
 

@@ -14,7 +14,7 @@ use Rattle.region_plan.specs.Settings.{setting_of}
 use Rattle.walk.specs.declared.progress.Climb.{Climb}
 use Rattle.walk.specs.declared.progress.Progress.{Progress}
 use Rattle.walk.specs.declared.progress.Progress.TheVariants.{AtOrigin, Chasing, Climbing, Ended}
-use Rattle.walk.specs.Walks.{IsProgressWithin, IsWalkOver, WalkData, call_of, stage_of}
+use Rattle.walk.specs.Walks.{IsProgressWithin, IsWalkOver, WalkData, call_of, pursuit_of}
 
 -- a find is at the entry of a reader
 abbrev pub is_climbing : Progress → Bool
@@ -64,11 +64,11 @@ climb_past plan climb (suc count) = next_climb plan (climb_past plan climb count
 
 -- a walk looks at the entry of a climb, and a word that holds nothing takes it to the next one
 pub record PassesEntry (plan : PlanData) (walk : WalkData) (climb : Climb) : Type 0 where
-  pub key : key_of (call_of walk) (stage_of plan (walk_at walk climb))
+  pub key : key_of (call_of walk) (pursuit_of plan (walk_at walk climb))
       ≡ Some (Entry climb.level (cluster_at plan climb) walk.sub)
-  pub stage : stage_of plan (walk_at walk (next_climb plan climb))
-      ≡ after_word (setting_of plan []) (call_of walk) (stage_of plan (walk_at walk climb)) 0
-  pub on : answer_of (stage_of plan (walk_at walk (next_climb plan climb))) ≡ None
+  pub pursuit : pursuit_of plan (walk_at walk (next_climb plan climb))
+      ≡ after_word (setting_of plan []) (call_of walk) (pursuit_of plan (walk_at walk climb)) 0
+  pub on : answer_of (pursuit_of plan (walk_at walk (next_climb plan climb))) ≡ None
   pub over : IsWalkOver plan (walk_at walk (next_climb plan climb))
 
 -- a climb with a reader ahead goes on: it stays one of the plan, and each walk from its node passes

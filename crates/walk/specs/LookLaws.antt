@@ -24,12 +24,12 @@ use Rattle.walk.specs.declared.progress.Progress.{Progress}
 use Rattle.walk.specs.declared.progress.Progress.TheVariants.{AtOrigin, Chasing, Climbing, Ended}
 use Rattle.region_plan.specs.ReaderLaws.{reader-held}
 use Rattle.walk.specs.ReaderLaws.{climb-here}
-use Rattle.walk.specs.Walks.{IsWalkOver, IsAddressBelow, IsMarkBelow, IsProgressWithin, IsWordBelow, WalkData, call_of, readers_above, stage_at, stage_of}
+use Rattle.walk.specs.Walks.{IsWalkOver, IsAddressBelow, IsMarkBelow, IsProgressWithin, IsWordBelow, WalkData, call_of, readers_above, pursuit_at, pursuit_of}
 
 -- the cell of a climb is the entry of its reader
 climbing-key : (plan : PlanData) (from sub : ℕ) (known : Option ℕ) (weight level index : ℕ)
     (key : Key) → index < length (readers plan level from)
-    → key_of (record { from = from; sub = sub }) (stage_at (setting_of plan []) from
+    → key_of (record { from = from; sub = sub }) (pursuit_at (setting_of plan []) from
     (Climbing known weight level index)) ≡ Some key
     → Entry level (slice_index (readers plan level from) index) sub ≡ key
 climbing-key plan from sub known weight level index key inside wanted =
@@ -41,7 +41,7 @@ climbing-key plan from sub known weight level index key inside wanted =
 -- the cell that a walk wants lies in the plan, and is of its own subscriber
 place-wanted : (plan : PlanData) (from sub : ℕ) (progress : Progress) → IsMatched plan
     → from < nodes_of plan → IsProgressWithin plan from progress → (key : Key)
-    → key_of (record { from = from; sub = sub }) (stage_at (setting_of plan []) from progress)
+    → key_of (record { from = from; sub = sub }) (pursuit_at (setting_of plan []) from progress)
     ≡ Some key
     → IsPlace plan key × (key_sub key ≡ sub)
 place-wanted plan from sub AtOrigin matched inside within key wanted =
@@ -59,7 +59,7 @@ place-wanted plan from sub (Ended found) matched inside within key wanted = cc
 -- so it is a cell of the plan
 pub cell-wanted : (plan : PlanData) (walk : WalkData) (count : ℕ) (key : Key) → IsMatched plan
     → IsWalkOver plan walk → walk.sub < count
-    → key_of (call_of walk) (stage_of plan walk) ≡ Some key → IsCell plan count key
+    → key_of (call_of walk) (pursuit_of plan walk) ≡ Some key → IsCell plan count key
 cell-wanted plan walk count key matched goes low wanted =
     let found : IsPlace plan key × (key_sub key ≡ walk.sub) =
     place-wanted plan walk.from walk.sub walk.progress matched goes.from goes.progress key wanted in
@@ -86,7 +86,7 @@ word-below : MarksTell → EntriesTell → (plan : PlanData) (starts : List ℕ)
     (from sub : ℕ) (progress : Progress) → IsMatched plan → nodes_of plan ≤ 2 ^ 16
     → IsLegal (setting_of plan starts) sub history
     → from < nodes_of plan → IsProgressWithin plan from progress → (key : Key)
-    → key_of (record { from = from; sub = sub }) (stage_at (setting_of plan []) from progress)
+    → key_of (record { from = from; sub = sub }) (pursuit_at (setting_of plan []) from progress)
     ≡ Some key
     → IsWordBelow (nodes_of plan) progress (cell (setting_of plan starts) history key)
 word-below marks entries plan starts history from sub AtOrigin matched small legal inside within
@@ -115,7 +115,7 @@ word-below marks entries plan starts history from sub (Ended found) matched smal
 pub word-wanted : MarksTell → EntriesTell → (plan : PlanData) (starts : List ℕ)
     (history : History) (walk : WalkData) (key : Key) → IsMatched plan → nodes_of plan ≤ 2 ^ 16
     → IsLegal (setting_of plan starts) walk.sub history → IsWalkOver plan walk
-    → key_of (call_of walk) (stage_of plan walk) ≡ Some key
+    → key_of (call_of walk) (pursuit_of plan walk) ≡ Some key
     → IsWordBelow (nodes_of plan) walk.progress (cell (setting_of plan starts) history key)
 word-wanted marks entries plan starts history walk key matched small legal goes wanted =
     word-below marks entries plan starts history walk.from walk.sub walk.progress matched small

@@ -1,5 +1,5 @@
 -- What a walk keeps of its find: where it began, its subscriber, and how far it is. A walk keeps
--- no list of its looks; its progress tells the stage of the find.
+-- no list of its looks; its progress tells the pursuit of the find.
 -- Key laws: `Walk::new`, `saw`, `next` and `answer`, by their clauses (a walk stands for the
 -- words that it saw).
 use Rattle.std.specs.Prelude.{◌≡◌, ℕ, suc, ◌+◌, ◌-◌, ◌*◌, ◌^◌, ◌<◌, ◌≤◌, List, [], ◌++◌, drop, flat_map, length, map, slice_index, nat_le, if◌then◌else◌, Result, Ok, Err, Option, Some, None}
@@ -10,10 +10,10 @@ use Rattle.entry_word.specs.declared.mark.PresenceMark.TheVariants.{Empty, Here,
 use Rattle.entry_word.specs.declared.address.Address.{Address}
 use Rattle.directory.specs.Settings.{Setting, levels}
 use Rattle.directory.specs.Writes.{numbers_from}
-use Rattle.directory.specs.Finds.{Chase, FindCall, Reader, Stage, at_origin, chases, climb, ended, find}
+use Rattle.directory.specs.Finds.{Chase, FindCall, Reader, Pursuit, at_origin, chases, climb, ended, find}
 use Rattle.region_plan.specs.Plan.{PlanData, levels_of, nodes_of, readers}
 use Rattle.region_plan.specs.Settings.{setting_of}
-use Rattle.walk.specs.declared.progress.Chase.{Chase as Kept}
+use Rattle.walk.specs.declared.progress.Chase.{Chase as WalkChase}
 use Rattle.walk.specs.declared.walk.WalkFault.{WalkFault}
 use Rattle.walk.specs.declared.walk.WalkFault.TheVariants.{NoNode, NoSubscriber}
 use Rattle.walk.specs.declared.progress.Progress.{Progress}
@@ -45,7 +45,7 @@ reader_in plan node level index =
     record { level = level; cluster = slice_index (readers plan level node) index }
 
 -- what a chase keeps
-abbrev pub chase_of : Kept → Chase
+abbrev pub chase_of : WalkChase → Chase
 chase_of chase =
     record {
       known = chase.known;
@@ -54,24 +54,24 @@ chase_of chase =
       hops_left = chase.hops_left;
     }
 
--- the stage of a find from a node that is so far
-abbrev pub stage_at : Setting → ℕ → Progress → Stage
-stage_at setting from AtOrigin = at_origin
-stage_at setting from (Climbing known weight level index) =
+-- the pursuit of a find from a node that is so far
+abbrev pub pursuit_at : Setting → ℕ → Progress → Pursuit
+pursuit_at setting from AtOrigin = at_origin
+pursuit_at setting from (Climbing known weight level index) =
     climb known weight (drop index (readers_at setting from level) ++ readers_above setting from
     (suc level))
-stage_at setting from (Chasing chase node) =
+pursuit_at setting from (Chasing chase node) =
     chases (chase_of chase) node
-stage_at setting from (Ended found) = ended found
+pursuit_at setting from (Ended found) = ended found
 
--- the stage of a walk
-abbrev pub stage_of : PlanData → WalkData → Stage
-stage_of plan walk = stage_at (setting_of plan []) walk.from walk.progress
+-- the pursuit of a walk
+abbrev pub pursuit_of : PlanData → WalkData → Pursuit
+pursuit_of plan walk = pursuit_at (setting_of plan []) walk.from walk.progress
 
 -- a walk stands for the words that it saw
 abbrev pub StandsForWords : PlanData → WalkData → List ℕ → Type 0
 StandsForWords plan walk words =
-    stage_of plan walk ≡ find (setting_of plan []) (call_of walk) words
+    pursuit_of plan walk ≡ find (setting_of plan []) (call_of walk) words
 
 -- the progress is within the plan, and the weight so far isn't too great
 abbrev pub IsProgressWithin : PlanData → ℕ → Progress → Type 0

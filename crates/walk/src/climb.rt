@@ -5,7 +5,7 @@ ghost use Rattle.directory.specs.Finds.{FindCall, after_entry, climb};
 ghost use Rattle.region_plan.specs.Kept.{IsKept};
 ghost use Rattle.region_plan.specs.Plan.{clusters_of, inside, leader, levels_of, members_of, nodes_of, readers};
 ghost use Rattle.region_plan.specs.Settings.{setting_of};
-ghost use Rattle.walk.specs.Walks.{IsProgressWithin, reader_in, readers_above, readers_at, stage_at};
+ghost use Rattle.walk.specs.Walks.{IsProgressWithin, reader_in, readers_above, readers_at, pursuit_at};
 
 use crate::progress::Progress;
 use directory::{Found, Why};
@@ -16,7 +16,7 @@ pub fn climb_from(plan: &Plan, from: u32, known: Option<u32>, weight: u64, level
     requires from { from < nodes_of plan.now }
     requires level { level ≤ levels_of plan.now }
     requires light { weight ≤ level * 1024 * 2 ^ 36 }
-    ensures stage { stage_at (setting_of plan.now []) from result ≡ climb known weight
+    ensures pursuit { pursuit_at (setting_of plan.now []) from result ≡ climb known weight
         (readers_above (setting_of plan.now []) from level) }
     ensures within { IsProgressWithin plan.now from result }
 {
@@ -51,8 +51,8 @@ pub fn past_entry(
 ) -> Progress
     requires from { from < nodes_of plan.now }
     requires within { IsProgressWithin plan.now from (Progress.Climbing known weight level index) }
-    ensures stage { (sub : ℕ) → let call : FindCall = record { from = from; sub = sub } in
-        stage_at (setting_of plan.now []) from result
+    ensures pursuit { (sub : ℕ) → let call : FindCall = record { from = from; sub = sub } in
+        pursuit_at (setting_of plan.now []) from result
         ≡ after_entry (setting_of plan.now []) call known weight
         (reader_in plan.now from level index)
         (drop (suc index) (readers_at (setting_of plan.now []) from level) ++ readers_above

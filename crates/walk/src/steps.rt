@@ -7,7 +7,7 @@ ghost use Rattle.directory.specs.Finds.{FindCall, after_mark, after_origin, afte
 ghost use Rattle.region_plan.specs.Kept.{IsKept};
 ghost use Rattle.region_plan.specs.Plan.{inside, leader, levels_of, nodes_of, readers};
 ghost use Rattle.region_plan.specs.Settings.{setting_of};
-ghost use Rattle.walk.specs.Walks.{IsMarkBelow, IsProgressWithin, IsWordBelow, chase_of, stage_at};
+ghost use Rattle.walk.specs.Walks.{IsMarkBelow, IsProgressWithin, IsWordBelow, chase_of, pursuit_at};
 
 use crate::climb::{climb_from, past_entry, reader_at, way_in};
 use crate::progress::{Chase, Progress};
@@ -28,9 +28,9 @@ pub fn progress_after(
     requires within { IsProgressWithin plan.now from progress }
     requires belongs { plan.now.distances ≡ distances.now }
     requires word { IsWordBelow (nodes_of plan.now) progress word }
-    ensures stage { (sub : ℕ) → let call : FindCall = record { from = from; sub = sub } in
-        stage_at (setting_of plan.now []) from result ≡ after_word (setting_of plan.now []) call
-        (stage_at (setting_of plan.now []) from progress) word }
+    ensures pursuit { (sub : ℕ) → let call : FindCall = record { from = from; sub = sub } in
+        pursuit_at (setting_of plan.now []) from result ≡ after_word (setting_of plan.now []) call
+        (pursuit_at (setting_of plan.now []) from progress) word }
     ensures within { IsProgressWithin plan.now from result }
 {
     match progress {
@@ -77,8 +77,8 @@ fn from_origin(plan: &Plan, distances: &Distances, from: u32, mark: PresenceMark
     requires from { from < nodes_of plan.now }
     requires belongs { plan.now.distances ≡ distances.now }
     requires mark { IsMarkBelow (nodes_of plan.now) mark }
-    ensures stage { (sub : ℕ) → let call : FindCall = record { from = from; sub = sub } in
-        stage_at (setting_of plan.now []) from result
+    ensures pursuit { (sub : ℕ) → let call : FindCall = record { from = from; sub = sub } in
+        pursuit_at (setting_of plan.now []) from result
         ≡ after_origin (setting_of plan.now []) call mark }
     ensures within { IsProgressWithin plan.now from result }
 {
@@ -160,7 +160,7 @@ fn chase_from(
 ) -> Progress
     requires node { node < nodes_of plan.now }
     requires light { weight ≤ 2 ^ 52 }
-    ensures stage { (from : ℕ) → stage_at (setting_of plan.now []) from result
+    ensures pursuit { (from : ℕ) → pursuit_at (setting_of plan.now []) from result
         ≡ begin_chase (setting_of plan.now []) known level weight node }
     ensures within { (from : ℕ) → IsProgressWithin plan.now from result }
 {
@@ -184,7 +184,7 @@ fn at_mark(
     requires within { IsProgressWithin plan.now 0 (Progress.Chasing chase node) }
     requires belongs { plan.now.distances ≡ distances.now }
     requires mark { IsMarkBelow (nodes_of plan.now) mark }
-    ensures stage { (from : ℕ) → stage_at (setting_of plan.now []) from result
+    ensures pursuit { (from : ℕ) → pursuit_at (setting_of plan.now []) from result
         ≡ after_mark (setting_of plan.now []) (chase_of chase) node mark }
     ensures within { (from : ℕ) → IsProgressWithin plan.now from result }
 {
@@ -243,7 +243,7 @@ fn hop_to(plan: &Plan, distances: &Distances, chase: Chase, node: u32, to: u32) 
     requires within { IsProgressWithin plan.now 0 (Progress.Chasing chase node) }
     requires belongs { plan.now.distances ≡ distances.now }
     requires to { to < nodes_of plan.now }
-    ensures stage { (from : ℕ) → stage_at (setting_of plan.now []) from result
+    ensures pursuit { (from : ℕ) → pursuit_at (setting_of plan.now []) from result
         ≡ hop (setting_of plan.now []) chase.known chase.level chase.weight chase.hops_left node
         to }
     ensures within { (from : ℕ) → IsProgressWithin plan.now from result }

@@ -5,7 +5,7 @@ ghost use Rattle.directory.specs.Finds.{after_word, answer_of, key_of};
 ghost use Rattle.region_plan.specs.Plan.{PlanData, nodes_of};
 ghost use Rattle.region_plan.specs.Settings.{setting_of};
 ghost use Rattle.walk.specs.Climbs.{IsClimbOf, IsClimbOver, is_climbing, walk_at};
-ghost use Rattle.walk.specs.Walks.{IsWalkOver, IsWordBelow, StandsForWords, call_of, stage_of, walk_or_fault};
+ghost use Rattle.walk.specs.Walks.{IsWalkOver, IsWordBelow, StandsForWords, call_of, pursuit_of, walk_or_fault};
 
 use crate::progress::{Climb, Progress};
 use crate::steps::progress_after;
@@ -65,7 +65,7 @@ impl Walk {
     /// The cell that it looks at next, if it has no answer.
     pub fn next(&self, plan: &Plan) -> Option<Key>
         requires goes { IsWalkOver plan.now self.now }
-        ensures { result ≡ key_of (call_of self.now) (stage_of plan.now self.now) }
+        ensures { result ≡ key_of (call_of self.now) (pursuit_of plan.now self.now) }
     {
         let sub = self.sub;
         match self.progress {
@@ -89,7 +89,7 @@ impl Walk {
     /// The answer, if no look is left.
     pub fn answer(&self) -> Option<Found>
         ensures { (plan : PlanData) → IsWalkOver plan self.now → result
-            ≡ answer_of (stage_of plan self.now) }
+            ≡ answer_of (pursuit_of plan self.now) }
     {
         match self.progress {
             Progress::Ended { found } => Some(found),
@@ -151,8 +151,8 @@ impl Walk {
         requires goes { IsWalkOver plan.now self.old }
         requires belongs { plan.now.distances ≡ distances.now }
         requires word { IsWordBelow (nodes_of plan.now) self.old.progress word }
-        ensures stage { stage_of plan.now self.new ≡ after_word (setting_of plan.now [])
-            (call_of self.old) (stage_of plan.now self.old) word }
+        ensures pursuit { pursuit_of plan.now self.new ≡ after_word (setting_of plan.now [])
+            (call_of self.old) (pursuit_of plan.now self.old) word }
         ensures call { call_of self.new ≡ call_of self.old }
         ensures goes { IsWalkOver plan.now self.new }
         ensures stands { (words : List ℕ) → StandsForWords plan.now self.old words
@@ -166,8 +166,8 @@ impl Walk {
         requires goes { IsWalkOver plan.now self.old }
         requires belongs { plan.now.distances ≡ distances.now }
         requires word { IsWordBelow (nodes_of plan.now) self.old.progress word }
-        ensures stage { stage_of plan.now self.new ≡ after_word (setting_of plan.now [])
-            (call_of self.old) (stage_of plan.now self.old) word }
+        ensures pursuit { pursuit_of plan.now self.new ≡ after_word (setting_of plan.now [])
+            (call_of self.old) (pursuit_of plan.now self.old) word }
         ensures call { call_of self.new ≡ call_of self.old }
         ensures goes { IsWalkOver plan.now self.new }
     {

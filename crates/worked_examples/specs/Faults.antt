@@ -2,7 +2,7 @@
 -- `worked_move_faults`, `worked_switch_faults`.
 use Rattle.std.specs.Prelude.{ℕ, ◌^◌, ◌-◌, true}
 use Rattle.handset.specs.Beginning.{handset_at}
-use Rattle.handset.specs.Kept.{HandsetData}
+use Rattle.handset.specs.Condition.{HandsetData}
 use Rattle.handset.specs.declared.stage.Stage.TheVariants.{Committing}
 use Rattle.plan_laws.specs.Examples.{line_of_four}
 

@@ -8,7 +8,7 @@ ghost use Rattle.net_reader.specs.declared.fault.InputCause.TheVariants.{Form, N
 ghost use Rattle.net_reader.specs.declared.said.Call.TheVariants.{Find, Move, Off, On};
 ghost use Rattle.net_reader.specs.declared.said.Spoken.{Spoken};
 ghost use Rattle.net_reader.specs.Input.{IsInput, read};
-ghost use Rattle.net_reader.specs.Lines.{begins_comment, is_blank, word_of};
+ghost use Rattle.net_reader.specs.TextLines.{begins_comment, is_blank, word_of};
 ghost use Rattle.net_reader.specs.Reading.{most_bytes};
 ghost use Rattle.net_reader.specs.Shown.{◌then◌, refusal_at, two_nodes};
 ghost use Rattle.net_reader.specs.Table.{judge, most_calls, most_nodes};

@@ -7,7 +7,7 @@ ghost use Rattle.directory.specs.declared.answers.Found.{Found};
 ghost use Rattle.entry_word.specs.declared.visit.Act.TheVariants.{Census, Look};
 ghost use Rattle.entry_word.specs.declared.visit.Key.{Key};
 ghost use Rattle.entry_word.specs.declared.visit.Visit.{Visit};
-ghost use Rattle.handset.specs.Kept.{HandsetData};
+ghost use Rattle.handset.specs.Condition.{HandsetData};
 ghost use Rattle.station.specs.Handsets.{HandsetGoesOn, IsHandsetOf};
 ghost use Rattle.station.specs.Passes.{NoteData, PassData};
 ghost use Rattle.station.specs.Setup.{Setup};

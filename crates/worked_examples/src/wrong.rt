@@ -5,8 +5,8 @@ ghost use Rattle.directory.specs.Writes.{visits};
 ghost use Rattle.directory.specs.declared.answers.Done.TheVariants.{Found as FoundBy, Off as OffBy, Again as AgainBy};
 ghost use Rattle.directory.specs.declared.answers.Why.TheVariants.{NoEntry};
 ghost use Rattle.plan_laws.specs.Examples.{line_setting};
-ghost use Rattle.stretch_laws.specs.Lines.{IsLineWithin};
-ghost use Rattle.trail_laws.specs.Lines.{IsRightLine, TellInTurn, TellRisingNumbers};
+ghost use Rattle.stretch_laws.specs.NearOutcomes.{IsLineWithin};
+ghost use Rattle.trail_laws.specs.RightOutcomes.{IsRightLine, TellInTurn, TellRisingNumbers};
 ghost use Rattle.worked_examples.specs.Passes.{count_by};
 
 /// A line of a find on the line of four with a wrong node, number or state, with a cause that comes

@@ -1,4 +1,4 @@
-use Rattle.handset.specs.Kept.{GoesWith}
+use Rattle.handset.specs.Condition.{GoesWith}
 use Rattle.actor_tests.proofs.handset_tests.play.Given as goal
 
 abbrev pub invariant-steps : goal.invariant-steps

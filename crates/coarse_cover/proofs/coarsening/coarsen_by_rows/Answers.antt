@@ -1,7 +1,7 @@
 use Rattle.std.proofs.Common.{◌≡◌, ◌≤◌, ℕ, List, length, ap, sym, ◌∙◌, subst}
 use Rattle.coarse_cover.specs.Coarsening.{coarsening}
 use Rattle.coarse_cover.specs.Covers.{IsCover}
-use Rattle.coarse_cover.specs.Progress.{IsBetween}
+use Rattle.coarse_cover.specs.HalfMade.{IsBetween}
 use Rattle.coarse_cover.specs.declared.cover.Cluster.{Cluster}
 use Rattle.coarse_cover.proofs.Results.{is_cover, clusters_few, nothing_in, overlap, phases_bounded}
 use Rattle.coarse_cover.proofs.Steps.{between_start}

@@ -1,6 +1,6 @@
 use Rattle.std.proofs.Common.{◌≡◌, ◌-◌, length}
 use Rattle.coarse_cover.specs.Coarsening.{coarsening}
-use Rattle.coarse_cover.specs.Progress.{IsBetween}
+use Rattle.coarse_cover.specs.HalfMade.{IsBetween}
 use Rattle.node_set.specs.Workspaces.{IsWorkspace}
 use Rattle.node_set.specs.Balls.{sets}
 use Rattle.coarse_cover.proofs.coarsening.coarsen_by_rows.Given as goal

@@ -1,7 +1,7 @@
 use Rattle.std.proofs.Common.{◌≡◌, inl, inr, ◌<◌, ◌≤◌, ℕ, List, [], ◌∷◌, false, length, ap, arith, refl, sym, ◌∙◌}
 use Rattle.std.proofs.Common.{subst, add-one}
 use Rattle.coarse_cover.specs.Coarsening.{cluster_of}
-use Rattle.coarse_cover.specs.Progress.{IsAdded}
+use Rattle.coarse_cover.specs.HalfMade.{IsAdded}
 use Rattle.node_set.specs.LeadLaws.{lead, nothing_at, members_few, none_waits}
 use Rattle.node_set.specs.Ascending.{has}
 use Rattle.node_set.specs.Nodes.{Nodes}

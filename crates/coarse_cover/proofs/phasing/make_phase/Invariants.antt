@@ -1,6 +1,6 @@
 use Rattle.std.proofs.Common.{◌≡◌, ℕ, ◌-◌, ◌<◌, ◌≤◌, false, length}
 use Rattle.node_set.specs.Ascending.{has}
-use Rattle.coarse_cover.specs.Progress.{IsInPhase}
+use Rattle.coarse_cover.specs.HalfMade.{IsInPhase}
 use Rattle.node_set.specs.Workspaces.{IsWorkspace}
 use Rattle.node_set.specs.Balls.{sets}
 use Rattle.coarse_cover.proofs.phasing.make_phase.Given as goal

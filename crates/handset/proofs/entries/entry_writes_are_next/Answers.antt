@@ -3,8 +3,8 @@ use Rattle.std.specs.Prelude.{IfSome, IsSome}
 use Rattle.region_plan.specs.Plan.{nodes_of}
 use Rattle.region_plan.specs.Settings.{setting_of}
 use Rattle.handset.specs.Entries.{EntryWrite, at_entry, entry_put, stage_at}
-use Rattle.handset.specs.Kept.{GoesWith}
-use Rattle.handset.specs.Progress.{after_write, due}
+use Rattle.handset.specs.Condition.{GoesWith}
+use Rattle.handset.specs.StepWrites.{after_write, due}
 use Rattle.handset.specs.Stands.{StandsForSteps}
 use Rattle.handset.proofs.Following.{entry-after, entry-due, entry-goes}
 use Rattle.handset.proofs.Going.{erasing-is-late, purging-is-late}

@@ -1,6 +1,6 @@
 use Rattle.std.proofs.Common.{◌≡◌, ◌-◌, suc, not, ◌==◌, get_or}
 use Rattle.region_plan.specs.Plan.{home}
-use Rattle.handset.specs.Progress.{first_with}
+use Rattle.handset.specs.StepWrites.{first_with}
 use Rattle.handset.proofs.levels.first_old.Given as goal
 
 abbrev pub invariant-loop-level : goal.invariant-loop-level

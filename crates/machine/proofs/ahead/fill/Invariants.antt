@@ -1,6 +1,6 @@
 use Rattle.std.proofs.Common.{◌≡◌, ◌-◌, length}
 use Rattle.std.specs.Prelude.{vec_capacity}
-use Rattle.handset.specs.Kept.{GoesWith}
+use Rattle.handset.specs.Condition.{GoesWith}
 use Rattle.machine.specs.Owed.{IsAhead}
 use Rattle.machine.proofs.ahead.fill.Given as goal
 

@@ -1,6 +1,6 @@
 use Rattle.std.proofs.Common.{◌≡◌, ◌∙◌, Some, [], sym, ap, arith}
-use Rattle.handset.specs.Kept.{HandsetData}
-use Rattle.handset.specs.Progress.{due}
+use Rattle.handset.specs.Condition.{HandsetData}
+use Rattle.handset.specs.StepWrites.{due}
 use Rattle.region_plan.specs.Settings.{setting_of}
 use Rattle.machine.proofs.Beginning.{on-some}
 use Rattle.machine.proofs.OwnCells.{cell-due, same-owner}

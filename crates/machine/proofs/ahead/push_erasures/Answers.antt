@@ -4,9 +4,9 @@ use Rattle.std.proofs.lemmas.Bool.{eq-eqb, ne_eqb}
 use Rattle.entry_word.specs.declared.visit.Act.TheVariants.{Put}
 use Rattle.entry_word.specs.declared.visit.Key.TheVariants.{Entry}
 use Rattle.handset.specs.Entries.{EntryWrite, at_entry, entry_put, entry_write, erasure_to}
-use Rattle.handset.specs.Kept.{GoesWith, HandsetData, IsMoveStage}
+use Rattle.handset.specs.Condition.{GoesWith, HandsetData, IsMoveStage}
 use Rattle.handset.specs.NextEntries.{IsNextEntry, erasures_from}
-use Rattle.handset.specs.Progress.{first_with, is_old}
+use Rattle.handset.specs.StepWrites.{first_with, is_old}
 use Rattle.handset.specs.declared.entries.Erasures.{Erasures}
 use Rattle.handset.specs.declared.entries.EntryStage.TheVariants as entries
 use Rattle.region_plan.specs.Plan.{PlanData, home, levels_of, nodes_of}

@@ -1,7 +1,7 @@
 use Rattle.std.proofs.Common.{◌≡◌, ◌-◌, ◌<◌, ℕ, suc, [], slice_index}
 use Rattle.handset.specs.Entries.{at_entry}
-use Rattle.handset.specs.Kept.{GoesWith}
-use Rattle.handset.specs.Progress.{first_with, is_old}
+use Rattle.handset.specs.Condition.{GoesWith}
+use Rattle.handset.specs.StepWrites.{first_with, is_old}
 use Rattle.handset.specs.declared.entries.EntryStage.TheVariants as entries
 use Rattle.region_plan.specs.Settings.{setting_of}
 use Rattle.visit_log.specs.Homes.{home_place}

@@ -3,7 +3,7 @@ use Rattle.std.specs.Prelude.{min}
 use Rattle.std.proofs.Math.Nat.{min-le_left, min-le_right}
 use Rattle.entry_word.specs.declared.visit.Key.TheVariants.{Entry}
 use Rattle.handset.specs.Entries.{EntryWrite, at_entry, entry_put, entry_write}
-use Rattle.handset.specs.Kept.{GoesWith, HandsetData}
+use Rattle.handset.specs.Condition.{GoesWith, HandsetData}
 use Rattle.handset.specs.NextEntries.{IsNextEntry, renewals_from}
 use Rattle.handset.specs.declared.entries.EntryStage.TheVariants as entries
 use Rattle.handset.specs.declared.entries.Renewals.{Renewals}

@@ -1,7 +1,7 @@
 use Rattle.std.proofs.Common.{◌+◌, ◌-◌, ◌<◌, ◌≤◌, ℕ, length}
 use Rattle.std.specs.Prelude.{vec_capacity}
 use Rattle.handset.specs.Entries.{at_entry}
-use Rattle.handset.specs.Kept.{GoesWith}
+use Rattle.handset.specs.Condition.{GoesWith}
 use Rattle.handset.specs.declared.entries.EntryStage.TheVariants as entries
 use Rattle.machine.specs.Owed.{IsAhead}
 use Rattle.machine.proofs.ahead.push_renewals.Given as goal

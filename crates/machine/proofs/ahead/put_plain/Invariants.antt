@@ -1,5 +1,5 @@
 use Rattle.std.proofs.Common.{◌-◌, drop}
-use Rattle.handset.specs.Kept.{HandsetData}
+use Rattle.handset.specs.Condition.{HandsetData}
 use Rattle.region_plan.specs.Plan.{PlanData}
 use Rattle.machine.specs.Owed.{HasCome, MayPut}
 use Rattle.machine.proofs.ahead.put_plain.Given as goal

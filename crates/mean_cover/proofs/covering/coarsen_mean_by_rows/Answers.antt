@@ -7,7 +7,7 @@ use Rattle.node_set.specs.LeadLaws.{lead, none_waits, nothing_at}
 use Rattle.node_set.specs.Nodes.{Nodes}
 use Rattle.mean_cover.specs.Covering.{mean_cluster, mean_covering}
 use Rattle.mean_cover.specs.MeanCovers.{IsMeanCover}
-use Rattle.mean_cover.specs.Progress.{IsAdded, IsUnderWay}
+use Rattle.mean_cover.specs.HalfMade.{IsAdded, IsUnderWay}
 use Rattle.mean_cover.specs.declared.cover.MeanCluster.{MeanCluster}
 use Rattle.mean_cover.specs.declared.cover.MeanCover.{MeanCover}
 use Rattle.mean_cover.proofs.Results.{is_mean_cover}

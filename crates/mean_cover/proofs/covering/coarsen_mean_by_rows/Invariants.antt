@@ -2,7 +2,7 @@ use Rattle.std.proofs.Common.{◌≡◌, ℕ, ◌-◌, ◌<◌, false, length}
 use Rattle.node_set.specs.Ascending.{has}
 use Rattle.node_set.specs.Balls.{sets}
 use Rattle.node_set.specs.Workspaces.{IsWorkspace}
-use Rattle.mean_cover.specs.Progress.{IsUnderWay}
+use Rattle.mean_cover.specs.HalfMade.{IsUnderWay}
 use Rattle.mean_cover.proofs.covering.coarsen_mean_by_rows.Given as goal
 
 abbrev pub invariant-first : goal.invariant-first

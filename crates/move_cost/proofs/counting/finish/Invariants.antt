@@ -1,5 +1,5 @@
 use Rattle.std.proofs.Common.{◌≡◌}
-use Rattle.handset.specs.Kept.{GoesWith}
+use Rattle.handset.specs.Condition.{GoesWith}
 use Rattle.move_cost.specs.Counting.{HasRoom}
 use Rattle.move_cost.proofs.Following.{Follows, count_left}
 use Rattle.move_cost.proofs.counting.finish.Given as goal

@@ -4,7 +4,7 @@ use Rattle.report_check.specs.declared.blocks.Block.{Block}
 use Rattle.report_check.specs.declared.calls.Line.TheVariants.{Move}
 use Rattle.report_check.specs.Blocks.{grown, no_block}
 use Rattle.report_check.specs.Parts.{is_of}
-use Rattle.report_check.specs.Lines.{done_of}
+use Rattle.report_check.specs.ReadLines.{done_of}
 use Rattle.report_check.proofs.Blocking.{IsSoFar, blocks-line, blocks-other}
 use Rattle.report_check.proofs.blocks.blocks_of.Goals as goal
 use Rattle.report_check.proofs.blocks.blocks_of.Goals.{then-actor-len, else-actor-len}

@@ -1,7 +1,7 @@
 use Rattle.std.proofs.Common.{map, ◌+◌, ◌∙◌, sym, subst}
 use Rattle.report_check.specs.declared.calls.Line.TheVariants.{Move}
 use Rattle.report_check.specs.Blocks.{is_switched}
-use Rattle.report_check.specs.Lines.{done_of}
+use Rattle.report_check.specs.ReadLines.{done_of}
 use Rattle.report_check.proofs.Blocking.{IsSoFar, block-line, line-other}
 use Rattle.report_check.proofs.blocks.switch_block.Goals as goal
 use Rattle.report_check.proofs.blocks.switch_block.Goals.{then-is_switched, else-is_switched}

@@ -1,6 +1,6 @@
 use Rattle.std.proofs.Common.{map}
 use Rattle.report_check.specs.Blocks.{is_switched}
-use Rattle.report_check.specs.Lines.{done_of}
+use Rattle.report_check.specs.ReadLines.{done_of}
 use Rattle.report_check.proofs.Blocking.{IsSoFar}
 use Rattle.report_check.proofs.blocks.switch_block.Given as goal
 

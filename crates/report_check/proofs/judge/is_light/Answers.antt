@@ -1,7 +1,7 @@
 use Rattle.std.proofs.Common.{◌≡◌, ◌∙◌, ◌+◌, ◌*◌, ◌||◌, leb, ap, map, fold}
 use Rattle.region_plan.specs.Measures.{stretch_of}
 use Rattle.region_plan.specs.Settings.{setting_of}
-use Rattle.report_check.specs.Lines.{done_of}
+use Rattle.report_check.specs.ReadLines.{done_of}
 use Rattle.report_check.specs.Parts.{at_start, open_passage, tell, told_before}
 use Rattle.report_check.proofs.judge.is_light.Goals as goal
 

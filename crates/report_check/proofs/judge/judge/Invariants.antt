@@ -1,7 +1,7 @@
 use Rattle.std.proofs.Common.{◌≡◌, drop, map}
 use Rattle.region_plan.specs.Plan.{PlanData}
 use Rattle.report_check.specs.Grounds.{IsGround}
-use Rattle.report_check.specs.Lines.{done_of}
+use Rattle.report_check.specs.ReadLines.{done_of}
 use Rattle.report_check.specs.Verdicts.{judged, verdict_from}
 use Rattle.report_check.proofs.judge.judge.Given as goal
 

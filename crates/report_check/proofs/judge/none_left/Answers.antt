@@ -1,5 +1,5 @@
 use Rattle.std.proofs.Common.{rules}
-use Rattle.report_check.specs.Lines.{done_of}
+use Rattle.report_check.specs.ReadLines.{done_of}
 use Rattle.report_check.proofs.LastTickets.{none-line}
 use Rattle.report_check.proofs.judge.none_left.Goals as goal
 

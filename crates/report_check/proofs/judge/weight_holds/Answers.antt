@@ -1,5 +1,5 @@
 use Rattle.std.proofs.Common.{◌∙◌, eqb, ap, sym, map}
-use Rattle.report_check.specs.Lines.{done_of}
+use Rattle.report_check.specs.ReadLines.{done_of}
 use Rattle.report_check.specs.Parts.{weight_holds}
 use Rattle.report_check.proofs.judge.weight_holds.Goals as goal
 

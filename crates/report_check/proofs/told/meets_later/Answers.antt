@@ -1,5 +1,5 @@
 use Rattle.std.proofs.Common.{◌∙◌, suc, sym, arith, map}
-use Rattle.report_check.specs.Lines.{done_of}
+use Rattle.report_check.specs.ReadLines.{done_of}
 use Rattle.report_check.proofs.Steps.{meets-here, meets-last, meets-none, meets-step}
 use Rattle.report_check.proofs.told.meets_later.Goals as goal
 

@@ -1,5 +1,5 @@
 use Rattle.std.proofs.Common.{◌≡◌, ◌≤◌, drop, map, fold}
-use Rattle.report_check.specs.Lines.{done_of}
+use Rattle.report_check.specs.ReadLines.{done_of}
 use Rattle.report_check.specs.Parts.{at_start, tell}
 use Rattle.report_check.proofs.told.told_before.Given as goal
 

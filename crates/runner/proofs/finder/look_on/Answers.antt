@@ -6,7 +6,7 @@ use Rattle.region_plan.specs.Matched.{IsMatched}
 use Rattle.region_plan.specs.Settings.{setting_of}
 use Rattle.station.specs.Setup.{setting_in, subs_in}
 use Rattle.walk.specs.LookLaws.{cell-wanted}
-use Rattle.walk.specs.Walks.{IsWalkOver, call_of, stage_of}
+use Rattle.walk.specs.Walks.{IsWalkOver, call_of, pursuit_of}
 use Rattle.runner.proofs.Finding.{word-seen}
 use Rattle.runner.proofs.finder.look_on.Goals as goal
 
@@ -14,7 +14,7 @@ pub visit_look-requires-clause-cell : goal.visit_look-requires-clause-cell
 visit_look-requires-clause-cell c =
     cell-wanted c.args.tracker.now.setup.plan c.args.walk.now (subs_in c.args.tracker.now.setup) c.in-Some.key
     (subst IsMatched c.requires.way.plan_is c.plan_is_sound.ensures.matched) c.requires.way.goes c.requires.way.known
-    (subst (λ p. key_of (call_of c.args.walk.now) (stage_of p c.args.walk.now) ≡ Some c.in-Some.key)
+    (subst (λ p. key_of (call_of c.args.walk.now) (pursuit_of p c.args.walk.now) ≡ Some c.in-Some.key)
     c.requires.way.plan_is
     (sym c.next.ensures ∙ c.in-Some.is))
 
@@ -25,7 +25,7 @@ saw-requires-clause-word c =
     c.args.tracker.now.setup c.args.plan.now c.args.pass.now c.visit_look.new.pass (Look c.in-Some.key)
     c.in_ok-looked.looked.ticket c.in_ok-looked.looked.word c.args.walk.now c.in-Some.key c.requires.way.plan_is
     c.plan_is_sound.ensures.matched c.requires.way.of.setup looked.0 looked.1 c.requires.way.known c.requires.way.goes
-    (subst (λ p. key_of (call_of c.args.walk.now) (stage_of p c.args.walk.now) ≡ Some c.in-Some.key)
+    (subst (λ p. key_of (call_of c.args.walk.now) (pursuit_of p c.args.walk.now) ≡ Some c.in-Some.key)
     c.requires.way.plan_is
     (sym c.next.ensures ∙ c.in-Some.is))
 
@@ -33,19 +33,19 @@ pub returns : goal.returns
 returns c =
     let setup = c.args.tracker.now.setup in
     let looked = c.in_ok-looked.ensures.looked in
-    let stage : stage_of setup.plan c.saw.new.self ≡ after_word (setting_in setup) (call_of c.args.walk.now)
-    (stage_of setup.plan c.args.walk.now) c.in_ok-looked.looked.word =
-    subst (λ p. stage_of p c.saw.new.self ≡ after_word (setting_of p []) (call_of c.args.walk.now)
-    (stage_of p c.args.walk.now) c.in_ok-looked.looked.word) c.requires.way.plan_is c.saw.ensures.stage in record {
+    let pursuit : pursuit_of setup.plan c.saw.new.self ≡ after_word (setting_in setup) (call_of c.args.walk.now)
+    (pursuit_of setup.plan c.args.walk.now) c.in_ok-looked.looked.word =
+    subst (λ p. pursuit_of p c.saw.new.self ≡ after_word (setting_of p []) (call_of c.args.walk.now)
+    (pursuit_of p c.args.walk.now) c.in_ok-looked.looked.word) c.requires.way.plan_is c.saw.ensures.pursuit in record {
       looked = record {
         key = c.in-Some.key;
-        wanted = subst (λ p. key_of (call_of c.args.walk.now) (stage_of p c.args.walk.now) ≡ Some c.in-Some.key)
+        wanted = subst (λ p. key_of (call_of c.args.walk.now) (pursuit_of p c.args.walk.now) ≡ Some c.in-Some.key)
             c.requires.way.plan_is
             (sym c.next.ensures ∙ c.in-Some.is);
         ticket = c.in_ok-looked.looked.ticket;
         visited = looked.0;
-        stage = stage
-            ∙ ap (after_word (setting_in setup) (call_of c.args.walk.now) (stage_of setup.plan c.args.walk.now))
+        pursuit = pursuit
+            ∙ ap (after_word (setting_in setup) (call_of c.args.walk.now) (pursuit_of setup.plan c.args.walk.now))
             looked.1;
         call = c.saw.ensures.call;
         goes = subst (λ p. IsWalkOver p c.saw.new.self) c.requires.way.plan_is c.saw.ensures.goes;

@@ -1,7 +1,7 @@
 use Rattle.std.proofs.Common.{◌≡◌, ◌≤◌, ap, subst, ◌∙◌, arith}
 use Rattle.std.proofs.lemmas.Result.{IfOk-weaker}
 use Rattle.directory.specs.Outcomes.{Outcome, result_of}
-use Rattle.trail_laws.specs.Lines.{TellInTurn}
+use Rattle.trail_laws.specs.RightOutcomes.{TellInTurn}
 use Rattle.net_reader.specs.Seen.{seen_input}
 use Rattle.report_text.specs.ReportText.{report_of}
 use Rattle.region_plan.specs.Matched.{BoundsFinds}

@@ -9,7 +9,7 @@ use Rattle.region_plan.specs.Settings.{setting_of}
 use Rattle.report_text.specs.ReportText.{report_of}
 use Rattle.runner.specs.Runs.{IsOutcomeOfRun}
 use Rattle.scripts.specs.Scripts.{scripts_of}
-use Rattle.trail_laws.specs.Lines.{TellInTurn}
+use Rattle.trail_laws.specs.RightOutcomes.{TellInTurn}
 use Rattle.track.specs.Results.{IsRunReport, in_order, outcome_for, plan_for, setting_for}
 use Rattle.track.proofs.Answering.{plan-nodes, plan_of_graph}
 use Rattle.track.proofs.Replaying.{report-says, sound-text}

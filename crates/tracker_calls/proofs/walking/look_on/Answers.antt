@@ -4,7 +4,7 @@ use Rattle.directory.specs.Finds.{after_word}
 use Rattle.region_plan.specs.Matched.{IsMatched}
 use Rattle.region_plan.specs.Settings.{setting_of}
 use Rattle.station.specs.Setup.{setting_in, subs_in}
-use Rattle.walk.specs.Walks.{IsWalkOver, call_of, stage_of}
+use Rattle.walk.specs.Walks.{IsWalkOver, call_of, pursuit_of}
 use Rattle.tracker_calls.proofs.Wanted.{word-seen}
 use Rattle.walk.specs.LookLaws.{cell-wanted}
 use Rattle.tracker_calls.proofs.walking.look_on.Goals as goal
@@ -28,15 +28,15 @@ pub returns : goal.returns
 returns c =
     let setup = c.args.tracker.now.setup in
     let looked = c.in_ok-looked.ensures.looked in
-    let stage : stage_of setup.plan c.saw.new.self ≡ after_word (setting_in setup) (call_of c.args.walk.now)
-    (stage_of setup.plan c.args.walk.now) c.in_ok-looked.looked.word =
-    subst (λ p. stage_of p c.saw.new.self ≡ after_word (setting_of p []) (call_of c.args.walk.now)
-    (stage_of p c.args.walk.now) c.in_ok-looked.looked.word) c.requires.way.plan_is c.saw.ensures.stage in record {
+    let pursuit : pursuit_of setup.plan c.saw.new.self ≡ after_word (setting_in setup) (call_of c.args.walk.now)
+    (pursuit_of setup.plan c.args.walk.now) c.in_ok-looked.looked.word =
+    subst (λ p. pursuit_of p c.saw.new.self ≡ after_word (setting_of p []) (call_of c.args.walk.now)
+    (pursuit_of p c.args.walk.now) c.in_ok-looked.looked.word) c.requires.way.plan_is c.saw.ensures.pursuit in record {
       looked = record {
         ticket = c.in_ok-looked.looked.ticket;
         visited = looked.0;
-        stage = stage
-            ∙ ap (after_word (setting_in setup) (call_of c.args.walk.now) (stage_of setup.plan c.args.walk.now))
+        pursuit = pursuit
+            ∙ ap (after_word (setting_in setup) (call_of c.args.walk.now) (pursuit_of setup.plan c.args.walk.now))
             looked.1;
         call = c.saw.ensures.call;
         goes = subst (λ p. IsWalkOver p c.saw.new.self) c.requires.way.plan_is c.saw.ensures.goes;

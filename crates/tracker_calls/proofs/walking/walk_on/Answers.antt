@@ -1,7 +1,7 @@
 use Rattle.std.proofs.Common.{refl, subst, sym, ◌∙◌, ◌≡◌, Some}
 use Rattle.directory.specs.Finds.{key_of}
 use Rattle.region_plan.specs.Matched.{IsMatched}
-use Rattle.walk.specs.Walks.{call_of, stage_of}
+use Rattle.walk.specs.Walks.{call_of, pursuit_of}
 use Rattle.tracker_calls.proofs.Walked.{walked-first, walked-on, walked-out}
 use Rattle.tracker_calls.proofs.walking.walk_on.Goals as goal
 use Rattle.directory.specs.LookLaws.{answer-ends}
@@ -20,7 +20,7 @@ looks-preserved c =
       walked = walked-on c.histories_begin.ensures.longer c.histories_begin.ensures.through c.looks_fall.ensures setup
           c.args.pass.now (call_of c.args.walk.now) c.looks.pass c.look_on.new.pass c.looks.walk c.look_on.new.walk
           c.in-Some.key (at.added.same.setup ∙ c.requires.way.of.setup) at
-          (subst (λ p. key_of (call_of c.looks.walk) (stage_of p c.looks.walk)
+          (subst (λ p. key_of (call_of c.looks.walk) (pursuit_of p c.looks.walk)
           ≡ Some c.in-Some.key) c.requires.way.plan_is
           (sym c.next.ensures ∙ c.in-Some.is))
           c.in_ok-look_on.ensures.looked;
@@ -35,7 +35,7 @@ returns c =
         walked-out c.answers_are_right.ensures c.again_has_its_cause.ensures.quiet c.plan_finds_are_near.ensures setup
             c.args.pass.now (call_of c.args.walk.now) c.looks.pass c.looks.walk c.in-Some-answer.found
             (subst IsMatched c.requires.way.plan_is c.plan_is_sound.ensures.matched) c.requires.way.goes.from
-            c.requires.way.known at (answer-ends (stage_of setup.plan c.looks.walk) c.in-Some-answer.found
+            c.requires.way.known at (answer-ends (pursuit_of setup.plan c.looks.walk) c.in-Some-answer.found
             (sym (c.answer.ensures setup.plan at.goes) ∙ c.in-Some-answer.is)),
         c.looks.invariant.lost,
       );

@@ -1,7 +1,7 @@
 use Rattle.std.proofs.Common.{refl, subst, sym, ap, ◌∙◌, arith, []}
 use Rattle.std.specs.Prelude.{IsSome}
-use Rattle.handset.specs.Kept.{HandsetData}
-use Rattle.handset.specs.Progress.{due}
+use Rattle.handset.specs.Condition.{HandsetData}
+use Rattle.handset.specs.StepWrites.{due}
 use Rattle.region_plan.specs.Settings.{setting_of}
 use Rattle.station.specs.Handsets.{IsHandsetOf}
 use Rattle.tracker_calls.specs.Moves.{HasStepped}

@@ -6,8 +6,8 @@ use Rattle.region_plan.specs.Settings.{setting_of}
 use Rattle.walk.proofs.Readers.{above-more, above-empty, empty-means}
 use Rattle.walk.proofs.climb.climb_from.Goals as goal
 
-pub returns-then-not-is_empty-clause-stage : goal.returns-then-not-is_empty-clause-stage
-returns-then-not-is_empty-clause-stage c =
+pub returns-then-not-is_empty-clause-pursuit : goal.returns-then-not-is_empty-clause-pursuit
+returns-then-not-is_empty-clause-pursuit c =
     let low : c.loop-level.level < levels (setting_of c.args.plan.now []) = omega (
       arith,
       c.plan_is_sound.ensures.sound.some,

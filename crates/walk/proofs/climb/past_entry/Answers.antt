@@ -7,15 +7,15 @@ use Rattle.walk.specs.Walks.{readers_above}
 use Rattle.walk.proofs.Readers.{readers-spent}
 use Rattle.walk.proofs.climb.past_entry.Goals as goal
 
-pub returns-else-index-readers-clause-stage : goal.returns-else-index-readers-clause-stage
-returns-else-index-readers-clause-stage c = λ sub.
+pub returns-else-index-readers-clause-pursuit : goal.returns-else-index-readers-clause-pursuit
+returns-else-index-readers-clause-pursuit c = λ sub.
     let spent : length (readers c.args.plan.now c.args.level c.args.from) ≤ suc c.args.index = omega (
       arith,
       c.if-index-readers.false,
       ap length c.readers.ensures,
     ) in
     let next : c.args.level + 1 ≡ suc c.args.level = omega arith in
-    c.climb_from.ensures.stage
+    c.climb_from.ensures.pursuit
     ∙ (ap (λ w. climb c.args.known (c.args.weight + 2 * w) (readers_above
     (setting_of c.args.plan.now []) c.args.from (c.args.level + 1))) c.way_in.ensures.way
     ∙ (ap (λ l. climb c.args.known (c.args.weight + 2 * inside c.args.plan.now c.args.level (get_or

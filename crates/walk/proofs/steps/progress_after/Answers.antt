@@ -3,22 +3,22 @@ use Rattle.std.specs.Prelude.{get_or}
 use Rattle.directory.specs.Finds.{after_word, begin_chase, FindCall}
 use Rattle.region_plan.specs.Plan.{inside, leader, readers}
 use Rattle.region_plan.specs.Settings.{setting_of}
-use Rattle.walk.specs.Walks.{IsProgressWithin, stage_at}
+use Rattle.walk.specs.Walks.{IsProgressWithin, pursuit_at}
 use Rattle.walk.proofs.Readers.{word-climbing}
 use Rattle.walk.proofs.steps.progress_after.Goals as goal
 
-pub returns-in-None-clause-stage : goal.returns-in-None-clause-stage
-returns-in-None-clause-stage c = λ sub.
+pub returns-in-None-clause-pursuit : goal.returns-in-None-clause-pursuit
+returns-in-None-clause-pursuit c = λ sub.
     let call : FindCall = record { from = c.args.from; sub = sub } in
     let within = subst (IsProgressWithin c.args.plan.now c.args.from) c.in-Climbing.is c.requires.within in
-    c.past_entry.ensures.stage sub
-    ∙ sym (ap (λ p. after_word (setting_of c.args.plan.now []) call (stage_at
+    c.past_entry.ensures.pursuit sub
+    ∙ sym (ap (λ p. after_word (setting_of c.args.plan.now []) call (pursuit_at
     (setting_of c.args.plan.now []) c.args.from p) c.args.word) c.in-Climbing.is
     ∙ word-climbing c.args.plan.now c.args.from sub c.in-Climbing.known c.in-Climbing.weight c.in-Climbing.level
     c.in-Climbing.index c.args.word None within.1 (sym c.address_of.ensures ∙ c.in-None.is))
 
-pub returns-in-Some-clause-stage : goal.returns-in-Some-clause-stage
-returns-in-Some-clause-stage c = λ sub.
+pub returns-in-Some-clause-pursuit : goal.returns-in-Some-clause-pursuit
+returns-in-Some-clause-pursuit c = λ sub.
     let call : FindCall = record { from = c.args.from; sub = sub } in
     let within = subst (IsProgressWithin c.args.plan.now c.args.from) c.in-Climbing.is c.requires.within in
     let way = inside c.args.plan.now c.in-Climbing.level (get_or (readers c.args.plan.now c.in-Climbing.level
@@ -29,12 +29,12 @@ returns-in-Some-clause-stage c = λ sub.
       arith,
       c.to_address-way.ensures.way,
     ) in
-    c.chase_from.ensures.stage c.args.from
+    c.chase_from.ensures.pursuit c.args.from
     ∙ (ap (λ w. begin_chase (setting_of c.args.plan.now []) c.in-Climbing.known
     (Some c.in-Climbing.level) w c.from.result) all
     ∙ (ap (begin_chase (setting_of c.args.plan.now []) c.in-Climbing.known (Some c.in-Climbing.level)
     (c.in-Climbing.weight + way + far)) c.from.ensures
-    ∙ sym (ap (λ p. after_word (setting_of c.args.plan.now []) call (stage_at
+    ∙ sym (ap (λ p. after_word (setting_of c.args.plan.now []) call (pursuit_at
     (setting_of c.args.plan.now []) c.args.from p) c.args.word) c.in-Climbing.is
     ∙ word-climbing c.args.plan.now c.args.from sub c.in-Climbing.known c.in-Climbing.weight c.in-Climbing.level
     c.in-Climbing.index c.args.word (Some c.in-Some.address) within.1 (sym c.address_of.ensures ∙ c.in-Some.is))))

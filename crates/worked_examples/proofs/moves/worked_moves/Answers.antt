@@ -3,7 +3,7 @@ use Rattle.entry_word.specs.declared.visit.Visit.{Visit}
 use Rattle.directory.specs.Courses.{highest, move_to}
 use Rattle.directory.specs.Histories.{own}
 use Rattle.directory.specs.Writes.{writes}
-use Rattle.handset.specs.Kept.{HandsetData}
+use Rattle.handset.specs.Condition.{HandsetData}
 use Rattle.plan_laws.specs.Examples.{line_setting}
 use Rattle.station.specs.Passes.{PassData}
 use Rattle.tracker_calls.specs.WholeMoves.{HasMoved, puts_of_move}

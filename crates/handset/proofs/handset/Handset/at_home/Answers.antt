@@ -1,5 +1,5 @@
 use Rattle.std.proofs.Common.{rules, subst, sym}
-use Rattle.handset.specs.Kept.{GoesWith}
+use Rattle.handset.specs.Condition.{GoesWith}
 use Rattle.handset.proofs.Begun.{new-goes}
 use Rattle.handset.proofs.handset.Handset.at_home.Goals as goal
 

@@ -3,7 +3,7 @@ use Rattle.directory.specs.Courses.{move_to}
 use Rattle.region_plan.specs.Settings.{setting_of}
 use Rattle.handset.specs.Stands.{StandsForSteps}
 use Rattle.handset.proofs.Begun.{begin-stands}
-use Rattle.handset.specs.Kept.{GoesWith, HandsetData}
+use Rattle.handset.specs.Condition.{GoesWith, HandsetData}
 use Rattle.handset.proofs.Going.{goes-begun}
 use Rattle.handset.proofs.handset.Handset.begin.Goals as goal
 use Rattle.handset.specs.StageLaws.{rest-means}

@@ -1,7 +1,7 @@
 use Rattle.std.proofs.Common.{◌∙◌, ap, subst, sym}
 use Rattle.region_plan.specs.Plan.{nodes_of}
 use Rattle.handset.specs.declared.stage.Stage.TheVariants.{Confirming, Erasing, Purging}
-use Rattle.handset.specs.Kept.{HandsetData}
+use Rattle.handset.specs.Condition.{HandsetData}
 use Rattle.handset.proofs.Going.{IsLate, goes-next, erasing-is-late, purging-by-count}
 use Rattle.handset.proofs.handset.Handset.step.Goals as goal
 

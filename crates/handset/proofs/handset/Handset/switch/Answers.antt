@@ -1,6 +1,6 @@
 use Rattle.std.proofs.Common.{◌++◌, ◌∷◌, [], ◌∙◌, ap, subst, sym}
 use Rattle.handset.specs.declared.stage.Stage.TheVariants.{Switching}
-use Rattle.handset.specs.Kept.{HandsetData}
+use Rattle.handset.specs.Condition.{HandsetData}
 use Rattle.handset.specs.Stands.{StandsForSteps, switch_to}
 use Rattle.handset.proofs.Begun.{switch-stands}
 use Rattle.handset.proofs.handset.Handset.switch.Goals as goal

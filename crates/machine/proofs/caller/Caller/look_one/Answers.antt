@@ -47,7 +47,7 @@ returns-in_default-answer c = λ history sees place its.
     (looks c.own_after.ensures.tickets (seen_input c.args.input.now) c.args.plan.now history c.args.actor
     c.args.self.now c.in-Some.walk c.saw.new.self c.in-Some-next.key c.look.result c.requires.high its c.in-Some.is
     (sym c.next.ensures ∙ c.in-Some-next.is) (c.look.ensures.history c.args.input.now.homes.items history sees.hold)
-    c.saw.ensures.call c.saw.ensures.stage) c.saw.ensures.goes
+    c.saw.ensures.call c.saw.ensures.pursuit) c.saw.ensures.goes
     (sym c.in_default-answer.is ∙ c.answer.ensures c.args.plan.now c.saw.ensures.goes)
     (ap (λ f. record c.args.self.now { walk = Some c.saw.new.self; first = Some f }) c.unwrap_or-first.ensures)
 
@@ -102,7 +102,7 @@ returns c = λ history sees place its.
     (looks c.own_after.ensures.tickets (seen_input c.args.input.now) c.args.plan.now history c.args.actor
     c.args.self.now c.in-Some.walk c.saw.new.self c.in-Some-next.key c.look.result c.requires.high its c.in-Some.is
     (sym c.next.ensures ∙ c.in-Some-next.is) (c.look.ensures.history c.args.input.now.homes.items history sees.hold)
-    c.saw.ensures.call c.saw.ensures.stage)
+    c.saw.ensures.call c.saw.ensures.pursuit)
     (sym c.in-Some-answer.is ∙ c.answer.ensures c.args.plan.now c.saw.ensures.goes)
     (λ call later left. c.line_of-line.ensures
     ∙ (ap (λ f. found_line c.args.actor f c.in-Some-answer.found c.unwrap_or-first.result c.args.ticket)

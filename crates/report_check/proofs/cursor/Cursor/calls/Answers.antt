@@ -1,6 +1,6 @@
 use Rattle.std.proofs.Common.{◌≡◌, ◌∙◌, ◌∷◌, [], ◌+◌, ap, sym, drop, map, Err, length, arith}
 use Rattle.std.proofs.lemmas.List.{length-map, map-append}
-use Rattle.report_check.specs.Lines.{done_of}
+use Rattle.report_check.specs.ReadLines.{done_of}
 use Rattle.report_check.specs.Reading.{calls_in}
 use Rattle.report_check.proofs.Turns.{calls-bad, calls-done, calls-more}
 use Rattle.report_check.proofs.cursor.Cursor.calls.Goals as goal

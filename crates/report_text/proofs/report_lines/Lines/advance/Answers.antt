@@ -1,5 +1,5 @@
 use Rattle.std.proofs.Common.{ap, arith}
-use Rattle.report_text.specs.Written.{LinesState}
+use Rattle.report_text.specs.Written.{ReportState}
 use Rattle.report_text.proofs.Pieces.{order-step}
 use Rattle.report_text.proofs.report_lines.Lines.advance.Goals as goal
 
@@ -7,6 +7,6 @@ pub returns-then-not-is_empty-clause-line : goal.returns-then-not-is_empty-claus
 returns-then-not-is_empty-clause-line c = λ made.
     let inside = c.self.inside in
     order-step c.args.self.now.left inside.calls.now inside.order.now c.write_next_order-order.result.now
-    c.write_next_order-order.new.line inside.visits inside.ended (ap (λ (s : LinesState). s.left) c.self.view_is)
+    c.write_next_order-order.new.line inside.visits inside.ended (ap (λ (s : ReportState). s.left) c.self.view_is)
     (omega arith)
     c.write_next_order-order.ensures.line

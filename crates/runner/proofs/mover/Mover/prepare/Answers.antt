@@ -2,7 +2,7 @@ use Rattle.std.proofs.Common.{◌≡◌, length, subst, sym}
 use Rattle.std.specs.Prelude.{slice_get}
 use Rattle.directory.specs.Histories.{puts_to}
 use Rattle.directory.specs.Writes.{visits}
-use Rattle.handset.specs.Kept.{GoesWith}
+use Rattle.handset.specs.Condition.{GoesWith}
 use Rattle.handset.specs.Stands.{StandsForSteps}
 use Rattle.region_plan.specs.Settings.{setting_of}
 use Rattle.runner.proofs.Moving.{next-due-of}

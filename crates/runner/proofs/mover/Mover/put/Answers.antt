@@ -1,5 +1,5 @@
 use Rattle.std.proofs.Common.{[], ◌∙◌, refl}
-use Rattle.handset.specs.Progress.{due}
+use Rattle.handset.specs.StepWrites.{due}
 use Rattle.region_plan.specs.Settings.{setting_of}
 use Rattle.runner.proofs.Moving.{due-some, put-held, put-on, room-left}
 use Rattle.runner.proofs.mover.Mover.put.Goals as goal

@@ -1,5 +1,5 @@
 use Rattle.std.proofs.Common.{◌≡◌, [], subst, sym}
-use Rattle.handset.specs.Progress.{due}
+use Rattle.handset.specs.StepWrites.{due}
 use Rattle.region_plan.specs.Settings.{setting_of}
 use Rattle.runner.specs.Playing.{next_of}
 use Rattle.runner.specs.Roles.{IsPrepared, IsRole}

@@ -2,15 +2,15 @@ use Rattle.std.proofs.Common.{◌≡◌, ◌+◌, refl, ap, ◌∙◌, arith}
 use Rattle.net_reader.specs.Input.{Contents}
 use Rattle.runner.specs.Workers.{MayPlay}
 use Rattle.runner.specs.declared.worker.Attempt.{Attempt}
-use Rattle.runner.specs.declared.worker.Attempt.TheVariants.{Made, Held, Kept}
+use Rattle.runner.specs.declared.worker.Attempt.TheVariants.{Made, Held, Shut}
 use Rattle.runner.specs.declared.worker.Worker.{Worker}
 use Rattle.runner.proofs.Working.{gone-on, kept-gone, kept-may, may-try, prepared-gone, role-gone, some-left}
 use Rattle.runner.proofs.worker.Worker.play.Goals as goal
 
-made-no : ◌≡◌ {A = Attempt} Made Kept → ⊥
+made-no : ◌≡◌ {A = Attempt} Made Shut → ⊥
 made-no e = cc
 
-held-no : ◌≡◌ {A = Attempt} Held Kept → ⊥
+held-no : ◌≡◌ {A = Attempt} Held Shut → ⊥
 held-no e = cc
 
 pub tries-init : goal.tries-init
@@ -150,7 +150,7 @@ pub tries-smaller : goal.tries-smaller
 tries-smaller g c =
     let input = c.tries.invariant.may.0 in
     let may = c.tries.invariant.may.1 in
-    let same = c.in-Kept.ensures.tried input
+    let same = c.in-Shut.ensures.tried input
     (may-try input c.args.tracker.now c.args.plan.now c.args.distances.now c.tries.self c.prepare.new.self
     c.prepare.result may c.tries-test.true
     (c.prepare.ensures.its input c.args.tracker.now.setup c.tries.self.pass.view c.tries.self.pass.spare may.set
@@ -161,7 +161,7 @@ pub tries-preserved : goal.tries-preserved
 tries-preserved g c =
     let tracker = c.args.tracker.now in
     let try_of = λ (input : Contents) (may : MayPlay input tracker c.args.plan.now c.args.distances.now c.tries.self).
-    c.in-Kept.ensures.tried input
+    c.in-Shut.ensures.tried input
     (may-try input tracker c.args.plan.now c.args.distances.now c.tries.self c.prepare.new.self
     c.prepare.result may c.tries-test.true
     (c.prepare.ensures.its input tracker.setup c.tries.self.pass.view c.tries.self.pass.spare may.set
@@ -184,7 +184,7 @@ tries-preserved g c =
           (prepared-gone input tracker c.args.self.now c.tries.self c.prepare.new.self c.tries.held gone prepares.0)
           (try_of input (record { set = may.set; worker_is = gone.worker }));
       few = omega (arith, c.tries.invariant.few, c.if-held-kept.false);
-      kept = λ is_open. absurd (c.in-Kept.ensures.closed is_open refl);
+      kept = λ is_open. absurd (c.in-Shut.ensures.closed is_open refl);
       shut = λ is_shut.
           let still = c.tries.invariant.shut is_shut in
           let same = try_of c.tries.invariant.may.0 c.tries.invariant.may.1 in (

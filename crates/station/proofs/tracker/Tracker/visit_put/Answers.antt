@@ -4,7 +4,7 @@ use Rattle.entry_word.specs.declared.visit.Visit.{Visit}
 use Rattle.directory.specs.Histories.{puts_to}
 use Rattle.directory.specs.Keys.{key_node}
 use Rattle.directory.specs.Legal.{IsLegal}
-use Rattle.handset.specs.Kept.{GoesWith}
+use Rattle.handset.specs.Condition.{GoesWith}
 use Rattle.handset.specs.Stands.{StandsForSteps}
 use Rattle.region_plan.specs.Settings.{setting_of}
 use Rattle.station.specs.Setup.{Setup, setting_in, subs_in, IsCellOf}

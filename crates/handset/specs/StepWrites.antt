@@ -10,7 +10,7 @@ use Rattle.directory.specs.Settings.{Setting}
 use Rattle.directory.specs.Writes.{Write, mark_at, entry_at, visit_of, new_address, numbers_from}
 use Rattle.handset.specs.declared.stage.Stage.{Stage}
 use Rattle.handset.specs.declared.stage.Stage.TheVariants.{Resting, Coming, Renewing, Committing, Confirming, Erasing, Purging, Switching}
-use Rattle.handset.specs.Kept.{HandsetData}
+use Rattle.handset.specs.Condition.{HandsetData}
 
 -- the mark of a subscriber that switches
 abbrev pub switch_mark : HandsetData → Bool → Write
