@@ -5,16 +5,21 @@ ghost use Rattle.handset.specs.Beginning.{is_committing, is_rest};
 /// The write that comes next: none at rest; those of a move in their order; the one of a switch.
 #[derive(Clone, Copy)]
 pub enum Stage {
+    /// None.
     Resting,
+    /// The mark at the move's destination that the subscriber is coming.
     Coming,
     /// The new address of this level.
     Renewing { level: u32 },
+    /// The mark where the subscriber was that it is gone, which commits the move.
     Committing,
+    /// The mark at the destination that it is there.
     Confirming,
     /// The old address of this level.
     Erasing { level: u32 },
     /// The mark at this node of the trail.
     Purging { node: u32 },
+    /// The mark where the subscriber stands that it is off, or on again.
     Switching { off: bool },
 }
 

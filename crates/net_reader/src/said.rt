@@ -3,9 +3,13 @@
 /// What an actor does.
 #[derive(Clone, Copy, Debug, PartialEq, Eq)]
 pub enum Call {
+    /// A subscriber moves to this node.
     Move { to: u32 },
+    /// A caller looks for a subscriber, from this node.
     Find { from: u32, sub: u32 },
+    /// A subscriber switches off.
     Off,
+    /// A subscriber that is off switches on.
     On,
 }
 

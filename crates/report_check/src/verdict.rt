@@ -39,7 +39,9 @@ impl Flaw {
 /// Whether a report is sound; else its first flaw, and the line where it stands, from 1 on.
 #[derive(Clone, Copy, PartialEq, Eq, Debug)]
 pub enum Verdict {
+    /// Each line is right.
     Sound,
+    /// This line is the first that isn't, for this cause.
     Unsound { line: u32, cause: Flaw },
 }
 

@@ -18,7 +18,9 @@ use station::{Held, Pass, Tracker};
 /// What a worker does, by its actor.
 #[derive(Drop)]
 pub enum Role {
+    /// A subscriber's moves and switches.
     Mover(Mover),
+    /// A caller's finds.
     Finder(Finder),
 }
 

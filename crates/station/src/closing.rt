@@ -13,6 +13,7 @@ use std::alloc::Global;
 pub enum CloseCause {
     /// No pass of this actor is handed in, and it is the first.
     Missing { actor: u32 },
+    /// There was no memory for what the close hands out.
     OutOfMemory,
 }
 

@@ -24,21 +24,24 @@ pub struct Climb {
     pub index: u32,
 }
 
-/// At its origin; at the entry of a reader, by level and place among the readers; chasing at a
-/// node; or ended.
+/// The cell that a find reads next, if it isn't ended.
 #[derive(Clone, Copy)]
 pub enum Progress {
+    /// The presence at its origin.
     AtOrigin,
+    /// The entry of a reader of its origin, by level and place among the readers.
     Climbing {
         known: Option<u32>,
         weight: u64,
         level: u32,
         index: u32,
     },
+    /// The presence at this node.
     Chasing {
         chase: Chase,
         node: u32,
     },
+    /// None: it has its answer.
     Ended {
         found: Found,
     },
