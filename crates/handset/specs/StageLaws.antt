@@ -1,7 +1,9 @@
 -- Short laws of the stages of a step, for the proofs of the crates above.
--- Key laws: `rest-means` (a stage at rest is Resting), `rest-after` (a handset at rest is where the
--- course of its steps ends, and has made all their visits).
+-- Key laws: `rest-means` (a stage at rest is Resting), `stage-rests` (so is that of a handset which
+-- has nothing to write), `rests` (such a handset is where the course of its steps ends, and has
+-- made all their visits).
 use Rattle.std.proofs.Common.{◌≡◌, true, refl, ℕ, List, length, ap, ◌∙◌, subst, sym, arith}
+use Rattle.std.specs.Prelude.{None}
 use Rattle.handset.specs.Beginning.{is_rest}
 use Rattle.handset.specs.declared.stage.Stage.{Stage}
 use Rattle.handset.specs.declared.stage.Stage.TheVariants.{Resting, Coming, Renewing, Committing, Confirming, Erasing, Purging, Switching}
@@ -9,8 +11,10 @@ use Rattle.std.proofs.lemmas.List.{append-nil, length-drop}
 use Rattle.directory.specs.Settings.{Setting}
 use Rattle.directory.specs.Amid.{course_of}
 use Rattle.directory.specs.Courses.{Step, last_stop}
-use Rattle.directory.specs.Writes.{visits}
+use Rattle.directory.specs.ListLaws.{option_map-none}
+use Rattle.directory.specs.Writes.{visit_of, visits}
 use Rattle.handset.specs.Condition.{HandsetData}
+use Rattle.handset.specs.StepWrites.{due, due_at}
 use Rattle.handset.specs.Stands.{StandsAt, StandsForSteps}
 
 -- a stage at rest is Resting
@@ -23,6 +27,23 @@ rest-means Confirming rests = cc
 rest-means (Erasing level) rests = cc
 rest-means (Purging node) rests = cc
 rest-means (Switching off) rests = cc
+
+-- a handset that has nothing to write is Resting
+pub stage-rests : (setting : Setting) (handset : HandsetData) → due setting handset ≡ None
+    → handset.stage ≡ Resting
+stage-rests setting handset none =
+    at handset.stage
+    (option_map-none (visit_of handset.sub) (due_at setting handset handset.stage) none)
+  where
+    at : (stage : Stage) → due_at setting handset stage ≡ None → stage ≡ Resting
+    at Resting h = refl
+    at Coming h = cc
+    at (Renewing level) h = cc
+    at Committing h = cc
+    at Confirming h = cc
+    at (Erasing level) h = cc
+    at (Purging node) h = cc
+    at (Switching off) h = cc
 
 -- a handset at rest, after steps whose visits are all made: it is where their course ends
 pub record IsRestAfter (setting : Setting) (sub : ℕ) (handset : HandsetData) (steps : List Step)
@@ -51,3 +72,10 @@ rest-after setting handset steps made stands rests =
         length-drop made (visits setting handset.sub steps),
       );
     }
+
+-- a handset that has nothing to write rests behind its steps
+pub rests : (setting : Setting) (handset : HandsetData) (steps : List Step) (made : ℕ)
+    → StandsForSteps setting handset steps made → due setting handset ≡ None
+    → IsRestAfter setting handset.sub handset steps made
+rests setting handset steps made stands none =
+    rest-after setting handset steps made stands (stage-rests setting handset none)

@@ -26,16 +26,16 @@ use Rattle.handset.specs.Stands.{StandsForSteps}
 use Rattle.visit_log.specs.Cells.{CellData, GoWith, Hold}
 use Rattle.scripts.specs.Scripts.{scripts_of, step_of}
 use Rattle.scripts.specs.Laws.{ScriptsAreValid}
-use Rattle.machine.specs.RestLaws.{IsStep, course-steps, may-begin, rests}
+use Rattle.machine.specs.RestLaws.{may-begin}
 use Rattle.machine.specs.Stands.{BelongTogether, setting_over}
 use Rattle.machine.specs.Subscribers.{IsShown, MayBegin, Shown, begun_line, begun_steps}
-use Rattle.scripts.specs.ScriptLaws.{steps-are}
+use Rattle.scripts.specs.ScriptLaws.{IsStep, course-steps, steps-are}
 use Rattle.machine.specs.ScriptVisits.{some-write, step-at}
 use Rattle.machine.proofs.Steps.{lines-partial}
 use Rattle.machine.proofs.Seen.{Seen, seen-after, step-allowed}
 use Rattle.directory.specs.HistoryLaws.{next-sub, tickets-count}
 use Rattle.directory.specs.Statements.{TicketsGrow, OwnGrow, TicketsAreOwn}
-use Rattle.handset.specs.StageLaws.{IsRestAfter}
+use Rattle.handset.specs.StageLaws.{IsRestAfter, rests}
 
 -- the call that a subscriber at rest begins
 pub record Begins (input : Contents) (plan : PlanData) (history : History) (sub : ℕ) (old : Shown)

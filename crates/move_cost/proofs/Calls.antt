@@ -1,6 +1,6 @@
 -- The call that comes next in a subscriber's script: it is a step, which may begin.
-use Rattle.std.proofs.Common.{◌≡◌, ℕ, zero, suc, ◌<◌, Bool, true, false, List, [], ◌∷◌, ◌++◌, length, map, take, drop, get_or, refl, sym, ap, ◌∙◌, subst, arith}
-use Rattle.std.specs.Prelude.{None, Option, Some, option_map, slice_get, slice_index, unwrap_or}
+use Rattle.std.proofs.Common.{◌≡◌, ℕ, suc, ◌<◌, false, List, [], ◌∷◌, ◌++◌, length, map, take, drop, get_or, refl, sym, ap, ◌∙◌, subst, arith}
+use Rattle.std.specs.Prelude.{Some, slice_get, slice_index, unwrap_or}
 use Rattle.std.proofs.lemmas.List.{append_assoc, get_or-map, length-map, take-append-drop}
 use Rattle.std.proofs.lemmas.Option.{unwrap_or-slice_get}
 use Rattle.directory.specs.Amid.{course_of}
@@ -11,33 +11,17 @@ use Rattle.directory.specs.Orders.{AreValid, steps_of}
 use Rattle.directory.specs.StepLaws.{slice_get-within, take-more}
 use Rattle.distances.specs.Table.{DistanceTable}
 use Rattle.net_reader.specs.Input.{Contents}
-use Rattle.net_reader.specs.Valid.{IsCourse}
 use Rattle.net_reader.specs.declared.said.Call.{Call}
 use Rattle.net_reader.specs.declared.said.Call.TheVariants as calls
 use Rattle.region_plan.specs.Plan.{PlanData}
 use Rattle.region_plan.specs.Settings.{setting_of}
 use Rattle.handset.specs.Condition.{HandsetData}
-use Rattle.handset.specs.StepWrites.{due_at}
 use Rattle.handset.specs.StageLaws.{IsRestAfter}
-use Rattle.handset.specs.declared.stage.Stage.{Stage}
-use Rattle.handset.specs.declared.stage.Stage.TheVariants.{Resting, Coming, Renewing, Committing, Confirming, Erasing, Purging, Switching}
 use Rattle.scripts.specs.Laws.{ScriptsAreValid}
 use Rattle.scripts.specs.Scripts.{scripts_of, step_of}
-use Rattle.scripts.specs.ScriptLaws.{steps-are}
+use Rattle.scripts.specs.ScriptLaws.{IsStep, course-steps, steps-are}
 use Rattle.move_cost.specs.Counting.{MayBegin, first_steps}
 use Rattle.move_cost.specs.Plans.{GoTogether}
-use Rattle.directory.specs.ListLaws.{option_map-none}
-
-pub stage-rests : (setting : Setting) (handset : HandsetData) (stage : Stage) → due_at setting handset stage ≡ None
-    → stage ≡ Resting
-stage-rests setting handset Resting h = refl
-stage-rests setting handset Coming h = cc
-stage-rests setting handset (Renewing level) h = cc
-stage-rests setting handset Committing h = cc
-stage-rests setting handset Confirming h = cc
-stage-rests setting handset (Erasing level) h = cc
-stage-rests setting handset (Purging node) h = cc
-stage-rests setting handset (Switching off) h = cc
 
 -- a step of a script may come where it does
 may-at : (setting : Setting) (course : Course) (before : List Step) (step : Step) (later : List Step)
@@ -45,28 +29,6 @@ may-at : (setting : Setting) (course : Course) (before : List Step) (step : Step
 unfolding MaySteps
 may-at setting course [] step later may = may.0
 may-at setting course (s ∷ before) step later may = may-at setting (after_step setting course s) before step later may.1
-
--- a call that is a step
-abbrev pub IsStep : Call → Type 0
-IsStep (calls.Move to) = Unit {0}
-IsStep (calls.Find from sub) = ⊥
-IsStep calls.Off = Unit {0}
-IsStep calls.On = Unit {0}
-
--- a subscriber's script has no finds
-course-steps : (format n here : ℕ) (off : Bool) (script : List Call) (k : ℕ) (d : Call)
-    → IsCourse format n here off script → k < length script → IsStep (get_or script k d)
-course-steps format n here off [] k d its low = absurd (omega (arith, low))
-course-steps format n here off (calls.Find from sub ∷ script) k d its low = absurd its
-course-steps format n here off (calls.Move to ∷ script) zero d its low = tt
-course-steps format n here off (calls.Off ∷ script) zero d its low = tt
-course-steps format n here off (calls.On ∷ script) zero d its low = tt
-course-steps format n here off (calls.Move to ∷ script) (suc k) d its low =
-    course-steps format n to off script k d its.3 (omega (arith, low))
-course-steps format n here off (calls.Off ∷ script) (suc k) d its low =
-    course-steps format n here true script k d its.2 (omega (arith, low))
-course-steps format n here off (calls.On ∷ script) (suc k) d its low =
-    course-steps format n here false script k d its.2 (omega (arith, low))
 
 pub may-begin : (plan : PlanData) (starts : List ℕ) (sub : ℕ) (handset : HandsetData) (steps : List Step) (made : ℕ)
     (call : Call) → IsRestAfter (setting_of plan starts) sub handset steps made → IsStep call

@@ -24,13 +24,13 @@ use Rattle.region_plan.specs.Matched.{IsMatched}
 use Rattle.region_plan.specs.Plan.{PlanData, distance, levels_of, nodes_of}
 use Rattle.region_plan.specs.Settings.{setting_of}
 use Rattle.handset.specs.Condition.{GoesWith, HandsetData, begun_at}
-use Rattle.handset.specs.StepWrites.{due, due_at}
-use Rattle.handset.specs.StageLaws.{IsRestAfter, rest-after}
+use Rattle.handset.specs.StepWrites.{due}
+use Rattle.handset.specs.StageLaws.{IsRestAfter, rest-after, stage-rests}
 use Rattle.handset.specs.Stands.{StandsAt, StandsForSteps}
 use Rattle.handset.specs.declared.stage.Stage.TheVariants.{Resting}
 use Rattle.scripts.specs.Laws.{ScriptsAreValid}
 use Rattle.scripts.specs.Scripts.{scripts_of, step_of}
-use Rattle.scripts.specs.ScriptLaws.{script-few, steps-are}
+use Rattle.scripts.specs.ScriptLaws.{IsStep, script-few, steps-are}
 use Rattle.move_cost.specs.declared.line.CostLine.{CostLine}
 use Rattle.move_cost.specs.Costs.{cost_line, is_purge, weight_of_steps, write_weight}
 use Rattle.move_cost.specs.Counting.{HasRoom, IsCounted, IsFit, IsLeft, MayBegin, first_steps, most_weight, node_after, with_call, with_writes}
@@ -39,8 +39,7 @@ use Rattle.move_cost.proofs.Fitting.{fit-step}
 use Rattle.move_cost.proofs.MoveParts.{last-after}
 use Rattle.move_cost.proofs.Paying.{weights-more}
 use Rattle.move_cost.proofs.Purging.{purges-more}
-use Rattle.move_cost.proofs.Calls.{IsNextCall, IsStep, may-begin, next-call, stage-rests}
-use Rattle.directory.specs.ListLaws.{option_map-none}
+use Rattle.move_cost.proofs.Calls.{IsNextCall, may-begin, next-call}
 
 -- a list behind another
 drop-front : {A : Type 0} (xs ys : List A) → drop (length xs) (xs ++ ys) ≡ ys
@@ -200,9 +199,7 @@ ready scripts moves input plan distances sub place handset line call kept matche
     let made : ℕ = length (visits setting sub steps) in
     let its : IsNextCall input plan sub place call =
     next-call scripts input plan distances sub place call together low short same in
-    let resting : handset.stage ≡ Resting =
-    stage-rests (setting_of plan []) handset handset.stage
-    (option_map-none (visit_of handset.sub) (due_at (setting_of plan []) handset handset.stage) counted.rests) in
+    let resting : handset.stage ≡ Resting = stage-rests (setting_of plan []) handset counted.rests in
     let at : IsRestAfter setting sub handset steps made =
     subst (λ s. IsRestAfter setting s handset steps made) counted.its
     (rest-after setting handset steps made counted.stands resting) in

@@ -16,9 +16,9 @@ use Rattle.directory.specs.StepLaws.{past-end, take-append, take-more, visits-ap
 use Rattle.directory.specs.Writes.{visit_of, visits}
 use Rattle.handset.specs.Condition.{GoesWith, HandsetData}
 use Rattle.handset.specs.StepWrites.{due, due_at}
-use Rattle.handset.specs.StageLaws.{IsRestAfter}
+use Rattle.handset.specs.StageLaws.{IsRestAfter, rests}
 use Rattle.handset.specs.Stands.{StandsForSteps}
-use Rattle.machine.specs.RestLaws.{IsStep, course-steps, may-begin, rests}
+use Rattle.machine.specs.RestLaws.{may-begin}
 use Rattle.machine.specs.ScriptVisits.{in-script, may-at, may-take, step-at, visits-longer}
 use Rattle.machine.specs.Subscribers.{MayBegin}
 use Rattle.net_reader.specs.declared.said.Call.{Call}
@@ -27,7 +27,7 @@ use Rattle.distances.specs.Table.{DistanceTable}
 use Rattle.region_plan.specs.Plan.{PlanData}
 use Rattle.region_plan.specs.Settings.{setting_of}
 use Rattle.scripts.specs.Laws.{ScriptsAreValid}
-use Rattle.scripts.specs.ScriptLaws.{steps-are}
+use Rattle.scripts.specs.ScriptLaws.{IsStep, course-steps, steps-are}
 use Rattle.scripts.specs.Scripts.{IsSettingOf, scripts_of, step_of}
 use Rattle.station.specs.Handsets.{HandsetGoesOn, IsHandsetOf}
 use Rattle.station.specs.Passes.{PassData}

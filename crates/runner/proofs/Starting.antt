@@ -21,7 +21,7 @@ use Rattle.region_plan.specs.Plan.{PlanData, nodes_of}
 use Rattle.region_plan.specs.Settings.{setting_of}
 use Rattle.scripts.specs.Laws.{ScriptsAreValid}
 use Rattle.scripts.specs.MostLaws.{finds-most, steps-most}
-use Rattle.scripts.specs.ScriptLaws.{finds-are, steps-are}
+use Rattle.scripts.specs.ScriptLaws.{IsStep, course-steps, finds-are, steps-are}
 use Rattle.scripts.specs.Scripts.{find_of, most_in, scripts_of, step_of}
 use Rattle.station.specs.HandsetLaws.{no-steps}
 use Rattle.station.specs.Setup.{Setup, setting_in}
@@ -31,7 +31,6 @@ use Rattle.runner.specs.Roles.{IsFinder, IsMover, IsSetFor, MayStart}
 use Rattle.runner.specs.declared.finder.Finder.{Finder}
 use Rattle.runner.specs.declared.mover.Mover.{Mover}
 use Rattle.runner.proofs.Finding.{looks-origin, room-of, script-searches, set-setting}
-use Rattle.machine.specs.RestLaws.{IsStep, course-steps}
 
 -- the script that the code reads
 pub script-is : (scripts : List (Vec Call Global)) (actor : ℕ) (held : Vec Call Global) (script : List Call)

@@ -1,9 +1,10 @@
 -- Short laws of an input's scripts, for the proofs of the crates above: what they are for each
 -- actor, and that they are few and short.
 -- Key laws: `steps-are` and `finds-are` (the script of a subscriber, and of a caller),
--- `stranger-done` (an actor that the input doesn't have has no visit), `few-nodes` (a valid input
--- has few nodes), `calls-few` (and short scripts), `place-after_calls` and `off-after_calls` (what
--- the reader keeps of a subscriber is where its steps lead).
+-- `course-steps` (a subscriber's script has no finds), `stranger-done` (an actor that the input
+-- doesn't have has no visit), `few-nodes` (a valid input has few nodes), `calls-few` (and short
+-- scripts), `place-after_calls` and `off-after_calls` (what the reader keeps of a subscriber is
+-- where its steps lead).
 use Rattle.std.proofs.Common.{◌≡◌, inl, inr, ℕ, zero, suc, ◌+◌, ◌-◌, ◌<◌, ◌≤◌, ◌^◌, Bool, true, false, List, [], ◌∷◌, length, map, take, drop, fold, get_or, refl, ap, ◌∙◌, subst, arith}
 use Rattle.std.specs.Prelude.{None, option_map}
 use Rattle.std.proofs.lemmas.List.{get_or-map, get_or-take, get_or-drop, get_or_past, length-map, length-drop, length-take-le}
@@ -130,3 +131,25 @@ off-after_calls format n here node off (calls.Off ∷ script) its =
     off-after_calls format n here node true script its.2
 off-after_calls format n here node off (calls.On ∷ script) its =
     off-after_calls format n here node false script its.2
+
+-- a call that is a step
+abbrev pub IsStep : Call → Type 0
+IsStep (calls.Move to) = Unit {0}
+IsStep (calls.Find from sub) = ⊥
+IsStep calls.Off = Unit {0}
+IsStep calls.On = Unit {0}
+
+-- a subscriber's script has no finds
+pub course-steps : (format n here : ℕ) (off : Bool) (script : List Call) (k : ℕ) (d : Call)
+    → IsCourse format n here off script → k < length script → IsStep (get_or script k d)
+course-steps format n here off [] k d its low = absurd (omega (arith, low))
+course-steps format n here off (calls.Move to ∷ script) zero d its low = tt
+course-steps format n here off (calls.Find from sub ∷ script) k d its low = absurd its
+course-steps format n here off (calls.Off ∷ script) zero d its low = tt
+course-steps format n here off (calls.On ∷ script) zero d its low = tt
+course-steps format n here off (calls.Move to ∷ script) (suc k) d its low =
+    course-steps format n to off script k d its.3 (omega (arith, low))
+course-steps format n here off (calls.Off ∷ script) (suc k) d its low =
+    course-steps format n here true script k d its.2 (omega (arith, low))
+course-steps format n here off (calls.On ∷ script) (suc k) d its low =
+    course-steps format n here false script k d its.2 (omega (arith, low))
