@@ -15,7 +15,7 @@ use Rattle.distances.specs.declared.elimination.LeftOut.{LeftOut}
 use Rattle.distances.specs.declared.elimination.TheConstants.{FAR}
 use Rattle.distances.specs.Lowering.{Among, ArcOffer, Below, EdgeOffer, IsLowered, cell_at}
 use Rattle.distances.specs.Rows.{AreClosed}
-use Rattle.distances.specs.Stages.{AreLeast, IsFilled, IsFirstTable, AreAllStages, KeepsLengths}
+use Rattle.distances.specs.NodesLeftOut.{AreLeast, IsFilled, IsFirstTable, AreAllLeftOut, KeepsLengths}
 use Rattle.distances.proofs.Lowered.{lowered_as, lowered_light, lowered_next, lowered_none}
 use Rattle.distances.proofs.Lengths.{begins, bounded, least_there, lengths, step_length}
 use Rattle.distances.proofs.Filling.{AreRowsOf}
@@ -103,11 +103,11 @@ module _ (network : Network) (sound : IsNetwork network) (width : ℕ) (wide : n
     }
 
 pub rows_of : LeastWeightsAreFound → LeastWeightsAreBounded → (network : Network) → IsNetwork network
-    → (width : ℕ) → network.nodes ≤ width → (first : List ℕ) (stages : List LeftOut) (rows table : List ℕ)
-    → IsFirstTable network width first → AreAllStages network.nodes width first stages
-    → IsFilled network.nodes width stages rows → AreClosed network.nodes width rows table
+    → (width : ℕ) → network.nodes ≤ width → (first : List ℕ) (left_out : List LeftOut) (rows table : List ℕ)
+    → IsFirstTable network width first → AreAllLeftOut network.nodes width first left_out
+    → IsFilled network.nodes width left_out rows → AreClosed network.nodes width rows table
     → AreRowsOf network network.nodes table
-rows_of least_of bounds network sound width wide first stages rows table is_first left_out_all filled closed =
+rows_of least_of bounds network sound width wide first left_out rows table is_first left_out_all filled closed =
     let d : ℕ → ℕ → ℕ = least_weight network everywhere in
     let least : AreLeast network d = least_there least_of network sound in
     let lens = lengths bounds network sound d least in
@@ -128,21 +128,21 @@ rows_of least_of bounds network sound width wide first stages rows table is_firs
 -- the table as the code has it
 pub rows_made : LeastWeightsAreFound → LeastWeightsAreBounded → (network : Network) → IsNetwork network
     → (n : ℕ) → n ≡ network.nodes
-    → (width : ℕ) → n ≤ width → (first seen : List ℕ) (stages : List LeftOut) (filled more wide closed : List ℕ) (k : ℕ)
-    → IsFirstTable network width first → seen ≡ first → length seen ≡ k → AreAllStages n width seen stages
-    → IsFilled n width stages filled → wide ≡ take k (filled ++ more) → AreClosed n width wide closed
+    → (width : ℕ) → n ≤ width → (first seen : List ℕ) (left_out : List LeftOut) (filled more wide closed : List ℕ) (k : ℕ)
+    → IsFirstTable network width first → seen ≡ first → length seen ≡ k → AreAllLeftOut n width seen left_out
+    → IsFilled n width left_out filled → wide ≡ take k (filled ++ more) → AreClosed n width wide closed
     → AreRowsOf network network.nodes closed
-rows_made least_of bounds network sound n is_n width n_wide first seen stages filled more wide closed k is_first seen_is
+rows_made least_of bounds network sound n is_n width n_wide first seen left_out filled more wide closed k is_first seen_is
     count
     left_out_all is_filled wide_is is_closed =
-    let stages_here : AreAllStages network.nodes width first stages =
-    subst (λ i. AreAllStages i width first stages) is_n (subst (λ xs. AreAllStages n width xs stages) seen_is
+    let left_out_here : AreAllLeftOut network.nodes width first left_out =
+    subst (λ i. AreAllLeftOut i width first left_out) is_n (subst (λ xs. AreAllLeftOut n width xs left_out) seen_is
     left_out_all) in
-    let filled_here : IsFilled network.nodes width stages filled =
-    subst (λ i. IsFilled i width stages filled) is_n is_filled in
+    let filled_here : IsFilled network.nodes width left_out filled =
+    subst (λ i. IsFilled i width left_out filled) is_n is_filled in
     let same : length filled ≡ k = filled_here.count ∙ sym is_first.count ∙ sym (ap length seen_is) ∙ count in
     let rows_are : wide ≡ filled = wide_is ∙ take_at filled more k same in
-    rows_of least_of bounds network sound width (subst (λ i. i ≤ width) is_n n_wide) first stages filled closed is_first
-    stages_here filled_here
+    rows_of least_of bounds network sound width (subst (λ i. i ≤ width) is_n n_wide) first left_out filled closed is_first
+    left_out_here filled_here
     (subst (λ i. AreClosed i width filled closed) is_n
     (subst (λ xs. AreClosed n width xs closed) rows_are is_closed))

@@ -48,8 +48,8 @@ impl Distances {
         let width = width_for(n);
         let mut table = first_table(alloc, graph, width)?;
         let mut degrees = degrees_of(alloc, graph)?;
-        let stages = leave_out_all(alloc, &mut table, n, width, &mut degrees)?;
-        take_back_all(alloc, &mut table, n, width, stages)?;
+        let left_out = leave_out_all(alloc, &mut table, n, width, &mut degrees)?;
+        take_back_all(alloc, &mut table, n, width, left_out)?;
         close_rows(&mut table, n, width);
         let diameter = greatest_weight(&table);
         Ok(Distances {

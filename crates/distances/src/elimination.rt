@@ -7,7 +7,7 @@ ghost use Rattle.net_graph.specs.declared.edge.TheConstants.{MAX_NODES};
 ghost use Rattle.net_graph.specs.Walks.{among};
 ghost use Rattle.net_graph.specs.Layout.{IsArc};
 ghost use Rattle.distances.specs.Remaining.{IsLeftBelow};
-ghost use Rattle.distances.specs.Stages.{IsFilled, IsFirstTable, AreAllStages, IsStageWithin};
+ghost use Rattle.distances.specs.NodesLeftOut.{IsFilled, IsFirstTable, AreAllLeftOut, IsLeftOutWithin};
 ghost use Rattle.distances.specs.Lowering.{Among, AreNearBelow, ArcOffer, Below, ChunkOffer, IsLowered, IsWithin, IsNodeWritten, OwnOffer, PairOffer, RowOffer, SpanOffer};
 
 use net_graph::{Arc, Graph, OutOfMemory};
@@ -363,19 +363,19 @@ pub(crate) fn leave_out_all(
     requires degrees { length degrees.old ≡ n }
     requires light { All (λ w. w ≤ FAR) table.old }
     ensures light { OnOk result (All (λ w. w ≤ FAR) table.new) }
-    ensures stages { IfOk result (λ stages. AreAllStages n width table.old stages.items) }
+    ensures left_out { IfOk result (λ left_out. AreAllLeftOut n width table.old left_out.items) }
 {
     let mut left = vec![in alloc; true; n]?;
-    let mut stages = Vec::with_capacity(alloc, n)?;
+    let mut left_out = Vec::with_capacity(alloc, n)?;
     let mut mine = vec![in alloc; FAR; n]?;
     while let Some(node) = least_left(&left, degrees) {
         left[node] = false;
         let near = near_of(alloc, &table[node * width..node * width + n], &left)?;
-        let counts = stages.len().wrapping_add(near.len()).wrapping_add(1) < n;
+        let counts = left_out.len().wrapping_add(near.len()).wrapping_add(1) < n;
         lower_pairs(table, n, width, &near, degrees, &mut mine, counts);
-        stages.push(LeftOut { node, near })?;
+        left_out.push(LeftOut { node, near })?;
     }
-    Ok(stages)
+    Ok(left_out)
 }
 
 // Takes back the nodes that were left out, the last one first.
@@ -384,23 +384,23 @@ pub(crate) fn take_back_all(
     table: &mut [u32],
     n: usize,
     width: usize,
-    mut stages: Vec<LeftOut>,
+    mut left_out: Vec<LeftOut>,
 ) -> Result<(), AllocError>
     requires few { n ≤ MAX_NODES }
     requires wide { n ≤ width }
     requires narrow { width ≤ 2048 }
     requires count { length table.old ≡ n * width }
     requires light { All (λ w. w ≤ FAR) table.old }
-    requires stages { All (IsStageWithin n) stages.items }
-    ensures { OnOk result (IsFilled n width stages.items table.new) }
+    requires left_out { All (IsLeftOutWithin n) left_out.items }
+    ensures { OnOk result (IsFilled n width left_out.items table.new) }
 {
     let mut mine = vec![in alloc; FAR; n]?;
     let mut back = Vec::with_capacity(alloc, n)?;
-    while let Some(stage) = stages.pop() {
-        fold_rows(&mut mine, table, n, width, &stage.near);
-        mine[stage.node] = 0;
-        write_node(table, n, width, stage.node, &mine, &back);
-        back.push(stage.node)?;
+    while let Some(last) = left_out.pop() {
+        fold_rows(&mut mine, table, n, width, &last.near);
+        mine[last.node] = 0;
+        write_node(table, n, width, last.node, &mine, &back);
+        back.push(last.node)?;
     }
     Ok(())
 }

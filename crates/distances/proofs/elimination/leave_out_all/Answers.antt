@@ -13,7 +13,7 @@ loop-node-init c =
     let filled : c.in_ok-left.left.items ≡ replicate c.args.n true = search rules in
     let far : c.in_ok-mine.mine.items ≡ replicate c.args.n FAR = search rules in
     record {
-      leaving = rw (filled, c.in_ok-stages.ensures.items)
+      leaving = rw (filled, c.in_ok-left_out.ensures.items)
           (leaving_begins c.args.n c.args.width c.args.table.now c.requires.count c.requires.light);
       row = ap length far ∙ length-replicate c.args.n FAR;
     }
@@ -25,7 +25,7 @@ pub loop-node-preserved : goal.loop-node-preserved
 loop-node-preserved c = record {
   leaving = leaving_next c.args.n c.args.width c.requires.wide c.args.table.now c.loop-node.left.items
       c.deref.result.now c.deref-in-Some.result.now
-      c.loop-node.stages.items c.push.new.self.items c.loop-node.table c.lower_pairs.new.table c.in-Some.node
+      c.loop-node.left_out.items c.push.new.self.items c.loop-node.table c.lower_pairs.new.table c.in-Some.node
       (record { node = c.in-Some.node; near = c.in_ok-near.near }) c.deref-in-Some-2.result.now
       c.loop-node.invariant.leaving c.deref.ensures.value c.in-Some.ensures refl c.deref-in-Some.ensures.value
       c.in_ok-near.ensures c.deref-in-Some-2.ensures.value c.lower_pairs.ensures c.in_ok-push.ensures.items;
@@ -36,8 +36,8 @@ loop-node-preserved c = record {
       omega (arith, c.lower_pairs.auto.mine, ap length c.deref_mut.ensures.value, c.loop-node.invariant.row) in e);
 }
 
-pub returns-clause-stages : goal.returns-clause-stages
-returns-clause-stages c = leaving_ends c.args.n c.args.width c.args.table.now c.loop-node.left.items
-    c.loop-node.stages.items
+pub returns-clause-left_out : goal.returns-clause-left_out
+returns-clause-left_out c = leaving_ends c.args.n c.args.width c.args.table.now c.loop-node.left.items
+    c.loop-node.left_out.items
     c.loop-node.table c.loop-node.invariant.leaving
     (none_left_in c.loop-node.left.items c.deref.result.now c.deref.ensures.value c.in_default.ensures)

@@ -18,9 +18,9 @@ invariant_of-result c =
     (rows_made c.least_weight_is_found.ensures c.least_weight_is_bounded.ensures c.args.graph.now
     c.nodes-nodes.ensures.sound c.nodes-nodes.result c.nodes-nodes.ensures.count c.width_for-width.result
     c.width_for-width.ensures.wide
-    c.in_ok-table.table.items c.deref_mut.result.now c.in_ok-stages.stages.items c.take_back_all.new.table more
+    c.in_ok-table.table.items c.deref_mut.result.now c.in_ok-left_out.left_out.items c.take_back_all.new.table more
     (take c.in_ok-table.table.len (c.take_back_all.new.table ++ more)) cells c.in_ok-table.table.len
-    c.in_ok-table.ensures c.deref_mut.ensures.value c.deref_mut.ensures.len c.in_ok-stages.ensures.stages
+    c.in_ok-table.ensures c.deref_mut.ensures.value c.deref_mut.ensures.len c.in_ok-left_out.ensures.left_out
     c.in_ok-take_back_all.ensures refl c.close_rows.ensures)
     c.greatest_weight-diameter.result
     (rw c.deref.ensures.value at c.greatest_weight-diameter.ensures.bound)
@@ -39,7 +39,7 @@ returns c =
     (rows_made c.least_weight_is_found.ensures c.least_weight_is_bounded.ensures c.args.graph.now
     c.nodes-nodes.ensures.sound c.nodes-nodes.result c.nodes-nodes.ensures.count c.width_for-width.result
     c.width_for-width.ensures.wide
-    c.in_ok-table.table.items c.deref_mut.result.now c.in_ok-stages.stages.items c.take_back_all.new.table more
+    c.in_ok-table.table.items c.deref_mut.result.now c.in_ok-left_out.left_out.items c.take_back_all.new.table more
     (take c.in_ok-table.table.len (c.take_back_all.new.table ++ more)) cells c.in_ok-table.table.len
-    c.in_ok-table.ensures c.deref_mut.ensures.value c.deref_mut.ensures.len c.in_ok-stages.ensures.stages
+    c.in_ok-table.ensures c.deref_mut.ensures.value c.deref_mut.ensures.len c.in_ok-left_out.ensures.left_out
     c.in_ok-take_back_all.ensures refl c.close_rows.ensures)))

@@ -1,8 +1,8 @@
 -- All distances by leaving out one node after another, as the private functions do; callers stand
 -- on `Table` alone, and proofs/ joins the two. `c` are the weights in a table, `d` the lengths of
 -- least walks, and `left` says which nodes are left.
--- Key laws: `leave_out_all` makes the stages of a first table (`AreAllStages`), and `take_back_all`
--- fills the table with the lengths of which the stages hold (`IsFilled`).
+-- Key laws: `leave_out_all` leaves out all nodes of a first table (`AreAllLeftOut`), and
+-- `take_back_all` fills the table with the lengths that those near to each tell (`IsFilled`).
 use Rattle.std.specs.Prelude.{◌≡◌, ◌≢◌, ◌⊎◌, ℕ, ◌+◌, ◌*◌, ◌<◌, ◌≤◌, List, [], ◌∷◌, ◌++◌, All, Contains, length}
 use Rattle.distances.specs.declared.elimination.Near.{Near}
 use Rattle.distances.specs.declared.elimination.LeftOut.{LeftOut}
@@ -49,38 +49,38 @@ pub record LeadsOn (d : ℕ → ℕ → ℕ) (near : List Near) (v b : ℕ) : Ty
   pub short : weight + d node b ≤ d v b
 
 -- the nodes near v when it was left out make up the lengths from v to the nodes that were left then
-pub record IsStage (left : ℕ → Type 0) (d : ℕ → ℕ → ℕ) (v : ℕ) (near : List Near) : Type 0 where
+pub record IsLeftOut (left : ℕ → Type 0) (d : ℕ → ℕ → ℕ) (v : ℕ) (near : List Near) : Type 0 where
   pub sound : (x w : ℕ) → Contains near (make_near x w) → left x × (d v x ≤ w) × (w < FAR)
   pub leads_on : (b : ℕ) → left b → LeadsOn d near v b
 
--- the stage's nodes are nodes below n, and its weights are no more than FAR
-pub record IsStageWithin (n : ℕ) (stage : LeftOut) : Type 0 where
-  pub node : stage.node < n
-  pub near : All (IsWithin n) stage.near.items
+-- it and the nodes near it are nodes below n, and their weights are no more than FAR
+pub record IsLeftOutWithin (n : ℕ) (one : LeftOut) : Type 0 where
+  pub node : one.node < n
+  pub near : All (IsWithin n) one.near.items
 
--- a node that no stage left out
+-- a node that wasn't left out
 abbrev pub IsFresh : ℕ → List LeftOut → ℕ → Type 0
-IsFresh n stages x = (x < n) × All (λ (s : LeftOut). s.node ≢ x) stages
+IsFresh n left_out x = (x < n) × All (λ (s : LeftOut). s.node ≢ x) left_out
 
--- each stage holds of the nodes that were left after it
-pub data AreStages (n : ℕ) (d : ℕ → ℕ → ℕ) : List LeftOut → Type 0 where
-  none : AreStages n d []
-  more : (earlier : List LeftOut) (stage : LeftOut) (stages : List LeftOut)
-      → stages ≡ earlier ++ stage ∷ [] → AreStages n d earlier
-      → IsStage (IsFresh n stages) d stage.node stage.near.items → AreStages n d stages
+-- each was left out of the nodes that were left after it
+pub data AreLeftOut (n : ℕ) (d : ℕ → ℕ → ℕ) : List LeftOut → Type 0 where
+  none : AreLeftOut n d []
+  more : (earlier : List LeftOut) (last : LeftOut) (left_out : List LeftOut)
+      → left_out ≡ earlier ++ last ∷ [] → AreLeftOut n d earlier
+      → IsLeftOut (IsFresh n left_out) d last.node last.near.items → AreLeftOut n d left_out
 
--- the stages by which all nodes were left out of a table
-pub record AreAllStages (n width : ℕ) (first : List ℕ) (stages : List LeftOut) : Type 0 where
-  pub within : All (IsStageWithin n) stages
-  pub all : (x : ℕ) → IsFresh n stages x → ⊥
+-- all nodes were left out of a table, in this order
+pub record AreAllLeftOut (n width : ℕ) (first : List ℕ) (left_out : List LeftOut) : Type 0 where
+  pub within : All (IsLeftOutWithin n) left_out
+  pub all : (x : ℕ) → IsFresh n left_out x → ⊥
   pub holds : (d : ℕ → ℕ → ℕ) → AreLengths n d → KeepsLengths (λ x. x < n) (cell_at width first) d
-      → AreStages n d stages
+      → AreLeftOut n d left_out
 
--- the table has the lengths of which the stages hold
-pub record IsFilled (n width : ℕ) (stages : List LeftOut) (table : List ℕ) : Type 0 where
+-- the table has the lengths that the nodes left out tell
+pub record IsFilled (n width : ℕ) (left_out : List LeftOut) (table : List ℕ) : Type 0 where
   pub count : length table ≡ n * width
-  pub each : (d : ℕ → ℕ → ℕ) → AreLengths n d → AreStages n d stages
-      → ((x : ℕ) → IsFresh n stages x → ⊥)
+  pub each : (d : ℕ → ℕ → ℕ) → AreLengths n d → AreLeftOut n d left_out
+      → ((x : ℕ) → IsFresh n left_out x → ⊥)
       → (a b : ℕ) → a < n → b < n → cell_at width table a b ≡ d a b
 
 -- the table has the least weights of edges, FAR where there is none
