@@ -8,9 +8,9 @@ use Rattle.std.proofs.lemmas.Nat.{same_from_place, row_fits}
 use Rattle.std.proofs.lemmas.List.Edits.{length-between, get_or-between}
 use Rattle.std.specs.List.{between}
 use Rattle.net_graph.specs.Walks.{among}
-use Rattle.distances.specs.declared.elimination.Near.{Near}
+use Rattle.distances.specs.declared.near_nodes.Near.{Near}
 use Rattle.distances.specs.declared.elimination.LeftOut.{LeftOut}
-use Rattle.distances.specs.declared.elimination.TheConstants.{FAR}
+use Rattle.distances.specs.declared.weights.TheConstants.{FAR}
 use Rattle.distances.specs.Lowering.{Among, AreNearBelow, IsLowered, IsWithin, PairOffer, cell_at}
 use Rattle.distances.specs.NodesLeftOut.{AreLengths, AreLeftOut, IsFresh, AreAllLeftOut, KeepsLengths, IsLeftOut, IsLeftOutWithin, make_near}
 use Rattle.distances.specs.NodesLeftOut.AreLeftOut.{none, more}
@@ -245,37 +245,35 @@ leaving_ends n width first left left_out table so_far none_left = record {
   holds = so_far.holds;
 }
 
+-- the row of a node that is left ends in the table
+pub row_ends : (n width : ℕ) → n ≤ width → (first : List ℕ) (left : List Bool) (left_out : List LeftOut)
+    (table : List ℕ) → IsLeavingSome n width first left left_out table → (v : ℕ) → among left v ≡ true
+    → v * width + n ≤ length table
+row_ends n width wide first left left_out table so_far v v_left =
+    let v_below : v < n = (so_far.left_is_fresh v v_left).0 in
+    omega (arith, row_fits v width n width v_below (omega arith), so_far.count, wide)
+
 -- the step as the code has it
-pub leaving_next : (n width : ℕ) → n ≤ width → (first : List ℕ) (left seen next : List Bool)
+pub leaving_next : (n width : ℕ) → n ≤ width → (first : List ℕ) (left : List Bool)
     (left_out later : List LeftOut) (old table : List ℕ) (v : ℕ) (s : LeftOut) (near : List Near)
-    → IsLeavingSome n width first left left_out old → seen ≡ left → (v < length seen) × (among seen v ≡ true) → s.node ≡ v
-    → next ≡ set left v false
+    → IsLeavingSome n width first left left_out old → (v < length left) × (among left v ≡ true) → s.node ≡ v
     → AreNearBelow (length (between (v * width) (v * width + n) old)) (between (v * width) (v * width + n) old)
-    (λ x. among next x ≡ true) s.near.items
+    (λ x. among (set left v false) x ≡ true) s.near.items
     → near ≡ s.near.items → IsLowered (Among near (λ a. Among near (PairOffer width a))) old table
     → later ≡ left_out ++ s ∷ []
     → IsLeavingSome n width first (set left v false) later table
-leaving_next n width wide first left seen next left_out later old table v s near so_far seen_is v_left s_node next_is
-    are_near
-    near_is lowered later_is =
-    let v_in_left : among left v ≡ true = subst (λ xs. among xs v ≡ true) seen_is v_left.1 in
-    let v_below : v < n = (so_far.left_is_fresh v v_in_left).0 in
+leaving_next n width wide first left left_out later old table v s near so_far v_left s_node are_near near_is lowered
+    later_is =
     let end_fits : v * width + n ≤ length old =
-    omega (arith, row_fits v width n width v_below (omega arith), so_far.count, wide) in
+    row_ends n width wide first left left_out old so_far v v_left.1 in
     subst (λ xs. IsLeavingSome n width first (set left v false) xs table) (sym later_is)
-    (leaving_step n width wide first left left_out old so_far v v_in_left (between (v * width) (v * width + n) old)
+    (leaving_step n width wide first left left_out old so_far v v_left.1 (between (v * width) (v * width + n) old)
     (length-between old (v * width) (v * width + n) end_fits ∙ (let e : v * width + n - v * width ≡ n = omega arith in
     e))
     (λ x below. get_or-between old (v * width) (v * width + n) x 0 (omega arith))
-    s s_node
-    (subst (λ xs. AreNearBelow (length (between (v * width) (v * width + n) old))
-    (between (v * width) (v * width + n) old)
-    (λ x. among xs x ≡ true) s.near.items) next_is are_near)
-    table
+    s s_node are_near table
     (subst (λ xs. IsLowered (Among xs (λ a. Among xs (PairOffer width a))) old table) near_is lowered))
 
-pub none_left_in : (left seen : List Bool) → seen ≡ left → ((x : ℕ) → x < length seen → among seen x ≡ true → ⊥)
+pub none_left_in : (left : List Bool) → ((x : ℕ) → x < length left → among left x ≡ true → ⊥)
     → (x : ℕ) → among left x ≡ true → ⊥
-none_left_in left seen is none_seen x h =
-    let there : among seen x ≡ true = subst (λ xs. among xs x ≡ true) (sym is) h in
-    none_seen x (v_in seen x there) there
+none_left_in left none_there x h = none_there x (v_in left x h) h

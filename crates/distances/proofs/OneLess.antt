@@ -2,8 +2,8 @@
 use Rattle.std.proofs.Common.{◌≡◌, ◌≢◌, ℕ, ◌+◌, ◌<◌, ◌≤◌, min, List, sym, subst, inl, inr, arith}
 use Rattle.std.specs.Prelude.{Contains}
 use Rattle.std.proofs.lemmas.Bool.{cases_eq}
-use Rattle.distances.specs.declared.elimination.Near.{Near}
-use Rattle.distances.specs.declared.elimination.TheConstants.{FAR}
+use Rattle.distances.specs.declared.near_nodes.Near.{Near}
+use Rattle.distances.specs.declared.weights.TheConstants.{FAR}
 use Rattle.distances.specs.NodesLeftOut.{AreLengths, GoesOn, KeepsLengths, IsLeftOut, make_near}
 
 module _ (n : ℕ) (d : ℕ → ℕ → ℕ) (lengths : AreLengths n d) (old new : ℕ → Type 0) (v : ℕ)

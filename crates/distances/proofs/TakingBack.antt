@@ -1,14 +1,15 @@
 -- Taking back the nodes that were left out, the last one first.
-use Rattle.std.proofs.Common.{◌≡◌, ◌≢◌, ℕ, ◌+◌, ◌*◌, ◌<◌, ◌≤◌, List, Some, [], ◌∷◌, ◌++◌, length, get_or, set, take, replicate, refl, sym, ◌∙◌, ap, subst, inl, inr, arith}
-use Rattle.std.specs.Prelude.{All, Contains}
+use Rattle.std.proofs.Common.{◌≡◌, ◌≢◌, ℕ, ◌+◌, ◌*◌, ◌<◌, ◌≤◌, List, Some, Ok, Err, Result, [], ◌∷◌, ◌++◌, length, get_or, set, take, replicate, refl, sym, ◌∙◌, ap, subst, inl, inr, arith}
+use Rattle.std.specs.Prelude.{All, Contains, OnOk}
+use Rattle.std.specs.declared.alloc.AllocError.{AllocError}
 use Rattle.std.proofs.lemmas.List.{length-set, get_or-set_same, get_or-set_other, get_or-replicate, length-replicate, same_from_push, length-append, get_or_default, take_at}
 use Rattle.std.proofs.lemmas.List.Elements.{All-nil, All-pop, All-push, All-same, Contains-append_left, Contains-push}
 use Rattle.std.proofs.lemmas.Bool.{cases_eq}
-use Rattle.distances.specs.declared.elimination.Near.{Near}
+use Rattle.distances.specs.declared.near_nodes.Near.{Near}
 use Rattle.distances.specs.declared.elimination.LeftOut.{LeftOut}
-use Rattle.distances.specs.declared.elimination.TheConstants.{FAR}
+use Rattle.distances.specs.declared.weights.TheConstants.{FAR}
 use Rattle.distances.specs.Lowering.{Among, IsLowered, IsWithin, IsNodeWritten, RowOffer, cell_at}
-use Rattle.distances.specs.NodesLeftOut.{AreLengths, AreLeftOut, IsFilled, IsFresh, IsLeftOut, IsLeftOutWithin, make_near}
+use Rattle.distances.specs.NodesLeftOut.{AreAllLeftOut, AreLengths, AreLeftOut, IsEliminated, IsFilled, IsFresh, IsLeftOut, IsLeftOutWithin, IsTakenBack, make_near}
 use Rattle.distances.specs.NodesLeftOut.AreLeftOut.{none, more}
 
 -- what taking back nodes keeps: the fresh ones are back, and their cells are lengths
@@ -176,42 +177,33 @@ module _ (n width : ℕ) (all : List LeftOut) (left_out earlier : List LeftOut) 
   pub left_out_within : IsLeftOutWithin n s
   left_out_within = (All-pop (IsLeftOutWithin n) left_out earlier (Some s) is so_far.within).1
 
-  module _ (near : List Near) (near_is : near ≡ s.near.items) where
-    pub near_fits : All (IsWithin n) near
-    near_fits = subst (λ xs. All (IsWithin n) xs) (sym near_is) left_out_within.near
+  module _ (mine table : List ℕ) (taken : IsTakenBack n width s back mine old table) where
+    mine_light : (x : ℕ) → x < n → get_or mine x 0 ≤ FAR
+    mine_light x below = elim (cases_eq x s.node) [
+      | inl same ↦
+          let zero_there : get_or (set taken.folded s.node 0) s.node 0 ≡ 0 =
+          get_or-set_same taken.folded s.node 0 0
+          (omega (arith, taken.lowered.count, length-replicate n FAR, left_out_within.node)) in
+          let here : get_or mine x 0 ≡ 0 = ap (λ xs. get_or xs x 0) taken.zeroed
+          ∙ ap (λ i. get_or (set taken.folded s.node 0) i 0) same ∙ zero_there in
+          omega arith
+      | inr other ↦
+          let here : get_or mine x 0 ≡ get_or taken.folded x 0 = ap (λ xs. get_or xs x 0) taken.zeroed
+          ∙ get_or-set_other taken.folded s.node x 0 0 other in
+          omega (arith, taken.lowered.falls x, get_or-replicate n x FAR 0 below)
+    ]
 
-    module _ (folded more mine table : List ℕ) (k : ℕ) (count : length folded ≡ k)
-        (lowered : IsLowered (Among near (RowOffer n width old)) (replicate n FAR) folded)
-        (mine_is : mine ≡ set (take k (folded ++ more)) s.node 0) (known more_back : List ℕ) (known_is : known ≡ back)
-        (written : IsNodeWritten n width s.node known mine old table) (pushed : more_back ≡ back ++ s.node ∷ []) where
-      zeroed : mine ≡ set folded s.node 0
-      zeroed = mine_is ∙ ap (λ xs. set xs s.node 0) (take_at folded more k count)
+    pub fill_next : IsFilling n width all earlier (back ++ s.node ∷ []) table
+    fill_next = fill_step n width all left_out earlier s is back old so_far taken.folded mine table taken.lowered
+        taken.zeroed taken.written
+        (written_light n width s.node back mine old table taken.written so_far.light mine_light)
 
-      mine_light : (x : ℕ) → x < n → get_or mine x 0 ≤ FAR
-      mine_light x below = elim (cases_eq x s.node) [
-        | inl same ↦
-            let zero_there : get_or (set folded s.node 0) s.node 0 ≡ 0 =
-            get_or-set_same folded s.node 0 0 (omega (arith, lowered.count, length-replicate n FAR, left_out_within.node))
-            in
-            let here : get_or mine x 0 ≡ 0 = ap (λ xs. get_or xs x 0) zeroed
-            ∙ ap (λ i. get_or (set folded s.node 0) i 0) same ∙ zero_there in
-            omega arith
-        | inr other ↦
-            let here : get_or mine x 0 ≡ get_or folded x 0 = ap (λ xs. get_or xs x 0) zeroed
-            ∙ get_or-set_other folded s.node x 0 0 other in
-            omega (arith, lowered.falls x, get_or-replicate n x FAR 0 below)
-      ]
-
-      pub fill_next : IsFilling n width all earlier more_back table
-      fill_next =
-          let written_here : IsNodeWritten n width s.node back mine old table =
-          subst (λ xs. IsNodeWritten n width s.node xs mine old table) known_is written in
-          subst (λ xs. IsFilling n width all earlier xs table) (sym pushed)
-          (fill_step n width all left_out earlier s is back old so_far folded mine table
-          (subst (λ xs. IsLowered (Among xs (RowOffer n width old)) (replicate n FAR) folded) near_is lowered) zeroed
-          written_here
-          (written_light n width s.node back mine old table written_here so_far.light mine_light))
-
-      pub row_kept : length (set (take k (folded ++ more)) s.node 0) ≡ n
-      row_kept = sym (ap length mine_is) ∙ ap length zeroed ∙ length-set folded s.node 0 ∙ lowered.count
-          ∙ length-replicate n FAR
+-- out and back
+pub both_ways : (n width : ℕ) (first table : List ℕ) (left_out : List LeftOut) (r : Result (Unit {0}) AllocError)
+    → AreAllLeftOut n width first left_out → OnOk r (IsFilled n width left_out table)
+    → OnOk r (IsEliminated n width first table)
+both_ways n width first table left_out (Ok x) all filled = record {
+  count = filled.count;
+  each = λ d lengths keeps. filled.each d lengths (all.holds d lengths keeps) all.all;
+}
+both_ways n width first table left_out (Err e) all filled = tt

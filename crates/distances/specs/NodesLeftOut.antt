@@ -2,14 +2,15 @@
 -- on `Table` alone, and proofs/ joins the two. `c` are the weights in a table, `d` the lengths of
 -- least walks, and `left` says which nodes are left.
 -- Key laws: `leave_out_all` leaves out all nodes of a first table (`AreAllLeftOut`), and
--- `take_back_all` fills the table with the lengths that those near to each tell (`IsFilled`).
-use Rattle.std.specs.Prelude.{◌≡◌, ◌≢◌, ◌⊎◌, ℕ, ◌+◌, ◌*◌, ◌<◌, ◌≤◌, List, [], ◌∷◌, ◌++◌, All, Contains, length}
-use Rattle.distances.specs.declared.elimination.Near.{Near}
+-- `take_back_all` fills the table with the lengths that those near to each tell (`IsFilled`); both
+-- together are `eliminate` (`IsEliminated`).
+use Rattle.std.specs.Prelude.{◌≡◌, ◌≢◌, ◌⊎◌, ℕ, ◌+◌, ◌*◌, ◌<◌, ◌≤◌, List, [], ◌∷◌, ◌++◌, All, Contains, length, replicate, slice_set}
+use Rattle.distances.specs.declared.near_nodes.Near.{Near}
 use Rattle.distances.specs.declared.elimination.LeftOut.{LeftOut}
-use Rattle.distances.specs.declared.elimination.TheConstants.{FAR}
+use Rattle.distances.specs.declared.weights.TheConstants.{FAR}
 use Rattle.net_graph.specs.Walks.{IsLeastWeight, Joins, everywhere}
 use Rattle.net_graph.specs.Network.{Network}
-use Rattle.distances.specs.Lowering.{IsWithin, cell_at}
+use Rattle.distances.specs.Lowering.{Among, IsLowered, IsNodeWritten, IsWithin, RowOffer, cell_at}
 
 -- d are the least weights of walks between the nodes of the network
 abbrev pub AreLeast : Network → (ℕ → ℕ → ℕ) → Type 0
@@ -81,6 +82,21 @@ pub record IsFilled (n width : ℕ) (left_out : List LeftOut) (table : List ℕ)
   pub count : length table ≡ n * width
   pub each : (d : ℕ → ℕ → ℕ) → AreLengths n d → AreLeftOut n d left_out
       → ((x : ℕ) → IsFresh n left_out x → ⊥)
+      → (a b : ℕ) → a < n → b < n → cell_at width table a b ≡ d a b
+
+-- a node is taken back: its row and column have the least weights through the nodes near it, and none
+-- to itself
+pub record IsTakenBack (n width : ℕ) (one : LeftOut) (back mine old new : List ℕ) : Type 0 where
+  pub folded : List ℕ
+  pub lowered : IsLowered (Among one.near.items (RowOffer n width old)) (replicate n FAR) folded
+  pub zeroed : mine ≡ slice_set folded one.node 0
+  pub written : IsNodeWritten n width one.node back mine old new
+
+-- the table has the lengths that a first table's weights make up
+pub record IsEliminated (n width : ℕ) (first table : List ℕ) : Type 0 where
+  pub count : length table ≡ n * width
+  pub each : (d : ℕ → ℕ → ℕ) → AreLengths n d
+      → KeepsLengths (λ x. x < n) (cell_at width first) d
       → (a b : ℕ) → a < n → b < n → cell_at width table a b ≡ d a b
 
 -- the table has the least weights of edges, FAR where there is none
