@@ -33,15 +33,6 @@ arcs_step n width u edges arcs old mid new are so_far lowered =
     ))
     (λ i w (v, below, joined, at). (make_arc v w, are.whole v w joined, (at, refl))) lowered)
 
-pub arcs_step_taken : (n width u k : ℕ) (edges : List Edge) (arcs : List Arc) (old mid new more : List ℕ)
-    → AreArcsOf n edges u arcs
-    → IsLowered (Below u (EdgeOffer edges n width)) old mid → IsLowered (Among arcs (ArcOffer width u)) mid new
-    → length new ≡ k
-    → IsLowered (Below (u + 1) (EdgeOffer edges n width)) old (take k (new ++ more))
-arcs_step_taken n width u k edges arcs old mid new more are so_far lowered count =
-    subst (λ xs. IsLowered (Below (u + 1) (EdgeOffer edges n width)) old xs) (sym (take_at new more k count))
-    (arcs_step n width u edges arcs old mid new are so_far lowered)
-
 pub no_arcs : (n width : ℕ) (edges : List Edge) (old : List ℕ) → IsLowered (Below 0 (EdgeOffer edges n width)) old old
 no_arcs n width edges old = lowered_none (Below 0 (EdgeOffer edges n width)) old
     (λ i w (u, below, offered). omega arith)

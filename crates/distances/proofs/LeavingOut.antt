@@ -1,12 +1,13 @@
 -- Leaving out all nodes, one after another.
-use Rattle.std.proofs.Common.{◌≡◌, ◌≢◌, ◌⊎◌, ℕ, ◌+◌, ◌-◌, ◌*◌, ◌<◌, ◌≤◌, Bool, true, false, min, List, Some, [], ◌∷◌, ◌++◌, length, get_or, set, replicate, refl, sym, ◌∙◌, ap, subst, inl, inr, arith}
+use Rattle.std.proofs.Common.{◌≡◌, ◌≢◌, ◌⊎◌, ℕ, ◌+◌, ◌-◌, ◌*◌, ◌<◌, ◌≤◌, Bool, true, false, cond, min, List, Some, [], ◌∷◌, ◌++◌, length, get_or, set, replicate, refl, sym, ◌∙◌, ap, subst, inl, inr, arith}
 use Rattle.std.specs.Prelude.{All, Contains}
 use Rattle.std.proofs.lemmas.List.{length-set, get_or-set_same, get_or-set_other, get_or_past, get_or-replicate, length-replicate}
 use Rattle.std.proofs.lemmas.List.Elements.{All-nil, All-pop, All-push, All-contains, All-weaker}
 use Rattle.std.proofs.lemmas.Bool.{cases_eq, cases_lt}
 use Rattle.std.proofs.lemmas.Nat.{same_from_place, row_fits}
 use Rattle.std.proofs.lemmas.List.Edits.{length-between, get_or-between}
-use Rattle.std.specs.List.{between}
+use Rattle.std.proofs.lemmas.List.Sums.{sum_by-set}
+use Rattle.std.specs.List.{between, sum_by}
 use Rattle.net_graph.specs.Walks.{among}
 use Rattle.distances.specs.declared.near_nodes.Near.{Near}
 use Rattle.distances.specs.declared.elimination.LeftOut.{LeftOut}
@@ -277,3 +278,13 @@ leaving_next n width wide first left left_out later old table v s near so_far v_
 pub none_left_in : (left : List Bool) → ((x : ℕ) → x < length left → among left x ≡ true → ⊥)
     → (x : ℕ) → among left x ≡ true → ⊥
 none_left_in left none_there x h = none_there x (v_in left x h) h
+
+-- one node fewer is left
+pub fewer_left : (left : List Bool) (v : ℕ) → among left v ≡ true
+    → sum_by (λ is_left. cond is_left 1 0) (set left v false) < sum_by (λ is_left. cond is_left 1 0) left
+fewer_left left v v_left =
+    let weight : Bool → ℕ = λ is_left. cond is_left 1 0 in
+    let one : weight (get_or left v false) ≡ 1 = ap weight v_left in
+    let moved : sum_by weight (set left v false) + weight (get_or left v false) ≡ sum_by weight left + 0 =
+    sum_by-set weight left v false false (v_in left v v_left) in
+    omega arith

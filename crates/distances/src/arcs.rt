@@ -1,6 +1,6 @@
 //! What elimination begins with: the weights of a network's arcs, and how many each node has.
 
-ghost use Rattle.std.specs.Prelude.{◌≡◌, ◌+◌, ◌*◌, ◌<◌, ◌≤◌, All, IfOk, length};
+ghost use Rattle.std.specs.Prelude.{◌≡◌, ◌+◌, ◌*◌, ◌<◌, ◌≤◌, All, IfOk, length, replicate};
 ghost use Rattle.net_graph.specs.declared.edge.TheConstants.{MAX_NODES};
 ghost use Rattle.net_graph.specs.Layout.{IsArc};
 ghost use Rattle.distances.specs.NodesLeftOut.{IsFirstTable};
@@ -25,6 +25,19 @@ fn lower_to_arcs(table: &mut [u32], n: usize, width: usize, u: usize, arcs: &[Ar
     }
 }
 
+// Lowers the cells of all arcs of a network to their weights.
+fn lower_to_all_arcs(table: &mut [u32], graph: &Graph, width: usize)
+    requires wide { graph.now.nodes ≤ width }
+    requires narrow { width ≤ 2048 }
+    requires far { table.old ≡ replicate (graph.now.nodes * width) FAR }
+    ensures { IsFirstTable graph.now width table.new }
+{
+    let n = graph.nodes() as usize;
+    for u in 0..n {
+        lower_to_arcs(table, n, width, u, graph.arcs_of(u as u32));
+    }
+}
+
 // The least weights of the edges between each two nodes, `FAR` where there is none.
 pub(crate) fn first_table(
     alloc: Global,
@@ -35,11 +48,8 @@ pub(crate) fn first_table(
     requires narrow { width ≤ 2048 }
     ensures { IfOk result (λ table. IsFirstTable graph.now width table.items) }
 {
-    let n = graph.nodes() as usize;
-    let mut table = vec![in alloc; FAR; n * width]?;
-    for u in 0..n {
-        lower_to_arcs(&mut table, n, width, u, graph.arcs_of(u as u32));
-    }
+    let mut table = vec![in alloc; FAR; graph.nodes() as usize * width]?;
+    lower_to_all_arcs(&mut table, graph, width);
     Ok(table)
 }
 

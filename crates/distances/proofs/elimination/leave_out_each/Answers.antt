@@ -1,5 +1,5 @@
-use Rattle.std.proofs.Common.{refl}
-use Rattle.distances.proofs.LeavingOut.{none_left_in, leaving_begins, leaving_ends, leaving_next, row_ends}
+use Rattle.std.proofs.Common.{refl, ◌∙◌}
+use Rattle.distances.proofs.LeavingOut.{fewer_left, none_left_in, leaving_begins, leaving_ends, leaving_next, row_ends}
 use Rattle.distances.proofs.elimination.leave_out_each.Goals as goal
 
 pub loop-node-init : goal.loop-node-init
@@ -23,3 +23,15 @@ pub slice_bounds-near_of-end : goal.slice_bounds-near_of-end
 slice_bounds-near_of-end c =
     row_ends c.args.n c.args.width c.requires.wide c.args.table.now c.loop-node.left c.loop-node.left_out.items
     c.loop-node.table c.loop-node.invariant c.in-Some.node c.in-Some.ensures.1
+
+pub loop-node-smaller : goal.loop-node-smaller
+loop-node-smaller c = fewer_left c.loop-node.left c.in-Some.node c.in-Some.ensures.1
+
+pub lower_pairs-requires-clause-light : goal.lower_pairs-requires-clause-light
+lower_pairs-requires-clause-light c = c.loop-node.invariant.light
+
+pub lower_pairs-requires-clause-width : goal.lower_pairs-requires-clause-width
+lower_pairs-requires-clause-width c = c.loop-node.auto.mine ∙ c.requires.mine
+
+pub lower_pairs-requires-clause-degrees : goal.lower_pairs-requires-clause-degrees
+lower_pairs-requires-clause-degrees c = c.loop-node.auto.degrees ∙ c.requires.degrees
