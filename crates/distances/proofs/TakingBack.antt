@@ -1,14 +1,14 @@
 -- Taking back the nodes that were left out, the last one first.
-use Rattle.std.proofs.Common.{◌≡◌, ◌≢◌, ℕ, ◌+◌, ◌*◌, ◌<◌, ◌≤◌, List, Some, Ok, Err, Result, [], ◌∷◌, ◌++◌, length, get_or, set, take, replicate, refl, sym, ◌∙◌, ap, subst, inl, inr, arith}
+use Rattle.std.proofs.Common.{◌≡◌, ◌≢◌, ℕ, ◌+◌, ◌*◌, ◌<◌, ◌≤◌, List, Some, Ok, Err, Result, [], ◌∷◌, ◌++◌, length, get_or, set, replicate, refl, sym, ◌∙◌, ap, subst, inl, inr, arith}
 use Rattle.std.specs.Prelude.{All, Contains, OnOk}
 use Rattle.std.specs.declared.alloc.AllocError.{AllocError}
-use Rattle.std.proofs.lemmas.List.{length-set, get_or-set_same, get_or-set_other, get_or-replicate, length-replicate, same_from_push, length-append, get_or_default, take_at}
+use Rattle.std.proofs.lemmas.List.{get_or-set_same, get_or-set_other, get_or-replicate, length-replicate, same_from_push, length-append, get_or_default}
 use Rattle.std.proofs.lemmas.List.Elements.{All-nil, All-pop, All-push, All-same, Contains-append_left, Contains-push}
 use Rattle.std.proofs.lemmas.Bool.{cases_eq}
 use Rattle.distances.specs.declared.near_nodes.Near.{Near}
 use Rattle.distances.specs.declared.elimination.LeftOut.{LeftOut}
 use Rattle.distances.specs.declared.weights.TheConstants.{FAR}
-use Rattle.distances.specs.Lowering.{Among, IsLowered, IsWithin, IsNodeWritten, RowOffer, cell_at}
+use Rattle.distances.specs.Lowering.{Among, IsLowered, IsNodeWritten, RowOffer, cell_at}
 use Rattle.distances.specs.NodesLeftOut.{AreAllLeftOut, AreLengths, AreLeftOut, IsEliminated, IsFilled, IsFresh, IsLeftOut, IsLeftOutWithin, IsTakenBack, make_near}
 use Rattle.distances.specs.NodesLeftOut.AreLeftOut.{none, more}
 

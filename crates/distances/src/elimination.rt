@@ -1,7 +1,7 @@
 //! All distances by elimination: the nodes are left out one after another, and taken back in the
 //! opposite order.
 
-ghost use Rattle.std.specs.Prelude.{◌≡◌, ◌+◌, ◌*◌, ◌<◌, ◌≤◌, ◌⊎◌, All, IfOk, OnOk, IfSome, length, replicate, true};
+ghost use Rattle.std.specs.Prelude.{◌≡◌, [], ◌+◌, ◌*◌, ◌<◌, ◌≤◌, ◌⊎◌, All, IfOk, OnOk, IfSome, length, replicate, true};
 ghost use Rattle.net_graph.specs.declared.edge.TheConstants.{MAX_NODES};
 ghost use Rattle.distances.specs.Remaining.{IsLeftBelow};
 ghost use Rattle.distances.specs.NodesLeftOut.{AreAllLeftOut, IsEliminated, IsFilled, IsLeftOutWithin, IsTakenBack};
@@ -144,12 +144,38 @@ fn take_back(
 }
 
 // Takes back the nodes that were left out, the last one first.
+fn take_back_each(
+    table: &mut [u32],
+    n: usize,
+    width: usize,
+    mut left_out: Vec<LeftOut>,
+    back: &mut Vec<usize>,
+    mine: &mut [u32],
+) -> Result<(), AllocError>
+    requires few { n ≤ MAX_NODES }
+    requires wide { n ≤ width }
+    requires narrow { width ≤ 2048 }
+    requires count { length table.old ≡ n * width }
+    requires light { All (λ w. w ≤ FAR) table.old }
+    requires left_out { All (IsLeftOutWithin n) left_out.items }
+    requires back { back.old.items ≡ [] }
+    requires mine { length mine.old ≡ n }
+    ensures { OnOk result (IsFilled n width left_out.items table.new) }
+{
+    while let Some(last) = left_out.pop() {
+        take_back(table, n, width, &last, back, mine);
+        back.push(last.node)?;
+    }
+    Ok(())
+}
+
+// Takes back all nodes.
 fn take_back_all(
     alloc: Global,
     table: &mut [u32],
     n: usize,
     width: usize,
-    mut left_out: Vec<LeftOut>,
+    left_out: Vec<LeftOut>,
 ) -> Result<(), AllocError>
     requires few { n ≤ MAX_NODES }
     requires wide { n ≤ width }
@@ -161,11 +187,7 @@ fn take_back_all(
 {
     let mut mine = vec![in alloc; FAR; n]?;
     let mut back = Vec::with_capacity(alloc, n)?;
-    while let Some(last) = left_out.pop() {
-        take_back(table, n, width, &last, &back, &mut mine);
-        back.push(last.node)?;
-    }
-    Ok(())
+    take_back_each(table, n, width, left_out, &mut back, &mut mine)
 }
 
 // Leaves out all nodes of a first table, and takes them back.
