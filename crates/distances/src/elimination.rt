@@ -30,7 +30,9 @@ fn lesser(best: Option<usize>, node: usize, degrees: &[usize]) -> usize
     }
 }
 
-// A node of least degree among those that are left.
+// A node of least degree among those that are left. It is apart from what leaves nodes out, so that
+// its loop stays short.
+#[inline(never)]
 fn least_left(left: &[bool], degrees: &[usize]) -> Option<usize>
     requires { length left.now ≡ length degrees.now }
     ensures { IsLeftBelow (length left.now) left.now result }
