@@ -5,7 +5,7 @@ use Rattle.net_graph.specs.Walks.{IsLeastWeight, everywhere}
 use Rattle.net_graph.specs.LeastWeights.{LeastWeightsAreBounded, LeastWeightsAreFound, least_weight}
 use Rattle.net_graph.specs.Network.{Network, IsNetwork}
 use Rattle.node_set.specs.BallLaws.{get_or-map_centres, length-map_centres}
-use Rattle.distances.specs.Stages.{AreLeast}
+use Rattle.distances.specs.NodesLeftOut.{AreLeast}
 use Rattle.distances.specs.Table.{AreDistancesOf, IsMetric, NetworksHaveDistances, dist, table_of}
 use Rattle.distances.proofs.Lengths.{bounded, least_there, lengths}
 

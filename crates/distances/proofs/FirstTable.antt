@@ -11,14 +11,12 @@ use Rattle.net_graph.specs.LeastWeights.{LeastWeightsAreBounded, LeastWeightsAre
 use Rattle.net_graph.specs.Network.{Network, IsNetwork}
 use Rattle.net_graph.specs.Layout.{AreArcsOf, IsArc, make_arc}
 use Rattle.net_graph.specs.WalkLaws.{join_turned}
-use Rattle.distances.specs.declared.elimination.LeftOut.{LeftOut}
-use Rattle.distances.specs.declared.elimination.TheConstants.{FAR}
+use Rattle.distances.specs.declared.weights.TheConstants.{FAR}
 use Rattle.distances.specs.Lowering.{Among, ArcOffer, Below, EdgeOffer, IsLowered, cell_at}
-use Rattle.distances.specs.Rows.{AreClosed}
-use Rattle.distances.specs.Stages.{AreLeast, IsFilled, IsFirstTable, AreAllStages, KeepsLengths}
+use Rattle.distances.specs.Rows.{AreClosed, AreRowsOf}
+use Rattle.distances.specs.NodesLeftOut.{AreLeast, IsEliminated, IsFirstTable, KeepsLengths}
 use Rattle.distances.proofs.Lowered.{lowered_as, lowered_light, lowered_next, lowered_none}
 use Rattle.distances.proofs.Lengths.{begins, bounded, least_there, lengths, step_length}
-use Rattle.distances.proofs.Filling.{AreRowsOf}
 
 -- the arcs of one more node
 pub arcs_step : (n width u : ℕ) (edges : List Edge) (arcs : List Arc) (old mid new : List ℕ) → AreArcsOf n edges u arcs
@@ -34,15 +32,6 @@ arcs_step n width u edges arcs old mid new are so_far lowered =
       at,
     ))
     (λ i w (v, below, joined, at). (make_arc v w, are.whole v w joined, (at, refl))) lowered)
-
-pub arcs_step_taken : (n width u k : ℕ) (edges : List Edge) (arcs : List Arc) (old mid new more : List ℕ)
-    → AreArcsOf n edges u arcs
-    → IsLowered (Below u (EdgeOffer edges n width)) old mid → IsLowered (Among arcs (ArcOffer width u)) mid new
-    → length new ≡ k
-    → IsLowered (Below (u + 1) (EdgeOffer edges n width)) old (take k (new ++ more))
-arcs_step_taken n width u k edges arcs old mid new more are so_far lowered count =
-    subst (λ xs. IsLowered (Below (u + 1) (EdgeOffer edges n width)) old xs) (sym (take_at new more k count))
-    (arcs_step n width u edges arcs old mid new are so_far lowered)
 
 pub no_arcs : (n width : ℕ) (edges : List Edge) (old : List ℕ) → IsLowered (Below 0 (EdgeOffer edges n width)) old old
 no_arcs n width edges old = lowered_none (Below 0 (EdgeOffer edges n width)) old
@@ -103,18 +92,16 @@ module _ (network : Network) (sound : IsNetwork network) (width : ℕ) (wide : n
     }
 
 pub rows_of : LeastWeightsAreFound → LeastWeightsAreBounded → (network : Network) → IsNetwork network
-    → (width : ℕ) → network.nodes ≤ width → (first : List ℕ) (stages : List LeftOut) (rows table : List ℕ)
-    → IsFirstTable network width first → AreAllStages network.nodes width first stages
-    → IsFilled network.nodes width stages rows → AreClosed network.nodes width rows table
-    → AreRowsOf network network.nodes table
-rows_of least_of bounds network sound width wide first stages rows table is_first left_out_all filled closed =
+    → (width : ℕ) → network.nodes ≤ width → (first rows table : List ℕ)
+    → IsFirstTable network width first → IsEliminated network.nodes width first rows
+    → AreClosed network.nodes width rows table → AreRowsOf network table
+rows_of least_of bounds network sound width wide first rows table is_first eliminated closed =
     let d : ℕ → ℕ → ℕ = least_weight network everywhere in
     let least : AreLeast network d = least_there least_of network sound in
-    let lens = lengths bounds network sound d least in
-    let held = left_out_all.holds d lens (begun network sound width wide first is_first bounds d least) in
     let is : (a b : ℕ) → a < network.nodes → b < network.nodes → cell_at network.nodes table a b ≡ d a b =
     λ a b a_below b_below. closed.each a b a_below b_below
-    ∙ filled.each d lens held left_out_all.all a b a_below b_below in
+    ∙ eliminated.each d (lengths bounds network sound d least)
+    (begun network sound width wide first is_first bounds d least) a b a_below b_below in
     record {
       count = closed.count;
       each = λ a v a_below v_below.
@@ -128,21 +115,17 @@ rows_of least_of bounds network sound width wide first stages rows table is_firs
 -- the table as the code has it
 pub rows_made : LeastWeightsAreFound → LeastWeightsAreBounded → (network : Network) → IsNetwork network
     → (n : ℕ) → n ≡ network.nodes
-    → (width : ℕ) → n ≤ width → (first seen : List ℕ) (stages : List LeftOut) (filled more wide closed : List ℕ) (k : ℕ)
-    → IsFirstTable network width first → seen ≡ first → length seen ≡ k → AreAllStages n width seen stages
-    → IsFilled n width stages filled → wide ≡ take k (filled ++ more) → AreClosed n width wide closed
-    → AreRowsOf network network.nodes closed
-rows_made least_of bounds network sound n is_n width n_wide first seen stages filled more wide closed k is_first seen_is
-    count
-    left_out_all is_filled wide_is is_closed =
-    let stages_here : AreAllStages network.nodes width first stages =
-    subst (λ i. AreAllStages i width first stages) is_n (subst (λ xs. AreAllStages n width xs stages) seen_is
-    left_out_all) in
-    let filled_here : IsFilled network.nodes width stages filled =
-    subst (λ i. IsFilled i width stages filled) is_n is_filled in
-    let same : length filled ≡ k = filled_here.count ∙ sym is_first.count ∙ sym (ap length seen_is) ∙ count in
+    → (width : ℕ) → n ≤ width → (first seen filled more wide closed : List ℕ) (k : ℕ)
+    → IsFirstTable network width first → seen ≡ first → length seen ≡ k
+    → IsEliminated n width seen filled → wide ≡ take k (filled ++ more) → AreClosed n width wide closed
+    → AreRowsOf network closed
+rows_made least_of bounds network sound n is_n width n_wide first seen filled more wide closed k is_first seen_is
+    count eliminated wide_is is_closed =
+    let here : IsEliminated network.nodes width first filled =
+    subst (λ i. IsEliminated i width first filled) is_n (subst (λ xs. IsEliminated n width xs filled) seen_is
+    eliminated) in
+    let same : length filled ≡ k = here.count ∙ sym is_first.count ∙ sym (ap length seen_is) ∙ count in
     let rows_are : wide ≡ filled = wide_is ∙ take_at filled more k same in
-    rows_of least_of bounds network sound width (subst (λ i. i ≤ width) is_n n_wide) first stages filled closed is_first
-    stages_here filled_here
+    rows_of least_of bounds network sound width (subst (λ i. i ≤ width) is_n n_wide) first filled closed is_first here
     (subst (λ i. AreClosed i width filled closed) is_n
     (subst (λ xs. AreClosed n width xs closed) rows_are is_closed))

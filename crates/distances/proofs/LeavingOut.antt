@@ -1,35 +1,36 @@
 -- Leaving out all nodes, one after another.
-use Rattle.std.proofs.Common.{◌≡◌, ◌≢◌, ◌⊎◌, ℕ, ◌+◌, ◌-◌, ◌*◌, ◌<◌, ◌≤◌, Bool, true, false, min, List, Some, [], ◌∷◌, ◌++◌, length, get_or, set, replicate, refl, sym, ◌∙◌, ap, subst, inl, inr, arith}
+use Rattle.std.proofs.Common.{◌≡◌, ◌≢◌, ◌⊎◌, ℕ, ◌+◌, ◌-◌, ◌*◌, ◌<◌, ◌≤◌, Bool, true, false, cond, min, List, Some, [], ◌∷◌, ◌++◌, length, get_or, set, replicate, refl, sym, ◌∙◌, ap, subst, inl, inr, arith}
 use Rattle.std.specs.Prelude.{All, Contains}
 use Rattle.std.proofs.lemmas.List.{length-set, get_or-set_same, get_or-set_other, get_or_past, get_or-replicate, length-replicate}
 use Rattle.std.proofs.lemmas.List.Elements.{All-nil, All-pop, All-push, All-contains, All-weaker}
 use Rattle.std.proofs.lemmas.Bool.{cases_eq, cases_lt}
 use Rattle.std.proofs.lemmas.Nat.{same_from_place, row_fits}
 use Rattle.std.proofs.lemmas.List.Edits.{length-between, get_or-between}
-use Rattle.std.specs.List.{between}
+use Rattle.std.proofs.lemmas.List.Sums.{sum_by-set}
+use Rattle.std.specs.List.{between, sum_by}
 use Rattle.net_graph.specs.Walks.{among}
-use Rattle.distances.specs.declared.elimination.Near.{Near}
+use Rattle.distances.specs.declared.near_nodes.Near.{Near}
 use Rattle.distances.specs.declared.elimination.LeftOut.{LeftOut}
-use Rattle.distances.specs.declared.elimination.TheConstants.{FAR}
+use Rattle.distances.specs.declared.weights.TheConstants.{FAR}
 use Rattle.distances.specs.Lowering.{Among, AreNearBelow, IsLowered, IsWithin, PairOffer, cell_at}
-use Rattle.distances.specs.Stages.{AreLengths, AreStages, IsFresh, AreAllStages, KeepsLengths, IsStage, IsStageWithin, make_near}
-use Rattle.distances.specs.Stages.AreStages.{none, more}
-use Rattle.distances.proofs.OneLess.{left_out, stage}
+use Rattle.distances.specs.NodesLeftOut.{AreLengths, AreLeftOut, IsFresh, AreAllLeftOut, KeepsLengths, IsLeftOut, IsLeftOutWithin, make_near}
+use Rattle.distances.specs.NodesLeftOut.AreLeftOut.{none, more}
+use Rattle.distances.proofs.OneLess.{kept_without, is_left_out}
 use Rattle.distances.proofs.Lowered.{lowered_light}
 
 -- what leaving out nodes keeps
-pub record IsLeavingSome (n width : ℕ) (first : List ℕ) (left : List Bool) (stages : List LeftOut)
+pub record IsLeavingSome (n width : ℕ) (first : List ℕ) (left : List Bool) (left_out : List LeftOut)
     (table : List ℕ) : Type 0 where
   pub left_count : length left ≡ n
   pub count : length table ≡ n * width
   pub light : All (λ w. w ≤ FAR) table
-  pub within : All (IsStageWithin n) stages
-  pub left_is_fresh : (x : ℕ) → among left x ≡ true → IsFresh n stages x
-  pub fresh_is_left : (x : ℕ) → IsFresh n stages x → among left x ≡ true
+  pub within : All (IsLeftOutWithin n) left_out
+  pub left_is_fresh : (x : ℕ) → among left x ≡ true → IsFresh n left_out x
+  pub fresh_is_left : (x : ℕ) → IsFresh n left_out x → among left x ≡ true
   pub keeps : (d : ℕ → ℕ → ℕ) → AreLengths n d → KeepsLengths (λ x. x < n) (cell_at width first) d
       → KeepsLengths (λ x. among left x ≡ true) (cell_at width table) d
-  pub holds : (d : ℕ → ℕ → ℕ) → AreLengths n d → KeepsLengths (λ x. x < n) (cell_at width first) d → AreStages n d
-      stages
+  pub holds : (d : ℕ → ℕ → ℕ) → AreLengths n d → KeepsLengths (λ x. x < n) (cell_at width first) d → AreLeftOut n d
+      left_out
 
 least_is_min : (x c s : ℕ) → x ≤ c → x ≤ s → (x ≡ c) ⊎ (x ≡ s) → x ≡ min c s
 least_is_min x c s le_c le_s (inl e) = omega arith
@@ -45,10 +46,10 @@ keeps_as left other c d there back p = record {
       record { next = g.next; is_left = there g.next g.is_left; other = g.other; short = g.short };
 }
 
-stage_as : (left other : ℕ → Type 0) (d : ℕ → ℕ → ℕ) (v : ℕ) (near : List Near) → ((x : ℕ) → left x → other x)
+left_out_as : (left other : ℕ → Type 0) (d : ℕ → ℕ → ℕ) (v : ℕ) (near : List Near) → ((x : ℕ) → left x → other x)
     → ((x : ℕ) → other x → left x)
-    → IsStage left d v near → IsStage other d v near
-stage_as left other d v near there back p = record {
+    → IsLeftOut left d v near → IsLeftOut other d v near
+left_out_as left other d v near there back p = record {
   sound = λ x w is_near. let s = p.sound x w is_near in (there x s.0, s.1, s.2);
   leads_on = λ b b_other. p.leads_on b (back b b_other);
 }
@@ -131,8 +132,8 @@ module _ (n width : ℕ) (wide : n ≤ width) (v : ℕ) (new : ℕ → Type 0) (
       ])
 
 -- one more node is left out
-module _ (n width : ℕ) (wide : n ≤ width) (first : List ℕ) (left : List Bool) (stages : List LeftOut) (old : List ℕ)
-    (so_far : IsLeavingSome n width first left stages old)
+module _ (n width : ℕ) (wide : n ≤ width) (first : List ℕ) (left : List Bool) (left_out : List LeftOut) (old : List ℕ)
+    (so_far : IsLeavingSome n width first left left_out old)
     (v : ℕ) (v_left : among left v ≡ true) (row : List ℕ) (row_count : length row ≡ n)
     (is_row : (x : ℕ) → x < n → get_or row x 0 ≡ cell_at width old v x)
     (s : LeftOut) (s_node : s.node ≡ v)
@@ -148,31 +149,31 @@ module _ (n width : ℕ) (wide : n ≤ width) (first : List ℕ) (left : List Bo
     below_now : (x : ℕ) → among (set left v false) x ≡ true → x < n
     below_now x h = below x (fewer left v v_left x h).0
 
-    now_fresh : (x : ℕ) → among (set left v false) x ≡ true → IsFresh n (stages ++ s ∷ []) x
+    now_fresh : (x : ℕ) → among (set left v false) x ≡ true → IsFresh n (left_out ++ s ∷ []) x
     now_fresh x h =
         let f = fewer left v v_left x h in
         let was = so_far.left_is_fresh x f.0 in
-        (was.0, All-push (λ (t : LeftOut). t.node ≢ x) stages s was.1 (λ e. f.1 (sym e ∙ s_node)))
+        (was.0, All-push (λ (t : LeftOut). t.node ≢ x) left_out s was.1 (λ e. f.1 (sym e ∙ s_node)))
 
-    fresh_now : (x : ℕ) → IsFresh n (stages ++ s ∷ []) x → among (set left v false) x ≡ true
+    fresh_now : (x : ℕ) → IsFresh n (left_out ++ s ∷ []) x → among (set left v false) x ≡ true
     fresh_now x h =
-        let parts = All-pop (λ (t : LeftOut). t.node ≢ x) (stages ++ s ∷ []) stages (Some s) refl h.1 in
+        let parts = All-pop (λ (t : LeftOut). t.node ≢ x) (left_out ++ s ∷ []) left_out (Some s) refl h.1 in
         rest left v v_left x (so_far.fresh_is_left x (h.0, parts.0)) (λ e. parts.1 (s_node ∙ sym e))
 
     next_keeps : (d : ℕ → ℕ → ℕ) → AreLengths n d → KeepsLengths (λ x. x < n) (cell_at width first) d
         → KeepsLengths (λ x. among (set left v false) x ≡ true) (cell_at width table) d
     next_keeps d lengths begun =
-        left_out n d lengths (λ x. among left x ≡ true) (λ x. among (set left v false) x ≡ true) v below v_left
+        kept_without n d lengths (λ x. among left x ≡ true) (λ x. among (set left v false) x ≡ true) v below v_left
         (fewer left v v_left) (rest left v v_left) (cell_at width old) (cell_at width table)
         (so_far.keeps d lengths begun)
         (pairs_lowered n width wide v (λ x. among (set left v false) x ≡ true) row s.near.items old table below_now
         row_count
         is_row are_near so_far.count so_far.light lowered)
 
-    next_stage : (d : ℕ → ℕ → ℕ) → AreLengths n d → KeepsLengths (λ x. x < n) (cell_at width first) d
-        → IsStage (λ x. among (set left v false) x ≡ true) d v s.near.items
-    next_stage d lengths begun =
-        stage n d lengths (λ x. among left x ≡ true) (λ x. among (set left v false) x ≡ true) v below v_left
+    next_left_out : (d : ℕ → ℕ → ℕ) → AreLengths n d → KeepsLengths (λ x. x < n) (cell_at width first) d
+        → IsLeftOut (λ x. among (set left v false) x ≡ true) d v s.near.items
+    next_left_out d lengths begun =
+        is_left_out n d lengths (λ x. among left x ≡ true) (λ x. among (set left v false) x ≡ true) v below v_left
         (fewer left v v_left) (rest left v v_left) (cell_at width old) (cell_at width table)
         (so_far.keeps d lengths begun)
         s.near.items
@@ -183,13 +184,13 @@ module _ (n width : ℕ) (wide : n ≤ width) (first : List ℕ) (left : List Bo
         row_count is_row
         are_near)
 
-    pub leaving_step : IsLeavingSome n width first (set left v false) (stages ++ s ∷ []) table
+    pub leaving_step : IsLeavingSome n width first (set left v false) (left_out ++ s ∷ []) table
     leaving_step = record {
       left_count = length-set left v false ∙ so_far.left_count;
       count = lowered.count ∙ so_far.count;
       light = lowered_light (Among s.near.items (λ a. Among s.near.items (PairOffer width a))) old table FAR lowered
           so_far.light;
-      within = All-push (IsStageWithin n) stages s so_far.within (record {
+      within = All-push (IsLeftOutWithin n) left_out s so_far.within (record {
         node = subst (λ x. x < n) (sym s_node) (below v v_left);
         near = near_within n width wide v (λ x. among (set left v false) x ≡ true) row s.near.items old table below_now
             row_count
@@ -198,11 +199,11 @@ module _ (n width : ℕ) (wide : n ≤ width) (first : List ℕ) (left : List Bo
       left_is_fresh = now_fresh;
       fresh_is_left = fresh_now;
       keeps = next_keeps;
-      holds = λ d lengths begun. more stages s (stages ++ s ∷ []) refl (so_far.holds d lengths begun)
-          (stage_as (λ x. among (set left v false) x ≡ true) (IsFresh n (stages ++ s ∷ [])) d s.node s.near.items
+      holds = λ d lengths begun. more left_out s (left_out ++ s ∷ []) refl (so_far.holds d lengths begun)
+          (left_out_as (λ x. among (set left v false) x ≡ true) (IsFresh n (left_out ++ s ∷ [])) d s.node s.near.items
           now_fresh fresh_now
-          (subst (λ x. IsStage (λ x. among (set left v false) x ≡ true) d x s.near.items) (sym s_node)
-          (next_stage d lengths begun)));
+          (subst (λ x. IsLeftOut (λ x. among (set left v false) x ≡ true) d x s.near.items) (sym s_node)
+          (next_left_out d lengths begun)));
     }
 
 -- the beginning, and the end
@@ -212,7 +213,7 @@ leaving_begins n width first count light = record {
   left_count = length-replicate n true;
   count = count;
   light = light;
-  within = All-nil (IsStageWithin n);
+  within = All-nil (IsLeftOutWithin n);
   left_is_fresh = λ x h. (
     elim (cases_lt x n) [
       | inl below ↦ below
@@ -236,46 +237,54 @@ leaving_begins n width first count light = record {
   holds = λ d lengths begun. none;
 }
 
-pub leaving_ends : (n width : ℕ) (first : List ℕ) (left : List Bool) (stages : List LeftOut) (table : List ℕ)
-    → IsLeavingSome n width first left stages table
-    → ((x : ℕ) → among left x ≡ true → ⊥) → AreAllStages n width first stages
-leaving_ends n width first left stages table so_far none_left = record {
+pub leaving_ends : (n width : ℕ) (first : List ℕ) (left : List Bool) (left_out : List LeftOut) (table : List ℕ)
+    → IsLeavingSome n width first left left_out table
+    → ((x : ℕ) → among left x ≡ true → ⊥) → AreAllLeftOut n width first left_out
+leaving_ends n width first left left_out table so_far none_left = record {
   within = so_far.within;
   all = λ x fresh. none_left x (so_far.fresh_is_left x fresh);
   holds = so_far.holds;
 }
 
+-- the row of a node that is left ends in the table
+pub row_ends : (n width : ℕ) → n ≤ width → (first : List ℕ) (left : List Bool) (left_out : List LeftOut)
+    (table : List ℕ) → IsLeavingSome n width first left left_out table → (v : ℕ) → among left v ≡ true
+    → v * width + n ≤ length table
+row_ends n width wide first left left_out table so_far v v_left =
+    let v_below : v < n = (so_far.left_is_fresh v v_left).0 in
+    omega (arith, row_fits v width n width v_below (omega arith), so_far.count, wide)
+
 -- the step as the code has it
-pub leaving_next : (n width : ℕ) → n ≤ width → (first : List ℕ) (left seen next : List Bool)
-    (stages later : List LeftOut) (old table : List ℕ) (v : ℕ) (s : LeftOut) (near : List Near)
-    → IsLeavingSome n width first left stages old → seen ≡ left → (v < length seen) × (among seen v ≡ true) → s.node ≡ v
-    → next ≡ set left v false
+pub leaving_next : (n width : ℕ) → n ≤ width → (first : List ℕ) (left : List Bool)
+    (left_out later : List LeftOut) (old table : List ℕ) (v : ℕ) (s : LeftOut) (near : List Near)
+    → IsLeavingSome n width first left left_out old → (v < length left) × (among left v ≡ true) → s.node ≡ v
     → AreNearBelow (length (between (v * width) (v * width + n) old)) (between (v * width) (v * width + n) old)
-    (λ x. among next x ≡ true) s.near.items
+    (λ x. among (set left v false) x ≡ true) s.near.items
     → near ≡ s.near.items → IsLowered (Among near (λ a. Among near (PairOffer width a))) old table
-    → later ≡ stages ++ s ∷ []
+    → later ≡ left_out ++ s ∷ []
     → IsLeavingSome n width first (set left v false) later table
-leaving_next n width wide first left seen next stages later old table v s near so_far seen_is v_left s_node next_is
-    are_near
-    near_is lowered later_is =
-    let v_in_left : among left v ≡ true = subst (λ xs. among xs v ≡ true) seen_is v_left.1 in
-    let v_below : v < n = (so_far.left_is_fresh v v_in_left).0 in
+leaving_next n width wide first left left_out later old table v s near so_far v_left s_node are_near near_is lowered
+    later_is =
     let end_fits : v * width + n ≤ length old =
-    omega (arith, row_fits v width n width v_below (omega arith), so_far.count, wide) in
+    row_ends n width wide first left left_out old so_far v v_left.1 in
     subst (λ xs. IsLeavingSome n width first (set left v false) xs table) (sym later_is)
-    (leaving_step n width wide first left stages old so_far v v_in_left (between (v * width) (v * width + n) old)
+    (leaving_step n width wide first left left_out old so_far v v_left.1 (between (v * width) (v * width + n) old)
     (length-between old (v * width) (v * width + n) end_fits ∙ (let e : v * width + n - v * width ≡ n = omega arith in
     e))
     (λ x below. get_or-between old (v * width) (v * width + n) x 0 (omega arith))
-    s s_node
-    (subst (λ xs. AreNearBelow (length (between (v * width) (v * width + n) old))
-    (between (v * width) (v * width + n) old)
-    (λ x. among xs x ≡ true) s.near.items) next_is are_near)
-    table
+    s s_node are_near table
     (subst (λ xs. IsLowered (Among xs (λ a. Among xs (PairOffer width a))) old table) near_is lowered))
 
-pub none_left_in : (left seen : List Bool) → seen ≡ left → ((x : ℕ) → x < length seen → among seen x ≡ true → ⊥)
+pub none_left_in : (left : List Bool) → ((x : ℕ) → x < length left → among left x ≡ true → ⊥)
     → (x : ℕ) → among left x ≡ true → ⊥
-none_left_in left seen is none_seen x h =
-    let there : among seen x ≡ true = subst (λ xs. among xs x ≡ true) (sym is) h in
-    none_seen x (v_in seen x there) there
+none_left_in left none_there x h = none_there x (v_in left x h) h
+
+-- one node fewer is left
+pub fewer_left : (left : List Bool) (v : ℕ) → among left v ≡ true
+    → sum_by (λ is_left. cond is_left 1 0) (set left v false) < sum_by (λ is_left. cond is_left 1 0) left
+fewer_left left v v_left =
+    let weight : Bool → ℕ = λ is_left. cond is_left 1 0 in
+    let one : weight (get_or left v false) ≡ 1 = ap weight v_left in
+    let moved : sum_by weight (set left v false) + weight (get_or left v false) ≡ sum_by weight left + 0 =
+    sum_by-set weight left v false false (v_in left v v_left) in
+    omega arith

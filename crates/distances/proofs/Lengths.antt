@@ -7,7 +7,7 @@ use Rattle.net_graph.specs.Walks.{IsReached, Joins, Step, IsWalk, weight_of, eve
 use Rattle.net_graph.specs.LeastWeights.{LeastWeightsAreBounded, LeastWeightsAreFound, least_weight}
 use Rattle.net_graph.specs.Network.{Network, IsNetwork}
 use Rattle.net_graph.specs.WalkLaws.{join_edge, walk_turned, walk-append, least_weight_one, least_weight_back, triangle, least_positive}
-use Rattle.distances.specs.Stages.{AreLeast, AreLengths}
+use Rattle.distances.specs.NodesLeftOut.{AreLeast, AreLengths}
 
 -- ---- the lengths are there
 

@@ -2,9 +2,9 @@
 use Rattle.std.proofs.Common.{◌≡◌, ◌≢◌, ℕ, ◌+◌, ◌<◌, ◌≤◌, min, List, sym, subst, inl, inr, arith}
 use Rattle.std.specs.Prelude.{Contains}
 use Rattle.std.proofs.lemmas.Bool.{cases_eq}
-use Rattle.distances.specs.declared.elimination.Near.{Near}
-use Rattle.distances.specs.declared.elimination.TheConstants.{FAR}
-use Rattle.distances.specs.Stages.{AreLengths, GoesOn, KeepsLengths, IsStage, make_near}
+use Rattle.distances.specs.declared.near_nodes.Near.{Near}
+use Rattle.distances.specs.declared.weights.TheConstants.{FAR}
+use Rattle.distances.specs.NodesLeftOut.{AreLengths, GoesOn, KeepsLengths, IsLeftOut, make_near}
 
 module _ (n : ℕ) (d : ℕ → ℕ → ℕ) (lengths : AreLengths n d) (old new : ℕ → Type 0) (v : ℕ)
     (within : (x : ℕ) → old x → x < n) (v_old : old v)
@@ -28,8 +28,8 @@ module _ (n : ℕ) (d : ℕ → ℕ → ℕ) (lengths : AreLengths n d) (old new
               record { next = y; is_left = y_new; other = apart; short = omega arith }
         ]
 
-    pub left_out : KeepsLengths new e d
-    left_out = record {
+    pub kept_without : KeepsLengths new e d
+    kept_without = record {
       sound = λ a b a_new b_new.
           let a_old = fewer a a_new in
           let b_old = fewer b b_new in
@@ -75,8 +75,8 @@ module _ (n : ℕ) (d : ℕ → ℕ → ℕ) (lengths : AreLengths n d) (old new
   module _ (near : List Near)
       (sound : (x w : ℕ) → Contains near (make_near x w) → new x × (w ≡ c v x) × (w < FAR))
       (whole : (x : ℕ) → new x → c v x < FAR → Contains near (make_near x (c v x))) where
-    pub stage : IsStage new d v near
-    stage = record {
+    pub is_left_out : IsLeftOut new d v near
+    is_left_out = record {
       sound = λ x w is_near.
           let s = sound x w is_near in
           (s.0, omega (arith, s.1, keeps.sound v x v_old (fewer x s.0).0), s.2);

@@ -1,43 +1,44 @@
 -- Taking back the nodes that were left out, the last one first.
-use Rattle.std.proofs.Common.{◌≡◌, ◌≢◌, ℕ, ◌+◌, ◌*◌, ◌<◌, ◌≤◌, List, Some, [], ◌∷◌, ◌++◌, length, get_or, set, take, replicate, refl, sym, ◌∙◌, ap, subst, inl, inr, arith}
-use Rattle.std.specs.Prelude.{All, Contains}
-use Rattle.std.proofs.lemmas.List.{length-set, get_or-set_same, get_or-set_other, get_or-replicate, length-replicate, same_from_push, length-append, get_or_default, take_at}
+use Rattle.std.proofs.Common.{◌≡◌, ◌≢◌, ℕ, ◌+◌, ◌*◌, ◌<◌, ◌≤◌, List, Some, Ok, Err, Result, [], ◌∷◌, ◌++◌, length, get_or, set, replicate, refl, sym, ◌∙◌, ap, subst, inl, inr, arith}
+use Rattle.std.specs.Prelude.{All, Contains, OnOk}
+use Rattle.std.specs.declared.alloc.AllocError.{AllocError}
+use Rattle.std.proofs.lemmas.List.{get_or-set_same, get_or-set_other, get_or-replicate, length-replicate, same_from_push, length-append, get_or_default}
 use Rattle.std.proofs.lemmas.List.Elements.{All-nil, All-pop, All-push, All-same, Contains-append_left, Contains-push}
 use Rattle.std.proofs.lemmas.Bool.{cases_eq}
-use Rattle.distances.specs.declared.elimination.Near.{Near}
+use Rattle.distances.specs.declared.near_nodes.Near.{Near}
 use Rattle.distances.specs.declared.elimination.LeftOut.{LeftOut}
-use Rattle.distances.specs.declared.elimination.TheConstants.{FAR}
-use Rattle.distances.specs.Lowering.{Among, IsLowered, IsWithin, IsNodeWritten, RowOffer, cell_at}
-use Rattle.distances.specs.Stages.{AreLengths, AreStages, IsFilled, IsFresh, IsStage, IsStageWithin, make_near}
-use Rattle.distances.specs.Stages.AreStages.{none, more}
+use Rattle.distances.specs.declared.weights.TheConstants.{FAR}
+use Rattle.distances.specs.Lowering.{Among, IsLowered, IsNodeWritten, RowOffer, cell_at}
+use Rattle.distances.specs.NodesLeftOut.{AreAllLeftOut, AreLengths, AreLeftOut, IsEliminated, IsFilled, IsFresh, IsLeftOut, IsLeftOutWithin, IsTakenBack, make_near}
+use Rattle.distances.specs.NodesLeftOut.AreLeftOut.{none, more}
 
 -- what taking back nodes keeps: the fresh ones are back, and their cells are lengths
-pub record IsFilling (n width : ℕ) (all stages : List LeftOut) (back table : List ℕ) : Type 0 where
+pub record IsFilling (n width : ℕ) (all left_out : List LeftOut) (back table : List ℕ) : Type 0 where
   pub count : length table ≡ n * width
   pub light : All (λ w. w ≤ FAR) table
-  pub within : All (IsStageWithin n) stages
-  pub holds : (d : ℕ → ℕ → ℕ) → AreLengths n d → AreStages n d all → AreStages n d stages
-  pub fresh_is_back : ((x : ℕ) → IsFresh n all x → ⊥) → (x : ℕ) → IsFresh n stages x → Contains back x
+  pub within : All (IsLeftOutWithin n) left_out
+  pub holds : (d : ℕ → ℕ → ℕ) → AreLengths n d → AreLeftOut n d all → AreLeftOut n d left_out
+  pub fresh_is_back : ((x : ℕ) → IsFresh n all x → ⊥) → (x : ℕ) → IsFresh n left_out x → Contains back x
   pub back_within : All (λ x. x < n) back
-  pub lengths : (d : ℕ → ℕ → ℕ) → AreLengths n d → AreStages n d all → ((x : ℕ) → IsFresh n all x → ⊥)
-      → (a b : ℕ) → IsFresh n stages a → IsFresh n stages b → cell_at width table a b ≡ d a b
+  pub lengths : (d : ℕ → ℕ → ℕ) → AreLengths n d → AreLeftOut n d all → ((x : ℕ) → IsFresh n all x → ⊥)
+      → (a b : ℕ) → IsFresh n left_out a → IsFresh n left_out b → cell_at width table a b ≡ d a b
 
--- the last of the stages
-last_stage : (n : ℕ) (d : ℕ → ℕ → ℕ) (earlier : List LeftOut) (s : LeftOut) (stages : List LeftOut)
-    → AreStages n d stages → stages ≡ earlier ++ s ∷ []
-    → AreStages n d earlier × IsStage (IsFresh n stages) d s.node s.near.items
-last_stage n d earlier s _ none is = absurd
+-- the last that was left out
+last_left_out : (n : ℕ) (d : ℕ → ℕ → ℕ) (earlier : List LeftOut) (s : LeftOut) (left_out : List LeftOut)
+    → AreLeftOut n d left_out → left_out ≡ earlier ++ s ∷ []
+    → AreLeftOut n d earlier × IsLeftOut (IsFresh n left_out) d s.node s.near.items
+last_left_out n d earlier s _ none is = absurd
     (let e : 0 ≡ length (earlier ++ s ∷ []) = ap length is in omega (arith, length-append earlier (s ∷ [])))
-last_stage n d earlier s stages (more other t _ same before holds) is =
+last_left_out n d earlier s left_out (more other t _ same before holds) is =
     let e = same_from_push other earlier t s (sym same ∙ is) in (
-      subst (λ xs. AreStages n d xs) e.0 before,
-      subst (λ (x : LeftOut). IsStage (IsFresh n stages) d x.node x.near.items) e.1 holds,
+      subst (λ xs. AreLeftOut n d xs) e.0 before,
+      subst (λ (x : LeftOut). IsLeftOut (IsFresh n left_out) d x.node x.near.items) e.1 holds,
     )
 
 -- the row of a node that is taken back
 module _ (n width : ℕ) (d : ℕ → ℕ → ℕ) (lengths : AreLengths n d) (fresh : ℕ → Type 0) (v : ℕ) (near : List Near)
     (v_below : v < n)
-    (within : (x : ℕ) → fresh x → x < n) (holds : IsStage fresh d v near)
+    (within : (x : ℕ) → fresh x → x < n) (holds : IsLeftOut fresh d v near)
     (table mine : List ℕ) (known : (a b : ℕ) → fresh a → fresh b → cell_at width table a b ≡ d a b)
     (lowered : IsLowered (Among near (RowOffer n width table)) (replicate n FAR) mine) where
   row_known : (b : ℕ) → fresh b → get_or mine b 0 ≡ d v b
@@ -68,14 +69,14 @@ module _ (n width : ℕ) (d : ℕ → ℕ → ℕ) (lengths : AreLengths n d) (f
       omega (arith, known on.node b by.0 b_fresh, on.short)
 
 -- one more node is back
-module _ (n width : ℕ) (all : List LeftOut) (stages earlier : List LeftOut) (s : LeftOut)
-    (is : stages ≡ earlier ++ s ∷ []) (back old : List ℕ)
-    (so_far : IsFilling n width all stages back old) (folded mine table : List ℕ)
+module _ (n width : ℕ) (all : List LeftOut) (left_out earlier : List LeftOut) (s : LeftOut)
+    (is : left_out ≡ earlier ++ s ∷ []) (back old : List ℕ)
+    (so_far : IsFilling n width all left_out back old) (folded mine table : List ℕ)
     (lowered : IsLowered (Among s.near.items (RowOffer n width old)) (replicate n FAR) folded)
     (zeroed : mine ≡ set folded s.node 0)
     (written : IsNodeWritten n width s.node back mine old table) (light : All (λ w. w ≤ FAR) table) where
-  parts : All (IsStageWithin n) earlier × IsStageWithin n s
-  parts = All-pop (IsStageWithin n) stages earlier (Some s) is so_far.within
+  parts : All (IsLeftOutWithin n) earlier × IsLeftOutWithin n s
+  parts = All-pop (IsLeftOutWithin n) left_out earlier (Some s) is so_far.within
 
   at_node : get_or mine s.node 0 ≡ 0
   at_node = ap (λ xs. get_or xs s.node 0) zeroed
@@ -84,20 +85,20 @@ module _ (n width : ℕ) (all : List LeftOut) (stages earlier : List LeftOut) (s
   at_other : (x : ℕ) → x ≢ s.node → get_or mine x 0 ≡ get_or folded x 0
   at_other x other = ap (λ xs. get_or xs x 0) zeroed ∙ get_or-set_other folded s.node x 0 0 other
 
-  still : (x : ℕ) → IsFresh n earlier x → x ≢ s.node → IsFresh n stages x
+  still : (x : ℕ) → IsFresh n earlier x → x ≢ s.node → IsFresh n left_out x
   still x fresh other = (
     fresh.0,
-    All-same (λ (t : LeftOut). t.node ≢ x) stages (earlier ++ s ∷ []) is
+    All-same (λ (t : LeftOut). t.node ≢ x) left_out (earlier ++ s ∷ []) is
         (All-push (λ (t : LeftOut). t.node ≢ x) earlier s fresh.1 (λ e. other (sym e))),
   )
 
-  module _ (d : ℕ → ℕ → ℕ) (lengths : AreLengths n d) (begun : AreStages n d all)
+  module _ (d : ℕ → ℕ → ℕ) (lengths : AreLengths n d) (begun : AreLeftOut n d all)
       (none_fresh : (x : ℕ) → IsFresh n all x → ⊥) where
     from_node : (b : ℕ) → IsFresh n earlier b → b ≢ s.node → get_or mine b 0 ≡ d s.node b
     from_node b fresh other =
         at_other b other
-        ∙ row_known n width d lengths (IsFresh n stages) s.node s.near.items parts.1.node (λ x h. h.0)
-        (last_stage n d earlier s stages (so_far.holds d lengths begun) is).1 old folded
+        ∙ row_known n width d lengths (IsFresh n left_out) s.node s.near.items parts.1.node (λ x h. h.0)
+        (last_left_out n d earlier s left_out (so_far.holds d lengths begun) is).1 old folded
         (so_far.lengths d lengths begun none_fresh) lowered
         b (still b fresh other)
 
@@ -129,7 +130,7 @@ module _ (n width : ℕ) (all : List LeftOut) (stages earlier : List LeftOut) (s
     count = written.count ∙ so_far.count;
     light = light;
     within = parts.0;
-    holds = λ d lengths begun. (last_stage n d earlier s stages (so_far.holds d lengths begun) is).0;
+    holds = λ d lengths begun. (last_left_out n d earlier s left_out (so_far.holds d lengths begun) is).0;
     fresh_is_back = next_back;
     back_within = All-push (λ x. x < n) back s.node so_far.back_within parts.1.node;
     lengths = next_lengths;
@@ -137,7 +138,7 @@ module _ (n width : ℕ) (all : List LeftOut) (stages earlier : List LeftOut) (s
 
 pub fill_begins : (n width : ℕ) (all : List LeftOut) (table : List ℕ) → length table ≡ n * width → All (λ w. w ≤ FAR)
     table
-    → All (IsStageWithin n) all
+    → All (IsLeftOutWithin n) all
     → IsFilling n width all all [] table
 fill_begins n width all table count light within = record {
   count = count;
@@ -149,9 +150,9 @@ fill_begins n width all table count light within = record {
   lengths = λ d lengths begun none_fresh a b a_fresh b_fresh. absurd (none_fresh a a_fresh);
 }
 
-pub fill_ends : (n width : ℕ) (all stages : List LeftOut) (back table : List ℕ)
-    → IsFilling n width all stages back table → stages ≡ [] → IsFilled n width all table
-fill_ends n width all stages back table so_far done = record {
+pub fill_ends : (n width : ℕ) (all left_out : List LeftOut) (back table : List ℕ)
+    → IsFilling n width all left_out back table → left_out ≡ [] → IsFilled n width all table
+fill_ends n width all left_out back table so_far done = record {
   count = so_far.count;
   each = λ d lengths begun none_fresh a b a_below b_below.
       so_far.lengths d lengths begun none_fresh a b
@@ -170,48 +171,39 @@ written_light n width v back mine old table written light mine_light i d i_below
     ])
 
 -- the step as the code has it
-module _ (n width : ℕ) (all : List LeftOut) (stages earlier : List LeftOut) (s : LeftOut)
-    (is : stages ≡ earlier ++ s ∷ []) (back old : List ℕ)
-    (so_far : IsFilling n width all stages back old) where
-  pub stage_within : IsStageWithin n s
-  stage_within = (All-pop (IsStageWithin n) stages earlier (Some s) is so_far.within).1
+module _ (n width : ℕ) (all : List LeftOut) (left_out earlier : List LeftOut) (s : LeftOut)
+    (is : left_out ≡ earlier ++ s ∷ []) (back old : List ℕ)
+    (so_far : IsFilling n width all left_out back old) where
+  pub left_out_within : IsLeftOutWithin n s
+  left_out_within = (All-pop (IsLeftOutWithin n) left_out earlier (Some s) is so_far.within).1
 
-  module _ (near : List Near) (near_is : near ≡ s.near.items) where
-    pub near_fits : All (IsWithin n) near
-    near_fits = subst (λ xs. All (IsWithin n) xs) (sym near_is) stage_within.near
+  module _ (mine table : List ℕ) (taken : IsTakenBack n width s back mine old table) where
+    mine_light : (x : ℕ) → x < n → get_or mine x 0 ≤ FAR
+    mine_light x below = elim (cases_eq x s.node) [
+      | inl same ↦
+          let zero_there : get_or (set taken.folded s.node 0) s.node 0 ≡ 0 =
+          get_or-set_same taken.folded s.node 0 0
+          (omega (arith, taken.lowered.count, length-replicate n FAR, left_out_within.node)) in
+          let here : get_or mine x 0 ≡ 0 = ap (λ xs. get_or xs x 0) taken.zeroed
+          ∙ ap (λ i. get_or (set taken.folded s.node 0) i 0) same ∙ zero_there in
+          omega arith
+      | inr other ↦
+          let here : get_or mine x 0 ≡ get_or taken.folded x 0 = ap (λ xs. get_or xs x 0) taken.zeroed
+          ∙ get_or-set_other taken.folded s.node x 0 0 other in
+          omega (arith, taken.lowered.falls x, get_or-replicate n x FAR 0 below)
+    ]
 
-    module _ (folded more mine table : List ℕ) (k : ℕ) (count : length folded ≡ k)
-        (lowered : IsLowered (Among near (RowOffer n width old)) (replicate n FAR) folded)
-        (mine_is : mine ≡ set (take k (folded ++ more)) s.node 0) (known more_back : List ℕ) (known_is : known ≡ back)
-        (written : IsNodeWritten n width s.node known mine old table) (pushed : more_back ≡ back ++ s.node ∷ []) where
-      zeroed : mine ≡ set folded s.node 0
-      zeroed = mine_is ∙ ap (λ xs. set xs s.node 0) (take_at folded more k count)
+    pub fill_next : IsFilling n width all earlier (back ++ s.node ∷ []) table
+    fill_next = fill_step n width all left_out earlier s is back old so_far taken.folded mine table taken.lowered
+        taken.zeroed taken.written
+        (written_light n width s.node back mine old table taken.written so_far.light mine_light)
 
-      mine_light : (x : ℕ) → x < n → get_or mine x 0 ≤ FAR
-      mine_light x below = elim (cases_eq x s.node) [
-        | inl same ↦
-            let zero_there : get_or (set folded s.node 0) s.node 0 ≡ 0 =
-            get_or-set_same folded s.node 0 0 (omega (arith, lowered.count, length-replicate n FAR, stage_within.node))
-            in
-            let here : get_or mine x 0 ≡ 0 = ap (λ xs. get_or xs x 0) zeroed
-            ∙ ap (λ i. get_or (set folded s.node 0) i 0) same ∙ zero_there in
-            omega arith
-        | inr other ↦
-            let here : get_or mine x 0 ≡ get_or folded x 0 = ap (λ xs. get_or xs x 0) zeroed
-            ∙ get_or-set_other folded s.node x 0 0 other in
-            omega (arith, lowered.falls x, get_or-replicate n x FAR 0 below)
-      ]
-
-      pub fill_next : IsFilling n width all earlier more_back table
-      fill_next =
-          let written_here : IsNodeWritten n width s.node back mine old table =
-          subst (λ xs. IsNodeWritten n width s.node xs mine old table) known_is written in
-          subst (λ xs. IsFilling n width all earlier xs table) (sym pushed)
-          (fill_step n width all stages earlier s is back old so_far folded mine table
-          (subst (λ xs. IsLowered (Among xs (RowOffer n width old)) (replicate n FAR) folded) near_is lowered) zeroed
-          written_here
-          (written_light n width s.node back mine old table written_here so_far.light mine_light))
-
-      pub row_kept : length (set (take k (folded ++ more)) s.node 0) ≡ n
-      row_kept = sym (ap length mine_is) ∙ ap length zeroed ∙ length-set folded s.node 0 ∙ lowered.count
-          ∙ length-replicate n FAR
+-- out and back
+pub both_ways : (n width : ℕ) (first table : List ℕ) (left_out : List LeftOut) (r : Result (Unit {0}) AllocError)
+    → AreAllLeftOut n width first left_out → OnOk r (IsFilled n width left_out table)
+    → OnOk r (IsEliminated n width first table)
+both_ways n width first table left_out (Ok x) all filled = record {
+  count = filled.count;
+  each = λ d lengths keeps. filled.each d lengths (all.holds d lengths keeps) all.all;
+}
+both_ways n width first table left_out (Err e) all filled = tt

@@ -1,9 +1,11 @@
 //! The table of all distances.
 
 ghost use Rattle.std.specs.Prelude.{◌≡◌, ◌+◌, ◌*◌, ◌<◌, ◌^◌, ◌++◌, ℕ, All, Contains, IfOk, OnOk, length, map};
+ghost use Rattle.distances.specs.Rows.{AreRowsOf};
 ghost use Rattle.distances.specs.Table.{AreDistancesOf, IsDiameter, IsMetric, IsRowOf, ball_of, dist};
 
-use crate::elimination::{degrees_of, first_table, leave_out_all, take_back_all};
+use crate::arcs::{degrees_of, first_table};
+use crate::elimination::eliminate;
 use crate::rows::{close_rows, width_for};
 use net_graph::{
     Graph, OutOfMemory, greatest_weight, least_weight_is_bounded, least_weight_is_found,
@@ -33,6 +35,21 @@ impl Model for Distances {
         d.diameter };
 }
 
+// The distances between each two nodes of a network, row by row.
+fn all_distances(alloc: Global, graph: &Graph) -> Result<Vec<u32>, OutOfMemory>
+    ensures { IfOk result (λ table. AreRowsOf graph.now table.items) }
+{
+    least_weight_is_bounded();
+    least_weight_is_found();
+    let n = graph.nodes() as usize;
+    let width = width_for(n);
+    let mut table = first_table(alloc, graph, width)?;
+    let mut degrees = degrees_of(alloc, graph)?;
+    eliminate(alloc, &mut table, n, width, &mut degrees)?;
+    close_rows(&mut table, n, width);
+    Ok(table)
+}
+
 impl Distances {
     /// The distances of a network. Nodes are eliminated one after another, one with the fewest
     /// neighbours first: of those that are left, each two neighbours of it are joined by the sum of
@@ -41,19 +58,10 @@ impl Distances {
     pub fn new(alloc: Global, graph: &Graph) -> Result<Self, OutOfMemory>
         ensures { IfOk result (AreDistancesOf graph.now) }
     {
-        least_weight_is_bounded();
-        least_weight_is_found();
-        let nodes = graph.nodes();
-        let n = nodes as usize;
-        let width = width_for(n);
-        let mut table = first_table(alloc, graph, width)?;
-        let mut degrees = degrees_of(alloc, graph)?;
-        let stages = leave_out_all(alloc, &mut table, n, width, &mut degrees)?;
-        take_back_all(alloc, &mut table, n, width, stages)?;
-        close_rows(&mut table, n, width);
+        let table = all_distances(alloc, graph)?;
         let diameter = greatest_weight(&table);
         Ok(Distances {
-            nodes,
+            nodes: graph.nodes(),
             table: Arc::new(alloc, table)?,
             diameter,
         })

@@ -21,7 +21,9 @@ pub(crate) fn width_for(n: usize) -> usize
     }
 }
 
-// Moves the rows together, and leaves out what is behind them.
+// Moves the rows together, and leaves out what is behind them. Drawn into its caller, it would copy
+// two cells at once, and not eight.
+#[inline(never)]
 pub(crate) fn close_rows(table: &mut Vec<u32>, n: usize, width: usize)
     requires few { n ≤ MAX_NODES }
     requires wide { n ≤ width }

@@ -1,6 +1,6 @@
 use Rattle.std.proofs.Common.{◌≡◌, length, ◌+◌, ◌*◌, ◌-◌, arith}
 use Rattle.std.proofs.lemmas.Nat.{mul-le, row_fits}
-use Rattle.distances.proofs.Closing.{closing_step}
+use Rattle.distances.proofs.Closing.{closing_ends, closing_step}
 use Rattle.distances.proofs.rows.close_rows.Goals as goal
 
 pub copy_within-requires-clause-in_bounds : goal.copy_within-requires-clause-in_bounds
@@ -28,3 +28,7 @@ loop-u-preserved c =
     (let e : length c.copy_within.new.self.items ≡ length c.loop-u.table.items =
     omega (arith, c.copy_within.ensures.len) in e) c.copy_within.ensures.by_index.0 c.copy_within.ensures.by_index.1
     c.copy_within.ensures.by_index.2
+
+pub returns : goal.returns
+returns c = closing_ends c.args.n c.args.width c.loop-u.u c.args.table.now.items c.loop-u.table.items
+    c.truncate.new.self.items c.requires.wide c.loop-u-test.false c.loop-u.invariant c.truncate.ensures.items

@@ -1,0 +1,37 @@
+use Rattle.std.proofs.Common.{refl, ◌∙◌}
+use Rattle.distances.proofs.LeavingOut.{fewer_left, none_left_in, leaving_begins, leaving_ends, leaving_next, row_ends}
+use Rattle.distances.proofs.elimination.leave_out_each.Goals as goal
+
+pub loop-node-init : goal.loop-node-init
+loop-node-init c =
+    rw (c.requires.left, c.in_ok-left_out.ensures.items)
+    (leaving_begins c.args.n c.args.width c.args.table.now c.requires.count c.requires.light)
+
+pub loop-node-preserved : goal.loop-node-preserved
+loop-node-preserved c =
+    leaving_next c.args.n c.args.width c.requires.wide c.args.table.now c.loop-node.left c.loop-node.left_out.items
+    c.push.new.self.items c.loop-node.table c.lower_pairs.new.table c.in-Some.node
+    (record { node = c.in-Some.node; near = c.in_ok-near.near }) c.deref.result.now c.loop-node.invariant
+    c.in-Some.ensures refl c.in_ok-near.ensures c.deref.ensures.value c.lower_pairs.ensures c.in_ok-push.ensures.items
+
+pub returns-clause-left_out : goal.returns-clause-left_out
+returns-clause-left_out c =
+    leaving_ends c.args.n c.args.width c.args.table.now c.loop-node.left c.loop-node.left_out.items c.loop-node.table
+    c.loop-node.invariant (none_left_in c.loop-node.left c.in_default.ensures)
+
+pub slice_bounds-near_of-end : goal.slice_bounds-near_of-end
+slice_bounds-near_of-end c =
+    row_ends c.args.n c.args.width c.requires.wide c.args.table.now c.loop-node.left c.loop-node.left_out.items
+    c.loop-node.table c.loop-node.invariant c.in-Some.node c.in-Some.ensures.1
+
+pub loop-node-smaller : goal.loop-node-smaller
+loop-node-smaller c = fewer_left c.loop-node.left c.in-Some.node c.in-Some.ensures.1
+
+pub lower_pairs-requires-clause-light : goal.lower_pairs-requires-clause-light
+lower_pairs-requires-clause-light c = c.loop-node.invariant.light
+
+pub lower_pairs-requires-clause-width : goal.lower_pairs-requires-clause-width
+lower_pairs-requires-clause-width c = c.loop-node.auto.mine ∙ c.requires.mine
+
+pub lower_pairs-requires-clause-degrees : goal.lower_pairs-requires-clause-degrees
+lower_pairs-requires-clause-degrees c = c.loop-node.auto.degrees ∙ c.requires.degrees

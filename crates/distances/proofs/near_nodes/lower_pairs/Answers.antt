@@ -1,0 +1,38 @@
+use Rattle.std.proofs.Common.{ℕ, List, get_or, replicate, take, subst, sym, arith}
+use Rattle.distances.specs.declared.weights.TheConstants.{FAR}
+use Rattle.distances.specs.declared.near_nodes.Near.{Near}
+use Rattle.distances.specs.Lowering.{Among, IsLowered, OwnOffer, PairOffer}
+use Rattle.distances.proofs.Lowered.{lowered_all, lowered_light, lowered_more}
+use Rattle.distances.proofs.near_nodes.lower_pairs.Goals as goal
+use Rattle.distances.proofs.near_nodes.lower_pairs.Goals.{then-by_row, else-by_row, then-by_row-2, else-by_row-2}
+
+pub loop-a-preserved : goal.loop-a-preserved
+loop-a-preserved c =
+    let a : Near = get_or c.args.near.now c.loop-a.a-index (record { node = 0; weight = 0 }) in
+    lowered_more (λ a. Among c.args.near.now (PairOffer c.args.width a)) c.args.near.now c.loop-a.a-index
+    (record { node = 0; weight = 0 })
+    c.args.table.now c.loop-a.table c.if-by_row-2.table c.loop-a-test.true c.loop-a.invariant
+    (elim c.if-by_row-2.branch [
+      | then-by_row-2 w ↦ subst (λ (xs : List ℕ). IsLowered (Among c.args.near.now (PairOffer c.args.width a))
+          c.loop-a.table xs) (sym w.table-is) w.lower_whole_row.ensures
+      | else-by_row-2 w ↦ subst (λ (xs : List ℕ). IsLowered (Among c.args.near.now (PairOffer c.args.width a))
+          c.loop-a.table xs) (sym w.table-is) w.lower_row.ensures
+    ])
+
+pub lower_whole_row-requires-clause-light : goal.lower_whole_row-requires-clause-light
+lower_whole_row-requires-clause-light c =
+    lowered_light (Among (take c.loop-a.a-index c.args.near.now) (λ a. Among c.args.near.now (PairOffer c.args.width a)))
+    c.args.table.now c.loop-a.table FAR c.loop-a.invariant c.requires.light
+
+pub returns : goal.returns
+returns c = lowered_all (λ a. Among c.args.near.now (PairOffer c.args.width a)) c.args.near.now c.loop-a.a-index
+    c.args.table.now c.loop-a.table c.loop-a-test.false c.loop-a.invariant
+
+pub lower_whole_row-requires-clause-mine : goal.lower_whole_row-requires-clause-mine
+lower_whole_row-requires-clause-mine c = elim c.if-by_row.branch [
+  | then-by_row w ↦ subst (λ (xs : List ℕ). IsLowered (Among c.args.near.now OwnOffer) (replicate c.args.n FAR) xs)
+      (sym w.mine-is)
+      (subst (λ (k : ℕ). IsLowered (Among c.args.near.now OwnOffer) (replicate k FAR) w.spread.new.weights)
+      c.requires.width w.spread.ensures)
+  | else-by_row w ↦ absurd (omega (arith, w.if-by_row.false, c.if-by_row-2.true))
+]
