@@ -1,8 +1,8 @@
 -- Clusters in flat lists, as they are pushed.
 use Rattle.std.proofs.Common.{◌≡◌, ◌<◌, ◌≤◌, ℕ, suc, ◌+◌, ◌-◌, true, List, [], ◌∷◌, ◌++◌, get_or, length, refl, subst, sym}
-use Rattle.std.proofs.Common.{◌∙◌, ap, arith}
+use Rattle.std.proofs.Common.{◌∙◌, ap, arith, drop}
 use Rattle.std.specs.Prelude.{All, Contains, slice_range}
-use Rattle.std.proofs.lemmas.List.{length-append, map_push, take_all}
+use Rattle.std.proofs.lemmas.List.{get_or-map, length-append, length-drop, length-map, length-take, map_push, take_all}
 use Rattle.std.proofs.lemmas.List.Elements.{All-push}
 use Rattle.node_set.specs.Ascending.{IsAscending}
 use Rattle.node_set.specs.Balls.{centres}
@@ -16,10 +16,46 @@ use Rattle.region_plan.specs.Laid.{AreLaid, IsLaid, IsPushed, cluster_under, clu
 use Rattle.distances.specs.Table.{AreDistancesOf, DistanceTable, IsMetric, IsRowOf}
 use Rattle.region_plan.specs.Flat.{IsWholeAlone}
 use Rattle.region_plan.specs.Kept.{IsSpanned}
-use Rattle.region_plan.specs.Plan.{PlanCluster}
+use Rattle.region_plan.specs.Plan.{PlanCluster, cluster_in, no_cluster}
 use Rattle.region_plan.specs.declared.clusters.ClusterHead.{ClusterHead}
 use Rattle.region_plan.specs.declared.clusters.ClusterLists.{ClusterLists}
 use Rattle.region_plan.proofs.Making.{range_new, range_old, row_is, whole_is}
+
+-- ---- a cluster as it is read
+
+pub head_short : (lists : ClusterLists) (clusters : List PlanCluster) (c : ℕ) → clusters_of_lists lists ≡ clusters
+    → c < length clusters → c < length lists.heads.items
+head_short lists clusters c view below =
+    omega (
+      arith,
+      subst (λ (cs : List PlanCluster). c < length cs) (sym view) below,
+      length-map lists.heads.items (cluster_under lists.nodes.items lists.weights.items),
+    )
+
+module _ (lists : ClusterLists) (clusters : List PlanCluster) (c : ℕ) (head : ClusterHead) (laid : AreLaid lists)
+    (view : clusters_of_lists lists ≡ clusters) (below : c < length clusters)
+    (at : head ≡ get_or lists.heads.items c head) where
+  pub head_laid : IsLaid lists.nodes.items head
+  head_laid = subst (λ (h : ClusterHead). IsLaid lists.nodes.items h) (sym at)
+      (laid.each c head (head_short lists clusters c view below))
+
+  pub head_read : cluster_under lists.nodes.items lists.weights.items head ≡ cluster_in clusters c
+  head_read = ap (cluster_under lists.nodes.items lists.weights.items) at
+      ∙ sym (get_or-map (cluster_under lists.nodes.items lists.weights.items) lists.heads.items c head no_cluster
+      (head_short lists clusters c view below))
+      ∙ ap (λ (cs : List PlanCluster). cluster_in cs c) view
+
+  pub head_count : length (slice_range lists.weights.items head.start head.end) ≡ length (cluster_in clusters c).members
+  head_count =
+      omega (
+        arith,
+        ap (λ (k : PlanCluster). length k.members) head_read,
+        length-take (head.end - head.start) (drop head.start lists.weights.items),
+        length-take (head.end - head.start) (drop head.start lists.nodes.items),
+        length-drop head.start lists.weights.items,
+        length-drop head.start lists.nodes.items,
+        laid.count,
+      )
 
 -- ---- a cluster more
 
