@@ -1,14 +1,16 @@
 -- The flat plan is matched.
-use Rattle.std.proofs.Common.{◌≡◌, ℕ, ◌^◌, ◌<◌, ◌≤◌, true, cond, List, [], ◌∷◌, get_or, refl, sym, ◌∙◌, ap, subst}
+use Rattle.std.proofs.Common.{◌≡◌, ℕ, ◌^◌, ◌<◌, ◌≤◌, true, cond, List, [], ◌∷◌, get_or, length, refl, sym, ◌∙◌, ap, subst}
 use Rattle.std.proofs.Common.{arith, ◌*◌}
 use Rattle.node_set.specs.Ascending.{has, sift}
-use Rattle.distances.specs.Table.{dist, IsMetric}
+use Rattle.distances.specs.Table.{AreDistancesOf, DistanceTable, dist, IsMetric}
 use Rattle.net_graph.specs.Network.{Network}
 use Rattle.cluster_tree.specs.Tree.{weight_beside}
-use Rattle.region_plan.specs.Plan.{PlanData, nodes_of, levels_of, top_of, distance, level_at, cluster_in, cluster_at}
+use Rattle.region_plan.specs.Plan.{Level, PlanData, nodes_of, levels_of, top_of, distance, level_at, level_in}
+use Rattle.region_plan.specs.Plan.{cluster_in, cluster_at}
 use Rattle.region_plan.specs.Plan.{clusters_of, members_of, home, readers, leader, inside}
 use Rattle.region_plan.specs.Regions.{clusters_with}
-use Rattle.region_plan.specs.Flat.{IsFlat}
+use Rattle.region_plan.specs.Flat.{IsFlat, IsFlatLevel}
+use Rattle.region_plan.specs.Kept.{plan_with}
 use Rattle.region_plan.specs.Matched.{IsMatched, IsWithinReach}
 use Rattle.node_set.specs.Balls.{centres}
 use Rattle.node_set.specs.BallLaws.{has_centre, below_centre, get_or-map_centres}
@@ -101,3 +103,15 @@ module _ (network : Network) (plan : PlanData) (flat : IsFlat network plan) wher
         flat.level.exponent.greatest.greatest 0 v (omega arith) below,
         flat.level.exponent.enough,
       ))) c) i
+
+-- the plan of one flat level
+pub flat_made : (network : Network) (table copy : DistanceTable) (levels : List Level) → AreDistancesOf network table
+    → copy ≡ table → length levels ≡ 1 → IsFlatLevel table (level_in levels 0)
+    → IsFlat network (plan_with 1 1 copy levels)
+flat_made network table copy levels belongs same one level = record {
+  distances = subst (λ (t : DistanceTable). AreDistancesOf network t) (sym same) belongs;
+  trade_off = refl;
+  reach = refl;
+  one = one;
+  level = subst (λ (t : DistanceTable). IsFlatLevel t (level_in levels 0)) (sym same) level;
+}

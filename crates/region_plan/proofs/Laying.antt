@@ -1,17 +1,61 @@
 -- Clusters in flat lists, as they are pushed.
-use Rattle.std.proofs.Common.{◌≡◌, ℕ, suc, ◌+◌, ◌-◌, List, [], ◌∷◌, ◌++◌, get_or, length, refl, subst, sym, ◌∙◌, ap, arith}
-use Rattle.std.specs.Prelude.{All, slice_range}
-use Rattle.std.proofs.lemmas.List.{length-append, map_push, take_all}
+use Rattle.std.proofs.Common.{◌≡◌, ◌<◌, ◌≤◌, ℕ, suc, ◌+◌, ◌-◌, true, List, [], ◌∷◌, ◌++◌, get_or, length, refl, subst, sym}
+use Rattle.std.proofs.Common.{◌∙◌, ap, arith, drop}
+use Rattle.std.specs.Prelude.{All, Contains, slice_range}
+use Rattle.std.proofs.lemmas.List.{get_or-map, length-append, length-drop, length-map, length-take, map_push, take_all}
 use Rattle.std.proofs.lemmas.List.Elements.{All-push}
 use Rattle.node_set.specs.Ascending.{IsAscending}
+use Rattle.node_set.specs.Balls.{centres}
+use Rattle.node_set.specs.BallLaws.{length-centres}
+use Rattle.node_set.specs.Nodes.{AreNodes}
+use Rattle.node_set.specs.SetLaws.{ascending-passing, below-has}
 use Rattle.net_graph.specs.Network.{Network}
 use Rattle.cluster_tree.specs.Inside.{AreWeightsWritten}
 use Rattle.coarse_cover.specs.declared.cover.Cluster.{Cluster}
 use Rattle.region_plan.specs.Laid.{AreLaid, IsLaid, IsPushed, cluster_under, clusters_of_lists, clusters_over}
-use Rattle.region_plan.specs.Plan.{PlanCluster}
+use Rattle.distances.specs.Table.{AreDistancesOf, DistanceTable, IsMetric, IsRowOf}
+use Rattle.region_plan.specs.Flat.{IsWholeAlone}
+use Rattle.region_plan.specs.Kept.{IsSpanned}
+use Rattle.region_plan.specs.Plan.{PlanCluster, cluster_in, no_cluster}
 use Rattle.region_plan.specs.declared.clusters.ClusterHead.{ClusterHead}
 use Rattle.region_plan.specs.declared.clusters.ClusterLists.{ClusterLists}
-use Rattle.region_plan.proofs.Making.{range_new, range_old, row_is}
+use Rattle.region_plan.proofs.Making.{range_new, range_old, row_is, whole_is}
+
+-- ---- a cluster as it is read
+
+pub head_short : (lists : ClusterLists) (clusters : List PlanCluster) (c : ℕ) → clusters_of_lists lists ≡ clusters
+    → c < length clusters → c < length lists.heads.items
+head_short lists clusters c view below =
+    omega (
+      arith,
+      subst (λ (cs : List PlanCluster). c < length cs) (sym view) below,
+      length-map lists.heads.items (cluster_under lists.nodes.items lists.weights.items),
+    )
+
+module _ (lists : ClusterLists) (clusters : List PlanCluster) (c : ℕ) (head : ClusterHead) (laid : AreLaid lists)
+    (view : clusters_of_lists lists ≡ clusters) (below : c < length clusters)
+    (at : head ≡ get_or lists.heads.items c head) where
+  pub head_laid : IsLaid lists.nodes.items head
+  head_laid = subst (λ (h : ClusterHead). IsLaid lists.nodes.items h) (sym at)
+      (laid.each c head (head_short lists clusters c view below))
+
+  pub head_read : cluster_under lists.nodes.items lists.weights.items head ≡ cluster_in clusters c
+  head_read = ap (cluster_under lists.nodes.items lists.weights.items) at
+      ∙ sym (get_or-map (cluster_under lists.nodes.items lists.weights.items) lists.heads.items c head no_cluster
+      (head_short lists clusters c view below))
+      ∙ ap (λ (cs : List PlanCluster). cluster_in cs c) view
+
+  pub head_count : length (slice_range lists.weights.items head.start head.end) ≡ length (cluster_in clusters c).members
+  head_count =
+      omega (
+        arith,
+        ap (λ (k : PlanCluster). length k.members) head_read,
+        length-take (head.end - head.start) (drop head.start lists.weights.items),
+        length-take (head.end - head.start) (drop head.start lists.nodes.items),
+        length-drop head.start lists.weights.items,
+        length-drop head.start lists.nodes.items,
+        laid.count,
+      )
 
 -- ---- a cluster more
 
@@ -118,8 +162,18 @@ module _ (old new : ClusterLists) (members weights : List ℕ) (leader phase dep
 
 -- ---- a cluster of a cover more
 
-module _ (network : Network) (made : Cluster) (old new : ClusterLists) (part : List ℕ) (start end depth : ℕ)
-    (laid : AreLaid old) (listed : part ≡ made.members.members)
+-- its leader is a node
+pub leader_below : (network : Network) (table : DistanceTable) (made : Cluster) → AreDistancesOf network table
+    → IsSpanned network made → AreNodes made.members → made.first < table.nodes
+leader_below network table made belongs spanned sound =
+    omega (
+      arith,
+      below-has made.members.room made.first made.members.members sound.below spanned.leads,
+      spanned.room,
+      belongs.nodes,
+    )
+
+module _ (network : Network) (made : Cluster) (old new : ClusterLists) (start end depth : ℕ) (laid : AreLaid old)
     (nodes_now : new.nodes.items ≡ old.nodes.items ++ made.members.members)
     (heads_now : new.heads.items ≡ old.heads.items ++ record {
       leader = made.first;
@@ -129,10 +183,7 @@ module _ (network : Network) (made : Cluster) (old new : ClusterLists) (part : L
       end = end;
     } ∷ [])
     (begins : start ≡ length old.nodes.items) (ends : end ≡ length new.nodes.items)
-    (written : AreWeightsWritten network part made.first old.weights.items new.weights.items depth) where
-  is : AreWeightsWritten network made.members.members made.first old.weights.items new.weights.items depth
-  is = subst (λ xs. AreWeightsWritten network xs made.first old.weights.items new.weights.items depth) listed written
-
+    (is : AreWeightsWritten network made.members.members made.first old.weights.items new.weights.items depth) where
   pub made_laid : IsAscending made.members.members → AreLaid new
   made_laid ascending =
       still_laid old new made.members.members is.weights made.first made.phase depth start end laid nodes_now
@@ -153,16 +204,21 @@ module _ (network : Network) (made : Cluster) (old new : ClusterLists) (part : L
         is.appended heads_now is.sound.count begins ends;
   }
 
--- ---- one cluster
+-- ---- the cluster of all nodes
 
-module _ (lists : ClusterLists) (depth end : ℕ)
+module _ (table : DistanceTable) (metric : IsMetric table) (lists : ClusterLists) (depth end : ℕ)
     (heads_now : lists.heads.items ≡ record { leader = 0; phase = 0; depth = depth; start = 0; end = end } ∷ [])
-    (ends : end ≡ length lists.nodes.items) (count : length lists.weights.items ≡ length lists.nodes.items) where
+    (all : lists.nodes.items ≡ centres table.nodes) (row : IsRowOf table 0 lists.weights.items)
+    (ends : end ≡ length lists.nodes.items) (bound : All (λ x. x ≤ depth) lists.weights.items)
+    (attained : 0 < length lists.weights.items → Contains lists.weights.items depth) where
+  count : length lists.weights.items ≡ length lists.nodes.items
+  count = row.count ∙ sym (ap (length {A = ℕ}) all ∙ length-centres table.nodes)
+
   whole_range : (xs : List ℕ) → length xs ≡ end → slice_range xs 0 end ≡ xs
   whole_range xs same = take_all (end - 0) xs (omega arith)
 
-  pub alone_laid : IsAscending lists.nodes.items → AreLaid lists
-  alone_laid ascending = record {
+  pub whole_laid : AreLaid lists
+  whole_laid = record {
     count = count;
     each = subst (λ (hs : List ClusterHead). All (IsLaid lists.nodes.items) hs) (sym heads_now)
         (All-push (IsLaid lists.nodes.items) [] (record { leader = 0; phase = 0; depth = depth; start = 0; end = end })
@@ -170,18 +226,19 @@ module _ (lists : ClusterLists) (depth end : ℕ)
         (record {
           order = omega arith;
           within = omega (arith, ends);
-          ascending = subst IsAscending (sym (whole_range lists.nodes.items (sym ends))) ascending;
+          ascending = subst IsAscending (sym (whole_range lists.nodes.items (sym ends) ∙ all))
+              (ascending-passing (λ x. true) 0 table.nodes);
         }));
   }
 
-  pub alone_read : clusters_of_lists lists ≡ record {
+  read : clusters_of_lists lists ≡ record {
     leader = 0;
     phase = 0;
     members = lists.nodes.items;
     weights = lists.weights.items;
     depth = depth;
   } ∷ []
-  alone_read =
+  read =
       ap (clusters_over lists.nodes.items lists.weights.items) heads_now
       ∙ ap (λ (xs : List ℕ). make xs (slice_range lists.weights.items 0 end) ∷ [])
       (whole_range lists.nodes.items (sym ends))
@@ -190,3 +247,16 @@ module _ (lists : ClusterLists) (depth end : ℕ)
     where
       make : List ℕ → List ℕ → PlanCluster
       make xs ws = record { leader = 0; phase = 0; members = xs; weights = ws; depth = depth }
+
+  pub whole_alone : IsWholeAlone table (clusters_of_lists lists)
+  whole_alone = record {
+    cluster = record {
+      leader = 0;
+      phase = 0;
+      members = lists.nodes.items;
+      weights = lists.weights.items;
+      depth = depth;
+    };
+    alone = read;
+    whole = whole_is table metric lists.weights.items depth lists.nodes.items all row bound attained;
+  }

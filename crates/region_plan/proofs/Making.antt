@@ -1,8 +1,7 @@
 -- The parts of a level, step by step.
 use Rattle.std.proofs.Common.{◌≡◌, ℕ, zero, suc, ◌+◌, ◌-◌, ◌<◌, ◌≤◌, true, cond, List, [], ◌∷◌, ◌++◌}
 use Rattle.std.proofs.Common.{length, map, take, drop, replicate, get_or, refl, sym, ◌∙◌, ap, subst, arith}
-use Rattle.std.specs.Prelude.{All, Contains, nat_le, slice_range}
-use Rattle.std.proofs.lemmas.Bool.{le-leb}
+use Rattle.std.specs.Prelude.{All, Contains, slice_range}
 use Rattle.std.proofs.lemmas.List.{map_push, length-append, length-drop, length-replicate}
 use Rattle.std.proofs.lemmas.List.{get_or_default}
 use Rattle.std.proofs.lemmas.List.{take_all, take-append-le}
@@ -10,9 +9,7 @@ use Rattle.std.proofs.lemmas.List.{drop-append-le, drop_all}
 use Rattle.net_graph.specs.Network.{Network}
 use Rattle.node_set.specs.Ascending.{has, sift}
 use Rattle.node_set.specs.Nodes.{Nodes}
-use Rattle.node_set.specs.SetLaws.{passing_same}
-use Rattle.distances.specs.Table.{DistanceTable, IsRowOf, dist, ball_of, IsMetric, IsDiameter}
-use Rattle.distances.specs.TableLaws.{ball_members}
+use Rattle.distances.specs.Table.{DistanceTable, IsRowOf, dist, ball_of, IsMetric}
 use Rattle.coarse_cover.specs.declared.cover.Cluster.{Cluster}
 use Rattle.std.proofs.lemmas.Grind.{same_number_lists}
 use Rattle.cluster_tree.specs.Inside.{AreWeightsWritten, make_cluster}
@@ -24,7 +21,7 @@ use Rattle.region_plan.specs.Flat.{IsWhole, IsWholeAlone, IsFlatLevel}
 use Rattle.region_plan.specs.Meanings.{AreClustersOf}
 use Rattle.region_plan.specs.Kept.{IsSized, level_of, shape_with}
 use Rattle.node_set.specs.Balls.{centres, sets}
-use Rattle.node_set.specs.BallLaws.{has_centre, length-centres, length-map_centres, get_or-map_centres}
+use Rattle.node_set.specs.BallLaws.{below_centre, has_centre, length-map_centres, get_or-map_centres}
 use Rattle.cluster_tree.specs.PlaceLaws.{beside_map}
 use Rattle.region_plan.proofs.Lists.{made_more, map_same}
 
@@ -41,6 +38,10 @@ range_new xs ys a b from to =
     ∙ ap (λ l. take (b - a) (l ++ ys)) (drop_all a xs (omega arith))
     ∙ take_all (b - a) ys (omega (arith, length-append xs ys))
 
+pub range_behind : (xs ys all : List ℕ) (a : ℕ) → a ≡ length xs → all ≡ xs ++ ys → take (length all - a) (drop a all) ≡ ys
+range_behind xs ys all a from grown =
+    ap (λ l. take (length l - a) (drop a l)) grown ∙ range_new xs ys a (length (xs ++ ys)) from refl
+
 -- ---- the balls, and the cluster of all nodes
 
 pub more_balls : (table : DistanceTable) (radius v : ℕ) (old new : List Nodes) (ball : Nodes) → sets old
@@ -51,19 +52,9 @@ more_balls table radius v old new ball before is now =
     made_more (λ u. ball_of table u radius) v (sets old) (sets new) ball.members before is
     (ap sets now ∙ map_push (λ (b : Nodes). b.members) old ball)
 
-whole_ball : (table : DistanceTable) (v radius : ℕ) → v < table.nodes → IsDiameter table radius → ball_of table v radius
-    ≡ centres table.nodes
-whole_ball table v radius below diameter =
-    passing_same (λ w. nat_le (dist table v w) radius) (λ x. true) 0 table.nodes
-    (λ u low high. le-leb (dist table v u) radius (diameter.greatest v u below (omega arith)))
-
-module _ (table : DistanceTable) (metric : IsMetric table) (radius : ℕ) (diameter : IsDiameter table radius)
-    (cells : List ℕ) (depth : ℕ) (nodes : List ℕ)
-    (members : nodes ≡ ball_of table 0 radius) (row : IsRowOf table 0 cells)
+module _ (table : DistanceTable) (metric : IsMetric table) (cells : List ℕ) (depth : ℕ) (nodes : List ℕ)
+    (all : nodes ≡ centres table.nodes) (row : IsRowOf table 0 cells)
     (bound : All (λ x. x ≤ depth) cells) (attained : 0 < length cells → Contains cells depth) where
-  all : nodes ≡ centres table.nodes
-  all = members ∙ whole_ball table 0 radius metric.some diameter
-
   filled : cells ≡ map (λ u. dist table 0 u) (centres table.nodes)
   filled = same_number_lists cells (map (λ u. dist table 0 u) (centres table.nodes))
       (row.count ∙ sym (length-map_centres (λ u. dist table 0 u) table.nodes))
@@ -71,7 +62,7 @@ module _ (table : DistanceTable) (metric : IsMetric table) (radius : ℕ) (diame
       ∙ sym (get_or-map_centres (λ u. dist table 0 u) table.nodes v 0 (omega (arith, row.count))))
 
   below : (v : ℕ) → has v nodes ≡ true → v < table.nodes
-  below v h = ((ball_members table 0 radius v).0 (ap (has v) (sym members) ∙ h)).0
+  below v h = below_centre table.nodes v (ap (has v) (sym all) ∙ h)
 
   beside : (v : ℕ) → has v nodes ≡ true → weight_beside v nodes cells ≡ dist table 0 v
   beside v h =
@@ -98,9 +89,6 @@ module _ (table : DistanceTable) (metric : IsMetric table) (radius : ℕ) (diame
           };
     };
   }
-
-  pub whole_count : length cells ≡ length nodes
-  whole_count = row.count ∙ sym (ap length all ∙ length-centres table.nodes)
 
 -- ---- the flat level and the flat plan
 

@@ -48,6 +48,12 @@ readers_count phases clusters homes shape is =
 pub length-containing : (clusters : List PlanCluster) (v : ℕ) → length (clusters_with clusters v) ≤ length clusters
 length-containing clusters v = length-passing-le (λ c. has v (cluster_in clusters c).members) 0 (length clusters)
 
+pub starts_long : (phases : ℕ) (clusters : List PlanCluster) (homes starts readers : List ℕ) (shape : Shape) (v : ℕ)
+    → AreRows (length homes) clusters starts readers → shape_with phases clusters homes ≡ shape
+    → v < length shape.homes → v + 1 < length starts
+starts_long phases clusters homes starts readers shape v rows view below =
+    omega (arith, rows.count, subst (λ (l : Shape). v < length l.homes) (sym view) below)
+
 module _ (phases : ℕ) (clusters : List PlanCluster) (homes starts readers : List ℕ) (shape : Shape)
     (v first next : ℕ) (list : List ℕ)
     (rows : AreRows (length homes) clusters starts readers)
@@ -57,13 +63,17 @@ module _ (phases : ℕ) (clusters : List PlanCluster) (homes starts readers : Li
     short : v < length homes
     short = subst (λ (l : Shape). v < length l.homes) (sym view) below
 
+    starts_at : first ≡ get_or starts v 0
+    starts_at = get_or_read starts v first (omega (arith, rows.count, short)) at_first 0
+
+    ends_at : next ≡ get_or starts (v + 1) 0
+    ends_at = get_or_read starts (v + 1) next (omega (arith, rows.count, short)) at_next 0
+
+    pub row_order : first ≤ next
+    row_order = omega (arith, starts_at, ends_at, rows.order v short)
+
     row_is : slice_range list first next ≡ clusters_with clusters v
-    row_is =
-        let begins : first ≡ get_or starts v 0 =
-        get_or_read starts v first (omega (arith, rows.count, short)) at_first 0 in
-        let ends : next ≡ get_or starts (v + 1) 0 =
-        get_or_read starts (v + 1) next (omega (arith, rows.count, short)) at_next 0 in
-        rw (begins, ends, whole) (rows.each v short)
+    row_is = rw (starts_at, ends_at, whole) (rows.each v short)
 
     pub read_row : slice_range list first next ≡ readers_for shape v
     read_row = row_is ∙ sym (get_or-map_centres (clusters_with clusters) (length homes) v [] short)

@@ -1,9 +1,9 @@
 -- Levels over the shapes that they share.
-use Rattle.std.proofs.Common.{◌≡◌, ℕ, suc, ◌<◌, List, [], ◌∷◌, ◌++◌, length, refl, sym, ◌∙◌, ap, arith}
+use Rattle.std.proofs.Common.{◌≡◌, ℕ, suc, ◌<◌, List, [], ◌∷◌, ◌++◌, length, get_or, refl, subst, sym, ◌∙◌, ap, arith, ◌-◌}
 use Rattle.std.specs.Prelude.{All}
-use Rattle.std.proofs.lemmas.List.{get_or_append_left, get_or_push, map_push}
-use Rattle.region_plan.specs.Plan.{Level, no_level}
-use Rattle.region_plan.specs.Kept.{Shape, level_of, levels_over, shape_in, shape_of}
+use Rattle.std.proofs.lemmas.List.{get_or-map, get_or_append_left, get_or_push, length-map, map_push}
+use Rattle.region_plan.specs.Plan.{Level, level_in, no_level}
+use Rattle.region_plan.specs.Kept.{Shape, level_of, level_with, levels_over, shape_in, shape_of}
 use Rattle.region_plan.specs.declared.sharing.LevelHead.{LevelHead}
 
 -- the level of a head
@@ -37,3 +37,35 @@ level_pushed shapes new_shapes shape heads new_heads levels exponent threshold p
     (shape_added shapes shape heads below ∙ view)
     ∙ ap (λ (s : Shape). levels ++ level_of exponent threshold s ∷ [])
     (get_or_push shapes shape (shape_of no_level) place (sym last))
+
+-- ---- a level that shares the shape of the last one
+
+pub heads_count : (shapes : List Shape) (heads : List LevelHead) (levels : List Level) → levels_over shapes heads ≡ levels
+    → length heads ≡ length levels
+heads_count shapes heads levels view =
+    sym (length-map heads (level_under shapes)) ∙ ap (length {A = Level}) view
+
+module _ (shapes : List Shape) (heads new_heads : List LevelHead) (levels : List Level) (exponent threshold at : ℕ)
+    (last : LevelHead) (view : levels_over shapes heads ≡ levels) (some : 0 < length levels)
+    (at_is : at ≡ length heads - 1) (here : last ≡ get_or heads at last) where
+  pub last_within : All (λ (h : LevelHead). h.table < length shapes) heads → last.table < length shapes
+  last_within below = subst (λ (h : LevelHead). h.table < length shapes) (sym here)
+      (below at last (omega (arith, heads_count shapes heads levels view)))
+
+  pub level_shared : new_heads
+      ≡ heads ++ record { exponent = exponent; threshold = threshold; table = last.table } ∷ []
+      → levels_over shapes new_heads
+      ≡ levels ++ level_with exponent threshold (level_in levels (length levels - 1)) ∷ []
+  level_shared now =
+      let same : level_under shapes last ≡ level_in levels (length levels - 1) =
+      ap (level_under shapes) here
+      ∙ sym (get_or-map (level_under shapes) heads at last no_level
+      (omega (arith, heads_count shapes heads levels view)))
+      ∙ ap (λ (ls : List Level). level_in ls at) view
+      ∙ ap (level_in levels) (omega (arith, heads_count shapes heads levels view))
+      in
+      ap (levels_over shapes) now
+      ∙ map_push (level_under shapes) heads
+      (record { exponent = exponent; threshold = threshold; table = last.table })
+      ∙ ap (λ (ls : List Level). ls ++ level_of exponent threshold (shape_in shapes last.table) ∷ []) view
+      ∙ ap (λ (l : Level). levels ++ level_with exponent threshold l ∷ []) same

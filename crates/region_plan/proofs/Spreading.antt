@@ -1,16 +1,17 @@
 -- The exponents of distances, as they are written and read.
 use Rattle.std.proofs.Common.{◌≡◌, inl, inr, ℕ, zero, suc, ◌+◌, ◌*◌, ◌^◌, ◌<◌, ◌≤◌, Bool, true, false, List}
 use Rattle.std.proofs.Common.{ap, get_or, length, map, set, subst, sym, take, ◌∙◌, arith}
-use Rattle.std.specs.Prelude.{nat_le, slice_index, slice_range}
+use Rattle.std.specs.Prelude.{All, nat_le, slice_index, slice_range}
 use Rattle.std.proofs.Math.Nat.{pow-le-pow_right, pow-suc}
 use Rattle.std.proofs.lemmas.Bool.{cases_lt, false≢true, le-leb, leb-true, lt-leb}
+use Rattle.std.proofs.lemmas.Grind.{get_or_default_zero}
 use Rattle.std.proofs.lemmas.List.{take_more_set}
 use Rattle.std.proofs.lemmas.Nat.{row_fits}
 use Rattle.node_set.specs.Balls.{centres, sets}
 use Rattle.node_set.specs.Nodes.{Nodes}
 use Rattle.node_set.specs.SetLaws.{passing_same}
 use Rattle.node_set.specs.Ascending.{sift}
-use Rattle.distances.specs.Table.{DistanceTable, IsRowOf, ball_of, dist}
+use Rattle.distances.specs.Table.{DistanceTable, IsMetric, IsRowOf, ball_of, dist}
 use Rattle.distances.specs.TableLaws.{part_is_row}
 use Rattle.region_plan.specs.Spread.{AreExponents, AreExponentsTo, AreMarked, HasExponent, IsExponent}
 use Rattle.region_plan.proofs.Making.{more_balls}
@@ -61,6 +62,24 @@ marked_all table exponents marks are marked u v u_below v_below some =
     marked_exponent marks (dist table u v) (slice_index exponents (u * table.nodes + v)) some
     (are.each u v u_below v_below)
     (marked (u * table.nodes + v) (omega (arith, are.count, place_below table.nodes u v u_below v_below)))
+
+-- a row's distances are small
+pub row_small : (table : DistanceTable) (u : ℕ) (row : List ℕ) → IsMetric table → u < table.nodes → IsRowOf table u row
+    → All (λ d. d ≤ 2 ^ 30) row
+row_small table u row metric below is v d short =
+    omega (
+      arith,
+      get_or_default_zero row v d short,
+      is.each v (omega (arith, short, is.count)),
+      metric.bounded u v below (omega (arith, short, is.count)),
+      metric.few,
+    )
+
+-- and there is room for each
+pub row_short : (table : DistanceTable) (u at : ℕ) (row exponents : List ℕ) → u < table.nodes → at ≡ u * table.nodes
+    → IsRowOf table u row → length exponents ≡ table.nodes * table.nodes → at + length row ≤ length exponents
+row_short table u at row exponents below begins is count =
+    omega (arith, row_fits u table.nodes table.nodes table.nodes below (omega arith), begins, is.count, count)
 
 -- one row more
 pub row_written : (table : DistanceTable) (u at : ℕ) (row old new : List ℕ) → at ≡ u * table.nodes

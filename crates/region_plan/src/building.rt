@@ -61,7 +61,7 @@ fn build_table(
     } = covering.cover(alloc, sets, work)?;
     covering_shape();
     let clusters = Clusters::of_cover(alloc, graph, distances, made, work)?;
-    Ok(LevelTable::new(alloc, phases, clusters, home)?)
+    LevelTable::new(alloc, phases, clusters, home)
 }
 
 // Adds level `i` of the plan to the levels below it: where no distance lies between its radius and
@@ -94,10 +94,10 @@ fn push_level(
     ensures levels { OnOk result (AreLevelsOf graph.now distances.now covering (i + 1) levels.new) }
 {
     if i > 0 && !spread.in_use[i as usize] {
-        Ok(levels.push_shared(i, threshold_for(i))?)
+        levels.push_shared(i, threshold_for(i))
     } else {
         let table = build_table(alloc, graph, distances, spread, covering, i, sets, work)?;
-        Ok(levels.push_table(i, threshold_for(i), table)?)
+        levels.push_table(i, threshold_for(i), table)
     }
 }
 
@@ -117,12 +117,73 @@ fn threshold_for(i: u32) -> u64
     if i == 0 { 1 } else { u64::from(two_to(i - 1)) }
 }
 
-// Adds the levels up to the top one.
+// Adds the levels up to the top one. The sets, one for each node, and the workspace are written
+// over.
 fn push_levels(
     alloc: Global,
     graph: &Graph,
     distances: &Distances,
     spread: &Spread,
+    covering: Covering,
+    top: u32,
+    sets: &mut [NodeSet],
+    work: &mut Workspace,
+    levels: &mut Levels,
+) -> Result<(), OutOfMemory>
+    requires belongs { AreDistancesOf graph.now distances.now }
+    requires metric { IsMetric distances.now }
+    requires network { IsNetwork graph.now }
+    requires low { 1 ≤ trade_off_of covering }
+    requires high { trade_off_of covering ≤ 8 }
+    requires few { top ≤ 30 }
+    requires spread { IsSpreadOf distances.now spread.now }
+    requires count { length sets.old ≡ distances.now.nodes }
+    requires rooms { All (λ (s : Nodes). s.room ≡ distances.now.nodes) sets.old }
+    requires work { IsWorkspace distances.now.nodes work.old }
+    requires below { AreLevelsOf graph.now distances.now covering 0 levels.old }
+    ensures { OnOk result (AreLevelsOf graph.now distances.now covering (top + 1) levels.new) }
+{
+    for i in 0..top + 1 {
+        push_level(
+            alloc, graph, distances, spread, covering, i, sets, work, levels,
+        )?;
+    }
+    Ok(())
+}
+
+// The same, with a workspace of its own.
+fn push_levels_in_workspace(
+    alloc: Global,
+    graph: &Graph,
+    distances: &Distances,
+    spread: &Spread,
+    covering: Covering,
+    top: u32,
+    sets: &mut [NodeSet],
+    levels: &mut Levels,
+) -> Result<(), OutOfMemory>
+    requires belongs { AreDistancesOf graph.now distances.now }
+    requires metric { IsMetric distances.now }
+    requires low { 1 ≤ trade_off_of covering }
+    requires high { trade_off_of covering ≤ 8 }
+    requires few { top ≤ 30 }
+    requires spread { IsSpreadOf distances.now spread.now }
+    requires count { length sets.old ≡ distances.now.nodes }
+    requires rooms { All (λ (s : Nodes). s.room ≡ distances.now.nodes) sets.old }
+    requires below { AreLevelsOf graph.now distances.now covering 0 levels.old }
+    ensures { OnOk result (AreLevelsOf graph.now distances.now covering (top + 1) levels.new) }
+{
+    let mut work = Workspace::new(alloc, graph.nodes())?;
+    push_levels(
+        alloc, graph, distances, spread, covering, top, sets, &mut work, levels,
+    )
+}
+
+// The same, with the exponents of the distances and sets of its own.
+fn push_levels_by_spread(
+    alloc: Global,
+    graph: &Graph,
+    distances: &Distances,
     covering: Covering,
     top: u32,
     levels: &mut Levels,
@@ -132,19 +193,15 @@ fn push_levels(
     requires low { 1 ≤ trade_off_of covering }
     requires high { trade_off_of covering ≤ 8 }
     requires few { top ≤ 30 }
-    requires spread { IsSpreadOf distances.now spread.now }
     requires below { AreLevelsOf graph.now distances.now covering 0 levels.old }
     ensures { OnOk result (AreLevelsOf graph.now distances.now covering (top + 1) levels.new) }
 {
-    let nodes = graph.nodes();
+    let nodes = distances.nodes();
+    let spread = Spread::new(alloc, distances)?;
     let mut sets = empty_sets(alloc, nodes as usize, nodes)?;
-    let mut work = Workspace::new(alloc, nodes)?;
-    for i in 0..top + 1 {
-        push_level(
-            alloc, graph, distances, spread, covering, i, &mut sets, &mut work, levels,
-        )?;
-    }
-    Ok(())
+    push_levels_in_workspace(
+        alloc, graph, distances, &spread, covering, top, &mut sets, levels,
+    )
 }
 
 // The levels of the plan over the covering, up to the top one.
@@ -162,8 +219,7 @@ pub fn build_levels(
     requires few { top ≤ 30 }
     ensures levels { IfOk result (AreLevelsOf graph.now distances.now covering (top + 1)) }
 {
-    let spread = Spread::new(alloc, distances)?;
     let mut levels = Levels::with_capacity(alloc, top as usize + 1)?;
-    push_levels(alloc, graph, distances, &spread, covering, top, &mut levels)?;
+    push_levels_by_spread(alloc, graph, distances, covering, top, &mut levels)?;
     Ok(levels)
 }

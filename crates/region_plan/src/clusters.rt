@@ -1,21 +1,21 @@
 //! The clusters of a level in flat lists: their members ascending, and a weight beside each.
 
-ghost use Rattle.std.specs.Prelude.{◌≡◌, ◌++◌, ◌<◌, ◌≤◌, All, IfOk, IsTrue, OnOk, length};
+ghost use Rattle.std.specs.Prelude.{◌≡◌, ◌++◌, ◌<◌, [], All, IfOk, IsTrue, OnOk, length};
 ghost use Rattle.node_set.specs.Ascending.{IsAscending, has};
-ghost use Rattle.net_graph.specs.Trees.{AreDistancesFrom};
 ghost use Rattle.cluster_tree.specs.Inside.{AreWeightsWritten};
+ghost use Rattle.node_set.specs.Balls.{centres};
 ghost use Rattle.node_set.specs.Nodes.{AreNodes};
 ghost use Rattle.node_set.specs.Workspaces.{IsWorkspace};
 ghost use Rattle.distances.specs.Table.{AreDistancesOf};
 ghost use Rattle.region_plan.specs.Kept.{IsSpanned};
-ghost use Rattle.region_plan.specs.Laid.{AreLaid, IsPushed};
+ghost use Rattle.region_plan.specs.Laid.{AreLaid, IsPushed, clusters_of_lists};
 ghost use Rattle.region_plan.specs.Plan.{cluster_in, weight_in};
 ghost use Rattle.region_plan.specs.Meanings.{AreClustersOf};
 ghost use Rattle.region_plan.specs.Flat.{IsWholeAlone};
 
 use cluster_tree::{TreeFault, inside_weights};
 use coarse_cover::Cluster;
-use distances::{Distances, distances_are_sound};
+use distances::Distances;
 use net_graph::{Graph, OutOfMemory, greatest_weight};
 use node_set::{NodeSet, Workspace, set_is_sound};
 use std::alloc::{AllocError, Global};
@@ -41,47 +41,95 @@ pub struct ClusterLists {
 }
 
 impl ClusterLists {
-    // Appends a cluster of a cover, weighed inside it from the centre that leads it, and gives the
-    // set of its members.
+    // No clusters, with memory for so many, and for so many members of all of them.
+    fn with_capacity(
+        alloc: Global,
+        clusters: usize,
+        members: usize,
+    ) -> Result<ClusterLists, OutOfMemory>
+        ensures heads { IfOk result (λ lists. lists.heads.items ≡ []) }
+        ensures nodes { IfOk result (λ lists. lists.nodes.items ≡ []) }
+        ensures weights { IfOk result (λ lists. lists.weights.items ≡ []) }
+    {
+        Ok(ClusterLists {
+            heads: Vec::with_capacity(alloc, clusters)?,
+            nodes: Vec::with_capacity(alloc, members)?,
+            weights: Vec::with_capacity(alloc, members)?,
+        })
+    }
+
+    // Appends a cluster of a cover, weighed inside it from the centre that leads it.
     fn push(
         &mut self,
         alloc: Global,
         graph: &Graph,
         distances: &Distances,
-        cluster: Cluster,
-    ) -> Result<NodeSet, OutOfMemory>
+        cluster: &Cluster,
+    ) -> Result<(), OutOfMemory>
         requires belongs { AreDistancesOf graph.now distances.now }
-        requires spanned { IsSpanned graph.now cluster }
+        requires spanned { IsSpanned graph.now cluster.now }
         requires laid { AreLaid self.old }
         ensures laid { OnOk result (AreLaid self.new) }
-        ensures pushed { OnOk result (IsPushed graph.now cluster self.old self.new) }
-        ensures set { IfOk result (λ set. set ≡ cluster.members) }
+        ensures pushed { OnOk result (IsPushed graph.now cluster.now self.old self.new) }
     {
-        let Cluster {
-            first,
-            members,
-            phase,
-        } = cluster;
         let start = self.nodes.len();
-        push_members(&members, &mut self.nodes)?;
-        let end = self.nodes.len();
-        let depth = weigh_members(
-            alloc,
-            graph,
-            distances.row(first),
-            &members,
-            &self.nodes[start..],
-            first,
-            &mut self.weights,
-        )?;
+        push_members(&cluster.members, &mut self.nodes)?;
+        let nodes = &self.nodes[start..];
+        let depth = weigh_members(alloc, graph, distances, cluster, nodes, &mut self.weights)?;
         self.heads.push(ClusterHead {
-            leader: first,
-            phase,
+            leader: cluster.first,
+            phase: cluster.phase,
             depth,
             start,
-            end,
+            end: self.nodes.len(),
         })?;
-        Ok(members)
+        Ok(())
+    }
+
+    // Appends the clusters of a cover. Their sets go back to the workspace that they come from.
+    fn push_cover(
+        &mut self,
+        alloc: Global,
+        graph: &Graph,
+        distances: &Distances,
+        made: Vec<Cluster>,
+        work: &mut Workspace,
+    ) -> Result<(), OutOfMemory>
+        requires belongs { AreDistancesOf graph.now distances.now }
+        requires spanned { All (IsSpanned graph.now) made.items }
+        requires work { IsWorkspace graph.now.nodes work.old }
+        requires laid { AreLaid self.old }
+        requires none { clusters_of_lists self.old ≡ [] }
+        ensures laid { OnOk result (AreLaid self.new) }
+        ensures clusters { OnOk result
+            (AreClustersOf graph.now made.items (clusters_of_lists self.new)) }
+        ensures work { OnOk result (IsWorkspace graph.now.nodes work.new) }
+    {
+        for cluster in made {
+            self.push(alloc, graph, distances, &cluster)?;
+            work.give_back(cluster.members)?;
+        }
+        Ok(())
+    }
+
+    // Appends the cluster of all nodes, from node 0.
+    fn push_whole(&mut self, distances: &Distances) -> Result<(), OutOfMemory>
+        requires heads { self.old.heads.items ≡ [] }
+        requires nodes { self.old.nodes.items ≡ [] }
+        requires weights { self.old.weights.items ≡ [] }
+        ensures laid { OnOk result (AreLaid self.new) }
+        ensures whole { OnOk result (IsWholeAlone distances.now (clusters_of_lists self.new)) }
+    {
+        push_numbers(distances.nodes(), &mut self.nodes)?;
+        self.weights.extend_from_slice(distances.row(0))?;
+        self.heads.push(ClusterHead {
+            leader: 0,
+            phase: 0,
+            depth: greatest_weight(&self.weights),
+            start: 0,
+            end: self.nodes.len(),
+        })?;
+        Ok(())
     }
 }
 
@@ -121,15 +169,8 @@ impl Clusters {
     {
         // In most levels a node has four clusters at most.
         let room = 4 * graph.nodes() as usize;
-        let mut lists = ClusterLists {
-            heads: Vec::with_capacity(alloc, made.len())?,
-            nodes: Vec::with_capacity(alloc, room)?,
-            weights: Vec::with_capacity(alloc, room)?,
-        };
-        for cluster in made {
-            let set = lists.push(alloc, graph, distances, cluster)?;
-            work.give_back(set)?;
-        }
+        let mut lists = ClusterLists::with_capacity(alloc, made.len(), room)?;
+        lists.push_cover(alloc, graph, distances, made, work)?;
         Ok(Clusters { lists })
     }
 
@@ -137,27 +178,9 @@ impl Clusters {
     pub fn whole(alloc: Global, distances: &Distances) -> Result<Clusters, OutOfMemory>
         ensures { IfOk result (IsWholeAlone distances.now) }
     {
-        distances_are_sound(distances);
-        let members = distances.ball(alloc, 0, distances.diameter())?;
-        let mut nodes = Vec::with_capacity(alloc, members.count() as usize)?;
-        push_members(&members, &mut nodes)?;
-        let weights = distances.row(0).to_vec(alloc)?;
-        let depth = greatest_weight(&weights);
-        let mut heads = Vec::with_capacity(alloc, 1)?;
-        heads.push(ClusterHead {
-            leader: 0,
-            phase: 0,
-            depth,
-            start: 0,
-            end: nodes.len(),
-        })?;
-        Ok(Clusters {
-            lists: ClusterLists {
-                heads,
-                nodes,
-                weights,
-            },
-        })
+        let mut lists = ClusterLists::with_capacity(alloc, 1, distances.nodes() as usize)?;
+        lists.push_whole(distances)?;
+        Ok(Clusters { lists })
     }
 
     pub fn count(&self) -> usize
@@ -234,20 +257,21 @@ impl Clusters {
 fn weigh_members(
     alloc: Global,
     graph: &Graph,
-    row: &[u32],
-    members: &NodeSet,
+    distances: &Distances,
+    cluster: &Cluster,
     nodes: &[u32],
-    leader: u32,
     weights: &mut Vec<u32>,
 ) -> Result<u32, OutOfMemory>
-    requires row { AreDistancesFrom graph.now leader row.now }
-    requires nodes { nodes.now ≡ members.now.members }
-    requires spanned { IsSpanned graph.now
-        (record { first = leader; members = members.now; phase = 0 }) }
-    ensures { IfOk result
-        (AreWeightsWritten graph.now nodes.now leader weights.old.items weights.new.items) }
+    requires belongs { AreDistancesOf graph.now distances.now }
+    requires spanned { IsSpanned graph.now cluster.now }
+    requires sound { AreNodes cluster.now.members }
+    requires nodes { nodes.now ≡ cluster.now.members.members }
+    ensures { IfOk result (AreWeightsWritten graph.now cluster.now.members.members cluster.now.first
+        weights.old.items weights.new.items) }
 {
-    match inside_weights(alloc, graph, row, members, nodes, leader, weights) {
+    let leader = cluster.first;
+    let row = distances.row(leader);
+    match inside_weights(alloc, graph, row, &cluster.members, nodes, leader, weights) {
         Ok(depth) => Ok(depth),
         Err(TreeFault::OutOfMemory) => Err(AllocError),
         Err(TreeFault::Outside { .. }) => unreachable!(),
@@ -265,6 +289,16 @@ fn push_members(set: &NodeSet, list: &mut Vec<u32>) -> Result<(), OutOfMemory>
     'member: while let Some(v) = set.next_from(from) {
         list.push(v)?;
         from = v + 1;
+    }
+    Ok(())
+}
+
+// Appends the numbers below this one.
+fn push_numbers(below: u32, list: &mut Vec<u32>) -> Result<(), OutOfMemory>
+    ensures { OnOk result (list.new.items ≡ list.old.items ++ centres below) }
+{
+    for number in 0..below {
+        list.push(number)?;
     }
     Ok(())
 }

@@ -71,7 +71,7 @@ impl Covering {
         ensures few { IfOk result (λ cover. length cover.clusters.items ≤ length balls.now) }
     {
         match self {
-            Covering::Phased(k) => Ok(coarsen_by_rows(alloc, balls, balls, k, work)?),
+            Covering::Phased(k) => coarsen_by_rows(alloc, balls, balls, k, work),
             Covering::Mean(k) => {
                 let cover = coarsen_mean_by_rows(alloc, balls, balls, k, work)?;
                 Ok(in_one_phase(alloc, cover)?)

@@ -1,6 +1,6 @@
 //! The clusters that contain each node, gathered by counting.
 
-ghost use Rattle.std.specs.Prelude.{◌≡◌, ◌+◌, ◌<◌, ◌≤◌, All, IfOk, length, slice_index};
+ghost use Rattle.std.specs.Prelude.{◌≡◌, ◌+◌, ◌<◌, ◌≤◌, All, IfOk, OnOk, length, slice_index};
 ghost use Rattle.node_set.specs.Ascending.{IsAscending};
 ghost use Rattle.region_plan.specs.Kept.{IsTable};
 ghost use Rattle.net_graph.specs.Starts.{AreStarts};
@@ -27,20 +27,64 @@ impl ReaderLists {
         ensures { IfOk result (λ lists. IsTable nodes clusters.now lists.starts.items
             lists.readers.items lists.weights.items) }
     {
-        let mut counts = vec![in alloc; 0u32; nodes]?;
-        count_readers(clusters, &mut counts);
-        let starts = sum_counts(alloc, &counts)?;
+        let starts = find_starts(alloc, clusters, nodes)?;
+        let mut lists = ReaderLists::with_starts(alloc, starts, nodes)?;
+        lists.fill(alloc, clusters, nodes)?;
+        Ok(lists)
+    }
+
+    // Room for the clusters of so many nodes, which begin there.
+    fn with_starts(
+        alloc: Global,
+        starts: Vec<u32>,
+        nodes: usize,
+    ) -> Result<ReaderLists, OutOfMemory>
+        requires count { nodes < length starts.items }
+        ensures starts { IfOk result (λ lists. lists.starts.items ≡ starts.items) }
+        ensures readers { IfOk result
+            (λ lists. length lists.readers.items ≡ slice_index starts.items nodes) }
+        ensures weights { IfOk result
+            (λ lists. length lists.weights.items ≡ slice_index starts.items nodes) }
+    {
         let total = starts[nodes] as usize;
-        let mut taken = vec![in alloc; 0u32; nodes]?;
-        let mut readers = vec![in alloc; 0u32; total]?;
-        let mut weights = vec![in alloc; 0u32; total]?;
-        fill_readers(clusters, &starts, &mut taken, &mut readers, &mut weights);
         Ok(ReaderLists {
             starts,
-            readers,
-            weights,
+            readers: vec![in alloc; 0u32; total]?,
+            weights: vec![in alloc; 0u32; total]?,
         })
     }
+
+    // Writes the clusters of each of so many nodes, and the weights beside them.
+    fn fill(&mut self, alloc: Global, clusters: &Clusters, nodes: usize) -> Result<(), OutOfMemory>
+        requires few { length clusters.now ≤ 1024 }
+        requires room { HaveRoom nodes clusters.now self.old.starts.items }
+        requires readers { length self.old.readers.items ≡ slice_index self.old.starts.items nodes }
+        requires weights { length self.old.weights.items ≡ slice_index self.old.starts.items nodes }
+        ensures { OnOk result (IsTable nodes clusters.now self.new.starts.items
+            self.new.readers.items self.new.weights.items) }
+    {
+        let mut taken = vec![in alloc; 0u32; nodes]?;
+        fill_readers(
+            clusters,
+            &self.starts,
+            &mut taken,
+            &mut self.readers,
+            &mut self.weights,
+        );
+        Ok(())
+    }
+}
+
+// Where the clusters of each of so many nodes begin, and where the last ones end.
+fn find_starts(alloc: Global, clusters: &Clusters, nodes: usize) -> Result<Vec<u32>, OutOfMemory>
+    requires nodes { nodes ≤ 1024 }
+    requires clusters { length clusters.now ≤ nodes }
+    ensures { IfOk result (λ starts. HaveRoom nodes clusters.now starts.items) }
+{
+    let mut room = vec![in alloc; 0u32; nodes]?;
+    let counts = room.as_mut_slice();
+    count_readers(clusters, counts);
+    sum_counts(alloc, counts)
 }
 
 // Counts the clusters of each node.

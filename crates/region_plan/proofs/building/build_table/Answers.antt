@@ -1,7 +1,11 @@
-use Rattle.std.proofs.Common.{ℕ, arith, subst, sym}
+use Rattle.std.proofs.Common.{◌≡◌, ℕ, arith, subst, sym}
+use Rattle.std.proofs.lemmas.Result.{IfOk-weaker}
 use Rattle.node_set.specs.Workspaces.{IsWorkspace}
 use Rattle.region_plan.proofs.Levels.{balls_few, balls_rooms, balls_centred, balls_inside, balls_turned, balls_work, cover_spanned, nodes_work}
 use Rattle.region_plan.proofs.Levels.{homes_count, rows_few, level_built, level_fits}
+use Rattle.region_plan.specs.Kept.{IsSized, level_of, shape_with}
+use Rattle.region_plan.specs.Meanings.{IsLevelOf}
+use Rattle.region_plan.specs.Regions.{threshold_of}
 use Rattle.region_plan.proofs.building.build_table.Goals as goal
 
 pub cover-requires-clause-small : goal.cover-requires-clause-small
@@ -68,22 +72,26 @@ new-requires-clause-clusters c =
 
 pub returns-clause-level : goal.returns-clause-level
 returns-clause-level c =
-    level_built c.args.graph.now c.args.distances.now c.requires.metric c.requires.belongs c.requires.network
-    c.args.covering
-    c.args.i c.requires.low c.fill_balls.new.balls c.fill_balls.ensures.balls
+    IfOk-weaker c.new.result
+    (λ shape. shape ≡ shape_with c.in_ok-made.field-0.phases c.in_ok-clusters.clusters c.in_ok-made.field-0.home.items)
+    (λ shape. IsLevelOf c.args.graph.now c.args.distances.now c.args.covering c.args.i
+    (level_of c.args.i (threshold_of c.args.i) shape))
+    (level_built c.args.graph.now c.args.distances.now c.requires.metric c.requires.belongs c.requires.network
+    c.args.covering c.args.i c.requires.low c.fill_balls.new.balls c.fill_balls.ensures.balls
     c.in_ok-made.field-0 c.in_ok-made.ensures.exact
-    c.in_ok-clusters.clusters c.in_ok-clusters.ensures.clusters c.in_ok-made.ensures.few c.in_ok-new.field-0
-    c.in_ok-new.ensures
+    c.in_ok-clusters.clusters c.in_ok-clusters.ensures.clusters c.in_ok-made.ensures.few)
+    c.new.ensures
 
 pub returns-clause-sized : goal.returns-clause-sized
 returns-clause-sized c =
-    level_fits c.args.graph.now c.args.distances.now c.requires.metric c.requires.belongs c.requires.network
-    c.args.covering
-    c.args.i c.requires.low c.fill_balls.new.balls c.fill_balls.ensures.balls
+    IfOk-weaker c.new.result
+    (λ shape. shape ≡ shape_with c.in_ok-made.field-0.phases c.in_ok-clusters.clusters c.in_ok-made.field-0.home.items)
+    (λ shape. IsSized c.args.distances.now.nodes (level_of c.args.i (threshold_of c.args.i) shape))
+    (λ shape made. level_fits c.args.graph.now c.args.distances.now c.requires.metric c.requires.belongs
+    c.requires.network c.args.covering c.args.i c.requires.low c.fill_balls.new.balls c.fill_balls.ensures.balls
     c.in_ok-made.field-0 c.in_ok-made.ensures.exact
-    c.in_ok-clusters.clusters c.in_ok-clusters.ensures.clusters c.in_ok-made.ensures.few c.in_ok-new.field-0
-    c.requires.few
-    c.in_ok-new.ensures
+    c.in_ok-clusters.clusters c.in_ok-clusters.ensures.clusters c.in_ok-made.ensures.few shape c.requires.few made)
+    c.new.ensures
 
 pub cover-requires-clause-work : goal.cover-requires-clause-work
 cover-requires-clause-work c =
@@ -100,5 +108,10 @@ of_cover-requires-clause-work c =
     c.cover.new.work c.in_ok-made.ensures.work
 
 pub returns-clause-work : goal.returns-clause-work
-returns-clause-work c = subst (λ (n : ℕ). IsWorkspace n c.of_cover.new.work) (sym c.requires.belongs.nodes)
-    c.in_ok-clusters.ensures.work
+returns-clause-work c =
+    IfOk-weaker c.new.result
+    (λ shape. shape ≡ shape_with c.in_ok-made.field-0.phases c.in_ok-clusters.clusters c.in_ok-made.field-0.home.items)
+    (λ shape. IsWorkspace c.args.distances.now.nodes c.of_cover.new.work)
+    (λ shape made. subst (λ (n : ℕ). IsWorkspace n c.of_cover.new.work) (sym c.requires.belongs.nodes)
+    c.in_ok-clusters.ensures.work)
+    c.new.ensures

@@ -8,7 +8,7 @@ use Rattle.region_plan.proofs.building.push_levels.Given as goal
 abbrev pub invariant-loop-i : goal.invariant-loop-i
 invariant-loop-i l = record {
   levels : AreLevelsOf l.graph l.distances l.covering l.i l.levels;
-  count : length l.sets.items ≡ l.distances.nodes;
+  count : length l.sets ≡ l.distances.nodes;
   work : IsWorkspace l.distances.nodes l.work;
-  rooms : All (λ (s : Nodes). s.room ≡ l.distances.nodes) l.sets.items;
+  rooms : All (λ (s : Nodes). s.room ≡ l.distances.nodes) l.sets;
 }

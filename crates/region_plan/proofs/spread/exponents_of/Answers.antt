@@ -1,8 +1,35 @@
-use Rattle.std.proofs.Common.{◌≡◌, ◌++◌, ◌≤◌, ◌*◌, ℕ, List, take, drop, length, ap, ◌∙◌, sym, subst}
+use Rattle.std.proofs.Common.{◌≡◌, ◌++◌, ◌≤◌, ◌*◌, ℕ, List, take, drop, length, ap, ◌∙◌, sym, subst, arith}
 use Rattle.std.specs.Prelude.{All, slice_index}
-use Rattle.region_plan.proofs.Spreading.{row_written}
+use Rattle.region_plan.specs.Spread.{AreExponentsTo}
+use Rattle.region_plan.proofs.Spreading.{row_short, row_small, row_written}
 use Rattle.region_plan.proofs.spread.exponents_of.Goals as goal
 use Rattle.std.proofs.lemmas.List.{take_at}
+use Rattle.std.proofs.lemmas.List.Elements.{All-replicate}
+
+pub loop-u-init : goal.loop-u-init
+loop-u-init c = record {
+  count = omega (
+    arith,
+    c.in_ok-exponents.ensures.len,
+    c.in_ok-exponents.exponents.ok.0,
+    ap (λ n. n * n) c.nodes-nodes.ensures.count,
+  );
+  few = subst (λ (l : List ℕ). All (λ e. e ≤ 30) l) (sym (c.in_ok-exponents.ensures.items_if_clones_equal (λ y e. e)))
+      (All-replicate (λ e. e ≤ 30) (c.nodes-nodes.result * c.nodes-nodes.result) 0 (omega arith));
+  each = λ u v none. absurd (omega arith);
+}
+
+pub write_exponents-requires-clause-small : goal.write_exponents-requires-clause-small
+write_exponents-requires-clause-small c =
+    row_small c.args.distances.now c.loop-u.u c.row.result.now c.nodes-nodes.ensures.metric
+    (omega (arith, c.loop-u-test.true, c.nodes-nodes.ensures.count)) c.row.ensures
+
+pub write_exponents-requires-clause-room : goal.write_exponents-requires-clause-room
+write_exponents-requires-clause-room c =
+    row_short c.args.distances.now c.loop-u.u (c.loop-u.u * c.nodes-nodes.result) c.row.result.now
+    c.deref_mut.result.now (omega (arith, c.loop-u-test.true, c.nodes-nodes.ensures.count))
+    (ap (λ n. c.loop-u.u * n) c.nodes-nodes.ensures.count) c.row.ensures
+    (ap (length {A = ℕ}) c.deref_mut.ensures.value ∙ c.loop-u.invariant.count)
 
 pub loop-u-preserved : goal.loop-u-preserved
 loop-u-preserved c =
@@ -24,3 +51,14 @@ loop-u-preserved c =
           ∙ ap (λ (l : List ℕ). slice_index l x) c.deref_mut.ensures.value)
           c.write_exponents.ensures.each;
     })
+
+pub returns : goal.returns
+returns c =
+    let all : c.loop-u.u ≡ c.args.distances.now.nodes =
+    omega (arith, c.loop-u-test.false, c.loop-u.auto.u-end, c.nodes-nodes.ensures.count) in
+    record {
+      count = c.loop-u.invariant.count;
+      few = c.loop-u.invariant.few;
+      each = subst (λ (n : ℕ). AreExponentsTo c.args.distances.now c.loop-u.exponents.items n) all
+          c.loop-u.invariant.each;
+    }

@@ -1,5 +1,4 @@
 use Rattle.std.proofs.Common.{List, ◌∷◌, ◌++◌, [], subst, sym, ap, ◌∙◌}
-use Rattle.node_set.specs.Nodes.{Nodes}
 use Rattle.std.proofs.lemmas.List.{append_assoc}
 use Rattle.std.specs.Vec.Iter.{into_iter_items}
 use Rattle.coarse_cover.specs.declared.cover.Cluster.{Cluster}
@@ -9,7 +8,13 @@ use Rattle.region_plan.specs.Plan.{PlanCluster}
 use Rattle.region_plan.specs.Meanings.{AreClustersOf}
 use Rattle.region_plan.proofs.Lists.{next_holds}
 use Rattle.region_plan.proofs.Making.{more_clusters}
-use Rattle.region_plan.proofs.clusters.Clusters.of_cover.Goals as goal
+use Rattle.region_plan.proofs.clusters.ClusterLists.push_cover.Goals as goal
+
+pub push-requires-clause-spanned : goal.push-requires-clause-spanned
+push-requires-clause-spanned c =
+    next_holds (IsSpanned c.args.graph.now) c.args.made.items c.loop-cluster.yielded
+    (into_iter_items c.loop-cluster.cluster-iterator) (into_iter_items c.next.new.self) c.in-Some.cluster
+    c.loop-cluster.invariant.all c.in-Some.ensures.steps.0 c.requires.spanned
 
 pub loop-cluster-preserved : goal.loop-cluster-preserved
 loop-cluster-preserved c = record {
@@ -18,15 +23,14 @@ loop-cluster-preserved c = record {
       next_holds (IsSpanned c.args.graph.now) c.args.made.items c.loop-cluster.yielded
       (into_iter_items c.loop-cluster.cluster-iterator) (into_iter_items c.next.new.self) c.in-Some.cluster
       c.loop-cluster.invariant.all c.in-Some.ensures.steps.0 c.requires.spanned in
-      c.in_ok-give_back.ensures c.args.graph.now.nodes c.loop-cluster.invariant.work
-      (ap (λ (s : Nodes). s.room) c.in_ok-set.ensures.set ∙ spanned.room);
-  laid = c.in_ok-set.ensures.laid;
+      c.in_ok-give_back.ensures c.args.graph.now.nodes c.loop-cluster.invariant.work spanned.room;
+  laid = c.in_ok-push.ensures.laid;
   done = subst (λ (cs : List PlanCluster).
       AreClustersOf c.args.graph.now (c.loop-cluster.yielded ++ c.in-Some.cluster ∷ []) cs)
-      (sym c.in_ok-set.ensures.pushed.pushed)
-      (more_clusters c.args.graph.now c.loop-cluster.yielded (clusters_of_lists c.loop-cluster.lists)
-      c.in-Some.cluster c.in_ok-set.ensures.pushed.cluster c.loop-cluster.invariant.done
-      c.in_ok-set.ensures.pushed.is);
+      (sym c.in_ok-push.ensures.pushed.pushed)
+      (more_clusters c.args.graph.now c.loop-cluster.yielded (clusters_of_lists c.loop-cluster.self)
+      c.in-Some.cluster c.in_ok-push.ensures.pushed.cluster c.loop-cluster.invariant.done
+      c.in_ok-push.ensures.pushed.is);
   all = c.loop-cluster.invariant.all ∙ ap (λ (rest : List Cluster). c.loop-cluster.yielded ++ rest)
       c.in-Some.ensures.steps.0
       ∙ sym (append_assoc c.loop-cluster.yielded (c.in-Some.cluster ∷ []) (into_iter_items c.next.new.self));
