@@ -49,9 +49,9 @@ lines-none kinds.Call value is =
     option_map-none (map call_line) (list_in call_in value) (sym (list-map-at call_in call_line (as_array value)) ∙ is)
 
 -- the parts of a listing's text
-pub text-is : (listing : ListingValue)
-    → grown []
-    (line_of (codes "track") (listing.format ∷ [])
+abbrev pub text_pieces : ListingValue → List (List ℕ)
+text_pieces listing =
+    line_of (codes "track") (listing.format ∷ [])
     ∷ line_of (codes "nodes") (listing.nodes ∷ [])
     ∷ line_of (codes "k") (listing.k ∷ [])
     ∷ concat (map edge_line listing.edges)
@@ -59,8 +59,9 @@ pub text-is : (listing : ListingValue)
     ∷ line_of (codes "callers") (listing.callers ∷ [])
     ∷ concat (map call_line listing.calls)
     ∷ concat (order_lines listing.order)
-    ∷ [])
-    ≡ listing_text listing
+    ∷ []
+
+text-is : (listing : ListingValue) → concat (text_pieces listing) ≡ listing_text listing
 text-is listing =
     let track = line_of (codes "track") (listing.format ∷ []) in
     let nodes = line_of (codes "nodes") (listing.nodes ∷ []) in
@@ -72,13 +73,17 @@ text-is listing =
     let orders : List (List ℕ) = order_lines listing.order in
     let after_homes : List (List ℕ) = callers ∷ (calls ++ orders) in
     let after_edges : List (List ℕ) = homes ++ after_homes in
-    grown-is [] (track ∷ nodes ∷ k ∷ concat edges ∷ concat homes ∷ callers ∷ concat calls ∷ concat orders ∷ [])
-    ∙ ap (λ (l : List ℕ). track ++ (nodes ++ (k ++ l)))
+    ap (λ (l : List ℕ). track ++ (nodes ++ (k ++ l)))
     (ap (λ (l : List ℕ). concat edges ++ (concat homes ++ (callers ++ (concat calls ++ l))))
     (append-nil (concat orders))
     ∙ ap (λ (l : List ℕ). concat edges ++ (concat homes ++ (callers ++ l))) (sym (concat-append calls orders))
     ∙ ap (λ (l : List ℕ). concat edges ++ l) (sym (concat-append homes after_homes))
     ∙ sym (concat-append edges after_edges))
+
+-- they behind a text
+pub text-behind : (text : List ℕ) (listing : ListingValue)
+    → grown text (text_pieces listing) ≡ text ++ listing_text listing
+text-behind text listing = grown-is text (text_pieces listing) ∙ ap (λ (l : List ℕ). text ++ l) (text-is listing)
 
 listing-from : (o : Option Members) (values : InputValues) → option_and_then values_of o ≡ Some values
     → (o >>= (λ members. values_of members >>= listing_of_values)) ≡ listing_of_values values

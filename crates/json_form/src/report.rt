@@ -11,6 +11,7 @@ ghost use Rattle.json_form.specs.Reports.{report_json_of};
 use crate::lists::{write_closing, write_member, write_numbers, write_opening, write_small};
 use directory::{Done, FindLine, Found, Outcome, Why};
 use std::alloc::{AllocError, Global};
+use std::fmt::{self, Debug, Formatter};
 use std::marker::Model;
 use text_line::Line;
 
@@ -183,7 +184,7 @@ fn write_done(line: &mut Line, call: &Done)
 
 // What comes next: the head, a call or the end of their list, some tickets or the end of theirs, or
 // nothing. A list is begun where its bracket was written.
-#[derive(Clone, Copy, Debug)]
+#[derive(Clone, Copy)]
 enum NextPart {
     Open,
     Calls { begun: bool },
@@ -192,7 +193,7 @@ enum NextPart {
 }
 
 // The calls and the tickets that are left, and how many tickets there were.
-#[derive(Clone, Copy, Debug)]
+#[derive(Clone, Copy)]
 struct Left<'a> {
     calls: &'a [Done],
     order: &'a [u32],
@@ -257,7 +258,7 @@ fn write_part(line: &mut Line, left: &mut Left<'_>, next: NextPart) -> NextPart
 
 /// The parts of a report's JSON, one after another. It takes its memory at once, and keeps one
 /// part.
-#[derive(Debug, Drop)]
+#[derive(Drop)]
 pub struct ReportParts<'a> {
     next: NextPart,
     left: Left<'a>,
@@ -270,6 +271,12 @@ impl<'a> Model for ReportParts<'a> {
     ghost Value = { PartsState };
 
     ghost view = { λ p. record { part = p.part; left = text_left p.next p.left } };
+}
+
+impl<'a> Debug for ReportParts<'a> {
+    fn fmt<W: fmt::Write>(&self, f: &mut Formatter<W>) -> fmt::Result {
+        f.debug_struct("ReportParts").finish_non_exhaustive()
+    }
 }
 
 impl<'a> ReportParts<'a> {

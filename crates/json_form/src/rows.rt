@@ -12,7 +12,7 @@ use text_line::Line;
 const MOST_NUMBER: u64 = 999_999_999_999_999_999;
 
 // What the items of a list are.
-#[derive(Clone, Copy, Debug, PartialEq, Eq)]
+#[derive(Clone, Copy)]
 pub(crate) enum Kind {
     Edge,
     Sub,

@@ -141,6 +141,25 @@ fn push_order(text: &mut Vec<u8>, line: &mut Line, value: &Value) -> Result<(), 
     }
 }
 
+// The lines of the listing that the values are behind the text, where they have the shape.
+fn push_listing(text: &mut Vec<u8>, line: &mut Line, values: &InputValues) -> Result<(), JsonFault>
+    requires { line.old ≡ [] }
+    ensures ok { OnOk result ((lines : List ℕ)
+        × (option_map listing_text (listing_of_values (seen_values values.now)) ≡ Some lines)
+        × (text.new.items ≡ text.old.items ++ lines)) }
+    ensures err { IfErr result (λ fault. (fault ≡ faults.OutOfMemory)
+        ⊎ ((fault ≡ faults.Shape) × (listing_of_values (seen_values values.now) ≡ None))) }
+{
+    push_number(text, line, "track", &values.last.track)?;
+    push_number(text, line, "nodes", &values.last.nodes)?;
+    push_number(text, line, "k", &values.first.k)?;
+    push_items(text, line, Kind::Edge, &values.first.edges)?;
+    push_items(text, line, Kind::Sub, &values.last.subs)?;
+    push_number(text, line, "callers", &values.first.callers)?;
+    push_items(text, line, Kind::Call, &values.first.calls)?;
+    push_order(text, line, &values.last.order)
+}
+
 // The text of the listing that the values are, where they have the shape.
 fn text_of_values(alloc: Global, values: &InputValues) -> Result<Vec<u8>, JsonFault>
     ensures ok { IfOk result (λ text. option_map listing_text
@@ -150,14 +169,7 @@ fn text_of_values(alloc: Global, values: &InputValues) -> Result<Vec<u8>, JsonFa
 {
     let mut line = Line::new(alloc, FAST_NUMBERS)?;
     let mut text = Vec::new(alloc);
-    push_number(&mut text, &mut line, "track", &values.last.track)?;
-    push_number(&mut text, &mut line, "nodes", &values.last.nodes)?;
-    push_number(&mut text, &mut line, "k", &values.first.k)?;
-    push_items(&mut text, &mut line, Kind::Edge, &values.first.edges)?;
-    push_items(&mut text, &mut line, Kind::Sub, &values.last.subs)?;
-    push_number(&mut text, &mut line, "callers", &values.first.callers)?;
-    push_items(&mut text, &mut line, Kind::Call, &values.first.calls)?;
-    push_order(&mut text, &mut line, &values.last.order)?;
+    push_listing(&mut text, &mut line, values)?;
     Ok(text)
 }
 

@@ -2,7 +2,7 @@
 use Rattle.std.proofs.Common.{◌≡◌, inl, inr, ℕ, ◌||◌, cond, leb, ltb, append_assoc, length-append, length-take, get_or, drop, ◌+◌, ◌<◌, ◌≤◌, true, false, set, take, List, [], ◌∷◌, ◌++◌, length, refl, ap, sym, ◌∙◌, arith, subst}
 use Rattle.std.proofs.lemmas.Bool.Decides.{nat_tests}
 use Rattle.std.proofs.lemmas.List.{append-nil, drop-drop, get_or-set_same, length-set, take-set, take_more}
-use Rattle.std.proofs.lemmas.List.Folds.{list_any-append}
+use Rattle.std.proofs.lemmas.List.Folds.{list_any-append, list_any_at}
 use Rattle.std.specs.List.{list_any}
 use Rattle.std.specs.Prelude.{nat_le}
 use Rattle.net_reader.specs.declared.line.Open.TheVariants as opens
@@ -23,6 +23,27 @@ below-more limit value numbers below less =
     let no : leb limit value ≡ false = grind (arith, nat_tests) in
     list_any-append (λ number. nat_le limit number) numbers (value ∷ [])
     ∙ ap (λ b. b || (leb limit value || false)) below ∙ ap (λ b. b || false) no
+
+-- one number more of those that a line has
+pub taken-more : (order now later numbers : List ℕ) (i : ℕ) → i < length numbers → now ≡ order ++ take i numbers
+    → later ≡ now ++ get_or numbers i 0 ∷ [] → later ≡ order ++ take (i + 1) numbers
+taken-more order now later numbers i within before is =
+    is ∙ ap (λ xs. xs ++ get_or numbers i 0 ∷ []) before
+    ∙ append_assoc order (take i numbers) (get_or numbers i 0 ∷ [])
+    ∙ ap (λ xs. order ++ xs) (sym (take_more numbers i 0 within))
+
+pub known-more : (limit : ℕ) (numbers : List ℕ) (i : ℕ) → i < length numbers
+    → list_any (λ number. nat_le limit number) (take i numbers) ≡ false → get_or numbers i 0 < limit
+    → list_any (λ number. nat_le limit number) (take (i + 1) numbers) ≡ false
+known-more limit numbers i within known less =
+    ap (list_any (λ number. nat_le limit number)) (take_more numbers i 0 within)
+    ∙ below-more limit (get_or numbers i 0) (take i numbers) known less
+
+-- one that isn't below the limit
+pub unknown-at : (limit : ℕ) (numbers : List ℕ) (i : ℕ) → i < length numbers → limit ≤ get_or numbers i 0
+    → list_any (λ number. nat_le limit number) numbers ≡ true
+unknown-at limit numbers i within most =
+    list_any_at (λ number. nat_le limit number) numbers i 0 within (grind (arith, nat_tests))
 
 pub taking-none : (limit : ℕ) (before piece : List ℕ) → IsTaking limit before before piece piece
 taking-none limit before piece = record {

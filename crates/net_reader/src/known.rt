@@ -25,7 +25,7 @@ const MAX_CALLERS: u64 = 64;
 const MAX_ORDER: usize = 64;
 
 /// What was read so far.
-#[derive(Debug, Drop)]
+#[derive(Drop)]
 pub(crate) struct Known {
     pub(crate) place: Place,
     pub(crate) format: u32,

@@ -17,7 +17,7 @@ const MOST_VALUE: u64 = 100_000_000_000_000_000;
 const MAX_NUMBERS: usize = 65;
 
 /// What the field at the end of a line is so far.
-#[derive(Clone, Copy, Debug, PartialEq, Eq)]
+#[derive(Clone, Copy)]
 pub(crate) enum Open {
     /// No field has begun on the line.
     Blank,
@@ -33,7 +33,7 @@ pub(crate) enum Open {
     Wrong,
 }
 
-#[derive(Debug, Drop)]
+#[derive(Drop)]
 pub(crate) struct Line {
     pub(crate) field: Open,
     pub(crate) word: u64,
@@ -247,7 +247,7 @@ impl Line {
             rest.now) }
     {
         let mut rest = piece;
-        'numbers: while self.field == Open::Between {
+        'numbers: while let Open::Between = self.field {
             let behind = self.number(rest)?;
             if behind.len() == rest.len() {
                 return Ok(behind);
@@ -324,7 +324,7 @@ impl Line {
         ensures { IfOk result (λ rest. IsRun (put (seen_line self.old) byte) (seen_line self.new)
             after.now rest.now) }
     {
-        if self.field == Open::Blank && !is_blank(byte) && byte != b'#' {
+        if matches!(self.field, Open::Blank) && !is_blank(byte) && byte != b'#' {
             return self.first_word(byte, after);
         }
         self.put(byte)?;
@@ -340,7 +340,7 @@ impl Line {
     pub(crate) fn is_fresh(&self) -> bool
         ensures { IsTrue result → seen_line self.now ≡ fresh }
     {
-        self.field == Open::Blank && self.word == 0 && self.numbers.is_empty()
+        matches!(self.field, Open::Blank) && self.word == 0 && self.numbers.is_empty()
     }
 
     pub(crate) fn clear(&mut self)

@@ -8,6 +8,7 @@ use crate::input::{Input, answer};
 use crate::scan::Scan;
 use net_graph::Graph;
 use std::alloc::{AllocError, Global};
+use std::fmt::{self, Debug, Formatter};
 use std::marker::Model;
 
 /// How many bytes an input may have.
@@ -16,7 +17,7 @@ pub const MAX_BYTES: usize = 4_194_304;
 /// A reader of an input. It stands for the bytes that were fed to it, whatever pieces they came in,
 /// and keeps what their lines say and none of the bytes: a line of any length costs no memory.
 /// After want of memory it has failed, and stands for no bytes.
-#[derive(Debug, Drop)]
+#[derive(Drop)]
 pub struct Reader {
     failed: bool,
     scan: Scan,
@@ -31,6 +32,12 @@ impl Model for Reader {
     ghost view = { λ r. record { failed = r.failed; state = seen_scan r.scan } };
 
     ghost invariant = { λ r. IsSoundReader r.failed r.scan };
+}
+
+impl Debug for Reader {
+    fn fmt<W: fmt::Write>(&self, f: &mut Formatter<W>) -> fmt::Result {
+        f.debug_struct("Reader").finish_non_exhaustive()
+    }
 }
 
 impl Reader {

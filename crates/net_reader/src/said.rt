@@ -14,7 +14,7 @@ pub enum Call {
 }
 
 /// A call, and the actor that makes it.
-#[derive(Clone, Copy, Debug, PartialEq, Eq)]
+#[derive(Clone, Copy)]
 pub(crate) struct Spoken {
     pub(crate) actor: u32,
     pub(crate) call: Call,

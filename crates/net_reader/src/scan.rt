@@ -18,7 +18,7 @@ use std::alloc::{AllocError, Global};
 // What was read so far: what the whole lines said or their first fault, how many lines have begun,
 // whether one hasn't ended, whether that one ends with a carriage return, and what it is without
 // it.
-#[derive(Debug, Drop)]
+#[derive(Drop)]
 pub(crate) struct Scan {
     pub(crate) fault: Option<InputFault>,
     lines: u32,

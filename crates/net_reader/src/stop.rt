@@ -5,7 +5,7 @@ ghost use Rattle.net_reader.specs.declared.stop.Stop.TheVariants.{Memory};
 use crate::fault::InputCause;
 use std::alloc::{AllocError, AllocFailed};
 
-#[derive(Clone, Copy, Debug, PartialEq, Eq)]
+#[derive(Clone, Copy)]
 pub(crate) enum Stop {
     Fault(InputCause),
     Memory,

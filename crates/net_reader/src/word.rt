@@ -4,7 +4,7 @@ ghost use Rattle.net_reader.specs.Table.{may_stand, place_of_word};
 ghost use Rattle.net_reader.specs.Steps.{number_of_place, word_in};
 
 /// The word that begins a line.
-#[derive(Clone, Copy, Debug, PartialEq, Eq)]
+#[derive(Clone, Copy)]
 pub(crate) enum Word {
     Track,
     Nodes,
@@ -20,7 +20,7 @@ pub(crate) enum Word {
 }
 
 /// The place of the last line that wasn't skipped.
-#[derive(Clone, Copy, Debug, PartialEq, Eq)]
+#[derive(Clone, Copy)]
 pub(crate) enum Place {
     Start,
     Track,
