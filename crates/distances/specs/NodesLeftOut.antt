@@ -84,8 +84,8 @@ pub record IsFilled (n width : ℕ) (left_out : List LeftOut) (table : List ℕ)
       → ((x : ℕ) → IsFresh n left_out x → ⊥)
       → (a b : ℕ) → a < n → b < n → cell_at width table a b ≡ d a b
 
--- a node is taken back: its row and column have the least weights through the nodes near it, and none
--- to itself
+-- a node is taken back: its row and column have the least weights through the nodes near it, and
+-- none to itself
 pub record IsTakenBack (n width : ℕ) (one : LeftOut) (back mine old new : List ℕ) : Type 0 where
   pub folded : List ℕ
   pub lowered : IsLowered (Among one.near.items (RowOffer n width old)) (replicate n FAR) folded

@@ -253,7 +253,8 @@ fn count_ahead<const ALONE: bool>(
     ensures few { result ≤ most }
     ensures rungs { (i : ℕ) → i ≤ result
         → IsRung plan.now climb.from (rung_past plan.now climb.from (rung_of climb) i) }
-    ensures empty { (i : ℕ) → i < result → word_beside cells.now sub (entry_place plan.now climb.from
+    ensures empty { (i : ℕ) → i < result
+        → word_beside cells.now sub (entry_place plan.now climb.from
         (rung_past plan.now climb.from (rung_of climb) i)) ≡ 0 }
 {
     // Readers are clusters of their levels, and the place of each is one of a subscriber's.

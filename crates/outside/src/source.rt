@@ -33,8 +33,8 @@ pub trait Source {
         ensures end { result ≡ Took.End → IsAtEnd (left self.old) }
         ensures count { CountsRead result (faults self.old) (faults self.new) };
 
-    /// Moves bytes that are left to the front of the buffer, as [`read`](Source::read) does, but the
-    /// rest of the buffer may hold anything then. So a source over a reader needs no copy.
+    /// Moves bytes that are left to the front of the buffer, as [`read`](Source::read) does, but
+    /// the rest of the buffer may hold anything then. So a source over a reader needs no copy.
     fn fill(&mut self, into: &mut [u8]) -> Took
         requires { 0 < length into.old }
         ensures within { TakesWithin result (length into.old) }

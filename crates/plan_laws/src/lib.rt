@@ -1,5 +1,5 @@
-//! Laws of plans beside what makes them: what is equal where two networks or two flat plans are, and
-//! the line of four nodes with its plans, over which crates above compute their examples. Each
+//! Laws of plans beside what makes them: what is equal where two networks or two flat plans are,
+//! and the line of four nodes with its plans, over which crates above compute their examples. Each
 //! public function is a law, and does nothing.
 #![tactic(auto)]
 

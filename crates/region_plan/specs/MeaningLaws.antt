@@ -9,7 +9,13 @@ use Rattle.region_plan.specs.Meanings.{IsTop}
 no_later : (table : DistanceTable) (s t : ℕ) → IsTop table s → IsTop table t → s < t → ⊥
 no_later table s t one two later =
     let at = two.greatest.attained in
-    omega (arith, two.least s later, one.enough, one.greatest.greatest at.from at.to at.from_below at.to_below, at.far)
+    omega (
+      arith,
+      two.least s later,
+      one.enough,
+      one.greatest.greatest at.from at.to at.from_below at.to_below,
+      at.far,
+    )
 
 -- two top levels are one
 pub tops_are_one : (table : DistanceTable) (s t : ℕ) → IsTop table s → IsTop table t → s ≡ t
@@ -22,7 +28,8 @@ tops_are_one table s t one two = elim (cases_lt s t) [
 ]
 
 -- and so are two depths
-pub depths_are_one : (cluster : WeighedCluster) (d e : ℕ) → IsDepth cluster d → IsDepth cluster e → d ≡ e
+pub depths_are_one : (cluster : WeighedCluster) (d e : ℕ) → IsDepth cluster d → IsDepth cluster e
+    → d ≡ e
 depths_are_one cluster d e one two =
     omega (
       arith,

@@ -48,15 +48,15 @@ reader-held plan level node index matched h l inside =
     )
 
 -- there are few readers
-pub readers-few : (plan : PlanData) (level node : ℕ) → IsMatched plan → IsKept plan → level < levels_of plan
-    → node < nodes_of plan → length (readers plan level node) ≤ 1024
+pub readers-few : (plan : PlanData) (level node : ℕ) → IsMatched plan → IsKept plan
+    → level < levels_of plan → node < nodes_of plan → length (readers plan level node) ≤ 1024
 readers-few plan level node matched kept h l =
     let sized : IsSized (nodes_of plan) (level_at plan level) = kept.levels level no_level h in
     subst (λ rs. length rs ≤ 1024) (sym (matched.read level node h l))
     (omega (
       arith,
-      length-passing-le (λ c. has node (cluster_in (level_at plan level).clusters c).members) 0 (length
-          (level_at plan level).clusters),
+      length-passing-le (λ c. has node (cluster_in (level_at plan level).clusters c).members) 0
+          (length (level_at plan level).clusters),
       sized.clusters,
       kept.metric.few,
     ))
@@ -72,19 +72,22 @@ readers-some plan level node matched h l =
     let home_read : has (home plan level node) (readers plan level node) ≡ true =
     rw (
       matched.read level node h l,
-      has-passing (λ c. has node (cluster_in (level_at plan level).clusters c).members) (home plan level node) 0
-          (clusters_of plan level) (omega arith) (omega (arith, matched.homes level node h l)),
+      has-passing (λ c. has node (cluster_in (level_at plan level).clusters c).members)
+          (home plan level node) 0 (clusters_of plan level) (omega arith)
+          (omega (arith, matched.homes level node h l)),
     )
     (matched.held level node h l) in
     has-some (home plan level node) (readers plan level node) home_read
 
 -- weights inside clusters are light
-pub way-light : (plan : PlanData) (i c v : ℕ) → IsKept plan → IsWithinReach plan → i < levels_of plan
-    → c < clusters_of plan i → has v (members_of plan i c) ≡ true → inside plan i c v ≤ 2 ^ 35
+pub way-light : (plan : PlanData) (i c v : ℕ) → IsKept plan → IsWithinReach plan
+    → i < levels_of plan → c < clusters_of plan i → has v (members_of plan i c) ≡ true
+    → inside plan i c v ≤ 2 ^ 35
 way-light plan i c v kept reached h l member =
     let sized : IsSized (nodes_of plan) (level_at plan i) = kept.levels i no_level h in
     let two : 0 < 2 = omega arith in
     let power : 2 ^ (level_at plan i).exponent ≤ 2 ^ 30 = pow-le-pow_right {n = 2} two {i =
     (level_at plan i).exponent} {j = 30} sized.exponent in
-    let product : plan.reach * 2 ^ (level_at plan i).exponent ≤ 17 * 2 ^ 30 = mul-le-mul kept.near power in
+    let product : plan.reach * 2 ^ (level_at plan i).exponent ≤ 17 * 2 ^ 30 =
+    mul-le-mul kept.near power in
     omega (arith, reached i c v h l member, product)

@@ -18,8 +18,8 @@ fn reads(rt: &impl Abort, source: &mut impl Source, buffer: &mut [u8], rows: &[(
     }
 }
 
-// Calls of `fill` are to hand over these pieces, with `|` behind each. A mark `!` is a fault, and an
-// empty piece the end.
+// Calls of `fill` are to hand over these pieces, with `|` behind each. A mark `!` is a fault, and
+// an empty piece the end.
 fn fills(rt: &impl Abort, source: &mut impl Source, buffer: &mut [u8], pieces: &str) {
     for (place, piece) in pieces.split_terminator('|').enumerate() {
         assert!(rt; buffer.len() > 0);

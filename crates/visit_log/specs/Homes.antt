@@ -1,4 +1,5 @@
--- The homes of all nodes in one row, node by node and level by level, by the places of their entries.
+-- The homes of all nodes in one row, node by node and level by level, by the places of their
+-- entries.
 -- Key laws: `Homes::new` (`AreHomes`) and `of` (the homes of a node at all levels).
 use Rattle.std.specs.Prelude.{◌≡◌, ℕ, ◌+◌, ◌*◌, ◌<◌, List, length, slice_index}
 use Rattle.region_plan.specs.Plan.{PlanData, home, levels_of, nodes_of}

@@ -1,5 +1,5 @@
--- The readers of all nodes in one row, node by node and level by level: a climb from a node looks at
--- its entries in this order. Beside each reader is the place of its entries, its level, and the
+-- The readers of all nodes in one row, node by node and level by level: a climb from a node looks
+-- at its entries in this order. Beside each reader is the place of its entries, its level, and the
 -- weight of the ways, there and back, to all leaders before it in the row.
 -- Key laws: `Routes::new` (`AreRoutes`), `ahead` (the places of the entries that a climb comes to,
 -- one after another) and `past` (where it is past so many of them, and what they weigh).

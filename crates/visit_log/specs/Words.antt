@@ -1,6 +1,6 @@
--- Words in 32 bits: a word whose kind is below 2^6, whose number below 2^16 and whose node below 2^10
--- is small, and these parts then lie side by side in 32 bits.
--- Key law: `Words::set`, by its clause (what a row of words holds is what was put, in 32 bits or not).
+-- Words in 32 bits: a word whose kind is below 2^6, whose number below 2^16 and whose node below
+-- 2^10 is small, and these parts then lie side by side in 32 bits.
+-- Key law: `Words::set`, by its clause (a row of words holds what was put, in 32 bits or not).
 use Rattle.std.specs.Prelude.{ℕ, ◌≡◌, ◌/◌, ◌%◌, ◌^◌, ◌++◌, List, map}
 use Rattle.entry_word.specs.Parts.{word_of_parts}
 

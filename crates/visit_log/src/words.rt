@@ -6,7 +6,8 @@ use std::alloc::{AllocError, Global};
 use std::marker::Model;
 
 /// A row of words. While all of them are small they are kept in 32 bits each; the first one that
-/// isn't moves all to 64 bits, in memory that was taken at the beginning and not touched until then.
+/// isn't moves all to 64 bits, in memory that was taken at the beginning and not touched until
+/// then.
 #[derive(Drop)]
 pub struct Words {
     narrow: Vec<u32>,

@@ -1,8 +1,8 @@
 -- A climb over entries that hold nothing: it goes from reader to reader, behind the last of a level
 -- to the first of the level above, and adds twice the weight inside each that it passes.
--- Key law: `climbs_go_on` (each entry that is passed is the next look, and what follows is what that
--- look leaves when it reads nothing). `Walk::climb` and `Walk::resume` say that a walk is where its
--- climb is.
+-- Key law: `climbs_go_on` (each entry that is passed is the next look, and what follows is what
+-- that look leaves when it reads nothing). `Walk::climb` and `Walk::resume` say that a walk is
+-- where its climb is.
 use Rattle.std.specs.Prelude.{◌≡◌, ℕ, zero, suc, ◌+◌, ◌*◌, ◌<◌, Bool, true, false, [], Some, None, length, slice_index, nat_lt, if◌then◌else◌}
 use Rattle.std.proofs.Common.{subst}
 use Rattle.entry_word.specs.declared.visit.Key.TheVariants.{Entry}

@@ -28,8 +28,8 @@ pub fn worked_cells()
 {}
 
 /// The readers of node 3 in a row over all levels: two of the lowest, one of each above. The places
-/// of their entries, what the ways to their leaders weigh, there and back, summed up, and the places
-/// of the node's homes.
+/// of their entries, what the ways to their leaders weigh, there and back, summed up, and the
+/// places of the node's homes.
 pub fn worked_rungs()
     ensures rungs { map (rung_past line_of_four 3 (rung_at 0 0)) (0 ∷ 1 ∷ 2 ∷ 3 ∷ [])
         ≡ rung_at 0 0 ∷ rung_at 0 1 ∷ rung_at 1 0 ∷ rung_at 2 0 ∷ [] }

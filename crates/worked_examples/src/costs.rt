@@ -80,8 +80,8 @@ pub fn wrong_costs()
     ensures less { Costs line_setting 0 [] 1 0 (record { number = 0; node = 3 }) 2 → ⊥ }
 {}
 
-/// Over three levels of clusters 3 radii wide, a subscriber that made one move of weight 1 writes at
-/// most 156, and purges one mark.
+/// Over three levels of clusters 3 radii wide, a subscriber that made one move of weight 1 writes
+/// at most 156, and purges one mark.
 pub fn wrong_rates()
     ensures most { IsWithinRate 3 3
         (record { sub = 0; moves = 1; moved = 1; written = 156; purged = 1 }) }

@@ -46,8 +46,8 @@ pub fn worked_switch_faults()
         ≡ None ∷ Some Already ∷ [] }
 {}
 
-/// A find from a node that isn't there, of a subscriber that isn't, by a pass without room: the pass
-/// stays as it is. A find that lost a turn was one that may begin.
+/// A find from a node that isn't there, of a subscriber that isn't, by a pass without room: the
+/// pass stays as it is. A find that lost a turn was one that may begin.
 pub fn wrong_find_faults()
     ensures walk_node { walk_or_fault line_of_four 4 1 1 ≡ Err NoSuchNode }
     ensures walk_sub { walk_or_fault line_of_four 3 1 1 ≡ Err NoSubscriber }

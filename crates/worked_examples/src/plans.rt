@@ -51,8 +51,8 @@ pub fn wrong_overlaps()
         → degree_of plan ^ plan.k ≤ plan.k ^ plan.k * nodes_of plan }
 {}
 
-/// A matched plan renews its lowest level after each move, and the leader of a cluster has no way to
-/// itself. The top level of a network whose diameter is 4 is level 2, neither below nor above.
+/// A matched plan renews its lowest level after each move, and the leader of a cluster has no way
+/// to itself. The top level of a network whose diameter is 4 is level 2, neither below nor above.
 pub fn wrong_matches()
     ensures first { (plan : PlanData) → IsMatched plan → threshold plan 0 ≡ 2 → ⊥ }
     ensures start { (plan : PlanData) → IsMatched plan → 0 < clusters_of plan 0

@@ -73,9 +73,9 @@ pub fn worked_phases()
 {}
 
 /// After a legal history of the subscriber: where node 2 lists it, it stands there and is on; and
-/// where it rests there and is on, node 2 lists it. One that is off, or that stands elsewhere, isn't
-/// on at a node. Of two subscribers whose scripts lead to node 2, the one that is switched off there
-/// doesn't end as listed.
+/// where it rests there and is on, node 2 lists it. One that is off, or that stands elsewhere,
+/// isn't on at a node. Of two subscribers whose scripts lead to node 2, the one that is switched
+/// off there doesn't end as listed.
 pub fn worked_counts()
     ensures listed { ListedStandThere → (history : History) → IsLegal line_setting 0 history
         → has 0 (census line_setting history 2) ≡ true → IsOnAt line_setting 0 history 2 }
