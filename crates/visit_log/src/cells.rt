@@ -10,7 +10,7 @@ ghost use Rattle.region_plan.specs.Cells.{IsCell, IsPlace};
 ghost use Rattle.visit_log.specs.Cells.{GoWith, Hold, IsPlaceOf, open_word, slot_of, width_of, word_at, word_beside};
 ghost use Rattle.visit_log.specs.Numbers.{key_place};
 
-use crate::places::Places;
+use crate::places::{Places, places_are_few};
 use crate::words::Words;
 use directory::{cell_after, same_key_means};
 use entry_word::{Address, Key, PresenceMark, pack_address, pack_mark};
@@ -116,8 +116,7 @@ impl PlainCells {
         requires place { IsPlace plan.now key }
         ensures { result ≡ key_place plan.now key }
     {
-        // The call tells the proof that there are few places.
-        let _width = self.places.width();
+        places_are_few(&self.places);
         self.places.place(key)
     }
 

@@ -1,5 +1,5 @@
 //! The places of nodes and clusters in one row.
-ghost use Rattle.std.specs.Prelude.{◌≡◌, ◌<◌, IfOk, length, slice_index};
+ghost use Rattle.std.specs.Prelude.{◌≡◌, ◌^◌, ◌<◌, IfOk, length, slice_index};
 ghost use Rattle.region_plan.specs.Cells.{IsPlace};
 ghost use Rattle.region_plan.specs.Plan.{PlanData};
 ghost use Rattle.visit_log.specs.Numbers.{ArePlaces, key_place};
@@ -72,4 +72,11 @@ impl Places {
     {
         self.firsts[level as usize]
     }
+}
+
+/// Law: there are fewer than 2^32 places. It takes no time.
+pub fn places_are_few(places: &Places)
+    ensures { places.now.width < 2 ^ 32 }
+{
+    let _ = places.width();
 }
