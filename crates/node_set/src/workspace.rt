@@ -1,6 +1,6 @@
 //! What the making of a cover writes over.
 
-ghost use Rattle.std.specs.Prelude.{◌≡◌, ◌≤◌, ℕ, [], All, IfOk, OnOk};
+ghost use Rattle.std.specs.Prelude.{◌≡◌, ◌≤◌, ◌++◌, ◌∷◌, ◌-◌, ℕ, [], All, IfOk, OnOk, length};
 ghost use Rattle.node_set.specs.Nodes.{Nodes};
 ghost use Rattle.node_set.specs.Workspaces.{IsWorkspace};
 
@@ -42,9 +42,12 @@ impl Workspace {
         })
     }
 
-    /// Takes the set of a cluster that is done with, to make another of.
+    /// Takes the set of a cluster that is done with, to make another of: it is the next that
+    /// [`empty_set`] hands out.
     pub fn give_back(&mut self, set: NodeSet) -> Result<(), OutOfMemory>
-        ensures { OnOk result
+        ensures kept { OnOk result
+            (self.new.growth.spare.items ≡ self.old.growth.spare.items ++ set ∷ []) }
+        ensures sized { OnOk result
             ((n : ℕ) → IsWorkspace n self.old → set.room ≡ n → IsWorkspace n self.new) }
     {
         self.growth.spare.push(set)?;
@@ -58,6 +61,7 @@ pub fn empty_set(alloc: Global, spare: &mut Vec<NodeSet>, room: u32) -> Result<N
     requires spare { All (λ (s : Nodes). s.room ≡ room) spare.old.items }
     ensures set { IfOk result (λ set. set ≡ record { room = room; members = [] }) }
     ensures spare { All (λ (s : Nodes). s.room ≡ room) spare.new.items }
+    ensures taken { length spare.new.items ≡ length spare.old.items - 1 }
 {
     match spare.pop() {
         Some(set) => {
