@@ -91,6 +91,7 @@ fn write_calls(line: &mut Line, left: &mut Listing) -> bool
         ≡ line.new ∷ call_lines (seen_listing left.new) }
     ensures none { result ≡ false → (call_lines (seen_listing left.old) ≡ [])
         × (call_lines (seen_listing left.new) ≡ []) }
+    ensures blank { result ≡ false → line.new ≡ [] }
 {
     if let [call, calls @ ..] = left.calls {
         write_call(line, call);
@@ -123,7 +124,9 @@ impl<'a> Model for InputLines<'a> {
 impl<'a> InputLines<'a> {
     /// All lines of a listing.
     pub fn new(alloc: Global, listing: Listing<'a>) -> Result<InputLines<'a>, AllocError>
-        ensures { IfOk result (λ lines. lines.left ≡ input_lines (seen_listing listing.entry)) }
+        ensures lines { IfOk result
+            (λ lines. lines.left ≡ input_lines (seen_listing listing.entry)) }
+        ensures blank { IfOk result (λ lines. lines.line ≡ []) }
     {
         Ok(InputLines {
             next: NextLine::Format,
@@ -137,6 +140,7 @@ impl<'a> InputLines<'a> {
     pub fn advance(&mut self) -> bool
         ensures line { result ≡ true → self.old.left ≡ self.new.line ∷ self.new.left }
         ensures none { result ≡ false → (self.old.left ≡ []) × (self.new.left ≡ []) }
+        ensures blank { result ≡ false → self.new.line ≡ [] }
     {
         self.line.clear();
         match self.next {
@@ -159,7 +163,7 @@ impl<'a> InputLines<'a> {
     }
 
     /// The line that `advance` has just made, with its line feed. Before the first `advance`, and
-    /// after one that answered false, nothing is said of it.
+    /// after one that answered false, it is empty.
     pub fn line(&self) -> &[u8]
         ensures { result.now ≡ self.now.line }
     {

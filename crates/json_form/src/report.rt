@@ -282,7 +282,9 @@ impl<'a> Debug for ReportParts<'a> {
 impl<'a> ReportParts<'a> {
     /// All parts of the JSON of an outcome.
     pub fn new(alloc: Global, outcome: &'a Outcome) -> Result<ReportParts<'a>, AllocError>
-        ensures { IfOk result (λ parts. parts.left ≡ report_json_of (result_of outcome.now)) }
+        ensures text { IfOk result
+            (λ parts. parts.left ≡ report_json_of (result_of outcome.now)) }
+        ensures blank { IfOk result (λ parts. parts.part ≡ []) }
     {
         let visits = outcome.order.len();
         Ok(ReportParts {
@@ -302,6 +304,7 @@ impl<'a> ReportParts<'a> {
         ensures part { result ≡ true → self.old.left ≡ self.new.part ++ self.new.left }
         ensures some { result ≡ true → 0 < length self.new.part }
         ensures none { result ≡ false → (self.old.left ≡ []) × (self.new.left ≡ []) }
+        ensures blank { result ≡ false → self.new.part ≡ [] }
     {
         self.part.clear();
         if let NextPart::Done = self.next {
@@ -312,7 +315,7 @@ impl<'a> ReportParts<'a> {
     }
 
     /// The part that `advance` has just made. Before the first `advance`, and after one that
-    /// answered false, nothing is said of it.
+    /// answered false, it is empty.
     pub fn part(&self) -> &[u8]
         ensures { result.now ≡ self.now.part }
     {

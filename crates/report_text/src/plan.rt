@@ -282,7 +282,8 @@ impl<'a> Model for PlanParts<'a> {
 impl<'a> PlanParts<'a> {
     /// All parts of the text of a plan.
     pub fn new(alloc: Global, plan: &'a Plan) -> Result<PlanParts<'a>, AllocError>
-        ensures { IfOk result (λ parts. parts.left ≡ plan_text_of plan.now) }
+        ensures text { IfOk result (λ parts. parts.left ≡ plan_text_of plan.now) }
+        ensures blank { IfOk result (λ parts. parts.part ≡ []) }
     {
         Ok(PlanParts {
             plan,
@@ -300,6 +301,7 @@ impl<'a> PlanParts<'a> {
         ensures part { result ≡ true → self.old.left ≡ self.new.part ++ self.new.left }
         ensures some { result ≡ true → 0 < length self.new.part }
         ensures none { result ≡ false → (self.old.left ≡ []) × (self.new.left ≡ []) }
+        ensures blank { result ≡ false → self.new.part ≡ [] }
     {
         self.part.clear();
         self.is_body = self.kept.waits;
@@ -320,7 +322,8 @@ impl<'a> PlanParts<'a> {
         true
     }
 
-    /// The part that was made last.
+    /// The part that `advance` has just made. Before the first `advance`, and after one that
+    /// answered false, it is empty.
     pub fn part(&self) -> &[u8]
         ensures { result.now ≡ self.now.part }
     {

@@ -195,7 +195,8 @@ impl<'a> Model for Lines<'a> {
 impl<'a> Lines<'a> {
     /// All lines of the report of an outcome.
     pub fn new(alloc: Global, outcome: &'a Outcome) -> Result<Lines<'a>, AllocError>
-        ensures { IfOk result (λ lines. lines.left ≡ report_lines (result_of outcome.now)) }
+        ensures lines { IfOk result (λ lines. lines.left ≡ report_lines (result_of outcome.now)) }
+        ensures blank { IfOk result (λ lines. lines.line ≡ []) }
     {
         Ok(Lines {
             calls: &outcome.calls,
@@ -210,6 +211,7 @@ impl<'a> Lines<'a> {
     pub fn advance(&mut self) -> bool
         ensures line { result ≡ true → self.old.left ≡ self.new.line ∷ self.new.left }
         ensures none { result ≡ false → (self.old.left ≡ []) × (self.new.left ≡ []) }
+        ensures blank { result ≡ false → self.new.line ≡ [] }
     {
         self.line.clear();
         if let [call, calls @ ..] = self.calls {
@@ -228,7 +230,8 @@ impl<'a> Lines<'a> {
         true
     }
 
-    /// The line that was made last, with its line feed.
+    /// The line that `advance` has just made, with its line feed. Before the first `advance`, and
+    /// after one that answered false, it is empty.
     pub fn line(&self) -> &[u8]
         ensures { result.now ≡ self.now.line }
     {
