@@ -1,12 +1,12 @@
 -- Short laws of logs of turns that go on, for the crates above: the events of an actor, the turns
--- that were lost and won, and events that come one after another.
+-- that were lost, and events that come one after another.
 -- Key laws: `logs-append` (events come into a log one after another in two parts), `logs-at` (each
 -- of them stands in it, behind all that it had).
 use Rattle.std.proofs.Common.{◌≡◌, ℕ, ◌≤◌, ◌==◌, eq-eqb, cond, List, [], ◌∷◌, ◌++◌, length, refl, sym, ap, ◌∙◌, subst, arith, append_assoc, length-append}
 use Rattle.std.proofs.lemmas.List.{append-nil}
 use Rattle.std.proofs.lemmas.List.Elements.{filter-append}
 use Rattle.station.specs.Moments.{IsLoggedAt}
-use Rattle.station.specs.Turns.{Logs, LogsAll, event_actor, events_of, losses, lost_in, won_in}
+use Rattle.station.specs.Turns.{Logs, LogsAll, event_actor, events_of, losses, lost_in}
 use Rattle.station.specs.Views.{turn_at}
 use Rattle.station.specs.declared.view.NodeTurn.{NodeTurn}
 use Rattle.station.specs.declared.view.TurnEvent.{TurnEvent}
@@ -32,28 +32,10 @@ lost-append (Won actor node ∷ xs) ys = lost-append xs ys
 lost-append (GivenBack actor node ∷ xs) ys = lost-append xs ys
 lost-append (Lost actor node word ∷ xs) ys = ap (λ l. turn_at node word ∷ l) (lost-append xs ys)
 
--- and those that are won
-pub won-append : (xs ys : List TurnEvent) → won_in (xs ++ ys) ≡ won_in xs ++ won_in ys
-won-append [] ys = refl
-won-append (Won actor node ∷ xs) ys = ap (λ l. node ∷ l) (won-append xs ys)
-won-append (GivenBack actor node ∷ xs) ys = won-append xs ys
-won-append (Lost actor node word ∷ xs) ys = won-append xs ys
-
--- losses are the actor's own, they lose just those turns, and win none
-pub losses-mine : (actor : ℕ) (turns : List NodeTurn)
-    → events_of actor (losses actor turns) ≡ losses actor turns
-losses-mine actor [] = refl
-losses-mine actor (turn ∷ turns) =
-    events-mine actor (Lost actor turn.node turn.word) (losses actor turns) refl
-    ∙ ap (λ l. Lost actor turn.node turn.word ∷ l) (losses-mine actor turns)
-
+-- losses lose just those turns
 pub losses-lost : (actor : ℕ) (turns : List NodeTurn) → lost_in (losses actor turns) ≡ turns
 losses-lost actor [] = refl
 losses-lost actor (turn ∷ turns) = ap (λ l. turn ∷ l) (losses-lost actor turns)
-
-pub losses-won : (actor : ℕ) (turns : List NodeTurn) → won_in (losses actor turns) ≡ []
-losses-won actor [] = refl
-losses-won actor (turn ∷ turns) = losses-won actor turns
 
 -- events come into a log one after another in two parts
 pub logs-append : (first second third : List TurnEvent) (xs ys : List TurnEvent)

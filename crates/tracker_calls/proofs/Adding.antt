@@ -1,16 +1,20 @@
--- What a pass has added, with one visit more, and after turns that it lost.
-use Rattle.std.proofs.Common.{◌≡◌, ℕ, suc, ◌-◌, List, [], ◌∷◌, ◌++◌, None, length, refl, sym, ap, ◌∙◌, subst, arith, append_assoc, length-append}
+-- What a pass has added, with one visit more, before which it lost turns at the node.
+use Rattle.std.proofs.Common.{◌≡◌, ℕ, suc, ◌-◌, List, [], ◌∷◌, ◌++◌, None, cond, eq-eqb, length, map, refl, sym, ap, ◌∙◌, subst, arith, append_assoc, length-append}
+use Rattle.std.specs.Prelude.{flat_map}
 use Rattle.std.proofs.lemmas.List.{append-nil, get_or_push, map-append}
+use Rattle.std.proofs.lemmas.List.Concat.{flat_map-append}
 use Rattle.entry_word.specs.declared.visit.Act.{Act}
-use Rattle.directory.specs.Histories.{History, IsFront, tickets}
+use Rattle.entry_word.specs.declared.visit.Visit.{Visit}
+use Rattle.directory.specs.Histories.{History, IsFront, own, tickets}
 use Rattle.directory.specs.Keys.{act_node}
-use Rattle.directory.specs.Legal.{IsLegal}
 use Rattle.directory.specs.Looks.{last_of}
+use Rattle.directory.specs.Settings.{Setting}
+use Rattle.directory.specs.StepLaws.{own-push}
 use Rattle.station.specs.Passes.{PassData, actor_of}
 use Rattle.station.specs.Plays.{view_held, visit_by}
 use Rattle.station.specs.Setup.{Setup, setting_in}
-use Rattle.station.specs.TurnLaws.{events-append, events-mine, logs-append, losses-lost, losses-mine, losses-won, lost-append, won-append}
-use Rattle.station.specs.Turns.{Logs, LogsAll, events_of, losses, lost_in, won_in}
+use Rattle.station.specs.TurnLaws.{logs-append, losses-lost, lost-append}
+use Rattle.station.specs.Turns.{HasHadTurn, Logs, LogsAll, losses, lost_in}
 use Rattle.station.specs.Views.{turn_at}
 use Rattle.station.specs.Visits.{HasLost, HasVisited}
 use Rattle.station.specs.declared.turns.Held.{Held}
@@ -18,54 +22,54 @@ use Rattle.station.specs.declared.view.NodeTurn.{NodeTurn}
 use Rattle.station.specs.declared.view.TurnEvent.{TurnEvent}
 use Rattle.station.specs.declared.view.TurnEvent.TheVariants.{Won, GivenBack, Lost}
 use Rattle.station.specs.TicketLaws.{tickets-more}
-use Rattle.tracker_calls.specs.Added.{HasAdded, HasLoggedMore, HasTried}
+use Rattle.tracker_calls.specs.Added.{HasAdded, HasLoggedMore, HasTried, VisitTurns, own_nodes, turns_taken}
 use Rattle.tracker_calls.proofs.Wanted.{legal-seen}
 use Rattle.directory.specs.Statements.{BeginsWithItself, BeginsWithFront, BeginsThrough}
 
 -- no events are logged; and some, and then more
 logged-none : (pass : PassData) → HasLoggedMore pass [] pass
-logged-none pass = record { mine = refl; logs = refl; lost = sym (append-nil pass.view.lost) }
+logged-none pass = record { logs = refl; lost = sym (append-nil pass.view.lost) }
 
-logged-more : (one two three : PassData) (xs ys : List TurnEvent) → actor_of two ≡ actor_of one
-    → HasLoggedMore one xs two → HasLoggedMore two ys three → HasLoggedMore one (xs ++ ys) three
-logged-more one two three xs ys same first second =
-    let actor = actor_of one in
-    let mine : events_of actor ys ≡ ys = subst (λ (a : ℕ). events_of a ys ≡ ys) same second.mine in
+logged-more : (one two three : PassData) (xs ys : List TurnEvent) → HasLoggedMore one xs two
+    → HasLoggedMore two ys three → HasLoggedMore one (xs ++ ys) three
+logged-more one two three xs ys first second =
     record {
-      mine = events-append actor xs ys ∙ (λ i. first.mine i ++ mine i);
       logs = logs-append one.view.turns two.view.turns three.view.turns xs ys first.logs second.logs;
       lost = second.lost ∙ (ap (λ (l : List NodeTurn). l ++ lost_in ys) first.lost
           ∙ (append_assoc one.view.lost (lost_in xs) (lost_in ys)
           ∙ ap (λ l. one.view.lost ++ l) (sym (lost-append xs ys))));
     }
 
--- the events of a visit
-logged-visit : (pass new : PassData) (act : Act) (ticket : ℕ) → HasVisited pass act ticket new
-    → (node : ℕ) × HasLoggedMore pass (Won (actor_of pass) node ∷ GivenBack (actor_of pass) node ∷ []) new
-logged-visit pass new act ticket visited =
-    let actor = actor_of pass in
-    let node = act_node (setting_in pass.view.setup) act in
-    let last : List TurnEvent = GivenBack actor node ∷ [] in (
-      node,
-      record {
-        mine = events-mine actor (Won actor node) last refl
-            ∙ ap (λ l. Won actor node ∷ l) (events-mine actor (GivenBack actor node) [] refl);
-        logs = (visited.turn.inside, visited.turn.won, (new.view.turns, visited.turn.given_back, refl));
-        lost = visited.lost ∙ sym (append-nil pass.view.lost);
-      },
-    )
-
 -- the events of turns that are lost
-logged-tried : (pass tried : PassData) → (lost : HasTried pass tried)
-    → HasLoggedMore pass (losses (actor_of pass) lost.turns) tried
-logged-tried pass tried lost =
-    let actor = actor_of pass in
+logged-tried : (node : ℕ) (pass tried : PassData) → (lost : HasTried node pass tried)
+    → HasLoggedMore pass (losses (actor_of pass) (map (turn_at node) lost.words)) tried
+logged-tried node pass tried lost =
     record {
-      mine = losses-mine actor lost.turns;
       logs = lost.logs;
       lost = ap (λ (q : PassData). q.view.lost) lost.is
-          ∙ ap (λ l. pass.view.lost ++ l) (sym (losses-lost actor lost.turns));
+          ∙ ap (λ l. pass.view.lost ++ l) (sym (losses-lost (actor_of pass) (map (turn_at node) lost.words)));
     }
+
+-- those of a visit, and of the turns that were lost before it
+logged-visit : (setup : Setup) (pass tried new : PassData) (act : Act) (ticket : ℕ) → pass.view.setup ≡ setup
+    → (lost : HasTried (act_node (setting_in setup) act) pass tried) → HasVisited tried act ticket new
+    → HasLoggedMore pass (turns_taken (actor_of pass) (record {
+      node = act_node (setting_in setup) act;
+      words = lost.words;
+    })) new
+logged-visit setup pass tried new act ticket told lost visited =
+    let node = act_node (setting_in setup) act in
+    let actor = actor_of pass in
+    let setups : tried.view.setup ≡ setup = ap (λ (q : PassData). q.view.setup) lost.is ∙ told in
+    let turn : HasHadTurn actor node tried.view.turns new.view.turns =
+    subst (λ (s : Setup). HasHadTurn actor (act_node (setting_in s) act) tried.view.turns new.view.turns) setups
+    (subst (λ (a : ℕ). HasHadTurn a (act_node (setting_in tried.view.setup) act) tried.view.turns new.view.turns)
+    (ap actor_of lost.is) visited.turn) in
+    logged-more pass tried new (losses actor (map (turn_at node) lost.words))
+    (Won actor node ∷ GivenBack actor node ∷ []) (logged-tried node pass tried lost) (record {
+      logs = (turn.inside, turn.won, (new.view.turns, turn.given_back, refl));
+      lost = visited.lost ∙ sym (append-nil tried.view.lost);
+    })
 
 -- nothing is added
 pub added-none : BeginsWithItself → (setup : Setup) (pass : PassData) → pass.view.inside ≡ None
@@ -77,9 +81,10 @@ added-none itself setup pass outside =
       legal = λ h. absurd (omega (arith, h));
       spare = omega arith;
       outside = outside;
-      events = [];
+      turns = [];
+      count = refl;
+      nodes = sym (append-nil _);
       logged = logged-none pass;
-      won = refl;
       same = record { table = refl; seat = refl; setup = refl; actor = refl };
     }
 
@@ -91,89 +96,120 @@ visited-front longer through old new act ticket visited =
     through old.view.seen visited.earlier new.view.seen visited.begins
     (subst (IsFront visited.earlier) (sym visited.seen) (longer visited.earlier (visit_by old.view act ∷ [])))
 
+-- the visit is its pass's own
+pub own-visited : (old new : PassData) (act : Act) (ticket : ℕ) → HasVisited old act ticket new
+    → own (actor_of old) new.view.seen ≡ own (actor_of old) old.view.seen ++ visit_by old.view act ∷ []
+own-visited old new act ticket visited =
+    ap (own (actor_of old)) visited.seen
+    ∙ (own-push (actor_of old) visited.earlier (visit_by old.view act)
+    ∙ (ap (λ b. own (actor_of old) visited.earlier ++ cond b (visit_by old.view act ∷ []) [])
+    (eq-eqb old.view.low old.view.low refl)
+    ∙ ap (λ l. l ++ visit_by old.view act ∷ []) visited.visits))
+
+-- the node of a visit comes behind those of its actor's earlier ones
+nodes-more : (setting : Setting) (actor : ℕ) (begun pass new : History) (turns : List VisitTurns) (one : VisitTurns)
+    (visit : Visit) → own actor new ≡ own actor pass ++ visit ∷ []
+    → own_nodes setting actor pass ≡ own_nodes setting actor begun ++ map (λ t. t.node) turns
+    → one.node ≡ act_node setting visit.act
+    → own_nodes setting actor new ≡ own_nodes setting actor begun ++ map (λ t. t.node) (turns ++ one ∷ [])
+nodes-more setting actor begun pass new turns one visit more nodes at =
+    let its : List ℕ = map (λ t. t.node) turns in
+    ap (map (λ (v : Visit). act_node setting v.act)) more
+    ∙ (map-append (λ (v : Visit). act_node setting v.act) (own actor pass) (visit ∷ [])
+    ∙ (ap (λ l. l ++ act_node setting visit.act ∷ []) nodes
+    ∙ (append_assoc (own_nodes setting actor begun) its (act_node setting visit.act ∷ [])
+    ∙ (ap (λ n. own_nodes setting actor begun ++ (its ++ n ∷ [])) (sym at)
+    ∙ ap (λ l. own_nodes setting actor begun ++ l) (sym (map-append (λ (t : VisitTurns). t.node) turns (one ∷ [])))))))
+
+-- one visit more, after turns that were lost at its node
 pub added-more : BeginsWithFront → BeginsThrough
-    → (setup : Setup) (begun pass new : PassData) (made : List ℕ) (act : Act)
-    (ticket : ℕ) → pass.view.setup ≡ setup → HasAdded setup begun made pass → HasVisited pass act ticket new
+    → (setup : Setup) (begun pass tried new : PassData) (made : List ℕ) (act : Act)
+    (ticket : ℕ) → pass.view.setup ≡ setup → HasAdded setup begun made pass
+    → HasTried (act_node (setting_in setup) act) pass tried → HasVisited tried act ticket new
     → HasAdded setup begun (made ++ ticket ∷ []) new
-added-more longer through setup begun pass new made act ticket told added visited =
-    let mine : actor_of pass ≡ actor_of begun = added.same.actor in
+added-more longer through setup begun pass tried new made act ticket told added lost visited =
+    let actor : ℕ = actor_of begun in
+    let setups : tried.view.setup ≡ setup = ap (λ (q : PassData). q.view.setup) lost.is ∙ told in
+    let seen : tried.view.seen ≡ pass.view.seen = ap (λ (q : PassData). q.view.seen) lost.is in
+    let mine : actor_of tried ≡ actor = ap actor_of lost.is ∙ added.same.actor in
     let one = length-append made (ticket ∷ []) in
-    let turn = logged-visit pass new act ticket visited in
-    let more : List TurnEvent = Won (actor_of pass) turn.0 ∷ GivenBack (actor_of pass) turn.0 ∷ [] in
+    let turns : VisitTurns = record { node = act_node (setting_in setup) act; words = lost.words } in
+    let taken : List TurnEvent = flat_map (turns_taken actor) added.turns in
+    let more : own actor new.view.seen ≡ own actor pass.view.seen ++ visit_by tried.view act ∷ [] =
+    subst (λ (h : History). own actor new.view.seen ≡ own actor h ++ visit_by tried.view act ∷ []) seen
+    (subst (λ (a : ℕ). own a new.view.seen ≡ own a tried.view.seen ++ visit_by tried.view act ∷ []) mine
+    (own-visited tried new act ticket visited)) in
+    let next : tickets actor new.view.seen ≡ tickets actor tried.view.seen ++ ticket ∷ [] =
+    subst (λ (a : ℕ). tickets a new.view.seen ≡ tickets a tried.view.seen ++ ticket ∷ []) mine
+    (ap (tickets (actor_of tried)) visited.seen
+    ∙ (tickets-more (actor_of tried) tried.view.seen visited.earlier (visit_by tried.view act) visited.begins
+    visited.visits refl
+    ∙ ap (λ t. tickets (actor_of tried) tried.view.seen ++ t ∷ []) visited.count)) in
     record {
       begins = through begun.view.seen pass.view.seen new.view.seen added.begins
-          (visited-front longer through pass new act ticket visited);
-      visits = subst (λ a. tickets a new.view.seen ≡ tickets a pass.view.seen ++ ticket ∷ []) mine
-          (ap (tickets (actor_of pass)) visited.seen
-          ∙ (tickets-more (actor_of pass) pass.view.seen visited.earlier (visit_by pass.view act) visited.begins
-          visited.visits refl
-          ∙ ap (λ t. tickets (actor_of pass) pass.view.seen ++ t ∷ []) visited.count))
-          ∙ (ap (λ l. l ++ ticket ∷ []) added.visits ∙ append_assoc _ made (ticket ∷ []));
-      legal = λ some. legal-seen setup pass new act ticket told visited;
-      spare = omega (arith, visited.spare, added.spare, one);
+          (subst (λ (h : History). IsFront h new.view.seen) seen
+          (visited-front longer through tried new act ticket visited));
+      visits = next
+          ∙ (ap (λ (h : History). tickets actor h ++ ticket ∷ []) seen
+          ∙ (ap (λ l. l ++ ticket ∷ []) added.visits ∙ append_assoc _ made (ticket ∷ [])));
+      legal = λ some. legal-seen setup tried new act ticket setups visited;
+      spare = omega (arith, visited.spare, ap (λ (q : PassData). q.spare) lost.is, added.spare, one);
       outside = visited.outside;
-      events = added.events ++ more;
-      logged = logged-more begun pass new added.events more mine added.logged turn.1;
-      won = ap length (won-append added.events more)
-          ∙ omega (arith, length-append (won_in added.events) (turn.0 ∷ []), added.won, one);
+      turns = added.turns ++ turns ∷ [];
+      count = omega (arith, length-append added.turns (turns ∷ []), added.count, one);
+      nodes = nodes-more (setting_in setup) actor begun.view.seen pass.view.seen new.view.seen added.turns turns
+          (visit_by tried.view act) more added.nodes refl;
+      logged = subst (λ (l : List TurnEvent). HasLoggedMore begun l new)
+          (ap (λ l. taken ++ l) (sym (append-nil (turns_taken actor turns)))
+          ∙ sym (flat_map-append (turns_taken actor) added.turns (turns ∷ [])))
+          (logged-more begun pass new taken (turns_taken actor turns) added.logged
+          (subst (λ (a : ℕ). HasLoggedMore pass (turns_taken a turns) new) added.same.actor
+          (logged-visit setup pass tried new act ticket told lost visited)));
       same = record {
-        table = visited.same.table ∙ added.same.table;
-        seat = visited.same.seat ∙ added.same.seat;
-        setup = visited.same.setup ∙ added.same.setup;
-        actor = visited.same.actor ∙ added.same.actor;
+        table = visited.same.table ∙ (ap (λ (q : PassData). q.table) lost.is ∙ added.same.table);
+        seat = visited.same.seat ∙ (ap (λ (q : PassData). q.seat) lost.is ∙ added.same.seat);
+        setup = visited.same.setup ∙ (ap (λ (q : PassData). q.view.setup) lost.is ∙ added.same.setup);
+        actor = visited.same.actor ∙ (ap actor_of lost.is ∙ added.same.actor);
       };
     }
 
--- one turn more is lost
-pub tried-again : (begun pass new : PassData) (place : ℕ) (held : Held) → HasTried begun pass
-    → HasLost pass place held new → HasTried begun new
-tried-again begun pass new place held tried lost =
-    let one : NodeTurn = turn_at place (suc held.by) in
+-- no turn is lost; and one more
+pub tried-none : (node : ℕ) (pass : PassData) → HasTried node pass pass
+tried-none node pass =
+    record {
+      words = [];
+      logs = refl;
+      is = ap (λ (l : List NodeTurn). record pass { view = record pass.view { lost = l } })
+          (sym (append-nil pass.view.lost));
+    }
+
+pub tried-again : (node : ℕ) (begun pass new : PassData) (held : Held) → HasTried node begun pass
+    → HasLost pass node held new → HasTried node begun new
+tried-again node begun pass new held tried lost =
+    let word : ℕ = suc held.by in
+    let one : NodeTurn = turn_at node word in
+    let turns : List NodeTurn = map (turn_at node) tried.words in
     let actor = actor_of begun in
     let same : actor_of pass ≡ actor = ap actor_of tried.is in
+    let more : map (turn_at node) (tried.words ++ word ∷ []) ≡ turns ++ one ∷ [] =
+    map-append (turn_at node) tried.words (word ∷ []) in
     let logs : LogsAll pass.view.turns (losses actor (one ∷ [])) new.view.turns = (
       new.view.turns,
-      subst (λ (a : ℕ). Logs pass.view.turns (Lost a place (suc held.by)) new.view.turns) same lost.logs,
+      subst (λ (a : ℕ). Logs pass.view.turns (Lost a node word) new.view.turns) same lost.logs,
       refl,
     ) in
     record {
-      turns = tried.turns ++ one ∷ [];
+      words = tried.words ++ word ∷ [];
       logs = subst (λ (l : List TurnEvent). LogsAll begun.view.turns l new.view.turns)
-          (sym (map-append (λ (turn : NodeTurn). Lost actor turn.node turn.word) tried.turns (one ∷ [])))
-          (logs-append begun.view.turns pass.view.turns new.view.turns (losses actor tried.turns)
+          (sym (ap (losses actor) more
+          ∙ map-append (λ (turn : NodeTurn). Lost actor turn.node turn.word) turns (one ∷ [])))
+          (logs-append begun.view.turns pass.view.turns new.view.turns (losses actor turns)
           (losses actor (one ∷ [])) tried.logs logs);
       is = lost.turn
-          ∙ (ap (λ (q : PassData). record q { view = view_held q.view place (suc held.by) new.view.turns }) tried.is
+          ∙ (ap (λ (q : PassData). record q { view = view_held q.view node word new.view.turns }) tried.is
           ∙ ap (λ (l : List NodeTurn). record begun {
             view = record begun.view { turns = new.view.turns; lost = l };
-          }) (append_assoc begun.view.lost tried.turns (one ∷ [])));
-    }
-
--- turns that are lost add nothing
-pub added-tried : (setup : Setup) (begun pass tried : PassData) (made : List ℕ) → HasTried pass tried
-    → HasAdded setup begun made pass → HasAdded setup begun made tried
-added-tried setup begun pass tried made lost added =
-    let more = losses (actor_of pass) lost.turns in
-    let same = added.same in
-    record {
-      begins = subst (λ (h : History). IsFront begun.view.seen h) (sym (ap (λ (q : PassData). q.view.seen) lost.is))
-          added.begins;
-      visits = ap (λ (q : PassData). tickets (actor_of begun) q.view.seen) lost.is ∙ added.visits;
-      legal = λ some sub known. subst (λ (q : PassData). IsLegal (setting_in setup) sub q.view.seen) (sym lost.is)
-          (added.legal some sub known);
-      spare = omega (arith, ap (λ (q : PassData). q.spare) lost.is, added.spare);
-      outside = ap (λ (q : PassData). q.view.inside) lost.is ∙ added.outside;
-      events = added.events ++ more;
-      logged = logged-more begun pass tried added.events more same.actor added.logged (logged-tried pass tried lost);
-      won = ap length (won-append added.events more)
-          ∙ (ap (λ (l : List ℕ). length (won_in added.events ++ l)) (losses-won (actor_of pass) lost.turns)
-          ∙ (ap length (append-nil (won_in added.events)) ∙ added.won));
-      same = record {
-        table = ap (λ (q : PassData). q.table) lost.is ∙ same.table;
-        seat = ap (λ (q : PassData). q.seat) lost.is ∙ same.seat;
-        setup = ap (λ (q : PassData). q.view.setup) lost.is ∙ same.setup;
-        actor = ap actor_of lost.is ∙ same.actor;
-      };
+          }) (append_assoc begun.view.lost turns (one ∷ []) ∙ ap (λ l. begun.view.lost ++ l) (sym more)));
     }
 
 -- the last of some tickets and one more

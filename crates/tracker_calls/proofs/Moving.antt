@@ -1,18 +1,18 @@
 -- A whole move over the tracker, put by put.
-use Rattle.std.proofs.Common.{◌≡◌, ℕ, suc, ◌+◌, ◌≤◌, eq-eqb, Bool, true, false, not, cond, List, [], ◌∷◌, ◌++◌, Option, Some, None, length, map, take, refl, sym, ap, ◌∙◌, subst, arith, append_assoc, length-append}
+use Rattle.std.proofs.Common.{◌≡◌, ℕ, suc, ◌+◌, ◌≤◌, Bool, true, false, not, List, [], ◌∷◌, ◌++◌, Option, Some, None, length, map, take, refl, sym, ap, ◌∙◌, subst, arith, append_assoc, length-append}
 use Rattle.std.specs.Prelude.{option_map}
 use Rattle.std.specs.Option.{is_some}
-use Rattle.std.proofs.lemmas.List.{append-nil, append_cancel_left, length-drop, length-map, take_all}
+use Rattle.std.proofs.lemmas.List.{append-nil, append_cancel_left, length-map, take_all}
 use Rattle.entry_word.specs.declared.visit.Act.{Act}
 use Rattle.entry_word.specs.declared.visit.Visit.{Visit}
 use Rattle.directory.specs.Courses.{Course, Step, course_at, move_to}
 use Rattle.directory.specs.Histories.{own, puts_to}
 use Rattle.directory.specs.Settings.{Setting, start}
-use Rattle.directory.specs.StepLaws.{own-push, visits-append}
+use Rattle.directory.specs.StepLaws.{visits-append}
 use Rattle.directory.specs.Writes.{Write, step_writes, visit_of, visits, writes}
 use Rattle.handset.specs.Beginning.{begin_move, is_rest}
 use Rattle.handset.specs.Condition.{GoesWith, HandsetData}
-use Rattle.handset.specs.StepWrites.{after_write, due, due_at, left_at}
+use Rattle.handset.specs.StepWrites.{after_write, due, due_at}
 use Rattle.directory.specs.Amid.{course_of}
 use Rattle.handset.specs.Stands.{StandsForSteps}
 use Rattle.handset.specs.declared.stage.Stage.{Stage}
@@ -24,11 +24,12 @@ use Rattle.station.specs.HandsetLaws.{at-rest, begun-handset, conditions}
 use Rattle.station.specs.Passes.{PassData, actor_of}
 use Rattle.station.specs.Plays.{visit_by}
 use Rattle.station.specs.Setup.{Setup, setting_in}
-use Rattle.tracker_calls.specs.Added.{HasAdded, HasTried}
+use Rattle.station.specs.Visits.{IsSamePass}
+use Rattle.tracker_calls.specs.Added.{HasTried}
 use Rattle.tracker_calls.specs.Moves.{HasStepped}
 use Rattle.tracker_calls.specs.WholeMoves.{MayMoveTo, after_writes, puts_of_move}
-use Rattle.tracker_calls.proofs.Adding.{added-more, added-none, added-tried}
-use Rattle.directory.specs.Statements.{MovesAreShort, BeginsWithItself, BeginsWithFront, BeginsThrough}
+use Rattle.tracker_calls.proofs.Adding.{own-visited}
+use Rattle.directory.specs.Statements.{MovesAreShort}
 
 -- a handset rests just where nothing is left
 pub due-rests : (setting : Setting) (handset : HandsetData) (stage : Stage)
@@ -91,7 +92,7 @@ pub record HasPut (setup : Setup) (begun : PassData) (from : HandsetData) (to : 
   pub steps : List Step
   pub stood : StandsForSteps (setting_in setup) from steps (length (puts_to (actor_of begun) begun.view.seen))
   pub all : puts_to (actor_of begun) begun.view.seen ≡ visits (setting_in setup) (actor_of begun) steps
-  pub added : HasAdded setup begun made pass
+  pub same : IsSamePass begun pass
   pub put : List Visit
   pub count : length put ≡ length made
   pub visits_are : own (actor_of begun) pass.view.seen ≡ own (actor_of begun) begun.view.seen ++ put
@@ -113,14 +114,14 @@ unfolding after_writes
 one-written setting handset count = refl
 
 -- a move that is begun
-pub put-none : BeginsWithItself → MovesAreShort
+pub put-none : MovesAreShort
     → (setup : Setup) (pass : PassData) (handset begun : HandsetData) (to : ℕ)
-    → (its : IsHandsetOf setup pass.view handset) → MayMoveTo setup.plan pass handset to → pass.view.inside ≡ None
+    → (its : IsHandsetOf setup pass.view handset) → MayMoveTo setup.plan pass handset to
     → begun ≡ begin_move (setting_in setup) handset to → GoesWith setup.plan begun
     → ((steps : List Step) (made : ℕ) → StandsForSteps (setting_in setup) handset steps made
     → StandsForSteps (setting_in setup) begun (steps ++ move_to to ∷ []) made)
     → HasPut setup pass handset to [] pass begun
-put-none itself short setup pass handset begun to its may outside is goes stands =
+put-none short setup pass handset begun to its may is goes stands =
     let setting : Setting = setting_in setup in
     let sub : ℕ = pass.view.low in
     let puts = puts_to sub pass.view.seen in
@@ -131,7 +132,7 @@ put-none itself short setup pass handset begun to its may outside is goes stands
       steps = its.steps;
       stood = its.stands;
       all = its.made ∙ take_all (length puts) (visits setting sub its.steps) (omega (arith, rest.all));
-      added = added-none itself setup pass outside;
+      same = record { table = refl; seat = refl; setup = refl; actor = refl };
       put = [];
       count = refl;
       visits_are = sym (append-nil _);
@@ -151,31 +152,36 @@ put-none itself short setup pass handset begun to its may outside is goes stands
     }
 
 -- the same, as the code reads its plan
-pub put-begun : BeginsWithItself → MovesAreShort → (setup : Setup) (plan : PlanData) (pass : PassData)
+pub put-begun : MovesAreShort → (setup : Setup) (plan : PlanData) (pass : PassData)
     (handset begun : HandsetData) (to : ℕ) → plan ≡ setup.plan → (its : IsHandsetOf setup pass.view handset)
-    → MayMoveTo plan pass handset to → pass.view.inside ≡ None
+    → MayMoveTo plan pass handset to
     → begun ≡ begin_move (setting_of plan []) handset to → GoesWith plan begun
     → ((starts : List ℕ) (steps : List Step) (made : ℕ) → StandsForSteps (setting_of plan starts) handset steps made
     → StandsForSteps (setting_of plan starts) begun (steps ++ move_to to ∷ []) made)
     → HasPut setup pass handset to [] pass begun
-put-begun itself short setup plan pass handset begun to same its may outside is goes stands =
+put-begun short setup plan pass handset begun to same its may is goes stands =
     subst (λ p. MayMoveTo p pass handset to → begun ≡ begin_move (setting_of p []) handset to → GoesWith p begun
     → ((starts : List ℕ) (steps : List Step) (made : ℕ) → StandsForSteps (setting_of p starts) handset steps made
     → StandsForSteps (setting_of p starts) begun (steps ++ move_to to ∷ []) made)
     → HasPut setup pass handset to [] pass begun) (sym same)
-    (λ may_there is_there goes_there stands_there. put-none itself short setup pass handset begun to its
-    may_there outside is_there goes_there (stands_there setup.homes)) may is goes stands
+    (λ may_there is_there goes_there stands_there. put-none short setup pass handset begun to its may_there
+    is_there goes_there (stands_there setup.homes)) may is goes stands
 
 -- turns that are lost change nothing of it
 pub put-tried : (setup : Setup) (begun : PassData) (from : HandsetData) (to : ℕ) (made : List ℕ)
-    (pass tried : PassData) (handset : HandsetData) → HasTried pass tried
+    (node : ℕ) (pass tried : PassData) (handset : HandsetData) → HasTried node pass tried
     → HasPut setup begun from to made pass handset → HasPut setup begun from to made tried handset
-put-tried setup begun from to made pass tried handset lost at =
+put-tried setup begun from to made node pass tried handset lost at =
     subst (λ (q : PassData). HasPut setup begun from to made q handset) (sym lost.is) (record {
       steps = at.steps;
       stood = at.stood;
       all = at.all;
-      added = subst (HasAdded setup begun made) lost.is (added-tried setup begun pass tried made lost at.added);
+      same = record {
+        table = at.same.table;
+        seat = at.same.seat;
+        setup = at.same.setup;
+        actor = at.same.actor;
+      };
       put = at.put;
       count = at.count;
       visits_are = at.visits_are;
@@ -194,16 +200,15 @@ put-tried setup begun from to made pass tried handset lost at =
     })
 
 -- one put more
-pub put-more : BeginsWithFront → BeginsThrough
-    → (setup : Setup) (begun : PassData) (from : HandsetData) (to : ℕ) (made : List ℕ)
-    (pass new : PassData) (handset moved : HandsetData) (ticket : ℕ) → pass.view.setup ≡ setup
+pub put-more : (setup : Setup) (begun : PassData) (from : HandsetData) (to : ℕ) (made : List ℕ)
+    (pass new : PassData) (handset moved : HandsetData) (ticket : ℕ)
     → HasPut setup begun from to made pass handset → HasStepped setup pass handset ticket new moved
     → HasPut setup begun from to (made ++ ticket ∷ []) new moved
-put-more longer through setup begun from to made pass new handset moved ticket told at stepped =
+put-more setup begun from to made pass new handset moved ticket at stepped =
     let setting : Setting = setting_in setup in
     let goes = stepped.goes_on at.its in
     let visited = stepped.visited in
-    let mine : actor_of pass ≡ actor_of begun = at.added.same.actor in
+    let mine : actor_of pass ≡ actor_of begun = at.same.actor in
     let still : actor_of new ≡ actor_of begun = visited.same.actor ∙ mine in
     let visit : Visit = stepped.visit in
     let by : visit.actor ≡ actor_of pass =
@@ -211,12 +216,7 @@ put-more longer through setup begun from to made pass new handset moved ticket t
     let whole : visit_by pass.view visit.act ≡ visit =
     ap (λ (a : ℕ). the_visit a visit.act) (sym by) in
     let more : own (actor_of pass) new.view.seen ≡ own (actor_of pass) pass.view.seen ++ visit ∷ [] =
-    ap (own (actor_of pass)) visited.seen
-    ∙ (own-push (actor_of pass) visited.earlier (visit_by pass.view visit.act)
-    ∙ (ap (λ b. own (actor_of pass) visited.earlier ++ cond b (visit_by pass.view visit.act ∷ []) [])
-    (eq-eqb pass.view.low pass.view.low refl)
-    ∙ (ap (λ l. l ++ visit_by pass.view visit.act ∷ []) visited.visits
-    ∙ ap (λ v. own (actor_of pass) pass.view.seen ++ v ∷ []) whole))) in
+    own-visited pass new visit.act ticket visited ∙ ap (λ v. own (actor_of pass) pass.view.seen ++ v ∷ []) whole in
     let puts : puts_to (actor_of begun) new.view.seen ≡ puts_to (actor_of begun) pass.view.seen ++ visit ∷ [] =
     ap (λ a. puts_to a new.view.seen) (sym still)
     ∙ (goes.puts ∙ ap (λ a. puts_to a pass.view.seen ++ visit ∷ []) mine) in
@@ -225,7 +225,12 @@ put-more longer through setup begun from to made pass new handset moved ticket t
       steps = at.steps;
       stood = at.stood;
       all = at.all;
-      added = added-more longer through setup begun pass new made visit.act ticket told at.added visited;
+      same = record {
+        table = visited.same.table ∙ at.same.table;
+        seat = visited.same.seat ∙ at.same.seat;
+        setup = visited.same.setup ∙ at.same.setup;
+        actor = still;
+      };
       put = at.put ++ visit ∷ [];
       count = omega (arith, at.count, one, length-append at.put (visit ∷ []));
       visits_are = subst (λ a. own a new.view.seen ≡ own a pass.view.seen ++ visit ∷ []) mine more
@@ -254,10 +259,10 @@ stands-for : (setup : Setup) (begun : PassData) (from : HandsetData) (to : ℕ) 
     → (handset.sub ≡ actor_of begun) × StandsForSteps (setting_in setup) handset (at.steps ++ move_to to ∷ [])
     (length (puts_to (actor_of begun) pass.view.seen))
 stands-for setup begun from to made pass handset at = (
-  at.its.sub ∙ at.added.same.actor,
+  at.its.sub ∙ at.same.actor,
   subst (λ a. StandsForSteps (setting_in setup) handset (at.steps ++ move_to to ∷ [])
       (length (puts_to a pass.view.seen)))
-      at.added.same.actor
+      at.same.actor
       (subst (λ ss. StandsForSteps (setting_in setup) handset ss (length (puts_to pass.view.low pass.view.seen)))
       at.steps_are at.its.stands),
 )
@@ -275,7 +280,7 @@ put-all setup begun from to made pass handset at rests =
     let rest = at-rest setting sub handset steps (length puts) stands.0 stands.1 rests in
     let made_are : puts ≡ take (length puts) (visits setting sub steps) =
     subst (λ a. puts_to a pass.view.seen ≡ take (length (puts_to a pass.view.seen)) (visits setting a steps))
-    at.added.same.actor
+    at.same.actor
     (subst (λ ss. puts_to pass.view.low pass.view.seen
     ≡ take (length (puts_to pass.view.low pass.view.seen)) (visits setting pass.view.low ss)) at.steps_are
     at.its.made) in

@@ -1,6 +1,6 @@
 -- A step of a move: which visit is made.
 use Rattle.std.proofs.Common.{◌≡◌, ℕ, ◌≤◌, true, [], refl, sym, subst, ap, ◌∙◌, Option}
-use Rattle.std.specs.Prelude.{IfSome, IsSome, Some, None}
+use Rattle.std.specs.Prelude.{IfSome, Some, None}
 use Rattle.std.specs.Option.{is_some}
 use Rattle.entry_word.specs.declared.visit.Visit.{Visit}
 use Rattle.directory.specs.Keys.{act_node}
@@ -57,21 +57,36 @@ stepped setup plan old new handset moved ticket same next room visited made own 
           → HandsetGoesOn setup old.view new.view moved own.steps visit) same next.1 goes_on;
     }
 
+-- the same, behind turns that were lost at its node
+pub stepped-tried : (setup : Setup) (plan : PlanData) (begun old new : PassData) (handset moved : HandsetData)
+    (ticket : ℕ) → plan ≡ setup.plan
+    → ((visit : Visit) × (due (setting_in setup) handset ≡ Some visit)
+    × HasTried (act_node (setting_in setup) visit.act) begun old) → 1 ≤ old.spare
+    → IfSome (due (setting_of plan []) handset) (λ visit. HasVisited old visit.act ticket new)
+    → moved ≡ after_write (setting_of plan []) handset handset.stage → IsHandsetOf setup new.view moved
+    → IfSome (due (setting_of plan []) handset) (λ visit. (own : IsHandsetOf setup old.view handset)
+    → HandsetGoesOn setup old.view new.view moved own.steps visit)
+    → (its : HasStepped setup old handset ticket new moved)
+    × HasTried (act_node (setting_in setup) its.visit.act) begun old
+unfolding stepped
+stepped-tried setup plan begun old new handset moved ticket same at room visited made own goes_on =
+    (stepped setup plan old new handset moved ticket same (at.0, at.1) room visited made own goes_on, at.2)
+
 -- the turn at the node of the next put is lost once more
 pub tried-put : (setup : Setup) (plan : PlanData) (begun pass new : PassData) (handset : HandsetData) (held : Held)
-    → plan ≡ setup.plan → IsSome (due (setting_of plan []) handset) → HasTried begun pass
+    (visit : Visit) → plan ≡ setup.plan → due (setting_in setup) handset ≡ Some visit
+    → HasTried (act_node (setting_in setup) visit.act) begun pass
     → IfSome (due (setting_of plan []) handset) (λ visit. HasLost pass (act_node (setting_in setup) visit.act) held new)
-    → HasTried begun new
-tried-put setup plan begun pass new handset held same left tried lost =
-    let next = next-visit setup plan handset (due (setting_of plan []) handset) same refl left in
-    tried-again begun pass new (act_node (setting_in setup) next.0.act) held tried
-    (on-due setup plan handset next.0 (λ visit. HasLost pass (act_node (setting_in setup) visit.act) held new) same
-    next.1 lost)
+    → HasTried (act_node (setting_in setup) visit.act) begun new
+tried-put setup plan begun pass new handset held visit same next tried lost =
+    tried-again (act_node (setting_in setup) visit.act) begun pass new held tried
+    (on-due setup plan handset visit (λ visit. HasLost pass (act_node (setting_in setup) visit.act) held new) same
+    next lost)
 
 -- turns that are lost leave a handset with its pass
-pub own-tried : (setup : Setup) (begun tried : PassData) (handset : HandsetData) → HasTried begun tried
-    → IsHandsetOf setup begun.view handset → IsHandsetOf setup tried.view handset
-own-tried setup begun tried handset lost its =
+pub own-tried : (setup : Setup) (node : ℕ) (begun tried : PassData) (handset : HandsetData)
+    → HasTried node begun tried → IsHandsetOf setup begun.view handset → IsHandsetOf setup tried.view handset
+own-tried setup node begun tried handset lost its =
     subst (λ (q : PassData). IsHandsetOf setup q.view handset) (sym lost.is) (record {
       goes = its.goes;
       sub = its.sub;

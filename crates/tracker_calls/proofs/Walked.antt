@@ -1,10 +1,11 @@
 -- How far a walk over the tracker has come.
-use Rattle.std.proofs.Common.{◌≡◌, ℕ, ◌<◌, ◌≤◌, List, [], ◌∷◌, ◌++◌, Some, None, length, refl, sym, ap, ◌∙◌, subst, arith}
+use Rattle.std.proofs.Common.{◌≡◌, ℕ, ◌<◌, ◌≤◌, List, [], ◌∷◌, ◌++◌, Some, None, length, map, refl, sym, ap, ◌∙◌, subst, arith}
 use Rattle.std.specs.Prelude.{flat_map, slice_get}
 use Rattle.std.proofs.lemmas.List.{length-take}
 use Rattle.entry_word.specs.declared.visit.Key.{Key}
 use Rattle.entry_word.specs.declared.visit.Act.TheVariants.{Look}
 use Rattle.directory.specs.Settings.{Setting}
+use Rattle.directory.specs.Keys.{key_node}
 use Rattle.directory.specs.Histories.{History, IsFront, before, cell, words_at}
 use Rattle.directory.specs.Finds.{FindCall, after_word, at_origin, ended, find, key_of, looks_left, most_looks}
 use Rattle.directory.specs.Looks.{AreLooks, IsFind, last_of, look_by}
@@ -18,10 +19,11 @@ use Rattle.walk.specs.Walks.{IsWalkOver, WalkData, call_of, pursuit_of}
 use Rattle.handset.specs.Condition.{HandsetData}
 use Rattle.station.specs.Handsets.{IsHandsetOf}
 use Rattle.station.specs.StayLaws.{handset-stays, handset-visited}
+use Rattle.station.specs.Views.{turn_at}
 use Rattle.station.specs.Visits.{HasVisited}
 use Rattle.tracker_calls.specs.Added.{HasAdded, HasTried, KeepsHandsets}
 use Rattle.tracker_calls.specs.Finds.{HasFound, HasLookedOn}
-use Rattle.tracker_calls.proofs.Adding.{added-more, added-none, added-tried, last-push, visited-front}
+use Rattle.tracker_calls.proofs.Adding.{added-more, added-none, last-push, visited-front}
 use Rattle.tracker_calls.proofs.Longer.{get-last}
 use Rattle.tracker_calls.proofs.Looks.{looks-more}
 use Rattle.tracker_calls.proofs.Rightly.{looked-once, tells-rightly}
@@ -50,12 +52,13 @@ seen-on setup pass new key ticket told visited handset its =
     (handset-visited pass (Look key) ticket new handset refl visited
     (subst (λ (s : Setup). IsHandsetOf s pass.view handset) (sym told) its))
 
-tried-on : (setup : Setup) (pass tried : PassData) → HasTried pass tried → (handset : HandsetData)
+tried-on : (setup : Setup) (node : ℕ) (pass tried : PassData) → HasTried node pass tried → (handset : HandsetData)
     → IsHandsetOf setup pass.view handset → IsHandsetOf setup tried.view handset
-tried-on setup pass tried lost handset its =
+tried-on setup node pass tried lost handset its =
     subst (λ (q : PassData). IsHandsetOf setup q.view handset) (sym lost.is)
-    (handset-stays setup pass.view (record pass.view { turns = tried.view.turns; lost = pass.view.lost ++ lost.turns })
-    handset refl refl its)
+    (handset-stays setup pass.view
+    (record pass.view { turns = tried.view.turns; lost = pass.view.lost ++ map (turn_at node) lost.words }) handset
+    refl refl its)
 
 no-looks : (setting : Setting) (history : History) (actor : ℕ) (call : FindCall)
     → AreLooks setting history actor call 0 at_origin []
@@ -81,20 +84,25 @@ walked-first itself setup pass walk goes origin outside room =
 front-short : (xs zs : History) → IsFront xs zs → length xs ≤ length zs
 front-short xs zs front = omega (arith, ap length front, length-take (length xs) zs)
 
+-- one look more, after turns that were lost at its node
 pub walked-on : BeginsWithFront → BeginsThrough → LooksFall → (setup : Setup) (begun : PassData) (call : FindCall)
-    (pass new : PassData) (walk moved : WalkData) (key : Key) → pass.view.setup ≡ setup
+    (pass tried new : PassData) (walk moved : WalkData) (key : Key) → pass.view.setup ≡ setup
     → (at : IsWalked setup begun call pass walk)
     → key_of (call_of walk) (pursuit_of setup.plan walk) ≡ Some key
-    → HasLookedOn setup pass walk key new moved → IsWalked setup begun call new moved
-walked-on longer through fall setup begun call pass new walk moved key told at wanted looked =
+    → HasTried (key_node (setting_in setup) key) pass tried → HasLookedOn setup tried walk key new moved
+    → IsWalked setup begun call new moved
+walked-on longer through fall setup begun call pass tried new walk moved key told at wanted lost looked =
     let setting : Setting = setting_in setup in
     let visited = looked.visited in
-    let mine : actor_of pass ≡ actor_of begun = at.added.same.actor in
-    let visit = look_by (actor_of pass) key in
+    let setups : tried.view.setup ≡ setup = ap (λ (q : PassData). q.view.setup) lost.is ∙ told in
+    let seen : tried.view.seen ≡ pass.view.seen = ap (λ (q : PassData). q.view.seen) lost.is in
+    let mine : actor_of tried ≡ actor_of begun = ap actor_of lost.is ∙ at.added.same.actor in
+    let visit = look_by (actor_of tried) key in
     let front : IsFront pass.view.seen new.view.seen =
-    visited-front longer through pass new (Look key) looked.ticket visited in
+    subst (λ (h : History). IsFront h new.view.seen) seen
+    (visited-front longer through tried new (Look key) looked.ticket visited) in
     let late : length pass.view.seen ≤ looked.ticket =
-    omega (arith, visited.count, front-short pass.view.seen visited.earlier visited.begins) in
+    omega (arith, visited.count, front-short tried.view.seen visited.earlier visited.begins, ap length seen) in
     let last : slice_get new.view.seen looked.ticket ≡ Some visit =
     ap (slice_get new.view.seen) (sym visited.count)
     ∙ (ap (λ (l : History). slice_get l (length visited.earlier)) visited.seen ∙ get-last visited.earlier visit) in
@@ -108,8 +116,10 @@ walked-on longer through fall setup begun call pass new walk moved key told at w
     looked.pursuit ∙ ap (λ c. after_word setting c (pursuit_of setup.plan walk) word) at.its in
     record {
       made = at.made ++ looked.ticket ∷ [];
-      added = added-more longer through setup begun pass new at.made (Look key) looked.ticket told at.added visited;
-      keeps = λ handset its. seen-on setup pass new key looked.ticket told visited handset (at.keeps handset its);
+      added = added-more longer through setup begun pass tried new at.made (Look key) looked.ticket told at.added lost
+          visited;
+      keeps = λ handset its. seen-on setup tried new key looked.ticket setups visited handset
+          (tried-on setup (key_node setting key) pass tried lost handset (at.keeps handset its));
       looks = more.0;
       pursuit = pursuit ∙ (ap (λ s. after_word setting call s word) at.pursuit ∙ sym more.1);
       late = λ some. omega (
@@ -126,26 +136,8 @@ walked-on longer through fall setup begun call pass new walk moved key told at w
         ap (looks_left setting call) pursuit,
         at.room,
         visited.spare,
+        ap (λ (q : PassData). q.spare) lost.is,
       );
-    }
-
--- turns that are lost leave a walk where it was
-pub walked-tried : (setup : Setup) (begun : PassData) (call : FindCall) (pass tried : PassData) (walk : WalkData)
-    → HasTried pass tried → IsWalked setup begun call pass walk → IsWalked setup begun call tried walk
-walked-tried setup begun call pass tried walk lost at =
-    let seen : tried.view.seen ≡ pass.view.seen = ap (λ q. q.view.seen) lost.is in
-    record {
-      made = at.made;
-      added = added-tried setup begun pass tried at.made lost at.added;
-      keeps = λ handset its. tried-on setup pass tried lost handset (at.keeps handset its);
-      looks = subst (λ (h : History). AreLooks (setting_in setup) h (actor_of begun) call 0 at_origin at.made)
-          (sym seen) at.looks;
-      pursuit = at.pursuit
-          ∙ ap (λ h. find (setting_in setup) call (flat_map (words_at (setting_in setup) h) at.made)) (sym seen);
-      late = at.late;
-      goes = at.goes;
-      its = at.its;
-      room = omega (arith, at.room, ap (λ q. q.spare) lost.is);
     }
 
 -- a walk that has its answer has made its find

@@ -1,5 +1,5 @@
 -- A whole move so far, with the tickets that its answer tells.
-use Rattle.std.proofs.Common.{◌≡◌, ℕ, suc, ◌+◌, ◌^◌, ◌≤◌, Bool, true, false, None, take, Option, Some, [], ◌∷◌, ◌++◌, List, length, refl, sym, ap, ◌∙◌, subst, arith, length-append}
+use Rattle.std.proofs.Common.{◌≡◌, ℕ, suc, ◌+◌, ◌^◌, ◌≤◌, Bool, false, None, take, Option, Some, [], ◌∷◌, ◌++◌, List, length, refl, sym, ap, ◌∙◌, subst, arith, length-append}
 use Rattle.std.specs.List.{cons_option}
 use Rattle.std.specs.Option.{is_some}
 use Rattle.std.specs.Prelude.{if◌then◌else◌}
@@ -7,6 +7,7 @@ use Rattle.std.proofs.lemmas.List.Elements.{filter_map-append}
 use Rattle.std.proofs.lemmas.List.{get_or_append_left}
 use Rattle.entry_word.specs.declared.visit.Visit.{Visit}
 use Rattle.directory.specs.Histories.{own, puts_to}
+use Rattle.directory.specs.Keys.{act_node}
 use Rattle.directory.specs.Puts.{mark_put, node_put}
 use Rattle.directory.specs.Standing.{Commit, commit_of}
 use Rattle.directory.specs.Writes.{visits}
@@ -21,11 +22,11 @@ use Rattle.station.specs.Handsets.{IsHandsetOf}
 use Rattle.station.specs.Passes.{PassData, actor_of}
 use Rattle.station.specs.Setup.{Setup, nodes_in, setting_in}
 use Rattle.station.specs.declared.view.View.{View}
-use Rattle.tracker_calls.specs.Added.{HasTried}
+use Rattle.tracker_calls.specs.Added.{HasAdded, HasTried}
 use Rattle.tracker_calls.specs.Moves.{HasStepped}
 use Rattle.tracker_calls.specs.WholeMoves.{HasMoved}
 use Rattle.tracker_calls.specs.declared.whole_moves.Moved.{Moved}
-use Rattle.tracker_calls.proofs.Adding.{last-push}
+use Rattle.tracker_calls.proofs.Adding.{added-more, last-push}
 use Rattle.tracker_calls.proofs.Moving.{HasPut, none-rests, put-all, put-more, put-tried, some-busy}
 use Rattle.tracker_calls.proofs.Timing.{IsTimed, is_early, timed-begun, timed-first, timed-next}
 use Rattle.directory.specs.Statements.{BeginsWithFront, BeginsThrough}
@@ -35,6 +36,7 @@ pub record IsMoving (setup : Setup) (begun : PassData) (from : HandsetData) (to 
     (pass : PassData) (handset : HandsetData) : Type 0 where
   pub made : List ℕ
   pub put : HasPut setup begun from to made pass handset
+  pub added : HasAdded setup begun made pass
   pub timed : IsTimed (journey_to (setting_in setup) from to) from.number handset made times.commit
   pub number : times.number ≡ suc from.number
   pub first : times.first ≡ first_of made
@@ -89,17 +91,21 @@ timed-step setup begun from to commit made tried new handset moved ticket at ste
 -- the first put of a move
 pub moving-first : BeginsWithFront → BeginsThrough → (setup : Setup) (begun : PassData) (from : HandsetData) (to : ℕ)
     (tried new : PassData) (handset moved : HandsetData) (ticket : ℕ) → begun.view.setup ≡ setup
-    → HasTried begun tried → HasPut setup begun from to [] begun handset
-    → handset ≡ begin_move (setting_in setup) from to → HasStepped setup tried handset ticket new moved
+    → HasAdded setup begun [] begun → HasPut setup begun from to [] begun handset
+    → handset ≡ begin_move (setting_in setup) from to
+    → (stepped : HasStepped setup tried handset ticket new moved)
+    → HasTried (act_node (setting_in setup) stepped.visit.act) begun tried
     → IsMoving setup begun from to
     (record { number = suc from.number; first = ticket; commit = ticket; last = ticket }) new moved
-moving-first longer through setup begun from to tried new handset moved ticket told lost none is stepped =
-    let at = put-tried setup begun from to [] begun tried handset lost none in
+moving-first longer through setup begun from to tried new handset moved ticket told added none is stepped lost =
+    let node : ℕ = act_node (setting_in setup) stepped.visit.act in
+    let at = put-tried setup begun from to [] node begun tried handset lost none in
     let move = journey_to (setting_in setup) from to in
     record {
       made = ticket ∷ [];
-      put = put-more longer through setup begun from to [] tried new handset moved ticket
-          (at.added.same.setup ∙ told) at stepped;
+      put = put-more setup begun from to [] tried new handset moved ticket at stepped;
+      added = added-more longer through setup begun begun tried new [] stepped.visit.act ticket told added lost
+          stepped.visited;
       timed = subst (λ h. IsTimed move from.number h (ticket ∷ []) ticket) (sym stepped.made)
           (timed-begun (setting_in setup) (nodes_in setup) move from.number handset [] 0 ticket refl
           at.its.goes.stage (some-busy (setting_in setup) handset (ap is_some stepped.next))
@@ -115,14 +121,15 @@ moving-first longer through setup begun from to tried new handset moved ticket t
 pub moving-on : BeginsWithFront → BeginsThrough
     → (setup : Setup) (begun : PassData) (from : HandsetData) (to : ℕ) (times : Moved)
     (pass tried new : PassData) (handset moved : HandsetData) (ticket : ℕ) → begun.view.setup ≡ setup
-    → HasTried pass tried → IsMoving setup begun from to times pass handset
-    → (stepped : HasStepped setup tried handset ticket new moved) → IsMoving setup begun from to
+    → IsMoving setup begun from to times pass handset
+    → (stepped : HasStepped setup tried handset ticket new moved)
+    → HasTried (act_node (setting_in setup) stepped.visit.act) pass tried → IsMoving setup begun from to
     (record times { commit = if is_commit stepped.visit.act then ticket else times.commit; last = ticket }) new moved
-moving-on longer through setup begun from to times pass tried new handset moved ticket told lost moving stepped =
+moving-on longer through setup begun from to times pass tried new handset moved ticket told moving stepped lost =
     let made = moving.made in
-    let at = put-tried setup begun from to made pass tried handset lost moving.put in
-    let put = put-more longer through setup begun from to made tried new handset moved ticket
-    (at.added.same.setup ∙ told) at stepped in
+    let node : ℕ = act_node (setting_in setup) stepped.visit.act in
+    let at = put-tried setup begun from to made node pass tried handset lost moving.put in
+    let put = put-more setup begun from to made tried new handset moved ticket at stepped in
     let timed = timed-step setup begun from to times.commit made tried new handset moved ticket at stepped
     moving.timed in
     let first = moving.first ∙ sym (get_or_append_left made (ticket ∷ []) 0 0 moving.some) in
@@ -130,6 +137,8 @@ moving-on longer through setup begun from to times pass tried new handset moved 
     record {
       made = made ++ ticket ∷ [];
       put = put;
+      added = added-more longer through setup begun pass tried new made stepped.visit.act ticket
+          (moving.put.same.setup ∙ told) moving.added lost stepped.visited;
       timed = timed;
       number = moving.number;
       first = first;
@@ -141,19 +150,20 @@ moving-on longer through setup begun from to times pass tried new handset moved 
 pub moving-by : BeginsWithFront → BeginsThrough
     → (setup : Setup) (begun : PassData) (from : HandsetData) (to : ℕ) (times : Moved)
     (pass tried new : PassData) (handset moved : HandsetData) (ticket : ℕ) → begun.view.setup ≡ setup
-    → HasTried pass tried → (moving : IsMoving setup begun from to times pass handset)
-    → HasStepped setup tried handset ticket new moved → (commits : Bool) → nodes_in setup ≤ 2 ^ 16
+    → (moving : IsMoving setup begun from to times pass handset)
+    → (stepped : HasStepped setup tried handset ticket new moved)
+    → HasTried (act_node (setting_in setup) stepped.visit.act) pass tried → (commits : Bool) → nodes_in setup ≤ 2 ^ 16
     → ((plan : PlanData) (visit : Visit) → nodes_of plan ≤ 2 ^ 16 → GoesWith plan handset
     → due (setting_of plan []) handset ≡ Some visit → commits ≡ is_commit visit.act)
     → IsMoving setup begun from to
     (record times { commit = if commits then ticket else times.commit; last = ticket }) new moved
-moving-by longer through setup begun from to times pass tried new handset moved ticket told lost moving stepped
+moving-by longer through setup begun from to times pass tried new handset moved ticket told moving stepped lost
     commits small tells =
     let is : commits ≡ is_commit stepped.visit.act =
     tells setup.plan stepped.visit small moving.put.its.goes stepped.next in
     subst (λ (b : Bool). IsMoving setup begun from to
     (record times { commit = if b then ticket else times.commit; last = ticket }) new moved) (sym is)
-    (moving-on longer through setup begun from to times pass tried new handset moved ticket told lost moving stepped)
+    (moving-on longer through setup begun from to times pass tried new handset moved ticket told moving stepped lost)
 
 -- a move that has nothing left is made
 pub moving-out : (setup : Setup) (begun : PassData) (from : HandsetData) (to : ℕ) (times : Moved) (pass : PassData)
@@ -167,7 +177,7 @@ moving-out setup begun from to times pass handset moving none =
       steps = put.steps;
       stood = put.stood;
       made = moving.made;
-      added = put.added;
+      added = moving.added;
       count = sym put.count ∙ ap length all;
       visits = put.visits_are ∙ ap (λ l. own (actor_of begun) begun.view.seen ++ l) all;
       after_is = put.after;

@@ -1,28 +1,50 @@
--- What a whole call adds to what its pass has seen: its own visits alone, with these tickets.
+-- What a whole call adds to what its pass has seen: its own visits alone, with these tickets, each
+-- in a turn at its node that was tried again there until it was won.
 -- Key laws: `find`, `find_now` and `move_to`, whose answers come with what they added.
-use Rattle.std.specs.Prelude.{◌≡◌, ℕ, ◌+◌, ◌<◌, ◌≤◌, List, ◌++◌, length, None}
-use Rattle.directory.specs.Histories.{IsFront, tickets}
+use Rattle.std.specs.Prelude.{◌≡◌, ℕ, ◌+◌, ◌<◌, ◌≤◌, List, [], ◌∷◌, ◌++◌, flat_map, length, map, None}
+use Rattle.directory.specs.Histories.{History, IsFront, own, tickets}
+use Rattle.directory.specs.Keys.{act_node}
+use Rattle.directory.specs.Settings.{Setting}
 use Rattle.directory.specs.Legal.{IsLegal}
 use Rattle.handset.specs.Condition.{HandsetData}
 use Rattle.station.specs.Handsets.{IsHandsetOf}
 use Rattle.station.specs.Passes.{PassData, actor_of}
 use Rattle.station.specs.Setup.{Setup, setting_in, subs_in}
-use Rattle.station.specs.Turns.{LogsAll, events_of, losses, lost_in, won_in}
+use Rattle.station.specs.Turns.{LogsAll, losses, lost_in}
+use Rattle.station.specs.Views.{turn_at}
 use Rattle.station.specs.Visits.{IsSamePass}
 use Rattle.station.specs.declared.view.NodeTurn.{NodeTurn}
 use Rattle.station.specs.declared.view.TurnEvent.{TurnEvent}
+use Rattle.station.specs.declared.view.TurnEvent.TheVariants.{Won, GivenBack}
 
--- a pass has logged these events more, its own actor's, and has lost more turns: just those that
--- they tell as lost
+-- the turns of one visit: the node, and the lock words that were read there before it was won
+pub record VisitTurns : Type 0 where
+  pub node : ℕ
+  pub words : List ℕ
+
+-- the turns that were lost before it
+abbrev pub turns_lost : VisitTurns → List NodeTurn
+turns_lost turns = map (turn_at turns.node) turns.words
+
+-- all of it, as an actor's events: some turns are lost, then one is won and given back
+abbrev pub turns_taken : ℕ → VisitTurns → List TurnEvent
+turns_taken actor turns =
+    losses actor (turns_lost turns) ++ Won actor turns.node ∷ GivenBack actor turns.node ∷ []
+
+-- the nodes of an actor's visits, in order
+abbrev pub own_nodes : Setting → ℕ → History → List ℕ
+own_nodes setting actor history =
+    map (λ visit. act_node setting visit.act) (own actor history)
+
+-- a pass has logged these events more, and has lost more turns: just those that they tell as lost
 pub record HasLoggedMore (old : PassData) (events : List TurnEvent) (new : PassData)
     : Type 0 where
-  pub mine : events_of (actor_of old) events ≡ events
   pub logs : LogsAll old.view.turns events new.view.turns
   pub lost : new.view.lost ≡ old.view.lost ++ lost_in events
 
 -- the pass has made visits with these tickets, its next own ones: what it has seen goes on from
 -- what it had seen, and is legal where it made one; each has used one of its spare; it is in no
--- node; and it has logged these events more, with as many turns won as it made visits
+-- node; and all that it has logged more are its turns at the nodes of these visits, in their order
 pub record HasAdded (setup : Setup) (old : PassData) (made : List ℕ) (new : PassData) : Type 0 where
   pub begins : IsFront old.view.seen new.view.seen
   pub visits : tickets (actor_of old) new.view.seen
@@ -31,9 +53,11 @@ pub record HasAdded (setup : Setup) (old : PassData) (made : List ℕ) (new : Pa
       → IsLegal (setting_in setup) sub new.view.seen
   pub spare : new.spare + length made ≡ old.spare
   pub outside : new.view.inside ≡ None
-  pub events : List TurnEvent
-  pub logged : HasLoggedMore old events new
-  pub won : length (won_in events) ≡ length made
+  pub turns : List VisitTurns
+  pub count : length turns ≡ length made
+  pub nodes : own_nodes (setting_in setup) (actor_of old) new.view.seen
+      ≡ own_nodes (setting_in setup) (actor_of old) old.view.seen ++ map (λ t. t.node) turns
+  pub logged : HasLoggedMore old (flat_map (turns_taken (actor_of old)) turns) new
   pub same : IsSamePass old new
 
 -- a handset that went with the pass still goes with it
@@ -41,10 +65,15 @@ abbrev pub KeepsHandsets : Setup → PassData → PassData → Type 0
 KeepsHandsets setup old new = (handset : HandsetData) → IsHandsetOf setup old.view handset
     → IsHandsetOf setup new.view handset
 
--- the pass has lost these turns more, each is logged so, and nothing else has changed
-pub record HasTried (old new : PassData) : Type 0 where
-  pub turns : List NodeTurn
-  pub logs : LogsAll old.view.turns (losses (actor_of old) turns) new.view.turns
+-- the pass has lost turns at a node, where it read these lock words; each is logged so, and nothing
+-- else has changed
+pub record HasTried (node : ℕ) (old new : PassData) : Type 0 where
+  pub words : List ℕ
+  pub logs : LogsAll old.view.turns (losses (actor_of old) (map (turn_at node) words))
+      new.view.turns
   pub is : new ≡ record old {
-    view = record old.view { turns = new.view.turns; lost = old.view.lost ++ turns };
+    view = record old.view {
+      turns = new.view.turns;
+      lost = old.view.lost ++ map (turn_at node) words;
+    };
   }

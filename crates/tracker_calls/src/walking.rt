@@ -98,7 +98,8 @@ fn look_when_free<R: Wait>(
     requires spare { 1 ≤ pass.old.spare }
     requires wanted { key_of (call_of walk.old) (pursuit_of tracker.now.setup.plan walk.old)
         ≡ Some key }
-    ensures looked { (tried : PassData) × HasTried pass.old tried
+    ensures looked { (tried : PassData)
+        × HasTried (key_node (setting_in tracker.now.setup) key) pass.old tried
         × HasLookedOn tracker.now.setup tried walk.old key pass.new walk.new }
 {
     'tries: for _ in rt.forever() {

@@ -1,10 +1,12 @@
 //! Whole moves, which wait at each node on the way.
 ghost use Rattle.std.specs.Prelude.{◌≡◌, ◌≤◌, [], None, IsSome, MatchResult};
+ghost use Rattle.directory.specs.Keys.{act_node};
 ghost use Rattle.handset.specs.Condition.{GoesWith};
 ghost use Rattle.handset.specs.StepWrites.{due};
 ghost use Rattle.region_plan.specs.Settings.{setting_of};
 ghost use Rattle.station.specs.Handsets.{IsHandsetOf};
 ghost use Rattle.station.specs.Passes.{IsPassOf, PassData};
+ghost use Rattle.station.specs.Setup.{setting_in};
 ghost use Rattle.tracker_calls.specs.Added.{HasTried};
 ghost use Rattle.tracker_calls.specs.Moves.{HasStepped};
 ghost use Rattle.tracker_calls.specs.WholeMoves.{HasMoved, IsMoveToFault, MayMoveTo};
@@ -134,8 +136,9 @@ fn put_when_free<R: Wait>(
     requires spare { 1 ≤ pass.old.spare }
     requires handset { IsHandsetOf tracker.now.setup pass.old.view handset.old }
     requires left { IsSome (due (setting_of plan.now []) handset.old) }
-    ensures put { (tried : PassData) × HasTried pass.old tried
-        × HasStepped tracker.now.setup tried handset.old result pass.new handset.new }
+    ensures put { (tried : PassData) × (stepped : HasStepped tracker.now.setup tried handset.old
+        result pass.new handset.new)
+        × HasTried (act_node (setting_in tracker.now.setup) stepped.visit.act) pass.old tried }
 {
     'tries: for _ in rt.forever() {
         if let Ok(ticket) = tracker.visit_put(pass, plan, handset) {

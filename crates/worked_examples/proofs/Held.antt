@@ -1,5 +1,6 @@
 -- A find that was held: at one of its steps another pass was inside the node.
-use Rattle.std.proofs.Common.{ℕ, suc, ◌<◌, [], ◌∷◌, refl, sym, ap, ◌∙◌, subst, Some}
+use Rattle.std.proofs.Common.{ℕ, suc, ◌<◌, List, [], ◌∷◌, refl, sym, ap, ◌∙◌, subst, Some}
+use Rattle.std.specs.Prelude.{flat_map}
 use Rattle.atomic_table.specs.Table.{State}
 use Rattle.entry_word.specs.declared.visit.Act.{Act}
 use Rattle.directory.specs.Finds.{FindCall}
@@ -13,6 +14,7 @@ use Rattle.station.specs.declared.turns.Held.{Held}
 use Rattle.station.specs.declared.view.TurnEvent.{TurnEvent}
 use Rattle.station.specs.declared.view.TurnEvent.TheVariants.{Lost}
 use Rattle.station.specs.declared.view.View.{View}
+use Rattle.tracker_calls.specs.Added.{turns_taken}
 use Rattle.tracker_calls.specs.Finds.{HasStopped}
 
 pub held-by : EventsComeWithinCalls → (setup : Setup) (old new : PassData) (call : FindCall) (held : Held) (count : ℕ)
@@ -25,10 +27,11 @@ held-by law setup old new call held count states stopped through first last know
     let lost = stopped.turn in
     let place = key_node (setting_in setup) stopped.key in
     let event : TurnEvent = Lost (actor_of between) place (suc held.by) in
+    let events : List TurnEvent = flat_map (turns_taken (actor_of old)) stopped.added.turns in
     let logged = stopped.added.logged in
-    let all = logs-append old.view.turns between.view.turns new.view.turns stopped.added.events (event ∷ [])
+    let all = logs-append old.view.turns between.view.turns new.view.turns events (event ∷ [])
     logged.logs (new.view.turns, lost.logs, refl) in
-    let at = logs-at old.view.turns stopped.added.events event [] new.view.turns all in
+    let at = logs-at old.view.turns events event [] new.view.turns all in
     let comes = law setup old.seat count states old.view new.view at.0 event through first last
     (sym (ap (λ (q : PassData). q.view.low) lost.turn)) at.1 at.2 in
     let here : IsAnothers (states comes.0) (actor_of between) place (suc held.by) =

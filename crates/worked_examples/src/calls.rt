@@ -1,6 +1,6 @@
 //! What whole finds over a tracker, and steps of moves, don't do, whether they end well or not:
 //! each is wrong in one part.
-ghost use Rattle.std.specs.Prelude.{◌≡◌, ◌<◌, ◌+◌, ◌++◌, [], ◌∷◌, ℕ, List, Some, None, suc, slice_get};
+ghost use Rattle.std.specs.Prelude.{◌≡◌, ◌<◌, ◌+◌, ◌++◌, [], ◌∷◌, ℕ, List, Some, None, flat_map, suc, slice_get};
 ghost use Rattle.atomic_table.specs.Table.{State};
 ghost use Rattle.directory.specs.Finds.{FindCall};
 ghost use Rattle.directory.specs.Histories.{History, before, through};
@@ -23,10 +23,10 @@ ghost use Rattle.station.specs.Setup.{Setup, nodes_in, setting_in, subs_in};
 ghost use Rattle.station.specs.Turns.{LogsAll};
 ghost use Rattle.station.specs.Views.{turn_at};
 ghost use Rattle.station.specs.declared.turns.Held.{Held};
-ghost use Rattle.station.specs.declared.view.TurnEvent.TheVariants.{Won};
+ghost use Rattle.station.specs.declared.view.TurnEvent.TheVariants.{Won, GivenBack, Lost};
 ghost use Rattle.station.specs.declared.view.View.{View};
 ghost use Rattle.stretch_laws.specs.Plans.{IsWithinBound};
-ghost use Rattle.tracker_calls.specs.Added.{HasAdded, KeepsHandsets};
+ghost use Rattle.tracker_calls.specs.Added.{HasAdded, KeepsHandsets, VisitTurns, own_nodes, turns_taken};
 ghost use Rattle.tracker_calls.specs.RightAnswers.{TellsRightly};
 ghost use Rattle.tracker_calls.specs.Finds.{HasFound, HasStopped};
 ghost use Rattle.tracker_calls.specs.Moves.{HasStepped};
@@ -66,7 +66,8 @@ pub fn wrong_answers()
 {}
 
 /// A call that made a visit with ticket 4: it has used one of its spare, and is in no node; what it
-/// has seen is legal; and it has logged one turn more as won, and events of its own alone.
+/// has seen is legal; and it has logged the turns of one visit, at that visit's node, and lost just
+/// those that they tell.
 pub fn wrong_additions()
     ensures spare { (setup : Setup) (old new : PassData) → HasAdded setup old (4 ∷ []) new
         → new.spare ≡ old.spare → ⊥ }
@@ -86,14 +87,22 @@ pub fn wrong_additions()
     ensures more_spare { (setup : Setup) (old new : PassData) → HasAdded setup old (4 ∷ []) new
         → new.spare + 2 ≡ old.spare → ⊥ }
     ensures unwon { (setup : Setup) (old new : PassData)
-        (added : HasAdded setup old (4 ∷ []) new) → added.events ≡ [] → ⊥ }
-    ensures won_twice { (setup : Setup) (old new : PassData)
-        (added : HasAdded setup old (4 ∷ []) new) → added.events ≡ Won 0 2 ∷ Won 0 2 ∷ [] → ⊥ }
-    ensures stranger { (setup : Setup) (old new : PassData)
-        (added : HasAdded setup old (4 ∷ []) new) → HasPass old 0 []
-        → added.events ≡ Won 1 2 ∷ [] → ⊥ }
+        (added : HasAdded setup old (4 ∷ []) new) → added.turns ≡ [] → ⊥ }
+    ensures won_twice { (setup : Setup) (old new : PassData) (one two : VisitTurns)
+        (added : HasAdded setup old (4 ∷ []) new) → added.turns ≡ one ∷ two ∷ [] → ⊥ }
+    ensures elsewhere { (setup : Setup) (old new : PassData) (words : List ℕ)
+        (added : HasAdded setup old (4 ∷ []) new)
+        → own_nodes (setting_in setup) (actor_of old) old.view.seen ≡ []
+        → own_nodes (setting_in setup) (actor_of old) new.view.seen ≡ 2 ∷ []
+        → added.turns ≡ record { node = 1; words = words } ∷ [] → ⊥ }
+    ensures lost { (setup : Setup) (old new : PassData) (added : HasAdded setup old (4 ∷ []) new)
+        → added.turns ≡ record { node = 2; words = 6 ∷ [] } ∷ []
+        → new.view.lost ≡ old.view.lost ++ turn_at 2 6 ∷ [] }
+    ensures taken { turns_taken 0 (record { node = 2; words = 6 ∷ [] })
+        ≡ Lost 0 2 6 ∷ Won 0 2 ∷ GivenBack 0 2 ∷ [] }
     ensures logs { (setup : Setup) (old new : PassData) (added : HasAdded setup old (4 ∷ []) new)
-        → LogsAll old.view.turns added.events new.view.turns }
+        → LogsAll old.view.turns (flat_map (turns_taken (actor_of old)) added.turns)
+        new.view.turns }
 {}
 
 /// A find that lost a turn has it as its last lost turn, at the node of its next look and to

@@ -1,7 +1,10 @@
 use Rattle.std.proofs.Common.{refl, subst, sym, ◌∙◌, ◌≡◌, Some}
 use Rattle.directory.specs.Finds.{key_of}
+use Rattle.directory.specs.Keys.{key_node}
 use Rattle.region_plan.specs.Matched.{IsMatched}
+use Rattle.station.specs.Setup.{setting_in}
 use Rattle.walk.specs.Walks.{call_of, pursuit_of}
+use Rattle.tracker_calls.proofs.Adding.{tried-none}
 use Rattle.tracker_calls.proofs.Walked.{walked-first, walked-on, walked-out}
 use Rattle.tracker_calls.proofs.walking.walk_on.Goals as goal
 use Rattle.directory.specs.LookLaws.{answer-ends}
@@ -18,12 +21,12 @@ looks-preserved c =
     let setup = c.args.tracker.now.setup in
     let at = c.looks.invariant.walked in record {
       walked = walked-on c.histories_begin.ensures.longer c.histories_begin.ensures.through c.looks_fall.ensures setup
-          c.args.pass.now (call_of c.args.walk.now) c.looks.pass c.look_on.new.pass c.looks.walk c.look_on.new.walk
-          c.in-Some.key (at.added.same.setup ∙ c.requires.way.of.setup) at
+          c.args.pass.now (call_of c.args.walk.now) c.looks.pass c.looks.pass c.look_on.new.pass c.looks.walk
+          c.look_on.new.walk c.in-Some.key (at.added.same.setup ∙ c.requires.way.of.setup) at
           (subst (λ p. key_of (call_of c.looks.walk) (pursuit_of p c.looks.walk)
           ≡ Some c.in-Some.key) c.requires.way.plan_is
           (sym c.next.ensures ∙ c.in-Some.is))
-          c.in_ok-look_on.ensures.looked;
+          (tried-none (key_node (setting_in setup) c.in-Some.key) c.looks.pass) c.in_ok-look_on.ensures.looked;
       lost = c.in_ok-look_on.ensures.looked.visited.lost ∙ c.looks.invariant.lost;
     }
 

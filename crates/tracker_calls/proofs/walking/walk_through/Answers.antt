@@ -2,7 +2,7 @@ use Rattle.std.proofs.Common.{subst, sym, ◌∙◌, ◌≡◌, Some}
 use Rattle.directory.specs.Finds.{key_of}
 use Rattle.region_plan.specs.Matched.{IsMatched}
 use Rattle.walk.specs.Walks.{call_of, pursuit_of}
-use Rattle.tracker_calls.proofs.Walked.{walked-first, walked-on, walked-out, walked-tried}
+use Rattle.tracker_calls.proofs.Walked.{walked-first, walked-on, walked-out}
 use Rattle.tracker_calls.proofs.walking.walk_through.Goals as goal
 use Rattle.directory.specs.LookLaws.{answer-ends}
 
@@ -16,15 +16,14 @@ pub looks-preserved : goal.looks-preserved
 looks-preserved g c =
     let setup = c.args.tracker.now.setup in
     let looked = c.look_when_free.ensures.looked in
-    let at = walked-tried setup c.args.pass.now (call_of c.args.walk.now) c.looks.pass looked.0 c.looks.walk looked.1
-    c.looks.invariant.walked in record {
+    let at = c.looks.invariant.walked in record {
       walked = walked-on c.histories_begin.ensures.longer c.histories_begin.ensures.through c.looks_fall.ensures setup
-          c.args.pass.now (call_of c.args.walk.now) looked.0 c.look_when_free.new.pass c.looks.walk
+          c.args.pass.now (call_of c.args.walk.now) c.looks.pass looked.0 c.look_when_free.new.pass c.looks.walk
           c.look_when_free.new.walk c.in-Some.key (at.added.same.setup ∙ c.requires.way.of.setup) at
           (subst (λ p. key_of (call_of c.looks.walk) (pursuit_of p c.looks.walk)
           ≡ Some c.in-Some.key) c.requires.way.plan_is
           (sym c.next.ensures ∙ c.in-Some.is))
-          looked.2;
+          looked.1 looked.2;
     }
 
 pub returns : goal.returns

@@ -3,15 +3,15 @@ use Rattle.std.specs.Prelude.{if◌then◌else◌}
 use Rattle.handset.specs.Beginning.{begin_move}
 use Rattle.region_plan.specs.Plan.{nodes_of}
 use Rattle.region_plan.specs.Settings.{setting_of}
+use Rattle.tracker_calls.proofs.Adding.{added-none}
 use Rattle.tracker_calls.proofs.Moving.{put-begun}
 use Rattle.tracker_calls.proofs.WholeMove.{IsMoving, moving-by, moving-first, moving-out, none-due}
 use Rattle.tracker_calls.proofs.whole_moves.move_to.Goals as goal
 
 pub put_when_free-first-requires-clause-handset : goal.put_when_free-first-requires-clause-handset
 put_when_free-first-requires-clause-handset g c =
-    (put-begun c.histories_begin.ensures.itself c.moves_are_short.ensures
-    c.args.tracker.now.setup c.args.plan.now c.args.pass.now c.args.handset.now
-    c.begin.new.self c.args.to c.requires.plan c.requires.handset c.in_ok-may_move_to.ensures.may c.requires.outside
+    (put-begun c.moves_are_short.ensures c.args.tracker.now.setup c.args.plan.now c.args.pass.now c.args.handset.now
+    c.begin.new.self c.args.to c.requires.plan c.requires.handset c.in_ok-may_move_to.ensures.may
     c.in-Ok.ensures.exact c.begin.ensures.goes c.in-Ok.ensures.stands).its
 
 pub puts-init : goal.puts-init
@@ -24,14 +24,14 @@ puts-init g c =
           c.put_when_free-first.new.handset) (omega (arith, c.number-number.ensures.kept))
           (moving-first c.histories_begin.ensures.longer c.histories_begin.ensures.through setup c.args.pass.now
           c.args.handset.now c.args.to put.0 c.put_when_free-first.new.pass c.begin.new.self
-          c.put_when_free-first.new.handset times c.requires.of.setup put.1
-          (put-begun c.histories_begin.ensures.itself c.moves_are_short.ensures
-          setup c.args.plan.now c.args.pass.now c.args.handset.now c.begin.new.self
-          c.args.to c.requires.plan c.requires.handset c.in_ok-may_move_to.ensures.may c.requires.outside
+          c.put_when_free-first.new.handset times c.requires.of.setup
+          (added-none c.histories_begin.ensures.itself setup c.args.pass.now c.requires.outside)
+          (put-begun c.moves_are_short.ensures setup c.args.plan.now c.args.pass.now c.args.handset.now
+          c.begin.new.self c.args.to c.requires.plan c.requires.handset c.in_ok-may_move_to.ensures.may
           c.in-Ok.ensures.exact c.begin.ensures.goes c.in-Ok.ensures.stands)
           (subst (λ p. c.begin.new.self ≡ begin_move (setting_of p []) c.args.handset.now c.args.to) c.requires.plan
           c.in-Ok.ensures.exact)
-          put.2);
+          put.1 put.2);
     }
 
 pub puts-preserved-then-commits : goal.puts-preserved-then-commits
@@ -45,7 +45,7 @@ puts-preserved-then-commits g c =
           c.put_when_free.new.handset) c.if-commits.true
           (moving-by c.histories_begin.ensures.longer c.histories_begin.ensures.through setup c.args.pass.now
           c.args.handset.now c.args.to times c.puts.pass put.0 c.put_when_free.new.pass c.puts.handset
-          c.put_when_free.new.handset ticket c.requires.of.setup put.1 c.puts.invariant.moving put.2
+          c.put_when_free.new.handset ticket c.requires.of.setup c.puts.invariant.moving put.1 put.2
           c.commits-commits.result
           (subst (λ p. nodes_of p ≤ 2 ^ 16) c.requires.plan (omega (arith, c.plan_is_sound.ensures.sound.metric.few)))
           c.commits-commits.ensures.commit);
@@ -62,7 +62,7 @@ puts-preserved g c =
           c.put_when_free.new.handset) c.if-commits.false
           (moving-by c.histories_begin.ensures.longer c.histories_begin.ensures.through setup c.args.pass.now
           c.args.handset.now c.args.to times c.puts.pass put.0 c.put_when_free.new.pass c.puts.handset
-          c.put_when_free.new.handset ticket c.requires.of.setup put.1 c.puts.invariant.moving put.2
+          c.put_when_free.new.handset ticket c.requires.of.setup c.puts.invariant.moving put.1 put.2
           c.commits-commits.result
           (subst (λ p. nodes_of p ≤ 2 ^ 16) c.requires.plan (omega (arith, c.plan_is_sound.ensures.sound.metric.few)))
           c.commits-commits.ensures.commit);

@@ -1,26 +1,45 @@
-use Rattle.std.proofs.Common.{refl, subst, sym, ap, ◌∙◌, arith, []}
-use Rattle.std.specs.Prelude.{IsSome}
+use Rattle.std.proofs.Common.{refl, subst, sym, ap, ◌∙◌, ◌≡◌, ◌≤◌, Some, arith, []}
+use Rattle.directory.specs.Keys.{act_node}
 use Rattle.handset.specs.Condition.{HandsetData}
 use Rattle.handset.specs.StepWrites.{due}
 use Rattle.region_plan.specs.Settings.{setting_of}
 use Rattle.station.specs.Handsets.{IsHandsetOf}
+use Rattle.station.specs.Setup.{setting_in}
+use Rattle.tracker_calls.specs.Added.{HasTried}
 use Rattle.tracker_calls.specs.Moves.{HasStepped}
-use Rattle.tracker_calls.proofs.Stepping.{next-visit, own-tried, stepped, tried-put}
+use Rattle.tracker_calls.proofs.Adding.{tried-none}
+use Rattle.tracker_calls.proofs.Stepping.{next-visit, own-tried, stepped-tried, tried-put}
 use Rattle.tracker_calls.proofs.whole_moves.put_when_free.Goals as goal
+
+pub tries-init : goal.tries-init
+tries-init g c =
+    let setup = c.args.tracker.now.setup in
+    let plan = c.args.plan.now in
+    let handset = c.args.handset.now in
+    let next = next-visit setup plan handset (due (setting_of plan []) handset) c.requires.plan refl c.requires.left in
+    record {
+      tried = (next.0, next.1, tried-none (act_node (setting_in setup) next.0.act) c.args.pass.now);
+      handset = refl;
+      own = c.requires.handset;
+    }
 
 pub tries-preserved : goal.tries-preserved
 tries-preserved g c =
     let setup = c.args.tracker.now.setup in
     let same = c.tries.invariant.handset in
     let lost = c.in_default.ensures.made in
+    let next = c.tries.invariant.tried in
+    let node = act_node (setting_in setup) next.0.act in
     let tried = tried-put setup c.args.plan.now c.args.pass.now c.tries.pass c.visit_put.new.pass c.tries.handset
-    c.in_default.field-0 c.requires.plan
-    (subst (λ (h : HandsetData). IsSome (due (setting_of c.args.plan.now []) h)) (sym same) c.requires.left)
-    c.tries.invariant.tried lost.0 in record {
-      tried = tried;
+    c.in_default.field-0 next.0 c.requires.plan next.1 next.2 lost.0 in record {
+      tried = (
+        next.0,
+        subst (λ (h : HandsetData). due (setting_in setup) h ≡ Some next.0) (sym lost.1) next.1,
+        tried,
+      );
       handset = lost.1 ∙ same;
       own = subst (IsHandsetOf setup c.visit_put.new.pass.view) (sym (lost.1 ∙ same))
-          (own-tried setup c.args.pass.now c.visit_put.new.pass c.args.handset.now tried c.requires.handset);
+          (own-tried setup node c.args.pass.now c.visit_put.new.pass c.args.handset.now tried c.requires.handset);
     }
 
 pub returns-in-Ok : goal.returns-in-Ok
@@ -28,17 +47,13 @@ returns-in-Ok g c =
     let setup = c.args.tracker.now.setup in
     let plan = c.args.plan.now in
     let handset = c.tries.handset in
-    let same = c.tries.invariant.handset in
-    let left = subst (λ (h : HandsetData). IsSome (due (setting_of plan []) h)) (sym same) c.requires.left in
-    let made = c.in-Ok.ensures.made in record {
-      put = (
-        c.tries.pass,
-        c.tries.invariant.tried,
-        subst (λ (h : HandsetData). HasStepped setup c.tries.pass h c.in-Ok.ticket c.visit_put.new.pass
-            c.visit_put.new.handset) same
-            (stepped setup plan c.tries.pass c.visit_put.new.pass handset c.visit_put.new.handset c.in-Ok.ticket
-            c.requires.plan (next-visit setup plan handset (due (setting_of plan []) handset) c.requires.plan refl left)
-            (omega (arith, c.requires.spare, ap (λ q. q.spare) c.tries.invariant.tried.is)) made.0 made.1 made.2
-            c.in-Ok.ensures.goes_on),
-      );
-    }
+    let next = c.tries.invariant.tried in
+    let made = c.in-Ok.ensures.made in
+    let room : 1 ≤ c.tries.pass.spare = omega (arith, c.requires.spare, ap (λ q. q.spare) next.2.is) in
+    let both = subst (λ (h : HandsetData). (stepped : HasStepped setup c.tries.pass h c.in-Ok.ticket
+    c.visit_put.new.pass c.visit_put.new.handset)
+    × HasTried (act_node (setting_in setup) stepped.visit.act) c.args.pass.now c.tries.pass)
+    c.tries.invariant.handset
+    (stepped-tried setup plan c.args.pass.now c.tries.pass c.visit_put.new.pass handset c.visit_put.new.handset
+    c.in-Ok.ticket c.requires.plan next room made.0 made.1 made.2 c.in-Ok.ensures.goes_on) in
+    record { put = (c.tries.pass, both.0, both.1) }
