@@ -75,6 +75,8 @@ pub fn wrong_additions()
         → new.view.inside ≡ Some 1 → ⊥ }
     ensures unseen { (setup : Setup) (old new : PassData) → HasPass old 1 [] → HasPass new 1 []
         → HasAdded setup old (4 ∷ []) new → ⊥ }
+    ensures another { (setup : Setup) (old new : PassData) → HasPass old 1 []
+        → HasPass new 1 (count_by 1 0 ∷ []) → HasAdded setup old (4 ∷ []) new → ⊥ }
     ensures forgotten { (setup : Setup) (old new : PassData) → HasPass old 1 (count_by 0 0 ∷ [])
         → HasPass new 1 [] → HasAdded setup old [] new → ⊥ }
     ensures won_back { (setup : Setup) (old new : PassData) → HasAdded setup old (4 ∷ []) new
