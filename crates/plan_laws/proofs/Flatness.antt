@@ -64,7 +64,8 @@ pub flat_is_one : (network : Network) (one two : PlanData) → IsFlat network on
 flat_is_one network one two p q =
     let k : one.k ≡ two.k = p.trade_off ∙ sym q.trade_off in
     let reach : one.reach ≡ two.reach = p.reach ∙ sym q.reach in
-    let tables : one.distances ≡ two.distances = one_table network one.distances two.distances p.distances q.distances in
+    let tables : one.distances ≡ two.distances =
+    one_table network one.distances two.distances p.distances q.distances in
     let here : level_at one 0 ≡ level_at two 0 = flat_levels_are_one two.distances (level_at one 0) (level_at two 0)
     (subst (λ (t : DistanceTable). IsFlatLevel t (level_at one 0)) tables p.level) q.level in
     let levels : one.levels ≡ two.levels = same_lists one.levels two.levels (p.one ∙ sym q.one) (λ i d h.

@@ -38,7 +38,8 @@ range_new xs ys a b from to =
     ∙ ap (λ l. take (b - a) (l ++ ys)) (drop_all a xs (omega arith))
     ∙ take_all (b - a) ys (omega (arith, length-append xs ys))
 
-pub range_behind : (xs ys all : List ℕ) (a : ℕ) → a ≡ length xs → all ≡ xs ++ ys → take (length all - a) (drop a all) ≡ ys
+pub range_behind : (xs ys all : List ℕ) (a : ℕ) → a ≡ length xs → all ≡ xs ++ ys
+    → take (length all - a) (drop a all) ≡ ys
 range_behind xs ys all a from grown =
     ap (λ l. take (length l - a) (drop a l)) grown ∙ range_new xs ys a (length (xs ++ ys)) from refl
 

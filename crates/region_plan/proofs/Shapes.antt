@@ -40,7 +40,8 @@ level_pushed shapes new_shapes shape heads new_heads levels exponent threshold p
 
 -- ---- a level that shares the shape of the last one
 
-pub heads_count : (shapes : List Shape) (heads : List LevelHead) (levels : List Level) → levels_over shapes heads ≡ levels
+pub heads_count : (shapes : List Shape) (heads : List LevelHead) (levels : List Level) → levels_over shapes heads
+    ≡ levels
     → length heads ≡ length levels
 heads_count shapes heads levels view =
     sym (length-map heads (level_under shapes)) ∙ ap (length {A = Level}) view

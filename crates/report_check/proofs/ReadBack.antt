@@ -122,7 +122,8 @@ given-then : {B : Type 0} (word numbers more rest : List ℕ) (f : List ℕ → 
     → f (more ++ rest) ≡ y → (given_in word numbers ((word ++ (fields numbers ++ more)) ++ rest) >>= f) ≡ y
 given-then word numbers more rest f y h =
     ap (λ o. o >>= f) (word-then word (fields numbers ++ more) rest (word_in (fields numbers)) (Some (more ++ rest))
-    (ap (word_in (fields numbers)) (append_assoc (fields numbers) more rest) ∙ word-reads (fields numbers) (more ++ rest)))
+    (ap (word_in (fields numbers)) (append_assoc (fields numbers) more rest)
+    ∙ word-reads (fields numbers) (more ++ rest)))
     ∙ h
 
 -- and behind a word and one number

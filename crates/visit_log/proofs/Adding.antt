@@ -82,7 +82,8 @@ adding-more plan old new next node level count place sum adding levels starts to
       size = omega (arith, longer, adding.size);
       ways_size = omega (arith, longer, more, adding.ways_size);
       places_before = λ i low. place_before i (omega (arith, low, adding.size)) ∙ adding.places_before i low;
-      ways_before = λ i low. way_before i (omega (arith, low, adding.size, adding.ways_size)) ∙ adding.ways_before i low;
+      ways_before = λ i low. way_before i (omega (arith, low, adding.size, adding.ways_size))
+          ∙ adding.ways_before i low;
       places = λ i low. elim (cases_lt i count) [
         | inl less ↦ place_before (length old.places + i) (omega (arith, less, adding.size)) ∙ adding.places i less
         | inr over ↦

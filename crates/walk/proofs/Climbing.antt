@@ -31,7 +31,8 @@ module _ (plan : PlanData) (climb : Climb) (kept : IsKept plan) (matched : IsMat
   -- as light as its place says
   next-light : weight_behind plan climb ≤ (climb.level * 1024 + suc climb.index) * 2 ^ 36
   next-light =
-      let held = reader-held plan climb.level climb.from climb.index matched over.progress.0 over.from over.progress.1 in
+      let held =
+      reader-held plan climb.level climb.from climb.index matched over.progress.0 over.from over.progress.1 in
       omega (
         arith,
         over.progress.2,
@@ -79,7 +80,8 @@ module _ (plan : PlanData) (climb : Climb) (kept : IsKept plan) (matched : IsMat
       let later = readers_above (setting_of plan []) climb.from (suc climb.level) in
       let read : climb_pursuit climb.known (weight_behind plan climb) (left ++ later)
       ≡ after_word (setting_of plan []) call (pursuit_at (setting_of plan []) climb.from (progress_of climb)) 0 =
-      sym (word-climbing plan climb.from sub climb.known climb.weight climb.level climb.index 0 None over.progress.1 refl)
+      sym (word-climbing plan climb.from sub climb.known climb.weight climb.level climb.index 0 None over.progress.1
+      refl)
       in
       elim (cases_lt (suc climb.index) reader_count) [
         | inl low ↦

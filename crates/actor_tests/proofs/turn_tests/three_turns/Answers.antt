@@ -8,7 +8,8 @@ pub turn-requires-3 : goal.turn-requires-3
 turn-requires-3 c = record { stands = (_, c.turn-2.ensures.stands _ (c.turn.ensures.stands [] c.requires)) }
 
 pub returns-clause-stands : goal.returns-clause-stands
-returns-clause-stands c = (_, c.turn-3.ensures.stands _ (c.turn-2.ensures.stands _ (c.turn.ensures.stands [] c.requires)))
+returns-clause-stands c =
+    (_, c.turn-3.ensures.stands _ (c.turn-2.ensures.stands _ (c.turn.ensures.stands [] c.requires)))
 
 pub returns-clause-same : goal.returns-clause-same
 returns-clause-same c = (

@@ -21,7 +21,8 @@ loop-a-preserved c =
 
 pub lower_whole_row-requires-clause-light : goal.lower_whole_row-requires-clause-light
 lower_whole_row-requires-clause-light c =
-    lowered_light (Among (take c.loop-a.a-index c.args.near.now) (λ a. Among c.args.near.now (PairOffer c.args.width a)))
+    lowered_light (Among (take c.loop-a.a-index c.args.near.now)
+    (λ a. Among c.args.near.now (PairOffer c.args.width a)))
     c.args.table.now c.loop-a.table FAR c.loop-a.invariant c.requires.light
 
 pub returns : goal.returns

@@ -116,7 +116,8 @@ loop-above-preserved c =
             ahead = λ subs known. ahead-more plan subs handset (at_entry handset (entries.Erasing at))
                 (at_entry handset (entries.Erasing above))
                 (record { place = c.loop-above.place; commits = false; word = c.pack_address-word.result })
-                c.args.ahead.now c.loop-above.ahead w.push_reserved.new.self (c.loop-above.invariant.ahead subs known) (record {
+                c.args.ahead.now c.loop-above.ahead w.push_reserved.new.self
+                (c.loop-above.invariant.ahead subs known) (record {
                   visit = entry_put handset.sub write;
                   key = Entry at (home plan at (slice_index handset.addresses at)) handset.sub;
                   act = ap (Put (Entry at (home plan at (slice_index handset.addresses at)) handset.sub))

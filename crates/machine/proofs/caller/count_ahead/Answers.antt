@@ -46,6 +46,7 @@ returns-clause-empty g c = λ i low.
       is = record { level = c.requires.over.progress.0; index = c.requires.over.progress.1 };
     } in
     let one = first-of c.ahead-ahead.result.now c.min.result i 0
-    (omega (arith, c.min.ensures, min-le_left (length c.ahead-ahead.result.now - 1) c.args.most)) (omega (arith, low, c.count_empty.ensures.within)) in
+    (omega (arith, c.min.ensures, min-le_left (length c.ahead-ahead.result.now - 1) c.args.most))
+    (omega (arith, low, c.count_empty.ensures.within)) in
     ap (word_beside c.args.cells.now c.args.sub) (sym (one.1 ∙ c.ahead-ahead.ensures.places plan at i one.0))
     ∙ c.count_empty.ensures.empty i low

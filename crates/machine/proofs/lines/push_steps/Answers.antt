@@ -7,18 +7,21 @@ use Rattle.machine.proofs.lines.push_steps.Goals as goal
 
 pub push_lines-requires : goal.push_lines-requires
 push_lines-requires c = record {
-  room = part-fits (λ (one : Subscriber). one.lines.items) c.args.subscribers.now c.subscribers.subscriber-index c.subscriber-item.result
+  room = part-fits (λ (one : Subscriber). one.lines.items) c.args.subscribers.now c.subscribers.subscriber-index
+      c.subscriber-item.result
       c.deref.result.now c.subscribers-test.true c.subscriber-item.is c.deref.ensures.value
       (length c.subscribers.calls.items) (vec_capacity c.subscribers.calls) c.subscribers.invariant.room;
 }
 
 pub subscribers-preserved : goal.subscribers-preserved
 subscribers-preserved c = record {
-  items = one-more (λ (one : Subscriber). one.lines.items) c.args.subscribers.now c.subscribers.subscriber-index c.subscriber-item.result
+  items = one-more (λ (one : Subscriber). one.lines.items) c.args.subscribers.now c.subscribers.subscriber-index
+      c.subscriber-item.result
       c.deref.result.now c.subscribers-test.true c.subscriber-item.is c.deref.ensures.value
       c.args.calls.now.items c.subscribers.calls.items c.push_lines.new.calls.items c.subscribers.invariant.items
       c.push_lines.ensures.items;
-  room = rest-fits (λ (one : Subscriber). one.lines.items) c.args.subscribers.now c.subscribers.subscriber-index c.subscriber-item.result
+  room = rest-fits (λ (one : Subscriber). one.lines.items) c.args.subscribers.now c.subscribers.subscriber-index
+      c.subscriber-item.result
       c.deref.result.now c.subscribers-test.true c.subscriber-item.is c.deref.ensures.value
       c.subscribers.calls.items c.push_lines.new.calls.items (vec_capacity c.subscribers.calls)
       (vec_capacity c.push_lines.new.calls) c.subscribers.invariant.room c.push_lines.ensures.capacity

@@ -23,7 +23,8 @@ loop-v-preserved c =
           (All-cons fits row [] (ap (λ (b : Nodes). b.room) c.in_ok-row_of.ensures) (All-nil fits)));
       each = λ v below. ap (λ (l : List Nodes). ball (sets l) v) grown
           ∙ row_more rows row wanted (λ u before. c.loop-v.invariant.each u (omega (arith, before, count)))
-          (ap (λ (b : Nodes). b.members) c.in_ok-row_of.ensures ∙ ap wanted (sym count)) v (omega (arith, below, count));
+          (ap (λ (b : Nodes). b.members) c.in_ok-row_of.ensures ∙ ap wanted (sym count)) v
+          (omega (arith, below, count));
     }
 
 pub returns-clause-turned : goal.returns-clause-turned

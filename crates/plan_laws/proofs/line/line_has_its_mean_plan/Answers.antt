@@ -13,7 +13,8 @@ use Rattle.plan_laws.proofs.LineNetwork.{line_is_network}
 use Rattle.plan_laws.proofs.line.line_has_its_mean_plan.Goals as goal
 
 line_is : mean_plan line_network 2 ≡ mean_line_of_four
-unfolding covered_plan first_passing reaches least growth union_of is_homed home_of is_last mean_cluster mean_clusters all_clusters as_cluster cluster_list
+unfolding covered_plan first_passing reaches least growth union_of is_homed home_of is_last mean_cluster
+    mean_clusters all_clusters as_cluster cluster_list
 line_is = refl
 
 pub returns-clause-plan : goal.returns-clause-plan

@@ -11,7 +11,8 @@ use Rattle.plan_laws.proofs.LineNetwork.{line_is_network}
 use Rattle.plan_laws.proofs.line.line_has_its_plan.Goals as goal
 
 line_is : plan_of line_network 2 ≡ line_of_four
-unfolding covered_plan first_passing reaches least growth union_of is_homed home_of is_enough cluster_of phase phases all_clusters as_cluster cluster_list
+unfolding covered_plan first_passing reaches least growth union_of is_homed home_of is_enough cluster_of
+    phase phases all_clusters as_cluster cluster_list
 line_is = refl
 
 pub returns-clause-plan : goal.returns-clause-plan

@@ -36,5 +36,6 @@ returns-clause-stopped c = λ old new call held handset stopped its.
     let between = stopped.between in
     let same = stopped.added.same.setup in
     subst (λ (s : Setup). IsHandsetOf s new.view handset) same (handset-held between
-    (key_node (setting_in old.view.setup) stopped.key) held new handset stopped.turn (subst (λ (s : Setup). IsHandsetOf s
+    (key_node (setting_in old.view.setup) stopped.key) held new handset stopped.turn
+    (subst (λ (s : Setup). IsHandsetOf s
     between.view handset) (sym same) (stopped.keeps handset its)))

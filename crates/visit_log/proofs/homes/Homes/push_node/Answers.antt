@@ -16,7 +16,8 @@ home-more : (plan : PlanData) (old new : HomeData) (node level place : ℕ) → 
     → HaveHomes plan new (node * levels_of plan + (level + 1))
 home-more plan old new node level place low have levels places is =
     let count : ℕ = node * levels_of plan + level in
-    let more : length new.places ≡ suc count = omega (arith, ap length places, length_push old.places place, have.count_is)
+    let more : length new.places ≡ suc count =
+    omega (arith, ap length places, length_push old.places place, have.count_is)
     in
     record {
       levels = levels ∙ have.levels;

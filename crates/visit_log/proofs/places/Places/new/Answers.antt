@@ -39,7 +39,8 @@ more-firsts plan old new level first kept low have items = record {
 pub loop-level-preserved : goal.loop-level-preserved
 loop-level-preserved c =
     let plan = c.args.plan.now in
-    let more = more-firsts plan c.loop-level.firsts.items c.push_reserved.new.self.items c.loop-level.level c.loop-level.first
+    let more = more-firsts plan c.loop-level.firsts.items c.push_reserved.new.self.items c.loop-level.level
+    c.loop-level.first
     c.nodes-first.ensures.sound (omega (arith, c.loop-level-test.true, c.levels-level-end.ensures)) (record {
       count = sym c.loop-level.firsts.ok.0 ∙ c.loop-level.invariant.count;
       each = c.loop-level.invariant.firsts;

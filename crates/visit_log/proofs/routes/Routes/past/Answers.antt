@@ -77,7 +77,8 @@ index-requires c =
 -- the start of its part, as it is read
 start-read : (plan : PlanData) (routes : RouteData) (part node level index count first found v k : ℕ)
     (items : List ℕ)
-    → Finds plan routes node level index count first found → part ≡ node * levels_of plan → items ≡ routes.starts → k ≡ part + found
+    → Finds plan routes node level index count first found → part ≡ node * levels_of plan → items ≡ routes.starts
+    → k ≡ part + found
     → v ≡ get_or items k v
     → v ≡ slice_index routes.starts
     (node * levels_of plan + (rung_past plan node (rung_at level index) count).level)

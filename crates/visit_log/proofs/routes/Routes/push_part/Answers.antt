@@ -15,7 +15,13 @@ overflow_add-first c =
     let level : ℕ = c.args.level in
     let reader : ℕ = get_or (readers plan level c.args.node) c.loop-index.index 0 in
     let short : c.loop-index.index < length (readers plan level c.args.node) =
-    omega (arith, c.loop-index-test.true, c.loop-index.auto.index-end, c.len.ensures, ap length c.readers-readers.ensures)
+    omega (
+      arith,
+      c.loop-index-test.true,
+      c.loop-index.auto.index-end,
+      c.len.ensures,
+      ap length c.readers-readers.ensures,
+    )
     in
     let held = reader-held plan level c.args.node c.loop-index.index c.plan_is_sound.ensures.matched c.requires.level
     c.requires.node short in
@@ -45,7 +51,13 @@ pub overflow_mul-sum : goal.overflow_mul-sum
 overflow_mul-sum c =
     let plan = c.args.plan.now in
     let short : c.loop-index.index < length (readers plan c.args.level c.args.node) =
-    omega (arith, c.loop-index-test.true, c.loop-index.auto.index-end, c.len.ensures, ap length c.readers-readers.ensures)
+    omega (
+      arith,
+      c.loop-index-test.true,
+      c.loop-index.auto.index-end,
+      c.len.ensures,
+      ap length c.readers-readers.ensures,
+    )
     in
     let held = reader-held plan c.args.level c.args.node c.loop-index.index c.plan_is_sound.ensures.matched
     c.requires.level c.requires.node short in
@@ -60,7 +72,13 @@ pub overflow_add-sum : goal.overflow_add-sum
 overflow_add-sum c =
     let plan = c.args.plan.now in
     let short : c.loop-index.index < length (readers plan c.args.level c.args.node) =
-    omega (arith, c.loop-index-test.true, c.loop-index.auto.index-end, c.len.ensures, ap length c.readers-readers.ensures)
+    omega (
+      arith,
+      c.loop-index-test.true,
+      c.loop-index.auto.index-end,
+      c.len.ensures,
+      ap length c.readers-readers.ensures,
+    )
     in
     let held = reader-held plan c.args.level c.args.node c.loop-index.index c.plan_is_sound.ensures.matched
     c.requires.level c.requires.node short in
@@ -86,7 +104,13 @@ loop-index-preserved c =
     let node : ℕ = c.args.node in
     let index : ℕ = c.loop-index.index in
     let short : index < length (readers plan level node) =
-    omega (arith, c.loop-index-test.true, c.loop-index.auto.index-end, c.len.ensures, ap length c.readers-readers.ensures)
+    omega (
+      arith,
+      c.loop-index-test.true,
+      c.loop-index.auto.index-end,
+      c.len.ensures,
+      ap length c.readers-readers.ensures,
+    )
     in
     let held = reader-held plan level node index c.plan_is_sound.ensures.matched c.requires.level c.requires.node short
     in
@@ -136,7 +160,8 @@ loop-index-preserved c =
             c.loop-index.invariant.adding.ways_size,
           )
           in
-          sym (ap (λ xs. slice_index xs (length c.push_reserved.new.self.items)) c.push_reserved-in-loop-index.ensures.items
+          sym (ap (λ xs. slice_index xs (length c.push_reserved.new.self.items))
+          c.push_reserved-in-loop-index.ensures.items
           ∙ get_or_push c.loop-index.self-inside.ways.items sum 0 (length c.push_reserved.new.self.items)
           (sym size));
       room = omega (arith, c.push_reserved.ensures.capacity, c.loop-index.invariant.room);

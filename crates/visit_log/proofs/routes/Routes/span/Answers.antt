@@ -10,7 +10,8 @@ pub returns-clause-exact : goal.returns-clause-exact
 returns-clause-exact c = λ plan at.
     let levels : c.self.inside.levels ≡ levels_of plan =
     ap (λ (r : RouteData). r.levels) c.self.view_is ∙ at.are.levels in
-    let starts : c.self.inside.starts.items ≡ c.args.self.now.starts = ap (λ (r : RouteData). r.starts) c.self.view_is in
+    let starts : c.self.inside.starts.items ≡ c.args.self.now.starts =
+    ap (λ (r : RouteData). r.starts) c.self.view_is in
     let part : c.args.node * c.self.inside.levels ≡ c.args.node * levels_of plan = ap (λ n. c.args.node * n) levels in
     let first : c.index.result.now ≡ slice_index c.args.self.now.starts (c.args.node * levels_of plan + c.args.level) =
     reads c.self.inside.starts.items c.args.self.now.starts _ _ c.index.result.now c.index.ensures starts
