@@ -1,6 +1,7 @@
 //! What the making of a cover writes over.
 
-ghost use Rattle.std.specs.Prelude.{◌≡◌, ◌≤◌, ◌++◌, ◌∷◌, ◌-◌, ℕ, [], All, IfOk, OnOk, length};
+ghost use Rattle.std.specs.Prelude.{◌≡◌, ◌≤◌, ◌++◌, ◌∷◌, ◌-◌, ℕ, [], All, IfOk, OnErr, OnOk, length};
+ghost use Rattle.std.specs.Prelude.{take};
 ghost use Rattle.node_set.specs.Nodes.{Nodes};
 ghost use Rattle.node_set.specs.Workspaces.{IsWorkspace};
 
@@ -43,25 +44,32 @@ impl Workspace {
     }
 
     /// Takes the set of a cluster that is done with, to make another of: it is the next that
-    /// [`empty_set`] hands out.
+    /// [`empty_set`] hands out. Where memory is wanting the set is dropped, and the workspace stays
+    /// of use.
     pub fn give_back(&mut self, set: NodeSet) -> Result<(), OutOfMemory>
         ensures kept { OnOk result
             (self.new.growth.spare.items ≡ self.old.growth.spare.items ++ set ∷ []) }
-        ensures sized { OnOk result
-            ((n : ℕ) → IsWorkspace n self.old → set.room ≡ n → IsWorkspace n self.new) }
+        ensures others { self.new ≡ record self.old {
+          growth = record self.old.growth
+              { spare = self.new.growth.spare };
+        } }
+        ensures dropped { OnErr result
+            (self.new.growth.spare.items ≡ self.old.growth.spare.items) }
+        ensures sized { (n : ℕ) → IsWorkspace n self.old → set.room ≡ n
+            → IsWorkspace n self.new }
     {
         self.growth.spare.push(set)?;
         Ok(())
     }
 }
 
-/// An empty set, one of the spare sets where there is one.
+/// An empty set: the last of the spare sets where there is one, and the others stay.
 pub fn empty_set(alloc: Global, spare: &mut Vec<NodeSet>, room: u32) -> Result<NodeSet, OutOfMemory>
     requires small { room ≤ 1024 }
     requires spare { All (λ (s : Nodes). s.room ≡ room) spare.old.items }
     ensures set { IfOk result (λ set. set ≡ record { room = room; members = [] }) }
     ensures spare { All (λ (s : Nodes). s.room ≡ room) spare.new.items }
-    ensures taken { length spare.new.items ≡ length spare.old.items - 1 }
+    ensures taken { spare.new.items ≡ take (length spare.old.items - 1) spare.old.items }
 {
     match spare.pop() {
         Some(set) => {
