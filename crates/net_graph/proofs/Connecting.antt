@@ -5,7 +5,7 @@ use Rattle.std.proofs.lemmas.List.{length-replicate}
 use Rattle.std.proofs.lemmas.List.Elements.{All-replicate}
 use Rattle.net_graph.specs.declared.edge.Edge.{Edge}
 use Rattle.net_graph.specs.Walks.{IsReached, everywhere, among}
-use Rattle.net_graph.specs.Network.{Network, IsInLimits, IsNetwork, SameWalks, IsGraphOf, IsFirstApart}
+use Rattle.net_graph.specs.Network.{Network, IsInLimits, IsNetwork, SameJoins, SameWalks, IsGraphOf, IsFirstApart}
 use Rattle.net_graph.specs.Trees.{at_node, AreLeastWeights}
 use Rattle.net_graph.specs.WalkLaws.{walk_widened, unreached_everywhere}
 
@@ -39,8 +39,9 @@ module _ (n : ℕ) (edges : List Edge) (network : Network) (nodes : network.node
     connected = λ v below. reached_in v below (none v (omega (arith, least.count)));
   }
 
-  pub made : ((v : ℕ) → v < length weights → at_node weights v ≡ None → ⊥) → IsGraphOf n edges network
-  made none = record { nodes = nodes; same = same; sound = connected none }
+  pub made : SameJoins edges network.edges → ((v : ℕ) → v < length weights → at_node weights v ≡ None → ⊥)
+      → IsGraphOf n edges network
+  made joins none = record { nodes = nodes; joins = joins; same = same; sound = connected none }
 
   pub first_is_apart : (node : ℕ) → node < n → at_node weights node ≡ None
       → ((v : ℕ) → v < node → at_node weights v ≡ None → ⊥)

@@ -5,7 +5,7 @@ use Rattle.net_graph.specs.declared.edge.Edge.{Edge}
 use Rattle.net_graph.specs.declared.edge.TheConstants.{MAX_NODES}
 use Rattle.net_graph.specs.declared.neighbours.Arc.{Arc}
 use Rattle.net_graph.specs.Walks.{Joins, make_edge}
-use Rattle.net_graph.specs.Network.{IsEdge, SameWalks}
+use Rattle.net_graph.specs.Network.{IsEdge, SameJoins, SameWalks}
 use Rattle.net_graph.specs.Layout.{row, edges_from, IsArc, IsLaidOut}
 use Rattle.net_graph.specs.Notes.{HaveRoom, JoinsOther, AreArcsBy, AreRows, notes_of, row_of}
 use Rattle.net_graph.proofs.Noting.{row_is}
@@ -64,6 +64,22 @@ module _ (n : ℕ) (edges : List Edge) (all : All (IsEdge n) edges) where
   covering starts arcs rows u v w other (inl h) = (w, from_row starts arcs rows u v w h, omega arith)
   covering starts arcs rows u v w other (inr h) =
       (w, join_turned edges v u w (from_row starts arcs rows v u w h), omega arith)
+
+  pub rows_same_joins : (starts : List ℕ) (arcs : List Arc) → AreRows n (JoinsOther edges) starts arcs
+      → SameJoins edges (edges_from starts arcs n)
+  rows_same_joins starts arcs rows u v w = (into, back)
+    where
+      into : Joins (edges_from starts arcs n) u v w → JoinsOther edges u v w
+      into (inl h) = let r = row_has_edge starts arcs n u v w h in (rows.are u r.0 v w).0 r.1
+      into (inr h) =
+          let r = row_has_edge starts arcs n v u w h in
+          let joined = (rows.are v r.0 u w).0 r.1 in
+          ((λ same. joined.0 (sym same)), join_turned edges v u w joined.1)
+
+      back : JoinsOther edges u v w → Joins (edges_from starts arcs n) u v w
+      back joined =
+          let below = (join_edge n edges u v w all joined.1).0 in
+          inl (edges_have_row starts arcs n u v w below ((rows.are u below v w).1 joined))
 
   pub rows_same_walks : (starts : List ℕ) (arcs : List Arc) → AreRows n (JoinsOther edges) starts arcs
       → SameWalks edges (edges_from starts arcs n)

@@ -1,10 +1,11 @@
 -- What contracts see of a graph: the number of its nodes and a list of its edges.
--- `IsNetwork` holds of every graph; `SameWalks` ties a graph's edges to those that it was made of.
+-- `IsNetwork` holds of every graph; `SameJoins` and `SameWalks` tie a graph's edges to those that
+-- it was made of.
 -- Key laws: `all_allowed_is_everywhere`, `reached_both_ways`.
-use Rattle.std.specs.Prelude.{◌≡◌, ℕ, ◌<◌, ◌≤◌, ◌↔◌, Bool, List, All}
+use Rattle.std.specs.Prelude.{◌≡◌, ◌≢◌, ℕ, ◌<◌, ◌≤◌, ◌↔◌, Bool, List, All}
 use Rattle.net_graph.specs.declared.edge.Edge.{Edge}
 use Rattle.net_graph.specs.declared.edge.TheConstants.{MAX_NODES, MAX_WEIGHT}
-use Rattle.net_graph.specs.Walks.{IsLeastWeight, IsUnreached, IsReached, everywhere}
+use Rattle.net_graph.specs.Walks.{IsLeastWeight, IsUnreached, IsReached, Joins, everywhere}
 
 -- a network: its nodes are the numbers below `nodes`
 pub record Network : Type 0 where
@@ -38,9 +39,15 @@ pub record SameWalks (old new : List Edge) : Type 0 where
   pub unreached : (inside : ℕ → Bool) (u v : ℕ) → IsUnreached old inside u v
       ↔ IsUnreached new inside u v
 
+-- the new edges join just the nodes that the old ones join, by the same weights; but an edge from a
+-- node to itself counts for nothing
+abbrev pub SameJoins : List Edge → List Edge → Type 0
+SameJoins old new = (u v w : ℕ) → Joins new u v w ↔ ((u ≢ v) × Joins old u v w)
+
 -- a graph of these nodes and edges
 pub record IsGraphOf (n : ℕ) (edges : List Edge) (network : Network) : Type 0 where
   pub nodes : network.nodes ≡ n
+  pub joins : SameJoins edges network.edges
   pub same : SameWalks edges network.edges
   pub sound : IsNetwork network
 

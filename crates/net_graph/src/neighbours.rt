@@ -2,7 +2,7 @@
 
 ghost use Rattle.std.specs.Prelude.{◌≡◌, ◌<◌, ◌≤◌, IfOk, All};
 ghost use Rattle.net_graph.specs.Layout.{AreArcsOf};
-ghost use Rattle.net_graph.specs.Network.{IsEdge, IsInLimits, SameWalks};
+ghost use Rattle.net_graph.specs.Network.{IsEdge, IsInLimits, SameJoins, SameWalks};
 
 use crate::counting::{count_arcs, fill_arcs, sum_counts};
 use crate::edge::{Edge, MAX_NODES};
@@ -54,6 +54,7 @@ impl Neighbours {
         requires edges { All (IsEdge n) edges.now }
         ensures nodes { IfOk result (λ g. g.nodes ≡ n) }
         ensures limits { IfOk result IsInLimits }
+        ensures joins { IfOk result (λ g. SameJoins edges.now g.edges) }
         ensures same { IfOk result (λ g. SameWalks edges.now g.edges) }
     {
         let mut counts = vec![in alloc; 0usize; n as usize]?;

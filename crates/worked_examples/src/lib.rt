@@ -49,7 +49,7 @@ pub use puts::worked_puts;
 pub use rules::{told_tickets, wrong_logs, wrong_moments, wrong_views};
 pub use texts::{worked_causes, worked_json, worked_plan_lines, worked_plan_text};
 pub use trails::{worked_counts, worked_phases, worked_trails, wrong_numbers};
-pub use trees::{worked_parents, wrong_parents};
+pub use trees::{worked_parents, wrong_graphs, wrong_parents};
 pub use valid::worked_scripts;
 pub use words::{worked_loads, worked_names, worked_numbers};
 pub use wrong::wrong_lines;

@@ -1,7 +1,23 @@
-//! The parents in a tree of least walks, on a square with two ways to its far corner.
+//! Graphs of given edges; and the parents in a tree of least walks, on a square with two ways to
+//! its far corner.
 ghost use Rattle.std.specs.Prelude.{◌≡◌, [], ◌∷◌, ℕ, List, Option, Some, None, length};
+ghost use Rattle.net_graph.specs.Network.{IsGraphOf, Network};
 ghost use Rattle.net_graph.specs.Trees.{AreParents, at_node};
+ghost use Rattle.net_graph.specs.Walks.{make_edge};
 ghost use Rattle.worked_examples.specs.Trees.{joined_twice, square, square_weights};
+
+/// What is no graph of given edges: one with an edge that isn't given, one that leaves out an edge
+/// beside a lighter one, and one with an edge from a node to itself, though that is given.
+pub fn wrong_graphs()
+    ensures made_up { (network : Network) → IsGraphOf 2 (make_edge 0 1 3 ∷ []) network
+        → network.edges ≡ make_edge 0 1 3 ∷ make_edge 0 1 7 ∷ [] → ⊥ }
+    ensures left_out { (network : Network)
+        → IsGraphOf 2 (make_edge 0 1 3 ∷ make_edge 0 1 7 ∷ []) network
+        → network.edges ≡ make_edge 0 1 3 ∷ [] → ⊥ }
+    ensures to_itself { (network : Network)
+        → IsGraphOf 2 (make_edge 0 1 3 ∷ make_edge 1 1 5 ∷ []) network
+        → network.edges ≡ make_edge 0 1 3 ∷ make_edge 1 1 5 ∷ [] → ⊥ }
+{}
 
 /// The parents in the square: none at the root, and at the far corner the lower of two that lead
 /// there.

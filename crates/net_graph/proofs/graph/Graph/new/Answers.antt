@@ -28,5 +28,5 @@ returns-in-None-clause-graph c =
     made c.args.n c.args.edges.now c.in_ok-neighbours.neighbours c.in_ok-neighbours.ensures.nodes
     c.in_ok-neighbours.ensures.limits
     c.in_ok-neighbours.ensures.same c.in_ok-allowed.allowed.items all c.in_ok-weights.weights.items
-    (rw c.deref.ensures.value at c.in_ok-weights.ensures)
+    (rw c.deref.ensures.value at c.in_ok-weights.ensures) c.in_ok-neighbours.ensures.joins
     (rw c.deref-2.ensures.value at c.in-None.ensures.none)

@@ -2,7 +2,7 @@ use Rattle.std.proofs.Common.{◌≡◌, ℕ, List, ◌++◌, length, take, drop
 use Rattle.net_graph.specs.declared.neighbours.Arc.{Arc}
 use Rattle.net_graph.specs.Notes.{AreCounts, AreRows, HaveRoom, JoinsOther, notes_of}
 use Rattle.net_graph.proofs.Rows.{laid_out_limits}
-use Rattle.net_graph.proofs.LayingOut.{all_rows, rows_same_walks}
+use Rattle.net_graph.proofs.LayingOut.{all_rows, rows_same_joins, rows_same_walks}
 use Rattle.net_graph.proofs.Placing.{room_made}
 use Rattle.net_graph.proofs.neighbours.Neighbours.new.Goals as goal
 use Rattle.std.proofs.lemmas.List.{take_at}
@@ -61,6 +61,12 @@ invariant_of-result c =
     all_rows c.args.n c.args.edges.now c.requires.edges c.in_ok-starts.starts.items
     (take c.in_ok-arcs.arcs.len (c.fill_arcs.new.arcs ++ drop (length c.fill_arcs.new.arcs) c.in_ok-arcs.arcs.items))
     c.requires.positive c.requires.few (made c)
+
+pub returns-clause-joins : goal.returns-clause-joins
+returns-clause-joins c =
+    rows_same_joins c.args.n c.args.edges.now c.requires.edges c.in_ok-starts.starts.items
+    (take c.in_ok-arcs.arcs.len (c.fill_arcs.new.arcs ++ drop (length c.fill_arcs.new.arcs) c.in_ok-arcs.arcs.items))
+    (made c.before.before)
 
 pub returns-clause-same : goal.returns-clause-same
 returns-clause-same c =
