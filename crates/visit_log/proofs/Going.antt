@@ -34,10 +34,14 @@ module _ (plan : PlanData) (routes : RouteData) (node : ℕ) (rung : Rung) (at :
         rw (le-ltb (suc s.index) (length (readers plan s.level node)) over) refl in
         let up : suc s.level < levels_of plan = omega (arith, low, ap (λ (t : Rung). t.level) next) in
         subst (IsRung plan node) (sym next)
-        (record { level = up; index = omega (arith, (its-part plan routes node (suc s.level) at.are at.inside up).some) })
+        (record {
+          level = up;
+          index =
+              omega (arith, (its-part plan routes node (suc s.level) at.are at.inside up).some);
+        })
   ]
 
-  goes-along : (count : ℕ) → (rung_past plan node rung count).level < levels_of plan
+  pub goes-along : (count : ℕ) → (rung_past plan node rung count).level < levels_of plan
       → IsRung plan node (rung_past plan node rung count)
       × (place_in routes (node * levels_of plan) (rung_past plan node rung count)
       ≡ place_in routes (node * levels_of plan) rung + count)

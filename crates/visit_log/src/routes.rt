@@ -73,6 +73,8 @@ impl Routes {
         ensures places { (plan : PlanData) → IsAt plan self.now node (rung_at level index)
             → (i : ℕ) → i < length result.now → slice_index result.now i
             ≡ entry_place plan node (rung_past plan node (rung_at level index) i) }
+        ensures all { (plan : PlanData) → IsAt plan self.now node (rung_at level index)
+            → IsRung plan node (rung_past plan node (rung_at level index) (length result.now)) → ⊥ }
     {
         let (first, end) = self.span(node, level, index);
         &self.places[first..end]
