@@ -1,5 +1,5 @@
 //! The text of a report, line by line.
-ghost use Rattle.std.specs.Prelude.{◌≡◌, ◌≤◌, ◌+◌, ◌++◌, ◌∷◌, [], length, drop, true, false, IfOk, IfSome, IfNone, None, OnOk, codes};
+ghost use Rattle.std.specs.Prelude.{◌≡◌, ◌⊎◌, ◌≤◌, ◌+◌, ◌++◌, ◌∷◌, [], length, drop, true, false, IfOk, IfSome, IfNone, None, OnOk, codes};
 ghost use types.Logic.{sem};
 ghost use mir.Syntax.{named};
 ghost use Rattle.std.specs.List.{concat};
@@ -243,9 +243,11 @@ impl<'a> Lines<'a> {
         ensures line { IfSome result (λ line. self.old.left ≡ line.now ∷ drop 1 self.old.left) }
         ensures none { IfNone result (self.old.left ≡ []) }
 
-        // Once the borrow of the answer ends, the lines that are left are those behind it.
+        // Once the borrow of the answer ends, the lines that are left are those behind it, and the
+        // line is that of the answer, or empty where there was none left.
         ensures* after { sem 𝓛 (Rests (the_row (record { mir = named 1; lft = [] })) self.entry
-            (λ new. new.left ≡ drop 1 self.old.left)) }
+            (λ new. (self.old.left ≡ new.line ∷ new.left)
+            ⊎ ((self.old.left ≡ []) × (new.left ≡ []) × (new.line ≡ [])))) }
     {
         if self.advance() {
             Some(self.line())
