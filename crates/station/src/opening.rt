@@ -50,9 +50,7 @@ fn lay_words(
 // Tells the proof that words in memory can be numbered.
 pub fn words_are_few(words: &[u64])
     ensures { length words.now < 2 ^ 64 }
-{
-    let _ = words.len();
-}
+{}
 
 // A free lock word for each node.
 fn lay_locks(words: &mut Vec<u64>, plan: &Plan, homes: &[u32]) -> Result<(), OutOfMemory>
