@@ -20,8 +20,8 @@ use std::alloc::Global;
 /// Appends to `weights` the weight inside a cluster from its leader to each member, in the order of
 /// `members`, which are those of `cluster`, and gives the greatest of them. `row` has the distances
 /// from the leader. `Outside` names the least member that no walk through members alone reaches
-/// from the leader. After an error the old weights stand, and some weights of this cluster may
-/// stand after them.
+/// from the leader. After an error the old weights stand, and others may stand after
+/// them.
 ///
 /// The weights inside are the distances where the cluster has each node that is no farther from
 /// the leader than its farthest member, as a ball has; and also where each member has an arc from

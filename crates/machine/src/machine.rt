@@ -54,9 +54,9 @@ pub struct Machine<'a> {
 }
 
 impl<'a> Machine<'a> {
-    /// All actors before their first turns. It takes all memory that the machine needs: room for
-    /// the actors of as many visits as the scripts may have, and for the lines of their calls, no
-    /// more.
+    /// All actors before their first turns. It takes all memory that the machine needs. Its order
+    /// has room for just as many visits as the scripts may have, and its lines for just as many as
+    /// they have calls.
     pub fn new(
         alloc: Global,
         input: &'a Input,

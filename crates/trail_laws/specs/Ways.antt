@@ -1,5 +1,6 @@
 -- How far the marks of a subscriber lead, after every legal history: no level has gathered its
--- threshold, so that its address is near, and the way along the marks from there is short.
+-- threshold, so that a node is near whose home has an address, and the way along the marks from
+-- that address is short.
 -- Key laws: `levels_stay_near`, `marks_lead_shortly`, `passage_is_open`.
 use Rattle.std.specs.Prelude.{◌≡◌, ℕ, ◌+◌, ◌*◌, ◌<◌, ◌≤◌, ◌^◌, Option, Some, None}
 use Rattle.entry_word.specs.declared.address.Address.{Address}

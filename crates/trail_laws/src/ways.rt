@@ -98,7 +98,7 @@ pub fn front_of_history_is_legal()
 }
 
 /// While a find is quiet its subscriber stands still, and a passage that is open at its first look
-/// is open at its last.
+/// weighs no more than what is open at its last.
 pub fn quiet_finds_stand_still()
     ensures { QuietFindsStandStill }
 {
