@@ -1,16 +1,13 @@
 -- A caller's part of a worker: its next look is made.
 use Rattle.std.proofs.Common.{◌≡◌, ℕ, suc, ◌+◌, ◌-◌, ◌<◌, ◌≤◌, ◌^◌, true, List, [], ◌∷◌, ◌++◌, Option, length, map, take, drop, get_or, refl, sym, ap, ◌∙◌, subst, arith}
-use Rattle.std.specs.Prelude.{All, option_map, Some, None, sum_by}
+use Rattle.std.specs.Prelude.{All, Err, IsErrAnd, MatchResult, Ok, Result, option_map, Some, None, sum_by}
 use Rattle.std.specs.Option.{is_some}
 use Rattle.std.proofs.lemmas.List.{length-map, length-drop, take_all, take-append-le}
 use Rattle.std.proofs.lemmas.List.Sums.{sum_by-cons}
-use Rattle.entry_word.specs.declared.visit.Key.{Key}
-use Rattle.entry_word.specs.declared.visit.Act.{Act}
 use Rattle.entry_word.specs.declared.visit.Act.TheVariants.{Look}
 use Rattle.directory.specs.Settings.{Setting}
 use Rattle.directory.specs.Finds.{FindCall, Pursuit, after_word, answer_of, at_origin, chases, climbs, ended, key_of, looks_left, most_looks}
 use Rattle.directory.specs.Histories.{History, before, cell}
-use Rattle.directory.specs.Legal.{IsLegal}
 use Rattle.directory.specs.Looks.{look_by}
 use Rattle.directory.specs.HistoryLaws.{next-caller}
 use Rattle.directory.specs.Orders.{AreValid, Caller as Seeker, IsFindCall, after_read, caller_in, finds_of, key_in, with_pursuit}
@@ -22,7 +19,6 @@ use Rattle.machine.specs.WalkingLaws.{Walks, drop-more, read-on, walking}
 use Rattle.net_reader.specs.declared.said.Call.{Call}
 use Rattle.net_reader.specs.Input.{Contents}
 use Rattle.net_reader.specs.Valid.{IsSearch, IsValid}
-use Rattle.region_plan.specs.Matched.{IsMatched}
 use Rattle.region_plan.specs.Plan.{PlanData, nodes_of}
 use Rattle.scripts.specs.Laws.{ScriptsAreValid}
 use Rattle.scripts.specs.ScriptLaws.{calls-few, finds-are}
@@ -30,13 +26,12 @@ use Rattle.scripts.specs.Scripts.{IsSettingOf, find_of, scripts_of}
 use Rattle.station.specs.Passes.{PassData}
 use Rattle.station.specs.Setup.{Setup, setting_in, subs_in}
 use Rattle.station.specs.Visits.{HasVisited}
-use Rattle.trail_laws.specs.Trail.{EntriesTell, MarksTell}
-use Rattle.trail_laws.specs.Within.{HistoryFrontsAreLegal}
-use Rattle.walk.specs.LookLaws.{word-wanted}
-use Rattle.walk.specs.Walks.{IsWalkOver, IsWordBelow, WalkData, call_of, pursuit_of}
-use Rattle.runner.specs.Playing.{HasMadeNext, looks_after}
+use Rattle.station.specs.declared.turns.Held.{Held}
+use Rattle.walk.specs.Walks.{IsWalkOver, WalkData, call_of, pursuit_of}
+use Rattle.runner.specs.Playing.{HasLostNext, HasMadeNext, looks_after}
 use Rattle.runner.specs.PlayLaws.{caller-in}
-use Rattle.runner.specs.Roles.{HasLookedOn, IsFinder, IsSetFor}
+use Rattle.station.specs.Walking.{HasLookedOn, HasLostLook}
+use Rattle.runner.specs.Roles.{IsFinder, IsSetFor}
 use Rattle.runner.specs.declared.finder.Finder.{Finder}
 
 -- the walk of a caller's part
@@ -157,6 +152,39 @@ done-low input setup actor seen spare finder walk valid homes its some =
       calls-few input actor valid,
     )
 
+-- a caller that has lost a turn: it was at the node of its next visit, and the caller stays as it was
+pub lost-look : (input : Contents) (setup : Setup) (old new : PassData) (first last : Finder)
+    (walk moved : WalkData) (held : Held) → setup.homes ≡ input.homes
+    → IsFinder input setup old.view.low old.view.seen old.spare first → first.walk ≡ Some walk
+    → HasLostLook setup old walk held new moved → last ≡ record first { walk = Some moved }
+    → HasLostNext input setup old held new × IsFinder input setup new.view.low new.view.seen new.spare last
+lost-look input setup old new first last walk moved held homes its some on same =
+    let setting = setting_in setup in
+    let scripts = scripts_of input in
+    let actor = old.view.low in
+    let seeker = caller_in setting scripts old.view.seen actor in
+    let at = walking setup.plan seeker.calls seeker.pursuit first.walk walk some its.walk in
+    let key : key_of at.call seeker.pursuit ≡ Some on.key =
+    ap (λ c. key_of c seeker.pursuit) (sym at.its) ∙ (ap (key_of (call_of walk)) (sym at.so_far) ∙ on.wanted) in
+    let still : last ≡ first =
+    same ∙ (ap (λ w. record first { walk = Some w }) on.same ∙ ap (λ o. record first { walk = o }) (sym some)) in (
+      record {
+        visit = look_by actor on.key;
+        is_next = next-caller setting scripts old.view.seen actor (omega (arith, its.high, ap length homes))
+            ∙ ap (λ o. option_map (look_by actor) o)
+            (ap (λ cs. key_in cs seeker.pursuit) at.calls_are ∙ key);
+        lost = on.lost;
+      },
+      subst (λ (p : PassData). IsFinder input setup p.view.low p.view.seen p.spare last) (sym on.lost.turn)
+          (subst (IsFinder input setup actor old.view.seen old.spare) (sym still) its),
+    )
+
+-- a refusal that is passed on
+pub held-passed : (result : Result (Unit {0}) Held) (held : Held) (P : Unit {0} → Type 0) (Q : Held → Type 0)
+    → IsErrAnd result (λ other. other ≡ held) → Q held → MatchResult result P Q
+held-passed (Ok done) held P Q h q = absurd h
+held-passed (Err other) held P Q h q = subst Q (sym h) q
+
 -- what is known once a caller has looked
 pub record Looked (input : Contents) (setup : Setup) (old new : PassData) (finder : Finder)
     (moved : WalkData) : Type 0 where
@@ -178,18 +206,18 @@ pub record Looked (input : Contents) (setup : Setup) (old new : PassData) (finde
       + sum_by (λ (find : FindCall). most_looks (setting_in setup) find.from) later < old.spare
 
 pub looked : CallersKept → CallersRead → LooksFall → (input : Contents) (setup : Setup) (old new : PassData)
-    (finder : Finder) (walk moved : WalkData) → setup.homes ≡ input.homes
+    (finder : Finder) (walk moved : WalkData) (ticket : ℕ) → setup.homes ≡ input.homes
     → IsFinder input setup old.view.low old.view.seen old.spare finder → finder.walk ≡ Some walk
-    → HasLookedOn setup old walk new moved → Looked input setup old new finder moved
-looked kept read fall input setup old new finder walk moved homes its some on =
+    → HasLookedOn setup old walk ticket new moved → Looked input setup old new finder moved
+looked kept read fall input setup old new finder walk moved ticket homes its some on =
     let setting = setting_in setup in
     let scripts = scripts_of input in
     let actor = old.view.low in
     let seeker = caller_in setting scripts old.view.seen actor in
     let at = walking setup.plan seeker.calls seeker.pursuit finder.walk walk some its.walk in
-    let visited : HasVisited old (Look on.key) on.ticket new = on.visited in
-    let front : before on.ticket new.view.seen ≡ visited.earlier =
-    ap (take on.ticket) visited.seen
+    let visited : HasVisited old (Look on.key) ticket new = on.visited in
+    let front : before ticket new.view.seen ≡ visited.earlier =
+    ap (take ticket) visited.seen
     ∙ (ap (λ t. take t (visited.earlier ++ look_by actor on.key ∷ [])) (sym visited.count)
     ∙ (take-append-le (length visited.earlier) visited.earlier (look_by actor on.key ∷ []) (omega arith)
     ∙ take_all (length visited.earlier) visited.earlier (omega arith))) in
@@ -205,7 +233,7 @@ looked kept read fall input setup old new finder walk moved homes its some on =
     record {
       made = record {
         act = Look on.key;
-        ticket = on.ticket;
+        ticket = ticket;
         visited = visited;
         is_next = next-caller setting scripts old.view.seen actor (omega (arith, its.high, ap length homes))
             ∙ ap (λ o. option_map (look_by actor) o)
@@ -302,24 +330,3 @@ looked-up input setup old new first last moved found its at some script subs don
       room = room-of setting new.spare _ _ _ _ finds pursuit
           (omega (arith, at.fewer, visited.spare, looks-origin setting at.later));
     })
-
--- the word of a look names nodes of the plan
-pub word-seen : MarksTell → EntriesTell → HistoryFrontsAreLegal → (setup : Setup) (plan : PlanData)
-    (old new : PassData) (act : Act) (ticket word : ℕ) (walk : WalkData) (key : Key) → plan ≡ setup.plan
-    → IsMatched plan → old.view.setup ≡ setup → HasVisited old act ticket new
-    → word ≡ cell (setting_in setup) (before ticket new.view.seen) key → walk.sub < subs_in setup
-    → IsWalkOver setup.plan walk → key_of (call_of walk) (pursuit_of setup.plan walk) ≡ Some key
-    → IsWordBelow (nodes_of plan) walk.progress word
-word-seen marks entries fronts setup plan old new act ticket word walk key same matched told visited reads known goes
-    wanted =
-    let matched_there : IsMatched setup.plan = subst IsMatched same matched in
-    let small : nodes_of setup.plan ≤ 2 ^ 16 = omega (arith, matched_there.metric.few) in
-    let all : (sub : ℕ) → sub < subs_in setup → IsLegal (setting_in setup) sub new.view.seen =
-    subst (λ (s : Setup). (sub : ℕ) → sub < subs_in s → IsLegal (setting_in s) sub new.view.seen) told visited.legal in
-    let legal : IsLegal (setting_in setup) walk.sub (before ticket new.view.seen) =
-    fronts (setting_in setup) walk.sub new.view.seen ticket small (all walk.sub known) in
-    subst (λ w. IsWordBelow (nodes_of plan) walk.progress w) (sym reads)
-    (subst (λ p. IsWordBelow (nodes_of p) walk.progress (cell (setting_in setup) (before ticket new.view.seen) key))
-    (sym same)
-    (word-wanted marks entries setup.plan setup.homes (before ticket new.view.seen) walk key matched_there small legal
-    goes wanted))

@@ -9,6 +9,7 @@ use Rattle.directory.specs.Settings.{Setting, start}
 use Rattle.directory.specs.Courses.{MayStep, MaySteps, Step, course_at}
 use Rattle.directory.specs.Amid.{course_of}
 use Rattle.directory.specs.Histories.{own, puts_to}
+use Rattle.directory.specs.Keys.{act_node}
 use Rattle.directory.specs.HistoryLaws.{next-sub}
 use Rattle.directory.specs.Legal.{IsScript}
 use Rattle.directory.specs.Orders.{AreValid, next, script_visits, steps_of}
@@ -36,7 +37,7 @@ use Rattle.station.specs.Setup.{Setup, setting_in}
 use Rattle.station.specs.Visits.{HasLost, HasVisited}
 use Rattle.station.specs.declared.turns.Held.{Held}
 use Rattle.station.specs.declared.view.View.{View}
-use Rattle.runner.specs.Playing.{HasMadeNext, next_of}
+use Rattle.runner.specs.Playing.{HasLostNext, HasMadeNext, next_of}
 use Rattle.runner.specs.PlayLaws.{own-next}
 use Rattle.runner.specs.Roles.{HasBegun, IsMover, IsSetFor, IsUnderWay}
 use Rattle.runner.specs.declared.mover.Mover.{Mover}
@@ -375,10 +376,14 @@ put-on input setup plan old new first last ticket plan_is part next some made on
     → HandsetGoesOn setup old.view new.view last.handset own.steps visit)) found.1 on part.its) script begun
 
 pub put-held : (input : Contents) (setup : Setup) (old new : PassData) (first last : Mover)
-    (place : Visit → ℕ) (wanted : Option Visit) (held : Held) → IsSome wanted
-    → IfSome wanted (λ visit. HasLost old (place visit) held new) → IsMover input setup old.view old.spare first
+    (wanted : Option Visit) (held : Held) → next_of input setup old.view ≡ wanted → IsSome wanted
+    → IfSome wanted (λ visit. HasLost old (act_node (setting_in setup) visit.act) held new)
+    → IsMover input setup old.view old.spare first
     → last.handset ≡ first.handset → last.script.items ≡ first.script.items → last.begun ≡ first.begun
-    → ((place : ℕ) × HasLost old place held new) × IsMover input setup new.view new.spare last
-put-held input setup old new first last place (Some visit) held some lost part handset script begun =
-    ((place visit, lost), mover-held input setup old new (place visit) held first last lost part handset script begun)
-put-held input setup old new first last place None held some lost part handset script begun = cc
+    → HasLostNext input setup old held new × IsMover input setup new.view new.spare last
+put-held input setup old new first last (Some visit) held next some lost part handset script begun = (
+  record { visit = visit; is_next = next; lost = lost },
+  mover-held input setup old new (act_node (setting_in setup) visit.act) held first last lost part handset script
+      begun,
+)
+put-held input setup old new first last None held next some lost part handset script begun = cc

@@ -1,13 +1,16 @@
 -- A worker after one try, and a new one.
-use Rattle.std.proofs.Common.{◌≡◌, ◌≢◌, Bool, ℕ, suc, ◌+◌, ◌≤◌, ◌^◌, false, true, [], ◌∷◌, length, refl, sym, ap, ◌∙◌, subst, arith}
-use Rattle.std.specs.Prelude.{◌↔◌, None, Result, Ok, Err, OnOk, max}
+use Rattle.std.proofs.Common.{◌≡◌, ◌≢◌, Bool, ℕ, suc, ◌+◌, ◌≤◌, ◌^◌, false, true, List, [], ◌∷◌, ◌++◌, length, map, refl, sym, ap, ◌∙◌, subst, arith, append_assoc, length-append}
+use Rattle.std.specs.Prelude.{◌↔◌, All, None, Result, Ok, Err, OnOk, max}
 use Rattle.std.specs.Result.{is_err}
 use Rattle.std.specs.declared.alloc.AllocError.{AllocError}
 use Rattle.std.proofs.Math.Nat.{le-max_right, max-le}
-use Rattle.std.proofs.lemmas.List.{length_push}
+use Rattle.std.proofs.lemmas.List.{append-nil, length_push, map-append}
+use Rattle.std.proofs.lemmas.List.Elements.{All-append, All-cons, All-nil, All-weaker}
 use Rattle.entry_word.specs.declared.visit.Visit.{Visit}
-use Rattle.directory.specs.Histories.{IsFront, own}
+use Rattle.directory.specs.Histories.{History, IsFront, own}
+use Rattle.directory.specs.Keys.{act_node}
 use Rattle.directory.specs.HistoryLaws.{front-append, front-itself, front-through}
+use Rattle.directory.specs.Settings.{Setting}
 use Rattle.directory.specs.Statements.{CallersKept}
 use Rattle.distances.specs.Table.{DistanceTable}
 use Rattle.net_reader.specs.Input.{Contents}
@@ -16,26 +19,37 @@ use Rattle.scripts.specs.Scripts.{scripts_of}
 use Rattle.station.specs.Passes.{IsPassOf, PassData, TrackerData, actor_of}
 use Rattle.station.specs.Plays.{visit_by}
 use Rattle.station.specs.Setup.{Setup, setting_in}
-use Rattle.station.specs.Visits.{HasLost, HasVisited, IsSamePass}
+use Rattle.station.specs.TurnLaws.{logged-more, logged-none, logged-turn, lost-append, won-append}
+use Rattle.station.specs.Turns.{event_actor, lost_in, won_in}
+use Rattle.station.specs.Visits.{HasLost, HasVisited, IsSamePass, own_nodes}
 use Rattle.station.specs.Views.{turn_at}
 use Rattle.station.specs.declared.turns.Held.{Held}
-use Rattle.runner.specs.Playing.{HasMadeNext, IsPlayedBy, next_of}
+use Rattle.station.specs.declared.view.NodeTurn.{NodeTurn}
+use Rattle.station.specs.declared.view.TurnEvent.{TurnEvent}
+use Rattle.station.specs.declared.view.TurnEvent.TheVariants.{GivenBack, Lost, Won}
+use Rattle.runner.specs.Playing.{HasLostNext, HasMadeNext, IsPlayedBy, next_of}
 use Rattle.runner.specs.PlayLaws.{own-next, own-none, played-next}
 use Rattle.runner.specs.Roles.{IsPrepared, IsRole, IsRoleAt, IsSetFor, TriesVisit}
-use Rattle.runner.specs.Workers.{HasGoneOn, IsWorkerOf, MayPlay, MayServe, MayTry}
+use Rattle.runner.specs.Workers.{HasGoneOn, IsWorkerOf, MayPlay, MayServe, MayTry, WasTried}
 use Rattle.runner.specs.declared.role.Role.{Role}
 use Rattle.runner.specs.declared.worker.Worker.{Worker}
+
+-- the visits of a pass's actor that it has seen
+abbrev own-of : PassData → History
+own-of pass = own (actor_of pass) pass.view.seen
 
 -- a visit is made
 pub gone-made : CallersKept → (input : Contents) (tracker : TrackerData) (old new : Worker)
     → IsWorkerOf input tracker old → HasMadeNext input tracker.setup old.pass new.pass
     → IsRole input tracker.setup new.pass.view new.pass.spare new.role → new.made ≡ suc old.made
-    → HasGoneOn input tracker old new 0 × (new.pass.spare + 1 ≡ old.pass.spare)
+    → HasGoneOn input tracker old new 0 × (new.made ≡ old.made + 1)
 gone-made kept input tracker old new its made role count =
     let visited : HasVisited old.pass made.act made.ticket new.pass = made.visited in
     let actor : actor_of new.pass ≡ actor_of old.pass = visited.same.actor in
     let mine = own-next old.pass new.pass made.act made.ticket visited in
-    let visit : Visit = visit_by old.pass.view made.act in (
+    let visit : Visit = visit_by old.pass.view made.act in
+    let node = act_node (setting_in tracker.setup) made.act in
+    let by_it = λ (event : TurnEvent). event_actor event ≡ actor_of old.pass in (
       record {
         worker = record {
           of = record {
@@ -61,18 +75,33 @@ gone-made kept input tracker old new its made role count =
         begins = front-through old.pass.view.seen visited.earlier new.pass.view.seen visited.begins
             (subst (IsFront visited.earlier) (sym visited.seen) (front-append visited.earlier (visit ∷ [])));
         same = visited.same;
-        lost = omega (arith, ap length visited.lost);
+        spare = omega (arith, count, visited.spare);
+        events = Won (actor_of old.pass) node ∷ GivenBack (actor_of old.pass) node ∷ [];
+        mine = All-cons by_it (Won (actor_of old.pass) node) (GivenBack (actor_of old.pass) node ∷ []) refl
+            (All-cons by_it (GivenBack (actor_of old.pass) node) [] refl (All-nil by_it));
+        logged = logged-turn tracker.setup old.pass new.pass made.act made.ticket its.of.setup visited;
+        won = ap (map (λ (v : Visit). act_node (setting_in tracker.setup) v.act)) mine
+            ∙ map-append (λ (v : Visit). act_node (setting_in tracker.setup) v.act)
+            (own-of old.pass) (visit ∷ []);
+        count = refl;
+        tried = All-nil (WasTried input tracker.setup (actor_of old.pass) old.pass.view.seen new.pass.view.seen);
       },
-      visited.spare,
+      omega (arith, count),
     )
 
 -- a turn is lost
-pub gone-held : (input : Contents) (tracker : TrackerData) (old new : Worker) (place : ℕ) (held : Held)
-    → IsWorkerOf input tracker old → HasLost old.pass place held new.pass
+pub gone-held : (input : Contents) (tracker : TrackerData) (old new : Worker) (held : Held)
+    → IsWorkerOf input tracker old → HasLostNext input tracker.setup old.pass held new.pass
     → IsRole input tracker.setup new.pass.view new.pass.spare new.role → new.made ≡ old.made
-    → HasGoneOn input tracker old new 1 × (new.pass.spare ≡ old.pass.spare)
-gone-held input tracker old new place held its lost role count =
+    → HasGoneOn input tracker old new 1 × (new.made ≡ old.made)
+gone-held input tracker old new held its missed role count =
+    let place = act_node (setting_in tracker.setup) missed.visit.act in
+    let lost : HasLost old.pass place held new.pass = missed.lost in
     let turn = lost.turn in
+    let event = Lost (actor_of old.pass) place (suc held.by) in
+    let by_it = λ (e : TurnEvent). event_actor e ≡ actor_of old.pass in
+    let seen : new.pass.view.seen ≡ old.pass.view.seen = ap (λ (p : PassData). p.view.seen) turn in
+    let tried = WasTried input tracker.setup (actor_of old.pass) old.pass.view.seen new.pass.view.seen in
     let spare : new.pass.spare ≡ old.pass.spare = ap (λ (p : PassData). p.spare) turn in (
       record {
         worker = record {
@@ -89,13 +118,26 @@ gone-held input tracker old new place held its lost role count =
             (front-itself old.pass.view.seen);
         same = subst (IsSamePass old.pass) (sym turn)
             (record { table = refl; seat = refl; setup = refl; actor = refl });
-        lost = omega (
-          arith,
-          ap (λ (p : PassData). length p.view.lost) turn,
-          length_push old.pass.view.lost (turn_at place (suc held.by)),
-        );
+        spare = omega (arith, spare, count);
+        events = event ∷ [];
+        mine = All-cons by_it event [] refl (All-nil by_it);
+        logged = record {
+          logs = (new.pass.view.turns, lost.logs, refl);
+          lost = ap (λ (p : PassData). p.view.lost) turn;
+        };
+        won = ap (own_nodes (setting_in tracker.setup) (actor_of old.pass)) seen ∙ sym (append-nil _);
+        count = refl;
+        tried = All-cons tried (turn_at place (suc held.by)) []
+            (record {
+              seen = old.pass.view.seen;
+              since = front-itself old.pass.view.seen;
+              until = subst (IsFront old.pass.view.seen) (sym seen) (front-itself old.pass.view.seen);
+              visit = missed.visit;
+              is_next = missed.is_next;
+              at = refl;
+            }) (All-nil tried);
       },
-      spare,
+      count,
     )
 
 -- a new worker
@@ -161,8 +203,38 @@ role-gone input tracker old role its prepared = record {
   };
   begins = front-itself old.pass.view.seen;
   same = record { table = refl; seat = refl; setup = refl; actor = refl };
-  lost = omega arith;
+  spare = refl;
+  events = [];
+  mine = All-nil (λ (event : TurnEvent). event_actor event ≡ actor_of old.pass);
+  logged = logged-none old.pass;
+  won = sym (append-nil _);
+  count = refl;
+  tried = All-nil (WasTried input tracker.setup (actor_of old.pass) old.pass.view.seen old.pass.view.seen);
 }
+
+-- a turn that was lost between two histories was lost between longer ones
+was-longer : (input : Contents) (setup : Setup) (actor : ℕ) (zeroth first last longer : History) (turn : NodeTurn)
+    → IsFront zeroth first → IsFront last longer → WasTried input setup actor first last turn
+    → WasTried input setup actor zeroth longer turn
+was-longer input setup actor zeroth first last longer turn before behind was = record {
+  seen = was.seen;
+  since = front-through zeroth first was.seen before was.since;
+  until = front-through was.seen last longer was.until behind;
+  visit = was.visit;
+  is_next = was.is_next;
+  at = was.at;
+}
+
+-- turns that are won for some visits, and then for more
+won-through : (setting : Setting) (actor other : ℕ) (old mid new : History) (xs ys : List TurnEvent) → other ≡ actor
+    → own_nodes setting actor mid ≡ own_nodes setting actor old ++ won_in xs
+    → own_nodes setting other new ≡ own_nodes setting other mid ++ won_in ys
+    → own_nodes setting actor new ≡ own_nodes setting actor old ++ won_in (xs ++ ys)
+won-through setting actor other old mid new xs ys same one two =
+    subst (λ a. own_nodes setting a new ≡ own_nodes setting a mid ++ won_in ys) same two
+    ∙ (ap (λ nodes. nodes ++ won_in ys) one
+    ∙ (append_assoc (own_nodes setting actor old) (won_in xs) (won_in ys)
+    ∙ ap (λ nodes. own_nodes setting actor old ++ nodes) (sym (won-append xs ys))))
 
 -- a worker that has gone on, and on
 pub gone-on : (input : Contents) (tracker : TrackerData) (old mid new : Worker) (held more all : ℕ)
@@ -177,7 +249,36 @@ gone-on input tracker old mid new held more all one two sum = record {
     setup = two.same.setup ∙ one.same.setup;
     actor = two.same.actor ∙ one.same.actor;
   };
-  lost = omega (arith, one.lost, two.lost, sum);
+  spare = omega (arith, one.spare, two.spare);
+  events = one.events ++ two.events;
+  mine = All-append (λ (event : TurnEvent). event_actor event ≡ actor_of old.pass) one.events two.events one.mine
+      (subst (λ a. All (λ (event : TurnEvent). event_actor event ≡ a) two.events) one.same.actor two.mine);
+  logged = logged-more old.pass mid.pass new.pass one.events two.events one.logged two.logged;
+  won = won-through (setting_in tracker.setup) (actor_of old.pass) (actor_of mid.pass) old.pass.view.seen
+      mid.pass.view.seen new.pass.view.seen one.events two.events one.same.actor one.won two.won;
+  count = omega (
+    arith,
+    ap length (lost-append one.events two.events),
+    length-append (lost_in one.events) (lost_in two.events),
+    one.count,
+    two.count,
+    sum,
+  );
+  tried = subst (All (WasTried input tracker.setup (actor_of old.pass) old.pass.view.seen new.pass.view.seen))
+      (sym (lost-append one.events two.events))
+      (All-append (WasTried input tracker.setup (actor_of old.pass) old.pass.view.seen new.pass.view.seen)
+      (lost_in one.events) (lost_in two.events)
+      (All-weaker (WasTried input tracker.setup (actor_of old.pass) old.pass.view.seen mid.pass.view.seen)
+      (WasTried input tracker.setup (actor_of old.pass) old.pass.view.seen new.pass.view.seen)
+      (λ turn was. was-longer input tracker.setup (actor_of old.pass) old.pass.view.seen old.pass.view.seen
+      mid.pass.view.seen new.pass.view.seen turn (front-itself old.pass.view.seen) two.begins was)
+      (lost_in one.events) one.tried)
+      (All-weaker (WasTried input tracker.setup (actor_of mid.pass) mid.pass.view.seen new.pass.view.seen)
+      (WasTried input tracker.setup (actor_of old.pass) old.pass.view.seen new.pass.view.seen)
+      (λ turn was. was-longer input tracker.setup (actor_of old.pass) old.pass.view.seen mid.pass.view.seen
+      new.pass.view.seen new.pass.view.seen turn one.begins (front-itself new.pass.view.seen)
+      (subst (λ a. WasTried input tracker.setup a mid.pass.view.seen new.pass.view.seen turn) one.same.actor was))
+      (lost_in two.events) two.tried));
 }
 
 -- what was tried, by its result
@@ -188,9 +289,9 @@ tries-made input setup old new (Err held) h tries = cc
 
 pub tries-lost : (input : Contents) (setup : Setup) (old new : PassData) (result : Result (Unit {0}) Held)
     → is_err result ≡ true → TriesVisit input setup old result new
-    → (held : Held) × (place : ℕ) × HasLost old place held new
+    → (held : Held) × HasLostNext input setup old held new
 tries-lost input setup old new (Ok done) h tries = cc
-tries-lost input setup old new (Err held) h tries = (held, tries.0, tries.1)
+tries-lost input setup old new (Err held) h tries = (held, tries)
 
 -- a worker that has gone on, and is prepared
 pub prepared-gone : (input : Contents) (tracker : TrackerData) (old mid : Worker) (role : Role) (held : ℕ)

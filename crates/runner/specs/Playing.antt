@@ -10,13 +10,15 @@ use Rattle.entry_word.specs.declared.visit.Visit.{Visit}
 use Rattle.directory.specs.Settings.{Setting}
 use Rattle.directory.specs.Finds.{FindCall, Pursuit, looks_left, most_looks}
 use Rattle.directory.specs.Histories.{History, before}
+use Rattle.directory.specs.Keys.{act_node}
 use Rattle.directory.specs.Orders.{Scripts, next}
 use Rattle.net_reader.specs.Input.{Contents}
 use Rattle.scripts.specs.Scripts.{scripts_of}
 use Rattle.station.specs.Passes.{PassData}
 use Rattle.station.specs.Plays.{visit_by}
 use Rattle.station.specs.Setup.{Setup, setting_in}
-use Rattle.station.specs.Visits.{HasVisited}
+use Rattle.station.specs.Visits.{HasLost, HasVisited}
+use Rattle.station.specs.declared.turns.Held.{Held}
 use Rattle.station.specs.declared.view.View.{View}
 
 -- each visit of an actor in a history was its next one
@@ -35,6 +37,13 @@ pub record HasMadeNext (input : Contents) (setup : Setup) (old new : PassData) :
   pub ticket : ℕ
   pub visited : HasVisited old act ticket new
   pub is_next : next_of input setup old.view ≡ Some (visit_by old.view act)
+
+-- a pass has lost a turn at the node of its actor's next visit, and nothing else has changed
+pub record HasLostNext (input : Contents) (setup : Setup) (old : PassData) (held : Held)
+    (new : PassData) : Type 0 where
+  pub visit : Visit
+  pub is_next : next_of input setup old.view ≡ Some visit
+  pub lost : HasLost old (act_node (setting_in setup) visit.act) held new
 
 -- the most looks that are left of these finds, the first of which is at this pursuit
 abbrev pub looks_after : Setting → List FindCall → Pursuit → ℕ

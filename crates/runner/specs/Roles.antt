@@ -3,33 +3,33 @@
 -- done. Each is as far as its pass has seen, and the pass has room for what is left.
 -- Key laws: `Mover::put` and `Finder::look`, by their clauses (the next visit is made, or one turn
 -- is lost).
-use Rattle.std.specs.Prelude.{◌≡◌, ℕ, ◌+◌, ◌<◌, ◌≤◌, List, [], Result, Some, None, MatchResult, length, take, drop, slice_get, slice_index_or}
+use Rattle.std.specs.Prelude.{◌≡◌, ℕ, ◌+◌, ◌<◌, ◌≤◌, List, [], Result, None, MatchResult, length, take, drop, slice_get, slice_index_or}
 use Rattle.distances.specs.Table.{DistanceTable}
 use Rattle.directory.specs.Courses.{Step}
 use Rattle.directory.specs.Writes.{visits}
 use Rattle.directory.specs.Orders.{caller_in, finds_of, script_visits, steps_of}
 use Rattle.handset.specs.StepWrites.{due}
 use Rattle.machine.specs.Stands.{BelongTogether, IsWalking}
+use Rattle.net_reader.specs.declared.said.Call.{Call}
 use Rattle.net_reader.specs.Input.{Contents}
 use Rattle.region_plan.specs.Plan.{PlanData}
 use Rattle.region_plan.specs.Settings.{setting_of}
 use Rattle.scripts.specs.Scripts.{scripts_of}
 use Rattle.station.specs.Handsets.{IsHandsetOf}
-use Rattle.station.specs.Passes.{IsPassOf, PassData, TrackerData}
-use Rattle.station.specs.Setup.{Setup, setting_in, subs_in}
-use Rattle.station.specs.Visits.{HasLost, HasVisited}
-use Rattle.directory.specs.Finds.{after_word, answer_of, key_of}
-use Rattle.directory.specs.Histories.{History, before, cell, own, puts_to}
-use Rattle.entry_word.specs.declared.visit.Act.TheVariants.{Look}
-use Rattle.entry_word.specs.declared.visit.Key.{Key}
-use Rattle.walk.specs.Walks.{IsWalkOver, WalkData, call_of, pursuit_of}
+use Rattle.station.specs.Passes.{PassData}
+use Rattle.station.specs.Setup.{Setup, setting_in}
+use Rattle.directory.specs.Histories.{History, own, puts_to}
 use Rattle.station.specs.declared.turns.Held.{Held}
 use Rattle.station.specs.declared.view.View.{View}
-use Rattle.runner.specs.Playing.{HasMadeNext, looks_after, next_of}
+use Rattle.runner.specs.Playing.{HasLostNext, HasMadeNext, looks_after, next_of}
 use Rattle.runner.specs.declared.finder.Finder.{Finder}
 use Rattle.runner.specs.declared.mover.Mover.{Mover}
 use Rattle.runner.specs.declared.role.Role.{Role}
 use Rattle.runner.specs.declared.role.Role.TheVariants as roles
+
+-- the script of an actor
+abbrev pub script_in : Contents → ℕ → List Call
+script_in input actor = slice_index_or input.scripts actor []
 
 -- a tracker was made for this plan, and for the subscribers and the callers of an input to which it
 -- belongs
@@ -45,7 +45,7 @@ pub record IsSetFor (input : Contents) (setup : Setup) (plan : PlanData)
 pub record HasBegun (input : Contents) (setup : Setup) (actor : ℕ) (seen : History) (spare : ℕ)
     (mover : Mover) (steps : List Step) : Type 0 where
   pub low : actor < length input.homes
-  pub script : mover.script.items ≡ slice_index_or input.scripts actor []
+  pub script : mover.script.items ≡ script_in input actor
   pub steps_are : steps ≡ take mover.begun (steps_of (scripts_of input) actor)
   pub few : mover.begun ≤ length (steps_of (scripts_of input) actor)
   pub alone : own actor seen ≡ puts_to actor seen
@@ -72,7 +72,7 @@ pub record IsFinder (input : Contents) (setup : Setup) (actor : ℕ) (seen : His
     (finder : Finder) : Type 0 where
   pub high : length input.homes ≤ actor
   pub low : actor < length input.scripts
-  pub script : finder.script.items ≡ slice_index_or input.scripts actor []
+  pub script : finder.script.items ≡ script_in input actor
   pub subs : finder.subs ≡ length input.homes
   pub walk : IsWalking setup.plan
       (caller_in (setting_in setup) (scripts_of input) seen actor).calls
@@ -82,30 +82,6 @@ pub record IsFinder (input : Contents) (setup : Setup) (actor : ℕ) (seen : His
   pub room : looks_after (setting_in setup)
       (caller_in (setting_in setup) (scripts_of input) seen actor).calls
       (caller_in (setting_in setup) (scripts_of input) seen actor).pursuit ≤ spare
-
--- a walk of a pass may go on: it has a look left, and the pass may make it
-pub record MayWalkOn (tracker : TrackerData) (plan : PlanData) (distances : DistanceTable)
-    (pass : PassData) (walk : WalkData) : Type 0 where
-  pub of : IsPassOf tracker pass
-  pub plan_is : plan ≡ tracker.setup.plan
-  pub belongs : plan.distances ≡ distances
-  pub outside : pass.view.inside ≡ None
-  pub spare : 1 ≤ pass.spare
-  pub goes : IsWalkOver tracker.setup.plan walk
-  pub known : walk.sub < subs_in tracker.setup
-  pub left : answer_of (pursuit_of tracker.setup.plan walk) ≡ None
-
--- a walk has made its next look
-pub record HasLookedOn (setup : Setup) (old : PassData) (walk : WalkData) (new : PassData)
-    (moved : WalkData) : Type 0 where
-  pub key : Key
-  pub wanted : key_of (call_of walk) (pursuit_of setup.plan walk) ≡ Some key
-  pub ticket : ℕ
-  pub visited : HasVisited old (Look key) ticket new
-  pub pursuit : pursuit_of setup.plan moved ≡ after_word (setting_in setup) (call_of walk)
-      (pursuit_of setup.plan walk) (cell (setting_in setup) (before ticket new.view.seen) key)
-  pub call : call_of moved ≡ call_of walk
-  pub goes : IsWalkOver setup.plan moved
 
 -- an actor of an input has a script over this plan
 pub record MayStart (input : Contents) (plan : PlanData) (actor : ℕ) : Type 0 where
@@ -129,11 +105,11 @@ IsPrepared input setup view (roles.Mover mover) =
     next_of input setup view ≡ due (setting_of setup.plan []) mover.handset
 IsPrepared input setup view (roles.Finder finder) = Unit {0}
 
--- the next visit is made, or one turn is lost
+-- the next visit is made, or one turn is lost at its node
 abbrev pub TriesVisit : Contents → Setup → PassData → Result (Unit {0}) Held → PassData → Type 0
 TriesVisit input setup old result new =
     MatchResult result (λ _. HasMadeNext input setup old new)
-    (λ held. (place : ℕ) × HasLost old place held new)
+    (λ held. HasLostNext input setup old held new)
 
 -- a part is that of an actor before its first visit, of which there are no more than so many
 abbrev pub IsRoleAt : Contents → PlanData → ℕ → ℕ → Role → Type 0

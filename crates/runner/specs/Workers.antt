@@ -1,17 +1,24 @@
 -- A worker serves an actor of an input on a tracker: each visit that its pass has made was the
 -- actor's next one, in the history before its ticket, and the pass has room for all that are left.
--- A play adds such visits at the end and nothing else, and each turn that it loses is counted.
+-- A play adds such visits at the end and nothing else, and wins one turn for each; each turn that
+-- it loses is counted, and is lost at the node of the visit that was then the actor's next one.
 -- Key laws: `Worker::new` (a fresh pass of an actor), `Worker::play` (by its clauses `played` and
 -- `closed`).
-use Rattle.std.specs.Prelude.{◌≡◌, ◌≢◌, ℕ, ◌+◌, ◌^◌, ◌<◌, ◌≤◌, [], None, length}
+use Rattle.std.specs.Prelude.{◌≡◌, ◌≢◌, ℕ, ◌+◌, ◌^◌, ◌<◌, ◌≤◌, List, [], ◌++◌, All, Some, None, length}
 use Rattle.distances.specs.Table.{DistanceTable}
-use Rattle.directory.specs.Histories.{IsFront, own, puts_to}
+use Rattle.entry_word.specs.declared.visit.Visit.{Visit}
+use Rattle.directory.specs.Histories.{History, IsFront, own, puts_to}
+use Rattle.directory.specs.Keys.{act_node}
+use Rattle.directory.specs.Orders.{next}
 use Rattle.net_reader.specs.Input.{Contents}
 use Rattle.region_plan.specs.Plan.{PlanData}
 use Rattle.scripts.specs.Scripts.{scripts_of}
 use Rattle.station.specs.Passes.{IsPassOf, PassData, TrackerData, actor_of, fresh_view}
 use Rattle.station.specs.Setup.{Setup, setting_in}
-use Rattle.station.specs.Visits.{IsSamePass}
+use Rattle.station.specs.Turns.{event_actor, lost_in, won_in}
+use Rattle.station.specs.Visits.{HasLoggedMore, IsSamePass, own_nodes}
+use Rattle.station.specs.declared.view.NodeTurn.{NodeTurn}
+use Rattle.station.specs.declared.view.TurnEvent.{TurnEvent}
 use Rattle.runner.specs.Playing.{IsPlayedBy, next_of}
 use Rattle.runner.specs.Roles.{HasBegunNone, IsPrepared, IsRole, IsSetFor}
 use Rattle.runner.specs.declared.worker.Attempt.{Attempt}
@@ -61,21 +68,42 @@ pub record MayTry (input : Contents) (tracker : TrackerData) (plan : PlanData)
   pub prepared : IsPrepared input tracker.setup worker.pass.view worker.role
   pub left : next_of input tracker.setup worker.pass.view ≢ None
 
--- a worker has gone on: it serves its actor as before, what its pass has seen goes on from what it
--- had seen, and so many turns more are lost
+-- a turn was lost at the node of the visit that was then an actor's next one, between two histories
+-- that it had seen
+pub record WasTried (input : Contents) (setup : Setup) (actor : ℕ) (first last : History)
+    (turn : NodeTurn) : Type 0 where
+  pub seen : History
+  pub since : IsFront first seen
+  pub until : IsFront seen last
+  pub visit : Visit
+  pub is_next : next (setting_in setup) (scripts_of input) seen actor ≡ Some visit
+  pub at : act_node (setting_in setup) visit.act ≡ turn.node
+
+-- a worker has gone on: it serves its actor as before, and what its pass has seen goes on from what
+-- it had seen; each visit that it has made has used one of its spare; and all that it has logged
+-- more are turns of its actor's: one won at the node of each of these visits, in their order, and
+-- so many lost, each at the node of the visit that was then the next one
 pub record HasGoneOn (input : Contents) (tracker : TrackerData) (old new : Worker)
     (held : ℕ) : Type 0 where
   pub worker : IsWorkerOf input tracker new
   pub begins : IsFront old.pass.view.seen new.pass.view.seen
   pub same : IsSamePass old.pass new.pass
-  pub lost : length new.pass.view.lost ≡ length old.pass.view.lost + held
+  pub spare : new.pass.spare + new.made ≡ old.pass.spare + old.made
+  pub events : List TurnEvent
+  pub mine : All (λ event. event_actor event ≡ actor_of old.pass) events
+  pub logged : HasLoggedMore old.pass events new.pass
+  pub won : own_nodes (setting_in tracker.setup) (actor_of old.pass) new.pass.view.seen
+      ≡ own_nodes (setting_in tracker.setup) (actor_of old.pass) old.pass.view.seen ++ won_in events
+  pub count : length (lost_in events) ≡ held
+  pub tried : All (WasTried input tracker.setup (actor_of old.pass) old.pass.view.seen
+      new.pass.view.seen) (lost_in events)
 
 -- what came of one try: a visit is made, or a turn is lost, or nothing has changed
 abbrev pub HasAttempted : Contents → TrackerData → Worker → Worker → Attempt → Type 0
 HasAttempted input tracker old new Made =
-    HasGoneOn input tracker old new 0 × (new.pass.spare + 1 ≡ old.pass.spare)
+    HasGoneOn input tracker old new 0 × (new.made ≡ old.made + 1)
 HasAttempted input tracker old new Held =
-    HasGoneOn input tracker old new 1 × (new.pass.spare ≡ old.pass.spare)
+    HasGoneOn input tracker old new 1 × (new.made ≡ old.made)
 HasAttempted input tracker old new Shut = new ≡ old
 
 -- what an answer says of a play that has lost so many turns: no visit is left, and each lost turn

@@ -1,5 +1,5 @@
 //! A caller's part of a worker: the find that it is at.
-ghost use Rattle.std.specs.Prelude.{◌≡◌, ◌≤◌, ◌<◌, ℕ, None, All, IsSome, MatchBool, MatchResult, drop, length, map, slice_index_or, [], IfOk};
+ghost use Rattle.std.specs.Prelude.{◌≡◌, ◌≤◌, ◌<◌, ℕ, None, All, IsSome, MatchBool, drop, length, map, slice_index_or, [], IfOk};
 ghost use Rattle.directory.specs.Finds.{at_origin};
 ghost use Rattle.machine.specs.Stands.{IsWalking};
 ghost use Rattle.net_reader.specs.Input.{Contents};
@@ -8,18 +8,16 @@ ghost use Rattle.net_reader.specs.Valid.{IsSearch};
 ghost use Rattle.region_plan.specs.Plan.{nodes_of};
 ghost use Rattle.scripts.specs.Scripts.{find_of};
 ghost use Rattle.station.specs.Passes.{IsPassOf};
-ghost use Rattle.station.specs.Visits.{HasLost};
 ghost use Rattle.runner.specs.Playing.{next_of};
-ghost use Rattle.runner.specs.Roles.{HasLookedOn, IsFinder, IsSetFor, MayWalkOn, TriesVisit};
+ghost use Rattle.runner.specs.Roles.{IsFinder, IsSetFor, TriesVisit};
 
 use directory::{lines_grow, looks_fall};
 use distances::Distances;
 use net_reader::Call;
-use region_plan::{Plan, plan_is_sound};
+use region_plan::Plan;
 use scripts::scripts_are_valid;
 use station::{Held, Pass, Tracker};
 use std::alloc::{AllocError, Global};
-use trail_laws::{entries_tell, front_of_history_is_legal, marks_tell};
 use walk::Walk;
 
 /// A caller's finds, how many of them are done, and the walk of the one that it is at.
@@ -78,38 +76,13 @@ impl Finder {
         let Some(walk) = &mut self.walk else {
             unreachable!()
         };
-        look_on(tracker, pass, plan, distances, walk)?;
+        tracker.visit_walk(pass, plan, distances, walk)?;
         if walk.answer().is_some() {
             self.done += 1;
             self.walk = walk_at(&self.script, self.done, self.subs, plan);
         }
         Ok(())
     }
-}
-
-// The next look of a walk.
-fn look_on(
-    tracker: &Tracker,
-    pass: &mut Pass,
-    plan: &Plan,
-    distances: &Distances,
-    walk: &mut Walk,
-) -> Result<(), Held>
-    requires way { MayWalkOn tracker.now plan.now distances.now pass.old walk.old }
-    ensures looked { MatchResult result
-        (λ _. HasLookedOn tracker.now.setup pass.old walk.old pass.new walk.new)
-        (λ held. (place : ℕ) × HasLost pass.old place held pass.new × (walk.new ≡ walk.old)) }
-{
-    marks_tell();
-    entries_tell();
-    front_of_history_is_legal();
-    plan_is_sound(plan);
-    let Some(key) = walk.next(plan) else {
-        unreachable!()
-    };
-    let looked = tracker.visit_look(pass, plan, key)?;
-    walk.saw(plan, distances, looked.word);
-    Ok(())
 }
 
 // The walk of the find at a place of a script, if there is one.

@@ -1,9 +1,11 @@
 //! A worker: the pass of an actor, and what its script makes of it.
-ghost use Rattle.std.specs.Prelude.{◌≡◌, ◌≢◌, ◌≤◌, ◌^◌, true, IfErr, IfOk};
+ghost use Rattle.std.specs.Prelude.{◌≡◌, ◌≢◌, ◌≤◌, ◌^◌, [], true, IfErr, IfOk, max};
 ghost use Rattle.net_reader.specs.Input.{Contents};
 ghost use Rattle.net_reader.specs.Seen.{seen_input};
-ghost use Rattle.station.specs.Passes.{IsPassOf, TrackerData};
-ghost use Rattle.runner.specs.Roles.{HasBegunNone, IsRoleAt, MayStart};
+ghost use Rattle.region_plan.specs.Settings.{setting_of};
+ghost use Rattle.scripts.specs.Scripts.{most_in};
+ghost use Rattle.station.specs.Passes.{IsPassOf, TrackerData, actor_of};
+ghost use Rattle.runner.specs.Roles.{HasBegunNone, IsRoleAt, MayStart, script_in};
 ghost use Rattle.runner.specs.Workers.{HasAttempted, HasPlayed, HasStayed, IsWorkerOf, KeptNone, MayPlay, MayServe, MayTry};
 
 use crate::finder::Finder;
@@ -38,8 +40,8 @@ pub struct WorkerRefused {
 pub enum Played {
     /// The script has no visit left.
     Finished,
-    /// Visits are left, and the tries are used up: so many turns were lost to other passes, and so
-    /// often the gate was closed.
+    /// Visits are left, and the tries are used up: so many turns were lost to other passes, and
+    /// `kept` is the rest of the tries, which went to a closed gate.
     Stopped { held: u64, kept: u64 },
 }
 
@@ -51,7 +53,8 @@ enum Attempt {
 }
 
 impl Worker {
-    /// A worker for the actor of a pass that has made no visit, with room for the whole script.
+    /// A worker for the actor of a pass that has made no visit, with room for the whole script, and
+    /// no more than that or what the pass has.
     pub fn new(
         alloc: Global,
         mut pass: Pass,
@@ -63,6 +66,8 @@ impl Worker {
             → IsWorkerOf (seen_input input.now) tracker worker) }
         ensures pass { IfOk result
             (λ worker. worker.pass ≡ record pass { spare = worker.pass.spare }) }
+        ensures room { IfOk result (λ worker. worker.pass.spare ≡ max pass.spare
+            (most_in (setting_of plan.now []) (script_in (seen_input input.now) (actor_of pass)))) }
         ensures fresh { IfOk result
             (λ worker. (worker.made ≡ 0) × HasBegunNone worker.role) }
         ensures refused { IfErr result (λ refused. refused.pass ≡ pass) }
@@ -160,6 +165,8 @@ fn role_of(alloc: Global, actor: u32, input: &Input, plan: &Plan) -> Result<(Rol
     requires may { MayStart (seen_input input.now) plan.now actor }
     ensures role { IfOk result
         (λ made. IsRoleAt (seen_input input.now) plan.now actor made.1 made.0) }
+    ensures most { IfOk result (λ made. made.1
+        ≡ most_in (setting_of plan.now []) (script_in (seen_input input.now) actor)) }
     ensures few { IfOk result (λ made. made.1 ≤ 2 ^ 56) }
     ensures fresh { IfOk result (λ made. HasBegunNone made.0) }
 {

@@ -12,11 +12,13 @@ ghost use Rattle.region_plan.specs.Plan.{PlanData};
 ghost use Rattle.scripts.specs.Scripts.{scripts_of};
 ghost use Rattle.station.specs.Passes.{IsPassOf, PassData, TrackerData};
 ghost use Rattle.station.specs.Setup.{Setup, setting_in, subs_in};
+ghost use Rattle.station.specs.declared.view.NodeTurn.{NodeTurn};
+ghost use Rattle.station.specs.declared.view.TurnEvent.TheVariants.{GivenBack, Won};
 ghost use Rattle.runner.specs.Examples.{HasSeen, count_by, idle_input, line_setup, switching_input};
 ghost use Rattle.runner.specs.Playing.{next_of};
 ghost use Rattle.runner.specs.Roles.{IsSetFor};
 ghost use Rattle.runner.specs.Runs.{AreFreshWorkers, AreWorkersOf, HasFinished, IsOutcomeOfRun};
-ghost use Rattle.runner.specs.Workers.{HasPlayed, HasStayed, IsWorkerOf, KeptNone};
+ghost use Rattle.runner.specs.Workers.{HasPlayed, HasStayed, IsWorkerOf, KeptNone, WasTried};
 ghost use Rattle.runner.specs.declared.finder.Finder.{Finder};
 ghost use Rattle.runner.specs.declared.mover.Mover.{Mover};
 ghost use Rattle.runner.specs.declared.role.Role.TheVariants as roles;
@@ -56,8 +58,10 @@ pub fn wrong_workers()
 
 /// A play goes on from what its pass had seen, by the same actor at the same seat. It is finished
 /// where no visit is left, with no more turns lost than it had tries, and it stops where one is
-/// left and its tries are used up, by the turns that it lost and the gates that were closed. At a
-/// shut gate it loses no turn, and its pass and its count stay as they are.
+/// left and its tries are used up, by the turns that it lost and the gates that were closed. It
+/// wins a turn for each visit that it makes and no other, and each turn is lost at the node of the
+/// visit that was then the actor's next one. At a shut gate it loses no turn, and its pass and its
+/// count stay as they are.
 pub fn wrong_plays()
     ensures finished { (input : Contents) (tracker : TrackerData) (tries : ℕ) (old new : Worker)
         (visit : Visit) → HasPlayed input tracker tries old new Finished
@@ -73,6 +77,34 @@ pub fn wrong_plays()
     ensures unlost { (input : Contents) (tracker : TrackerData) (tries kept : ℕ)
         (old new : Worker) → HasPlayed input tracker tries old new (Stopped 1 kept)
         → new.pass.view.lost ≡ old.pass.view.lost → ⊥ }
+    ensures unmade { (input : Contents) (tracker : TrackerData) (tries : ℕ) (old new : Worker)
+        (played : Played) → HasSeen old 0 [] → HasSeen new 0 []
+        → (has : HasPlayed input tracker tries old new played)
+        → has.gone.events ≡ Won 0 2 ∷ GivenBack 0 2 ∷ [] → ⊥ }
+    ensures stranger { (input : Contents) (tracker : TrackerData) (tries : ℕ) (old new : Worker)
+        (played : Played) → HasSeen old 0 [] → (has : HasPlayed input tracker tries old new played)
+        → has.gone.events ≡ Won 1 2 ∷ [] → ⊥ }
+    ensures unlogged { (input : Contents) (tracker : TrackerData) (tries : ℕ) (old new : Worker)
+        (played : Played) → new.pass.view.turns ≡ []
+        → (has : HasPlayed input tracker tries old new played)
+        → has.gone.events ≡ Won 0 2 ∷ [] → ⊥ }
+    ensures roomy { (input : Contents) (tracker : TrackerData) (tries : ℕ) (old new : Worker)
+        (played : Played) → HasPlayed input tracker tries old new played → new.made ≡ old.made
+        → new.pass.spare ≡ suc old.pass.spare → ⊥ }
+    ensures idle { (tracker : TrackerData) (tries : ℕ) (old new : Worker)
+        → tracker.setup ≡ line_setup → HasSeen old 1 [] → HasSeen new 1 []
+        → old.pass.view.lost ≡ [] → new.pass.view.lost ≡ record { node = 2; word = 6 } ∷ []
+        → HasPlayed idle_input tracker tries old new Finished → ⊥ }
+    ensures elsewhere { (tracker : TrackerData) (tries : ℕ) (old new : Worker) (played : Played)
+        → tracker.setup ≡ line_setup → HasSeen old 0 [] → HasSeen new 0 []
+        → old.pass.view.lost ≡ [] → new.pass.view.lost ≡ record { node = 2; word = 6 } ∷ []
+        → HasPlayed switching_input tracker tries old new played → ⊥ }
+    ensures sooner { (input : Contents) (setup : Setup) (actor : ℕ) (last : History)
+        (turn : NodeTurn) → (was : WasTried input setup actor (count_by 0 ∷ []) last turn)
+        → was.seen ≡ [] → ⊥ }
+    ensures later { (input : Contents) (setup : Setup) (actor : ℕ) (first : History)
+        (turn : NodeTurn) → (was : WasTried input setup actor first [] turn)
+        → was.seen ≡ count_by 0 ∷ [] → ⊥ }
     ensures forgotten { (input : Contents) (tracker : TrackerData) (tries : ℕ) (old new : Worker)
         (played : Played) → HasSeen old 1 (count_by 0 ∷ []) → HasSeen new 1 []
         → HasPlayed input tracker tries old new played → ⊥ }

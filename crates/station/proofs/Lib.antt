@@ -20,3 +20,4 @@ mod Ending
 mod Logging
 mod Timing
 mod Coming
+mod Wanted

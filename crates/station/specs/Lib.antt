@@ -7,6 +7,7 @@ pub mod Plays
 pub mod Opening
 pub mod Passes
 pub mod Visits
+pub mod Walking
 pub mod Handsets
 pub mod Closing
 pub mod TicketLaws

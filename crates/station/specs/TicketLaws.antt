@@ -1,11 +1,16 @@
--- Short laws of histories that go on, for the crates above: what is beyond a front, and the tickets
--- of an actor. Key law: `tickets-more` (one more visit of an actor, behind a front with all of its
--- own, adds one ticket).
-use Rattle.std.proofs.Common.{◌≡◌, ◌≢◌, ℕ, suc, ◌+◌, ◌==◌, eq-eqb, ne_eqb, Bool, true, false, true≢false, cond, [], ◌∷◌, ◌++◌, length, drop, refl, sym, ap, ◌∙◌, arith}
+-- Short laws of histories that go on, for the crates above: what is beyond a front, the tickets of
+-- an actor, and that a pass has seen what is legal. Key law: `tickets-more` (one more visit of an
+-- actor, behind a front with all of its own, adds one ticket).
+use Rattle.std.proofs.Common.{◌≡◌, ◌≢◌, ℕ, suc, ◌+◌, ◌<◌, ◌==◌, eq-eqb, ne_eqb, Bool, true, false, true≢false, cond, [], ◌∷◌, ◌++◌, length, drop, refl, sym, ap, ◌∙◌, subst, arith}
 use Rattle.std.proofs.lemmas.List.{append-nil, take-append-drop}
 use Rattle.std.proofs.lemmas.List.Elements.{filter-append}
 use Rattle.entry_word.specs.declared.visit.Visit.{Visit}
+use Rattle.entry_word.specs.declared.visit.Act.{Act}
 use Rattle.directory.specs.Histories.{History, IsFront, own, tickets, tickets_from}
+use Rattle.directory.specs.Legal.{IsLegal}
+use Rattle.station.specs.Passes.{PassData}
+use Rattle.station.specs.Setup.{Setup, setting_in, subs_in}
+use Rattle.station.specs.Visits.{HasVisited}
 
 -- what a history has beyond a front
 pub front-rest : (xs zs : History) → IsFront xs zs → zs ≡ xs ++ drop (length xs) zs
@@ -92,3 +97,11 @@ pub tickets-more : (actor : ℕ) (xs earlier : History) (visit : Visit) → IsFr
 tickets-more actor xs earlier visit front same mine =
     tickets-mine actor earlier visit mine
     ∙ ap (λ l. l ++ length earlier ∷ []) (tickets-same actor xs earlier front same)
+
+-- what a pass has seen is legal once it has made a visit
+pub legal-seen : (setup : Setup) (old new : PassData) (act : Act) (ticket : ℕ)
+    → old.view.setup ≡ setup → HasVisited old act ticket new → (sub : ℕ) → sub < subs_in setup
+    → IsLegal (setting_in setup) sub new.view.seen
+legal-seen setup old new act ticket told visited sub low =
+    subst (λ (s : Setup). IsLegal (setting_in s) sub new.view.seen) told
+    (visited.legal sub (subst (λ (s : Setup). sub < subs_in s) (sym told) low))

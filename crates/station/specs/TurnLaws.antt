@@ -1,13 +1,18 @@
 -- Short laws of logs of turns that go on, for the crates above: the events of an actor, the turns
--- that were lost, and events that come one after another.
+-- that were lost and won, events that come one after another, and what passes have logged.
 -- Key laws: `logs-append` (events come into a log one after another in two parts), `logs-at` (each
 -- of them stands in it, behind all that it had).
 use Rattle.std.proofs.Common.{◌≡◌, ℕ, ◌≤◌, ◌==◌, eq-eqb, cond, List, [], ◌∷◌, ◌++◌, length, refl, sym, ap, ◌∙◌, subst, arith, append_assoc, length-append}
 use Rattle.std.proofs.lemmas.List.{append-nil}
 use Rattle.std.proofs.lemmas.List.Elements.{filter-append}
+use Rattle.entry_word.specs.declared.visit.Act.{Act}
+use Rattle.directory.specs.Keys.{act_node}
 use Rattle.station.specs.Moments.{IsLoggedAt}
-use Rattle.station.specs.Turns.{Logs, LogsAll, event_actor, events_of, losses, lost_in}
+use Rattle.station.specs.Passes.{PassData, actor_of}
+use Rattle.station.specs.Setup.{Setup, setting_in}
+use Rattle.station.specs.Turns.{HasHadTurn, Logs, LogsAll, event_actor, events_of, losses, lost_in, won_in}
 use Rattle.station.specs.Views.{turn_at}
+use Rattle.station.specs.Visits.{HasLoggedMore, HasVisited}
 use Rattle.station.specs.declared.view.NodeTurn.{NodeTurn}
 use Rattle.station.specs.declared.view.TurnEvent.{TurnEvent}
 use Rattle.station.specs.declared.view.TurnEvent.TheVariants.{Won, GivenBack, Lost}
@@ -31,6 +36,13 @@ lost-append [] ys = refl
 lost-append (Won actor node ∷ xs) ys = lost-append xs ys
 lost-append (GivenBack actor node ∷ xs) ys = lost-append xs ys
 lost-append (Lost actor node word ∷ xs) ys = ap (λ l. turn_at node word ∷ l) (lost-append xs ys)
+
+-- the nodes at which turns are won in two parts of a log
+pub won-append : (xs ys : List TurnEvent) → won_in (xs ++ ys) ≡ won_in xs ++ won_in ys
+won-append [] ys = refl
+won-append (Won actor node ∷ xs) ys = ap (λ l. node ∷ l) (won-append xs ys)
+won-append (GivenBack actor node ∷ xs) ys = won-append xs ys
+won-append (Lost actor node word ∷ xs) ys = won-append xs ys
 
 -- losses lose just those turns
 pub losses-lost : (actor : ℕ) (turns : List NodeTurn) → lost_in (losses actor turns) ≡ turns
@@ -85,3 +97,31 @@ logs-at before (x ∷ front) event back log all =
       omega (arith, there.1, ap length longer.1, length-append before longer.0),
       there.2,
     )
+
+-- a pass has logged nothing more; and some, and then more
+pub logged-none : (pass : PassData) → HasLoggedMore pass [] pass
+logged-none pass = record { logs = refl; lost = sym (append-nil pass.view.lost) }
+
+pub logged-more : (one two three : PassData) (xs ys : List TurnEvent)
+    → HasLoggedMore one xs two → HasLoggedMore two ys three → HasLoggedMore one (xs ++ ys) three
+logged-more one two three xs ys first second = record {
+  logs = logs-append one.view.turns two.view.turns three.view.turns xs ys first.logs second.logs;
+  lost = second.lost ∙ (ap (λ (l : List NodeTurn). l ++ lost_in ys) first.lost
+      ∙ (append_assoc one.view.lost (lost_in xs) (lost_in ys)
+      ∙ ap (λ l. one.view.lost ++ l) (sym (lost-append xs ys))));
+}
+
+-- a visit is made in one turn, won and given back
+pub logged-turn : (setup : Setup) (old new : PassData) (act : Act) (ticket : ℕ)
+    → old.view.setup ≡ setup → HasVisited old act ticket new
+    → HasLoggedMore old (Won (actor_of old) (act_node (setting_in setup) act)
+    ∷ GivenBack (actor_of old) (act_node (setting_in setup) act) ∷ []) new
+logged-turn setup old new act ticket told visited =
+    let actor = actor_of old in
+    let turn : HasHadTurn actor (act_node (setting_in setup) act) old.view.turns new.view.turns =
+    subst (λ (s : Setup). HasHadTurn actor (act_node (setting_in s) act) old.view.turns
+    new.view.turns) told visited.turn in
+    record {
+      logs = (turn.inside, turn.won, (new.view.turns, turn.given_back, refl));
+      lost = visited.lost ∙ sym (append-nil old.view.lost);
+    }

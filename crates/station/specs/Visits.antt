@@ -1,6 +1,6 @@
 -- What a visit needs, and what it does to a view and to a pass. Key laws: `visit_look` (`looked`),
 -- `visit_put` (`made`), `visit_census` (`seen`), `hear` (`heard`).
-use Rattle.std.specs.Prelude.{◌≡◌, ◌≢◌, ℕ, suc, ◌+◌, ◌^◌, ◌<◌, ◌≤◌, true, false, List, [], ◌∷◌, ◌++◌, length, if◌then◌else◌, Some, None}
+use Rattle.std.specs.Prelude.{◌≡◌, ◌≢◌, ℕ, suc, ◌+◌, ◌^◌, ◌<◌, ◌≤◌, true, false, List, [], ◌∷◌, ◌++◌, length, map, if◌then◌else◌, Some, None}
 use Rattle.std.specs.Int.{bit_at}
 use Rattle.node_set.specs.Ascending.{has}
 use Rattle.atomic_table.specs.Table.{Me}
@@ -9,11 +9,13 @@ use Rattle.entry_word.specs.declared.visit.Act.{Act}
 use Rattle.directory.specs.Keys.{act_node}
 use Rattle.directory.specs.Histories.{History, IsFront, own}
 use Rattle.directory.specs.Legal.{IsLegal}
+use Rattle.directory.specs.Settings.{Setting}
 use Rattle.station.specs.Setup.{setting_in, subs_in, IsCellOf}
 use Rattle.station.specs.Plays.{Draws, MayDo, key_put, longer, visit_by, view_held, view_inside}
 use Rattle.station.specs.Passes.{NoteData, PassData, actor_of}
-use Rattle.station.specs.Turns.{HasHadTurn, Logs}
+use Rattle.station.specs.Turns.{HasHadTurn, Logs, LogsAll, lost_in}
 use Rattle.station.specs.declared.turns.Held.{Held}
+use Rattle.station.specs.declared.view.TurnEvent.{TurnEvent}
 use Rattle.station.specs.declared.view.TurnEvent.TheVariants.{GivenBack, Lost, Won}
 use Rattle.station.specs.declared.view.View.{View}
 
@@ -95,6 +97,17 @@ pub record HasLost (old : PassData) (place : ℕ) (held : Held) (new : PassData)
   pub other : held.by ≢ actor_of old
   pub turn : new ≡ record old { view = view_held old.view place (suc held.by) new.view.turns }
   pub logs : Logs old.view.turns (Lost (actor_of old) place (suc held.by)) new.view.turns
+
+-- a pass has logged these events more, and has lost more turns: just those that they tell as lost
+pub record HasLoggedMore (old : PassData) (events : List TurnEvent) (new : PassData)
+    : Type 0 where
+  pub logs : LogsAll old.view.turns events new.view.turns
+  pub lost : new.view.lost ≡ old.view.lost ++ lost_in events
+
+-- the nodes of an actor's visits, in order
+abbrev pub own_nodes : Setting → ℕ → History → List ℕ
+own_nodes setting actor history =
+    map (λ visit. act_node setting visit.act) (own actor history)
 
 -- a number has a bit for each subscriber of a census, and no other, and there are so many
 pub record IsCensus (census : List ℕ) (who count : ℕ) : Type 0 where

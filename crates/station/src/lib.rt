@@ -4,9 +4,10 @@
 //! The calls come in this order. [`Tracker::new`] makes a tracker over a plan, and a [`Pass`] for
 //! each actor: the subscribers by their numbers, and then the callers. [`Pass::reserve`] sees to
 //! room for visits: each look, put and census is one. Then any thread that has a pass visits:
-//! `visit_look`, `visit_put` with the subscriber's handset, `visit_census`; whole finds and moves
-//! are in `tracker_calls`. A [`Note`] carries what one pass has seen to another. In the end
-//! [`Tracker::close`] takes all passes, and tells whose visit each ticket was.
+//! `visit_look`, `visit_walk` with a find's walk, `visit_put` with the subscriber's handset,
+//! `visit_census`; whole finds and moves are in `tracker_calls`. A [`Note`] carries what one pass
+//! has seen to another. In the end [`Tracker::close`] takes all passes, and tells whose visit each
+//! ticket was.
 //!
 //! A caller carries a few predicates of `specs/`. `AreFresh` holds of the passes of a new tracker,
 //! in order. `IsFree` says that a pass is of the tracker and in no node; a fresh one is, and each
@@ -26,6 +27,7 @@ mod tracker;
 mod turns;
 mod view;
 mod visits;
+mod walks;
 
 pub use closing::{CloseCause, CloseFault};
 pub use net_graph::OutOfMemory;

@@ -13,32 +13,17 @@ use Rattle.directory.specs.StepLaws.{own-push}
 use Rattle.station.specs.Passes.{PassData, actor_of}
 use Rattle.station.specs.Plays.{view_held, visit_by}
 use Rattle.station.specs.Setup.{Setup, setting_in}
-use Rattle.station.specs.TurnLaws.{logs-append, losses-lost, lost-append}
-use Rattle.station.specs.Turns.{HasHadTurn, Logs, LogsAll, losses, lost_in}
+use Rattle.station.specs.TurnLaws.{logged-more, logged-none, logged-turn, logs-append, losses-lost}
+use Rattle.station.specs.Turns.{Logs, LogsAll, losses}
 use Rattle.station.specs.Views.{turn_at}
-use Rattle.station.specs.Visits.{HasLost, HasVisited}
+use Rattle.station.specs.Visits.{HasLoggedMore, HasLost, HasVisited, own_nodes}
 use Rattle.station.specs.declared.turns.Held.{Held}
 use Rattle.station.specs.declared.view.NodeTurn.{NodeTurn}
 use Rattle.station.specs.declared.view.TurnEvent.{TurnEvent}
 use Rattle.station.specs.declared.view.TurnEvent.TheVariants.{Won, GivenBack, Lost}
-use Rattle.station.specs.TicketLaws.{tickets-more}
-use Rattle.tracker_calls.specs.Added.{HasAdded, HasLoggedMore, HasTried, VisitTurns, own_nodes, turns_taken}
-use Rattle.tracker_calls.proofs.Wanted.{legal-seen}
+use Rattle.station.specs.TicketLaws.{legal-seen, tickets-more}
+use Rattle.tracker_calls.specs.Added.{HasAdded, HasTried, VisitTurns, turns_taken}
 use Rattle.directory.specs.Statements.{BeginsWithItself, BeginsWithFront, BeginsThrough}
-
--- no events are logged; and some, and then more
-logged-none : (pass : PassData) → HasLoggedMore pass [] pass
-logged-none pass = record { logs = refl; lost = sym (append-nil pass.view.lost) }
-
-logged-more : (one two three : PassData) (xs ys : List TurnEvent) → HasLoggedMore one xs two
-    → HasLoggedMore two ys three → HasLoggedMore one (xs ++ ys) three
-logged-more one two three xs ys first second =
-    record {
-      logs = logs-append one.view.turns two.view.turns three.view.turns xs ys first.logs second.logs;
-      lost = second.lost ∙ (ap (λ (l : List NodeTurn). l ++ lost_in ys) first.lost
-          ∙ (append_assoc one.view.lost (lost_in xs) (lost_in ys)
-          ∙ ap (λ l. one.view.lost ++ l) (sym (lost-append xs ys))));
-    }
 
 -- the events of turns that are lost
 logged-tried : (node : ℕ) (pass tried : PassData) → (lost : HasTried node pass tried)
@@ -59,17 +44,11 @@ logged-visit : (setup : Setup) (pass tried new : PassData) (act : Act) (ticket :
     })) new
 logged-visit setup pass tried new act ticket told lost visited =
     let node = act_node (setting_in setup) act in
-    let actor = actor_of pass in
     let setups : tried.view.setup ≡ setup = ap (λ (q : PassData). q.view.setup) lost.is ∙ told in
-    let turn : HasHadTurn actor node tried.view.turns new.view.turns =
-    subst (λ (s : Setup). HasHadTurn actor (act_node (setting_in s) act) tried.view.turns new.view.turns) setups
-    (subst (λ (a : ℕ). HasHadTurn a (act_node (setting_in tried.view.setup) act) tried.view.turns new.view.turns)
-    (ap actor_of lost.is) visited.turn) in
-    logged-more pass tried new (losses actor (map (turn_at node) lost.words))
-    (Won actor node ∷ GivenBack actor node ∷ []) (logged-tried node pass tried lost) (record {
-      logs = (turn.inside, turn.won, (new.view.turns, turn.given_back, refl));
-      lost = visited.lost ∙ sym (append-nil tried.view.lost);
-    })
+    logged-more pass tried new (losses (actor_of pass) (map (turn_at node) lost.words))
+    (Won (actor_of pass) node ∷ GivenBack (actor_of pass) node ∷ []) (logged-tried node pass tried lost)
+    (subst (λ (a : ℕ). HasLoggedMore tried (Won a node ∷ GivenBack a node ∷ []) new) (ap actor_of lost.is)
+    (logged-turn setup tried new act ticket setups visited))
 
 -- nothing is added
 pub added-none : BeginsWithItself → (setup : Setup) (pass : PassData) → pass.view.inside ≡ None

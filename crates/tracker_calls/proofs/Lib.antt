@@ -1,6 +1,5 @@
 mod Longer
 mod Looks
-mod Wanted
 mod Adding
 mod Rightly
 mod Walked

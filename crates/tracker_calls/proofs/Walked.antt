@@ -1,5 +1,5 @@
 -- How far a walk over the tracker has come.
-use Rattle.std.proofs.Common.{◌≡◌, ℕ, ◌<◌, ◌≤◌, List, [], ◌∷◌, ◌++◌, Some, None, length, map, refl, sym, ap, ◌∙◌, subst, arith}
+use Rattle.std.proofs.Common.{◌≡◌, ℕ, ◌<◌, ◌≤◌, List, [], ◌∷◌, ◌++◌, Option, Some, None, length, map, refl, sym, ap, ◌∙◌, subst, arith}
 use Rattle.std.specs.Prelude.{flat_map, slice_get}
 use Rattle.std.proofs.lemmas.List.{length-take}
 use Rattle.entry_word.specs.declared.visit.Key.{Key}
@@ -10,8 +10,10 @@ use Rattle.directory.specs.Histories.{History, IsFront, before, cell, words_at}
 use Rattle.directory.specs.Finds.{FindCall, after_word, at_origin, ended, find, key_of, looks_left, most_looks}
 use Rattle.directory.specs.Looks.{AreLooks, IsFind, last_of, look_by}
 use Rattle.directory.specs.declared.answers.Found.{Found}
+use Rattle.distances.specs.Table.{DistanceTable}
 use Rattle.region_plan.specs.Matched.{IsMatched}
-use Rattle.station.specs.Passes.{PassData, actor_of}
+use Rattle.region_plan.specs.Plan.{PlanData}
+use Rattle.station.specs.Passes.{PassData, TrackerData, actor_of}
 use Rattle.station.specs.Setup.{Setup, nodes_in, setting_in, subs_in}
 use Rattle.stretch_laws.specs.Plans.{PlanFindsAreNear}
 use Rattle.trail_laws.specs.Rightness.{AnswersAreRight, QuietFindsAnswer}
@@ -20,10 +22,12 @@ use Rattle.handset.specs.Condition.{HandsetData}
 use Rattle.station.specs.Handsets.{IsHandsetOf}
 use Rattle.station.specs.StayLaws.{handset-stays, handset-visited}
 use Rattle.station.specs.Views.{turn_at}
-use Rattle.station.specs.Visits.{HasVisited}
+use Rattle.station.specs.Visits.{HasLost, HasVisited}
+use Rattle.station.specs.declared.turns.Held.{Held}
+use Rattle.station.specs.Walking.{HasLookedOn, HasLostLook, MayWalkOn}
 use Rattle.tracker_calls.specs.Added.{HasAdded, HasTried, KeepsHandsets}
-use Rattle.tracker_calls.specs.Finds.{HasFound, HasLookedOn}
-use Rattle.tracker_calls.proofs.Adding.{added-more, added-none, last-push, visited-front}
+use Rattle.tracker_calls.specs.Finds.{HasFound}
+use Rattle.tracker_calls.proofs.Adding.{added-more, added-none, last-push, tried-again, visited-front}
 use Rattle.tracker_calls.proofs.Longer.{get-last}
 use Rattle.tracker_calls.proofs.Looks.{looks-more}
 use Rattle.tracker_calls.proofs.Rightly.{looked-once, tells-rightly}
@@ -60,6 +64,37 @@ tried-on setup node pass tried lost handset its =
     (record pass.view { turns = tried.view.turns; lost = pass.view.lost ++ map (turn_at node) lost.words }) handset
     refl refl its)
 
+-- turns that are lost before a look are lost at its node
+pub tried-look : (setup : Setup) (begun pass new : PassData) (first walk moved : WalkData) (held : Held) (key : Key)
+    → key_of (call_of first) (pursuit_of setup.plan first) ≡ Some key → walk ≡ first
+    → HasTried (key_node (setting_in setup) key) begun pass → HasLostLook setup pass walk held new moved
+    → HasTried (key_node (setting_in setup) key) begun new
+tried-look setup begun pass new first walk moved held key wanted same tried on =
+    let its : key_of (call_of first) (pursuit_of setup.plan first) ≡ Some on.key =
+    subst (λ (w : WalkData). key_of (call_of w) (pursuit_of setup.plan w) ≡ Some on.key) same on.wanted in
+    tried-again (key_node (setting_in setup) key) begun pass new held tried
+    (subst (λ (k : Key). HasLost pass (key_node (setting_in setup) k) held new)
+    (one-key on.key key (sym its ∙ wanted)) on.lost)
+  where
+    one-key : (one two : Key) → ◌≡◌ {A = Option Key} (Some one) (Some two) → one ≡ two
+    one-key one two e = cc
+
+-- and the walk may still go on
+pub walk-held : (tracker : TrackerData) (plan : PlanData) (distances : DistanceTable) (pass new : PassData)
+    (walk moved : WalkData) (held : Held) → MayWalkOn tracker plan distances pass walk
+    → HasLostLook tracker.setup pass walk held new moved → MayWalkOn tracker plan distances new moved
+walk-held tracker plan distances pass new walk moved held way on =
+    subst (MayWalkOn tracker plan distances new) (sym on.same)
+    (subst (λ (p : PassData). MayWalkOn tracker plan distances p walk) (sym on.lost.turn)
+    (record {
+      of = record { table = way.of.table; setup = way.of.setup };
+      plan_is = way.plan_is;
+      belongs = way.belongs;
+      outside = way.outside;
+      goes = way.goes;
+      known = way.known;
+    }))
+
 no-looks : (setting : Setting) (history : History) (actor : ℕ) (call : FindCall)
     → AreLooks setting history actor call 0 at_origin []
 unfolding AreLooks
@@ -86,13 +121,13 @@ front-short xs zs front = omega (arith, ap length front, length-take (length xs)
 
 -- one look more, after turns that were lost at its node
 pub walked-on : BeginsWithFront → BeginsThrough → LooksFall → (setup : Setup) (begun : PassData) (call : FindCall)
-    (pass tried new : PassData) (walk moved : WalkData) (key : Key) → pass.view.setup ≡ setup
-    → (at : IsWalked setup begun call pass walk)
-    → key_of (call_of walk) (pursuit_of setup.plan walk) ≡ Some key
-    → HasTried (key_node (setting_in setup) key) pass tried → HasLookedOn setup tried walk key new moved
+    (pass tried new : PassData) (walk moved : WalkData) (ticket : ℕ) → pass.view.setup ≡ setup
+    → (at : IsWalked setup begun call pass walk) → (looked : HasLookedOn setup tried walk ticket new moved)
+    → HasTried (key_node (setting_in setup) looked.key) pass tried
     → IsWalked setup begun call new moved
-walked-on longer through fall setup begun call pass tried new walk moved key told at wanted lost looked =
+walked-on longer through fall setup begun call pass tried new walk moved ticket told at looked lost =
     let setting : Setting = setting_in setup in
+    let key = looked.key in
     let visited = looked.visited in
     let setups : tried.view.setup ≡ setup = ap (λ (q : PassData). q.view.setup) lost.is ∙ told in
     let seen : tried.view.seen ≡ pass.view.seen = ap (λ (q : PassData). q.view.seen) lost.is in
@@ -100,31 +135,31 @@ walked-on longer through fall setup begun call pass tried new walk moved key tol
     let visit = look_by (actor_of tried) key in
     let front : IsFront pass.view.seen new.view.seen =
     subst (λ (h : History). IsFront h new.view.seen) seen
-    (visited-front longer through tried new (Look key) looked.ticket visited) in
-    let late : length pass.view.seen ≤ looked.ticket =
+    (visited-front longer through tried new (Look key) ticket visited) in
+    let late : length pass.view.seen ≤ ticket =
     omega (arith, visited.count, front-short tried.view.seen visited.earlier visited.begins, ap length seen) in
-    let last : slice_get new.view.seen looked.ticket ≡ Some visit =
+    let last : slice_get new.view.seen ticket ≡ Some visit =
     ap (slice_get new.view.seen) (sym visited.count)
     ∙ (ap (λ (l : History). slice_get l (length visited.earlier)) visited.seen ∙ get-last visited.earlier visit) in
     let wants : key_of call (pursuit_of setup.plan walk) ≡ Some key =
-    subst (λ c. key_of c (pursuit_of setup.plan walk) ≡ Some key) at.its wanted in
-    let more = looks-more setting pass.view.seen new.view.seen (actor_of begun) call key looked.ticket front late
-    (subst (λ a. slice_get new.view.seen looked.ticket ≡ Some (look_by a key)) mine last)
+    subst (λ c. key_of c (pursuit_of setup.plan walk) ≡ Some key) at.its looked.wanted in
+    let more = looks-more setting pass.view.seen new.view.seen (actor_of begun) call key ticket front late
+    (subst (λ a. slice_get new.view.seen ticket ≡ Some (look_by a key)) mine last)
     at.made 0 at_origin (omega arith) at.looks (subst (λ s. key_of call s ≡ Some key) at.pursuit wants) in
-    let word = cell setting (before looked.ticket new.view.seen) key in
+    let word = cell setting (before ticket new.view.seen) key in
     let pursuit : pursuit_of setup.plan moved ≡ after_word setting call (pursuit_of setup.plan walk) word =
     looked.pursuit ∙ ap (λ c. after_word setting c (pursuit_of setup.plan walk) word) at.its in
     record {
-      made = at.made ++ looked.ticket ∷ [];
-      added = added-more longer through setup begun pass tried new at.made (Look key) looked.ticket told at.added lost
+      made = at.made ++ ticket ∷ [];
+      added = added-more longer through setup begun pass tried new at.made (Look key) ticket told at.added lost
           visited;
-      keeps = λ handset its. seen-on setup tried new key looked.ticket setups visited handset
+      keeps = λ handset its. seen-on setup tried new key ticket setups visited handset
           (tried-on setup (key_node setting key) pass tried lost handset (at.keeps handset its));
       looks = more.0;
       pursuit = pursuit ∙ (ap (λ s. after_word setting call s word) at.pursuit ∙ sym more.1);
       late = λ some. omega (
         arith,
-        last-push at.made looked.ticket,
+        last-push at.made ticket,
         late,
         front-short begun.view.seen pass.view.seen at.added.begins,
       );

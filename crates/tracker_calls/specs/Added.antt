@@ -2,17 +2,15 @@
 -- in a turn at its node that was tried again there until it was won.
 -- Key laws: `find`, `find_now` and `move_to`, whose answers come with what they added.
 use Rattle.std.specs.Prelude.{◌≡◌, ℕ, ◌+◌, ◌<◌, ◌≤◌, List, [], ◌∷◌, ◌++◌, flat_map, length, map, None}
-use Rattle.directory.specs.Histories.{History, IsFront, own, tickets}
-use Rattle.directory.specs.Keys.{act_node}
-use Rattle.directory.specs.Settings.{Setting}
+use Rattle.directory.specs.Histories.{IsFront, tickets}
 use Rattle.directory.specs.Legal.{IsLegal}
 use Rattle.handset.specs.Condition.{HandsetData}
 use Rattle.station.specs.Handsets.{IsHandsetOf}
 use Rattle.station.specs.Passes.{PassData, actor_of}
 use Rattle.station.specs.Setup.{Setup, setting_in, subs_in}
-use Rattle.station.specs.Turns.{LogsAll, losses, lost_in}
+use Rattle.station.specs.Turns.{LogsAll, losses}
 use Rattle.station.specs.Views.{turn_at}
-use Rattle.station.specs.Visits.{IsSamePass}
+use Rattle.station.specs.Visits.{HasLoggedMore, IsSamePass, own_nodes}
 use Rattle.station.specs.declared.view.NodeTurn.{NodeTurn}
 use Rattle.station.specs.declared.view.TurnEvent.{TurnEvent}
 use Rattle.station.specs.declared.view.TurnEvent.TheVariants.{Won, GivenBack}
@@ -30,17 +28,6 @@ turns_lost turns = map (turn_at turns.node) turns.words
 abbrev pub turns_taken : ℕ → VisitTurns → List TurnEvent
 turns_taken actor turns =
     losses actor (turns_lost turns) ++ Won actor turns.node ∷ GivenBack actor turns.node ∷ []
-
--- the nodes of an actor's visits, in order
-abbrev pub own_nodes : Setting → ℕ → History → List ℕ
-own_nodes setting actor history =
-    map (λ visit. act_node setting visit.act) (own actor history)
-
--- a pass has logged these events more, and has lost more turns: just those that they tell as lost
-pub record HasLoggedMore (old : PassData) (events : List TurnEvent) (new : PassData)
-    : Type 0 where
-  pub logs : LogsAll old.view.turns events new.view.turns
-  pub lost : new.view.lost ≡ old.view.lost ++ lost_in events
 
 -- the pass has made visits with these tickets, its next own ones: what it has seen goes on from
 -- what it had seen, and is legal where it made one; each has used one of its spare; it is in no

@@ -1,47 +1,23 @@
 -- What a find over the tracker does to its pass: its looks are the pass's next own visits, and its
 -- answer is theirs, in the history that the pass has then seen. Key laws: `find_now` and `find`, by
 -- their clauses `find`.
-use Rattle.std.specs.Prelude.{◌≡◌, ℕ, ◌<◌, ◌≤◌, List, flat_map, Some, None}
+use Rattle.std.specs.Prelude.{◌≡◌, ℕ, ◌<◌, ◌≤◌, List, flat_map, Some}
 use Rattle.entry_word.specs.declared.visit.Key.{Key}
-use Rattle.entry_word.specs.declared.visit.Act.TheVariants.{Look}
-use Rattle.directory.specs.Histories.{before, cell, words_at}
-use Rattle.directory.specs.Finds.{FindCall, after_word, at_origin, find, key_of, most_looks}
+use Rattle.directory.specs.Histories.{words_at}
+use Rattle.directory.specs.Finds.{FindCall, at_origin, find, key_of, most_looks}
 use Rattle.directory.specs.Keys.{key_node}
 use Rattle.directory.specs.Looks.{AreLooks, IsFind}
 use Rattle.directory.specs.declared.answers.Found.{Found}
-use Rattle.station.specs.Passes.{PassData, actor_of, IsPassOf, TrackerData}
+use Rattle.station.specs.Passes.{PassData, actor_of}
 use Rattle.station.specs.Setup.{Setup, nodes_in, setting_in, subs_in}
-use Rattle.station.specs.Visits.{HasLost, HasVisited}
+use Rattle.station.specs.Visits.{HasLost}
 use Rattle.station.specs.declared.turns.Held.{Held}
-use Rattle.walk.specs.Walks.{IsWalkOver, WalkData, call_of, pursuit_of}
 use Rattle.tracker_calls.specs.Added.{HasAdded, KeepsHandsets}
 use Rattle.tracker_calls.specs.RightAnswers.{TellsRightly}
 use Rattle.tracker_calls.specs.declared.finds.FindFault.{FindFault}
 use Rattle.tracker_calls.specs.declared.finds.FindFault.TheVariants.{NoNode, NoSubscriber, Unreserved, Held as HeldBy}
 use Rattle.tracker_calls.specs.declared.finds.FindRefusal.{FindRefusal}
 use Rattle.tracker_calls.specs.declared.finds.FindRefusal.TheVariants as refusals
-use Rattle.distances.specs.Table.{DistanceTable}
-use Rattle.region_plan.specs.Plan.{PlanData}
-
--- a walk may go on by looks of a pass, in no node, over the tracker's own plan and its distances
-pub record MayWalkOn (tracker : TrackerData) (plan : PlanData) (distances : DistanceTable)
-    (pass : PassData) (walk : WalkData) : Type 0 where
-  pub of : IsPassOf tracker pass
-  pub plan_is : plan ≡ tracker.setup.plan
-  pub belongs : plan.distances ≡ distances
-  pub outside : pass.view.inside ≡ None
-  pub goes : IsWalkOver tracker.setup.plan walk
-  pub known : walk.sub < subs_in tracker.setup
-
--- a walk has made its next look
-pub record HasLookedOn (setup : Setup) (old : PassData) (walk : WalkData) (key : Key)
-    (new : PassData) (moved : WalkData) : Type 0 where
-  pub ticket : ℕ
-  pub visited : HasVisited old (Look key) ticket new
-  pub pursuit : pursuit_of setup.plan moved ≡ after_word (setting_in setup) (call_of walk)
-      (pursuit_of setup.plan walk) (cell (setting_in setup) (before ticket new.view.seen) key)
-  pub call : call_of moved ≡ call_of walk
-  pub goes : IsWalkOver setup.plan moved
 
 -- the pass has made the looks of a find, and this is their answer, which tells rightly
 pub record HasFound (setup : Setup) (old : PassData) (call : FindCall) (found : Found)

@@ -15,7 +15,8 @@ use std::sync::Wait;
 use walk::{Walk, WalkFault};
 
 /// Why a find has no answer now: the first of these that holds. After `Held` the find may be made
-/// again; its looks so far are visits like others. Otherwise nothing has changed.
+/// again; its looks so far are visits like others, which have used room of the pass. Otherwise
+/// nothing has changed.
 #[derive(Clone, Copy, PartialEq, Eq, Debug)]
 pub enum FindFault {
     /// There is no such node.

@@ -55,13 +55,19 @@ fn held_by_its_own_node_alone(rt: HostRuntime) -> Result<(), Fail> {
             Seen::Held { node: 3, by: 2 },
         ),
         (
+            Step::HeldAsk(3, Call::FirstLook(3)),
+            Seen::Held { node: 3, by: 2 },
+        ),
+        (
             Step::HeldAsk(3, Call::Look(2)),
             word(0, PresenceMark::Empty),
         ),
         (look(3), word(1, here)),
-        (Step::State, seen([0, 2, 0], [9, 7, 9])),
+        (Step::HeldAsk(3, Call::FirstLook(2)), Seen::Ticket(2)),
+        (Step::Ask(Call::FirstLook(3)), Seen::Ticket(3)),
+        (Step::State, seen([0, 4, 0], [9, 5, 9])),
     ];
-    play_on_line(&rt, rt.alloc(), Task::Rest, 9, &script, &[1, 1])
+    play_on_line(&rt, rt.alloc(), Task::Rest, 9, &script, &[1, 1, 1, 1])
 }
 
 #[test]

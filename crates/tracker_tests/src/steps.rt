@@ -17,6 +17,7 @@ use std::sync::Wait;
 use tracker_calls::{
     FindFault, FindRefusal, MoveToFault, Moved, StepFault, find, find_now, move_step, move_to,
 };
+use walk::Walk;
 
 // What a script does.
 #[derive(Clone, Copy)]
@@ -52,6 +53,8 @@ pub enum Step {
 pub enum Call {
     /// A look at the subscriber's presence cell of a node.
     Look(u32),
+    /// The first look of a find from a node, by its walk.
+    FirstLook(u32),
     Census(u32),
     FindNow { from: u32, sub: u32 },
     Find { from: u32, sub: u32 },
@@ -239,6 +242,33 @@ pub fn look(
     }
 }
 
+// The first look of a find of the subscriber.
+pub fn first_look(
+    tracker: &Tracker,
+    pass: &mut Pass,
+    plan: &Plan,
+    distances: &Distances,
+    from: u32,
+) -> Seen
+    requires over { IsOver tracker.now plan.now distances.now }
+    requires free { IsFree tracker.now 0 pass.old }
+    ensures free { IsFree tracker.now 0 pass.new }
+{
+    let Ok(mut walk) = Walk::new(from, 0, 1, plan) else {
+        return Seen::Nothing;
+    };
+    if pass.spare() == 0 {
+        return Seen::Nothing;
+    }
+    match tracker.visit_walk(pass, plan, distances, &mut walk) {
+        Ok(ticket) => Seen::Ticket(ticket),
+        Err(held) => Seen::Held {
+            node: held.node,
+            by: held.by,
+        },
+    }
+}
+
 // A census of a node.
 pub fn census(tracker: &Tracker, pass: &mut Pass, plan: &Plan, node: u32) -> Seen
     requires plan { plan.now ≡ tracker.now.setup.plan }
@@ -277,6 +307,7 @@ pub fn ask<R: Wait>(
 {
     match call {
         Call::Look(node) => look(tracker, pass, plan, distances, node),
+        Call::FirstLook(from) => first_look(tracker, pass, plan, distances, from),
         Call::Census(node) => census(tracker, pass, plan, node),
         Call::FindNow { from, sub } => {
             match find_now(tracker, pass, plan, distances, 1, from, sub) {

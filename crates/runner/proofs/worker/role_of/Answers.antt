@@ -1,4 +1,4 @@
-use Rattle.std.proofs.Common.{ℕ, List, map, sym, ap, ◌∙◌, arith, subst, get_or}
+use Rattle.std.proofs.Common.{ℕ, List, [], map, sym, ap, ◌∙◌, arith, subst, get_or}
 use Rattle.std.proofs.lemmas.List.{get_or_default}
 use Rattle.directory.specs.Finds.{at_origin}
 use Rattle.machine.specs.Stands.{IsWalking}
@@ -51,3 +51,17 @@ returns-clause-role c = λ setup view spare set is none bare enough.
     its.walk)
     (λ starts. c.in_ok-visits.ensures.most starts ∙ ap (most_in (setting_of c.args.plan.now starts)) (sym its.script))
     setup view spare set is none enough
+
+pub returns-then-actor-len-clause-most : goal.returns-then-actor-len-clause-most
+returns-then-actor-len-clause-most c =
+    c.in_ok-visits.ensures.most []
+    ∙ ap (most_in (setting_of c.args.plan.now [])) (script-is c.args.input.now.scripts.items c.args.actor
+    c.index.result.now c.as_slice-script.result.now c.requires.may.known c.index.ensures
+    c.as_slice-script.ensures.value)
+
+pub returns-clause-most : goal.returns-clause-most
+returns-clause-most c =
+    c.in_ok-visits.ensures.most []
+    ∙ ap (most_in (setting_of c.args.plan.now [])) (script-is c.args.input.now.scripts.items c.args.actor
+    c.index.result.now c.as_slice-script.result.now c.requires.may.known c.index.ensures
+    c.as_slice-script.ensures.value)

@@ -1,13 +1,35 @@
-use Rattle.std.proofs.Common.{◌∙◌}
+use Rattle.std.proofs.Common.{ap, refl, subst, ◌∙◌, arith}
 use Rattle.directory.specs.Keys.{key_node}
 use Rattle.station.specs.Setup.{setting_in}
-use Rattle.tracker_calls.proofs.Adding.{tried-again}
+use Rattle.station.specs.Passes.{PassData}
+use Rattle.station.specs.Walking.{HasLookedOn}
+use Rattle.walk.specs.Walks.{WalkData}
+use Rattle.tracker_calls.proofs.Adding.{tried-none}
+use Rattle.tracker_calls.proofs.Walked.{tried-look, walk-held}
 use Rattle.tracker_calls.proofs.walking.look_when_free.Goals as goal
+
+pub tries-init : goal.tries-init
+tries-init g c = record {
+  tried = λ key wanted. tried-none (key_node (setting_in c.args.tracker.now.setup) key) c.args.pass.now;
+  way = c.requires.way;
+  spare = c.requires.spare;
+  walk = refl;
+}
 
 pub tries-preserved : goal.tries-preserved
 tries-preserved g c =
-    let lost = c.in-Err.ensures.looked in record {
-      tried = tried-again (key_node (setting_in c.args.tracker.now.setup) c.args.key) c.args.pass.now c.tries.pass
-          c.look_on.new.pass c.in-Err.field-0 c.tries.invariant.tried lost.0;
-      walk = lost.1 ∙ c.tries.invariant.walk;
+    let lost = c.in_default.ensures.looked in record {
+      tried = λ key wanted. tried-look c.args.tracker.now.setup c.args.pass.now c.tries.pass c.visit_walk.new.pass
+          c.args.walk.now c.tries.walk c.visit_walk.new.walk c.in_default.field-0 key wanted c.tries.invariant.walk
+          (c.tries.invariant.tried key wanted) lost;
+      way = walk-held c.args.tracker.now c.args.plan.now c.args.distances.now c.tries.pass c.visit_walk.new.pass
+          c.tries.walk c.visit_walk.new.walk c.in_default.field-0 c.tries.invariant.way lost;
+      spare = omega (arith, c.tries.invariant.spare, ap (λ (p : PassData). p.spare) lost.lost.turn);
+      walk = lost.same ∙ c.tries.invariant.walk;
     }
+
+pub returns-in-Ok : goal.returns-in-Ok
+returns-in-Ok g c =
+    let looked = subst (λ (w : WalkData). HasLookedOn c.args.tracker.now.setup c.tries.pass w c.in-Ok._ticket
+    c.visit_walk.new.pass c.visit_walk.new.walk) c.tries.invariant.walk c.in-Ok.ensures.looked in
+    record { looked = (c.tries.pass, c.in-Ok._ticket, looked, c.tries.invariant.tried looked.key looked.wanted) }

@@ -1,5 +1,4 @@
-use Rattle.std.proofs.Common.{subst, sym, ◌∙◌, ◌≡◌, Some}
-use Rattle.directory.specs.Finds.{key_of}
+use Rattle.std.proofs.Common.{subst, sym, ◌∙◌}
 use Rattle.region_plan.specs.Matched.{IsMatched}
 use Rattle.walk.specs.Walks.{call_of, pursuit_of}
 use Rattle.tracker_calls.proofs.Walked.{walked-first, walked-on, walked-out}
@@ -14,16 +13,12 @@ looks-init g c = record {
 
 pub looks-preserved : goal.looks-preserved
 looks-preserved g c =
-    let setup = c.args.tracker.now.setup in
     let looked = c.look_when_free.ensures.looked in
     let at = c.looks.invariant.walked in record {
-      walked = walked-on c.histories_begin.ensures.longer c.histories_begin.ensures.through c.looks_fall.ensures setup
-          c.args.pass.now (call_of c.args.walk.now) c.looks.pass looked.0 c.look_when_free.new.pass c.looks.walk
-          c.look_when_free.new.walk c.in-Some.key (at.added.same.setup ∙ c.requires.way.of.setup) at
-          (subst (λ p. key_of (call_of c.looks.walk) (pursuit_of p c.looks.walk)
-          ≡ Some c.in-Some.key) c.requires.way.plan_is
-          (sym c.next.ensures ∙ c.in-Some.is))
-          looked.1 looked.2;
+      walked = walked-on c.histories_begin.ensures.longer c.histories_begin.ensures.through c.looks_fall.ensures
+          c.args.tracker.now.setup c.args.pass.now (call_of c.args.walk.now) c.looks.pass looked.0
+          c.look_when_free.new.pass c.looks.walk c.look_when_free.new.walk looked.1
+          (at.added.same.setup ∙ c.requires.way.of.setup) at looked.2 looked.3;
     }
 
 pub returns : goal.returns
@@ -31,8 +26,8 @@ returns g c =
     let setup = c.args.tracker.now.setup in
     let at = c.looks.invariant.walked in record {
       found = walked-out c.answers_are_right.ensures c.again_has_its_cause.ensures.quiet c.plan_finds_are_near.ensures
-          setup c.args.pass.now (call_of c.args.walk.now) c.looks.pass c.looks.walk c.in-Some-answer.found
+          setup c.args.pass.now (call_of c.args.walk.now) c.looks.pass c.looks.walk c.in-Some.found
           (subst IsMatched c.requires.way.plan_is c.plan_is_sound.ensures.matched) c.requires.way.goes.from
-          c.requires.way.known at (answer-ends (pursuit_of setup.plan c.looks.walk) c.in-Some-answer.found
-          (sym (c.answer.ensures setup.plan at.goes) ∙ c.in-Some-answer.is));
+          c.requires.way.known at (answer-ends (pursuit_of setup.plan c.looks.walk) c.in-Some.found
+          (sym (c.answer-2.ensures setup.plan at.goes) ∙ c.in-Some.is));
     }

@@ -2,12 +2,12 @@ use Rattle.std.proofs.Common.{◌+◌, drop, map, subst, sym, ap, ◌∙◌, ref
 use Rattle.directory.specs.Finds.{answer_of, at_origin}
 use Rattle.machine.specs.Stands.{IsWalking}
 use Rattle.scripts.specs.Scripts.{find_of}
-use Rattle.runner.proofs.Finding.{done-low, look-room, looked, looked-on, looked-up, some-is, walk-known, walking-of}
+use Rattle.runner.proofs.Finding.{done-low, held-passed, look-room, looked, looked-on, looked-up, lost-look, some-is, walk-known, walking-of}
 use Rattle.runner.proofs.finder.Finder.look.Goals as goal
 use Rattle.directory.specs.ListLaws.{is_some-none}
 
-pub look_on-requires : goal.look_on-requires
-look_on-requires c =
+pub visit_walk-requires : goal.visit_walk-requires
+visit_walk-requires c =
     let input = c.requires.its.0 in
     let set = c.requires.its.1 in
     let its = c.requires.its.2 in
@@ -20,14 +20,14 @@ look_on-requires c =
         plan_is = set.plan_is;
         belongs = set.together.belongs;
         outside = c.requires.outside;
-        spare = look-room input setup c.args.pass.now.view.low c.args.pass.now.view.seen c.args.pass.now.spare
-            c.args.self.now c.in-Some.walk its c.in-Some.is;
         goes = at.goes;
         known = walk-known c.scripts_are_valid.ensures input setup c.args.plan.now c.args.distances.now
             c.args.pass.now.view.low c.args.pass.now.view.seen c.args.pass.now.spare c.args.self.now c.in-Some.walk
             set its c.in-Some.is;
-        left = ap answer_of at.so_far ∙ at.unanswered;
       };
+      spare = look-room input setup c.args.pass.now.view.low c.args.pass.now.view.seen c.args.pass.now.spare
+          c.args.self.now c.in-Some.walk its c.in-Some.is;
+      left = ap answer_of at.so_far ∙ at.unanswered;
     }
 
 pub overflow_add-self : goal.overflow_add-self
@@ -40,18 +40,26 @@ overflow_add-self c =
           c.in-Some.is,
     )
 
+pub returns-in_err-visit_walk : goal.returns-in_err-visit_walk
+returns-in_err-visit_walk c = record {
+  tries = λ input set its.
+      let lost = lost-look input c.args.tracker.now.setup c.args.pass.now c.visit_walk.new.pass c.args.self.now _
+      c.in-Some.walk c.visit_walk.new.walk _ set.homes its c.in-Some.is c.in_err-visit_walk.ensures.looked refl in
+      (held-passed c.from_residual.result c.in_err-visit_walk.field-0.0 _ _ c.from_residual.ensures.1 lost.0, lost.1);
+}
+
 pub returns-then-is_some : goal.returns-then-is_some
 returns-then-is_some c = record {
   tries = λ input set its.
       let setup = c.args.tracker.now.setup in
       let old = c.args.pass.now in
-      let new = c.look_on.new.pass in
-      let on = c.in_ok-look_on.ensures.looked in
+      let new = c.visit_walk.new.pass in
+      let on = c.in_ok-visit_walk.ensures.looked in
       let at = looked c.lines_grow.ensures.kept c.lines_grow.ensures.read c.looks_fall.ensures input setup old new
-      c.args.self.now c.in-Some.walk c.look_on.new.walk set.homes its c.in-Some.is on in
+      c.args.self.now c.in-Some.walk c.visit_walk.new.walk _ set.homes its c.in-Some.is on in
       let found = some-is c.answer.result (sym c.is_some.ensures ∙ c.if-is_some.true) in (
         at.made,
-        looked-up input setup old new c.args.self.now _ c.look_on.new.walk found.0 its at
+        looked-up input setup old new c.args.self.now _ c.visit_walk.new.walk found.0 its at
             (sym (c.answer.ensures setup.plan on.goes) ∙ found.1) refl refl (omega arith)
             (subst (λ p. IsWalking p (drop (c.args.self.now.done + 1) (map find_of c.args.self.now.script.items))
             at_origin
@@ -66,11 +74,12 @@ returns-else-is_some c = record {
   tries = λ input set its.
       let setup = c.args.tracker.now.setup in
       let old = c.args.pass.now in
-      let new = c.look_on.new.pass in
+      let new = c.visit_walk.new.pass in
       let at = looked c.lines_grow.ensures.kept c.lines_grow.ensures.read c.looks_fall.ensures input setup old new
-      c.args.self.now c.in-Some.walk c.look_on.new.walk set.homes its c.in-Some.is c.in_ok-look_on.ensures.looked in (
+      c.args.self.now c.in-Some.walk c.visit_walk.new.walk _ set.homes its c.in-Some.is
+      c.in_ok-visit_walk.ensures.looked in (
         at.made,
-        looked-on input setup old new c.args.self.now _ c.look_on.new.walk its at
+        looked-on input setup old new c.args.self.now _ c.visit_walk.new.walk its at
             (sym (c.answer.ensures setup.plan at.goes) ∙ is_some-none c.answer.result
             (sym c.is_some.ensures ∙ c.if-is_some.false))
             refl refl refl refl,

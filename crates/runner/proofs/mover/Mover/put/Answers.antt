@@ -21,6 +21,6 @@ returns-in-Ok c = record {
 pub returns-in-Err : goal.returns-in-Err
 returns-in-Err c = record {
   tries = λ input part next.
-      put-held input c.args.tracker.now.setup c.args.pass.now c.visit_put.new.pass c.args.self.now _ _ _
-      c.in-Err.held c.requires.left c.in-Err.ensures.made.0 part c.in-Err.ensures.made.1 refl refl;
+      put-held input c.args.tracker.now.setup c.args.pass.now c.visit_put.new.pass c.args.self.now _ _
+      c.in-Err.held next c.requires.left c.in-Err.ensures.made.0 part c.in-Err.ensures.made.1 refl refl;
 }

@@ -8,7 +8,7 @@ returns-then-is_err-clause-tried g c = λ input may.
     let tried = c.visit.ensures.tries input may.may.set its.role may.prepared may.left in
     let lost = tries-lost input c.args.tracker.now.setup c.args.self.now.pass c.visit.new.pass c.visit.result
     (sym c.is_err.ensures.value ∙ c.if-is_err.true) tried.0 in
-    gone-held input c.args.tracker.now c.args.self.now _ lost.1 lost.0 its lost.2 tried.1 refl
+    gone-held input c.args.tracker.now c.args.self.now _ lost.0 its lost.1 tried.1 refl
 
 pub returns-clause-tried : goal.returns-clause-tried
 returns-clause-tried g c = λ input may.

@@ -73,7 +73,7 @@ tries-smaller-in-Made g c =
     c.prepare.result may c.tries-test.true
     (c.prepare.ensures.its input c.args.tracker.now.setup c.tries.self.pass.view c.tries.self.pass.spare may.set
     may.worker_is.role)) in
-    omega (arith, tried.1)
+    omega (arith, tried.0.spare, tried.1)
 
 pub tries-preserved-in-Made : goal.tries-preserved-in-Made
 tries-preserved-in-Made g c =
@@ -114,7 +114,7 @@ tries-smaller-in-Held g c =
     c.prepare.result may c.tries-test.true
     (c.prepare.ensures.its input c.args.tracker.now.setup c.tries.self.pass.view c.tries.self.pass.spare may.set
     may.worker_is.role)) in
-    omega (arith, tried.1, c.tries.invariant.few, c.if-held-kept.false)
+    omega (arith, tried.0.spare, tried.1, c.tries.invariant.few, c.if-held-kept.false)
 
 pub tries-preserved-in-Held : goal.tries-preserved-in-Held
 tries-preserved-in-Held g c =

@@ -1,18 +1,18 @@
-use Rattle.std.proofs.Common.{◌≡◌, subst, sym, ap, ◌∙◌, []}
+use Rattle.std.proofs.Common.{◌≡◌, refl, subst, sym, ap, ◌∙◌, []}
 use Rattle.std.specs.Prelude.{Some}
 use Rattle.entry_word.specs.declared.visit.Act.TheVariants.{Look}
 use Rattle.directory.specs.Finds.{after_word, key_of}
 use Rattle.region_plan.specs.Matched.{IsMatched}
 use Rattle.region_plan.specs.Settings.{setting_of}
-use Rattle.station.specs.Setup.{setting_in, subs_in}
 use Rattle.walk.specs.LookLaws.{cell-wanted}
 use Rattle.walk.specs.Walks.{IsWalkOver, call_of, pursuit_of}
-use Rattle.runner.proofs.Finding.{word-seen}
-use Rattle.runner.proofs.finder.look_on.Goals as goal
+use Rattle.station.specs.Setup.{setting_in, subs_in}
+use Rattle.station.proofs.Wanted.{held-passed, word-seen}
+use Rattle.station.proofs.tracker.Tracker.visit_walk.Goals as goal
 
 pub visit_look-requires-clause-cell : goal.visit_look-requires-clause-cell
 visit_look-requires-clause-cell c =
-    cell-wanted c.args.tracker.now.setup.plan c.args.walk.now (subs_in c.args.tracker.now.setup) c.in-Some.key
+    cell-wanted c.args.self.now.setup.plan c.args.walk.now (subs_in c.args.self.now.setup) c.in-Some.key
     (subst IsMatched c.requires.way.plan_is c.plan_is_sound.ensures.matched) c.requires.way.goes c.requires.way.known
     (subst (λ p. key_of (call_of c.args.walk.now) (pursuit_of p c.args.walk.now) ≡ Some c.in-Some.key)
     c.requires.way.plan_is
@@ -22,16 +22,28 @@ pub saw-requires-clause-word : goal.saw-requires-clause-word
 saw-requires-clause-word c =
     let looked = c.in_ok-looked.ensures.looked in
     word-seen c.marks_tell.ensures.marks c.entries_tell.ensures.entries c.front_of_history_is_legal.ensures
-    c.args.tracker.now.setup c.args.plan.now c.args.pass.now c.visit_look.new.pass (Look c.in-Some.key)
+    c.args.self.now.setup c.args.plan.now c.args.pass.now c.visit_look.new.pass (Look c.in-Some.key)
     c.in_ok-looked.looked.ticket c.in_ok-looked.looked.word c.args.walk.now c.in-Some.key c.requires.way.plan_is
     c.plan_is_sound.ensures.matched c.requires.way.of.setup looked.0 looked.1 c.requires.way.known c.requires.way.goes
     (subst (λ p. key_of (call_of c.args.walk.now) (pursuit_of p c.args.walk.now) ≡ Some c.in-Some.key)
     c.requires.way.plan_is
     (sym c.next.ensures ∙ c.in-Some.is))
 
+pub returns-in_err-looked : goal.returns-in_err-looked
+returns-in_err-looked c = record {
+  looked = held-passed c.from_residual.result c.in_err-looked.field-0.0 _ _ c.from_residual.ensures.1 (record {
+    key = c.in-Some.key;
+    wanted = subst (λ p. key_of (call_of c.args.walk.now) (pursuit_of p c.args.walk.now) ≡ Some c.in-Some.key)
+        c.requires.way.plan_is
+        (sym c.next.ensures ∙ c.in-Some.is);
+    lost = c.in_err-looked.ensures.looked;
+    same = refl;
+  });
+}
+
 pub returns : goal.returns
 returns c =
-    let setup = c.args.tracker.now.setup in
+    let setup = c.args.self.now.setup in
     let looked = c.in_ok-looked.ensures.looked in
     let pursuit : pursuit_of setup.plan c.saw.new.self ≡ after_word (setting_in setup) (call_of c.args.walk.now)
     (pursuit_of setup.plan c.args.walk.now) c.in_ok-looked.looked.word =
@@ -42,7 +54,6 @@ returns c =
         wanted = subst (λ p. key_of (call_of c.args.walk.now) (pursuit_of p c.args.walk.now) ≡ Some c.in-Some.key)
             c.requires.way.plan_is
             (sym c.next.ensures ∙ c.in-Some.is);
-        ticket = c.in_ok-looked.looked.ticket;
         visited = looked.0;
         pursuit = pursuit
             ∙ ap (after_word (setting_in setup) (call_of c.args.walk.now) (pursuit_of setup.plan c.args.walk.now))
