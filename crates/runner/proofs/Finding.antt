@@ -1,6 +1,6 @@
 -- A caller's part of a worker: its next look is made.
 use Rattle.std.proofs.Common.{◌≡◌, ℕ, suc, ◌+◌, ◌-◌, ◌<◌, ◌≤◌, ◌^◌, true, List, [], ◌∷◌, ◌++◌, Option, length, map, take, drop, get_or, refl, sym, ap, ◌∙◌, subst, arith}
-use Rattle.std.specs.Prelude.{All, Err, IsErrAnd, MatchResult, Ok, Result, option_map, Some, None, sum_by}
+use Rattle.std.specs.Prelude.{All, option_map, Some, None, sum_by}
 use Rattle.std.specs.Option.{is_some}
 use Rattle.std.proofs.lemmas.List.{length-map, length-drop, take_all, take-append-le}
 use Rattle.std.proofs.lemmas.List.Sums.{sum_by-cons}
@@ -178,12 +178,6 @@ lost-look input setup old new first last walk moved held homes its some on same 
       subst (λ (p : PassData). IsFinder input setup p.view.low p.view.seen p.spare last) (sym on.lost.turn)
           (subst (IsFinder input setup actor old.view.seen old.spare) (sym still) its),
     )
-
--- a refusal that is passed on
-pub held-passed : (result : Result (Unit {0}) Held) (held : Held) (P : Unit {0} → Type 0) (Q : Held → Type 0)
-    → IsErrAnd result (λ other. other ≡ held) → Q held → MatchResult result P Q
-held-passed (Ok done) held P Q h q = absurd h
-held-passed (Err other) held P Q h q = subst Q (sym h) q
 
 -- what is known once a caller has looked
 pub record Looked (input : Contents) (setup : Setup) (old new : PassData) (finder : Finder)

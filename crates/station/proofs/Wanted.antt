@@ -1,6 +1,6 @@
 -- The next look of a walk: which nodes its word names.
 use Rattle.std.proofs.Common.{◌≡◌, ℕ, ◌^◌, ◌<◌, ◌≤◌, sym, subst, arith}
-use Rattle.std.specs.Prelude.{Err, IsErrAnd, MatchResult, Ok, Result, Some}
+use Rattle.std.specs.Prelude.{Some}
 use Rattle.entry_word.specs.declared.visit.Key.{Key}
 use Rattle.directory.specs.Histories.{cell}
 use Rattle.directory.specs.Legal.{IsLegal}
@@ -17,7 +17,6 @@ use Rattle.directory.specs.Histories.{before}
 use Rattle.trail_laws.specs.Within.{HistoryFrontsAreLegal}
 use Rattle.walk.specs.LookLaws.{word-wanted}
 use Rattle.station.specs.TicketLaws.{legal-seen}
-use Rattle.station.specs.declared.turns.Held.{Held}
 
 -- the word of a look names nodes of the plan
 pub word-seen : MarksTell → EntriesTell → HistoryFrontsAreLegal → (setup : Setup) (plan : PlanData)
@@ -38,9 +37,3 @@ word-seen marks entries fronts setup plan old new act ticket word walk key same 
     (sym same)
     (word-wanted marks entries setup.plan setup.homes (before ticket new.view.seen) walk key matched_there small legal
     goes wanted))
-
--- a refusal that is passed on
-pub held-passed : (result : Result ℕ Held) (held : Held) (P : ℕ → Type 0) (Q : Held → Type 0)
-    → IsErrAnd result (λ other. other ≡ held) → Q held → MatchResult result P Q
-held-passed (Ok ticket) held P Q h q = absurd h
-held-passed (Err other) held P Q h q = subst Q (sym h) q

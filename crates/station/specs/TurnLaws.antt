@@ -1,8 +1,10 @@
 -- Short laws of logs of turns that go on, for the crates above: the events of an actor, the turns
--- that were lost and won, events that come one after another, and what passes have logged.
+-- that were lost and won, events that come one after another, and what passes have logged; and a
+-- call that was held, as part of another.
 -- Key laws: `logs-append` (events come into a log one after another in two parts), `logs-at` (each
 -- of them stands in it, behind all that it had).
 use Rattle.std.proofs.Common.{◌≡◌, ℕ, ◌≤◌, ◌==◌, eq-eqb, cond, List, [], ◌∷◌, ◌++◌, length, refl, sym, ap, ◌∙◌, subst, arith, append_assoc, length-append}
+use Rattle.std.specs.Prelude.{Err, IsErrAnd, MatchResult, Ok, Result}
 use Rattle.std.proofs.lemmas.List.{append-nil}
 use Rattle.std.proofs.lemmas.List.Elements.{filter-append}
 use Rattle.entry_word.specs.declared.visit.Act.{Act}
@@ -13,6 +15,7 @@ use Rattle.station.specs.Setup.{Setup, setting_in}
 use Rattle.station.specs.Turns.{HasHadTurn, Logs, LogsAll, event_actor, events_of, losses, lost_in, won_in}
 use Rattle.station.specs.Views.{turn_at}
 use Rattle.station.specs.Visits.{HasLoggedMore, HasVisited}
+use Rattle.station.specs.declared.turns.Held.{Held}
 use Rattle.station.specs.declared.view.NodeTurn.{NodeTurn}
 use Rattle.station.specs.declared.view.TurnEvent.{TurnEvent}
 use Rattle.station.specs.declared.view.TurnEvent.TheVariants.{Won, GivenBack, Lost}
@@ -125,3 +128,10 @@ logged-turn setup old new act ticket told visited =
       logs = (turn.inside, turn.won, (new.view.turns, turn.given_back, refl));
       lost = visited.lost ∙ sym (append-nil old.view.lost);
     }
+
+-- a call ends held where a call that it made was held so
+pub held-passed : {T : Type 0} (result : Result T Held) (held : Held) (P : T → Type 0)
+    (Q : Held → Type 0) → IsErrAnd result (λ other. other ≡ held) → Q held
+    → MatchResult result P Q
+held-passed (Ok done) held P Q h q = absurd h
+held-passed (Err other) held P Q h q = subst Q (sym h) q

@@ -2,7 +2,8 @@ use Rattle.std.proofs.Common.{◌+◌, drop, map, subst, sym, ap, ◌∙◌, ref
 use Rattle.directory.specs.Finds.{answer_of, at_origin}
 use Rattle.machine.specs.Stands.{IsWalking}
 use Rattle.scripts.specs.Scripts.{find_of}
-use Rattle.runner.proofs.Finding.{done-low, held-passed, look-room, looked, looked-on, looked-up, lost-look, some-is, walk-known, walking-of}
+use Rattle.station.specs.TurnLaws.{held-passed}
+use Rattle.runner.proofs.Finding.{done-low, look-room, looked, looked-on, looked-up, lost-look, some-is, walk-known, walking-of}
 use Rattle.runner.proofs.finder.Finder.look.Goals as goal
 use Rattle.directory.specs.ListLaws.{is_some-none}
 

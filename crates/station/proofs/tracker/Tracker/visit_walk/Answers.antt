@@ -7,7 +7,8 @@ use Rattle.region_plan.specs.Settings.{setting_of}
 use Rattle.walk.specs.LookLaws.{cell-wanted}
 use Rattle.walk.specs.Walks.{IsWalkOver, call_of, pursuit_of}
 use Rattle.station.specs.Setup.{setting_in, subs_in}
-use Rattle.station.proofs.Wanted.{held-passed, word-seen}
+use Rattle.station.proofs.Wanted.{word-seen}
+use Rattle.station.specs.TurnLaws.{held-passed}
 use Rattle.station.proofs.tracker.Tracker.visit_walk.Goals as goal
 
 pub visit_look-requires-clause-cell : goal.visit_look-requires-clause-cell
