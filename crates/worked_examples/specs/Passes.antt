@@ -1,6 +1,6 @@
 -- A tracker's passes on the line of four: one subscriber that starts at node 3, and one caller.
--- Key laws: `worked_words`, `wrong_turns`, `wrong_censuses`, `wrong_notes`, `wrong_orders`,
--- `wrong_causes`.
+-- Key laws: `worked_words`, `wrong_passes`, `wrong_turns`, `wrong_censuses`, `wrong_notes`,
+-- `wrong_orders`, `wrong_causes`.
 use Rattle.std.specs.Prelude.{◌≡◌, ℕ, List, [], ◌∷◌}
 use Rattle.entry_word.specs.declared.visit.Act.TheVariants.{Census}
 use Rattle.entry_word.specs.declared.visit.Visit.{Visit}

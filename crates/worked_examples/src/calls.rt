@@ -68,7 +68,7 @@ pub fn wrong_answers()
 
 /// A call that made a visit with ticket 4: it has used one of its spare, and is in no node; what it
 /// has seen is legal; and it has logged the turns of one visit, at that visit's node, and lost just
-/// those that they tell.
+/// those that they tell. A call that made none has logged none.
 pub fn wrong_additions()
     ensures spare { (setup : Setup) (old new : PassData) → HasAdded setup old (4 ∷ []) new
         → new.spare ≡ old.spare → ⊥ }
@@ -106,6 +106,8 @@ pub fn wrong_additions()
     ensures logs { (setup : Setup) (old new : PassData) (added : HasAdded setup old (4 ∷ []) new)
         → LogsAll old.view.turns (flat_map (turns_taken (actor_of old)) added.turns)
         new.view.turns }
+    ensures unlogged { (setup : Setup) (old new : PassData) → HasAdded setup old [] new
+        → new.view.turns ≡ old.view.turns }
 {}
 
 /// A find that lost a turn has it as its last lost turn, at the node of its next look and to

@@ -43,7 +43,9 @@ pub use moments::told_moments;
 pub use moves::{worked_moves, wrong_moves};
 pub use orders::worked_orders;
 pub use others::worked_others;
-pub use passes::{worked_bits, wrong_censuses, wrong_notes, wrong_stays, wrong_turns};
+pub use passes::{
+    worked_bits, wrong_censuses, wrong_notes, wrong_passes, wrong_stays, wrong_turns,
+};
 pub use plans::{worked_levels, worked_measures, wrong_matches, wrong_overlaps};
 pub use puts::worked_puts;
 pub use rules::{told_tickets, wrong_logs, wrong_moments, wrong_views};

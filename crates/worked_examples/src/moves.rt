@@ -48,7 +48,7 @@ pub fn worked_moves()
 {}
 
 /// A move doesn't keep its handset's number, doesn't end with a visit due, and leaves a handset
-/// that goes with its pass.
+/// that goes with its pass, which still has the visits of its own that it had before.
 pub fn wrong_moves()
     ensures number { (setup : Setup) (old new : PassData) (handset after : HandsetData) (to : ℕ)
         (moved : Moved) → HasMoved setup old handset to moved new after
@@ -70,4 +70,7 @@ pub fn wrong_moves()
         (moved : Moved) (made : HasMoved setup old handset to moved new after)
         → StandsForSteps (setting_in setup) handset made.steps
         (length (puts_to (actor_of old) old.view.seen)) }
+    ensures forgotten { (setup : Setup) (old new : PassData) (handset after : HandsetData)
+        (to : ℕ) (moved : Moved) → HasMoved setup old handset to moved new after
+        → HasPass old 0 (count_by 0 0 ∷ []) → own 0 new.view.seen ≡ [] → ⊥ }
 {}

@@ -1,11 +1,11 @@
-//! What a pass doesn't do when it loses a turn, stays in a node, takes a census or hears a note:
-//! each is wrong in one part.
+//! What a fresh pass isn't, and what a pass doesn't do when it loses a turn, stays in a node, takes
+//! a census or hears a note: each is wrong in one part.
 ghost use Rattle.std.specs.Prelude.{◌≡◌, ◌++◌, ◌<◌, [], ◌∷◌, ℕ, List, Some, None, suc, length};
 ghost use Rattle.directory.specs.Legal.{IsLegal};
 ghost use Rattle.entry_word.specs.declared.visit.Act.TheVariants.{Census};
-ghost use Rattle.station.specs.Passes.{IsStayOf, NoteData, PassData, actor_of};
+ghost use Rattle.station.specs.Passes.{AreFresh, IsFreshPass, IsStayOf, NoteData, PassData, TrackerData, actor_of};
 ghost use Rattle.station.specs.Setup.{setting_in, subs_in};
-ghost use Rattle.station.specs.Turns.{lock_in};
+ghost use Rattle.station.specs.Turns.{events_of, lock_in};
 ghost use Rattle.station.specs.Views.{turn_at};
 ghost use Rattle.station.specs.Visits.{HasHeard, HasLost, HasVisited, IsCensus};
 ghost use Rattle.station.specs.declared.turns.Stay.{Stay};
@@ -13,9 +13,26 @@ ghost use Rattle.station.specs.declared.view.TurnEvent.{TurnEvent};
 ghost use Rattle.station.specs.declared.view.TurnEvent.TheVariants.{GivenBack, Lost, Won};
 ghost use Rattle.worked_examples.specs.Passes.{HasNote, HasPass, count_by, line_setup};
 
+/// A fresh pass has room for no visit, has seen none, is in no node, and has logged and lost no
+/// turn; and it is that of the actor at whose place it stands.
+pub fn wrong_passes()
+    ensures room { (tracker : TrackerData) (actor : ℕ) (pass : PassData)
+        → IsFreshPass tracker actor pass → pass.spare ≡ 1 → ⊥ }
+    ensures seen { (tracker : TrackerData) (actor : ℕ) (pass : PassData)
+        → IsFreshPass tracker actor pass → pass.view.seen ≡ count_by 0 0 ∷ [] → ⊥ }
+    ensures inside { (tracker : TrackerData) (actor : ℕ) (pass : PassData)
+        → IsFreshPass tracker actor pass → pass.view.inside ≡ Some 2 → ⊥ }
+    ensures turns { (tracker : TrackerData) (actor : ℕ) (pass : PassData)
+        → IsFreshPass tracker actor pass → pass.view.turns ≡ Won 0 2 ∷ [] → ⊥ }
+    ensures lost { (tracker : TrackerData) (actor : ℕ) (pass : PassData)
+        → IsFreshPass tracker actor pass → pass.view.lost ≡ turn_at 2 6 ∷ [] → ⊥ }
+    ensures order { (tracker : TrackerData) (one other : PassData)
+        → AreFresh tracker (one ∷ other ∷ []) → actor_of other ≡ 0 → ⊥ }
+{}
+
 /// A turn that is lost is one at the node that was asked for, to another actor whose turn it is by
 /// the log, and the pass has it as its last lost turn; nothing else changes. A visit that is made
-/// has had a turn.
+/// has had a turn. Nothing else of the pass's own is logged.
 pub fn wrong_turns()
     ensures elsewhere { (old new : PassData)
         → HasLost old 2 (record { node = 1; by = 5 }) new → ⊥ }
@@ -39,6 +56,12 @@ pub fn wrong_turns()
         → new.view.turns ≡ earlier ++ Lost (actor_of old) 2 6 ∷ [] → lock_in earlier 2 ≡ 6 }
     ensures seen { (old new : PassData) → HasPass old 1 [] → HasPass new 1 (count_by 0 0 ∷ [])
         → HasLost old 2 (record { node = 2; by = 5 }) new → ⊥ }
+    ensures own_lost { (old new : PassData) → HasLost old 2 (record { node = 2; by = 5 }) new
+        → events_of (actor_of old) new.view.turns
+        ≡ events_of (actor_of old) old.view.turns ++ Lost (actor_of old) 2 6 ∷ [] }
+    ensures own_visited { (old new : PassData) → HasVisited old (Census 2) 0 new
+        → events_of (actor_of old) new.view.turns ≡ events_of (actor_of old) old.view.turns
+        ++ Won (actor_of old) 2 ∷ GivenBack (actor_of old) 2 ∷ [] }
 {}
 
 /// A stay is its pass's own, whose pass is inside the node of the stay, one of the plan's.
