@@ -5,3 +5,4 @@ mod Finishing
 mod Sums
 mod Playing
 mod Starting
+mod Turning

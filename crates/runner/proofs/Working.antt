@@ -1,16 +1,15 @@
 -- A worker after one try, and a new one.
-use Rattle.std.proofs.Common.{◌≡◌, ◌≢◌, Bool, ℕ, suc, ◌+◌, ◌≤◌, ◌^◌, false, true, List, [], ◌∷◌, ◌++◌, length, map, refl, sym, ap, ◌∙◌, subst, arith, append_assoc, length-append}
-use Rattle.std.specs.Prelude.{◌↔◌, All, None, Result, Ok, Err, OnOk, max}
+use Rattle.std.proofs.Common.{◌≡◌, ◌≢◌, Bool, ℕ, suc, ◌+◌, ◌≤◌, ◌^◌, false, true, [], ◌∷◌, ◌++◌, length, refl, sym, ap, ◌∙◌, subst, arith, append_assoc, length-append}
+use Rattle.std.specs.Prelude.{◌↔◌, None, Some, Result, Ok, Err, OnOk, max}
 use Rattle.std.specs.Result.{is_err}
 use Rattle.std.specs.declared.alloc.AllocError.{AllocError}
 use Rattle.std.proofs.Math.Nat.{le-max_right, max-le}
-use Rattle.std.proofs.lemmas.List.{append-nil, length_push, map-append}
-use Rattle.std.proofs.lemmas.List.Elements.{All-append, All-cons, All-nil, All-weaker}
+use Rattle.std.proofs.lemmas.List.{append-nil, length_push}
 use Rattle.entry_word.specs.declared.visit.Visit.{Visit}
-use Rattle.directory.specs.Histories.{History, IsFront, own}
+use Rattle.directory.specs.Histories.{IsFront, own}
 use Rattle.directory.specs.Keys.{act_node}
 use Rattle.directory.specs.HistoryLaws.{front-append, front-itself, front-through}
-use Rattle.directory.specs.Settings.{Setting}
+use Rattle.directory.specs.Orders.{next}
 use Rattle.directory.specs.Statements.{CallersKept}
 use Rattle.distances.specs.Table.{DistanceTable}
 use Rattle.net_reader.specs.Input.{Contents}
@@ -19,24 +18,18 @@ use Rattle.scripts.specs.Scripts.{scripts_of}
 use Rattle.station.specs.Passes.{IsPassOf, PassData, TrackerData, actor_of}
 use Rattle.station.specs.Plays.{visit_by}
 use Rattle.station.specs.Setup.{Setup, setting_in}
-use Rattle.station.specs.TurnLaws.{logged-more, logged-none, logged-turn, lost-append, won-append}
-use Rattle.station.specs.Turns.{event_actor, lost_in, won_in}
-use Rattle.station.specs.Visits.{HasLost, HasVisited, IsSamePass, own_nodes}
-use Rattle.station.specs.Views.{turn_at}
+use Rattle.station.specs.TurnLaws.{logged-more, logged-none, logged-turn, lost-append}
+use Rattle.station.specs.Turns.{lost_in}
+use Rattle.station.specs.Visits.{HasLost, HasVisited, IsSamePass}
 use Rattle.station.specs.declared.turns.Held.{Held}
-use Rattle.station.specs.declared.view.NodeTurn.{NodeTurn}
-use Rattle.station.specs.declared.view.TurnEvent.{TurnEvent}
 use Rattle.station.specs.declared.view.TurnEvent.TheVariants.{GivenBack, Lost, Won}
 use Rattle.runner.specs.Playing.{HasLostNext, HasMadeNext, IsPlayedBy, next_of}
 use Rattle.runner.specs.PlayLaws.{own-next, own-none, played-next}
 use Rattle.runner.specs.Roles.{IsPrepared, IsRole, IsRoleAt, IsSetFor, TriesVisit}
-use Rattle.runner.specs.Workers.{HasGoneOn, IsWorkerOf, MayPlay, MayServe, MayTry, WasTried}
+use Rattle.runner.specs.Workers.{AreLostBefore, HasGoneOn, HaveTurns, IsWorkerOf, MayPlay, MayServe, MayTry}
+use Rattle.runner.proofs.Turning.{first_of, lost-none, next-first, turn-won, turns-append}
 use Rattle.runner.specs.declared.role.Role.{Role}
 use Rattle.runner.specs.declared.worker.Worker.{Worker}
-
--- the visits of a pass's actor that it has seen
-abbrev own-of : PassData → History
-own-of pass = own (actor_of pass) pass.view.seen
 
 -- a visit is made
 pub gone-made : CallersKept → (input : Contents) (tracker : TrackerData) (old new : Worker)
@@ -48,8 +41,7 @@ gone-made kept input tracker old new its made role count =
     let actor : actor_of new.pass ≡ actor_of old.pass = visited.same.actor in
     let mine = own-next old.pass new.pass made.act made.ticket visited in
     let visit : Visit = visit_by old.pass.view made.act in
-    let node = act_node (setting_in tracker.setup) made.act in
-    let by_it = λ (event : TurnEvent). event_actor event ≡ actor_of old.pass in (
+    let node = act_node (setting_in tracker.setup) made.act in (
       record {
         worker = record {
           of = record {
@@ -76,15 +68,13 @@ gone-made kept input tracker old new its made role count =
             (subst (IsFront visited.earlier) (sym visited.seen) (front-append visited.earlier (visit ∷ [])));
         same = visited.same;
         spare = omega (arith, count, visited.spare);
+        visits = visit ∷ [];
+        made = mine;
         events = Won (actor_of old.pass) node ∷ GivenBack (actor_of old.pass) node ∷ [];
-        mine = All-cons by_it (Won (actor_of old.pass) node) (GivenBack (actor_of old.pass) node ∷ []) refl
-            (All-cons by_it (GivenBack (actor_of old.pass) node) [] refl (All-nil by_it));
+        turns = turn-won (setting_in tracker.setup) (actor_of old.pass)
+            (next_of input tracker.setup new.pass.view) visit;
         logged = logged-turn tracker.setup old.pass new.pass made.act made.ticket its.of.setup visited;
-        won = ap (map (λ (v : Visit). act_node (setting_in tracker.setup) v.act)) mine
-            ∙ map-append (λ (v : Visit). act_node (setting_in tracker.setup) v.act)
-            (own-of old.pass) (visit ∷ []);
         count = refl;
-        tried = All-nil (WasTried input tracker.setup (actor_of old.pass) old.pass.view.seen new.pass.view.seen);
       },
       omega (arith, count),
     )
@@ -99,9 +89,9 @@ gone-held input tracker old new held its missed role count =
     let lost : HasLost old.pass place held new.pass = missed.lost in
     let turn = lost.turn in
     let event = Lost (actor_of old.pass) place (suc held.by) in
-    let by_it = λ (e : TurnEvent). event_actor e ≡ actor_of old.pass in
     let seen : new.pass.view.seen ≡ old.pass.view.seen = ap (λ (p : PassData). p.view.seen) turn in
-    let tried = WasTried input tracker.setup (actor_of old.pass) old.pass.view.seen new.pass.view.seen in
+    let left : next_of input tracker.setup new.pass.view ≡ Some missed.visit =
+    ap (λ (p : PassData). next_of input tracker.setup p.view) turn ∙ missed.is_next in
     let spare : new.pass.spare ≡ old.pass.spare = ap (λ (p : PassData). p.spare) turn in (
       record {
         worker = record {
@@ -119,23 +109,16 @@ gone-held input tracker old new held its missed role count =
         same = subst (IsSamePass old.pass) (sym turn)
             (record { table = refl; seat = refl; setup = refl; actor = refl });
         spare = omega (arith, spare, count);
+        visits = [];
+        made = ap (own (actor_of old.pass)) seen ∙ sym (append-nil (own (actor_of old.pass) old.pass.view.seen));
         events = event ∷ [];
-        mine = All-cons by_it event [] refl (All-nil by_it);
+        turns = subst (λ v. AreLostBefore (setting_in tracker.setup) (actor_of old.pass) v (event ∷ [])) (sym left)
+            (suc held.by ∷ [], refl);
         logged = record {
           logs = (new.pass.view.turns, lost.logs, refl);
           lost = ap (λ (p : PassData). p.view.lost) turn;
         };
-        won = ap (own_nodes (setting_in tracker.setup) (actor_of old.pass)) seen ∙ sym (append-nil _);
         count = refl;
-        tried = All-cons tried (turn_at place (suc held.by)) []
-            (record {
-              seen = old.pass.view.seen;
-              since = front-itself old.pass.view.seen;
-              until = subst (IsFront old.pass.view.seen) (sym seen) (front-itself old.pass.view.seen);
-              visit = missed.visit;
-              is_next = missed.is_next;
-              at = refl;
-            }) (All-nil tried);
       },
       count,
     )
@@ -204,82 +187,65 @@ role-gone input tracker old role its prepared = record {
   begins = front-itself old.pass.view.seen;
   same = record { table = refl; seat = refl; setup = refl; actor = refl };
   spare = refl;
+  visits = [];
+  made = sym (append-nil (own (actor_of old.pass) old.pass.view.seen));
   events = [];
-  mine = All-nil (λ (event : TurnEvent). event_actor event ≡ actor_of old.pass);
+  turns = lost-none (setting_in tracker.setup) (actor_of old.pass) (next_of input tracker.setup old.pass.view);
   logged = logged-none old.pass;
-  won = sym (append-nil _);
   count = refl;
-  tried = All-nil (WasTried input tracker.setup (actor_of old.pass) old.pass.view.seen old.pass.view.seen);
 }
 
--- a turn that was lost between two histories was lost between longer ones
-was-longer : (input : Contents) (setup : Setup) (actor : ℕ) (zeroth first last longer : History) (turn : NodeTurn)
-    → IsFront zeroth first → IsFront last longer → WasTried input setup actor first last turn
-    → WasTried input setup actor zeroth longer turn
-was-longer input setup actor zeroth first last longer turn before behind was = record {
-  seen = was.seen;
-  since = front-through zeroth first was.seen before was.since;
-  until = front-through was.seen last longer was.until behind;
-  visit = was.visit;
-  is_next = was.is_next;
-  at = was.at;
-}
-
--- turns that are won for some visits, and then for more
-won-through : (setting : Setting) (actor other : ℕ) (old mid new : History) (xs ys : List TurnEvent) → other ≡ actor
-    → own_nodes setting actor mid ≡ own_nodes setting actor old ++ won_in xs
-    → own_nodes setting other new ≡ own_nodes setting other mid ++ won_in ys
-    → own_nodes setting actor new ≡ own_nodes setting actor old ++ won_in (xs ++ ys)
-won-through setting actor other old mid new xs ys same one two =
-    subst (λ a. own_nodes setting a new ≡ own_nodes setting a mid ++ won_in ys) same two
-    ∙ (ap (λ nodes. nodes ++ won_in ys) one
-    ∙ (append_assoc (own_nodes setting actor old) (won_in xs) (won_in ys)
-    ∙ ap (λ nodes. own_nodes setting actor old ++ nodes) (sym (won-append xs ys))))
+-- the turns of a worker that has gone on, and on
+turns-through : CallersKept → (input : Contents) (tracker : TrackerData) (old mid new : Worker) (held more : ℕ)
+    → (one : HasGoneOn input tracker old mid held) → (two : HasGoneOn input tracker mid new more)
+    → HaveTurns (setting_in tracker.setup) (actor_of old.pass) (next_of input tracker.setup new.pass.view)
+    (one.visits ++ two.visits) (one.events ++ two.events)
+turns-through kept input tracker old mid new held more one two =
+    let setting = setting_in tracker.setup in
+    let after = next_of input tracker.setup new.pass.view in
+    let actor = actor_of old.pass in
+    let mine : actor_of mid.pass ≡ actor = one.same.actor in
+    let first : next_of input tracker.setup mid.pass.view ≡ first_of two.visits after =
+    next-first kept setting (scripts_of input) (actor_of mid.pass) mid.pass.view.seen new.pass.view.seen two.visits
+    two.begins two.made
+    (subst (λ a. IsPlayedBy setting (scripts_of input) a new.pass.view.seen) two.same.actor two.worker.played)
+    ∙ ap (λ a. first_of two.visits (next setting (scripts_of input) new.pass.view.seen a)) (sym two.same.actor) in
+    turns-append setting actor after one.visits two.visits one.events two.events
+    (subst (λ v. HaveTurns setting actor v one.visits one.events) first one.turns)
+    (subst (λ a. HaveTurns setting a after two.visits two.events) mine two.turns)
 
 -- a worker that has gone on, and on
-pub gone-on : (input : Contents) (tracker : TrackerData) (old mid new : Worker) (held more all : ℕ)
+pub gone-on : CallersKept → (input : Contents) (tracker : TrackerData) (old mid new : Worker) (held more all : ℕ)
     → HasGoneOn input tracker old mid held → HasGoneOn input tracker mid new more → all ≡ held + more
     → HasGoneOn input tracker old new all
-gone-on input tracker old mid new held more all one two sum = record {
-  worker = two.worker;
-  begins = front-through old.pass.view.seen mid.pass.view.seen new.pass.view.seen one.begins two.begins;
-  same = record {
-    table = two.same.table ∙ one.same.table;
-    seat = two.same.seat ∙ one.same.seat;
-    setup = two.same.setup ∙ one.same.setup;
-    actor = two.same.actor ∙ one.same.actor;
-  };
-  spare = omega (arith, one.spare, two.spare);
-  events = one.events ++ two.events;
-  mine = All-append (λ (event : TurnEvent). event_actor event ≡ actor_of old.pass) one.events two.events one.mine
-      (subst (λ a. All (λ (event : TurnEvent). event_actor event ≡ a) two.events) one.same.actor two.mine);
-  logged = logged-more old.pass mid.pass new.pass one.events two.events one.logged two.logged;
-  won = won-through (setting_in tracker.setup) (actor_of old.pass) (actor_of mid.pass) old.pass.view.seen
-      mid.pass.view.seen new.pass.view.seen one.events two.events one.same.actor one.won two.won;
-  count = omega (
-    arith,
-    ap length (lost-append one.events two.events),
-    length-append (lost_in one.events) (lost_in two.events),
-    one.count,
-    two.count,
-    sum,
-  );
-  tried = subst (All (WasTried input tracker.setup (actor_of old.pass) old.pass.view.seen new.pass.view.seen))
-      (sym (lost-append one.events two.events))
-      (All-append (WasTried input tracker.setup (actor_of old.pass) old.pass.view.seen new.pass.view.seen)
-      (lost_in one.events) (lost_in two.events)
-      (All-weaker (WasTried input tracker.setup (actor_of old.pass) old.pass.view.seen mid.pass.view.seen)
-      (WasTried input tracker.setup (actor_of old.pass) old.pass.view.seen new.pass.view.seen)
-      (λ turn was. was-longer input tracker.setup (actor_of old.pass) old.pass.view.seen old.pass.view.seen
-      mid.pass.view.seen new.pass.view.seen turn (front-itself old.pass.view.seen) two.begins was)
-      (lost_in one.events) one.tried)
-      (All-weaker (WasTried input tracker.setup (actor_of mid.pass) mid.pass.view.seen new.pass.view.seen)
-      (WasTried input tracker.setup (actor_of old.pass) old.pass.view.seen new.pass.view.seen)
-      (λ turn was. was-longer input tracker.setup (actor_of old.pass) old.pass.view.seen mid.pass.view.seen
-      new.pass.view.seen new.pass.view.seen turn one.begins (front-itself new.pass.view.seen)
-      (subst (λ a. WasTried input tracker.setup a mid.pass.view.seen new.pass.view.seen turn) one.same.actor was))
-      (lost_in two.events) two.tried));
-}
+gone-on kept input tracker old mid new held more all one two sum =
+    let actor = actor_of old.pass in
+    record {
+      worker = two.worker;
+      begins = front-through old.pass.view.seen mid.pass.view.seen new.pass.view.seen one.begins two.begins;
+      same = record {
+        table = two.same.table ∙ one.same.table;
+        seat = two.same.seat ∙ one.same.seat;
+        setup = two.same.setup ∙ one.same.setup;
+        actor = two.same.actor ∙ one.same.actor;
+      };
+      spare = omega (arith, one.spare, two.spare);
+      visits = one.visits ++ two.visits;
+      made = subst (λ a. own a new.pass.view.seen ≡ own a mid.pass.view.seen ++ two.visits) one.same.actor two.made
+          ∙ (ap (λ mine. mine ++ two.visits) one.made
+          ∙ append_assoc (own actor old.pass.view.seen) one.visits two.visits);
+      events = one.events ++ two.events;
+      turns = turns-through kept input tracker old mid new held more one two;
+      logged = logged-more old.pass mid.pass new.pass one.events two.events one.logged two.logged;
+      count = omega (
+        arith,
+        ap length (lost-append one.events two.events),
+        length-append (lost_in one.events) (lost_in two.events),
+        one.count,
+        two.count,
+        sum,
+      );
+    }
 
 -- what was tried, by its result
 pub tries-made : (input : Contents) (setup : Setup) (old new : PassData) (result : Result (Unit {0}) Held)
@@ -297,9 +263,18 @@ tries-lost input setup old new (Err held) h tries = (held, tries)
 pub prepared-gone : (input : Contents) (tracker : TrackerData) (old mid : Worker) (role : Role) (held : ℕ)
     → HasGoneOn input tracker old mid held → IsRole input tracker.setup mid.pass.view mid.pass.spare role
     → HasGoneOn input tracker old (record mid { role = role }) held
-prepared-gone input tracker old mid role held gone prepared =
-    gone-on input tracker old mid (record mid { role = role }) held 0 held gone
-    (role-gone input tracker mid role gone.worker prepared) (omega arith)
+prepared-gone input tracker old mid role held gone prepared = record {
+  worker = (role-gone input tracker mid role gone.worker prepared).worker;
+  begins = gone.begins;
+  same = gone.same;
+  spare = gone.spare;
+  visits = gone.visits;
+  made = gone.made;
+  events = gone.events;
+  turns = gone.turns;
+  logged = gone.logged;
+  count = gone.count;
+}
 
 -- what preparing tells
 abbrev pub Prepares : Contents → Setup → PassData → Role → Bool → Type 0

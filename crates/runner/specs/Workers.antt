@@ -1,24 +1,25 @@
 -- A worker serves an actor of an input on a tracker: each visit that its pass has made was the
 -- actor's next one, in the history before its ticket, and the pass has room for all that are left.
--- A play adds such visits at the end and nothing else, and wins one turn for each; each turn that
--- it loses is counted, and is lost at the node of the visit that was then the actor's next one.
+-- A play adds such visits at the end and nothing else. It wins one turn for each; each turn that it
+-- loses is counted, and is lost at the node of the very visit that comes next, made by this play or
+-- not.
 -- Key laws: `Worker::new` (a fresh pass of an actor), `Worker::play` (by its clauses `played` and
 -- `closed`).
-use Rattle.std.specs.Prelude.{◌≡◌, ◌≢◌, ℕ, ◌+◌, ◌^◌, ◌<◌, ◌≤◌, List, [], ◌++◌, All, Some, None, length}
+use Rattle.std.specs.Prelude.{◌≡◌, ◌≢◌, ℕ, ◌+◌, ◌^◌, ◌<◌, ◌≤◌, List, [], ◌∷◌, ◌++◌, Option, Some, None, length, map}
 use Rattle.distances.specs.Table.{DistanceTable}
 use Rattle.entry_word.specs.declared.visit.Visit.{Visit}
-use Rattle.directory.specs.Histories.{History, IsFront, own, puts_to}
+use Rattle.directory.specs.Histories.{IsFront, own, puts_to}
 use Rattle.directory.specs.Keys.{act_node}
-use Rattle.directory.specs.Orders.{next}
+use Rattle.directory.specs.Settings.{Setting}
 use Rattle.net_reader.specs.Input.{Contents}
 use Rattle.region_plan.specs.Plan.{PlanData}
 use Rattle.scripts.specs.Scripts.{scripts_of}
 use Rattle.station.specs.Passes.{IsPassOf, PassData, TrackerData, actor_of, fresh_view}
 use Rattle.station.specs.Setup.{Setup, setting_in}
-use Rattle.station.specs.Turns.{event_actor, lost_in, won_in}
-use Rattle.station.specs.Visits.{HasLoggedMore, IsSamePass, own_nodes}
-use Rattle.station.specs.declared.view.NodeTurn.{NodeTurn}
+use Rattle.station.specs.Turns.{lost_in}
+use Rattle.station.specs.Visits.{HasLoggedMore, IsSamePass}
 use Rattle.station.specs.declared.view.TurnEvent.{TurnEvent}
+use Rattle.station.specs.declared.view.TurnEvent.TheVariants.{GivenBack, Lost, Won}
 use Rattle.runner.specs.Playing.{IsPlayedBy, next_of}
 use Rattle.runner.specs.Roles.{HasBegunNone, IsPrepared, IsRole, IsSetFor}
 use Rattle.runner.specs.declared.worker.Attempt.{Attempt}
@@ -68,35 +69,47 @@ pub record MayTry (input : Contents) (tracker : TrackerData) (plan : PlanData)
   pub prepared : IsPrepared input tracker.setup worker.pass.view worker.role
   pub left : next_of input tracker.setup worker.pass.view ≢ None
 
--- a turn was lost at the node of the visit that was then an actor's next one, between two histories
--- that it had seen
-pub record WasTried (input : Contents) (setup : Setup) (actor : ℕ) (first last : History)
-    (turn : NodeTurn) : Type 0 where
-  pub seen : History
-  pub since : IsFront first seen
-  pub until : IsFront seen last
-  pub visit : Visit
-  pub is_next : next (setting_in setup) (scripts_of input) seen actor ≡ Some visit
-  pub at : act_node (setting_in setup) visit.act ≡ turn.node
+-- these are turns that an actor lost at a node, or none, whatever lock words it read there
+abbrev pub AreLostAt : ℕ → ℕ → List TurnEvent → Type 0
+AreLostAt actor node events =
+    (words : List ℕ) × (events ≡ map (λ word. Lost actor node word) words)
+
+-- it lost them at the node of its next visit; where it has no next visit, there are none
+abbrev pub AreLostBefore : Setting → ℕ → Option Visit → List TurnEvent → Type 0
+AreLostBefore setting actor None events = events ≡ []
+AreLostBefore setting actor (Some visit) events =
+    AreLostAt actor (act_node setting visit.act) events
+
+-- the turns of an actor at these visits, in their order: before each it may have lost turns, at the
+-- visit's node and nowhere else, and then it has won one there and given it back; and behind them
+-- all it may have lost turns at the node of the visit that is next
+abbrev pub HaveTurns : Setting → ℕ → Option Visit → List Visit → List TurnEvent → Type 0
+HaveTurns setting actor next [] events = AreLostBefore setting actor next events
+HaveTurns setting actor next (visit ∷ later) events =
+    (missed : List TurnEvent) × (rest : List TurnEvent)
+    × AreLostAt actor (act_node setting visit.act) missed
+    × (events ≡ missed ++ Won actor (act_node setting visit.act)
+    ∷ GivenBack actor (act_node setting visit.act) ∷ rest)
+    × HaveTurns setting actor next later rest
 
 -- a worker has gone on: it serves its actor as before, and what its pass has seen goes on from what
 -- it had seen; each visit that it has made has used one of its spare; and all that it has logged
--- more are turns of its actor's: one won at the node of each of these visits, in their order, and
--- so many lost, each at the node of the visit that was then the next one
+-- more are the turns of its actor at the visits that it has made, and at the one that is next; so
+-- many of them were lost
 pub record HasGoneOn (input : Contents) (tracker : TrackerData) (old new : Worker)
     (held : ℕ) : Type 0 where
   pub worker : IsWorkerOf input tracker new
   pub begins : IsFront old.pass.view.seen new.pass.view.seen
   pub same : IsSamePass old.pass new.pass
   pub spare : new.pass.spare + new.made ≡ old.pass.spare + old.made
+  pub visits : List Visit
+  pub made : own (actor_of old.pass) new.pass.view.seen
+      ≡ own (actor_of old.pass) old.pass.view.seen ++ visits
   pub events : List TurnEvent
-  pub mine : All (λ event. event_actor event ≡ actor_of old.pass) events
+  pub turns : HaveTurns (setting_in tracker.setup) (actor_of old.pass)
+      (next_of input tracker.setup new.pass.view) visits events
   pub logged : HasLoggedMore old.pass events new.pass
-  pub won : own_nodes (setting_in tracker.setup) (actor_of old.pass) new.pass.view.seen
-      ≡ own_nodes (setting_in tracker.setup) (actor_of old.pass) old.pass.view.seen ++ won_in events
   pub count : length (lost_in events) ≡ held
-  pub tried : All (WasTried input tracker.setup (actor_of old.pass) old.pass.view.seen
-      new.pass.view.seen) (lost_in events)
 
 -- what came of one try: a visit is made, or a turn is lost, or nothing has changed
 abbrev pub HasAttempted : Contents → TrackerData → Worker → Worker → Attempt → Type 0

@@ -105,6 +105,7 @@ impl Worker {
         ensures closed { G.is_open gate.now ≡ true → KeptNone result }
         ensures shut { G.is_shut gate.now ≡ true → HasStayed self.old self.new result }
     {
+        lines_grow();
         let mut held = 0;
         let mut kept = 0;
         'tries: while self.role.prepare(plan, distances) {

@@ -1,6 +1,5 @@
 //! Workers, plays and runs that aren't any: each is wrong in one part.
-ghost use Rattle.std.specs.Prelude.{◌≡◌, ◌+◌, ◌^◌, ◌<◌, [], ◌∷◌, ℕ, List, None, Some, suc};
-ghost use Rattle.directory.specs.Histories.{History};
+ghost use Rattle.std.specs.Prelude.{◌≡◌, ◌+◌, ◌^◌, ◌<◌, [], ◌∷◌, ℕ, List, None, Some, suc, take};
 ghost use Rattle.directory.specs.Legal.{IsLegal};
 ghost use Rattle.directory.specs.Outcomes.{Outcome};
 ghost use Rattle.distances.specs.Table.{DistanceTable};
@@ -12,13 +11,14 @@ ghost use Rattle.region_plan.specs.Plan.{PlanData};
 ghost use Rattle.scripts.specs.Scripts.{scripts_of};
 ghost use Rattle.station.specs.Passes.{IsPassOf, PassData, TrackerData};
 ghost use Rattle.station.specs.Setup.{Setup, setting_in, subs_in};
-ghost use Rattle.station.specs.declared.view.NodeTurn.{NodeTurn};
-ghost use Rattle.station.specs.declared.view.TurnEvent.TheVariants.{GivenBack, Won};
-ghost use Rattle.runner.specs.Examples.{HasSeen, count_by, idle_input, line_setup, switching_input};
+ghost use Rattle.station.specs.Turns.{event_actor};
+ghost use Rattle.station.specs.declared.view.TurnEvent.{TurnEvent};
+ghost use Rattle.station.specs.declared.view.TurnEvent.TheVariants.{GivenBack, Lost, Won};
+ghost use Rattle.runner.specs.Examples.{HasSeen, count_by, idle_input, line_setup, moving_input, moving_visits, switching_input};
 ghost use Rattle.runner.specs.Playing.{next_of};
 ghost use Rattle.runner.specs.Roles.{IsSetFor};
 ghost use Rattle.runner.specs.Runs.{AreFreshWorkers, AreWorkersOf, HasFinished, IsOutcomeOfRun};
-ghost use Rattle.runner.specs.Workers.{HasPlayed, HasStayed, IsWorkerOf, KeptNone, WasTried};
+ghost use Rattle.runner.specs.Workers.{HasPlayed, HasStayed, IsWorkerOf, KeptNone};
 ghost use Rattle.runner.specs.declared.finder.Finder.{Finder};
 ghost use Rattle.runner.specs.declared.mover.Mover.{Mover};
 ghost use Rattle.runner.specs.declared.role.Role.TheVariants as roles;
@@ -58,10 +58,11 @@ pub fn wrong_workers()
 
 /// A play goes on from what its pass had seen, by the same actor at the same seat. It is finished
 /// where no visit is left, with no more turns lost than it had tries, and it stops where one is
-/// left and its tries are used up, by the turns that it lost and the gates that were closed. It
-/// wins a turn for each visit that it makes and no other, and each turn is lost at the node of the
-/// visit that was then the actor's next one. At a shut gate it loses no turn, and its pass and its
-/// count stay as they are.
+/// left and its tries are used up, by the turns that it lost and the gates that were closed. For
+/// each visit that it makes it wins a turn at the visit's node and gives it back, and it wins no
+/// other; and each turn is lost at the node of the visit that comes next in the order of these
+/// visits, neither sooner nor later. At a shut gate it loses no turn, and its pass and its count
+/// stay as they are.
 pub fn wrong_plays()
     ensures finished { (input : Contents) (tracker : TrackerData) (tries : ℕ) (old new : Worker)
         (visit : Visit) → HasPlayed input tracker tries old new Finished
@@ -82,8 +83,9 @@ pub fn wrong_plays()
         → (has : HasPlayed input tracker tries old new played)
         → has.gone.events ≡ Won 0 2 ∷ GivenBack 0 2 ∷ [] → ⊥ }
     ensures stranger { (input : Contents) (tracker : TrackerData) (tries : ℕ) (old new : Worker)
-        (played : Played) → HasSeen old 0 [] → (has : HasPlayed input tracker tries old new played)
-        → has.gone.events ≡ Won 1 2 ∷ [] → ⊥ }
+        (played : Played) (event : TurnEvent) (events : List TurnEvent) → HasSeen old 0 []
+        → (has : HasPlayed input tracker tries old new played)
+        → has.gone.events ≡ event ∷ events → event_actor event ≡ 1 → ⊥ }
     ensures unlogged { (input : Contents) (tracker : TrackerData) (tries : ℕ) (old new : Worker)
         (played : Played) → new.pass.view.turns ≡ []
         → (has : HasPlayed input tracker tries old new played)
@@ -99,12 +101,32 @@ pub fn wrong_plays()
         → tracker.setup ≡ line_setup → HasSeen old 0 [] → HasSeen new 0 []
         → old.pass.view.lost ≡ [] → new.pass.view.lost ≡ record { node = 2; word = 6 } ∷ []
         → HasPlayed switching_input tracker tries old new played → ⊥ }
-    ensures sooner { (input : Contents) (setup : Setup) (actor : ℕ) (last : History)
-        (turn : NodeTurn) → (was : WasTried input setup actor (count_by 0 ∷ []) last turn)
-        → was.seen ≡ [] → ⊥ }
-    ensures later { (input : Contents) (setup : Setup) (actor : ℕ) (first : History)
-        (turn : NodeTurn) → (was : WasTried input setup actor first [] turn)
-        → was.seen ≡ count_by 0 ∷ [] → ⊥ }
+    ensures sooner { (tracker : TrackerData) (tries : ℕ) (old new : Worker) (played : Played)
+        → tracker.setup ≡ line_setup → HasSeen old 0 (take 1 moving_visits)
+        → HasSeen new 0 (take 1 moving_visits)
+        → (has : HasPlayed moving_input tracker tries old new played)
+        → has.gone.events ≡ Lost 0 2 2 ∷ [] → ⊥ }
+    ensures later { (tracker : TrackerData) (tries : ℕ) (old new : Worker) (played : Played)
+        → tracker.setup ≡ line_setup → HasSeen old 0 [] → HasSeen new 0 []
+        → (has : HasPlayed moving_input tracker tries old new played)
+        → has.gone.events ≡ Lost 0 0 2 ∷ [] → ⊥ }
+    ensures ahead { (tracker : TrackerData) (tries count : ℕ) (old new : Worker) (played : Played)
+        (events : List TurnEvent) → tracker.setup ≡ line_setup → HasSeen old 0 []
+        → HasSeen new 0 (take (suc count) moving_visits)
+        → (has : HasPlayed moving_input tracker tries old new played)
+        → has.gone.events ≡ Lost 0 3 2 ∷ events → ⊥ }
+    ensures behind { (tracker : TrackerData) (tries : ℕ) (old new : Worker) (played : Played)
+        → tracker.setup ≡ line_setup → HasSeen old 0 [] → HasSeen new 0 (take 1 moving_visits)
+        → (has : HasPlayed moving_input tracker tries old new played)
+        → has.gone.events ≡ Won 0 2 ∷ GivenBack 0 2 ∷ Lost 0 2 2 ∷ [] → ⊥ }
+    ensures aside { (tracker : TrackerData) (tries : ℕ) (old new : Worker) (played : Played)
+        → tracker.setup ≡ line_setup → HasSeen old 0 [] → HasSeen new 0 (take 1 moving_visits)
+        → (has : HasPlayed moving_input tracker tries old new played)
+        → has.gone.events ≡ Won 0 3 ∷ GivenBack 0 3 ∷ [] → ⊥ }
+    ensures held { (tracker : TrackerData) (tries : ℕ) (old new : Worker) (played : Played)
+        → tracker.setup ≡ line_setup → HasSeen old 0 [] → HasSeen new 0 (take 1 moving_visits)
+        → (has : HasPlayed moving_input tracker tries old new played)
+        → has.gone.events ≡ Won 0 2 ∷ [] → ⊥ }
     ensures forgotten { (input : Contents) (tracker : TrackerData) (tries : ℕ) (old new : Worker)
         (played : Played) → HasSeen old 1 (count_by 0 ∷ []) → HasSeen new 1 []
         → HasPlayed input tracker tries old new played → ⊥ }

@@ -1,23 +1,27 @@
-use Rattle.std.proofs.Common.{◌≡◌, ℕ, ◌+◌, List, [], ◌∷◌, ◌++◌, Some, None, Option, length, refl, sym, ap, ◌∙◌, subst, arith, length-append}
+use Rattle.std.proofs.Common.{◌≡◌, ℕ, suc, ◌+◌, List, [], ◌∷◌, ◌++◌, Some, None, Option, cond, eq-eqb, length, map, take, drop, refl, sym, ap, ◌∙◌, subst, arith, length-append}
 use Rattle.std.specs.Prelude.{All}
+use Rattle.std.proofs.lemmas.List.{append-nil, append_cancel_left}
 use Rattle.std.proofs.lemmas.List.Elements.{All-head}
-use Rattle.directory.specs.Histories.{History, IsFront, words_after}
+use Rattle.directory.specs.Histories.{History, IsFront, own, words_after}
 use Rattle.directory.specs.Keys.{act_node}
 use Rattle.directory.specs.Orders.{next}
+use Rattle.directory.specs.Settings.{Setting}
 use Rattle.directory.specs.Writes.{writes}
 use Rattle.entry_word.specs.declared.visit.Visit.{Visit}
 use Rattle.net_reader.specs.Input.{Contents}
 use Rattle.scripts.specs.Scripts.{scripts_of}
 use Rattle.station.specs.Passes.{PassData, TrackerData, actor_of}
 use Rattle.station.specs.Setup.{Setup, setting_in}
-use Rattle.station.specs.Turns.{LogsAll, event_actor, lost_in, won_in}
-use Rattle.station.specs.Visits.{own_nodes}
+use Rattle.station.specs.Turns.{LogsAll, event_actor, lost_in}
+use Rattle.station.specs.Views.{turn_at}
 use Rattle.station.specs.declared.view.NodeTurn.{NodeTurn}
 use Rattle.station.specs.declared.view.TurnEvent.{TurnEvent}
-use Rattle.station.specs.declared.view.TurnEvent.TheVariants.{Won}
-use Rattle.runner.specs.Examples.{HasSeen, count_by, idle_input, line_setup, switching_input}
-use Rattle.runner.specs.Workers.{HasGoneOn, WasTried}
+use Rattle.station.specs.declared.view.TurnEvent.TheVariants.{GivenBack, Lost, Won}
+use Rattle.runner.specs.Examples.{HasSeen, count_by, idle_input, line_setup, moving_input, moving_visits, switching_input}
+use Rattle.runner.specs.Playing.{next_of}
+use Rattle.runner.specs.Workers.{AreLostBefore, HasGoneOn, HaveTurns}
 use Rattle.runner.specs.declared.worker.Worker.{Worker}
+use Rattle.runner.proofs.Turning.{turns-mine}
 use Rattle.runner.proofs.wrong.wrong_plays.Goals as goal
 
 none-no : (visit : Visit) → ◌≡◌ {A = Option Visit} None (Some visit) → ⊥
@@ -57,23 +61,103 @@ returns-clause-unlost c = λ input tracker tries kept old new played same.
     ap (λ (turns : List NodeTurn). length turns) same in
     omega (arith, played.says.2, lost_more input tracker old new _ played.gone, still)
 
-nodes-no : ◌≡◌ {A = List ℕ} [] (2 ∷ []) → ⊥
-nodes-no e = cc
+-- the turns of a play by what its pass has seen
+turns_of : (input : Contents) (tracker : TrackerData) (setup : Setup) (old new : Worker) (held actor : ℕ)
+    (before after : History) (visits : List Visit) (events : List TurnEvent)
+    → tracker.setup ≡ setup → HasSeen old actor before → HasSeen new actor after
+    → (gone : HasGoneOn input tracker old new held) → own actor after ≡ own actor before ++ visits
+    → gone.events ≡ events
+    → HaveTurns (setting_in setup) actor (next (setting_in setup) (scripts_of input) after actor) visits events
+turns_of input tracker setup old new held actor before after visits events told one two gone made are =
+    let low : new.pass.view.low ≡ actor = two.low in
+    let more : own actor after ≡ own actor before ++ gone.visits =
+    subst (λ (h : History). own actor h ≡ own actor before ++ gone.visits) two.seen_is
+    (subst (λ (h : History). own actor new.pass.view.seen ≡ own actor h ++ gone.visits) one.seen_is
+    (subst (λ (a : ℕ). own a new.pass.view.seen ≡ own a old.pass.view.seen ++ gone.visits) one.low gone.made)) in
+    let same : gone.visits ≡ visits = append_cancel_left (own actor before) gone.visits visits (sym more ∙ made) in
+    subst (λ es. HaveTurns (setting_in setup) actor (next (setting_in setup) (scripts_of input) after actor) visits es)
+    are
+    (subst (λ vs. HaveTurns (setting_in setup) actor (next (setting_in setup) (scripts_of input) after actor) vs
+    gone.events) same
+    (subst (λ (a : ℕ). HaveTurns (setting_in setup) actor (next (setting_in setup) (scripts_of input) after a)
+    gone.visits gone.events) low
+    (subst (λ (h : History). HaveTurns (setting_in setup) actor
+    (next (setting_in setup) (scripts_of input) h new.pass.view.low) gone.visits gone.events) two.seen_is
+    (subst (λ (a : ℕ). HaveTurns (setting_in setup) a
+    (next (setting_in setup) (scripts_of input) new.pass.view.seen new.pass.view.low) gone.visits gone.events) one.low
+    (subst (λ (s : Setup). HaveTurns (setting_in s) (actor_of old.pass)
+    (next (setting_in s) (scripts_of input) new.pass.view.seen new.pass.view.low) gone.visits gone.events) told
+    gone.turns)))))
+
+-- turns that begin with one that is lost, are won or given back
+lost_here : (actor node by at word : ℕ) (words : List ℕ) (later rest : List TurnEvent)
+    → Lost by at word ∷ later ≡ map (λ w. Lost actor node w) words ++ Won actor node ∷ rest → at ≡ node
+lost_here actor node by at word [] later rest e = cc
+lost_here actor node by at word (w ∷ words) later rest e = cc
+
+lost_next : (setting : Setting) (actor by at word : ℕ) (visit : Visit) (later : List TurnEvent)
+    → AreLostBefore setting actor (Some visit) (Lost by at word ∷ later) → at ≡ act_node setting visit.act
+lost_next setting actor by at word visit later lost = go lost.0 lost.1
+  where
+    go : (words : List ℕ) → Lost by at word ∷ later ≡ map (λ w. Lost actor (act_node setting visit.act) w) words
+        → at ≡ act_node setting visit.act
+    go [] e = cc
+    go (w ∷ words) e = cc
+
+won_here : (actor node at : ℕ) (words : List ℕ) (later rest : List TurnEvent)
+    → Won actor at ∷ later ≡ map (λ w. Lost actor node w) words ++ Won actor node ∷ rest
+    → (at ≡ node) × (later ≡ rest)
+won_here actor node at [] later rest e = (cc, cc)
+won_here actor node at (w ∷ words) later rest e = cc
+
+won_no : (setting : Setting) (actor by at : ℕ) (after : Option Visit) (later : List TurnEvent)
+    → AreLostBefore setting actor after (Won by at ∷ later) → ⊥
+won_no setting actor by at None later e = cc
+won_no setting actor by at (Some visit) later lost = go lost.0 lost.1
+  where
+    go : (words : List ℕ) → Won by at ∷ later ≡ map (λ w. Lost actor (act_node setting visit.act) w) words → ⊥
+    go [] e = cc
+    go (w ∷ words) e = cc
+
+back_no : (actor node : ℕ) (later : List TurnEvent) → [] ≡ GivenBack actor node ∷ later → ⊥
+back_no actor node later e = cc
+
+-- what is lost first is lost at the node of the first visit
+first_lost : (setting : Setting) (actor at word : ℕ) (after : Option Visit) (visit : Visit) (visits : List Visit)
+    (later : List TurnEvent) → HaveTurns setting actor after (visit ∷ visits) (Lost actor at word ∷ later)
+    → at ≡ act_node setting visit.act
+first_lost setting actor at word after visit visits later turns =
+    let node = act_node setting visit.act in
+    lost_here actor node actor at word turns.2.0 later (GivenBack actor node ∷ turns.1)
+    (turns.3 ∙ ap (λ l. l ++ Won actor node ∷ GivenBack actor node ∷ turns.1) turns.2.1)
+
+-- a turn that is won first is that of the first visit, and is given back then
+first_won : (setting : Setting) (actor at : ℕ) (after : Option Visit) (visit : Visit) (visits : List Visit)
+    (later : List TurnEvent) → HaveTurns setting actor after (visit ∷ visits) (Won actor at ∷ later)
+    → (at ≡ act_node setting visit.act)
+    × (rest : List TurnEvent) × (later ≡ GivenBack actor (act_node setting visit.act) ∷ rest)
+    × HaveTurns setting actor after visits rest
+first_won setting actor at after visit visits later turns =
+    let node = act_node setting visit.act in
+    let won = won_here actor node at turns.2.0 later (GivenBack actor node ∷ turns.1)
+    (turns.3 ∙ ap (λ l. l ++ Won actor node ∷ GivenBack actor node ∷ turns.1) turns.2.1) in
+    (won.0, turns.1, won.1, turns.4)
 
 pub returns-clause-unmade : goal.returns-clause-unmade
 returns-clause-unmade c = λ input tracker tries old new played one two has events.
-    let setting = setting_in tracker.setup in
-    let nodes = λ (worker : Worker). own_nodes setting (actor_of old.pass) worker.pass.view.seen in
-    let none : (worker : Worker) → worker.pass.view.seen ≡ [] → nodes worker ≡ [] =
-    λ worker seen. ap (λ (h : History). own_nodes setting (actor_of old.pass) h) seen in
-    nodes-no (sym (none new two.seen_is) ∙ (has.gone.won ∙ (ap (λ n. n ++ won_in has.gone.events) (none old one.seen_is)
-    ∙ ap won_in events)))
+    won_no (setting_in tracker.setup) 0 0 2 (next (setting_in tracker.setup) (scripts_of input) [] 0)
+    (GivenBack 0 2 ∷ [])
+    (turns_of input tracker tracker.setup old new _ 0 [] [] [] (Won 0 2 ∷ GivenBack 0 2 ∷ []) refl one two has.gone refl
+    events)
 
 pub returns-clause-stranger : goal.returns-clause-stranger
-returns-clause-stranger c = λ input tracker tries old new played one has events.
-    let first = All-head (λ (e : TurnEvent). event_actor e ≡ actor_of old.pass) (Won 1 2) []
-    (subst (All (λ (e : TurnEvent). event_actor e ≡ actor_of old.pass)) events has.gone.mine) in
-    omega (arith, first, one.low)
+returns-clause-stranger c = λ input tracker tries old new played event events one has are its.
+    let mine = λ (e : TurnEvent). event_actor e ≡ actor_of old.pass in
+    let first = All-head mine event events
+    (subst (All mine) are
+    (turns-mine (setting_in tracker.setup) (actor_of old.pass) (next_of input tracker.setup new.pass.view)
+    has.gone.visits has.gone.events has.gone.turns)) in
+    omega (arith, first, one.low, its)
 
 pub returns-clause-unlogged : goal.returns-clause-unlogged
 returns-clause-unlogged c = λ input tracker tries old new played none has events.
@@ -91,33 +175,12 @@ returns-clause-unlogged c = λ input tracker tries old new played none has event
 pub returns-clause-roomy : goal.returns-clause-roomy
 returns-clause-roomy c = λ input tracker tries old new played has same more. omega (arith, has.gone.spare, same, more)
 
--- the turns of a play that had lost none
-all_turns : (input : Contents) (tracker : TrackerData) (old new : Worker) (held : ℕ) (turns : List NodeTurn)
-    → HasGoneOn input tracker old new held → old.pass.view.lost ≡ [] → new.pass.view.lost ≡ turns
-    → All (WasTried input tracker.setup (actor_of old.pass) old.pass.view.seen new.pass.view.seen) turns
-all_turns input tracker old new held turns gone before after =
-    let same : lost_in gone.events ≡ turns =
-    sym (gone.logged.lost ∙ ap (λ ts. ts ++ lost_in gone.events) before) ∙ after in
-    subst (All (WasTried input tracker.setup (actor_of old.pass) old.pass.view.seen new.pass.view.seen)) same gone.tried
-
--- the first of them, where nothing was seen
-first_turn : (input : Contents) (tracker : TrackerData) (old new : Worker) (actor held : ℕ) (turn : NodeTurn)
-    → tracker.setup ≡ line_setup → HasSeen old actor [] → HasSeen new actor []
-    → old.pass.view.lost ≡ [] → new.pass.view.lost ≡ turn ∷ [] → HasGoneOn input tracker old new held
-    → WasTried input line_setup actor [] [] turn
-first_turn input tracker old new actor held turn setup one two before after gone =
-    let tried = WasTried input tracker.setup (actor_of old.pass) old.pass.view.seen new.pass.view.seen in
-    let first : tried turn =
-    All-head tried turn [] (all_turns input tracker old new held (turn ∷ []) gone before after) in
-    subst (λ (s : Setup). WasTried input s actor [] [] turn) setup
-    (subst (λ (h : History). WasTried input tracker.setup actor h [] turn) one.seen_is
-    (subst (λ (h : History). WasTried input tracker.setup actor old.pass.view.seen h turn) two.seen_is
-    (subst (λ (a : ℕ). WasTried input tracker.setup a old.pass.view.seen new.pass.view.seen turn) one.low first)))
-
--- a front of nothing is nothing
-no_front : (seen : History) → IsFront seen [] → seen ≡ []
-no_front [] front = refl
-no_front (visit ∷ seen) front = cc
+-- the turns that a play lost, where it had lost none
+lost_turns : (input : Contents) (tracker : TrackerData) (old new : Worker) (held : ℕ) (turns : List NodeTurn)
+    → (gone : HasGoneOn input tracker old new held) → old.pass.view.lost ≡ [] → new.pass.view.lost ≡ turns
+    → lost_in gone.events ≡ turns
+lost_turns input tracker old new held turns gone before after =
+    sym (gone.logged.lost ∙ ap (λ ts. ts ++ lost_in gone.events) before) ∙ after
 
 idle-next : next (setting_in line_setup) (scripts_of idle_input) [] 1 ≡ None
 unfolding words_after
@@ -129,36 +192,114 @@ off-next : (visit : Visit) × (next (setting_in line_setup) (scripts_of switchin
 unfolding writes
 off-next = (_, refl, refl)
 
-some_same : (visit other : Visit) → ◌≡◌ {A = Option Visit} (Some visit) (Some other) → visit ≡ other
-some_same visit other e = cc
-
--- the visit that was next where nothing was seen
-next_first : (input : Contents) (actor : ℕ) (turn : NodeTurn) → (was : WasTried input line_setup actor [] [] turn)
-    → next (setting_in line_setup) (scripts_of input) [] actor ≡ Some was.visit
-next_first input actor turn was =
-    subst (λ (h : History). next (setting_in line_setup) (scripts_of input) h actor ≡ Some was.visit)
-    (no_front was.seen was.until) was.is_next
+-- where they are lost at one node
+lost_all : (actor node : ℕ) (words : List ℕ) (turn : NodeTurn) (turns : List NodeTurn)
+    → lost_in (map (λ word. Lost actor node word) words) ≡ turn ∷ turns → node ≡ turn.node
+lost_all actor node [] turn turns e = cc
+lost_all actor node (word ∷ words) turn turns e =
+    let same : turn_at node word ≡ turn = cc in ap (λ (t : NodeTurn). t.node) same
 
 pub returns-clause-idle : goal.returns-clause-idle
 returns-clause-idle c = λ tracker tries old new setup one two before after has.
-    let was = first_turn idle_input tracker old new 1 _ _ setup one two before after has.gone in
-    none-no was.visit (sym idle-next ∙ next_first idle_input 1 _ was)
+    let none = subst (λ v. AreLostBefore (setting_in line_setup) 1 v has.gone.events) idle-next
+    (turns_of idle_input tracker line_setup old new _ 1 [] [] [] has.gone.events setup one two has.gone refl refl) in
+    let e : ◌≡◌ {A = ℕ} 0 1 = ap length (sym (ap lost_in none)
+    ∙ lost_turns idle_input tracker old new _ (record { node = 2; word = 6 } ∷ []) has.gone before after) in
+    omega (arith, e)
 
 pub returns-clause-elsewhere : goal.returns-clause-elsewhere
 returns-clause-elsewhere c = λ tracker tries old new played setup one two before after has.
-    let was = first_turn switching_input tracker old new 0 _ _ setup one two before after has.gone in
-    let same = some_same off-next.0 was.visit (sym off-next.1 ∙ next_first switching_input 0 _ was) in
-    let e : ◌≡◌ {A = ℕ} 3 2 =
-    sym off-next.2 ∙ (ap (λ (v : Visit). act_node (setting_in line_setup) v.act) same ∙ was.at) in
+    let lost = subst (λ v. AreLostBefore (setting_in line_setup) 0 v has.gone.events) off-next.1
+    (turns_of switching_input tracker line_setup old new _ 0 [] [] [] has.gone.events setup one two has.gone refl
+    refl) in
+    let at = lost_all 0 (act_node (setting_in line_setup) off-next.0.act) lost.0 (record { node = 2; word = 6 }) []
+    (sym (ap lost_in lost.1)
+    ∙ lost_turns switching_input tracker old new _ (record { node = 2; word = 6 } ∷ []) has.gone before after) in
+    let e : ◌≡◌ {A = ℕ} 3 2 = sym off-next.2 ∙ at in
     omega (arith, e)
 
+-- the first visit of the subscriber that moves is at node 2
+moves-first : (visit : Visit) × (later : List Visit) × (moving_visits ≡ visit ∷ later)
+    × (act_node (setting_in line_setup) visit.act ≡ 2) × (visit.actor ≡ 0)
+    × (next (setting_in line_setup) (scripts_of moving_input) [] 0 ≡ Some visit)
+unfolding writes
+moves-first = (_, _, refl, refl, refl, refl)
+
+-- and its second one at node 0
+moves-second : (visit : Visit)
+    × (next (setting_in line_setup) (scripts_of moving_input) (take 1 moving_visits) 0 ≡ Some visit)
+    × (act_node (setting_in line_setup) visit.act ≡ 0)
+unfolding writes
+moves-second = (_, refl, refl)
+
+-- the first of these visits are its own
+moves-own : (count : ℕ)
+    → own 0 (take (suc count) moving_visits) ≡ moves-first.0 ∷ own 0 (take count moves-first.1)
+moves-own count =
+    ap (λ (h : History). own 0 (take (suc count) h)) moves-first.2
+    ∙ ap (λ b. cond b (moves-first.0 ∷ own 0 (take count moves-first.1)) (own 0 (take count moves-first.1)))
+    (eq-eqb moves-first.0.actor 0 moves-first.4)
+
+-- the visit that is next behind so many
+abbrev moves-next : ℕ → Option Visit
+moves-next count = next (setting_in line_setup) (scripts_of moving_input) (take count moving_visits) 0
+
+-- the turns of a play that begins with the first visit
+moved_turns : (tracker : TrackerData) (old new : Worker) (held count : ℕ) (events : List TurnEvent)
+    → tracker.setup ≡ line_setup → HasSeen old 0 [] → HasSeen new 0 (take (suc count) moving_visits)
+    → (gone : HasGoneOn moving_input tracker old new held) → gone.events ≡ events
+    → HaveTurns (setting_in line_setup) 0 (moves-next (suc count))
+    (moves-first.0 ∷ own 0 (take count moves-first.1)) events
+moved_turns tracker old new held count events setup one two gone are =
+    turns_of moving_input tracker line_setup old new held 0 [] (take (suc count) moving_visits)
+    (moves-first.0 ∷ own 0 (take count moves-first.1)) events setup one two gone (moves-own count) are
+
 pub returns-clause-sooner : goal.returns-clause-sooner
-returns-clause-sooner c = λ input setup actor last turn was none.
-    front-no (count_by 0) (subst (λ (h : History). IsFront (count_by 0 ∷ []) h) none was.since)
+returns-clause-sooner c = λ tracker tries old new played setup one two has events.
+    let seen = take 1 moving_visits in
+    let lost = subst (λ v. AreLostBefore (setting_in line_setup) 0 v (Lost 0 2 2 ∷ [])) moves-second.1
+    (turns_of moving_input tracker line_setup old new _ 0 seen seen [] (Lost 0 2 2 ∷ []) setup one two has.gone
+    (sym (append-nil (own 0 seen))) events) in
+    let e : ◌≡◌ {A = ℕ} 2 0 = lost_next (setting_in line_setup) 0 0 2 2 moves-second.0 [] lost ∙ moves-second.2 in
+    omega (arith, e)
 
 pub returns-clause-later : goal.returns-clause-later
-returns-clause-later c = λ input setup actor first turn was one.
-    front-no (count_by 0) (subst (λ (h : History). IsFront h []) one was.until)
+returns-clause-later c = λ tracker tries old new played setup one two has events.
+    let lost = subst (λ v. AreLostBefore (setting_in line_setup) 0 v (Lost 0 0 2 ∷ [])) moves-first.5
+    (turns_of moving_input tracker line_setup old new _ 0 [] [] [] (Lost 0 0 2 ∷ []) setup one two has.gone refl
+    events) in
+    let e : ◌≡◌ {A = ℕ} 0 2 = lost_next (setting_in line_setup) 0 0 0 2 moves-first.0 [] lost ∙ moves-first.3 in
+    omega (arith, e)
+
+pub returns-clause-ahead : goal.returns-clause-ahead
+returns-clause-ahead c = λ tracker tries count old new played events setup one two has are.
+    let e : ◌≡◌ {A = ℕ} 3 2 = first_lost (setting_in line_setup) 0 3 2 (moves-next (suc count)) moves-first.0
+    (own 0 (take count moves-first.1)) events
+    (moved_turns tracker old new _ count (Lost 0 3 2 ∷ events) setup one two has.gone are) ∙ moves-first.3 in
+    omega (arith, e)
+
+pub returns-clause-behind : goal.returns-clause-behind
+returns-clause-behind c = λ tracker tries old new played setup one two has are.
+    let won = first_won (setting_in line_setup) 0 2 (moves-next 1) moves-first.0 [] (GivenBack 0 2 ∷ Lost 0 2 2 ∷ [])
+    (moved_turns tracker old new _ 0 (Won 0 2 ∷ GivenBack 0 2 ∷ Lost 0 2 2 ∷ []) setup one two has.gone are) in
+    let rest : won.1 ≡ Lost 0 2 2 ∷ [] = ap (drop 1) (sym won.2) in
+    let lost = subst (λ v. AreLostBefore (setting_in line_setup) 0 v (Lost 0 2 2 ∷ [])) moves-second.1
+    (subst (λ es. AreLostBefore (setting_in line_setup) 0 (moves-next 1) es) rest won.3) in
+    let e : ◌≡◌ {A = ℕ} 2 0 = lost_next (setting_in line_setup) 0 0 2 2 moves-second.0 [] lost ∙ moves-second.2 in
+    omega (arith, e)
+
+pub returns-clause-aside : goal.returns-clause-aside
+returns-clause-aside c = λ tracker tries old new played setup one two has are.
+    let won = first_won (setting_in line_setup) 0 3 (moves-next 1) moves-first.0 [] (GivenBack 0 3 ∷ [])
+    (moved_turns tracker old new _ 0 (Won 0 3 ∷ GivenBack 0 3 ∷ []) setup one two has.gone are) in
+    let e : ◌≡◌ {A = ℕ} 3 2 = won.0 ∙ moves-first.3 in
+    omega (arith, e)
+
+pub returns-clause-held : goal.returns-clause-held
+returns-clause-held c = λ tracker tries old new played setup one two has are.
+    let won = first_won (setting_in line_setup) 0 2 (moves-next 1) moves-first.0 [] []
+    (moved_turns tracker old new _ 0 (Won 0 2 ∷ []) setup one two has.gone are) in
+    back_no 0 (act_node (setting_in line_setup) moves-first.0.act) won.1 won.2
 
 pub returns-clause-forgotten : goal.returns-clause-forgotten
 returns-clause-forgotten c = λ input tracker tries old new played seen none has.

@@ -97,7 +97,8 @@ tries-preserved-in-Made g c =
           let prepares = c.prepare.ensures.its input tracker.setup c.tries.self.pass.view c.tries.self.pass.spare
           may.set
           gone.worker.role in
-          gone-on input tracker c.args.self.now _ c.attempt.new.self c.tries.held 0 c.tries.held
+          gone-on c.lines_grow.ensures.kept input tracker c.args.self.now _ c.attempt.new.self c.tries.held 0
+          c.tries.held
           (prepared-gone input tracker c.args.self.now c.tries.self c.prepare.new.self c.tries.held gone prepares.0)
           (try_of input (record { set = may.set; worker_is = gone.worker })).0 (omega arith);
       few = c.tries.invariant.few;
@@ -138,7 +139,8 @@ tries-preserved-in-Held g c =
           let prepares = c.prepare.ensures.its input tracker.setup c.tries.self.pass.view c.tries.self.pass.spare
           may.set
           gone.worker.role in
-          gone-on input tracker c.args.self.now _ c.attempt.new.self c.tries.held 1 (c.tries.held + 1)
+          gone-on c.lines_grow.ensures.kept input tracker c.args.self.now _ c.attempt.new.self c.tries.held 1
+          (c.tries.held + 1)
           (prepared-gone input tracker c.args.self.now c.tries.self c.prepare.new.self c.tries.held gone prepares.0)
           (try_of input (record { set = may.set; worker_is = gone.worker })).0 (omega arith);
       few = omega (arith, c.tries.invariant.few, c.if-held-kept.false);
