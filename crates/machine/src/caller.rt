@@ -1,6 +1,7 @@
 //! A caller: its finds, one after another.
 ghost use Rattle.std.specs.Prelude.{◌≡◌, ◌≤◌, ◌<◌, ◌+◌, ◌^◌, [], ℕ, All, IfOk, true, drop, length, map, vec_capacity};
 ghost use Rattle.directory.specs.Finds.{at_origin};
+ghost use Rattle.directory.specs.declared.answers.Done.TheVariants.{Again};
 ghost use Rattle.directory.specs.Outcomes.{found_line};
 ghost use Rattle.net_reader.specs.Seen.{seen_input};
 ghost use Rattle.net_reader.specs.Valid.{IsSearch};
@@ -14,7 +15,9 @@ ghost use Rattle.visit_log.specs.Routes.{AreRoutes, IsRung, entry_place, rung_pa
 ghost use Rattle.walk.specs.Climbs.{IsClimbOver, climb_past};
 
 use crate::turn::Turn;
-use directory::{Done, Found, each_visit_is_next, every_order_is_legal, lines_grow, own_after};
+use directory::{
+    Done, Found, Why, each_visit_is_next, every_order_is_legal, lines_grow, own_after,
+};
 use distances::Distances;
 use net_reader::{Call, Input};
 use region_plan::{Plan, plan_is_sound};
@@ -306,10 +309,7 @@ fn walk_at(script: &[Call], place: usize, subs: u32, plan: &Plan) -> Option<Walk
 fn line_of(actor: u32, call: Call, found: Found, first: u64, last: u64) -> Done
     ensures { result ≡ found_line actor (find_of call) found first last }
 {
-    let (from, sub) = match call {
-        Call::Find { from, sub } => (from, sub),
-        Call::Move { .. } | Call::Off | Call::On => (0, 0),
-    };
+    let (from, sub) = ends_of(call);
     match found {
         Found::At {
             node,
@@ -343,14 +343,32 @@ fn line_of(actor: u32, call: Call, found: Found, first: u64, last: u64) -> Done
             first,
             last,
         },
-        Found::Again { why, weight } => Done::Again {
-            actor,
-            from,
-            sub,
-            why,
-            weight,
-            first,
-            last,
-        },
+        Found::Again { why, weight } => again_line(actor, from, sub, why, weight, first, last),
+    }
+}
+
+// Where a find begins, and for whom it looks.
+fn ends_of(call: Call) -> (u32, u32)
+    ensures from { result.0 ≡ (find_of call).from }
+    ensures sub { result.1 ≡ (find_of call).sub }
+{
+    match call {
+        Call::Find { from, sub } => (from, sub),
+        Call::Move { .. } | Call::Off | Call::On => (0, 0),
+    }
+}
+
+// The line of a find that is to be made again.
+fn again_line(actor: u32, from: u32, sub: u32, why: Why, weight: u64, first: u64, last: u64) -> Done
+    ensures { result ≡ Again actor from sub why weight first last }
+{
+    Done::Again {
+        actor,
+        from,
+        sub,
+        why,
+        weight,
+        first,
+        last,
     }
 }
