@@ -1,6 +1,6 @@
 #!/usr/bin/env python3
 """Finds the least memory with which standard runs succeed, and compares it with what bench/least_memory.txt keeps, so that room
-that is asked for and not used is seen: the clauses of room are lower bounds, and a page that nobody touches isn't resident. The
+that is asked for and not used is seen: not every list's room has a clause, and a page that nobody touches isn't resident. The
 most addresses that a run may have (RLIMIT_AS) is halved to where it just ends with status 0; that repeats to some pages. A run
 fails here that needs more than a tenth more than is kept. A run of which no number is kept yet is told, and fails nothing.
 

@@ -85,15 +85,16 @@ caller-opens input plan actor caller script high low same walks first none room 
     (ap (λ n. drop n (finds_of (setting_over input plan) (scripts_of input) actor)) (sym (ap length none)))
     (omega (arith, room, ap length finds, length-map script find_of))
 
-pub each-more : {A : Type 0} (P : ℕ → A → Type 0) (xs : List A) (x : A) (n : ℕ) → length xs ≡ n
-    → ((s : ℕ) (d : A) → s < n → P s (get_or xs s d)) → P n x
-    → (s : ℕ) (d : A) → s < n + 1 → P s (get_or (xs ++ x ∷ []) s d)
-each-more P xs x n count each last s d low =
-    elim (cases s n) as (λ _. P s (get_or (xs ++ x ∷ []) s d)) [
+-- what holds at each place of a list and of one item more
+pub each-more : {A : Type 0} (P : ℕ → A → Type 0) (xs : List A) (x : A) (n : ℕ) (ys : List A)
+    → ys ≡ xs ++ x ∷ [] → length xs ≡ n → ((s : ℕ) (d : A) → s < n → P s (get_or xs s d)) → P n x
+    → (s : ℕ) (d : A) → s < n + 1 → P s (get_or ys s d)
+each-more P xs x n ys more count each last s d low = subst (λ zs. P s (get_or zs s d)) (sym more)
+    (elim (cases s n) as (λ _. P s (get_or (xs ++ x ∷ []) s d)) [
       | inl less ↦ subst (P s) (sym (get_or-append xs (x ∷ []) d s (omega (arith, less, count)))) (each s d less)
       | inr more ↦ let same : s ≡ n = omega (arith, low, more) in
           subst (P s) (sym (get_or_push xs x d s (count ∙ sym same))) (subst (λ k. P k x) (sym same) last)
-    ]
+    ])
   where
     cases : (a b : ℕ) → (a < b) ⊎ (b ≤ a)
     cases a b = grind (arith, nat_tests)

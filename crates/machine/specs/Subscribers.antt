@@ -109,6 +109,11 @@ pub record IsSubscriber (input : Contents) (plan : PlanData) (history : History)
   pub within : subscriber.made ≤ length subscriber.ahead.items
   pub space : 1 ≤ vec_capacity subscriber.ahead
 
+-- a subscriber has room for just as many lines as it has steps, and for just 64 writes ahead
+pub record HasRoomFor (steps : ℕ) (subscriber : Subscriber) : Type 0 where
+  pub lines : vec_capacity subscriber.lines ≡ steps
+  pub ahead : vec_capacity subscriber.ahead ≡ 64
+
 -- a turn makes its next visit, or none is left and the cells stay
 abbrev pub HasWritten : Contents → PlanData → History → ℕ → Subscriber → Subscriber → CellData
     → CellData → Turn → Type 0

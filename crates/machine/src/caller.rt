@@ -44,7 +44,7 @@ impl Caller {
             (λ caller. IsWalking plan.now (map find_of script.now) at_origin caller.walk) }
         ensures first { IfOk result (λ caller. caller.first ≡ None) }
         ensures lines { IfOk result (λ caller. caller.lines.items ≡ []) }
-        ensures room { IfOk result (λ caller. length script.now ≤ vec_capacity caller.lines) }
+        ensures room { IfOk result (λ caller. vec_capacity caller.lines ≡ length script.now) }
     {
         Ok(Caller {
             walk: walk_at(script, 0, subs, plan),

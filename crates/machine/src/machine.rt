@@ -4,17 +4,16 @@ ghost use Rattle.directory.specs.Histories.{History};
 ghost use Rattle.directory.specs.Orders.{after_turn, after_turns, history_of, last_turns, most_turns, next, IsDone};
 ghost use Rattle.directory.specs.Outcomes.{outcome_in, result_of};
 ghost use Rattle.net_reader.specs.Seen.{seen_input};
-ghost use Rattle.net_reader.specs.Valid.{IsValid, count_calls};
-ghost use Rattle.scripts.specs.Scripts.{most_visits};
+ghost use Rattle.net_reader.specs.Valid.{IsValid};
 ghost use Rattle.region_plan.specs.Plan.{nodes_of};
 ghost use Rattle.visit_log.specs.Cells.{GoWith, Hold};
 ghost use Rattle.visit_log.specs.Homes.{AreHomes};
 ghost use Rattle.visit_log.specs.Routes.{AreRoutes};
 ghost use Rattle.trail_laws.specs.RightOutcomes.{IsRightLine, TellInTurn, TellRisingNumbers};
 ghost use Rattle.machine.specs.Callers.{IsCaller};
-ghost use Rattle.machine.specs.Machines.{HasStridden, IsSame, HasHistory, input_at, scripts_at, setting_at};
-ghost use Rattle.machine.specs.Stands.{BelongTogether};
-ghost use Rattle.machine.specs.Subscribers.{IsSubscriber};
+ghost use Rattle.machine.specs.Machines.{HasJustRoom, HasStridden, IsSame, HasHistory, scripts_at, setting_at};
+ghost use Rattle.machine.specs.Stands.{BelongTogether, calls_of};
+ghost use Rattle.machine.specs.Subscribers.{HasRoomFor, IsSubscriber};
 ghost use Rattle.machine.specs.declared.caller.Caller.{Caller};
 ghost use Rattle.machine.specs.declared.subscriber.Subscriber.{Subscriber};
 ghost use Rattle.machine.specs.declared.turn.Turn.TheVariants.{Finished};
@@ -54,9 +53,8 @@ pub struct Machine<'a> {
 }
 
 impl<'a> Machine<'a> {
-    /// All actors before their first turns. It takes all memory that the machine needs. Its order
-    /// has room for just as many visits as the scripts may have, and its lines for just as many as
-    /// they have calls.
+    /// All actors before their first turns. It takes all memory that the machine needs, and its
+    /// lists have room for just what comes into them.
     pub fn new(
         alloc: Global,
         input: &'a Input,
@@ -68,9 +66,7 @@ impl<'a> Machine<'a> {
             (λ machine. (machine.input.now ≡ input.now) × (machine.plan.now ≡ plan.now)
             × (machine.distances.now ≡ distances.now)) }
         ensures stands { IfOk result (λ machine. HasHistory machine []) }
-        ensures room { IfOk result (λ machine. (vec_capacity machine.order
-            ≡ most_visits (setting_at machine) (input_at machine).scripts)
-            × (vec_capacity machine.calls ≡ count_calls (input_at machine).scripts)) }
+        ensures room { IfOk result HasJustRoom }
     {
         let (homes, routes, cells) = cells_of(alloc, input, plan)?;
         let subscribers = subscribers_of(alloc, input, plan, distances)?;
@@ -338,11 +334,17 @@ fn subscribers_of(
         (λ subscribers. (s : ℕ) (d : Subscriber) → s < length input.now.homes.items
         → IsSubscriber (seen_input input.now) plan.now [] s
         (slice_index_or subscribers.items s d)) }
+    ensures room { IfOk result
+        (λ subscribers. vec_capacity subscribers ≡ length input.now.homes.items) }
+    ensures rooms { IfOk result
+        (λ subscribers. (s : ℕ) (d : Subscriber) → s < length input.now.homes.items
+        → HasRoomFor (calls_of (seen_input input.now) s) (slice_index_or subscribers.items s d)) }
 {
-    let mut subscribers = Vec::new(alloc);
+    let mut subscribers = Vec::with_capacity(alloc, input.homes.len())?;
     for sub in 0..input.homes.len() as u32 {
         let steps = input.scripts[sub as usize].len();
-        subscribers.push(Subscriber::new(alloc, sub, input.homes[sub as usize], steps, plan)?)?;
+        let home = input.homes[sub as usize];
+        subscribers.push_reserved(Subscriber::new(alloc, sub, home, steps, plan)?);
     }
     Ok(subscribers)
 }
@@ -359,12 +361,16 @@ fn callers_of(
     ensures each { IfOk result (λ callers. (c : ℕ) (d : Caller) → c < input.now.callers
         → IsCaller (seen_input input.now) plan.now [] (length input.now.homes.items + c)
         (slice_index_or callers.items c d)) }
+    ensures room { IfOk result (λ callers. vec_capacity callers ≡ input.now.callers) }
+    ensures rooms { IfOk result (λ callers. (c : ℕ) (d : Caller) → c < input.now.callers
+        → vec_capacity (slice_index_or callers.items c d).lines
+        ≡ calls_of (seen_input input.now) (length input.now.homes.items + c)) }
 {
     let subs = input.homes.len();
-    let mut callers = Vec::new(alloc);
+    let mut callers = Vec::with_capacity(alloc, input.callers as usize)?;
     for caller in 0..input.callers as usize {
         let script = input.scripts[subs + caller].as_slice();
-        callers.push(Caller::new(alloc, script, subs as u32, plan)?)?;
+        callers.push_reserved(Caller::new(alloc, script, subs as u32, plan)?);
     }
     Ok(callers)
 }

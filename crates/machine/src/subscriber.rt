@@ -62,9 +62,9 @@ impl Subscriber {
         ensures its { IfOk result (λ subscriber. subscriber.handset.sub ≡ sub) }
         ensures ahead { IfOk result
             (λ subscriber. (subscriber.ahead.items ≡ []) × (subscriber.made ≡ 0)) }
-        ensures space { IfOk result (λ subscriber. 1 ≤ vec_capacity subscriber.ahead) }
+        ensures space { IfOk result (λ subscriber. vec_capacity subscriber.ahead ≡ 64) }
         ensures lines { IfOk result (λ subscriber. subscriber.lines.items ≡ []) }
-        ensures room { IfOk result (λ subscriber. steps ≤ vec_capacity subscriber.lines) }
+        ensures room { IfOk result (λ subscriber. vec_capacity subscriber.lines ≡ steps) }
     {
         Ok(Subscriber {
             handset: Handset::new(alloc, sub, home, plan)?,

@@ -1,9 +1,11 @@
-use Rattle.std.proofs.Common.{◌≡◌, ◌<◌, ◌+◌, List, [], get_or, sym, subst, arith, length, Vec, Global}
+use Rattle.std.proofs.Common.{◌≡◌, ◌<◌, ◌+◌, ◌∙◌, [], ap, get_or, subst, arith, length, Vec, Global}
+use Rattle.std.specs.Prelude.{vec_capacity}
 use Rattle.std.proofs.lemmas.List.{length-map}
 use Rattle.net_reader.specs.declared.said.Call.{Call}
 use Rattle.net_reader.specs.Seen.{seen_input}
 use Rattle.machine.specs.declared.caller.Caller.{Caller}
 use Rattle.machine.specs.Callers.{IsCaller}
+use Rattle.machine.specs.Stands.{calls_of}
 use Rattle.machine.proofs.Looking.{script-is, script-searches}
 use Rattle.machine.proofs.Opening.{caller-opens, each-more}
 use Rattle.machine.proofs.machine.callers_of.Goals as goal
@@ -40,15 +42,16 @@ loop-caller-preserved c =
       length-map c.args.input.now.scripts.items (λ (s : Vec Call Global). s.items),
     ) in
     let count : c.len-subs.result ≡ length c.args.input.now.homes.items = omega (arith, c.len-subs.ensures) in
+    let script : c.as_slice-script.result.now
+    ≡ get_or (seen_input c.args.input.now).scripts (c.len-subs.result + c.loop-caller.caller) [] =
+    script-is c.args.input.now.scripts.items (c.len-subs.result + c.loop-caller.caller) c.index.result.now
+    c.as_slice-script.result.now low c.index.ensures c.as_slice-script.ensures.value in
     record {
-      count = omega (arith, c.in_ok-push.ensures.len, c.loop-caller.invariant.count);
-      each = λ s d below. subst
-          (λ (xs : List Caller). IsCaller (seen_input c.args.input.now) c.args.plan.now []
-          (length c.args.input.now.homes.items + s) (get_or xs s d))
-          (sym c.in_ok-push.ensures.items)
-          (each-more (λ i x. IsCaller (seen_input c.args.input.now) c.args.plan.now []
+      count = omega (arith, c.push_reserved.new.self.ok.0, c.push_reserved.ensures.len, c.loop-caller.invariant.count);
+      room = c.push_reserved.ensures.capacity ∙ c.loop-caller.invariant.room;
+      each = each-more (λ i x. IsCaller (seen_input c.args.input.now) c.args.plan.now []
           (length c.args.input.now.homes.items + i) x) c.loop-caller.callers.items c.in_ok-new.field-0
-          c.loop-caller.caller
+          c.loop-caller.caller c.push_reserved.new.self.items c.push_reserved.ensures.items
           (omega (arith, c.loop-caller.invariant.count)) c.loop-caller.invariant.each
           (subst (λ n. IsCaller (seen_input c.args.input.now) c.args.plan.now []
           (n + c.loop-caller.caller) c.in_ok-new.field-0) count
@@ -56,9 +59,14 @@ loop-caller-preserved c =
           (c.len-subs.result + c.loop-caller.caller) c.in_ok-new.field-0 c.as_slice-script.result.now
           (omega (arith, c.len-subs.ensures))
           (omega (arith, low, length-map c.args.input.now.scripts.items (λ (s : Vec Call Global). s.items)))
-          (script-is c.args.input.now.scripts.items
-          (c.len-subs.result + c.loop-caller.caller) c.index.result.now c.as_slice-script.result.now low c.index.ensures
-          c.as_slice-script.ensures.value)
-          c.in_ok-new.ensures.walk c.in_ok-new.ensures.first c.in_ok-new.ensures.lines c.in_ok-new.ensures.room))
-          s d below);
+          script
+          c.in_ok-new.ensures.walk c.in_ok-new.ensures.first c.in_ok-new.ensures.lines
+          (omega (arith, c.in_ok-new.ensures.room))));
+      rooms = each-more (λ i (x : Caller). vec_capacity x.lines
+          ≡ calls_of (seen_input c.args.input.now) (length c.args.input.now.homes.items + i))
+          c.loop-caller.callers.items c.in_ok-new.field-0
+          c.loop-caller.caller c.push_reserved.new.self.items c.push_reserved.ensures.items
+          (omega (arith, c.loop-caller.invariant.count)) c.loop-caller.invariant.rooms
+          (c.in_ok-new.ensures.room ∙ (ap length script
+          ∙ ap (λ n. calls_of (seen_input c.args.input.now) (n + c.loop-caller.caller)) count));
     }

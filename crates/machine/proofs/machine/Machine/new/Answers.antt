@@ -34,5 +34,11 @@ returns-clause-stands c = record {
 }
 
 pub returns-clause-room : goal.returns-clause-room
-returns-clause-room c =
-    (sym (c.in_ok-order.ensures.visits c.args.input.now.homes.items), sym c.in_ok-order.ensures.lines)
+returns-clause-room c = record {
+  order = sym (c.in_ok-order.ensures.visits c.args.input.now.homes.items);
+  calls = sym c.in_ok-order.ensures.lines;
+  subscribers = c.in_ok-subscribers.ensures.room;
+  callers = c.in_ok-callers.ensures.room;
+  steps = c.in_ok-subscribers.ensures.rooms;
+  finds = c.in_ok-callers.ensures.rooms;
+}
