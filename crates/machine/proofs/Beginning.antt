@@ -18,10 +18,12 @@ use Rattle.handset.specs.Stands.{StandsForSteps}
 use Rattle.scripts.specs.Scripts.{scripts_of, step_of}
 use Rattle.scripts.specs.Laws.{ScriptsAreValid}
 use Rattle.machine.specs.declared.ahead.Ahead.{Ahead}
+use Rattle.machine.specs.declared.subscriber.Subscriber.{Subscriber}
 use Rattle.machine.specs.Owed.{HasNone}
 use Rattle.machine.specs.Stands.{BelongTogether, setting_over}
-use Rattle.machine.specs.Subscribers.{IsShown, Shown, begun_steps}
+use Rattle.machine.specs.Subscribers.{IsShown, IsSubscriber, Shown, begun_steps, shown_at}
 use Rattle.machine.proofs.Looking.{script-is}
+use Rattle.machine.proofs.Putting.{shown-now}
 use Rattle.scripts.specs.ScriptLaws.{calls-few, steps-are}
 use Rattle.std.proofs.lemmas.List.{get_or_default}
 use Rattle.machine.proofs.Rests.{Begins, begins, first-visit}
@@ -33,6 +35,7 @@ pub record Ready (input : Input) (plan : PlanData) (history : History) (sub : �
   pub short : place < length script
   pub few : length script < 2 ^ 32 - 1
   pub left : length old.lines.items < length (steps_of (scripts_of (seen_input input)) sub)
+  pub shown : IsShown (seen_input input) plan history sub old
 
 pub script-of : (input : Input) (plan : PlanData) (distances : DistanceTable) (sub : ℕ) (held : Vec Call Global)
     (script : List Call) → BelongTogether (seen_input input) plan distances → sub < length input.homes.items
@@ -44,16 +47,18 @@ script-of input plan distances sub held script together low reads same =
     reads same
 
 pub ready : ScriptsAreValid → (input : Input) (plan : PlanData) (distances : DistanceTable) (history : History)
-    (sub : ℕ)
-    (old : Shown)
-    (held : Vec Call Global) (script : List Call) (place : ℕ) (default : Call)
+    (sub : ℕ) (subscriber : Subscriber) (held : Vec Call Global) (script : List Call) (place : ℕ) (default : Call)
     → BelongTogether (seen_input input) plan distances → sub < length input.homes.items
-    → IsShown (seen_input input) plan history sub old
-    → due (setting_over (seen_input input) plan) old.handset ≡ None
-    → held ≡ get_or input.scripts.items sub held → script ≡ held.items → place ≡ length old.lines.items
-    → (place ≡ length script → ⊥) → Ready input plan history sub old script place default
-ready scripts input plan distances history sub old held script place default together low its rests reads same here
-    other =
+    → subscriber.ahead.items ≡ [] → IsSubscriber (seen_input input) plan history sub subscriber
+    → due (setting_over (seen_input input) plan) subscriber.handset ≡ None
+    → held ≡ get_or input.scripts.items sub held → script ≡ held.items → place ≡ length subscriber.lines.items
+    → (place ≡ length script → ⊥)
+    → Ready input plan history sub (shown_at subscriber.handset subscriber) script place default
+ready scripts input plan distances history sub subscriber held script place default together low empty far rests reads
+    same here other =
+    let old : Shown = shown_at subscriber.handset subscriber in
+    let its : IsShown (seen_input input) plan history sub old =
+    shown-now (seen_input input) plan history sub subscriber empty far in
     let script_is : script ≡ get_or (seen_input input).scripts sub [] =
     script-of input plan distances sub held script together low reads same in
     let steps : length (steps_of (scripts_of (seen_input input)) sub) ≡ length script =
@@ -70,6 +75,7 @@ ready scripts input plan distances history sub old held script place default tog
       short = short;
       few = omega (arith, calls-few (seen_input input) sub together.valid, ap length script_is);
       left = omega (arith, here, short, steps);
+      shown = its;
     }
   where
     strictly : (a b : ℕ) → a ≤ b → (a ≡ b → ⊥) → a < b
@@ -89,39 +95,37 @@ on-err P (Err x) e h = h
 -- the first visit of the step that is begun
 pub its-visit : (input : Input) (plan : PlanData) (history : History) (sub : ℕ) (old : Shown) (script : List Call)
     (place subject : ℕ) (default : Call) (result : Option Visit)
-    → IsShown (seen_input input) plan history sub old
     → Ready input plan history sub old script place default → subject ≡ old.handset.sub
     → result ≡ slice_get (visits (setting_over (seen_input input) plan) subject
     (begun_steps (seen_input input) sub old ++ step_of (get_or script place default) ∷ [])) (length (own sub history))
     → (visit : Visit) × (result ≡ Some visit)
-its-visit input plan history sub old script place subject default result its at same visit =
+its-visit input plan history sub old script place subject default result at same visit =
     let first = first-visit (setting_over (seen_input input) plan) sub (length (own sub history))
     (begun_steps (seen_input input) sub old)
     (step_of (get_or script place default)) at.begin.all in (
       first.0,
       visit ∙ (ap (λ s. slice_get (visits (setting_over (seen_input input) plan) s
           (begun_steps (seen_input input) sub old ++ step_of (get_or script place default) ∷ []))
-          (length (own sub history))) (same ∙ its.its) ∙ first.1),
+          (length (own sub history))) (same ∙ at.shown.its) ∙ first.1),
     )
 
 -- so a write of it is ahead
 pub first-ahead : (input : Input) (plan : PlanData) (history : History) (sub : ℕ) (old : Shown) (script : List Call)
     (place : ℕ) (default : Call) (begun : HandsetData) (ahead : List Ahead)
-    → IsShown (seen_input input) plan history sub old → Ready input plan history sub old script place default
-    → begun.sub ≡ old.handset.sub
+    → Ready input plan history sub old script place default → begun.sub ≡ old.handset.sub
     → StandsForSteps (setting_over (seen_input input) plan) begun
     (begun_steps (seen_input input) sub old ++ step_of (get_or script place default) ∷ []) (length (own sub history))
     → (ahead ≡ [] → HasNone plan begun) → 0 < length ahead
-first-ahead input plan history sub old script place default begun [] its at same stands rests =
+first-ahead input plan history sub old script place default begun [] at same stands rests =
     let found = its-visit input plan history sub old script place begun.sub default
     (slice_get (visits (setting_over (seen_input input) plan) begun.sub
     (begun_steps (seen_input input) sub old ++ step_of (get_or script place default) ∷ [])) (length (own sub history)))
-    its at same refl in
+    at same refl in
     absurd (never-both found.1 ((rests refl).next (seen_input input).homes
     (begun_steps (seen_input input) sub old ++ step_of (get_or script place default) ∷ []) (length (own sub history))
     stands))
   where
     never-both : {r : Option Visit} {v : Visit} → r ≡ Some v → r ≡ None → ⊥
     never-both h e = cc
-first-ahead input plan history sub old script place default begun (write ∷ writes) its at same stands rests =
+first-ahead input plan history sub old script place default begun (write ∷ writes) at same stands rests =
     omega arith

@@ -3,7 +3,7 @@ use Rattle.std.proofs.Common.{◌≡◌, ℕ, zero, suc, ◌+◌, ◌-◌, ◌<�
 use Rattle.std.specs.Prelude.{Some, slice_get, slice_set, vec_capacity}
 use Rattle.std.specs.Global.{Vec}
 use Rattle.std.proofs.lemmas.Bool.{ne_eqb}
-use Rattle.std.proofs.lemmas.List.{length_push}
+use Rattle.std.proofs.lemmas.List.{get_or_default, length_push}
 use Rattle.entry_word.specs.Marks.{MarksUnpack}
 use Rattle.entry_word.specs.declared.visit.Act.TheVariants.{Put}
 use Rattle.entry_word.specs.declared.visit.Key.{Key}
@@ -86,13 +86,16 @@ refilled input plan history sub subs old handset empty ahead known full none spa
 
 -- a subscriber that has a write ahead has a line
 pub line-there : MarksUnpack → TicketsAreOwn → ScriptsAreValid → (input : Contents) (plan : PlanData)
-    (distances : DistanceTable) (history : History) (sub : ℕ) (old : Subscriber) (write : Ahead)
+    (distances : DistanceTable) (history : History) (sub : ℕ) (old : Subscriber)
     → BelongTogether input plan distances → sub < length input.homes → IsSubscriber input plan history sub old
-    → old.made < length old.ahead.items → write ≡ get_or old.ahead.items old.made write → 0 < length old.lines.items
-line-there unpack tell scripts input plan distances history sub old write together low its left same =
+    → old.made < length old.ahead.items → 0 < length old.lines.items
+line-there unpack tell scripts input plan distances history sub old together low its left =
     let shown : Shown = shown_at its.handset old in
+    let none : Ahead = record { place = 0; commits = false; word = 0 } in
+    let write : Ahead = get_or old.ahead.items old.made none in
     let next : Next plan (length input.homes) its.handset old.handset write (drop (suc old.made) old.ahead.items) =
-    next-of plan (length input.homes) its.handset old.handset old.ahead.items old.made write left same its.owes in
+    next-of plan (length input.homes) its.handset old.handset old.ahead.items old.made write left
+    (get_or_default old.ahead.items old.made none write left) its.owes in
     let way : Under input plan history sub shown next.its.visit =
     under-way unpack tell scripts input plan distances history sub shown next.its.visit together low its.shown
     (ap (λ s. slice_get (visits (setting_over input plan) s (begun_steps input sub shown)) (length (own sub history)))

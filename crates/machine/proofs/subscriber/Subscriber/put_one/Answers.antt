@@ -10,8 +10,7 @@ overflow_sub-last c = omega (
   c.len-last.ensures,
   line-there c.mark_words.ensures.unpacked c.tickets_tell.ensures.visits c.scripts_are_valid.ensures
       (seen_input c.args.input.now) c.args.plan.now c.args.distances.now c.requires.stands.0 c.args.sub c.args.self.now
-      c.index-write.result.now c.requires.together c.requires.low c.requires.stands.3 c.requires.left
-      c.index-write.ensures,
+      c.requires.together c.requires.low c.requires.stands.3 c.requires.left,
 )
 
 pub index_mut-requires : goal.index_mut-requires
@@ -20,8 +19,7 @@ index_mut-requires c = omega (
   c.len-last.ensures,
   line-there c.mark_words.ensures.unpacked c.tickets_tell.ensures.visits c.scripts_are_valid.ensures
       (seen_input c.args.input.now) c.args.plan.now c.args.distances.now c.requires.stands.0 c.args.sub c.args.self.now
-      c.index-write.result.now c.requires.together c.requires.low c.requires.stands.3 c.requires.left
-      c.index-write.ensures,
+      c.requires.together c.requires.low c.requires.stands.3 c.requires.left,
 )
 
 pub returns : goal.returns
@@ -36,7 +34,7 @@ returns c = λ history sees place its.
       c.len-last.ensures,
       line-there c.mark_words.ensures.unpacked c.tickets_tell.ensures.visits c.scripts_are_valid.ensures
           (seen_input c.args.input.now) c.args.plan.now c.args.distances.now history c.args.sub c.args.self.now
-          c.index-write.result.now c.requires.together c.requires.low its c.requires.left c.index-write.ensures,
+          c.requires.together c.requires.low its c.requires.left,
     ))
     (c.go_on.ensures
     ∙ ap (λ l. line_after l c.index-write.result.now.commits c.args.ticket) c.index_mut.ensures.value)

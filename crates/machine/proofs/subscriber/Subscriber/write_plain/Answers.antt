@@ -1,5 +1,4 @@
 use Rattle.std.proofs.Common.{◌≡◌, ◌+◌, ◌-◌, ℕ, false, length, set, get_or, ap, arith, subst, sym, ◌∙◌}
-use Rattle.std.proofs.lemmas.List.{get_or_default}
 use Rattle.net_reader.specs.Seen.{seen_input}
 use Rattle.visit_log.specs.Cells.{CellData}
 use Rattle.machine.specs.Owed.{HavePut}
@@ -25,22 +24,8 @@ overflow_sub-last c = omega (
   c.len-last.ensures,
   line-there c.mark_words.ensures.unpacked c.tickets_tell.ensures.visits c.scripts_are_valid.ensures
       (seen_input c.args.input.now) c.args.plan.now c.args.distances.now c.requires.stands.0 c.args.sub c.args.self.now
-      (get_or c.args.self.now.ahead.items c.args.self.now.made (record { place = 0; commits = false; word = 0 }))
       c.requires.together c.requires.low c.requires.stands.3
-      (omega (
-        arith,
-        c.if-made-gt0.true,
-        c.put_plain-behind.ensures.within,
-        ap length c.as_slice.ensures.value,
-      ))
-      (get_or_default c.args.self.now.ahead.items c.args.self.now.made (record { place = 0; commits = false; word = 0 })
-      (get_or c.args.self.now.ahead.items c.args.self.now.made (record { place = 0; commits = false; word = 0 }))
-      (omega (
-        arith,
-        c.if-made-gt0.true,
-        c.put_plain-behind.ensures.within,
-        ap length c.as_slice.ensures.value,
-      ))),
+      (omega (arith, c.if-made-gt0.true, c.put_plain-behind.ensures.within, ap length c.as_slice.ensures.value)),
 )
 
 pub index_mut-requires : goal.index_mut-requires
@@ -49,22 +34,8 @@ index_mut-requires c = omega (
   c.len-last.ensures,
   line-there c.mark_words.ensures.unpacked c.tickets_tell.ensures.visits c.scripts_are_valid.ensures
       (seen_input c.args.input.now) c.args.plan.now c.args.distances.now c.requires.stands.0 c.args.sub c.args.self.now
-      (get_or c.args.self.now.ahead.items c.args.self.now.made (record { place = 0; commits = false; word = 0 }))
       c.requires.together c.requires.low c.requires.stands.3
-      (omega (
-        arith,
-        c.if-made-gt0.true,
-        c.put_plain-behind.ensures.within,
-        ap length c.as_slice.ensures.value,
-      ))
-      (get_or_default c.args.self.now.ahead.items c.args.self.now.made (record { place = 0; commits = false; word = 0 })
-      (get_or c.args.self.now.ahead.items c.args.self.now.made (record { place = 0; commits = false; word = 0 }))
-      (omega (
-        arith,
-        c.if-made-gt0.true,
-        c.put_plain-behind.ensures.within,
-        ap length c.as_slice.ensures.value,
-      ))),
+      (omega (arith, c.if-made-gt0.true, c.put_plain-behind.ensures.within, ap length c.as_slice.ensures.value)),
 )
 
 pub returns-then-made-gt0-clause-made : goal.returns-then-made-gt0-clause-made
