@@ -1,6 +1,6 @@
 -- How the row grows: by the readers of a node at a level, one after another.
 use Rattle.std.specs.Prelude.{◌/◌}
-use Rattle.std.proofs.Common.{◌≡◌, ℕ, suc, ◌+◌, ◌*◌, ◌^◌, ◌<◌, ◌≤◌, List, [], ◌∷◌, ◌++◌, length, refl, sym, ap, ◌∙◌, subst, inl, inr, arith}
+use Rattle.std.proofs.Common.{◌≡◌, ℕ, suc, ◌+◌, ◌*◌, ◌^◌, ◌<◌, ◌≤◌, List, [], ◌∷◌, ◌++◌, length, refl, sym, ap, ◌∙◌, subst, inl, inr, arith, Vec, Global}
 use Rattle.std.specs.Prelude.{slice_index}
 use Rattle.std.proofs.lemmas.Bool.{cases_lt}
 use Rattle.std.proofs.lemmas.List.{get_or_append_left, get_or_push, length_push}
@@ -9,6 +9,17 @@ use Rattle.std.proofs.Math.Nat.{mul-le-mul}
 use Rattle.region_plan.specs.Kept.{IsKept}
 use Rattle.region_plan.specs.Plan.{PlanData, levels_of, nodes_of, readers}
 use Rattle.visit_log.specs.Routes.{HaveParts, IsPart, RouteData, entry_place, rung_at, way_at}
+
+-- the row of these lists
+abbrev pub row_of : (levels : ℕ) (starts places level_of ways : Vec ℕ Global) → RouteData
+row_of levels starts places level_of ways =
+    record {
+      levels = levels;
+      starts = starts.items;
+      places = places.items;
+      level_of = level_of.items;
+      ways = ways.items;
+    }
 
 -- parts are few
 pub parts-few : (plan : PlanData) (node level : ℕ) → IsKept plan → node < nodes_of plan → level < levels_of plan

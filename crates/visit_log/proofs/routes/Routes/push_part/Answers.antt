@@ -1,13 +1,14 @@
-use Rattle.std.proofs.Common.{◌≡◌, ℕ, ◌+◌, ◌*◌, ◌<◌, [], ◌∷◌, ◌++◌, length, get_or, refl, sym, ap, ◌∙◌, arith}
+use Rattle.std.proofs.Common.{◌≡◌, ℕ, ◌+◌, ◌*◌, ◌^◌, ◌<◌, ◌≤◌, [], ◌∷◌, ◌++◌, length, get_or, refl, sym, ap, ◌∙◌, arith}
 use Rattle.std.specs.Prelude.{slice_index}
 use Rattle.std.proofs.lemmas.List.{get_or_push, length_push}
 use Rattle.entry_word.specs.declared.visit.Key.TheVariants.{Entry}
 use Rattle.region_plan.specs.Plan.{inside, readers}
 use Rattle.visit_log.specs.Routes.{RouteData}
-use Rattle.visit_log.proofs.Adding.{adding-done, adding-more, parts-few}
+use Rattle.visit_log.proofs.Adding.{adding-done, adding-more, parts-few, row_of}
 use Rattle.visit_log.proofs.Apart.{place-below}
 use Rattle.region_plan.specs.ReaderLaws.{reader-held, readers-few, readers-some, way-light}
 use Rattle.visit_log.proofs.routes.Routes.push_part.Goals as goal
+use Rattle.visit_log.proofs.routes.Routes.push_part.Goals.{After-reader_weight}
 
 pub overflow_add-first : goal.overflow_add-first
 overflow_add-first c =
@@ -47,20 +48,23 @@ overflow_cast-index c =
           c.plan_is_sound.ensures.sound c.requires.level c.requires.node,
     )
 
-pub overflow_mul-sum : goal.overflow_mul-sum
-overflow_mul-sum c =
+-- the reader is one of those of the node at the level
+short-here : (c : After-reader_weight)
+    → c.loop-index.index < length (readers c.args.plan.now c.args.level c.args.node)
+short-here c = omega (
+  arith,
+  c.loop-index-test.true,
+  c.loop-index.auto.index-end,
+  c.len.ensures,
+  ap length c.readers-readers.ensures,
+)
+
+-- the way to it is light
+light-here : (c : After-reader_weight) → c.reader_weight.result ≤ 2 ^ 35
+light-here c =
     let plan = c.args.plan.now in
-    let short : c.loop-index.index < length (readers plan c.args.level c.args.node) =
-    omega (
-      arith,
-      c.loop-index-test.true,
-      c.loop-index.auto.index-end,
-      c.len.ensures,
-      ap length c.readers-readers.ensures,
-    )
-    in
     let held = reader-held plan c.args.level c.args.node c.loop-index.index c.plan_is_sound.ensures.matched
-    c.requires.level c.requires.node short in
+    c.requires.level c.requires.node (short-here c) in
     omega (
       arith,
       c.reader_weight.ensures,
@@ -68,34 +72,22 @@ overflow_mul-sum c =
           c.plan_is_sound.ensures.sound c.plan_is_sound.ensures.reached c.requires.level held.1 held.0,
     )
 
+pub overflow_mul-sum : goal.overflow_mul-sum
+overflow_mul-sum c = omega (arith, light-here c)
+
 pub overflow_add-sum : goal.overflow_add-sum
-overflow_add-sum c =
-    let plan = c.args.plan.now in
-    let short : c.loop-index.index < length (readers plan c.args.level c.args.node) =
-    omega (
-      arith,
-      c.loop-index-test.true,
-      c.loop-index.auto.index-end,
-      c.len.ensures,
-      ap length c.readers-readers.ensures,
-    )
-    in
-    let held = reader-held plan c.args.level c.args.node c.loop-index.index c.plan_is_sound.ensures.matched
-    c.requires.level c.requires.node short in
-    omega (
-      arith,
-      c.reader_weight.ensures,
-      way-light plan c.args.level (slice_index (readers plan c.args.level c.args.node) c.loop-index.index) c.args.node
-          c.plan_is_sound.ensures.sound c.plan_is_sound.ensures.reached c.requires.level held.1 held.0,
-      c.loop-index.invariant.sum,
-      c.loop-index.invariant.adding.light,
-      c.loop-index.invariant.adding.size,
-      c.requires.parts.few,
-      parts-few plan c.args.node c.args.level c.plan_is_sound.ensures.sound c.requires.node c.requires.level,
-      readers-few plan c.args.level c.args.node c.plan_is_sound.ensures.matched c.plan_is_sound.ensures.sound
-          c.requires.level c.requires.node,
-      short,
-    )
+overflow_add-sum c = omega (
+  arith,
+  light-here c,
+  c.loop-index.invariant.sum,
+  c.loop-index.invariant.adding.light,
+  c.loop-index.invariant.adding.size,
+  c.requires.parts.few,
+  parts-few c.args.plan.now c.args.node c.args.level c.plan_is_sound.ensures.sound c.requires.node c.requires.level,
+  readers-few c.args.plan.now c.args.level c.args.node c.plan_is_sound.ensures.matched c.plan_is_sound.ensures.sound
+      c.requires.level c.requires.node,
+  short-here c,
+)
 
 pub loop-index-preserved : goal.loop-index-preserved
 loop-index-preserved c =
@@ -114,20 +106,10 @@ loop-index-preserved c =
     in
     let held = reader-held plan level node index c.plan_is_sound.ensures.matched c.requires.level c.requires.node short
     in
-    let now : RouteData = record {
-      levels = c.loop-index.self-inside.levels;
-      starts = c.loop-index.self-inside.starts.items;
-      places = c.loop-index.self-inside.places.items;
-      level_of = c.loop-index.self-inside.level_of.items;
-      ways = c.loop-index.self-inside.ways.items;
-    } in
-    let next : RouteData = record {
-      levels = c.loop-index.self-inside.levels;
-      starts = c.loop-index.self-inside.starts.items;
-      places = c.push_reserved.new.self.items;
-      level_of = c.loop-index.self-inside.level_of.items;
-      ways = c.push_reserved-in-loop-index.new.self.items;
-    } in
+    let its = c.loop-index.self-inside in
+    let now : RouteData = row_of its.levels its.starts its.places its.level_of its.ways in
+    let next : RouteData =
+    row_of its.levels its.starts c.push_reserved.new.self its.level_of c.push_reserved-in-loop-index.new.self in
     let sum : ℕ = c.loop-index.sum + 2 * c.reader_weight.result in
     let way : c.reader_weight.result ≡ inside plan level (slice_index (readers plan level node) index) node =
     c.reader_weight.ensures in
@@ -191,20 +173,9 @@ overflow_cast-len c =
 pub returns : goal.returns
 returns c =
     let plan = c.args.plan.now in
-    let now : RouteData = record {
-      levels = c.loop-index.self-inside.levels;
-      starts = c.loop-index.self-inside.starts.items;
-      places = c.loop-index.self-inside.places.items;
-      level_of = c.loop-index.self-inside.level_of.items;
-      ways = c.loop-index.self-inside.ways.items;
-    } in
-    let next : RouteData = record {
-      levels = c.loop-index.self-inside.levels;
-      starts = c.push.new.self.items;
-      places = c.loop-index.self-inside.places.items;
-      level_of = c.resize.new.self.items;
-      ways = c.loop-index.self-inside.ways.items;
-    } in
+    let its = c.loop-index.self-inside in
+    let now : RouteData = row_of its.levels its.starts its.places its.level_of its.ways in
+    let next : RouteData = row_of its.levels c.push.new.self its.places c.resize.new.self its.ways in
     let all : c.loop-index.index ≡ length (readers plan c.args.level c.args.node) =
     omega (
       arith,
