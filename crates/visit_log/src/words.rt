@@ -1,5 +1,5 @@
 //! A row of words, in 32 bits each while they are small.
-ghost use Rattle.std.specs.Prelude.{◌≡◌, ◌==◌, ◌<◌, ◌≤◌, ◌+◌, ◌++◌, IfOk, length, map, replicate, slice_index, slice_set, true, vec_capacity, vec_len};
+ghost use Rattle.std.specs.Prelude.{◌≡◌, ◌==◌, ◌<◌, ◌≤◌, ◌+◌, ◌++◌, ◌↔◌, IfOk, IsTrue, length, map, replicate, slice_index, slice_set, vec_capacity, vec_len};
 ghost use Rattle.visit_log.specs.Words.{IsSmall, word_of_narrow};
 
 use std::alloc::{AllocError, Global};
@@ -90,7 +90,7 @@ impl Words {
 
 // Whether a word can be kept in 32 bits.
 fn is_small(word: u64) -> bool
-    ensures { result ≡ true → IsSmall word }
+    ensures { IsTrue result ↔ IsSmall word }
 {
     (word >> 10) % (1 << 6) == 0 && (word >> 32) % (1 << 16) == 0 && word >> 54 == 0
 }
