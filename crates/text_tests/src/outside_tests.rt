@@ -253,10 +253,24 @@ fn sink_that_cannot_flush(rt: HostRuntime) {
     writes(&rt, &mut StdSink::new(Full), &[(b"a", Gave::Failed)]);
 }
 
-// A device that fails at its first write, and takes all bytes from then on.
+// A device that fails at its first call. From then on a read gives one byte, and a write takes all.
 #[derive(Drop)]
 struct Late {
     has_failed: bool,
+}
+
+impl Read for Late {
+    fn read(&mut self, into: &mut [u8]) -> std::io::Result<usize> {
+        if !self.has_failed {
+            self.has_failed = true;
+            return Err(Error::from(ErrorKind::Other));
+        }
+        if let [first, ..] = into {
+            *first = b'a';
+            return Ok(1);
+        }
+        Ok(0)
+    }
 }
 
 impl Write for Late {
@@ -280,5 +294,22 @@ fn sink_over_a_late_writer(rt: HostRuntime) {
         &rt,
         &mut StdSink::new(Late { has_failed: false }),
         &[(b"ab", Gave::Failed), (b"ab", Gave::Wrote(2))],
+    );
+}
+
+// Nor is a read that failed.
+#[test]
+fn source_over_a_late_reader(rt: HostRuntime) {
+    reads(
+        &rt,
+        &mut StdSource::new(Late { has_failed: false }),
+        &mut [b'-'; 2],
+        &[(Took::Failed, b"--"), (Took::Got(1), b"a-")],
+    );
+    fills(
+        &rt,
+        &mut StdSource::new(Late { has_failed: false }),
+        &mut [0; 2],
+        "!|a|",
     );
 }
