@@ -37,6 +37,7 @@ record IsRun (limit value : ℕ) (text : List ℕ) (n : ℕ) (rest : List ℕ) :
   digits : list_all is_ascii_digit ds ≡ true
   number : n ≡ read_on value ds
   low : value < limit → n < limit
+  stop : starts_with_digit rest ≡ false
 
 none-read : (value n : ℕ) (text rest : List ℕ)
     → ◌≡◌ {A = Option (ℕ × List ℕ)} (Some (value, text)) (Some (n, rest)) → (value ≡ n) × (text ≡ rest)
@@ -67,6 +68,7 @@ run-step limit value b n text rest true true digit small e go =
       digits = ap (λ c. c && list_all is_ascii_digit run.ds) digit ∙ run.digits;
       number = run.number;
       low = λ h. run.low below;
+      stop = run.stop;
     }
 run-step limit value b n text rest true false digit small e go = let bad : None ≡ Some (n, rest) = e in cc
 run-step limit value b n text rest false u digit small e go =
@@ -76,6 +78,7 @@ run-step limit value b n text rest false u digit small e go =
       digits = refl;
       number = sym both.0;
       low = λ h. subst (λ k. k < limit) both.0 h;
+      stop = sym (ap starts_with_digit both.1) ∙ digit;
     }
 
 digits-run : (limit value : ℕ) (text : List ℕ) (n : ℕ) (rest : List ℕ)
@@ -88,6 +91,7 @@ digits-run limit value [] n rest e =
       digits = refl;
       number = sym both.0;
       low = λ h. subst (λ k. k < limit) both.0 h;
+      stop = sym (ap starts_with_digit both.1);
     }
 digits-run limit value (b ∷ text) n rest e =
     run-step limit value b n text rest (is_ascii_digit b) (ltb (10 * value + (b - 48)) limit) refl refl e
@@ -186,3 +190,33 @@ number-low limit n text rest e =
     let went : (mid : List ℕ) × (word_in (codes " ") text ≡ Some mid) × (digits_in limit mid ≡ Some (n, rest)) =
     bind-inv (word_in (codes " ") text) (digits_in limit) (n, rest) e in
     digits-low limit n went.0 rest (ltb 0 limit) refl went.2
+
+-- no digit stands behind a number that is read
+first-stops : (limit b n : ℕ) (text rest : List ℕ) (z t : Bool)
+    → ◌≡◌ {A = Option (ℕ × List ℕ)}
+    (cond {A = Option (ℕ × List ℕ)} z (cond {A = Option (ℕ × List ℕ)} (starts_with_digit text) None (Some (0, text)))
+    (cond {A = Option (ℕ × List ℕ)} t (digits_from limit 0 (b ∷ text)) None))
+    (Some (n, rest))
+    → starts_with_digit rest ≡ false
+first-stops limit b n text rest true t e = at_zero (starts_with_digit text) refl e
+  where
+    at_zero : (s : Bool) → starts_with_digit text ≡ s
+        → ◌≡◌ {A = Option (ℕ × List ℕ)} (cond {A = Option (ℕ × List ℕ)} s None (Some (0, text))) (Some (n, rest))
+        → starts_with_digit rest ≡ false
+    at_zero true is e = let bad : None ≡ Some (n, rest) = e in cc
+    at_zero false is e = sym (ap starts_with_digit (none-read 0 n text rest e).1) ∙ is
+first-stops limit b n text rest false true e = (digits-run limit 0 (b ∷ text) n rest e).stop
+first-stops limit b n text rest false false e = let bad : None ≡ Some (n, rest) = e in cc
+
+digits-stop : (limit n : ℕ) (text rest : List ℕ) (t : Bool) → cond t (digits_of limit text) None ≡ Some (n, rest)
+    → starts_with_digit rest ≡ false
+digits-stop limit n [] rest true e = let bad : None ≡ Some (n, rest) = e in cc
+digits-stop limit n (b ∷ text) rest true e = first-stops limit b n text rest (eqb b 48) (is_ascii_digit b) e
+digits-stop limit n text rest false e = let bad : None ≡ Some (n, rest) = e in cc
+
+pub number-stops : (limit n : ℕ) (text rest : List ℕ) → number_in limit text ≡ Some (n, rest)
+    → starts_with_digit rest ≡ false
+number-stops limit n text rest e =
+    let went : (mid : List ℕ) × (word_in (codes " ") text ≡ Some mid) × (digits_in limit mid ≡ Some (n, rest)) =
+    bind-inv (word_in (codes " ") text) (digits_in limit) (n, rest) e in
+    digits-stop limit n went.0 rest (ltb 0 limit) went.2

@@ -1,10 +1,11 @@
 //! Worked examples, computed.
-ghost use Rattle.std.specs.Prelude.{◌≡◌, ◌++◌, ◌∷◌, [], ℕ, List, None, Some, codes, false, true};
-ghost use Rattle.directory.specs.declared.answers.Done.TheVariants.{Switched};
+ghost use Rattle.std.specs.Prelude.{◌≡◌, ◌<◌, ◌++◌, ◌∷◌, [], ℕ, List, None, Some, codes, false, true};
+ghost use Rattle.directory.specs.declared.answers.Done.TheVariants.{Found, Switched};
 ghost use Rattle.report_check.specs.Cuts.{input_part, report_part};
 ghost use Rattle.report_check.specs.Laws.{CallsAreText, NumbersAreText, WordsAreText};
-ghost use Rattle.report_check.specs.Reading.{call_in, number_in, word_in};
+ghost use Rattle.report_check.specs.Reading.{call_in, number_in, starts_with_digit, word_in};
 ghost use Rattle.report_check.specs.VerdictText.{verdict_line_of};
+ghost use Rattle.report_check.specs.declared.slots.Slot.{Slot};
 ghost use Rattle.report_check.specs.declared.slots.Slot.TheVariants.{Switch};
 ghost use Rattle.report_check.specs.declared.verdict.Flaw.TheVariants.{Form, Tickets, Place, Again, Weight};
 ghost use Rattle.report_check.specs.declared.verdict.Verdict.TheVariants.{Sound, Unsound};
@@ -285,12 +286,18 @@ pub fn example_readings()
     ensures short_word { word_in (codes "end") (codes "en") ≡ None }
     ensures begins { WordsAreText → (text : List ℕ)
         → word_in (codes "end") text ≡ Some (codes " 9") → text ≡ codes "end 9" }
+    ensures stands { WordsAreText → word_in (codes "end") (codes "end 9") ≡ Some (codes " 9") }
     ensures number { number_in 80 (codes " 79 x") ≡ Some (79, codes " x") }
     ensures limit { number_in 79 (codes " 79 x") ≡ None }
     ensures zeros { number_in 80 (codes " 079") ≡ None }
     ensures no_blank { number_in 80 (codes "79") ≡ None }
     ensures digits { NumbersAreText → (text : List ℕ)
         → number_in 80 text ≡ Some (79, codes " x") → text ≡ codes " 79 x" }
+    ensures below { NumbersAreText → (n : ℕ) (text rest : List ℕ)
+        → number_in 80 text ≡ Some (n, rest) → n < 80 }
+    ensures stops { NumbersAreText → (n : ℕ) (text rest : List ℕ)
+        → number_in 80 text ≡ Some (n, rest) → starts_with_digit rest ≡ false }
+    ensures written { NumbersAreText → number_in 80 (codes " 79 x") ≡ Some (79, codes " x") }
     ensures call { call_in (record { nodes = 4; levels = 3 }) (Switch 0 true 3 1)
         (codes "switch 0 off 3 number 1 ticket 6" then codes "end 7")
         ≡ Some (Switched 0 true 3 1 6, codes "end 7") }
@@ -300,4 +307,13 @@ pub fn example_readings()
         → call_in (record { nodes = 4; levels = 3 }) (Switch 0 true 3 1) text
         ≡ Some (Switched 0 true 3 1 6, codes "end 7")
         → text ≡ codes "switch 0 off 3 number 1 ticket 6" then codes "end 7" }
+    ensures own_slot { CallsAreText → (slot : Slot) (text rest : List ℕ)
+        → call_in (record { nodes = 4; levels = 3 }) slot text ≡ Some (Switched 0 true 3 1 6, rest)
+        → Switch 0 true 3 1 ≡ slot }
+    ensures in_bounds { CallsAreText → (slot : Slot) (text rest : List ℕ)
+        → call_in (record { nodes = 4; levels = 3 }) slot text
+        ≡ Some (Found 3 1 0 4 1 None 0 0 0, rest) → ⊥ }
+    ensures line_read { CallsAreText → call_in (record { nodes = 4; levels = 3 })
+        (Switch 0 true 3 1) (codes "switch 0 off 3 number 1 ticket 6" then codes "end 7")
+        ≡ Some (Switched 0 true 3 1 6, codes "end 7") }
 {}
