@@ -96,8 +96,8 @@ pub record IsReportOver (plan : PlanData) (contents : Contents) (text : List ℕ
   pub right : All (IsRightLine (plan_setting plan contents) (history_over plan contents))
       (outcome_over plan contents).calls
   -- of two answers about one subscriber, the one with the later last visit tells no lower number;
-  -- and of a caller's finds that answer, a later one has no earlier last visit, so that along its
-  -- finds of a subscriber the numbers never fall
+  -- and of a caller's finds, whether they answer or not, a later one begins behind the last visit
+  -- of an earlier one, so that along its finds of a subscriber the numbers never fall
   pub rising : TellRisingNumbers (outcome_over plan contents).calls
   pub in_turn : TellInTurn (outcome_over plan contents).calls
   -- a quiet find has its answer, and its weight is within the plan's bound: the stretch times the

@@ -1,4 +1,4 @@
--- The lines of an actor's finds come in the order of their last visits.
+-- Each line of an actor's finds begins behind the last visit of those before it.
 use Rattle.std.proofs.Common.{◌≡◌, ◌⊎◌, inl, inr, ℕ, zero, suc, ◌+◌, ◌<◌, ◌≤◌, List, [], ◌∷◌, ◌++◌, length, map, take, drop, fold, get_or, refl, sym, ap, ◌∙◌, subst, arith, Option}
 use Rattle.std.specs.Prelude.{Some, None, flat_map, slice_get}
 use Rattle.node_set.specs.Ascending.{IsAscending}
@@ -10,11 +10,12 @@ use Rattle.directory.specs.Histories.{History, tickets, words_read}
 use Rattle.directory.specs.Orders.{Answer, Caller as Seeker, IsPlayed, Scripts, after_read, caller_at, caller_in, finds_of, read_by, steps_of, with_pursuit}
 use Rattle.directory.specs.Outcomes.{FollowEachOther, answer_line, caller_lines, found_line, step_line, step_lines, sub_lines}
 use Rattle.directory.specs.Writes.{numbers_from, step_writes}
-use Rattle.directory.specs.CallLines.{actor_of}
+use Rattle.directory.specs.CallLines.{actor_of, find_of}
+use Rattle.directory.specs.declared.answers.FindLine.{FindLine}
 use Rattle.directory.specs.declared.answers.Done.{Done}
 use Rattle.directory.specs.declared.answers.Found.{Found}
 use Rattle.directory.specs.declared.answers.Found.TheVariants.{At, Off as OffAt, Again}
-use Rattle.trail_laws.specs.RightOutcomes.{LinesAreInTurn, TellsNumber}
+use Rattle.trail_laws.specs.RightOutcomes.{LinesAreInTurn}
 use Rattle.node_set.specs.SetLaws.{below_each}
 
 -- where an element of joined lists lies
@@ -29,30 +30,28 @@ append-at (x ∷ xs) ys (suc i) y h = elim (append-at xs ys i y h) [
 
 -- the answers of a caller come one after another, and their last looks have been made
 follow-above : (place : ℕ) (answers : List Answer) (j : ℕ) (b : Answer) → FollowEachOther place answers
-    → slice_get answers j ≡ Some b → place ≤ b.last
+    → slice_get answers j ≡ Some b → (place ≤ b.first) × (b.first ≤ b.last)
 unfolding FollowEachOther
 follow-above place [] j b follows at = cc
 follow-above place (a ∷ answers) zero b follows at =
     let same : a ≡ b = cc in
-    subst (λ (x : Answer). place ≤ x.last) same (omega (arith, follows.0, follows.1))
+    subst (λ (x : Answer). (place ≤ x.first) × (x.first ≤ x.last)) same (follows.0, follows.1)
 follow-above place (a ∷ answers) (suc j) b follows at =
-    omega (arith, follow-above (suc a.last) answers j b follows.2 at, follows.0, follows.1)
+    let above = follow-above (suc a.last) answers j b follows.2 at in
+    (omega (arith, above.0, follows.0, follows.1), above.1)
 
-follow-last : (place : ℕ) (answers : List Answer) (i j : ℕ) (a b : Answer) → FollowEachOther place answers
-    → i ≤ j → slice_get answers i ≡ Some a → slice_get answers j ≡ Some b → a.last ≤ b.last
+follow-behind : (place : ℕ) (answers : List Answer) (i j : ℕ) (a b : Answer) → FollowEachOther place answers
+    → i < j → slice_get answers i ≡ Some a → slice_get answers j ≡ Some b → (a.last < b.first) × (b.first ≤ b.last)
 unfolding FollowEachOther
-follow-last place [] i j a b follows le at_a at_b = cc
-follow-last place (x ∷ answers) zero zero a b follows le at_a at_b =
-    let one : x ≡ a = cc in
-    let two : x ≡ b = cc in
-    let same : a.last ≡ b.last = ap (λ (y : Answer). y.last) (sym one ∙ two) in omega (arith, same)
-follow-last place (x ∷ answers) zero (suc j) a b follows le at_a at_b =
+follow-behind place [] i j a b follows le at_a at_b = cc
+follow-behind place (x ∷ answers) zero zero a b follows le at_a at_b = absurd (omega (arith, le))
+follow-behind place (x ∷ answers) zero (suc j) a b follows le at_a at_b =
     let one : x ≡ a = cc in
     let same : x.last ≡ a.last = ap (λ (y : Answer). y.last) one in
-    omega (arith, same, follow-above (suc x.last) answers j b follows.2 at_b)
-follow-last place (x ∷ answers) (suc i) zero a b follows le at_a at_b = absurd (omega (arith, le))
-follow-last place (x ∷ answers) (suc i) (suc j) a b follows le at_a at_b =
-    follow-last (suc x.last) answers i j a b follows.2 (omega (arith, le)) at_a at_b
+    let above = follow-above (suc x.last) answers j b follows.2 at_b in (omega (arith, same, above.0), above.1)
+follow-behind place (x ∷ answers) (suc i) zero a b follows le at_a at_b = absurd (omega (arith, le))
+follow-behind place (x ∷ answers) (suc i) (suc j) a b follows le at_a at_b =
+    follow-behind (suc x.last) answers i j a b follows.2 (omega (arith, le)) at_a at_b
 
 abbrev AreLooked : ℕ → List Answer → Type 0
 AreLooked next answers = (i : ℕ) (a : Answer) → slice_get answers i ≡ Some a → a.last < next
@@ -100,6 +99,15 @@ get-rising (x ∷ xs) (suc i) zero ascending le short = absurd (omega (arith, le
 get-rising (x ∷ xs) (suc i) (suc j) ascending le short =
     get-rising xs i j ascending.1 (omega (arith, le)) (omega (arith, short))
 
+get-above : (xs : List ℕ) (i j : ℕ) → IsAscending xs → i < j → j < length xs → get_or xs i 0 < get_or xs j 0
+get-above [] i j ascending le short = absurd (omega (arith, short))
+get-above (x ∷ xs) zero zero ascending le short = absurd (omega (arith, le))
+get-above (x ∷ xs) zero (suc j) ascending le short =
+    omega (arith, below_each x xs j ascending.0 (omega (arith, short)))
+get-above (x ∷ xs) (suc i) zero ascending le short = absurd (omega (arith, le))
+get-above (x ∷ xs) (suc i) (suc j) ascending le short =
+    get-above xs i j ascending.1 (omega (arith, le)) (omega (arith, short))
+
 -- so the lines of one caller are in turn
 map-at : {A B : Type 0} (f : A → B) (xs : List A) (i : ℕ) (y : B) → slice_get (map f xs) i ≡ Some y
     → (x : A) × (slice_get xs i ≡ Some x) × (f x ≡ y)
@@ -107,11 +115,20 @@ map-at f [] i y h = cc
 map-at f (x ∷ xs) zero y h = let same : f x ≡ y = cc in (x, refl, same)
 map-at f (x ∷ xs) (suc i) y h = map-at f xs i y h
 
-line-last : (caller : ℕ) (call : FindCall) (found : Found) (first last s q ticket : ℕ)
-    → TellsNumber (found_line caller call found first last) s q ticket → last ≡ ticket
-line-last caller call (At node number level weight) first last s q ticket told = told.2
-line-last caller call (OffAt node number level weight) first last s q ticket told = told.2
-line-last caller call (Again why weight) first last s q ticket told = absurd told
+first-of : Option FindLine → ℕ
+first-of None = 0
+first-of (Some find) = find.first
+
+last-of : Option FindLine → ℕ
+last-of None = 0
+last-of (Some find) = find.last
+
+line-visits : (caller : ℕ) (call : FindCall) (found : Found) (first last : ℕ) (find : FindLine)
+    → find_of (found_line caller call found first last) ≡ Some find → (first ≡ find.first) × (last ≡ find.last)
+unfolding first-of last-of
+line-visits caller call (At node number level weight) first last find is = (ap first-of is, ap last-of is)
+line-visits caller call (OffAt node number level weight) first last find is = (ap first-of is, ap last-of is)
+line-visits caller call (Again why weight) first last find is = (ap first-of is, ap last-of is)
 
 actor-found : (caller : ℕ) (call : FindCall) (found : Found) (first last : ℕ)
     → actor_of (found_line caller call found first last) ≡ caller
@@ -120,31 +137,41 @@ actor-found caller call (OffAt node number level weight) first last = refl
 actor-found caller call (Again why weight) first last = refl
 
 abbrev AreInTurn : Done → Done → Type 0
-AreInTurn one other = (sub s p q earlier later : ℕ) → TellsNumber one sub p earlier → TellsNumber other s q later
-    → earlier ≤ later
+AreInTurn one other = (earlier later : FindLine) → find_of one ≡ Some earlier → find_of other ≡ Some later
+    → (earlier.last < later.first) × (later.first ≤ later.last)
 
 caller-in-turn : FindsFollow → CallersCount → TicketsAscend → (setting : Setting) (scripts : Scripts)
     (history : History) → IsPlayed setting scripts history → (actor i j : ℕ) (one other : Done)
-    → subs setting ≤ actor → i ≤ j → slice_get (caller_lines setting scripts history actor) i ≡ Some one
+    → subs setting ≤ actor → i < j → slice_get (caller_lines setting scripts history actor) i ≡ Some one
     → slice_get (caller_lines setting scripts history actor) j ≡ Some other → AreInTurn one other
 caller-in-turn follow count ascend setting scripts history played actor i j one other high le at_one at_other
-    sub s p q earlier later told_one told_other =
+    earlier later is_earlier is_later =
     let seen : List ℕ = tickets actor history in
     let seeker : Seeker = caller_in setting scripts history actor in
     let a = map-at (answer_line actor seen) seeker.answers i one at_one in
     let b = map-at (answer_line actor seen) seeker.answers j other at_other in
-    let order : a.0.last ≤ b.0.last =
-    follow-last 0 seeker.answers i j a.0 b.0 (follow setting scripts history actor high played) le a.1 b.1 in
+    let order = follow-behind 0 seeker.answers i j a.0 b.0 (follow setting scripts history actor high played) le
+    a.1 b.1 in
     let looked : b.0.last < seeker.next = looked-all setting (words_read setting actor history)
     (caller_at (finds_of setting scripts actor)) (λ k x at. cc) j b.0 b.1 in
-    omega (
-      arith,
-      line-last actor a.0.call a.0.found (get_or seen a.0.first 0) (get_or seen a.0.last 0) sub p earlier
-          (subst (λ (l : Done). TellsNumber l sub p earlier) (sym a.2) told_one),
-      line-last actor b.0.call b.0.found (get_or seen b.0.first 0) (get_or seen b.0.last 0) s q later
-          (subst (λ (l : Done). TellsNumber l s q later) (sym b.2) told_other),
-      get-rising seen a.0.last b.0.last (ascend actor history) order
-          (omega (arith, looked, (count setting scripts history actor high played).0)),
+    let short : b.0.last < length seen =
+    omega (arith, looked, (count setting scripts history actor high played).0) in
+    let one_is = line-visits actor a.0.call a.0.found (get_or seen a.0.first 0) (get_or seen a.0.last 0) earlier
+    (subst (λ (l : Done). find_of l ≡ Some earlier) (sym a.2) is_earlier) in
+    let other_is = line-visits actor b.0.call b.0.found (get_or seen b.0.first 0) (get_or seen b.0.last 0) later
+    (subst (λ (l : Done). find_of l ≡ Some later) (sym b.2) is_later) in (
+      omega (
+        arith,
+        one_is.1,
+        other_is.0,
+        get-above seen a.0.last b.0.first (ascend actor history) order.0 (omega (arith, order.1, short)),
+      ),
+      omega (
+        arith,
+        other_is.0,
+        other_is.1,
+        get-rising seen b.0.first b.0.last (ascend actor history) order.1 short,
+      ),
     )
 
 line-of-caller : (setting : Setting) (scripts : Scripts) (history : History) (actor i : ℕ) (line : Done)
@@ -172,9 +199,9 @@ block-above f x (suc k) each i y h = elim (append-at (f x) (flat_map f (numbers_
 
 all-in-turn : (f : ℕ → List Done) (x k : ℕ) → ((a i : ℕ) (y : Done) → x ≤ a → slice_get (f a) i ≡ Some y
     → actor_of y ≡ a)
-    → ((a i j : ℕ) (one other : Done) → x ≤ a → i ≤ j → slice_get (f a) i ≡ Some one
+    → ((a i j : ℕ) (one other : Done) → x ≤ a → i < j → slice_get (f a) i ≡ Some one
     → slice_get (f a) j ≡ Some other → AreInTurn one other)
-    → (i j : ℕ) (one other : Done) → i ≤ j → slice_get (flat_map f (numbers_from x k)) i ≡ Some one
+    → (i j : ℕ) (one other : Done) → i < j → slice_get (flat_map f (numbers_from x k)) i ≡ Some one
     → slice_get (flat_map f (numbers_from x k)) j ≡ Some other → actor_of one ≡ actor_of other → AreInTurn one other
 all-in-turn f x zero each order i j one other le at_one at_other same = cc
 all-in-turn f x (suc k) each order i j one other le at_one at_other same =
@@ -188,7 +215,7 @@ all-in-turn f x (suc k) each order i j one other le at_one at_other same =
 
     at_parts : (slice_get (f x) i ≡ Some one) ⊎ ((m : ℕ) × (i ≡ length (f x) + m) × (slice_get rest m ≡ Some one))
         → (slice_get (f x) j ≡ Some other) ⊎ ((n : ℕ) × (j ≡ length (f x) + n) × (slice_get rest n ≡ Some other))
-        → ((m n : ℕ) → m ≤ n → slice_get rest m ≡ Some one → slice_get rest n ≡ Some other → AreInTurn one other)
+        → ((m n : ℕ) → m < n → slice_get rest m ≡ Some one → slice_get rest n ≡ Some other → AreInTurn one other)
         → AreInTurn one other
     at_parts (inl a) (inl b) later = order x i j one other (omega arith) le a b
     at_parts (inl a) (inr b) later = absurd (omega (
@@ -200,42 +227,42 @@ all-in-turn f x (suc k) each order i j one other le at_one at_other same =
     at_parts (inr a) (inl b) later = absurd (omega (arith, le, a.1, got-within (f x) j other b))
     at_parts (inr a) (inr b) later = later a.0 b.0 (omega (arith, le, a.1, b.1)) a.2 b.2
 
--- the lines of subscribers tell no numbers
-step-untold : (setting : Setting) (sub : ℕ) (course : Course) (step : Step) (seen : List ℕ) (s q ticket : ℕ)
-    → TellsNumber (step_line setting sub course step seen) s q ticket → ⊥
-step-untold setting sub course (move_to node) seen s q ticket told = told
-step-untold setting sub course switch_off seen s q ticket told = told
-step-untold setting sub course switch_on seen s q ticket told = told
+-- the lines of subscribers tell of no find
+step-untold : (setting : Setting) (sub : ℕ) (course : Course) (step : Step) (seen : List ℕ) (find : FindLine)
+    → find_of (step_line setting sub course step seen) ≡ Some find → ⊥
+step-untold setting sub course (move_to node) seen find told = cc
+step-untold setting sub course switch_off seen find told = cc
+step-untold setting sub course switch_on seen find told = cc
 
 steps-untold : (setting : Setting) (sub : ℕ) (course : Course) (steps : List Step) (seen : List ℕ) (i : ℕ)
-    (line : Done) (s q ticket : ℕ) → slice_get (step_lines setting sub course steps seen) i ≡ Some line
-    → TellsNumber line s q ticket → ⊥
+    (line : Done) (find : FindLine) → slice_get (step_lines setting sub course steps seen) i ≡ Some line
+    → find_of line ≡ Some find → ⊥
 unfolding step_lines
-steps-untold setting sub course [] seen i line s q ticket at told = cc
-steps-untold setting sub course (step ∷ steps) seen zero line s q ticket at told =
+steps-untold setting sub course [] seen i line find at told = cc
+steps-untold setting sub course (step ∷ steps) seen zero line find at told =
     let first : List ℕ = take (length (step_writes setting course step)) seen in
     let same : step_line setting sub course step first ≡ line = cc in
-    step-untold setting sub course step first s q ticket
-    (subst (λ (l : Done). TellsNumber l s q ticket) (sym same) told)
-steps-untold setting sub course (step ∷ steps) seen (suc i) line s q ticket at told =
+    step-untold setting sub course step first find
+    (subst (λ (l : Done). find_of l ≡ Some find) (sym same) told)
+steps-untold setting sub course (step ∷ steps) seen (suc i) line find at told =
     steps-untold setting sub (after_step setting course step) steps
-    (drop (length (step_writes setting course step)) seen) i line s q ticket at told
+    (drop (length (step_writes setting course step)) seen) i line find at told
 
 subs-untold : (setting : Setting) (scripts : Scripts) (history : History) (some : List ℕ) (i : ℕ) (line : Done)
-    (s q ticket : ℕ) → slice_get (flat_map (sub_lines setting scripts history) some) i ≡ Some line
-    → TellsNumber line s q ticket → ⊥
-subs-untold setting scripts history [] i line s q ticket at told = cc
-subs-untold setting scripts history (sub ∷ some) i line s q ticket at told = elim
+    (find : FindLine) → slice_get (flat_map (sub_lines setting scripts history) some) i ≡ Some line
+    → find_of line ≡ Some find → ⊥
+subs-untold setting scripts history [] i line find at told = cc
+subs-untold setting scripts history (sub ∷ some) i line find at told = elim
     (append-at (sub_lines setting scripts history sub) (flat_map (sub_lines setting scripts history) some) i line at) [
       | inl here ↦ steps-untold setting sub (course_at (start setting sub)) (steps_of scripts sub)
-          (tickets sub history) i line s q ticket here told
-      | inr there ↦ subs-untold setting scripts history some there.0 line s q ticket there.2 told
+          (tickets sub history) i line find here told
+      | inr there ↦ subs-untold setting scripts history some there.0 line find there.2 told
     ]
 
 -- so all lines are in turn
 pub outcome-in-turn : FindsFollow → CallersCount → TicketsAscend → LinesAreInTurn
 outcome-in-turn follow count ascend setting scripts history played i j one other le at_one at_other same
-    sub s p q earlier later told_one told_other =
+    earlier later is_earlier is_later =
     at_parts (append-at steps finds i one at_one) (append-at steps finds j other at_other)
   where
     steps : List Done
@@ -246,10 +273,10 @@ outcome-in-turn follow count ascend setting scripts history played i j one other
 
     at_parts : (slice_get steps i ≡ Some one) ⊎ ((m : ℕ) × (i ≡ length steps + m) × (slice_get finds m ≡ Some one))
         → (slice_get steps j ≡ Some other) ⊎ ((n : ℕ) × (j ≡ length steps + n) × (slice_get finds n ≡ Some other))
-        → earlier ≤ later
-    at_parts (inl a) b = absurd (subs-untold setting scripts history _ i one sub p earlier a told_one)
-    at_parts (inr a) (inl b) = absurd (subs-untold setting scripts history _ j other s q later b told_other)
+        → (earlier.last < later.first) × (later.first ≤ later.last)
+    at_parts (inl a) b = absurd (subs-untold setting scripts history _ i one earlier a is_earlier)
+    at_parts (inr a) (inl b) = absurd (subs-untold setting scripts history _ j other later b is_later)
     at_parts (inr a) (inr b) = all-in-turn (caller_lines setting scripts history) (subs setting) (length scripts.finds)
         (λ actor k line high. line-of-caller setting scripts history actor k line)
         (λ actor m n x y high. caller-in-turn follow count ascend setting scripts history played actor m n x y high)
-        a.0 b.0 one other (omega (arith, le, a.1, b.1)) a.2 b.2 same sub s p q earlier later told_one told_other
+        a.0 b.0 one other (omega (arith, le, a.1, b.1)) a.2 b.2 same earlier later is_earlier is_later

@@ -1,15 +1,16 @@
 -- What the lines of an outcome say of the history that they come from. A find that answers names
 -- the node where its subscriber stood at the find's last visit; a find that is to be made again had
 -- a visit of a move of its subscriber within it. Key laws: `outcomes_are_right` (so it is for every
--- order of valid scripts), `lines_are_in_turn` (a caller's lines come in the order of their last
--- visits).
-use Rattle.std.specs.Prelude.{◌≡◌, ℕ, ◌≤◌, ◌^◌, true, All, IfSome, List, Some, slice_get}
+-- order of valid scripts), `lines_are_in_turn` (each of a caller's lines begins behind the one
+-- before).
+use Rattle.std.specs.Prelude.{◌≡◌, ℕ, ◌<◌, ◌≤◌, ◌^◌, true, All, IfSome, List, Some, slice_get}
 use Rattle.directory.specs.Settings.{Setting}
 use Rattle.directory.specs.Histories.{History}
 use Rattle.directory.specs.Looks.{moves_at}
 use Rattle.directory.specs.Orders.{AreValid, IsPlayed, Scripts, history_of}
 use Rattle.directory.specs.Outcomes.{outcome_in, outcome_of}
 use Rattle.directory.specs.CallLines.{actor_of, find_of}
+use Rattle.directory.specs.declared.answers.FindLine.{FindLine}
 use Rattle.directory.specs.declared.answers.Found.{Found}
 use Rattle.directory.specs.declared.answers.Found.TheVariants.{At, Off as OffAt, Again}
 use Rattle.directory.specs.declared.answers.Done.{Done}
@@ -64,14 +65,15 @@ NumbersRise =
     (setting : Setting) (scripts : Scripts) (order : List ℕ) → setting.nodes ≤ 2 ^ 16
     → AreValid setting scripts → TellRisingNumbers (outcome_of setting scripts order).calls
 
--- of two lines of an actor that tell numbers, the one that comes later has no earlier last visit,
--- so that along one actor's finds of a subscriber the numbers never fall
+-- of two lines of an actor's finds, whatever they answer, the one that comes later begins behind
+-- the last visit of the other, and doesn't end before it begins; so along one actor's finds of a
+-- subscriber the numbers never fall
 abbrev pub TellInTurn : List Done → Type 0
 TellInTurn calls =
-    (i j : ℕ) (one other : Done) → i ≤ j → slice_get calls i ≡ Some one
+    (i j : ℕ) (one other : Done) → i < j → slice_get calls i ≡ Some one
     → slice_get calls j ≡ Some other → actor_of one ≡ actor_of other
-    → (sub s p q earlier later : ℕ) → TellsNumber one sub p earlier → TellsNumber other s q later
-    → earlier ≤ later
+    → (earlier later : FindLine) → find_of one ≡ Some earlier → find_of other ≡ Some later
+    → (earlier.last < later.first) × (later.first ≤ later.last)
 
 -- so they do in the outcome of every history of scripts (`lines_are_in_turn`)
 abbrev pub LinesAreInTurn : Type 0

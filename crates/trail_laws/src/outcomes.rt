@@ -23,8 +23,8 @@ pub fn outcomes_are_right()
     lines_are_made();
 }
 
-/// In every history of scripts the lines of an actor's finds that tell a number come in the order
-/// of their last visits, so that along its finds of a subscriber the numbers never fall.
+/// In every history of scripts each line of an actor's finds begins behind the last visit of those
+/// before it, so that along its finds of a subscriber the numbers never fall.
 pub fn lines_are_in_turn()
     ensures { LinesAreInTurn }
 {

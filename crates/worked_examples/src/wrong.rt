@@ -40,4 +40,10 @@ pub fn wrong_lines()
         (FoundBy 1 0 0 3 2 None 0 4 5 ∷ FoundBy 1 0 1 3 2 None 0 0 3 ∷ []) → ⊥ }
     ensures off_out_of_turn { TellInTurn
         (OffBy 1 0 0 3 2 None 0 4 5 ∷ FoundBy 1 0 1 3 2 None 0 0 3 ∷ []) → ⊥ }
+    ensures again_out_of_turn { TellInTurn
+        (AgainBy 1 0 0 NoEntry 0 4 6 ∷ FoundBy 1 0 1 3 2 None 0 5 7 ∷ []) → ⊥ }
+    ensures at_once { TellInTurn
+        (FoundBy 1 0 0 3 2 None 0 4 5 ∷ FoundBy 1 0 1 3 2 None 0 5 7 ∷ []) → ⊥ }
+    ensures turned { TellInTurn
+        (FoundBy 1 0 0 3 2 None 0 0 3 ∷ FoundBy 1 0 1 3 2 None 0 5 4 ∷ []) → ⊥ }
 {}

@@ -1,8 +1,13 @@
-use Rattle.std.proofs.Common.{◌≡◌, ℕ, zero, suc, ◌≤◌, ◌+◌, ◌*◌, false, [], ◌∷◌, refl, sym, ◌∙◌, arith}
+use Rattle.std.proofs.Common.{◌≡◌, ℕ, zero, suc, ◌<◌, ◌≤◌, ◌+◌, ◌*◌, false, [], ◌∷◌, refl, sym, ◌∙◌, arith}
 use Rattle.std.proofs.lemmas.Bool.{true≢false}
+use Rattle.std.specs.Prelude.{None}
 use Rattle.directory.specs.Courses.{highest, move_to}
 use Rattle.directory.specs.Writes.{writes, visits}
 use Rattle.directory.specs.Looks.{moves_at}
+use Rattle.directory.specs.declared.answers.FindLine.{FindLine}
+use Rattle.directory.specs.declared.answers.Found.{Found}
+use Rattle.directory.specs.declared.answers.Found.TheVariants.{At, Off as OffAt, Again}
+use Rattle.directory.specs.declared.answers.Why.TheVariants.{NoEntry}
 use Rattle.plan_laws.specs.Examples.{line_setting}
 use Rattle.worked_examples.specs.Passes.{count_by}
 use Rattle.worked_examples.proofs.wrong.wrong_lines.Goals as goal
@@ -65,10 +70,26 @@ pub returns-clause-falling_off : goal.returns-clause-falling_off
 returns-clause-falling_off c = λ r. let e : 2 ≤ 1 = r 0 1 _ _ refl refl 0 2 1 3 5 (refl, refl, refl)
     (refl, refl, refl) (omega arith) in omega (arith, e)
 
+abbrev find : ℕ → Found → ℕ → ℕ → FindLine
+find sub found first last =
+    record { actor = 1; from = 0; sub = sub; found = found; first = first; last = last }
+
 pub returns-clause-out_of_turn : goal.returns-clause-out_of_turn
-returns-clause-out_of_turn c = λ r. let e : 5 ≤ 3 = r 0 1 _ _ (omega arith) refl refl refl 0 1 2 2 5 3
-    (refl, refl, refl) (refl, refl, refl) in omega (arith, e)
+returns-clause-out_of_turn c = λ r. let e : 5 < 0 = (r 0 1 _ _ (omega arith) refl refl refl
+    (find 0 (At 3 2 None 0) 4 5) (find 1 (At 3 2 None 0) 0 3) refl refl).0 in omega (arith, e)
 
 pub returns-clause-off_out_of_turn : goal.returns-clause-off_out_of_turn
-returns-clause-off_out_of_turn c = λ r. let e : 5 ≤ 3 = r 0 1 _ _ (omega arith) refl refl refl 0 1 2 2 5 3
-    (refl, refl, refl) (refl, refl, refl) in omega (arith, e)
+returns-clause-off_out_of_turn c = λ r. let e : 5 < 0 = (r 0 1 _ _ (omega arith) refl refl refl
+    (find 0 (OffAt 3 2 None 0) 4 5) (find 1 (At 3 2 None 0) 0 3) refl refl).0 in omega (arith, e)
+
+pub returns-clause-again_out_of_turn : goal.returns-clause-again_out_of_turn
+returns-clause-again_out_of_turn c = λ r. let e : 6 < 5 = (r 0 1 _ _ (omega arith) refl refl refl
+    (find 0 (Again NoEntry 0) 4 6) (find 1 (At 3 2 None 0) 5 7) refl refl).0 in omega (arith, e)
+
+pub returns-clause-at_once : goal.returns-clause-at_once
+returns-clause-at_once c = λ r. let e : 5 < 5 = (r 0 1 _ _ (omega arith) refl refl refl
+    (find 0 (At 3 2 None 0) 4 5) (find 1 (At 3 2 None 0) 5 7) refl refl).0 in omega (arith, e)
+
+pub returns-clause-turned : goal.returns-clause-turned
+returns-clause-turned c = λ r. let e : 5 ≤ 4 = (r 0 1 _ _ (omega arith) refl refl refl
+    (find 0 (At 3 2 None 0) 0 3) (find 1 (At 3 2 None 0) 5 4) refl refl).1 in omega (arith, e)
