@@ -53,6 +53,26 @@ switches = contents_with (Off ∷ On ∷ []) (Find 3 0 ∷ [])
 abbrev pub lone_find : Contents
 lone_find = contents_with ([]) (Find 3 0 ∷ [])
 
+-- three finds from node 3, of a subscriber that makes no call
+abbrev pub three_finds : Contents
+three_finds = contents_with ([]) (Find 3 0 ∷ Find 3 0 ∷ Find 3 0 ∷ [])
+
+-- two subscribers, at nodes 3 and 0, and a caller, whose calls these are
+abbrev pub contents_of_two : List Call → List Call → List Call → Contents
+contents_of_two steps others finds =
+    record (contents_with steps finds) {
+      homes = 3 ∷ 0 ∷ [];
+      scripts = steps ∷ others ∷ finds ∷ [];
+    }
+
+-- a move of each to the node beside it, and a find of the first from node 3
+abbrev pub both_move : Contents
+both_move = contents_of_two (Move 2 ∷ []) (Move 1 ∷ []) (Find 3 0 ∷ [])
+
+-- the second switches off, and a find of the first from node 3
+abbrev pub other_off : Contents
+other_off = contents_of_two ([]) (Off ∷ []) (Find 3 0 ∷ [])
+
 -- the verdict on a report of these calls
 abbrev pub verdict_for : Contents → List ℕ → Verdict
 verdict_for contents report = verdict_of line_of_four contents report

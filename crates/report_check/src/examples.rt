@@ -9,7 +9,7 @@ ghost use Rattle.report_check.specs.declared.slots.Slot.{Slot};
 ghost use Rattle.report_check.specs.declared.slots.Slot.TheVariants.{Switch};
 ghost use Rattle.report_check.specs.declared.verdict.Flaw.TheVariants.{Form, Tickets, Place, Again, Weight};
 ghost use Rattle.report_check.specs.declared.verdict.Verdict.TheVariants.{Sound, Unsound};
-ghost use Rattle.report_check.specs.Examples.{◌then◌, lone_find, near_find, one_move, switches, two_moves, two_moves_near, verdict_for};
+ghost use Rattle.report_check.specs.Examples.{◌then◌, both_move, lone_find, near_find, one_move, other_off, switches, three_finds, two_moves, two_moves_near, verdict_for};
 
 /// A sound report, and how it is broken.
 pub fn worked_reports()
@@ -136,6 +136,16 @@ pub fn flaws_of_tickets()
         codes "move 0 1 3 2 weight 1 first 0 commit 3 last 5" then
         codes "find 1 3 0 at 2 number 1 level 0 weight 5 first 6 last 8" then
         codes "end 0" then []) ≡ Unsound 1 Tickets }
+    ensures in_turn { verdict_for three_finds (
+        codes "find 1 3 0 at 3 number 0 level - weight 0 first 0 last 1" then
+        codes "find 1 3 0 at 3 number 0 level - weight 0 first 2 last 2" then
+        codes "find 1 3 0 at 3 number 0 level - weight 0 first 3 last 3" then
+        codes "order 1 1 1 1" then codes "end 4" then []) ≡ Sound }
+    ensures ends_before_it_begins { verdict_for three_finds (
+        codes "find 1 3 0 at 3 number 0 level - weight 0 first 0 last 1" then
+        codes "find 1 3 0 at 3 number 0 level - weight 0 first 2 last 1" then
+        codes "find 1 3 0 at 3 number 0 level - weight 0 first 2 last 3" then
+        codes "order 1 1 1 1" then codes "end 4" then []) ≡ Unsound 2 Tickets }
 {}
 
 /// Moves count by their commits, and a passage is open up to its confirm.
@@ -164,6 +174,16 @@ pub fn moves_by_tickets()
         codes "move 0 1 3 2 weight 1 first 0 commit 5 last 7" then
         codes "find 1 2 0 at 3 number 0 level 0 weight 999 first 1 last 4" then
         codes "order 0 1 0 0 1 0 0 0" then codes "end 8" then []) ≡ Sound }
+    ensures moves_of_another { verdict_for both_move (
+        codes "move 0 1 3 2 weight 1 first 0 commit 1 last 2" then
+        codes "move 1 1 0 1 weight 1 first 3 commit 4 last 5" then
+        codes "find 2 3 0 at 2 number 1 level - weight 5 first 6 last 6" then
+        codes "order 0 0 0 1 1 1 2" then codes "end 7" then []) ≡ Sound }
+    ensures met_another { verdict_for both_move (
+        codes "move 0 1 3 2 weight 1 first 0 commit 1 last 2" then
+        codes "move 1 1 0 1 weight 1 first 4 commit 6 last 7" then
+        codes "again 2 3 0 none weight 5 first 3 last 5" then
+        codes "order 0 0 0 2 1 2 1 1" then codes "end 8" then []) ≡ Unsound 3 Again }
 {}
 
 /// Switches.
@@ -189,6 +209,10 @@ pub fn switches_by_tickets()
         codes "switch 0 on 3 number 0 ticket 2" then
         codes "off 1 3 0 at 3 number 0 level - weight 0 first 1 last 1" then
         codes "order 0 1 0" then codes "end 3" then []) ≡ Unsound 1 Form }
+    ensures switch_of_another { verdict_for other_off (
+        codes "switch 1 off 0 number 0 ticket 0" then
+        codes "find 2 3 0 at 3 number 0 level - weight 0 first 1 last 1" then
+        codes "order 1 2" then codes "end 2" then []) ≡ Sound }
 {}
 
 /// Where texts are cut: on the first line, with blanks and a carriage return, at the first of two,

@@ -25,3 +25,11 @@ returns-clause-early_last c = refl
 pub returns-clause-no_visits : goal.returns-clause-no_visits
 unfolding judged
 returns-clause-no_visits c = refl
+
+pub returns-clause-in_turn : goal.returns-clause-in_turn
+unfolding judged
+returns-clause-in_turn c = refl
+
+pub returns-clause-ends_before_it_begins : goal.returns-clause-ends_before_it_begins
+unfolding judged
+returns-clause-ends_before_it_begins c = refl

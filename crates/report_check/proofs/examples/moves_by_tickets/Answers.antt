@@ -25,3 +25,11 @@ returns-clause-met c = refl
 pub returns-clause-met_heavy : goal.returns-clause-met_heavy
 unfolding judged
 returns-clause-met_heavy c = refl
+
+pub returns-clause-moves_of_another : goal.returns-clause-moves_of_another
+unfolding judged
+returns-clause-moves_of_another c = refl
+
+pub returns-clause-met_another : goal.returns-clause-met_another
+unfolding judged
+returns-clause-met_another c = refl

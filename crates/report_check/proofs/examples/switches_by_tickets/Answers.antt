@@ -21,3 +21,7 @@ returns-clause-two_tickets c = refl
 pub returns-clause-wrong_state : goal.returns-clause-wrong_state
 unfolding judged
 returns-clause-wrong_state c = refl
+
+pub returns-clause-switch_of_another : goal.returns-clause-switch_of_another
+unfolding judged
+returns-clause-switch_of_another c = refl
