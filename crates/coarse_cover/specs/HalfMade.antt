@@ -10,7 +10,6 @@ use Rattle.coarse_cover.specs.Covers.{cluster_list, as_cluster}
 use Rattle.coarse_cover.specs.declared.cover.Cluster.{Cluster}
 use Rattle.coarse_cover.specs.declared.cover.Cover.{Cover}
 use Rattle.node_set.specs.Balls.{ball, touches, GrownCluster, home_of}
-use Rattle.node_set.specs.Workspaces.{IsWorkspace}
 use Rattle.node_set.specs.declared.workspace.Workspace.{Workspace}
 
 -- the clusters of a phase, from these waiting balls on
@@ -67,5 +66,4 @@ pub record IsAdded (n : ℕ) (balls : List (List ℕ)) (c : GrownCluster) (old n
       → slice_index after.home.items v ≡
       cond (has v c.homed) (length before.clusters.items) (slice_index before.home.items v)
   pub phases : after.phases ≡ before.phases
-  pub sized : IsWorkspace n new
   pub home_count : length after.home.items ≡ n

@@ -50,7 +50,7 @@ pub fn coarsen(alloc: Global, balls: &[NodeSet], k: u32) -> Result<Cover, OutOfM
 
 /// Coarsens balls as `coarsen` does, where their rows are there: the row of each node is the set of
 /// the centres of the balls that have it. Balls of distances are their own rows. The workspace is
-/// for as many balls.
+/// for as many balls, and stays so where memory is wanting.
 pub fn coarsen_by_rows(
     alloc: Global,
     balls: &[NodeSet],
@@ -67,7 +67,7 @@ pub fn coarsen_by_rows(
     requires low { 1 ≤ k }
     requires high { k ≤ 8 }
     requires work { IsWorkspace (length balls.now) work.old }
-    ensures work { OnOk result (IsWorkspace (length balls.now) work.new) }
+    ensures work { IsWorkspace (length balls.now) work.new }
     ensures exact { IfOk result (λ cover.
         IsCover (length balls.now) (coarsening (sets balls.now) k) cover) }
     ensures phases { IfOk result (λ cover. cover.phases ^ k ≤ k ^ k * length balls.now) }

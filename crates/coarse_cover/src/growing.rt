@@ -47,10 +47,10 @@ pub fn grow(
         ≡ filter (touches (sets balls.now)
         (cluster_of (sets balls.now) k r waiting.now.members first).members)
         waiting.now.members) }
-    ensures taken_room { OnOk result (growth.new.taken.room ≡ length balls.now) }
-    ensures touched_room { OnOk result (growth.new.touched.room ≡ length balls.now) }
-    ensures spare_rooms { OnOk result
-        (All (λ (s : Nodes). s.room ≡ length balls.now) growth.new.spare.items) }
+    ensures taken_room { growth.new.taken.room ≡ length balls.now }
+    ensures touched_room { growth.new.touched.room ≡ length balls.now }
+    ensures spare_rooms { All (λ (s : Nodes). s.room ≡ length balls.now)
+        growth.new.spare.items }
 {
     let mut members = empty_set(alloc, &mut growth.spare, balls.len() as u32)?;
     members.absorb(&balls[first]);

@@ -37,9 +37,10 @@ fn add_cluster(
     requires ready { IsReady (sets balls.now) k r work.old.waiting.members }
     requires first { first < length balls.now }
     requires leads { (rest : List ℕ) × (work.old.waiting.members ≡ first ∷ rest) }
-    ensures { OnOk result (IsAdded (length balls.now) (sets balls.now)
+    ensures added { OnOk result (IsAdded (length balls.now) (sets balls.now)
         (cluster_of (sets balls.now) k r work.old.waiting.members first)
         work.old work.new cover.old cover.new) }
+    ensures sized { IsWorkspace (length balls.now) work.new }
 {
     let number = cover.clusters.len() as u32;
     let members = grow(
@@ -88,7 +89,7 @@ pub fn make_phase(
     ensures between { OnOk result (IsBetween (sets balls.now) k work.new.left.members
         cover.new.clusters.items cover.new.home.items cover.new.phases) }
     ensures next { OnOk result (cover.new.phases ≡ cover.old.phases + 1) }
-    ensures sized { OnOk result (IsWorkspace (length balls.now) work.new) }
+    ensures sized { IsWorkspace (length balls.now) work.new }
     ensures home_count { OnOk result (length cover.new.home.items ≡ length balls.now) }
 {
     // No more balls are left than there are.

@@ -6,7 +6,6 @@ use Rattle.std.specs.Prelude.{◌≡◌, ℕ, ◌+◌, ◌<◌, true, cond, not,
 use Rattle.std.specs.Prelude.{slice_index, filter, map}
 use Rattle.node_set.specs.Ascending.{has, IsAscending}
 use Rattle.node_set.specs.Balls.{ball, GrownCluster, home_of}
-use Rattle.node_set.specs.Workspaces.{IsWorkspace}
 use Rattle.node_set.specs.declared.workspace.Workspace.{Workspace}
 use Rattle.mean_cover.specs.Covering.{mean_clusters, mean_covering}
 use Rattle.mean_cover.specs.MeanCovers.{as_mean_cluster}
@@ -41,5 +40,4 @@ pub record IsAdded (n : ℕ) (c : GrownCluster) (old new : Workspace)
   pub homes : (v : ℕ) → v < n
       → slice_index after.home.items v ≡
       cond (has v c.homed) (length before.clusters.items) (slice_index before.home.items v)
-  pub sized : IsWorkspace n new
   pub home_count : length after.home.items ≡ n

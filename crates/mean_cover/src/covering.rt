@@ -49,7 +49,7 @@ pub fn coarsen_mean(alloc: Global, balls: &[NodeSet], k: u32) -> Result<MeanCove
 
 /// Coarsens balls as `coarsen_mean` does, where their rows are there: the row of each node is the
 /// set of the centres of the balls that have it. Balls of distances are their own rows. The
-/// workspace is for as many balls.
+/// workspace is for as many balls, and stays so where memory is wanting.
 pub fn coarsen_mean_by_rows(
     alloc: Global,
     balls: &[NodeSet],
@@ -67,7 +67,7 @@ pub fn coarsen_mean_by_rows(
     requires low { 1 ≤ k }
     requires high { k ≤ 8 }
     requires work { IsWorkspace (length balls.now) work.old }
-    ensures work { OnOk result (IsWorkspace (length balls.now) work.new) }
+    ensures work { IsWorkspace (length balls.now) work.new }
     ensures exact { IfOk result (λ cover.
         IsMeanCover (length balls.now) (mean_covering (sets balls.now) k) cover) }
     ensures few { IfOk result (λ cover. length cover.clusters.items ≤ length balls.now) }
@@ -109,9 +109,10 @@ fn add_cluster(
     requires ready { IsReady (sets balls.now) work.old.waiting.members }
     requires first { first < length balls.now }
     requires leads { (rest : List ℕ) × (work.old.waiting.members ≡ first ∷ rest) }
-    ensures { OnOk result (IsAdded (length balls.now)
+    ensures added { OnOk result (IsAdded (length balls.now)
         (mean_cluster (sets balls.now) k work.old.waiting.members first)
         work.old work.new cover.old cover.new) }
+    ensures sized { IsWorkspace (length balls.now) work.new }
 {
     let number = cover.clusters.len() as u32;
     let members = grow(

@@ -42,10 +42,10 @@ pub fn grow(
     }) }
     ensures touched { OnOk result (growth.new.touched.members
         ≡ (mean_cluster (sets balls.now) k waiting.now.members first).homed) }
-    ensures taken_room { OnOk result (growth.new.taken.room ≡ growth.old.taken.room) }
-    ensures touched_room { OnOk result (growth.new.touched.room ≡ length balls.now) }
-    ensures spare_rooms { OnOk result
-        (All (λ (s : Nodes). s.room ≡ length balls.now) growth.new.spare.items) }
+    ensures taken_room { growth.new.taken.room ≡ growth.old.taken.room }
+    ensures touched_room { growth.new.touched.room ≡ length balls.now }
+    ensures spare_rooms { All (λ (s : Nodes). s.room ≡ length balls.now)
+        growth.new.spare.items }
 {
     let nodes = balls.len() as u32;
     let mut members = empty_set(alloc, &mut growth.spare, nodes)?;

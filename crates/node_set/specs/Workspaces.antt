@@ -1,6 +1,6 @@
 -- What coarsening writes over, and for how many balls.
 -- Key laws: `Workspace::new` makes a workspace for n balls, and `coarsen_by_rows` of as many leaves
--- it one for n.
+-- it one for n, after want of memory too.
 use Rattle.std.specs.Prelude.{◌≡◌, ℕ, All}
 use Rattle.node_set.specs.Nodes.{Nodes}
 use Rattle.node_set.specs.declared.workspace.Workspace.{Workspace}

@@ -45,8 +45,8 @@ fn build_table(
     requires count { length sets.old ≡ distances.now.nodes }
     requires rooms { All (λ (s : Nodes). s.room ≡ distances.now.nodes) sets.old }
     requires work { IsWorkspace distances.now.nodes work.old }
-    ensures work { OnOk result (IsWorkspace distances.now.nodes work.new) }
-    ensures rooms { OnOk result (All (λ (s : Nodes). s.room ≡ distances.now.nodes) sets.new) }
+    ensures work { IsWorkspace distances.now.nodes work.new }
+    ensures rooms { All (λ (s : Nodes). s.room ≡ distances.now.nodes) sets.new }
     ensures level { IfOk result (λ table.
         IsLevelOf graph.now distances.now covering i (level_of i (threshold_of i) table)) }
     ensures sized { IfOk result (λ table.
@@ -89,8 +89,8 @@ fn push_level(
     requires rooms { All (λ (s : Nodes). s.room ≡ distances.now.nodes) sets.old }
     requires work { IsWorkspace distances.now.nodes work.old }
     requires below { AreLevelsOf graph.now distances.now covering i levels.old }
-    ensures rooms { OnOk result (All (λ (s : Nodes). s.room ≡ distances.now.nodes) sets.new) }
-    ensures work { OnOk result (IsWorkspace distances.now.nodes work.new) }
+    ensures rooms { All (λ (s : Nodes). s.room ≡ distances.now.nodes) sets.new }
+    ensures work { IsWorkspace distances.now.nodes work.new }
     ensures levels { OnOk result (AreLevelsOf graph.now distances.now covering (i + 1) levels.new) }
 {
     if i > 0 && !spread.in_use[i as usize] {

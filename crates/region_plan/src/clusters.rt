@@ -103,7 +103,7 @@ impl ClusterLists {
         ensures laid { OnOk result (AreLaid self.new) }
         ensures clusters { OnOk result
             (AreClustersOf graph.now made.items (clusters_of_lists self.new)) }
-        ensures work { OnOk result (IsWorkspace graph.now.nodes work.new) }
+        ensures work { IsWorkspace graph.now.nodes work.new }
     {
         for cluster in made {
             self.push(alloc, graph, distances, &cluster)?;
@@ -164,7 +164,7 @@ impl Clusters {
         requires belongs { AreDistancesOf graph.now distances.now }
         requires spanned { All (IsSpanned graph.now) made.items }
         requires work { IsWorkspace graph.now.nodes work.old }
-        ensures work { OnOk result (IsWorkspace graph.now.nodes work.new) }
+        ensures work { IsWorkspace graph.now.nodes work.new }
         ensures clusters { IfOk result (AreClustersOf graph.now made.items) }
     {
         // In most levels a node has four clusters at most.

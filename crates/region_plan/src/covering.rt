@@ -1,7 +1,7 @@
 //! The covers that a plan can have: coarsened in phases, which bounds the clusters at each node, or
 //! small in the sum of all clusters.
 
-ghost use Rattle.std.specs.Prelude.{◌≡◌, ◌≤◌, All, IfOk, OnOk, length, map};
+ghost use Rattle.std.specs.Prelude.{◌≡◌, ◌≤◌, All, IfOk, length, map};
 ghost use Rattle.node_set.specs.Balls.{AreCentred, AreInside, sets};
 ghost use Rattle.node_set.specs.Nodes.{Nodes};
 ghost use Rattle.node_set.specs.Turned.{AreTurned};
@@ -65,7 +65,7 @@ impl Covering {
         requires low { 1 ≤ trade_off_of self }
         requires high { trade_off_of self ≤ 8 }
         requires work { IsWorkspace (length balls.now) work.old }
-        ensures work { OnOk result (IsWorkspace (length balls.now) work.new) }
+        ensures work { IsWorkspace (length balls.now) work.new }
         ensures exact { IfOk result (λ cover.
             IsCover (length balls.now) (covering_of self (sets balls.now)) cover) }
         ensures few { IfOk result (λ cover. length cover.clusters.items ≤ length balls.now) }

@@ -12,8 +12,8 @@ use Rattle.std.proofs.lemmas.List.{take_at}
 abbrev cluster_with : ℕ → Nodes → ℕ → Cluster
 cluster_with first members phase = record { first = first; members = members; phase = phase }
 
-pub returns : goal.returns
-returns c =
+pub returns-clause-added : goal.returns-clause-added
+returns-clause-added c =
     let home_count : length c.set_homes.new.home ≡ length c.args.cover.now.home.items =
     c.set_homes.auto.home ∙ ap length c.deref_mut.ensures.value
     in
@@ -51,12 +51,5 @@ returns c =
           c.args.work.now.waiting.members
           c.args.first).homed) (length c.args.cover.now.clusters.items) (get_or l v 0)) c.deref_mut.ensures.value);
       phases = refl;
-      sized = record {
-        left = c.remove.ensures.room ∙ c.requires.sized.left;
-        waiting = c.remove-2.ensures.room ∙ c.requires.sized.waiting;
-        taken = c.in_ok-members.ensures.taken_room;
-        touched = c.in_ok-members.ensures.touched_room;
-        spare = c.in_ok-members.ensures.spare_rooms;
-      };
       home_count = rw home (home_count ∙ c.requires.home_count);
     }

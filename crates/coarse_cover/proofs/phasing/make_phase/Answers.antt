@@ -69,7 +69,7 @@ first-preserved c =
     let cluster : GrownCluster = cluster_of (sets c.args.balls.now) c.args.k c.count-r.result
     c.first.work.waiting.members c.in-Some.first in
     let added : IsAdded (length c.args.balls.now) (sets c.args.balls.now) cluster c.first.work
-    c.add_cluster.new.work c.first.cover c.add_cluster.new.cover = c.in_ok-add_cluster.ensures in
+    c.add_cluster.new.work c.first.cover c.add_cluster.new.cover = c.in_ok-add_cluster.ensures.added in
     record {
       in_phase = in_phase_next (sets c.args.balls.now) c.args.k c.count-r.result c.in-Some.first leads.0
           c.first.work c.add_cluster.new.work c.first.cover c.add_cluster.new.cover leads.1
@@ -79,7 +79,7 @@ first-preserved c =
       none_before = none_next (sets c.args.balls.now) c.args.k c.count-r.result c.in-Some.first leads.0
           c.first.work.waiting.members c.add_cluster.new.work.waiting.members leads.1
           c.first.invariant.in_phase.ready added.waiting before;
-      sized = added.sized;
+      sized = c.add_cluster.ensures.sized;
       home_count = added.home_count;
       phases_kept = added.phases ∙ c.first.invariant.phases_kept;
       small = c.first.invariant.small;

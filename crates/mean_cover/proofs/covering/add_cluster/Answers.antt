@@ -18,8 +18,8 @@ as_mean_cluster_is : (balls : List (List ℕ)) (k a n : ℕ) (waiting : List ℕ
 unfolding as_mean_cluster mean_cluster
 as_mean_cluster_is balls k a n waiting = refl
 
-pub returns : goal.returns
-returns c =
+pub returns-clause-added : goal.returns-clause-added
+returns-clause-added c =
     let home_count : length c.set_homes.new.home ≡ length c.args.cover.now.home.items =
     c.set_homes.auto.home ∙ ap length c.deref_mut.ensures.value
     in
@@ -49,12 +49,5 @@ returns c =
           ∙ ap (λ (l : List ℕ). cond (has v (mean_cluster (sets c.args.balls.now) c.args.k
           c.args.work.now.waiting.members c.args.first).homed) (length c.args.cover.now.clusters.items) (get_or l v 0))
           c.deref_mut.ensures.value);
-      sized = record {
-        left = c.requires.sized.left;
-        waiting = c.remove.ensures.room ∙ c.requires.sized.waiting;
-        taken = c.in_ok-members.ensures.taken_room ∙ c.requires.sized.taken;
-        touched = c.in_ok-members.ensures.touched_room;
-        spare = c.in_ok-members.ensures.spare_rooms;
-      };
       home_count = rw home (home_count ∙ c.requires.home_count);
     }

@@ -65,7 +65,7 @@ first-preserved c =
     in
     let added : IsAdded (length c.args.balls.now)
     (mean_cluster (sets c.args.balls.now) c.args.k c.first.work.waiting.members c.in-Some.first) c.first.work
-    c.add_cluster.new.work c.first.cover c.add_cluster.new.cover = c.in_ok-add_cluster.ensures in
+    c.add_cluster.new.work c.first.cover c.add_cluster.new.cover = c.in_ok-add_cluster.ensures.added in
     record {
       under_way = under_way_next (sets c.args.balls.now) c.args.k c.in-Some.first leads.0
           c.first.work c.add_cluster.new.work c.first.cover c.add_cluster.new.cover c.requires.low c.requires.inside
@@ -76,7 +76,7 @@ first-preserved c =
       none_before = none_next (sets c.args.balls.now) c.args.k c.requires.low c.requires.inside c.in-Some.first
           c.first.work.waiting.members leads.0 leads.1 c.first.invariant.under_way.ready
           c.add_cluster.new.work.waiting.members added.waiting before;
-      sized = added.sized;
+      sized = c.add_cluster.ensures.sized;
       home_count = added.home_count;
     }
 

@@ -105,13 +105,8 @@ of_cover-requires-clause-work c =
     nodes_work c.args.graph.now c.args.distances.now c.requires.metric c.requires.belongs c.requires.network
     c.args.covering
     c.args.i c.requires.low c.fill_balls.new.balls c.fill_balls.ensures.balls
-    c.cover.new.work c.in_ok-made.ensures.work
+    c.cover.new.work c.cover.ensures.work
 
 pub returns-clause-work : goal.returns-clause-work
 returns-clause-work c =
-    IfOk-weaker c.new.result
-    (λ shape. shape ≡ shape_with c.in_ok-made.field-0.phases c.in_ok-clusters.clusters c.in_ok-made.field-0.home.items)
-    (λ shape. IsWorkspace c.args.distances.now.nodes c.of_cover.new.work)
-    (λ shape made. subst (λ (n : ℕ). IsWorkspace n c.of_cover.new.work) (sym c.requires.belongs.nodes)
-    c.in_ok-clusters.ensures.work)
-    c.new.ensures
+    subst (λ (n : ℕ). IsWorkspace n c.of_cover.new.work) (sym c.requires.belongs.nodes) c.of_cover.ensures.work

@@ -23,7 +23,7 @@ loop-cluster-preserved c = record {
       next_holds (IsSpanned c.args.graph.now) c.args.made.items c.loop-cluster.yielded
       (into_iter_items c.loop-cluster.cluster-iterator) (into_iter_items c.next.new.self) c.in-Some.cluster
       c.loop-cluster.invariant.all c.in-Some.ensures.steps.0 c.requires.spanned in
-      c.in_ok-give_back.ensures.sized c.args.graph.now.nodes c.loop-cluster.invariant.work spanned.room;
+      c.give_back.ensures.sized c.args.graph.now.nodes c.loop-cluster.invariant.work spanned.room;
   laid = c.in_ok-push.ensures.laid;
   done = subst (λ (cs : List PlanCluster).
       AreClustersOf c.args.graph.now (c.loop-cluster.yielded ++ c.in-Some.cluster ∷ []) cs)
