@@ -1,5 +1,5 @@
 -- On the network of four nodes and one edge, no walk leads from node 0 to nodes 2 and 3.
-use Rattle.std.proofs.Common.{◌≡◌, ◌≤◌, ◌<◌, ℕ, zero, suc, [], ◌∷◌, List, ap, refl, inl, inr, subst, arith}
+use Rattle.std.proofs.Common.{◌≡◌, ◌≤◌, ◌<◌, ℕ, zero, suc, Bool, [], ◌∷◌, List, ap, refl, inl, inr, subst, arith}
 use Rattle.std.specs.Prelude.{slice_index_or}
 use Rattle.net_graph.specs.declared.edge.Edge.{Edge}
 use Rattle.net_graph.specs.Network.{IsFirstApart}
@@ -22,10 +22,11 @@ near u v w (inr there) =
     let e : ◌≡◌ {A = ℕ} 0 v = ap (λ (edge : Edge). edge.a) same in omega (arith, e)
 
 -- a walk stays among them
-pub stays : (u v : ℕ) (steps : List Step) → u ≤ 1 → IsWalk first_edge everywhere u steps v → v ≤ 1
-stays u v [] low walk = subst (λ n. n ≤ 1) walk.1 low
-stays u v (step ∷ steps) low walk =
-    stays step.node v steps (near u step.node step.weight walk.1) walk.2
+pub stays : (inside : ℕ → Bool) (u v : ℕ) (steps : List Step) → u ≤ 1 → IsWalk first_edge inside u steps v
+    → v ≤ 1
+stays inside u v [] low walk = subst (λ n. n ≤ 1) walk.1 low
+stays inside u v (step ∷ steps) low walk =
+    stays inside step.node v steps (near u step.node step.weight walk.1) walk.2
 
 -- both are reached
 pub reached : (v : ℕ) → v < 2 → IsReached first_edge everywhere 0 v
@@ -40,6 +41,6 @@ reached (suc (suc v)) low = absurd (omega (arith, low))
 pub least_apart : IsFirstApart 4 first_edge 2
 least_apart = record {
   below = omega arith;
-  apart = λ steps walk. let e = stays 0 2 steps (omega arith) walk in omega (arith, e);
+  apart = λ steps walk. let e = stays everywhere 0 2 steps (omega arith) walk in omega (arith, e);
   first = reached;
 }

@@ -1,4 +1,5 @@
 pub mod Chases
+pub mod Covers
 pub mod Examples
 pub mod Faults
 pub mod Grammar

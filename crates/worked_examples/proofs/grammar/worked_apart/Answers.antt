@@ -1,4 +1,5 @@
 use Rattle.std.proofs.Common.{◌≡◌, ℕ, ap, refl, arith}
+use Rattle.net_graph.specs.Walks.{everywhere}
 use Rattle.net_reader.specs.declared.fault.InputFault.{InputFault}
 use Rattle.worked_examples.proofs.Apart.{least_apart, reached, stays}
 use Rattle.worked_examples.proofs.grammar.worked_apart.Goals as goal
@@ -9,7 +10,7 @@ returns-clause-least c = least_apart
 pub returns-clause-other : goal.returns-clause-other
 returns-clause-other c = λ first.
     let found = first.first 2 (omega arith) in
-    let e = stays 0 2 found.steps (omega arith) found.walk in omega (arith, e)
+    let e = stays everywhere 0 2 found.steps (omega arith) found.walk in omega (arith, e)
 
 pub returns-clause-joined : goal.returns-clause-joined
 returns-clause-joined c = λ first.
