@@ -19,6 +19,7 @@ mod orders;
 mod others;
 mod passes;
 mod plans;
+mod powers;
 mod puts;
 mod rules;
 mod texts;
@@ -49,6 +50,7 @@ pub use passes::{
     worked_bits, wrong_censuses, wrong_notes, wrong_passes, wrong_stays, wrong_turns,
 };
 pub use plans::{worked_levels, worked_measures, wrong_matches, wrong_overlaps};
+pub use powers::worked_powers;
 pub use puts::worked_puts;
 pub use rules::{told_tickets, wrong_logs, wrong_moments, wrong_views};
 pub use texts::{worked_causes, worked_json, worked_plan_lines, worked_plan_text};
