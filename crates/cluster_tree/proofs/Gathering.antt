@@ -1,33 +1,15 @@
 -- The members and their weights, one node after another.
-use Rattle.std.proofs.Common.{◌≡◌, ℕ, ◌+◌, ◌<◌, Bool, true, false, List, [], ◌∷◌, ◌++◌, Option, Some, length, refl, sym}
+use Rattle.std.proofs.Common.{◌≡◌, ℕ, ◌+◌, ◌<◌, true, false, List, [], ◌∷◌, ◌++◌, Option, Some, length, sym}
 use Rattle.std.proofs.Common.{◌∙◌, ap, subst, inl, inr, arith}
-use Rattle.std.proofs.lemmas.List.{length_push, get_or_append_left, get_or_push}
+use Rattle.std.proofs.lemmas.List.{length_push}
 use Rattle.std.proofs.lemmas.Bool.{cases_eq, cases_lt}
-use Rattle.net_graph.specs.Walks.{among}
 use Rattle.net_graph.specs.Trees.{at_node}
 use Rattle.node_set.specs.Ascending.{has, sift}
 use Rattle.node_set.specs.SetLaws.{has-passing, passing_over, passing_takes, passing_skips}
 use Rattle.cluster_tree.specs.declared.weighing.Weighed.{Weighed}
 use Rattle.cluster_tree.specs.Tree.{weight_beside}
-use Rattle.cluster_tree.specs.Weighing.{AreFlagsBelow, AreWeighedBelow}
+use Rattle.cluster_tree.specs.Weighing.{AreWeighedBelow}
 use Rattle.cluster_tree.proofs.Places.{beside_old, beside_new}
-
-pub no_flags : (members : List ℕ) → AreFlagsBelow 0 members []
-no_flags members = record { count = refl; each = λ v below. absurd (omega arith) }
-
-pub more_flags : (i : ℕ) (members : List ℕ) (flags next : List Bool) (flag : Bool) → flag ≡ has i members → next
-    ≡ flags ++ flag ∷ []
-    → AreFlagsBelow i members flags → AreFlagsBelow (i + 1) members next
-more_flags i members flags next flag is grown so_far =
-    subst (λ xs. AreFlagsBelow (i + 1) members xs) (sym grown) (record {
-      count = omega (arith, length_push flags flag, so_far.count);
-      each = λ v below. elim (cases_lt v i) [
-        | inl less ↦ get_or_append_left flags (flag ∷ []) false v (omega (arith, so_far.count)) ∙ so_far.each v less
-        | inr more ↦ let same : i ≡ v = omega arith in
-            subst (λ k. among (flags ++ flag ∷ []) k ≡ has k members) same
-            (get_or_push flags flag false i so_far.count ∙ is)
-      ];
-    })
 
 below_member : (members : List ℕ) (i v : ℕ) → v < i → has v members ≡ true → has v (sift (λ x. has x members) 0 i)
     ≡ true
@@ -74,13 +56,4 @@ other_skipped i members weights weighed other so_far = record {
     | inl same ↦ absurd (let both : true ≡ false = sym member ∙ ap (λ x. has x members) same ∙ other in cc)
     | inr apart ↦ so_far.each v (omega arith) member
   ];
-}
-
-pub no_member : (members : List ℕ) (weights : List (Option ℕ)) (weighed : Weighed) → weighed.nodes.items ≡ []
-    → weighed.weights.items ≡ []
-    → AreWeighedBelow 0 members weights weighed
-no_member members weights weighed nodes_are weights_are = record {
-  nodes = nodes_are;
-  count = ap length weights_are ∙ sym (ap length nodes_are);
-  each = λ v below member. absurd (omega arith);
 }

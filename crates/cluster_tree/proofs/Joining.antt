@@ -22,10 +22,6 @@ use Rattle.cluster_tree.proofs.Growing.{sound_tree}
 
 -- ---- members one after another
 
-pub none_joined : (network : Network) (members : List ℕ) (leader : ℕ) (row : List ℕ)
-    → AreJoined network members [] leader row
-none_joined network members leader row v has other = absurd (omega (arith, has.1))
-
 pub leader_joined : (network : Network) (members listed : List ℕ) (leader : ℕ) (row : List ℕ) (i d : ℕ)
     → i < length listed
     → get_or listed i d ≡ leader → AreJoined network members (take i listed) leader row

@@ -1,11 +1,10 @@
 -- The looks of callers: each own visit reads one word, and no caller makes more than the most.
-use Rattle.std.proofs.Common.{◌≡◌, ℕ, ◌+◌, ◌<◌, ◌≤◌, Bool, true, false, cond, ◌==◌, List, [], ◌∷◌, ◌++◌, Option, Some, None, length, take, refl, sym, ap, ◌∙◌, subst, arith, length-append}
+use Rattle.std.proofs.Common.{◌≡◌, ℕ, ◌+◌, ◌<◌, ◌≤◌, Bool, true, false, cond, ◌==◌, List, [], ◌∷◌, ◌++◌, Option, Some, None, length, take, refl, sym, ap, ◌∙◌, subst, arith}
 use Rattle.std.specs.Prelude.{slice_get, sum_by, option_map}
 use Rattle.std.proofs.lemmas.Bool.{eqb-true}
 use Rattle.std.proofs.lemmas.List.{append-nil, length_push}
 use Rattle.std.proofs.lemmas.List.Sums.{fold-append, sum_by-cons}
 use Rattle.entry_word.specs.declared.visit.Key.{Key}
-use Rattle.entry_word.specs.declared.visit.Act.TheVariants.{Look}
 use Rattle.entry_word.specs.declared.visit.Visit.{Visit}
 use Rattle.directory.specs.Settings.{Setting, subs}
 use Rattle.directory.specs.Histories.{History, cell, own, words_of, words_after, words_read}
@@ -16,47 +15,7 @@ use Rattle.directory.specs.declared.answers.Found.{Found}
 use Rattle.directory.proofs.HistoryLaws.{words-push}
 use Rattle.directory.proofs.FindLaws.{looks-fall}
 use Rattle.directory.specs.StepLaws.{by_fronts, own-push}
-use Rattle.directory.proofs.NextLaws.{look-next}
 use Rattle.directory.specs.HistoryLaws.{next-caller}
-
--- each own visit of a caller reads one word
-caller-word : (setting : Setting) (scripts : Scripts) (history : History) (actor : ℕ) (visit : Visit)
-    → subs setting ≤ actor → next setting scripts history actor ≡ Some visit
-    → length (words_of setting history visit.act) ≡ 1
-caller-word setting scripts history actor visit high h =
-    let found = look-next actor (next_key (caller_in setting scripts history actor)) visit
-    (sym (next-caller setting scripts history actor high) ∙ h) in
-    let e : visit ≡ record { actor = actor; act = Look found.0 } = found.1 in
-    subst (λ (v : Visit). length (words_of setting history v.act) ≡ 1) (sym e) refl
-
-pub played-words : (setting : Setting) (scripts : Scripts) (history : History) (actor : ℕ) → subs setting ≤ actor
-    → IsPlayed setting scripts history → length (words_read setting actor history) ≡ length (own actor history)
-unfolding words_after
-played-words setting scripts history actor high played =
-    by_fronts (λ front. length (words_read setting actor front) ≡ length (own actor front)) history refl
-    (λ t visit h same. step t visit h same (visit.actor == actor) refl)
-  where
-    step : (t : ℕ) (visit : Visit) → slice_get history t ≡ Some visit
-        → length (words_read setting actor (take t history)) ≡ length (own actor (take t history))
-        → (b : Bool) → (visit.actor == actor) ≡ b → length (words_read setting actor (take t history ++ visit ∷ []))
-        ≡ length (own actor (take t history ++ visit ∷ []))
-    step t visit h same true e =
-        let mine : visit.actor ≡ actor = eqb-true visit.actor actor e in
-        let one : length (words_of setting (take t history) visit.act)
-        ≡ 1 = caller-word setting scripts (take t history) actor visit high
-        (ap (λ a. next setting scripts (take t history) a) (sym mine) ∙ played t visit h) in
-        rw (words-push setting actor (take t history) visit, own-push actor (take t history) visit, e)
-        (omega (
-          arith,
-          one,
-          same,
-          length-append (words_read setting actor (take t history))
-              (words_of setting (take t history) visit.act),
-          length-append (own actor (take t history)) (visit ∷ []),
-        ))
-    step t visit h same false e =
-        rw (words-push setting actor (take t history) visit, own-push actor (take t history) visit, e)
-        (rw (append-nil (words_read setting actor (take t history)), append-nil (own actor (take t history))) same)
 
 -- the most looks that a caller still makes
 unfoldable pub left_of : Setting → List FindCall → Pursuit → ℕ

@@ -1,5 +1,5 @@
 -- Moving the rows of a table together.
-use Rattle.std.proofs.Common.{◌≡◌, ℕ, ◌+◌, ◌-◌, ◌*◌, ◌<◌, ◌≤◌, List, length, get_or, take, refl, sym, ◌∙◌, ap, subst, inl, inr, arith}
+use Rattle.std.proofs.Common.{◌≡◌, ℕ, ◌+◌, ◌-◌, ◌*◌, ◌<◌, ◌≤◌, List, length, get_or, take, sym, ◌∙◌, ap, subst, inl, inr, arith}
 use Rattle.std.proofs.lemmas.List.{get_or-take, length-take}
 use Rattle.std.proofs.lemmas.Nat.{mul-add-lt, mul-le, row_fits}
 use Rattle.std.proofs.lemmas.Bool.{cases_lt}
@@ -12,13 +12,6 @@ pub record IsClosing (n width u : ℕ) (rows table : List ℕ) : Type 0 where
   pub count : length table ≡ n * width
   pub done : (a v : ℕ) → a < u → v < n → cell_at n table a v ≡ cell_at width rows a v
   pub rest : (a v : ℕ) → u ≤ a → a < n → v < n → cell_at width table a v ≡ cell_at width rows a v
-
-pub closing_begins : (n width : ℕ) (rows : List ℕ) → length rows ≡ n * width → IsClosing n width 0 rows rows
-closing_begins n width rows count = record {
-  count = count;
-  done = λ a v none below. absurd (omega (arith, none));
-  rest = λ a v from a_below below. refl;
-}
 
 -- one more row
 pub closing_step : (n width u size : ℕ) (rows old new : List ℕ) → n ≤ width → u < n → size ≡ n
@@ -58,10 +51,3 @@ closing_ends n width u rows table closed wide all so_far is = subst (AreClosed n
       get_or-take (n * n) table (a * n + v) 0 (mul-add-lt a n v n a_below v_below)
       ∙ so_far.done a v (omega (arith, all)) v_below;
 })
-
--- rows without anything behind them are closed
-pub closed_already : (n width : ℕ) (rows : List ℕ) → n ≡ width → length rows ≡ n * width → AreClosed n width rows rows
-closed_already n width rows same count = record {
-  count = count ∙ ap (λ k. n * k) (sym same);
-  each = λ a v a_below v_below. ap (λ k. cell_at k rows a v) same;
-}

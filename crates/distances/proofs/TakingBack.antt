@@ -150,16 +150,6 @@ fill_begins n width all table count light within = record {
   lengths = λ d lengths begun none_fresh a b a_fresh b_fresh. absurd (none_fresh a a_fresh);
 }
 
-pub fill_ends : (n width : ℕ) (all left_out : List LeftOut) (back table : List ℕ)
-    → IsFilling n width all left_out back table → left_out ≡ [] → IsFilled n width all table
-fill_ends n width all left_out back table so_far done = record {
-  count = so_far.count;
-  each = λ d lengths begun none_fresh a b a_below b_below.
-      so_far.lengths d lengths begun none_fresh a b
-      (a_below, subst (λ xs. All (λ (s : LeftOut). s.node ≢ a) xs) (sym done) (All-nil (λ (s : LeftOut). s.node ≢ a)))
-      (b_below, subst (λ xs. All (λ (s : LeftOut). s.node ≢ b) xs) (sym done) (All-nil (λ (s : LeftOut). s.node ≢ b)));
-}
-
 -- no cell rises above FAR
 pub written_light : (n width v : ℕ) (back mine old table : List ℕ) → IsNodeWritten n width v back mine old table
     → All (λ w. w ≤ FAR) old → ((x : ℕ) → x < n → get_or mine x 0 ≤ FAR) → All (λ w. w ≤ FAR) table

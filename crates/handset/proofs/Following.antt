@@ -95,9 +95,3 @@ entry-goes plan handset (entries.Erasing level) goes = at_next (first_with (is_o
         found in
         goes-late plan (at_entry handset (entries.Erasing level)) (Erasing next) goes goes.counted
         (omega (arith, inside.0, inside.1))
-
--- what holds where there is a write
-pub both-some : {A : Type 0} {P Q R : A → Type 0} (o : Option A) → IfSome o P → IfSome o Q
-    → ((x : A) → o ≡ Some x → P x → Q x → R x) → IfSome o R
-both-some None p q law = tt
-both-some (Some x) p q law = law x refl p q

@@ -27,9 +27,6 @@ pub first-next : (test : ℕ → Bool) (x limit : ℕ) → x < limit → test x 
 first-next test x limit h fails = let e : x + 1 ≡ suc x = omega arith in ap (λ y. first_with test y
     (limit - y)) e ∙ first-later test x limit h fails
 
-pub first-none : (test : ℕ → Bool) (x limit : ℕ) → limit ≤ x → first_with test x (limit - x) ≡ None
-first-none test x limit h = let e : limit - x ≡ 0 = omega arith in ap (first_with test x) e
-
 pub differ : (a b : ℕ) → a ≢ b → not (a == b) ≡ true
 differ a b h = grind (arith, nat_tests)
 

@@ -36,13 +36,6 @@ pub replicate-push : (k x : ℕ) → replicate (suc k) x ≡ replicate k x ++ x 
 replicate-push zero x = refl
 replicate-push (suc k) x = ap (λ xs. x ∷ xs) (replicate-push k x)
 
-pub turns-more : (setting : Setting) (scripts : Scripts) (history : History) (actor k : ℕ)
-    → after_turn setting scripts (after_turns setting scripts history (replicate k actor)) actor
-    ≡ after_turns setting scripts history (replicate (suc k) actor)
-turns-more setting scripts history actor k =
-    sym (ap (after_turns setting scripts history) (replicate-push k actor)
-    ∙ fold-append (after_turn setting scripts) history (replicate k actor) (actor ∷ []))
-
 -- turns behind turns
 pub turns-joined : (setting : Setting) (scripts : Scripts) (history : History) (actor k n : ℕ)
     → after_turns setting scripts (after_turns setting scripts history (replicate k actor)) (replicate n actor)

@@ -1,7 +1,6 @@
 -- A caller's looks at entries that hold nothing, many at once: what as many turns make.
-use Rattle.std.proofs.Common.{◌≡◌, ℕ, zero, suc, ◌+◌, ◌<◌, ◌≤◌, false, [], ◌∷◌, ◌++◌, length, refl, sym, ap, ◌∙◌, subst, arith, None, Option}
+use Rattle.std.proofs.Common.{◌≡◌, ℕ, zero, suc, ◌+◌, ◌<◌, ◌≤◌, [], ◌∷◌, ◌++◌, length, refl, sym, ap, ◌∙◌, subst, arith, None}
 use Rattle.std.specs.Prelude.{Some, unwrap_or}
-use Rattle.std.specs.Option.{is_some}
 use Rattle.std.proofs.lemmas.List.{length-map, length-append, length-replicate}
 use Rattle.entry_word.specs.declared.visit.Key.{Key}
 use Rattle.entry_word.specs.declared.visit.Key.TheVariants.{Entry}
@@ -164,11 +163,6 @@ behind-some walk after old ticket climb zero first some same kept = absurd (omeg
 behind-some walk after old ticket climb (suc count) first some same kept =
     ap (λ w. record old { walk = Some w; first = Some (unwrap_or old.first ticket) }) (sym same)
     ∙ ap (λ f. record old { walk = Some after; first = Some f }) (sym kept)
-
--- no answer
-pub none-of : {A : Type 0} (answer : Option A) → is_some answer ≡ false → None ≡ answer
-none-of None h = refl
-none-of (Some found) h = cc
 
 -- a caller behind looks has its turn
 pub may-look : (input : Contents) (plan : PlanData) (cells : CellData) (ticket actor count : ℕ) (old mid : Caller)

@@ -53,13 +53,6 @@ lines-partial setting sub course (one ∷ done) step seen more count =
     ∙ ap (λ ls. step_line setting sub course one (take size seen) ∷ ls)
     (lines-partial setting sub (after_step setting course one) done step (drop size seen) more rest))
 
-pub lines-count : (setting : Setting) (sub : ℕ) (course : Course) (done : List Step) (seen : List ℕ)
-    → length (step_lines setting sub course done seen) ≡ length done
-unfolding step_lines
-lines-count setting sub course [] seen = refl
-lines-count setting sub course (one ∷ done) seen =
-    ap suc (lines-count setting sub (after_step setting course one) done _)
-
 -- of the visits of a move the one behind the new addresses commits it, and no other
 AllQuiet : ℕ → List Write → Type 0
 AllQuiet sub [] = Unit {0}

@@ -1,8 +1,7 @@
 -- Laws of a caller's walk, for the proofs of the crates above: the find that it is at, and the walk
 -- that begins the next one.
--- Key laws: `walking` (a walk that is kept is that of the first find that is left), `idle-done`
--- (without one the caller is done), `read-on` (what a word more leaves), `walk-at` (the walk of the
--- find at a place of a script).
+-- Key laws: `walking` (a walk that is kept is that of the first find that is left), `read-on` (what
+-- a word more leaves), `walk-at` (the walk of the find at a place of a script).
 use Rattle.std.proofs.Common.{◌≡◌, ℕ, zero, suc, ◌<◌, false, List, [], ◌∷◌, length, map, drop, get_or, refl, sym, ap, ◌∙◌, subst, arith, drop-cons, Option}
 use Rattle.std.specs.Prelude.{All, Some, None, Result, Ok, Err, IfOk, nat_le, if◌then◌else◌}
 use Rattle.std.specs.Result.{result_ok}
@@ -10,7 +9,7 @@ use Rattle.std.proofs.lemmas.Bool.Decides.{nat_tests}
 use Rattle.std.proofs.lemmas.List.{get_or-map, length-map}
 use Rattle.directory.specs.Settings.{Setting}
 use Rattle.directory.specs.Finds.{FindCall, Pursuit, after_word, answer_of, at_origin}
-use Rattle.directory.specs.Orders.{Caller as Seeker, after_read, key_in, read_by, with_pursuit}
+use Rattle.directory.specs.Orders.{Caller as Seeker, after_read, read_by, with_pursuit}
 use Rattle.directory.specs.declared.answers.Found.{Found}
 use Rattle.net_reader.specs.declared.said.Call.{Call}
 use Rattle.net_reader.specs.declared.said.Call.TheVariants as calls
@@ -51,14 +50,6 @@ walking plan (call ∷ later) pursuit (Some other) walk same h =
       goes = subst (IsWalkOver plan) e h.2;
       unanswered = h.3;
     }
-
-pub idle-done : (plan : PlanData) (calls : List FindCall) (pursuit : Pursuit)
-    (held : Option WalkData)
-    → held ≡ None
-    → IsWalking plan calls pursuit held → key_in calls pursuit ≡ None
-idle-done plan [] pursuit held same h = refl
-idle-done plan (call ∷ later) pursuit None same h = absurd h
-idle-done plan (call ∷ later) pursuit (Some walk) same h = cc
 
 -- a caller that has read one word more
 pub read-on : (setting : Setting) (seeker : Seeker) (call : FindCall) (later : List FindCall)

@@ -15,12 +15,6 @@ use Rattle.net_graph.specs.Parents.{MakesUp, IsLeastTarget, IsLeastNeighbour, Ar
 use Rattle.net_graph.specs.WalkLaws.{join_turned, join_edge, walk_begins, walk_ends, walk_further}
 use Rattle.net_graph.proofs.Lowering.{lowered_light, lowered_keeps, lowered_cause}
 
-pub no_target : (weights : List (Option ℕ)) (weight : Option ℕ) → IsLeastTarget [] weights weight None
-no_target weights weight = record {
-  cause = λ p none. let both : None ≡ Some p = none in cc;
-  whole = λ q c has makes. absurd (omega (arith, has.1));
-}
-
 pub target_taken : (arcs : List Arc) (i : ℕ) (d : Arc) (weights : List (Option ℕ)) (weight least next : Option ℕ)
     → i < length arcs
     → MakesUp weights (get_or arcs i d).target (get_or arcs i d).weight weight
@@ -67,9 +61,6 @@ neighbour n edges v arcs weights least of_node found = record {
   cause = λ p some. let r = found.cause p some in (r.0, of_node.sound p r.0 r.1, r.2);
   whole = λ q c joined makes. found.whole q c (of_node.whole q c joined) makes;
 }
-
-pub no_neighbours : (edges : List Edge) (weights : List (Option ℕ)) → AreLeastNeighbours edges weights 0 []
-no_neighbours edges weights = record { count = refl; each = λ v below. absurd (omega arith) }
 
 pub more_neighbours : (n : ℕ) (edges : List Edge) (v : ℕ) (arcs : List Arc) (weights parents next : List (Option ℕ))
     (least : Option ℕ)

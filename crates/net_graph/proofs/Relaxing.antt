@@ -26,25 +26,6 @@ lighter_falls : (through w : ℕ) (weight : Option ℕ) → IsLighter through we
 lighter_falls through w None lighter h = absurd h
 lighter_falls through w (Some x) lighter h = omega (arith, lighter x refl)
 
--- an arc to a node that is settled, or that is no heavier already
-pub relaxed_not : (arc : Arc) (x : ℕ) (unsettled : List Bool) (old : List (Option ℕ)) (waited : List Waiting)
-    → (among unsettled arc.target ≡ true → IsAtMost (at_node old arc.target) (x + arc.weight))
-    → IsRelaxed (arc ∷ []) x unsettled old old waited waited
-relaxed_not arc x unsettled old waited light = record {
-  count = refl;
-  kept = λ v settled. refl;
-  cause = λ v w here. inl here;
-  falls = λ v w h. h;
-  reached = λ v c has waits. elim (first_or_later (make_arc v c) arc [] has) [
-    | inl same ↦ subst (λ (a : Arc). IsAtMost (at_node old a.target) (x + a.weight)) same
-        (light (ap (among unsettled) (ap (λ (a : Arc). a.target) same) ∙ waits))
-    | inr none ↦ absurd (omega (arith, none.1))
-  ];
-  wait_on = λ w v has. has;
-  joined = λ v w here. inl here;
-  since = λ w v has. inl has;
-}
-
 -- an arc by which an unsettled node becomes lighter
 module _ (arc : Arc) (x : ℕ) (unsettled : List Bool) (old : List (Option ℕ)) (waited waiting : List Waiting)
     (waits : among unsettled arc.target ≡ true) (same_count : length unsettled ≡ length old)
@@ -125,20 +106,6 @@ module _ (arc : Arc) (x : ℕ) (unsettled : List Bool) (old : List (Option ℕ))
           | inr before ↦ inl before
         ];
   }
-
--- no arc
-pub relaxed_none : (x : ℕ) (unsettled : List Bool) (old : List (Option ℕ)) (waited : List Waiting)
-    → IsRelaxed [] x unsettled old old waited waited
-relaxed_none x unsettled old waited = record {
-  count = refl;
-  kept = λ v settled. refl;
-  cause = λ v w here. inl here;
-  falls = λ v w h. h;
-  reached = λ v c has waits. absurd (omega (arith, has.1));
-  wait_on = λ w v has. has;
-  joined = λ v w here. inl here;
-  since = λ w v has. inl has;
-}
 
 -- one more arc
 relaxed_more : (arcs : List Arc) (arc : Arc) (x : ℕ) (unsettled : List Bool) (old mid new : List (Option ℕ))

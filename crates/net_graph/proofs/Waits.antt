@@ -17,9 +17,6 @@ pub record StillWait (unsettled : List Bool) (old now : List Waiting) : Type 0 w
   pub kept : (w v : ℕ) → Contains old (make_waiting w v) → among unsettled v ≡ true → Contains now (make_waiting w v)
   pub fewer : (w v : ℕ) → Contains now (make_waiting w v) → Contains old (make_waiting w v)
 
-pub all_wait : (unsettled : List Bool) (old : List Waiting) → StillWait unsettled old old
-all_wait unsettled old = record { kept = λ w v has waits. has; fewer = λ w v has. has }
-
 no_less : (a b : ℕ) (o : Ordering) → is_lt (ordering_then (nat_cmp b a) o) ≡ false → a ≤ b
 no_less a b o h = elim (cases_lt b a) [
   | inl less ↦ absurd (

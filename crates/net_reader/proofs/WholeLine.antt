@@ -89,15 +89,6 @@ digit-behind piece taken value digit before within few is same =
       small = still-small value taken digit before.small low;
     }
 
-pub no-digits : (piece : List ℕ) → IsDigits piece 0 0
-no-digits piece = record { plain = refl; read = refl; small = omega arith }
-
-pub one-digit : (piece : List ℕ) (digit : ℕ) → 0 < length piece → is_ascii_digit (get_or piece 0 0) ≡ true
-    → digit ≡ get_or piece 0 0 - 48 → IsDigits piece 1 digit
-one-digit piece digit within is same =
-    let sum : 0 + digit ≡ digit = omega arith in
-    subst (λ v. IsDigits piece 1 v) sum (digit-behind piece 0 0 digit (no-digits piece) within (omega arith) is same)
-
 -- digits, and the byte behind them
 pub number-before : (piece : List ℕ) (taken value end b : ℕ) (rest : List ℕ) → 0 < taken → taken ≤ length piece
     → list_all is_plain (take taken piece) ≡ true
@@ -116,11 +107,6 @@ number-to piece taken value rest some within digits back =
     in
     number-before piece taken value (get_or piece taken 0) (get_or piece taken 0) rest some (omega (arith, within))
     digits.plain digits.read refl (ap (λ xs. get_or piece taken 0 ∷ xs) back ∙ sym cut)
-
-pub number-shorter : (end value : ℕ) (piece rest : List ℕ) → IsNumberTo end value piece rest
-    → length rest < length piece
-number-shorter end value piece rest number =
-    omega (arith, run-length (between 0 []) _ piece (end ∷ rest) (number.run (between 0 []) refl))
 
 -- a number, a blank, and what follows
 pub blank-behind : (word value : ℕ) (numbers piece rest : List ℕ) → IsNumberTo 32 value piece rest

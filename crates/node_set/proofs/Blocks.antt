@@ -173,14 +173,3 @@ pub some_meet : (a b : List ℕ) (at to : ℕ) → ((k : ℕ) → get_or a k 0 <
 some_meet a b at to small fits place =
     let bit = shared_bit (get_or a place.0 0) (get_or b place.0 0) (small place.0) place.3 in
     (place.0, bit.0, omega (arith, place.2), bit.1, bit.2, bit.3)
-
--- no place of the block meets, nor one before it
-pub none_below : (a b : List ℕ) (at : ℕ) → ((k : ℕ) → k < at → bit_and (get_or a k 0) (get_or b k 0) ≡ 0)
-    → (MeetWithin a b at (at + 4) → ⊥) → (k : ℕ) → k < at + 4 → bit_and (get_or a k 0) (get_or b k 0) ≡ 0
-none_below a b at none apart k h = elim (cases_lt k at) [
-  | inl before ↦ none k before
-  | inr here ↦ elim (cases_lt 0 (bit_and (get_or a k 0) (get_or b k 0))) [
-    | inl some ↦ absurd (apart (k, here, h, some))
-    | inr zero_here ↦ omega arith
-  ]
-]

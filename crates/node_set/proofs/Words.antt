@@ -63,14 +63,6 @@ is_set-zeros n x = rw (zeros n (x / 64), bit_at-zero (x % 64)) refl
 pub no_bits : (n : ℕ) → set_bits (replicate n 0) ≡ []
 no_bits n = same_as_bits (replicate n 0) [] tt (is_set-zeros n)
 
-pub words-empty : (room : ℕ) → room ≤ 1024 → AreWords room (replicate ((room + 63) / 64) 0)
-words-empty room h = record {
-  small = h;
-  enough = length-replicate ((room + 63) / 64) 0;
-  tail =
-      λ v over. is_set-zeros ((room + 63) / 64) v;
-}
-
 -- ---- one bit
 
 -- the test of a bit, in the word w of v

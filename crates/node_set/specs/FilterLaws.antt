@@ -1,10 +1,10 @@
 -- Laws of filters of lists of numbers: what is left, in what order, and how much.
 -- Key laws: `has-filter` (who is left), `filter_twice` (a filter of a filter), `filter_halves`
 -- (what is kept and what isn't make the whole), `ascending-filter`.
-use Rattle.std.proofs.Common.{◌≡◌, ◌⊎◌, inl, inr, ℕ, zero, suc, ◌+◌, ◌<◌, ◌≤◌, Bool, true, false, cond, not, ◌&&◌, List, [], ◌∷◌, length, filter, refl, sym, ◌∙◌, ap, subst, arith}
+use Rattle.std.proofs.Common.{◌≡◌, ◌⊎◌, inl, inr, ℕ, suc, ◌+◌, ◌<◌, ◌≤◌, Bool, true, false, cond, not, ◌&&◌, List, [], ◌∷◌, length, filter, refl, sym, ◌∙◌, ap, subst, arith}
 use Rattle.std.specs.Prelude.{◌==◌}
 use Rattle.std.proofs.lemmas.Bool.{cases_Bool, false≢true, eqb-true, or_cases, or_right}
-use Rattle.node_set.specs.Ascending.{has, IsBelowAll, IsAscending, sift}
+use Rattle.node_set.specs.Ascending.{has, IsBelowAll, IsAscending}
 use Rattle.node_set.specs.SetLaws.{has_head}
 
 -- ---- what a filter keeps
@@ -67,13 +67,6 @@ filter_same p q [] same = refl
 filter_same p q (y ∷ ys) same =
     rw (same y (has_head y ys), filter_same p q ys (λ x h. same x (or_right (x == y) (has x ys) h)))
     refl
-
-cond-filter : (p q : ℕ → Bool) (y : ℕ) (rest : List ℕ) (b c : Bool) → p y ≡ b → q y ≡ c →
-    filter p (cond c (y ∷ filter q rest) (filter q rest)) ≡ cond c
-    (cond b (y ∷ filter p (filter q rest)) (filter p (filter q rest)))
-    (filter p (filter q rest))
-cond-filter p q y rest b true e f = rw e refl
-cond-filter p q y rest b false e f = refl
 
 -- a filter of a filter
 pub filter_twice : (p q : ℕ → Bool) (xs : List ℕ)
@@ -159,15 +152,3 @@ ascending-filter p (y ∷ ys) all = at (p y) (ascending-filter p ys all.1) (belo
         → IsAscending (cond b (y ∷ filter p ys) (filter p ys))
     at true rest below = (below, rest)
     at false rest below = rest
-
--- one test after another is both
-pub filter-passing : (p q : ℕ → Bool) (v k : ℕ) → filter q (sift p v k) ≡ sift (λ x. p x && q x) v k
-filter-passing p q v zero = refl
-filter-passing p q v (suc k) = at (p v) (q v) refl (filter-passing p q (suc v) k)
-  where
-    at : (b c : Bool) → q v ≡ c → filter q (sift p (suc v) k) ≡ sift (λ x. p x && q x) (suc v) k →
-        filter q (cond b (v ∷ sift p (suc v) k) (sift p (suc v) k)) ≡ cond (b && c)
-        (v ∷ sift (λ x. p x && q x) (suc v) k) (sift (λ x. p x && q x) (suc v) k)
-    at true true e f = rw (e, f) refl
-    at true false e f = rw (e, f) refl
-    at false c e f = f

@@ -31,9 +31,6 @@ exponent_is d e reached just i = elim (cases_lt i e) [
       le-leb e i over ∙ sym (le-leb d (2 ^ i) (omega arith))
 ]
 
-pub none_between : IsExponent 0 0
-none_between i = le-leb 0 i (omega arith) ∙ sym (le-leb 0 (2 ^ i) (omega arith))
-
 marked_exponent : (marks : List Bool) (d e : ℕ) → 0 < d → IsExponent d e → get_or marks e false ≡ true
     → HasExponent marks d
 marked_exponent marks d e some is mark = record {

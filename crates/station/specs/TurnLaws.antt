@@ -12,7 +12,7 @@ use Rattle.directory.specs.Keys.{act_node}
 use Rattle.station.specs.Moments.{IsLoggedAt}
 use Rattle.station.specs.Passes.{PassData, actor_of}
 use Rattle.station.specs.Setup.{Setup, setting_in}
-use Rattle.station.specs.Turns.{HasHadTurn, Logs, LogsAll, event_actor, events_of, losses, lost_in, won_in}
+use Rattle.station.specs.Turns.{HasHadTurn, Logs, LogsAll, event_actor, events_of, losses, lost_in}
 use Rattle.station.specs.Views.{turn_at}
 use Rattle.station.specs.Visits.{HasLoggedMore, HasVisited}
 use Rattle.station.specs.declared.turns.Held.{Held}
@@ -39,13 +39,6 @@ lost-append [] ys = refl
 lost-append (Won actor node ∷ xs) ys = lost-append xs ys
 lost-append (GivenBack actor node ∷ xs) ys = lost-append xs ys
 lost-append (Lost actor node word ∷ xs) ys = ap (λ l. turn_at node word ∷ l) (lost-append xs ys)
-
--- the nodes at which turns are won in two parts of a log
-pub won-append : (xs ys : List TurnEvent) → won_in (xs ++ ys) ≡ won_in xs ++ won_in ys
-won-append [] ys = refl
-won-append (Won actor node ∷ xs) ys = ap (λ l. node ∷ l) (won-append xs ys)
-won-append (GivenBack actor node ∷ xs) ys = won-append xs ys
-won-append (Lost actor node word ∷ xs) ys = won-append xs ys
 
 -- losses lose just those turns
 pub losses-lost : (actor : ℕ) (turns : List NodeTurn) → lost_in (losses actor turns) ≡ turns

@@ -59,13 +59,6 @@ lost_in (Won actor node ∷ later) = lost_in later
 lost_in (GivenBack actor node ∷ later) = lost_in later
 lost_in (Lost actor node word ∷ later) = turn_at node word ∷ lost_in later
 
--- the nodes at which turns were won
-abbrev pub won_in : List TurnEvent → List ℕ
-won_in [] = []
-won_in (Won actor node ∷ later) = node ∷ won_in later
-won_in (GivenBack actor node ∷ later) = won_in later
-won_in (Lost actor node word ∷ later) = won_in later
-
 -- the turns that an actor lost, as events
 abbrev pub losses : ℕ → List NodeTurn → List TurnEvent
 losses actor turns = map (λ turn. Lost actor turn.node turn.word) turns

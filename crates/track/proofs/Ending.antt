@@ -189,17 +189,6 @@ ended command plain answer status reader left left' rf rf' written written' wf w
 
 -- ---- a text that has a report
 
--- the input part is too long
-pub long-part : (bytes part : List ℕ) (left left' : Option (List ℕ)) (rf rf' : ℕ) (written : Option (List ℕ)) (wf : ℕ)
-    → IsTextRead most_text_bytes bytes left left' rf rf' → part ≡ input_part bytes → most_bytes < length part
-    → EndsAs commands.Check statuses.TooLong (streams left rf written wf) (streams left' rf' written wf)
-long-part bytes part left left' rf rf' written wf all same long = (
-  (refl, refl),
-  all.no_fault,
-  of_left (λ bytes. IsLong commands.Check bytes) left left' bytes all.parts all.end
-      (inr (subst (λ (t : List ℕ). most_bytes < length t) same long)),
-)
-
 -- the parts of the text that was read may be so long
 part-short : (bytes part : List ℕ) → part ≡ input_part bytes → length part ≤ most_bytes
     → length bytes ≤ most_text_bytes → IsShort commands.Check bytes

@@ -13,7 +13,7 @@ use Rattle.entry_word.specs.declared.address.Address.{Address}
 use Rattle.directory.specs.Settings.{Setting}
 use Rattle.directory.specs.Courses.{Step, move_to, switch_off, switch_on, Move, Course, last_stop, next_move, after_step, after_steps, MayStep, MaySteps}
 use Rattle.directory.specs.Writes.{Write, mark_at, entry_at, new_address, old_home, erasure_writes, trail, move_writes, step_writes, writes}
-use Rattle.directory.specs.Standing.{Commit, commit_by, off}
+use Rattle.directory.specs.Standing.{commit_by, off}
 use Rattle.directory.specs.States.{write_commit, write_off}
 use Rattle.trail_laws.proofs.Links.{IsSound, sound-step}
 use Rattle.trail_laws.proofs.ClosedMarks.{IsNext, is-next, rest_mark, mark_coming, mark_passing, mark_erasing, marked, marked-append, marked-entries, marked-purges, with_move, marks-rest, since_top, there, trail_mark}
@@ -110,9 +110,6 @@ clearing-entries setting course move written erased purged level cluster =
     (entry_written setting course move written level cluster) erased)))
 
 -- ---- commits, and whether the subscriber is off
-listed : List Write → List Commit
-listed ws = filter_map write_commit ws
-
 none-entries : (cluster : ℕ → ℕ) (address : ℕ → Option Address) (levels : List ℕ)
     → filter_map write_commit (map (λ level. entry_at level (cluster level) (address level)) levels) ≡ []
 none-entries cluster address [] = refl
@@ -150,9 +147,6 @@ clearing-commits setting course move written erased purged =
     (map (λ node. mark_at node Empty) purged)
     ∙ (ap (λ cs. cs ++ filter_map write_commit (map (λ node. mark_at node Empty) purged))
     (none-entries (λ l. old_home setting course l) (λ l. None) erased) ∙ none-purges purged)))
-
-offs : Bool → List Write → Bool
-offs off ws = fold (λ o write. write_off write) off ws
 
 pub offs-append : (off : Bool) (xs ys : List Write) → fold (λ o write. write_off write) off (xs ++ ys)
     ≡ fold (λ o write. write_off write) (fold (λ o write. write_off write) off xs) ys

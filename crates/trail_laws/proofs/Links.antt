@@ -19,9 +19,6 @@ pub record IsSound (setting : Setting) (course : Course) : Type 0 where
   pub begins : course.start < setting.nodes
   pub linked : AreLinked setting course.start 0 course.moves
 
-pub last_of : ℕ → List Move → ℕ
-last_of from moves = fold (λ node (move : Move). move.to) from moves
-
 pub linked-push : (setting : Setting) (from number : ℕ) (moves : List Move) (move : Move)
     → move.number ≡ suc (number + length moves) → move.from ≡ fold (λ node (m : Move). m.to) from moves
     → move.from < setting.nodes → move.to < setting.nodes → move.to ≢ move.from → move.renewed ≤ setting.top

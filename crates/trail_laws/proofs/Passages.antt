@@ -14,7 +14,7 @@ use Rattle.entry_word.specs.declared.visit.Act.TheVariants.{Look, Put, Census}
 use Rattle.entry_word.specs.declared.visit.Visit.{Visit}
 use Rattle.directory.specs.Settings.{Setting, start}
 use Rattle.directory.specs.Histories.{cell, History, is_put_for, puts_to, word_after}
-use Rattle.directory.specs.Courses.{after_step, after_steps, Course, course_at, move_to, next_move, Step, switch_off, switch_on}
+use Rattle.directory.specs.Courses.{after_step, after_steps, Course, course_at, next_move}
 use Rattle.directory.specs.Puts.{course_in, mark_put, mark_step, node_put, steps_from, steps_in}
 use Rattle.directory.specs.Legal.{IsLegal}
 use Rattle.directory.specs.Standing.{Commit, commit_of, commits, confirms, number, passage, passage_of, standing}
@@ -71,14 +71,6 @@ put-cases sub x word (Put (Presence node s) new) put = at_test (x == node) refl
             ≡ true = eq-eqb x node (sym to ∙ sym (eqb-true node c.to f)) in cc
         at_turned c false f to = refl
 
--- a put adds at most moves, and a Coming adds one
-step-grows : (setting : Setting) (course : Course) (step : Step)
-    → length course.moves ≤ length (after_step setting course step).moves
-step-grows setting course (move_to node) =
-    omega (arith, length-append course.moves (next_move setting course node ∷ []))
-step-grows setting course switch_off = omega arith
-step-grows setting course switch_on = omega arith
-
 put-course : (setting : Setting) (sub : ℕ) (puts : List Visit) (visit : Visit) → (off : Bool)
     × (course_in setting sub (puts ++ visit ∷ []) ≡ after_steps setting (course_in setting sub puts)
     (cons_option (mark_step off (node_put visit.act) (mark_put visit.act)) []))
@@ -88,18 +80,6 @@ put-course setting sub puts visit = (
   ap (after_steps setting (course_at (start setting sub))) (steps-append false puts (visit ∷ []))
       ∙ fold-append (after_step setting) (course_at (start setting sub)) (steps_in puts) _,
 )
-
-put-grows : (setting : Setting) (sub : ℕ) (puts : List Visit) (visit : Visit)
-    → length (course_in setting sub puts).moves ≤ length (course_in setting sub (puts ++ visit ∷ [])).moves
-put-grows setting sub puts visit =
-    let more = put-course setting sub puts visit in
-    subst (λ (c : Course). length (course_in setting sub puts).moves ≤ length c.moves) (sym more.1)
-    (at_option (mark_step more.0 (node_put visit.act) (mark_put visit.act)))
-  where
-    at_option : (o : Option Step) → length (course_in setting sub puts).moves ≤ length
-        (after_steps setting (course_in setting sub puts) (cons_option o [])).moves
-    at_option None = omega arith
-    at_option (Some step) = step-grows setting (course_in setting sub puts) step
 
 coming-grows : (setting : Setting) (sub : ℕ) (puts : List Visit) (visit : Visit) (p u : ℕ)
     → mark_put visit.act ≡ Coming p u

@@ -32,9 +32,6 @@ record IsTrailOf (setting : Setting) (marks : ℕ → PresenceMark) (from number
 gone-number : (a b c d : ℕ) → Gone a b ≡ Gone c d → a ≡ c
 gone-number a b c d h = cc
 
-gone-node : (a b c d : ℕ) → Gone a b ≡ Gone c d → b ≡ d
-gone-node a b c d h = cc
-
 not-empty : (p w : ℕ) (mark : PresenceMark) → mark ≡ Empty → mark ≡ Gone p w → ⊥
 not-empty p w mark none h = let clash : Empty ≡ Gone p w = sym none ∙ h in cc
 

@@ -1,6 +1,6 @@
 -- How the row grows: by the readers of a node at a level, one after another.
 use Rattle.std.specs.Prelude.{◌/◌}
-use Rattle.std.proofs.Common.{◌≡◌, ℕ, suc, ◌+◌, ◌*◌, ◌^◌, ◌<◌, ◌≤◌, List, [], ◌∷◌, ◌++◌, length, refl, sym, ap, ◌∙◌, subst, inl, inr, arith, Vec, Global}
+use Rattle.std.proofs.Common.{◌≡◌, ℕ, suc, ◌+◌, ◌*◌, ◌^◌, ◌<◌, ◌≤◌, List, [], ◌∷◌, ◌++◌, length, sym, ap, ◌∙◌, subst, inl, inr, arith, Vec, Global}
 use Rattle.std.specs.Prelude.{slice_index}
 use Rattle.std.proofs.lemmas.Bool.{cases_lt}
 use Rattle.std.proofs.lemmas.List.{get_or_append_left, get_or_push, length_push}
@@ -47,22 +47,6 @@ pub record IsAdding (plan : PlanData) (old new : RouteData) (node level count : 
       → slice_index new.ways (length old.places + i + 1)
       ≡ slice_index new.ways (length old.places + i) + way_at plan node (rung_at level i)
   pub light : slice_index new.ways (length new.places) ≤ length new.places * 2 ^ 36
-
-pub adding-none : (plan : PlanData) (old : RouteData) (node level parts : ℕ) → HaveParts plan old parts
-    → IsAdding plan old old node level 0
-adding-none plan old node level parts have =
-    record {
-      levels = refl;
-      starts = refl;
-      level_of = refl;
-      size = omega arith;
-      ways_size = have.ways;
-      places_before = λ i low. refl;
-      ways_before = λ i low. refl;
-      places = λ i low. absurd (omega (arith, low));
-      ways = λ i low. absurd (omega (arith, low));
-      light = have.light;
-    }
 
 -- one more of them
 pub adding-more : (plan : PlanData) (old new next : RouteData) (node level count place sum : ℕ)

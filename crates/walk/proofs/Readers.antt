@@ -30,10 +30,6 @@ pub above-more : (setting : Setting) (node level : ℕ) → level < levels setti
 above-more setting node level h = let e : levels setting - level ≡ suc (levels setting - suc level) =
     omega arith in ap (λ n. flat_map (readers_at setting node) (numbers_from level n)) e
 
-pub above-none : (setting : Setting) (node level : ℕ) → levels setting ≤ level → readers_above setting node level ≡ []
-above-none setting node level h = let e : levels setting - level ≡ 0 = omega arith in ap (λ n. flat_map
-    (readers_at setting node) (numbers_from level n)) e
-
 pub above-empty : (setting : Setting) (node level : ℕ) → level < levels setting
     → length (setting.readers level node) ≡ 0 → readers_above setting node (level + 1)
     ≡ readers_above setting node level
