@@ -1,5 +1,5 @@
 -- How a call ends, by what its parts answered.
-use Rattle.std.proofs.Common.{◌≡◌, ◌⊎◌, inl, inr, ℕ, ◌<◌, ◌≤◌, true, List, ◌++◌, length, Option, Some, None, Result, Ok, Err, refl, sym, ap, subst, ◌∙◌, append-nil}
+use Rattle.std.proofs.Common.{◌≡◌, ◌⊎◌, inl, inr, ℕ, ◌≤◌, true, List, ◌++◌, length, Option, Some, None, Result, Ok, Err, sym, ap, subst, ◌∙◌, append-nil}
 use Rattle.std.proofs.lemmas.Result.{IfOk-weaker}
 use Rattle.std.specs.Prelude.{IfOk, IfSome}
 use Rattle.std.specs.declared.alloc.AllocError.{AllocError}
@@ -19,10 +19,8 @@ use Rattle.word_line.specs.declared.command.Command.TheVariants as commands
 use Rattle.track.specs.declared.status.Status.{Status}
 use Rattle.track.specs.declared.status.Status.TheVariants as statuses
 use Rattle.track.specs.Results.{IsInputText, IsJsonAnswer, IsJudged, IsMade, IsRightAnswer, IsRightVerdict, IsText, is_made_alike, verdict_for, verdict_status}
-use Rattle.track.specs.Ends.{EndsAs, EndsDone, IsBegun, IsLong, IsShort, IsTextWritten, Streams, streams}
-use Rattle.track.specs.Transfer.{IsAllRead, IsTextRead, StopsReading, StopsWriting, read_status, write_status}
-use Rattle.track.specs.declared.stop.ReadStop.{ReadStop}
-use Rattle.track.specs.declared.stop.ReadStop.TheVariants as reading
+use Rattle.track.specs.Ends.{EndsAs, EndsDone, IsBegun, IsShort, IsTextWritten, Streams, streams}
+use Rattle.track.specs.Transfer.{IsAllRead, IsTextRead, StopsWriting, write_status}
 use Rattle.track.specs.declared.stop.WriteStop.{WriteStop}
 use Rattle.track.specs.declared.stop.WriteStop.TheVariants as writing
 
@@ -74,7 +72,6 @@ status_of_text command bytes status text is =
 -- all bytes are an input to a command
 pub record IsPlain (command : Command) : Type 0 where
   pub short : (bytes : List ℕ) → length bytes ≤ most_bytes → IsShort command bytes
-  pub long : (bytes : List ℕ) → most_bytes < length bytes → IsLong command bytes
   pub text : (bytes : List ℕ) (status : Status) (text : List ℕ) → IsInputText command bytes status text
       → IsText command bytes status text
 
@@ -82,24 +79,10 @@ pub record IsPlain (command : Command) : Type 0 where
 pub is_plain : (command : Command) → is_made_alike command ≡ true → IsPlain command
 is_plain commands.Check alike = cc
 is_plain commands.FromJson alike = cc
-is_plain command alike = record { short = λ bytes is. is; long = λ bytes is. is; text = λ bytes status text is. is }
+is_plain command alike = record { short = λ bytes is. is; text = λ bytes status text is. is }
 
 pub is_plain_run : IsPlain commands.Run
-is_plain_run = record { short = λ bytes is. is; long = λ bytes is. is; text = λ bytes status text is. is }
-
-long_in : (command : Command) → IsPlain command → (left : Option (List ℕ))
-    → IfSome left (λ bytes. most_bytes < length bytes) → IfSome left (λ bytes. IsLong command bytes)
-long_in command plain None long = tt
-long_in command plain (Some bytes) long = plain.long bytes long
-
--- reading stopped
-pub stopped : (command : Command) → IsPlain command → (stop : ReadStop) (left left' : Option (List ℕ)) (rf rf' : ℕ)
-    (written : Option (List ℕ)) (wf : ℕ) → StopsReading most_bytes stop left rf rf'
-    → EndsAs command (read_status stop) (streams left rf written wf) (streams left' rf' written wf)
-stopped command plain reading.OutOfMemory left left' rf rf' written wf h = ((refl, refl), h)
-stopped command plain reading.Failed left left' rf rf' written wf h = ((refl, refl), h)
-stopped command plain reading.TooLong left left' rf rf' written wf
-    h = ((refl, refl), h.1, long_in command plain left h.0)
+is_plain_run = record { short = λ bytes is. is; text = λ bytes status text is. is }
 
 told : (command : Command) (status : Status) (before now : Streams) → IsTold status
     → EndsDone command status before now → EndsAs command status before now

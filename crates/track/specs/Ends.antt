@@ -11,7 +11,7 @@ use Rattle.word_line.specs.declared.command.Command.TheVariants.{Check}
 use Rattle.track.specs.declared.status.Status.{Status}
 use Rattle.track.specs.declared.status.Status.TheVariants.{Done, Refused, BadWords, OutOfMemory, ReadFailed, WriteFailed, TooLong, Unsound}
 use Rattle.track.specs.Results.{IsText, is_served, text_alone}
-use Rattle.track.specs.Transfer.{HasFaultedOnce, IsWrittenPart}
+use Rattle.track.specs.Transfer.{HasFaultedOnce, IsReadWithin, IsWrittenPart}
 
 -- what stands before and after a call: the bytes left, the source's count of faults, the bytes
 -- written, the sink's
@@ -36,6 +36,11 @@ abbrev pub IsShort : Command → List ℕ → Type 0
 IsShort Check bytes =
     (length bytes ≤ most_text_bytes) × (length (input_part bytes) ≤ most_bytes)
 IsShort command bytes = length bytes ≤ most_bytes
+
+-- so many bytes are read for it at most
+abbrev pub most_read : Command → ℕ
+most_read Check = most_text_bytes
+most_read command = most_bytes
 
 -- these are more than it may be given
 abbrev pub IsLong : Command → List ℕ → Type 0
@@ -81,6 +86,7 @@ EndsAs command OutOfMemory before now =
     IsSilent before now × (now.read_faults ≡ before.read_faults)
 EndsAs command ReadFailed before now =
     IsSilent before now × HasFaultedOnce before.read_faults now.read_faults
+    × IsReadWithin (most_read command) before.left now.left
 EndsAs command WriteFailed before now =
     HasFaultedOnce before.write_faults now.write_faults
     × IfSome before.left (λ bytes. IsBegun command bytes before.written now.written)

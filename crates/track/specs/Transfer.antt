@@ -38,13 +38,19 @@ pub record IsTextRead (limit : ℕ) (bytes : List ℕ) (before now : Option (Lis
 abbrev pub HasFaultedOnce : ℕ → ℕ → Type 0
 HasFaultedOnce before now = HasFaulted before now × (now ≡ one_more before)
 
--- why not all was read, where so many bytes may be
-abbrev pub StopsReading : ℕ → ReadStop → Option (List ℕ) → ℕ → ℕ → Type 0
-StopsReading limit reading.OutOfMemory before faults_before faults_now =
+-- what was read until now is at most so many bytes
+pub record IsReadWithin (limit : ℕ) (before now : Option (List ℕ)) : Type 0 where
+  pub bytes : List ℕ
+  pub parts : before ≡ prepend_known bytes now
+  pub short : length bytes ≤ limit
+
+-- why not all was read, where so many bytes may be: of a fault and too many bytes, what came first
+abbrev pub StopsReading : ℕ → ReadStop → Option (List ℕ) → Option (List ℕ) → ℕ → ℕ → Type 0
+StopsReading limit reading.OutOfMemory before now faults_before faults_now =
     faults_now ≡ faults_before
-StopsReading limit reading.Failed before faults_before faults_now =
-    HasFaultedOnce faults_before faults_now
-StopsReading limit reading.TooLong before faults_before faults_now =
+StopsReading limit reading.Failed before now faults_before faults_now =
+    HasFaultedOnce faults_before faults_now × IsReadWithin limit before now
+StopsReading limit reading.TooLong before now faults_before faults_now =
     IfSome before (λ bytes. limit < length bytes) × (faults_now ≡ faults_before)
 
 -- the status that it ends with

@@ -19,7 +19,7 @@ pub(crate) fn read_all<S: Source>(alloc: Global, source: &mut S) -> Result<Reade
     ensures all { IfOk result (λ reader. IsAllRead reader
         (S.left source.old) (S.left source.new) (S.faults source.old) (S.faults source.new)) }
     ensures stops { IfErr result (λ stop. StopsReading most_bytes stop
-        (S.left source.old) (S.faults source.old) (S.faults source.new)) }
+        (S.left source.old) (S.left source.new) (S.faults source.old) (S.faults source.new)) }
     ensures rest { IsEndOf (S.left source.old) (S.left source.new) }
 {
     let mut reader = Reader::new(alloc)?;
@@ -48,7 +48,7 @@ pub(crate) fn read_text<S: Source>(
     ensures all { IfOk result (λ text. IsTextRead limit text.items
         (S.left source.old) (S.left source.new) (S.faults source.old) (S.faults source.new)) }
     ensures stops { IfErr result (λ stop. StopsReading limit stop
-        (S.left source.old) (S.faults source.old) (S.faults source.new)) }
+        (S.left source.old) (S.left source.new) (S.faults source.old) (S.faults source.new)) }
     ensures rest { IsEndOf (S.left source.old) (S.left source.new) }
 {
     let mut text = Vec::new(alloc);

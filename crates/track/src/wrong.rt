@@ -97,7 +97,8 @@ pub fn wrong_ends_alone()
         → EndsAlone text TooLong before now → ⊥ }
 {}
 
-/// More bytes than a command may be given, and a text that was written for them, whole or in part.
+/// More bytes than a command may be given, and a text that was written for them, whole or in part;
+/// or a fault that was met behind them all.
 pub fn wrong_lengths()
     ensures whole { (bytes : List ℕ) (now : Streams) → most_bytes < length bytes
         → EndsAs Cover Done (streams (Some bytes) 0 None 0) now → ⊥ }
@@ -111,6 +112,12 @@ pub fn wrong_lengths()
         → EndsAs Check Done (streams (Some bytes) 0 None 0) now → ⊥ }
     ensures check_begun { (bytes : List ℕ) (now : Streams) → most_bytes < length (input_part bytes)
         → EndsAs Check WriteFailed (streams (Some bytes) 0 None 0) now → ⊥ }
+    ensures read_failed { (bytes : List ℕ) → most_bytes < length bytes
+        → EndsAs Cover ReadFailed (streams (Some bytes) 0 None 0)
+        (streams (Some []) 1 None 0) → ⊥ }
+    ensures check_failed { (bytes : List ℕ) → most_text_bytes < length bytes
+        → EndsAs Check ReadFailed (streams (Some bytes) 0 None 0)
+        (streams (Some []) 1 None 0) → ⊥ }
 {}
 
 /// A count of faults that rose by two.
