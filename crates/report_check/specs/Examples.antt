@@ -1,11 +1,12 @@
 -- Worked examples: reports of the line of four nodes by several programs, sound and unsound.
 -- Key laws, computed: `worked_reports`, `flaws_of_form`, `flaws_of_tickets`, `flaws_of_place`,
 -- `moves_by_tickets`, `switches_by_tickets`, `moves_of_nobody`,
--- `moves_by_commits`.
-use Rattle.std.specs.Prelude.{ℕ, List, [], ◌∷◌, ◌++◌}
+-- `moves_by_commits`, `finds_of_off`, `moves_within_finds`, `first_flaws`, `lines_of_orders`.
+use Rattle.std.specs.Prelude.{ℕ, List, [], ◌∷◌, ◌++◌, codes, replicate}
 use Rattle.net_reader.specs.declared.said.Call.{Call}
 use Rattle.net_reader.specs.declared.said.Call.TheVariants.{Move, Find, Off, On}
 use Rattle.net_reader.specs.Input.{Contents}
+use Rattle.outside.specs.Texts.{fields}
 use Rattle.plan_laws.specs.Examples.{line_of_four}
 use Rattle.report_check.specs.declared.verdict.Verdict.{Verdict}
 use Rattle.report_check.specs.Verdicts.{verdict_of}
@@ -49,6 +50,10 @@ two_moves_near = contents_with (Move 2 ∷ Move 0 ∷ []) (Find 0 0 ∷ [])
 abbrev pub switches : Contents
 switches = contents_with (Off ∷ On ∷ []) (Find 3 0 ∷ [])
 
+-- off, on and off again, a move to node 2, and a find from node 3
+abbrev pub off_then_move : Contents
+off_then_move = contents_with (Off ∷ On ∷ Off ∷ Move 2 ∷ []) (Find 3 0 ∷ [])
+
 -- a find from node 3, of a subscriber that makes no call
 abbrev pub lone_find : Contents
 lone_find = contents_with ([]) (Find 3 0 ∷ [])
@@ -72,6 +77,14 @@ both_move = contents_of_two (Move 2 ∷ []) (Move 1 ∷ []) (Find 3 0 ∷ [])
 -- the second switches off, and a find of the first from node 3
 abbrev pub other_off : Contents
 other_off = contents_of_two ([]) (Off ∷ []) (Find 3 0 ∷ [])
+
+-- a find from node 3 of the second, and neither makes a call
+abbrev pub second_found : Contents
+second_found = contents_of_two ([]) ([]) (Find 3 1 ∷ [])
+
+-- a line of the order with so many tickets of actor 0
+abbrev pub order_of_zeros : ℕ → List ℕ
+order_of_zeros tickets = codes "order" ++ fields (replicate tickets 0)
 
 -- the verdict on a report of these calls
 abbrev pub verdict_for : Contents → List ℕ → Verdict

@@ -5,6 +5,7 @@ ghost use Rattle.report_check.specs.Cuts.{input_part, report_part};
 ghost use Rattle.report_check.specs.Laws.{CallsAreText, NumbersAreText, WordsAreText};
 ghost use Rattle.report_check.specs.Reading.{call_in, number_in, starts_with_digit, word_in};
 ghost use Rattle.report_check.specs.VerdictText.{verdict_line_of};
+ghost use Rattle.report_check.specs.Verdicts.{line_behind};
 ghost use Rattle.report_check.specs.declared.slots.Slot.{Slot};
 ghost use Rattle.report_check.specs.declared.slots.Slot.TheVariants.{Switch};
 ghost use Rattle.report_check.specs.declared.verdict.Flaw.TheVariants.{Form, Tickets, Place, Again, Weight};
@@ -104,10 +105,14 @@ pub fn flaws_of_place()
         codes "move 0 1 3 2 weight 1 first 0 commit 3 last 5" then
         codes "find 1 3 0 at 2 number 4294967297 level 0 weight 5 first 6 last 8" then
         codes "order 0 0 0 0 0 0 1 1 1" then codes "end 9" then []) ≡ Unsound 2 Place }
-    ensures light_move { verdict_for one_move (
+    ensures heavy_move { verdict_for one_move (
         codes "move 0 1 3 2 weight 2 first 0 commit 3 last 5" then
         codes "find 1 3 0 at 2 number 1 level 0 weight 5 first 6 last 8" then
         codes "order 0 0 0 0 0 0 1 1 1" then codes "end 9" then []) ≡ Unsound 1 Weight }
+    ensures light_move { verdict_for one_move (
+        codes "move 0 1 3 2 weight 0 first 0 commit 1 last 2" then
+        codes "find 1 3 0 at 2 number 1 level 0 weight 5 first 3 last 3" then
+        codes "order 0 0 0 1" then codes "end 4" then []) ≡ Unsound 1 Weight }
 {}
 
 /// Tickets that no call holds, or that aren't the call's.
@@ -236,14 +241,22 @@ pub fn example_cuts()
         codes "report x" then codes "a report") ≡ [] }
     ensures two_returns { report_part (codes "k 2" then codes "report\r\r" then codes "end")
         ≡ [] }
+    ensures empty_lines { report_part (codes "k 2" then ([]) then codes " " then codes "report" then
+        codes "end") ≡ codes "end" }
     ensures last { input_part (codes "k 2" then codes "report") ≡ codes "k 2" then [] }
     ensures last_report { report_part (codes "k 2" then codes "report") ≡ [] }
 {}
 
-/// Lines that tell verdicts.
+/// Lines that tell verdicts, and the last number of a line, which stands still.
 pub fn example_verdicts()
     ensures sound { verdict_line_of Sound ≡ codes "yes" ++ 10 ∷ [] }
     ensures unsound { verdict_line_of (Unsound 12 Weight) ≡ codes "no 12 weight" ++ 10 ∷ [] }
+    ensures form { verdict_line_of (Unsound 1 Form) ≡ codes "no 1 form" ++ 10 ∷ [] }
+    ensures tickets { verdict_line_of (Unsound 2 Tickets) ≡ codes "no 2 tickets" ++ 10 ∷ [] }
+    ensures place { verdict_line_of (Unsound 3 Place) ≡ codes "no 3 place" ++ 10 ∷ [] }
+    ensures again { verdict_line_of (Unsound 4 Again) ≡ codes "no 4 again" ++ 10 ∷ [] }
+    ensures last_line { line_behind 4294967294 ≡ 4294967295 }
+    ensures stands_still { line_behind 4294967295 ≡ 4294967295 }
 {}
 
 /// Tickets of a subscriber without calls are of no move: the line of a find breaks its own part

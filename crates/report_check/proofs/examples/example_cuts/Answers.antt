@@ -45,3 +45,7 @@ returns-clause-last c = refl
 pub returns-clause-last_report : goal.returns-clause-last_report
 unfolding input_from report_from
 returns-clause-last_report c = refl
+
+pub returns-clause-empty_lines : goal.returns-clause-empty_lines
+unfolding input_from report_from
+returns-clause-empty_lines c = refl

@@ -13,3 +13,7 @@ returns-clause-wrong_count c = refl
 pub returns-clause-light_move : goal.returns-clause-light_move
 unfolding judged
 returns-clause-light_move c = refl
+
+pub returns-clause-heavy_move : goal.returns-clause-heavy_move
+unfolding judged
+returns-clause-heavy_move c = refl
