@@ -6,9 +6,9 @@ ghost use Rattle.report_check.specs.Reading.{most, report_in};
 ghost use Rattle.report_check.specs.declared.slots.Slot.{Slot};
 ghost use Rattle.report_check.specs.declared.slots.Slot.TheVariants.{Switch};
 ghost use Rattle.report_text.specs.ReportText.{report_of};
-ghost use Rattle.report_check.specs.declared.verdict.Flaw.TheVariants.{Again, Place, Tickets, Weight};
+ghost use Rattle.report_check.specs.declared.verdict.Flaw.TheVariants.{Again, Form, Place, Tickets, Weight};
 ghost use Rattle.report_check.specs.declared.verdict.Verdict.TheVariants.{Sound, Unsound};
-ghost use Rattle.report_check.specs.Examples.{◌then◌, off_then_move, one_move, order_of_zeros, second_found, switches, verdict_for};
+ghost use Rattle.report_check.specs.Examples.{◌then◌, near_find, off_then_move, one_move, order_of_zeros, second_found, switches, verdict_for};
 
 /// Finds that answer off: their place is that before their last visit, and their weight is bounded.
 pub fn finds_of_off()
@@ -41,7 +41,7 @@ pub fn finds_of_off()
         codes "order 0 0 0 0 0 0 1" then codes "end 7" then []) ≡ Sound }
 {}
 
-/// Moves within a find, and behind its last visit, and a subscriber with another's home.
+/// Moves within a find, behind its last visit, and around it, and a subscriber's own home.
 pub fn moves_within_finds()
     ensures by_its_last { verdict_for one_move (
         codes "move 0 1 3 2 weight 1 first 1 commit 2 last 3" then
@@ -55,13 +55,22 @@ pub fn moves_within_finds()
         codes "move 0 1 3 2 weight 1 first 2 commit 3 last 4" then
         codes "again 1 3 0 none weight 0 first 0 last 1" then
         codes "order 1 1 0 0 0" then codes "end 5" then []) ≡ Unsound 2 Again }
+    ensures confirmed { verdict_for near_find (
+        codes "move 0 1 3 2 weight 1 first 0 commit 1 last 4" then
+        codes "find 1 2 0 at 2 number 1 level - weight 1 first 3 last 3" then
+        codes "order 0 0 0 1 0" then codes "end 5" then []) ≡ Unsound 2 Weight }
     ensures home_of_its_own { verdict_for second_found (
         codes "find 2 3 1 at 0 number 0 level - weight 3 first 0 last 0" then
         codes "order 2" then codes "end 1" then []) ≡ Sound }
 {}
 
-/// Where a line breaks two parts, the first is told, and of two lines that of the first.
+/// Where a line breaks two parts, the first is told, and of two lines that of the first; what can't
+/// be read is told before all else.
 pub fn first_flaws()
+    ensures form_before_all { verdict_for one_move (
+        codes "move 0 1 3 2 weight 2 first 0 commit 1 last 2" then
+        codes "find 1 3 0 at 4 number 0 level - weight 0 first 3 last 3" then
+        codes "order 0 0 0 1" then codes "end 4" then []) ≡ Unsound 2 Form }
     ensures tickets_before_place { verdict_for one_move (
         codes "move 0 1 3 2 weight 1 first 0 commit 1 last 2" then
         codes "find 1 3 0 at 3 number 0 level - weight 0 first 3 last 4" then

@@ -21,3 +21,7 @@ returns-clause-left_over_before_place c = refl
 pub returns-clause-first_line : goal.returns-clause-first_line
 unfolding judged
 returns-clause-first_line c = refl
+
+pub returns-clause-form_before_all : goal.returns-clause-form_before_all
+unfolding judged
+returns-clause-form_before_all c = refl

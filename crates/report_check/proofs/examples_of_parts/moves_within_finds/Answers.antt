@@ -17,3 +17,7 @@ returns-clause-met_behind c = refl
 pub returns-clause-home_of_its_own : goal.returns-clause-home_of_its_own
 unfolding judged
 returns-clause-home_of_its_own c = refl
+
+pub returns-clause-confirmed : goal.returns-clause-confirmed
+unfolding judged
+returns-clause-confirmed c = refl
