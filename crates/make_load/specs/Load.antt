@@ -1,6 +1,6 @@
 -- The input that a load makes, draw by draw, and its text. Key laws: `Workload::new` and
 -- `load_text` (they make it), `loads_read` (its text reads as this input), `example_loads`
--- (computed).
+-- and `example_formats` (computed).
 use Rattle.std.specs.Prelude.{◌≡◌, ℕ, zero, suc, ◌+◌, ◌-◌, ◌*◌, ◌/◌, ◌%◌, ◌<◌, ◌≤◌, ◌^◌, Bool, true, List, [], ◌∷◌, ◌++◌, nat_le, nat_lt, ◌==◌, ◌&&◌, ◌||◌, if◌then◌else◌, slice_index, slice_set}
 use Rattle.net_graph.specs.declared.edge.Edge.{Edge}
 use Rattle.net_graph.specs.Walks.{make_edge}
