@@ -11,7 +11,7 @@ mod rows;
 mod text;
 mod values;
 
-pub use examples::{example_input, example_report, example_shapes};
+pub use examples::{example_input, example_report, example_rows, example_shapes};
 pub use fault::JsonFault;
 pub use input::input_json;
 pub use laws::{inputs_return, one_text};

@@ -4,6 +4,9 @@ use Rattle.json_form.proofs.examples.example_shapes.Goals as goal
 pub returns-clause-lone : goal.returns-clause-lone
 returns-clause-lone c = refl
 
+pub returns-clause-most : goal.returns-clause-most
+returns-clause-most c = refl
+
 pub returns-clause-none : goal.returns-clause-none
 returns-clause-none c = refl
 
