@@ -1,5 +1,5 @@
 //! Worked examples, computed: what moves on the line of four nodes cost, and how it is told.
-ghost use Rattle.std.specs.Prelude.{◌≡◌, ◌++◌, [], ◌∷◌, codes};
+ghost use Rattle.std.specs.Prelude.{◌≡◌, ◌+◌, ◌++◌, [], ◌∷◌, codes};
 ghost use Rattle.outside.specs.Texts.{◌then◌};
 ghost use Rattle.directory.specs.Courses.{move_to, switch_off, switch_on};
 ghost use Rattle.plan_laws.specs.Examples.{line_scripts, line_setting};
@@ -13,7 +13,8 @@ use plan_laws::line_has_its_plan;
 
 /// What the moves of a subscriber at the end of the line cost: a move that erases its old address;
 /// a second one that purges the trail; a far one that does both at once; there and back; and
-/// switches, which cost nothing.
+/// switches, which cost nothing. Of two subscribers, each is told with its own steps and start. And
+/// where clusters wind, an address is brought by the way inside, and erased from outside.
 pub fn example_costs()
     ensures erases { cost_lines line_setting (line_scripts (move_to 2 ∷ []) [])
         ≡ record { sub = 0; moves = 1; moved = 1; written = 12; purged = 0 } ∷ [] }
@@ -25,6 +26,13 @@ pub fn example_costs()
         ≡ record { sub = 0; moves = 2; moved = 2; written = 32; purged = 1 } ∷ [] }
     ensures switches { cost_lines line_setting (line_scripts (switch_off ∷ switch_on ∷ []) [])
         ≡ record { sub = 0; moves = 0; moved = 0; written = 0; purged = 0 } ∷ [] }
+    ensures two { cost_lines (record line_setting { starts = 3 ∷ 0 ∷ [] })
+        (record { steps = (move_to 2 ∷ []) ∷ (move_to 3 ∷ switch_off ∷ []) ∷ []; finds = [] })
+        ≡ record { sub = 0; moves = 1; moved = 1; written = 12; purged = 0 }
+        ∷ record { sub = 1; moves = 1; moved = 3; written = 24; purged = 1 } ∷ [] }
+    ensures winding { cost_lines (record line_setting { inside = λ level cluster node. 10 + node })
+        (line_scripts (move_to 2 ∷ []) [])
+        ≡ record { sub = 0; moves = 1; moved = 1; written = 52; purged = 0 } ∷ [] }
 {}
 
 /// The line of four is renewed at the pace that the bound asks for, with clusters 3 radii wide: a

@@ -23,3 +23,11 @@ returns-clause-back c = refl
 pub returns-clause-switches : goal.returns-clause-switches
 unfolding highest writes weight_of_steps
 returns-clause-switches c = refl
+
+pub returns-clause-two : goal.returns-clause-two
+unfolding highest writes weight_of_steps
+returns-clause-two c = refl
+
+pub returns-clause-winding : goal.returns-clause-winding
+unfolding highest writes weight_of_steps
+returns-clause-winding c = refl
