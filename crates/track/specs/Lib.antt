@@ -4,3 +4,4 @@ pub mod Bodies
 pub mod Ends
 pub mod Laws
 pub mod Places
+pub mod Examples

@@ -12,6 +12,7 @@ mod pieces;
 mod run;
 mod status;
 mod stop;
+mod told;
 mod top;
 mod transfer;
 mod trial;
@@ -19,6 +20,7 @@ mod writing;
 mod wrong;
 
 pub use laws::{bytes_have_one_text, complete, reports_tell, runs_are_replayed, texts_tell};
+pub use told::{told_refusals, told_results, told_sums};
 pub use top::{command, command_with_threads};
 pub use wrong::{
     told_laws, told_numbers, wrong_counts, wrong_ends, wrong_ends_alone, wrong_lengths, wrong_rests,
