@@ -4,7 +4,7 @@
 -- Key laws: `json_text` (it gives the text of this listing, and refuses what has none),
 -- `inputs_return` (the value of each input has the shape), `example_shapes` and `example_rows`
 -- (computed).
-use Rattle.std.specs.Prelude.{ℕ, suc, List, [], ◌∷◌, ◌++◌, drop, take, Option, Some, None, nat_le, if◌then◌else◌, codes, option_and_then, unwrap_or}
+use Rattle.std.specs.Prelude.{ℕ, List, [], ◌∷◌, Option, Some, None, nat_le, if◌then◌else◌, codes, option_and_then, unwrap_or}
 use Rattle.std.specs.Str.{bytes_eq}
 use Rattle.net_graph.specs.declared.edge.Edge.{Edge}
 use Rattle.net_reader.specs.declared.said.Call.{Call}
@@ -186,18 +186,3 @@ lone_value k others =
     (member (codes "subs") (wholes (0 ∷ []))
     (member (codes "track") (whole 1)
     others)))))))
-
--- members of these keys, each with the value 0
-abbrev pub keyed : List (List ℕ) → Members
-keyed [] = no_members
-keyed (key ∷ keys) = member key (whole 0) (keyed keys)
-
--- the keys of an input but its order
-abbrev pub needed_keys : List (List ℕ)
-needed_keys =
-    codes "callers" ∷ codes "calls" ∷ codes "edges" ∷ codes "k" ∷ codes "nodes" ∷ codes "subs"
-    ∷ codes "track" ∷ []
-
--- members of these keys, but for the key of this place
-abbrev pub keyed_but : ℕ → Members
-keyed_but place = keyed (take place needed_keys ++ drop (suc place) needed_keys)

@@ -8,8 +8,9 @@ ghost use Rattle.directory.specs.declared.answers.Done.TheVariants.{Again, Found
 ghost use Rattle.directory.specs.declared.answers.Why.TheVariants.{NoEntry};
 ghost use Rattle.serde_json.specs.Data.{member, no_members, null, object};
 ghost use Rattle.json_form.specs.Inputs.{input_json_of};
+ghost use Rattle.json_form.specs.Keyed.{keyed_but};
 ghost use Rattle.json_form.specs.Reports.{report_json_of};
-ghost use Rattle.json_form.specs.Shapes.{call_in, edge_in, keyed_but, listing_in, lone_value, values_of};
+ghost use Rattle.json_form.specs.Shapes.{call_in, edge_in, listing_in, lone_value, values_of};
 ghost use Rattle.json_form.specs.Values.{row, whole, wholes};
 
 /// The JSON of an input.
