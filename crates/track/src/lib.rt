@@ -23,5 +23,6 @@ pub use laws::{bytes_have_one_text, complete, reports_tell, runs_are_replayed, t
 pub use told::{told_refusals, told_results, told_sums};
 pub use top::{command, command_with_threads};
 pub use wrong::{
-    told_laws, told_numbers, wrong_counts, wrong_ends, wrong_ends_alone, wrong_lengths, wrong_rests,
+    told_laws, told_numbers, wrong_counts, wrong_ends, wrong_ends_alone, wrong_faults,
+    wrong_lengths, wrong_rests,
 };

@@ -129,6 +129,21 @@ pub fn wrong_counts()
         (streams None 0 None 2) → ⊥ }
 {}
 
+/// A fault that isn't the one that the status tells: of writing, beside one of reading or beside
+/// bytes that are too many; and of either, to a command that reads nothing.
+pub fn wrong_faults()
+    ensures read_failed { EndsAs Cover ReadFailed (streams None 0 None 0)
+        (streams None 1 None 1) → ⊥ }
+    ensures too_long { EndsAs Cover TooLong (streams None 0 None 0)
+        (streams None 0 None 1) → ⊥ }
+    ensures memory_write { EndsAlone [] OutOfMemory (streams None 0 None 0)
+        (streams None 0 None 1) → ⊥ }
+    ensures memory_read { EndsAlone [] OutOfMemory (streams None 0 None 0)
+        (streams None 1 None 0) → ⊥ }
+    ensures write_failed { EndsAlone [] WriteFailed (streams None 0 None 0)
+        (streams None 1 None 1) → ⊥ }
+{}
+
 /// What is left is an end of what was left: neither other bytes, nor more than were left.
 pub fn wrong_rests()
     ensures other { IsEndOf (Some (1 ∷ [])) (Some (2 ∷ [])) → ⊥ }
