@@ -1,9 +1,8 @@
 -- What each address of a view tells, and where the marks lead from its node.
-use Rattle.std.proofs.Common.{◌≡◌, ◌⊎◌, inl, inr, ℕ, zero, suc, ◌<◌, ◌≤◌, Bool, true, false, cond, ◌==◌, ◌&&◌, ◌||◌, not, List, [], ◌∷◌, ◌++◌, Option, Some, map, take, refl, sym, ap, ◌∙◌, subst, arith}
+use Rattle.std.proofs.Common.{◌≡◌, ◌⊎◌, inl, inr, ℕ, zero, suc, ◌<◌, ◌≤◌, Bool, true, false, cond, ◌==◌, ◌&&◌, ◌||◌, not, List, [], ◌∷◌, ◌++◌, Some, map, take, refl, sym, ap, ◌∙◌, subst, arith}
 use Rattle.std.proofs.lemmas.Bool.{eq-eqb}
 use Rattle.node_set.specs.Ascending.{has}
 use Rattle.node_set.specs.SetLaws.{has-passing}
-use Rattle.entry_word.specs.declared.mark.PresenceMark.{PresenceMark}
 use Rattle.entry_word.specs.declared.mark.PresenceMark.TheVariants.{Empty, Here}
 use Rattle.entry_word.specs.declared.address.Address.{Address}
 use Rattle.directory.specs.Settings.{Setting}
@@ -13,7 +12,7 @@ use Rattle.directory.specs.Standing.{Commit, commit_by}
 use Rattle.trail_laws.proofs.ClosedMarks.{IsNext, mark_erasing, mark_passing}
 use Rattle.trail_laws.proofs.ClosedEntries.{entry_erased}
 use Rattle.trail_laws.proofs.Holders.{erased-some, IsNew, IsOld, only-new, rest-some, written-some}
-use Rattle.trail_laws.proofs.ClosedViews.{clearing, coming, IsPhase, old_levels, passage, Phase, phase_commits, phase_entry, phase_mark, purge_nodes, purged_nodes, renewed_levels, View, while_clearing}
+use Rattle.trail_laws.proofs.ClosedViews.{clearing, coming, IsPhase, old_levels, passage, Phase, phase_commits, phase_entry, phase_mark, purge_nodes, purged_nodes, renewed_levels, Shown, View, while_clearing}
 use Rattle.trail_laws.proofs.PlacedPhases.{IsPlaced, clearing-placed, coming-placed, new-placed, passing-placed, rest-placed}
 
 -- the new node is never purged
@@ -44,16 +43,14 @@ never-purged setting course move p next = not-taken move.to p (purged_nodes sett
     at_top false = refl
 
 -- so it is for each address of a view
-pub entry-placed : (setting : Setting) (from : ℕ) (marks : ℕ → PresenceMark) (entries : ℕ → ℕ → Option Address)
-    (commits : List Commit) (off : Bool) (moves : List Move) (level cluster : ℕ) (address : Address)
-    → level ≤ setting.top
-    → View setting from marks entries commits off moves → entries level cluster ≡ Some address
-    → IsPlaced setting from marks commits moves level cluster address
-entry-placed setting from marks entries commits off moves level cluster address below (inl h) is_some =
-    rw (h.commits_are, h.moves_are) (rest-placed setting from marks h.course level cluster address h.sound h.begins
-    below h.marks_are (rest-some setting h.course level cluster address
+pub entry-placed : (setting : Setting) (shown : Shown) (level cluster : ℕ) (address : Address) → level ≤ setting.top
+    → View setting shown → shown.entries level cluster ≡ Some address
+    → IsPlaced setting shown.from shown.marks shown.commits shown.moves level cluster address
+entry-placed setting shown level cluster address below (inl h) is_some =
+    rw (h.commits_are, h.moves_are) (rest-placed setting shown.from shown.marks h.course level cluster address h.sound
+    h.begins below h.marks_are (rest-some setting h.course level cluster address
     (sym (h.entries_are level cluster below) ∙ is_some)))
-entry-placed setting from marks entries commits off moves level cluster address below (inr h) is_some = rw h.moves_are
+entry-placed setting shown level cluster address below (inr h) is_some = rw h.moves_are
     (at_phase h.phase h.is_phase h.marks_are (sym (h.entries_are level cluster below) ∙ is_some) h.commits_are)
   where
     course : Course
@@ -62,9 +59,11 @@ entry-placed setting from marks entries commits off moves level cluster address 
     move : Move
     move = h.move
 
-    either : (IsNew setting move level cluster address × (has level (renewed_levels move) ≡ true))
-        ⊎ (IsOld setting course level cluster address ×
-        ((has level (renewed_levels move) && cluster == setting.home level move.to) ≡ false))
+    At : List Commit → Type 0
+    At commits = IsPlaced setting shown.from shown.marks commits (course.moves ++ move ∷ []) level cluster address
+
+    either : {A B : Type 0} → (IsNew setting move level cluster address × A)
+        ⊎ (IsOld setting course level cluster address × B)
         → IsNew setting move level cluster address ⊎ IsOld setting course level cluster address
     either (inl new) = inl new.0
     either (inr old) = inr old.0
@@ -74,37 +73,24 @@ entry-placed setting from marks entries commits off moves level cluster address 
     nothing (suc p) = refl
 
     at_phase : (phase : Phase) → IsPhase setting course move phase
-        → ((v : ℕ) → v < setting.nodes → marks v ≡ phase_mark setting course move phase v)
+        → ((v : ℕ) → v < setting.nodes → shown.marks v ≡ phase_mark setting course move phase v)
         → phase_entry setting course move phase level cluster ≡ Some address
-        → commits ≡ phase_commits course move phase
-        → IsPlaced setting from marks commits (course.moves ++ move ∷ []) level cluster address
-    at_phase (coming written) p m e c = subst (λ (cs : List Commit). IsPlaced setting from marks cs
-        (course.moves ++ move ∷ []) level cluster address) (sym c)
-        (coming-placed setting from marks course move level cluster address h.sound h.next h.begins below m
-        (at_written (written-some setting course move written level cluster address e)))
-      where
-        at_written : (IsNew setting move level cluster address × (has level written ≡ true))
-            ⊎ (IsOld setting course level cluster address
-            × ((has level written && cluster == setting.home level move.to) ≡ false))
-            → IsNew setting move level cluster address ⊎ IsOld setting course level cluster address
-        at_written (inl new) = inl new.0
-        at_written (inr old) = inr old.0
-    at_phase passage p m e c = subst (λ (cs : List Commit). IsPlaced setting from marks cs
-        (course.moves ++ move ∷ []) level cluster address) (sym c)
-        (passing-placed setting from marks course move level cluster address h.sound h.next h.begins below m
+        → shown.commits ≡ phase_commits course move phase → At shown.commits
+    at_phase (coming written) p m e c = subst At (sym c)
+        (coming-placed setting shown.from shown.marks course move level cluster address h.sound h.next h.begins below m
+        (either (written-some setting course move written level cluster address e)))
+    at_phase passage p m e c = subst At (sym c)
+        (passing-placed setting shown.from shown.marks course move level cluster address h.sound h.next h.begins below m
         (either (written-some setting course move (renewed_levels move) level cluster address e)))
-    at_phase (clearing erased purged) (while_clearing n p in_order) m e c = subst
-        (λ (cs : List Commit). IsPlaced setting from marks cs (course.moves ++ move ∷ []) level cluster address)
-        (sym c)
+    at_phase (clearing erased purged) (while_clearing n p in_order) m e c = subst At (sym c)
         (at_top (move.renewed == setting.top) refl in_order)
       where
         Goal : Type 0
-        Goal = IsPlaced setting from marks (map commit_by (course.moves ++ move ∷ []))
-            (course.moves ++ move ∷ []) level cluster address
+        Goal = At (map commit_by (course.moves ++ move ∷ []))
 
         unpurged : take p (purged_nodes setting course move) ≡ [] → Goal
-        unpurged none = clearing-placed setting from marks course move level cluster address h.sound h.next h.begins
-            below
+        unpurged none = clearing-placed setting shown.from shown.marks course move level cluster address h.sound h.next
+            h.begins below
             (λ v low. m v low ∙ ap (λ nodes. mark_erasing setting course move nodes v) none)
             (either (written-some setting course move (renewed_levels move) level cluster address
             (erased-some setting course move (renewed_levels move)
@@ -116,7 +102,7 @@ entry-placed setting from marks entries commits off moves level cluster address 
         at_top false t (inr whole) = unpurged (ap (λ b. take p (cond b (purge_nodes setting course move) [])) t
             ∙ nothing p)
         at_top true t (inr whole) =
-            new-placed setting from marks course move level cluster address h.sound h.next h.begins below here
+            new-placed setting shown.from shown.marks course move level cluster address h.sound h.next h.begins below here
             (only-new setting course move level cluster address below t
             (ap (λ levels. entry_erased setting course move (renewed_levels move) levels level cluster)
             (sym whole) ∙ e))
@@ -124,7 +110,7 @@ entry-placed setting from marks entries commits off moves level cluster address 
             kept : has move.to (take p (purged_nodes setting course move)) ≡ false
             kept = never-purged setting course move p h.next
 
-            here : marks move.to ≡ Here move.number
+            here : shown.marks move.to ≡ Here move.number
             here = m move.to h.next.inside ∙ (ap (λ b. cond b Empty
                 (cond (move.to == move.to) (Here move.number) (mark_passing setting course move move.to))) kept
                 ∙ ap (λ b. cond b (Here move.number) (mark_passing setting course move move.to))

@@ -3,13 +3,11 @@ use Rattle.std.proofs.Common.{◌≡◌, ℕ, suc, Bool, true, false, cond, not,
 use Rattle.std.specs.Prelude.{nat_le, slice_index}
 use Rattle.std.proofs.lemmas.Bool.{eqb-true, eq-eqb}
 use Rattle.std.proofs.lemmas.List.{get_or_append_left, get_or_at, length-map, map-append}
-use Rattle.std.proofs.lemmas.List.Sums.{fold-append}
 use Rattle.node_set.specs.Ascending.{has}
-use Rattle.entry_word.specs.declared.mark.PresenceMark.TheVariants.{Empty}
 use Rattle.entry_word.specs.declared.address.Address.{Address}
 use Rattle.directory.specs.Settings.{Setting}
 use Rattle.directory.specs.Courses.{Move, Course, stop, base, address_node}
-use Rattle.directory.specs.Writes.{Write, mark_at, entry_at, old_home}
+use Rattle.directory.specs.Writes.{Write, entry_at, old_home}
 use Rattle.directory.specs.States.{entry_after}
 use Rattle.trail_laws.proofs.Links.{IsSound, base-low}
 use Rattle.trail_laws.proofs.ClosedMarks.{IsNext, with_move, base-with}
@@ -36,15 +34,6 @@ entry_erased setting course move written erased level cluster =
 -- what writes do to an entry
 abbrev pub entered : ℕ → ℕ → Option Address → List Write → Option Address
 entered level cluster entry ws = fold (entry_after level cluster) entry ws
-
-pub entered-append : (level cluster : ℕ) (entry : Option Address) (xs ys : List Write)
-    → entered level cluster entry (xs ++ ys) ≡ entered level cluster (entered level cluster entry xs) ys
-entered-append level cluster entry xs ys = fold-append (entry_after level cluster) entry xs ys
-
-pub entered-purges : (level cluster : ℕ) (entry : Option Address) (nodes : List ℕ)
-    → entered level cluster entry (map (λ node. mark_at node Empty) nodes) ≡ entry
-entered-purges level cluster entry [] = refl
-entered-purges level cluster entry (node ∷ nodes) = entered-purges level cluster entry nodes
 
 -- one address at a cluster of each level
 pub entered-levels : (at : ℕ → ℕ) (new : Option Address) (level cluster : ℕ) (entry : Option Address)

@@ -1,6 +1,6 @@
 -- The marks of a subscriber in closed form: at rest after a course, and in each phase of the move that comes next.
 use Rattle.std.proofs.Common.{◌≡◌, ◌≢◌, ℕ, suc, ◌<◌, ◌≤◌, Bool, true, false, cond, not, ◌==◌, ◌&&◌, ◌||◌, List, [], ◌∷◌, ◌++◌, length, map, drop, fold, refl, sym, ap, ◌∙◌, arith, length-append}
-use Rattle.std.specs.Prelude.{if◌then◌else◌, nat_le, Option}
+use Rattle.std.specs.Prelude.{if◌then◌else◌, nat_le}
 use Rattle.std.proofs.lemmas.Bool.{eqb-true}
 use Rattle.std.proofs.lemmas.Bool.Decides.{nat_tests}
 use Rattle.std.proofs.lemmas.List.{drop-append-le, map-append}
@@ -9,10 +9,9 @@ use Rattle.std.proofs.lemmas.List.Sums.{fold-append}
 use Rattle.node_set.specs.Ascending.{has}
 use Rattle.entry_word.specs.declared.mark.PresenceMark.{PresenceMark}
 use Rattle.entry_word.specs.declared.mark.PresenceMark.TheVariants.{Empty, Here, Gone, Coming, Off}
-use Rattle.entry_word.specs.declared.address.Address.{Address}
 use Rattle.directory.specs.Settings.{Setting}
 use Rattle.directory.specs.Courses.{Move, Course, last_stop, base, next_move, MayMove}
-use Rattle.directory.specs.Writes.{Write, mark_at, entry_at, trail}
+use Rattle.directory.specs.Writes.{Write, mark_at, trail}
 use Rattle.directory.specs.States.{mark_after}
 use Rattle.trail_laws.proofs.Links.{IsSound, base-low, renewed-low}
 use Rattle.node_set.specs.SetLaws.{has-append}
@@ -51,10 +50,11 @@ mark_erasing setting course move purged v =
 abbrev pub marked : ℕ → PresenceMark → List Write → PresenceMark
 marked v mark ws = fold (mark_after v) mark ws
 
-pub marked-entries : (v : ℕ) (mark : PresenceMark) (cluster : ℕ → ℕ) (address : ℕ → Option Address) (levels : List ℕ)
-    → marked v mark (map (λ level. entry_at level (cluster level) (address level)) levels) ≡ mark
-marked-entries v mark cluster address [] = refl
-marked-entries v mark cluster address (level ∷ levels) = marked-entries v mark cluster address levels
+-- writes that leave a value alone, one by one
+pub fold-still : {A B : Type 0} (f : A → Write → A) (a : A) (g : B → Write) (xs : List B)
+    → ((x : B) → f a (g x) ≡ a) → fold f a (map g xs) ≡ a
+fold-still f a g [] still = refl
+fold-still f a g (x ∷ xs) still = ap (λ b. fold f b (map g xs)) (still x) ∙ fold-still f a g xs still
 
 pub marked-purges : (v : ℕ) (mark : PresenceMark) (nodes : List ℕ)
     → marked v mark (map (λ node. mark_at node Empty) nodes) ≡ cond (has v nodes) Empty mark
@@ -67,10 +67,6 @@ marked-purges v mark (node ∷ nodes) = marked-purges v (cond (v == node) Empty 
     at_test true false = refl
     at_test false true = refl
     at_test false false = refl
-
-pub marked-append : (v : ℕ) (mark : PresenceMark) (xs ys : List Write)
-    → marked v mark (xs ++ ys) ≡ marked v (marked v mark xs) ys
-marked-append v mark xs ys = fold-append (mark_after v) mark xs ys
 
 -- the trail with one more move
 pub trail_mark-push : (moves : List Move) (move : Move) (v : ℕ) (mark : PresenceMark)

@@ -6,7 +6,7 @@ use Rattle.entry_word.specs.declared.address.Address.{Address}
 use Rattle.directory.specs.Settings.{Setting}
 use Rattle.directory.specs.Courses.{Move, Course}
 use Rattle.directory.specs.Writes.{numbers_from, old_home, trail}
-use Rattle.directory.specs.Standing.{Commit, commit_by, commits, off}
+use Rattle.directory.specs.Standing.{Commit, commit_by}
 use Rattle.trail_laws.proofs.Links.{IsSound}
 use Rattle.trail_laws.proofs.ClosedMarks.{IsNext, rest_mark, mark_coming, mark_passing, mark_erasing}
 use Rattle.trail_laws.proofs.ClosedEntries.{rest_entry, entry_written, entry_erased}
@@ -60,37 +60,43 @@ pub data IsPhase (setting : Setting) (course : Course) (move : Move) : Phase →
       → IsPhase setting course move (clearing (take e (old_levels setting course move))
       (take p (purged_nodes setting course move)))
 
--- a subscriber that rests: what its marks, its entries, its commits and its last put tell
-pub record IsResting (setting : Setting) (from : ℕ) (marks : ℕ → PresenceMark) (entries : ℕ → ℕ → Option Address)
-    (commits : List Commit) (off : Bool) (moves : List Move) : Type 0 where
+-- what is shown of a subscriber: the node where it began, its marks, its entries, its commits, whether it is off, and
+-- its moves
+pub record Shown : Type 0 where
+  pub from : ℕ
+  pub marks : ℕ → PresenceMark
+  pub entries : ℕ → ℕ → Option Address
+  pub commits : List Commit
+  pub off : Bool
+  pub moves : List Move
+
+-- what is shown of one that rests
+pub record IsResting (setting : Setting) (shown : Shown) : Type 0 where
   pub course : Course
   pub sound : IsSound setting course
-  pub begins : course.start ≡ from
-  pub marks_are : (v : ℕ) → v < setting.nodes → marks v ≡ rest_mark setting course v
+  pub begins : course.start ≡ shown.from
+  pub marks_are : (v : ℕ) → v < setting.nodes → shown.marks v ≡ rest_mark setting course v
   pub entries_are : (level cluster : ℕ) → level ≤ setting.top
-      → entries level cluster ≡ rest_entry setting course level cluster
-  pub commits_are : commits ≡ map commit_by course.moves
-  pub off_is : off ≡ course.is_off
-  pub moves_are : moves ≡ course.moves
+      → shown.entries level cluster ≡ rest_entry setting course level cluster
+  pub commits_are : shown.commits ≡ map commit_by course.moves
+  pub off_is : shown.off ≡ course.is_off
+  pub moves_are : shown.moves ≡ course.moves
 
--- and one that moves
-pub record IsMoving (setting : Setting) (from : ℕ) (marks : ℕ → PresenceMark) (entries : ℕ → ℕ → Option Address)
-    (commits : List Commit) (off : Bool) (moves : List Move) : Type 0 where
+-- and of one that moves
+pub record IsMoving (setting : Setting) (shown : Shown) : Type 0 where
   pub course : Course
   pub move : Move
   pub phase : Phase
   pub sound : IsSound setting course
   pub next : IsNext setting course move
   pub is_phase : IsPhase setting course move phase
-  pub begins : course.start ≡ from
-  pub marks_are : (v : ℕ) → v < setting.nodes → marks v ≡ phase_mark setting course move phase v
+  pub begins : course.start ≡ shown.from
+  pub marks_are : (v : ℕ) → v < setting.nodes → shown.marks v ≡ phase_mark setting course move phase v
   pub entries_are : (level cluster : ℕ) → level ≤ setting.top
-      → entries level cluster ≡ phase_entry setting course move phase level cluster
-  pub commits_are : commits ≡ phase_commits course move phase
-  pub off_is : off ≡ false
-  pub moves_are : moves ≡ course.moves ++ move ∷ []
+      → shown.entries level cluster ≡ phase_entry setting course move phase level cluster
+  pub commits_are : shown.commits ≡ phase_commits course move phase
+  pub off_is : shown.off ≡ false
+  pub moves_are : shown.moves ≡ course.moves ++ move ∷ []
 
-abbrev pub View : Setting → ℕ → (ℕ → PresenceMark) → (ℕ → ℕ → Option Address) → List Commit → Bool → List Move
-    → Type 0
-View setting from marks entries commits off moves = IsResting setting from marks entries commits off moves
-    ⊎ IsMoving setting from marks entries commits off moves
+abbrev pub View : Setting → Shown → Type 0
+View setting shown = IsResting setting shown ⊎ IsMoving setting shown

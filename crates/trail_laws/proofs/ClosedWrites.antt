@@ -1,6 +1,7 @@
 -- What the writes of steps leave in closed form: of a move in each phase, and of whole steps.
-use Rattle.std.proofs.Common.{◌≡◌, inl, inr, ℕ, suc, ◌<◌, Bool, true, false, cond, not, ◌==◌, ◌&&◌, List, [], ◌∷◌, ◌++◌, Option, None, length, map, fold, refl, sym, ap, ◌∙◌, arith, append_assoc}
+use Rattle.std.proofs.Common.{◌≡◌, inl, inr, ℕ, suc, ◌<◌, Bool, true, false, cond, not, ◌==◌, ◌&&◌, List, [], ◌∷◌, ◌++◌, None, length, map, fold, refl, sym, ap, ◌∙◌, arith, append_assoc}
 use Rattle.std.specs.Prelude.{nat_le, filter_map}
+use Rattle.std.specs.List.{cons_option}
 use Rattle.std.proofs.lemmas.Bool.Decides.{nat_tests}
 use Rattle.std.proofs.lemmas.List.{append-nil, map-append}
 use Rattle.std.proofs.lemmas.List.Sums.{fold-append}
@@ -9,196 +10,138 @@ use Rattle.node_set.specs.Ascending.{has, sift}
 use Rattle.node_set.specs.SetLaws.{has-passing, passing_over}
 use Rattle.entry_word.specs.declared.mark.PresenceMark.{PresenceMark}
 use Rattle.entry_word.specs.declared.mark.PresenceMark.TheVariants.{Empty, Here, Gone, Coming, Off}
-use Rattle.entry_word.specs.declared.address.Address.{Address}
 use Rattle.directory.specs.Settings.{Setting}
 use Rattle.directory.specs.Courses.{Step, move_to, switch_off, switch_on, Move, Course, last_stop, next_move, after_step, after_steps, MayStep, MaySteps}
 use Rattle.directory.specs.Writes.{Write, mark_at, entry_at, new_address, old_home, erasure_writes, trail, move_writes, step_writes, writes}
-use Rattle.directory.specs.Standing.{commit_by, off}
-use Rattle.directory.specs.States.{write_commit, write_off}
+use Rattle.directory.specs.Standing.{commit_by}
+use Rattle.directory.specs.States.{entry_after, mark_after, write_commit, write_off}
 use Rattle.trail_laws.proofs.Links.{IsSound, sound-step}
-use Rattle.trail_laws.proofs.ClosedMarks.{IsNext, is-next, rest_mark, mark_coming, mark_passing, mark_erasing, marked, marked-append, marked-entries, marked-purges, with_move, marks-rest, since_top, there, trail_mark}
-use Rattle.trail_laws.proofs.ClosedEntries.{rest_entry, entry_written, entry_erased, new_entry, entered, entered-append, entered-levels, entered-purges, entries-rest}
-use Rattle.trail_laws.proofs.ClosedViews.{old_levels, purge_nodes, purged_nodes, renewed_levels}
+use Rattle.trail_laws.proofs.ClosedMarks.{IsNext, is-next, rest_mark, mark_coming, mark_passing, mark_erasing, fold-still, marked, marked-purges, with_move, marks-rest, there}
+use Rattle.trail_laws.proofs.ClosedEntries.{rest_entry, entry_written, entry_erased, new_entry, entered, entered-levels, entries-rest}
+use Rattle.trail_laws.proofs.ClosedViews.{clearing, coming, old_levels, passage, Phase, phase_commits, phase_entry, phase_mark, purge_nodes, purged_nodes, renewed_levels}
 use Rattle.std.proofs.lemmas.Bool.{cases_lt}
 use Rattle.std.proofs.Math.Bool.{and-true}
 
--- ---- the writes of a move, by lists of levels and nodes
-unfoldable pub coming_shape : Setting → Move → List ℕ → List Write
-coming_shape setting move written = mark_at move.to (Coming move.number move.from) ∷ map
-    (new_address setting move) written
+-- ---- the writes of a move in each phase, by lists of levels and nodes
+abbrev pub erasures : Setting → Course → List ℕ → List Write
+erasures setting course levels = map (λ level. entry_at level (old_home setting course level) None) levels
 
-unfoldable pub passing_shape : Setting → Move → List ℕ → List Write
-passing_shape setting move written = mark_at move.to (Coming move.number move.from) ∷
-    (map (new_address setting move) written ++ mark_at move.from (Gone move.number move.to) ∷ [])
+abbrev pub purges : List ℕ → List Write
+purges nodes = map (λ node. mark_at node Empty) nodes
 
-unfoldable pub clearing_shape : Setting → Course → Move → List ℕ → List ℕ → List ℕ → List Write
-clearing_shape setting course move written erased purged =
-    mark_at move.to (Coming move.number move.from) ∷ (map (new_address setting move) written
+unfoldable pub phase_writes : Setting → Course → Move → Phase → List Write
+phase_writes setting course move (coming written) =
+    mark_at move.to (Coming move.number move.from) ∷ map (new_address setting move) written
+phase_writes setting course move passage = mark_at move.to (Coming move.number move.from) ∷
+    (map (new_address setting move) (renewed_levels move) ++ mark_at move.from (Gone move.number move.to) ∷ [])
+phase_writes setting course move (clearing erased purged) =
+    mark_at move.to (Coming move.number move.from) ∷ (map (new_address setting move) (renewed_levels move)
     ++ (mark_at move.from (Gone move.number move.to) ∷ (mark_at move.to (Here move.number)
-    ∷ (map (λ level. entry_at level (old_home setting course level) None) erased ++ map
-    (λ node. mark_at node Empty) purged))))
+    ∷ (erasures setting course erased ++ purges purged))))
 
-pub coming-marks : (setting : Setting) (course : Course) (move : Move) (written : List ℕ) (v : ℕ)
-    → marked v (rest_mark setting course v) (coming_shape setting move written) ≡ mark_coming setting course move v
-unfolding coming_shape
-coming-marks setting course move written v = marked-entries v (mark_coming setting course move v)
-    (λ level. setting.home level move.to) (λ level. new_entry move) written
+-- writes that tell no commit
+none-told : {A : Type 0} (g : A → Write) (xs : List A) → ((x : A) → write_commit (g x) ≡ None)
+    → filter_map write_commit (map g xs) ≡ []
+none-told g [] none = refl
+none-told g (x ∷ xs) none = ap (λ o. cons_option o (filter_map write_commit (map g xs))) (none x) ∙ none-told g xs none
 
-pub passing-marks : (setting : Setting) (course : Course) (move : Move) (written : List ℕ) (v : ℕ)
-    → marked v (rest_mark setting course v) (passing_shape setting move written) ≡ mark_passing setting course move v
-unfolding passing_shape
-passing-marks setting course move written v =
-    marked-append v (mark_coming setting course move v) (map (new_address setting move) written)
-    (mark_at move.from (Gone move.number move.to) ∷ [])
-    ∙ ap (λ m. cond (v == move.from) (Gone move.number move.to) m)
-    (marked-entries v (mark_coming setting course move v) (λ level. setting.home level move.to)
-    (λ level. new_entry move) written)
+-- what the writes of a phase leave
+pub record Leaves (setting : Setting) (course : Course) (move : Move) (phase : Phase) : Type 0 where
+  pub marks : (v : ℕ) → marked v (rest_mark setting course v) (phase_writes setting course move phase)
+      ≡ phase_mark setting course move phase v
+  pub entries : (level cluster : ℕ)
+      → entered level cluster (rest_entry setting course level cluster) (phase_writes setting course move phase)
+      ≡ phase_entry setting course move phase level cluster
+  pub commits : map commit_by course.moves ++ filter_map write_commit (phase_writes setting course move phase)
+      ≡ phase_commits course move phase
+  pub on : (off : Bool) → fold (λ o write. write_off write) off (phase_writes setting course move phase) ≡ false
 
-pub clearing-marks : (setting : Setting) (course : Course) (move : Move) (written erased purged : List ℕ) (v : ℕ)
-    → marked v (rest_mark setting course v) (clearing_shape setting course move written erased purged)
-    ≡ mark_erasing setting course move purged v
-unfolding clearing_shape
-clearing-marks setting course move written erased purged v =
-    marked-append v (mark_coming setting course move v) (map (new_address setting move) written) _
-    ∙ (ap (λ m. marked v (cond (v == move.to) (Here move.number) (cond (v == move.from) (Gone move.number move.to) m))
-    (map (λ level. entry_at level (old_home setting course level) None) erased ++ map
-    (λ node. mark_at node Empty) purged))
-    (marked-entries v (mark_coming setting course move v) (λ level. setting.home level move.to)
-    (λ level. new_entry move) written)
-    ∙ (marked-append v arrived (map (λ level. entry_at level (old_home setting course level) None) erased)
-    (map (λ node. mark_at node Empty) purged)
-    ∙ (ap (λ m. marked v m (map (λ node. mark_at node Empty) purged))
-    (marked-entries v arrived (λ level. old_home setting course level) (λ level. None) erased)
-    ∙ marked-purges v arrived purged)))
-  where
-    arrived : PresenceMark
-    arrived = cond (v == move.to) (Here move.number) (mark_passing setting course move v)
+module _ (setting : Setting) (course : Course) (move : Move) where
+  addresses-still : {A : Type 0} (f : A → Write → A) (a : A) (written : List ℕ)
+      → ((level : ℕ) → f a (new_address setting move level) ≡ a) → fold f a (map (new_address setting move) written) ≡ a
+  addresses-still f a written still = fold-still f a (new_address setting move) written still
 
-pub coming-entries : (setting : Setting) (course : Course) (move : Move) (written : List ℕ) (level cluster : ℕ)
-    → entered level cluster (rest_entry setting course level cluster) (coming_shape setting move written)
-    ≡ entry_written setting course move written level cluster
-unfolding coming_shape
-coming-entries setting course move written level cluster = entered-levels (λ l. setting.home l move.to)
-    (new_entry move) level cluster (rest_entry setting course level cluster) written
+  none-new : (written : List ℕ) → filter_map write_commit (map (new_address setting move) written) ≡ []
+  none-new written = none-told (new_address setting move) written (λ level. refl)
 
-pub passing-entries : (setting : Setting) (course : Course) (move : Move) (written : List ℕ) (level cluster : ℕ)
-    → entered level cluster (rest_entry setting course level cluster) (passing_shape setting move written)
-    ≡ entry_written setting course move written level cluster
-unfolding passing_shape
-passing-entries setting course move written level cluster =
-    entered-append level cluster (rest_entry setting course level cluster) (map (new_address setting move) written)
-    (mark_at move.from (Gone move.number move.to) ∷ [])
-    ∙ entered-levels (λ l. setting.home l move.to) (new_entry move) level cluster
-    (rest_entry setting course level cluster) written
-
-pub clearing-entries : (setting : Setting) (course : Course) (move : Move) (written erased purged : List ℕ)
-    (level cluster : ℕ)
-    → entered level cluster (rest_entry setting course level cluster)
-    (clearing_shape setting course move written erased purged)
-    ≡ entry_erased setting course move written erased level cluster
-unfolding clearing_shape
-clearing-entries setting course move written erased purged level cluster =
-    entered-append level cluster (rest_entry setting course level cluster) (map (new_address setting move) written) _
-    ∙ (ap (λ e. entered level cluster e (map (λ l. entry_at l (old_home setting course l) None) erased ++ map
-    (λ node. mark_at node Empty) purged))
-    (entered-levels (λ l. setting.home l move.to) (new_entry move) level cluster
-    (rest_entry setting course level cluster) written)
-    ∙ (entered-append level cluster (entry_written setting course move written level cluster)
-    (map (λ l. entry_at l (old_home setting course l) None) erased) (map (λ node. mark_at node Empty) purged)
-    ∙ (entered-purges level cluster _ purged
-    ∙ entered-levels (λ l. old_home setting course l) None level cluster
-    (entry_written setting course move written level cluster) erased)))
-
--- ---- commits, and whether the subscriber is off
-none-entries : (cluster : ℕ → ℕ) (address : ℕ → Option Address) (levels : List ℕ)
-    → filter_map write_commit (map (λ level. entry_at level (cluster level) (address level)) levels) ≡ []
-none-entries cluster address [] = refl
-none-entries cluster address (level ∷ levels) = none-entries cluster address levels
-
-none-purges : (nodes : List ℕ) → filter_map write_commit (map (λ node. mark_at node Empty) nodes) ≡ []
-none-purges [] = refl
-none-purges (node ∷ nodes) = none-purges nodes
-
-pub coming-commits : (setting : Setting) (move : Move) (written : List ℕ)
-    → filter_map write_commit (coming_shape setting move written) ≡ []
-unfolding coming_shape
-coming-commits setting move written = none-entries (λ level. setting.home level move.to)
-    (λ level. new_entry move) written
-
-pub passing-commits : (setting : Setting) (move : Move) (written : List ℕ)
-    → filter_map write_commit (passing_shape setting move written) ≡ commit_by move ∷ []
-unfolding passing_shape
-passing-commits setting move written =
-    filter_map-append write_commit (map (new_address setting move) written)
-    (mark_at move.from (Gone move.number move.to) ∷ [])
-    ∙ ap (λ cs. cs ++ commit_by move ∷ []) (none-entries (λ level. setting.home level move.to)
-    (λ level. new_entry move) written)
-
-pub clearing-commits : (setting : Setting) (course : Course) (move : Move) (written erased purged : List ℕ)
-    → filter_map write_commit (clearing_shape setting course move written erased purged) ≡ commit_by move ∷ []
-unfolding clearing_shape
-clearing-commits setting course move written erased purged =
-    filter_map-append write_commit (map (new_address setting move) written) _
-    ∙ (ap (λ cs. cs ++ (commit_by move ∷ filter_map write_commit
-    (map (λ l. entry_at l (old_home setting course l) None) erased ++ map (λ node. mark_at node Empty) purged)))
-    (none-entries (λ level. setting.home level move.to) (λ level. new_entry move) written)
-    ∙ ap (λ cs. commit_by move ∷ cs)
-    (filter_map-append write_commit (map (λ l. entry_at l (old_home setting course l) None) erased)
-    (map (λ node. mark_at node Empty) purged)
-    ∙ (ap (λ cs. cs ++ filter_map write_commit (map (λ node. mark_at node Empty) purged))
-    (none-entries (λ l. old_home setting course l) (λ l. None) erased) ∙ none-purges purged)))
-
-pub offs-append : (off : Bool) (xs ys : List Write) → fold (λ o write. write_off write) off (xs ++ ys)
-    ≡ fold (λ o write. write_off write) (fold (λ o write. write_off write) off xs) ys
-offs-append off xs ys = fold-append (λ o write. write_off write) off xs ys
-
-on-entries : (cluster : ℕ → ℕ) (address : ℕ → Option Address) (levels : List ℕ)
-    → fold (λ o write. write_off write) false (map (λ level. entry_at level (cluster level) (address level)) levels)
-    ≡ false
-on-entries cluster address [] = refl
-on-entries cluster address (level ∷ levels) = on-entries cluster address levels
-
-on-purges : (nodes : List ℕ) → fold (λ o write. write_off write) false (map (λ node. mark_at node Empty) nodes)
-    ≡ false
-on-purges [] = refl
-on-purges (node ∷ nodes) = on-purges nodes
-
-pub coming-on : (setting : Setting) (move : Move) (written : List ℕ) (off : Bool)
-    → fold (λ o write. write_off write) off (coming_shape setting move written) ≡ false
-unfolding coming_shape
-coming-on setting move written off = on-entries (λ level. setting.home level move.to)
-    (λ level. new_entry move) written
-
-pub passing-on : (setting : Setting) (move : Move) (written : List ℕ) (off : Bool)
-    → fold (λ o write. write_off write) off (passing_shape setting move written) ≡ false
-unfolding passing_shape
-passing-on setting move written off = offs-append false (map (new_address setting move) written)
-    (mark_at move.from (Gone move.number move.to) ∷ [])
-
-pub clearing-on : (setting : Setting) (course : Course) (move : Move) (written erased purged : List ℕ) (off : Bool)
-    → fold (λ o write. write_off write) off (clearing_shape setting course move written erased purged) ≡ false
-unfolding clearing_shape
-clearing-on setting course move written erased purged off =
-    offs-append false (map (new_address setting move) written) _
-    ∙ (offs-append false (map (λ l. entry_at l (old_home setting course l) None) erased)
-    (map (λ node. mark_at node Empty) purged)
-    ∙ (ap (λ o. fold (λ x write. write_off write) o (map (λ node. mark_at node Empty) purged))
-    (on-entries (λ l. old_home setting course l) (λ l. None) erased) ∙ on-purges purged))
+  pub leaves : (phase : Phase) → Leaves setting course move phase
+  unfolding phase_writes
+  leaves (coming written) = record {
+    marks = λ v. addresses-still (mark_after v) _ written (λ level. refl);
+    entries = λ level cluster. entered-levels (λ l. setting.home l move.to) (new_entry move) level cluster
+        (rest_entry setting course level cluster) written;
+    commits = ap (λ cs. map commit_by course.moves ++ cs) (none-new written) ∙ append-nil (map commit_by course.moves);
+    on = λ off. addresses-still (λ o write. write_off write) false written (λ level. refl);
+  }
+  leaves passage = record {
+    marks = λ v. fold-append (mark_after v) _ (map (new_address setting move) (renewed_levels move)) _
+        ∙ ap (λ m. cond (v == move.from) (Gone move.number move.to) m)
+        (addresses-still (mark_after v) (mark_coming setting course move v) (renewed_levels move) (λ level. refl));
+    entries = λ level cluster.
+        fold-append (entry_after level cluster) _ (map (new_address setting move) (renewed_levels move)) _
+        ∙ entered-levels (λ l. setting.home l move.to) (new_entry move) level cluster
+        (rest_entry setting course level cluster) (renewed_levels move);
+    commits = ap (λ cs. map commit_by course.moves ++ cs)
+        (filter_map-append write_commit (map (new_address setting move) (renewed_levels move)) _
+        ∙ ap (λ cs. cs ++ commit_by move ∷ []) (none-new (renewed_levels move)))
+        ∙ sym (map-append commit_by course.moves (move ∷ []));
+    on = λ off. fold-append (λ o write. write_off write) false
+        (map (new_address setting move) (renewed_levels move)) _;
+  }
+  leaves (clearing erased purged) = record {
+    marks = λ v. fold-append (mark_after v) _ (map (new_address setting move) (renewed_levels move)) _
+        ∙ (ap (λ m. marked v (cond (v == move.to) (Here move.number)
+        (cond (v == move.from) (Gone move.number move.to) m)) (erasures setting course erased ++ purges purged))
+        (addresses-still (mark_after v) (mark_coming setting course move v) (renewed_levels move) (λ level. refl))
+        ∙ (fold-append (mark_after v) (arrived v) (erasures setting course erased) (purges purged)
+        ∙ (ap (λ m. marked v m (purges purged)) (fold-still (mark_after v) (arrived v)
+        (λ (level : ℕ). entry_at level (old_home setting course level) None) erased (λ level. refl))
+        ∙ marked-purges v (arrived v) purged)));
+    entries = λ level cluster.
+        fold-append (entry_after level cluster) _ (map (new_address setting move) (renewed_levels move)) _
+        ∙ (ap (λ e. entered level cluster e (erasures setting course erased ++ purges purged))
+        (entered-levels (λ l. setting.home l move.to) (new_entry move) level cluster
+        (rest_entry setting course level cluster) (renewed_levels move))
+        ∙ (fold-append (entry_after level cluster) _ (erasures setting course erased) (purges purged)
+        ∙ (fold-still (entry_after level cluster) _ (λ (node : ℕ). mark_at node Empty) purged (λ node. refl)
+        ∙ entered-levels (λ l. old_home setting course l) None level cluster
+        (entry_written setting course move (renewed_levels move) level cluster) erased)));
+    commits = ap (λ cs. map commit_by course.moves ++ cs)
+        (filter_map-append write_commit (map (new_address setting move) (renewed_levels move)) _
+        ∙ (ap (λ cs. cs ++ (commit_by move ∷ filter_map write_commit (erasures setting course erased ++ purges purged)))
+        (none-new (renewed_levels move))
+        ∙ ap (λ cs. commit_by move ∷ cs)
+        (filter_map-append write_commit (erasures setting course erased) (purges purged)
+        ∙ (ap (λ cs. cs ++ filter_map write_commit (purges purged)) (none-told _ erased (λ level. refl))
+        ∙ none-told _ purged (λ node. refl)))))
+        ∙ sym (map-append commit_by course.moves (move ∷ []));
+    on = λ off. fold-append (λ o write. write_off write) false
+        (map (new_address setting move) (renewed_levels move)) _
+        ∙ (fold-append (λ o write. write_off write) false (erasures setting course erased) (purges purged)
+        ∙ (ap (λ o. fold (λ x write. write_off write) o (purges purged))
+        (fold-still (λ o write. write_off write) false _ erased (λ level. refl))
+        ∙ fold-still (λ o write. write_off write) false _ purged (λ node. refl)));
+  }
+    where
+      arrived : ℕ → PresenceMark
+      arrived v = cond (v == move.to) (Here move.number) (mark_passing setting course move v)
 
 -- ---- a whole move
-whole-shape : (setting : Setting) (course : Course) (move : Move)
-    → move_writes setting course move ≡ clearing_shape setting course move (renewed_levels move)
-    (old_levels setting course move) (purged_nodes setting course move)
-unfolding clearing_shape
-whole-shape setting course move =
+abbrev pub whole_phase : Setting → Course → Move → Phase
+whole_phase setting course move = clearing (old_levels setting course move) (purged_nodes setting course move)
+
+pub whole-writes : (setting : Setting) (course : Course) (move : Move)
+    → move_writes setting course move ≡ phase_writes setting course move (whole_phase setting course move)
+unfolding phase_writes
+whole-writes setting course move =
     ap (λ ws. mark_at move.to (Coming move.number move.from) ∷
     (map (new_address setting move) (renewed_levels move) ++
     (mark_at move.from (Gone move.number move.to) ∷
     (mark_at move.to (Here move.number) ∷ (erasure_writes setting course move ++ ws)))))
     (at_test (move.renewed == setting.top))
   where
-    at_test : (b : Bool) → cond b (map (λ node. mark_at node Empty) (purge_nodes setting course move)) []
-        ≡ map (λ node. mark_at node Empty) (cond b (purge_nodes setting course move) [])
+    at_test : (b : Bool) → cond b (purges (purge_nodes setting course move)) []
+        ≡ purges (cond b (purge_nodes setting course move) [])
     at_test true = refl
     at_test false = refl
 
@@ -236,77 +179,58 @@ whole-entries setting course move level cluster sound next =
     (in-passing (λ l. not (old_home setting course l == setting.home l move.to)) level move.renewed)
 
 -- ---- whole steps
+-- a fold over the writes of steps, where it is told of each step
+fold-steps : {A : Type 0} (f : A → Write → A) (setting : Setting) (its : Course → A)
+    → ((course : Course) (step : Step) → IsSound setting course → MayStep setting course step
+    → fold f (its course) (step_writes setting course step) ≡ its (after_step setting course step))
+    → (course : Course) (steps : List Step) → IsSound setting course → MaySteps setting course steps
+    → fold f (its course) (writes setting course steps) ≡ its (after_steps setting course steps)
+unfolding writes MaySteps
+fold-steps f setting its one course [] sound may = refl
+fold-steps f setting its one course (step ∷ steps) sound may =
+    fold-append f (its course) (step_writes setting course step) (writes setting (after_step setting course step) steps)
+    ∙ (ap (λ a. fold f a (writes setting (after_step setting course step) steps)) (one course step sound may.0)
+    ∙ fold-steps f setting its one (after_step setting course step) steps
+    (sound-step setting course step sound may.0) may.1)
+
 over-again : (b : Bool) (new old mark : PresenceMark) → cond b new (cond b old mark) ≡ cond b new mark
 over-again true new old mark = refl
 over-again false new old mark = refl
-
-marks-step : (setting : Setting) (course : Course) (step : Step) (v : ℕ) → v < setting.nodes → IsSound setting course
-    → MayStep setting course step
-    → marked v (rest_mark setting course v) (step_writes setting course step)
-    ≡ rest_mark setting (after_step setting course step) v
-marks-step setting course (move_to node) v low sound may =
-    ap (marked v (rest_mark setting course v)) (whole-shape setting course (next_move setting course node))
-    ∙ (clearing-marks setting course (next_move setting course node) _ _
-    (purged_nodes setting course (next_move setting course node)) v
-    ∙ whole-marks setting course (next_move setting course node) v low sound (is-next setting course node may))
-marks-step setting course switch_off v low sound may = over-again (v == last_stop course) (Off (length course.moves))
-    (there course) (trail_mark (since_top setting course) v Empty)
-marks-step setting course switch_on v low sound may = over-again (v == last_stop course) (Here (length course.moves))
-    (there course) (trail_mark (since_top setting course) v Empty)
 
 pub marks-steps : (setting : Setting) (course : Course) (steps : List Step) (v : ℕ) → v < setting.nodes
     → IsSound setting course → MaySteps setting course steps
     → marked v (rest_mark setting course v) (writes setting course steps)
     ≡ rest_mark setting (after_steps setting course steps) v
-unfolding writes MaySteps
-marks-steps setting course [] v low sound may = refl
-marks-steps setting course (step ∷ steps) v low sound may =
-    marked-append v (rest_mark setting course v) (step_writes setting course step)
-    (writes setting (after_step setting course step) steps)
-    ∙ (ap (λ m. marked v m (writes setting (after_step setting course step) steps))
-    (marks-step setting course step v low sound may.0)
-    ∙ marks-steps setting (after_step setting course step) steps v low
-    (sound-step setting course step sound may.0) may.1)
-
-entries-step : (setting : Setting) (course : Course) (step : Step) (level cluster : ℕ) → IsSound setting course
-    → MayStep setting course step
-    → entered level cluster (rest_entry setting course level cluster) (step_writes setting course step)
-    ≡ rest_entry setting (after_step setting course step) level cluster
-entries-step setting course (move_to node) level cluster sound may =
-    ap (entered level cluster (rest_entry setting course level cluster))
-    (whole-shape setting course (next_move setting course node))
-    ∙ (clearing-entries setting course (next_move setting course node) _ _
-    (purged_nodes setting course (next_move setting course node)) level cluster
-    ∙ whole-entries setting course (next_move setting course node) level cluster sound
-    (is-next setting course node may))
-entries-step setting course switch_off level cluster sound may = refl
-entries-step setting course switch_on level cluster sound may = refl
+marks-steps setting course steps v low = fold-steps (mark_after v) setting (λ c. rest_mark setting c v) one course steps
+  where
+    one : (course : Course) (step : Step) → IsSound setting course → MayStep setting course step
+        → marked v (rest_mark setting course v) (step_writes setting course step)
+        ≡ rest_mark setting (after_step setting course step) v
+    one course (move_to node) sound may =
+        let move : Move = next_move setting course node in
+        ap (marked v (rest_mark setting course v)) (whole-writes setting course move)
+        ∙ ((leaves setting course move (whole_phase setting course move)).marks v
+        ∙ whole-marks setting course move v low sound (is-next setting course node may))
+    one course switch_off sound may = over-again (v == last_stop course) (Off (length course.moves)) (there course) _
+    one course switch_on sound may = over-again (v == last_stop course) (Here (length course.moves)) (there course) _
 
 pub entries-steps : (setting : Setting) (course : Course) (steps : List Step) (level cluster : ℕ)
     → IsSound setting course → MaySteps setting course steps
     → entered level cluster (rest_entry setting course level cluster) (writes setting course steps)
     ≡ rest_entry setting (after_steps setting course steps) level cluster
-unfolding writes MaySteps
-entries-steps setting course [] level cluster sound may = refl
-entries-steps setting course (step ∷ steps) level cluster sound may =
-    entered-append level cluster (rest_entry setting course level cluster) (step_writes setting course step)
-    (writes setting (after_step setting course step) steps)
-    ∙ (ap (λ m. entered level cluster m (writes setting (after_step setting course step) steps))
-    (entries-step setting course step level cluster sound may.0)
-    ∙ entries-steps setting (after_step setting course step) steps level cluster
-    (sound-step setting course step sound may.0) may.1)
-
-commits-step : (setting : Setting) (course : Course) (step : Step)
-    → map commit_by course.moves ++ filter_map write_commit (step_writes setting course step)
-    ≡ map commit_by (after_step setting course step).moves
-commits-step setting course (move_to node) =
-    ap (λ ws. map commit_by course.moves ++ filter_map write_commit ws)
-    (whole-shape setting course (next_move setting course node))
-    ∙ (ap (λ cs. map commit_by course.moves ++ cs) (clearing-commits setting course
-    (next_move setting course node) _ _ _) ∙ sym (map-append commit_by course.moves
-    (next_move setting course node ∷ [])))
-commits-step setting course switch_off = append-nil (map commit_by course.moves)
-commits-step setting course switch_on = append-nil (map commit_by course.moves)
+entries-steps setting course steps level cluster =
+    fold-steps (entry_after level cluster) setting (λ c. rest_entry setting c level cluster) one course steps
+  where
+    one : (course : Course) (step : Step) → IsSound setting course → MayStep setting course step
+        → entered level cluster (rest_entry setting course level cluster) (step_writes setting course step)
+        ≡ rest_entry setting (after_step setting course step) level cluster
+    one course (move_to node) sound may =
+        let move : Move = next_move setting course node in
+        ap (entered level cluster (rest_entry setting course level cluster)) (whole-writes setting course move)
+        ∙ ((leaves setting course move (whole_phase setting course move)).entries level cluster
+        ∙ whole-entries setting course move level cluster sound (is-next setting course node may))
+    one course switch_off sound may = refl
+    one course switch_on sound may = refl
 
 pub commits-steps : (setting : Setting) (course : Course) (steps : List Step)
     → map commit_by course.moves ++ filter_map write_commit (writes setting course steps)
@@ -318,27 +242,30 @@ commits-steps setting course (step ∷ steps) =
     (writes setting (after_step setting course step) steps))
     ∙ (sym (append_assoc (map commit_by course.moves) (filter_map write_commit (step_writes setting course step))
     (filter_map write_commit (writes setting (after_step setting course step) steps)))
-    ∙ (ap (λ cs. cs ++ filter_map write_commit (writes setting (after_step setting course step) steps))
-    (commits-step setting course step)
+    ∙ (ap (λ cs. cs ++ filter_map write_commit (writes setting (after_step setting course step) steps)) (one step)
     ∙ commits-steps setting (after_step setting course step) steps))
+  where
+    one : (step : Step) → map commit_by course.moves ++ filter_map write_commit (step_writes setting course step)
+        ≡ map commit_by (after_step setting course step).moves
+    one (move_to node) =
+        let move : Move = next_move setting course node in
+        ap (λ ws. map commit_by course.moves ++ filter_map write_commit ws) (whole-writes setting course move)
+        ∙ (leaves setting course move (whole_phase setting course move)).commits
+    one switch_off = append-nil (map commit_by course.moves)
+    one switch_on = append-nil (map commit_by course.moves)
 
-off-step : (setting : Setting) (course : Course) (step : Step) → MayStep setting course step
-    → fold (λ o write. write_off write) course.is_off (step_writes setting course step)
-    ≡ (after_step setting course step).is_off
-off-step setting course (move_to node) may =
-    ap (fold (λ o write. write_off write) course.is_off) (whole-shape setting course (next_move setting course node))
-    ∙ (clearing-on setting course (next_move setting course node) _ _ _ course.is_off ∙ sym may.is_on)
-off-step setting course switch_off may = refl
-off-step setting course switch_on may = refl
-
-pub off-steps : (setting : Setting) (course : Course) (steps : List Step) → MaySteps setting course steps
+pub off-steps : (setting : Setting) (course : Course) (steps : List Step) → IsSound setting course
+    → MaySteps setting course steps
     → fold (λ o write. write_off write) course.is_off (writes setting course steps)
     ≡ (after_steps setting course steps).is_off
-unfolding writes MaySteps
-off-steps setting course [] may = refl
-off-steps setting course (step ∷ steps) may =
-    offs-append course.is_off (step_writes setting course step)
-    (writes setting (after_step setting course step) steps)
-    ∙ (ap (λ o. fold (λ x write. write_off write) o (writes setting (after_step setting course step) steps))
-    (off-step setting course step may.0)
-    ∙ off-steps setting (after_step setting course step) steps may.1)
+off-steps setting = fold-steps (λ o write. write_off write) setting (λ (c : Course). c.is_off) one
+  where
+    one : (course : Course) (step : Step) → IsSound setting course → MayStep setting course step
+        → fold (λ o write. write_off write) course.is_off (step_writes setting course step)
+        ≡ (after_step setting course step).is_off
+    one course (move_to node) sound may =
+        let move : Move = next_move setting course node in
+        ap (fold (λ o write. write_off write) course.is_off) (whole-writes setting course move)
+        ∙ ((leaves setting course move (whole_phase setting course move)).on course.is_off ∙ sym may.is_on)
+    one course switch_off sound may = refl
+    one course switch_on sound may = refl

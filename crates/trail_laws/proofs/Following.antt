@@ -3,32 +3,27 @@
 use Rattle.std.proofs.Common.{◌≡◌, ◌⊎◌, inl, inr, ℕ, zero, suc, ◌-◌, ◌<◌, ◌≤◌, ◌^◌, max, Bool, true, false, cond, List, [], ◌∷◌, ◌++◌, Option, Some, None, length, refl, sym, ap, ◌∙◌, subst, arith}
 use Rattle.std.specs.Prelude.{flat_map}
 use Rattle.std.proofs.lemmas.Bool.Decides.{nat_tests}
-use Rattle.std.proofs.lemmas.List.{length-map}
 use Rattle.entry_word.specs.Marks.{mark_in}
-use Rattle.entry_word.specs.declared.address.Address.{Address}
 use Rattle.entry_word.specs.declared.mark.PresenceMark.{PresenceMark}
 use Rattle.entry_word.specs.declared.mark.PresenceMark.TheVariants.{Empty, Here, Gone, Coming, Off}
 use Rattle.entry_word.specs.declared.visit.Key.{Key}
 use Rattle.entry_word.specs.declared.visit.Key.TheVariants.{Presence}
 use Rattle.directory.specs.Settings.{Setting, start}
-use Rattle.directory.specs.Histories.{before, cell, History, puts_to, words_at, words_by}
-use Rattle.directory.specs.Courses.{Move}
-use Rattle.directory.specs.Puts.{course_in}
+use Rattle.directory.specs.Histories.{before, cell, History, words_at, words_by}
 use Rattle.directory.specs.Legal.{IsLegal}
 use Rattle.directory.specs.Finds.{after_mark, after_word, at_origin, Chase, chases, climbs, ended, FindCall, hop, is_known, key_of, known_with, Pursuit}
 use Rattle.directory.specs.Looks.{AreLooks}
-use Rattle.directory.specs.Standing.{Commit, commit_by, commits, number, off, standing}
+use Rattle.directory.specs.Standing.{commits, number, off, standing}
 use Rattle.directory.specs.Statements.{FrontsAreLegal}
 use Rattle.directory.specs.declared.answers.Found.{Found}
 use Rattle.directory.specs.declared.answers.Found.TheVariants.{At, Off as OffAt, Again}
 use Rattle.directory.specs.declared.answers.Why.TheVariants.{Empty as EmptyAt, Chased}
-use Rattle.trail_laws.proofs.Covering.{view-counts}
-use Rattle.trail_laws.specs.Trail.{EntriesTell, entry_seen, GoesUp, mark_seen, MarksTell, MarkTells}
+use Rattle.trail_laws.proofs.Views.{shown}
+use Rattle.trail_laws.specs.Trail.{EntriesTell, GoesUp, mark_seen, MarksTell, MarkTells}
 use Rattle.trail_laws.specs.Phases.{moves_begun}
 use Rattle.trail_laws.specs.Chased.{ChasesRise, marks_chased}
-use Rattle.trail_laws.proofs.ClosedViews.{View}
 use Rattle.trail_laws.proofs.Laws.{HistoryView, Laws, view}
-use Rattle.trail_laws.proofs.Stops.{stop_after, stop-last, stop-left, stop-listed}
+use Rattle.trail_laws.proofs.Stops.{off-counts, stop_after, stop-last, stop-left, stop-listed, view-counts}
 use Rattle.trail_laws.proofs.Passing.{front-legal, number-grows}
 use Rattle.trail_laws.proofs.Rising.{stop-goes_up}
 use Rattle.trail_laws.proofs.Right.{gone-known, IsGood, IsSafe, look-good, safe-later}
@@ -48,9 +43,7 @@ counted : Laws → (setting : Setting) (sub : ℕ) (history : History) → setti
     ≡ number sub history)
 unfolding HistoryView
 counted laws setting sub history low legal =
-    view-counts setting (start setting sub) (mark_seen setting sub history) (entry_seen setting sub history)
-    (commits sub history) (off sub history) (course_in setting sub (puts_to sub history)).moves
-    (view laws setting sub history low legal)
+    view-counts setting (shown setting sub history) (view laws setting sub history low legal)
 
 number-few : Laws → (setting : Setting) (sub : ℕ) (history : History) → setting.nodes ≤ 2 ^ 16
     → IsLegal setting sub history → number sub history ≤ moves_begun setting sub history
@@ -59,25 +52,11 @@ number-few laws setting sub history low legal = elim (counted laws setting sub h
   | inr same ↦ omega (arith, same)
 ]
 
-off-counts : (setting : Setting) (from : ℕ) (marks : ℕ → PresenceMark) (entries : ℕ → ℕ → Option Address)
-    (commits : List Commit) (off : Bool) (moves : List Move) → View setting from marks entries commits off moves
-    → off ≡ true → length moves ≡ length commits
-off-counts setting from marks entries commits off moves (inl h) e = omega (
-  arith,
-  ap length h.moves_are,
-  ap length h.commits_are,
-  length-map h.course.moves commit_by,
-)
-off-counts setting from marks entries commits off moves (inr h) e =
-    let clash : true ≡ false = sym e ∙ h.off_is in cc
-
 off-rests : Laws → (setting : Setting) (sub : ℕ) (history : History) → setting.nodes ≤ 2 ^ 16
     → IsLegal setting sub history → off sub history ≡ true → moves_begun setting sub history ≡ number sub history
 unfolding HistoryView
 off-rests laws setting sub history low legal e =
-    off-counts setting (start setting sub) (mark_seen setting sub history) (entry_seen setting sub history)
-    (commits sub history) (off sub history) (course_in setting sub (puts_to sub history)).moves
-    (view laws setting sub history low legal) e
+    off-counts setting (shown setting sub history) (view laws setting sub history low legal) e
 
 -- the mark that a chase reads fits what is behind it
 zero-up : (setting : Setting) (sub : ℕ) (seen : History) (node : ℕ) (mark : PresenceMark)
@@ -160,9 +139,7 @@ coming-leads laws setting sub seen behind known node p from low legal tells is n
     stop (inr late) =
         let gone : MarkTells setting sub seen from (Gone p node) = subst (MarkTells setting sub seen from) late.2
         (laws.marks setting sub seen low legal from tells.1) in
-        stop-left setting (start setting sub) (mark_seen setting sub seen) (entry_seen setting sub seen)
-        (commits sub seen) (off sub seen) (course_in setting sub (puts_to sub seen)).moves
-        (view laws.cells setting sub seen low legal) (p - 1) _ gone.1
+        stop-left setting (shown setting sub seen) (view laws.cells setting sub seen low legal) (p - 1) _ gone.1
 
 -- one look of a chase
 module _ (laws : ChaseLaws) (setting : Setting) (history : History) (call : FindCall) (t : ℕ) (chase : Chase)

@@ -1,8 +1,8 @@
 -- The laws of marks and addresses after every legal history.
-use Rattle.std.proofs.Common.{◌≡◌, ◌≢◌, ℕ, zero, suc, ◌≤◌, ◌^◌, true, false, ◌∷◌, map, Option, Some, None, refl, sym, ap, ◌∙◌}
+use Rattle.std.proofs.Common.{arith, ◌≡◌, ◌≢◌, ℕ, zero, suc, ◌≤◌, ◌^◌, true, false, ◌∷◌, map, Option, Some, None, refl, sym, ap, ◌∙◌}
 use Rattle.std.specs.Prelude.{slice_index}
 use Rattle.entry_word.specs.declared.mark.PresenceMark.{PresenceMark}
-use Rattle.entry_word.specs.declared.mark.PresenceMark.TheVariants.{Empty, Here, Gone, Coming, Off}
+use Rattle.entry_word.specs.declared.mark.PresenceMark.TheVariants.{Empty}
 use Rattle.entry_word.specs.declared.address.Address.{Address}
 use Rattle.directory.specs.Settings.{Setting, start}
 use Rattle.directory.specs.Histories.{History, puts_to}
@@ -17,11 +17,12 @@ use Rattle.directory.specs.Puts.{steps_in}
 use Rattle.directory.specs.Parts.{lead}
 use Rattle.trail_laws.specs.Trail.{answers}
 use Rattle.trail_laws.proofs.ClosedViews.{View}
-use Rattle.trail_laws.proofs.Views.{legal-view}
+use Rattle.trail_laws.proofs.Views.{legal-view, shown}
 use Rattle.trail_laws.proofs.Tells.{mark-is, MarkIs}
 use Rattle.trail_laws.proofs.Addresses.{entry-placed}
 use Rattle.trail_laws.proofs.PlacedPhases.{IsPlaced}
-use Rattle.trail_laws.proofs.Comings.{coming-leads_on, coming-one, top-has}
+use Rattle.trail_laws.proofs.Comings.{coming-leads_on, coming-one}
+use Rattle.trail_laws.proofs.Nearby.{level-has}
 use Rattle.directory.specs.StepLaws.{start-kept}
 
 -- what is taken from the laws of the directory
@@ -33,9 +34,7 @@ pub record Laws : Type 0 where
   pub off_told : OffIsTold
 
 unfoldable pub HistoryView : Setting → ℕ → History → Type 0
-HistoryView setting sub history =
-    View setting (start setting sub) (mark_seen setting sub history) (entry_seen setting sub history)
-    (commits sub history) (off sub history) (course_in setting sub (puts_to sub history)).moves
+HistoryView setting sub history = View setting (shown setting sub history)
 
 pub view : Laws → (setting : Setting) (sub : ℕ) (history : History) → setting.nodes ≤ 2 ^ 16
     → IsLegal setting sub history → HistoryView setting sub history
@@ -45,30 +44,20 @@ view laws setting sub history low legal = legal-view laws.amid laws.marks laws.e
 
 pub marks-tell : Laws → MarksTell
 unfolding HistoryView
-marks-tell laws setting sub history low legal node inside =
-    told (mark_seen setting sub history node) (mark-is setting (start setting sub) (mark_seen setting sub history)
-    (entry_seen setting sub history) (commits sub history) (off sub history)
-    (course_in setting sub (puts_to sub history)).moves node inside (view laws setting sub history low legal))
+marks-tell laws setting sub history low legal node inside = told (mark_seen setting sub history node)
+    (mark-is setting (shown setting sub history) node inside (view laws setting sub history low legal))
   where
     told : (mark : PresenceMark) → MarkIs setting.nodes (start setting sub) (mark_seen setting sub history)
         (commits sub history) (off sub history) (course_in setting sub (puts_to sub history)).moves node mark
         → MarkTells setting sub history node mark
-    told Empty h = tt
-    told (Here p) h = h
-    told (Off p) h = h
-    told (Gone p to) h = h
-    told (Coming p from) h = h
+    told mark h = h
 
 pub one-coming : Laws → OneComing
 unfolding HistoryView
 one-coming laws setting sub history low legal one other p q u v one_in other_in first second =
     let its = view laws setting sub history low legal in
-    coming-one setting (start setting sub) (mark_seen setting sub history) (entry_seen setting sub history)
-    (commits sub history) (off sub history) (course_in setting sub (puts_to sub history)).moves one p u one_in its
-    first
-    ∙ sym (coming-one setting (start setting sub) (mark_seen setting sub history) (entry_seen setting sub history)
-    (commits sub history) (off sub history) (course_in setting sub (puts_to sub history)).moves other q v other_in
-    its second)
+    coming-one setting (shown setting sub history) one p u one_in its first
+    ∙ sym (coming-one setting (shown setting sub history) other q v other_in its second)
 
 pub placed : Laws → (setting : Setting) (sub : ℕ) (history : History) → setting.nodes ≤ 2 ^ 16
     → IsLegal setting sub history → (level cluster : ℕ) (address : Address) → level ≤ setting.top
@@ -77,9 +66,8 @@ pub placed : Laws → (setting : Setting) (sub : ℕ) (history : History) → se
     (course_in setting sub (puts_to sub history)).moves level cluster address
 unfolding HistoryView
 placed laws setting sub history low legal level cluster address below is_some =
-    entry-placed setting (start setting sub) (mark_seen setting sub history) (entry_seen setting sub history)
-    (commits sub history) (off sub history) (course_in setting sub (puts_to sub history)).moves level cluster
-    address below (view laws setting sub history low legal) is_some
+    entry-placed setting (shown setting sub history) level cluster address below
+    (view laws setting sub history low legal) is_some
 
 not_empty : (setting : Setting) (marks : ℕ → PresenceMark) (node last hops way : ℕ)
     → IsLed setting marks None node last hops way → marks node ≢ Empty
@@ -123,15 +111,12 @@ entries-tell laws setting sub history low legal level cluster below = told
 pub top-has_entry : Laws → TopHasEntry
 unfolding HistoryView
 top-has_entry laws setting sub history low legal =
-    top-has setting (start setting sub) (mark_seen setting sub history) (entry_seen setting sub history)
-    (commits sub history) (off sub history) (course_in setting sub (puts_to sub history)).moves
-    (view laws setting sub history low legal)
+    let its = level-has setting (shown setting sub history) setting.top (omega arith)
+    (view laws setting sub history low legal) in (its.0, its.1, its.2, its.3)
 
 pub comings-lead : Laws → ComingsLead
 unfolding HistoryView
 comings-lead laws setting sub history low legal node p from known inside comes knows =
-    let there = coming-leads_on setting (start setting sub) (mark_seen setting sub history)
-    (entry_seen setting sub history) (commits sub history) (off sub history)
-    (course_in setting sub (puts_to sub history)).moves node p from known inside
+    let there = coming-leads_on setting (shown setting sub history) node p from known inside
     (view laws setting sub history low legal) comes in
     (there.2.hops, there.2.way, there.2.few, there.2.led)

@@ -139,7 +139,7 @@ answered-there course known = at_state course.is_off
     at_state true = refl
     at_state false = refl
 
-rest-there : (setting : Setting) (course : Course) → rest_mark setting course (last_stop course) ≡ there course
+pub rest-there : (setting : Setting) (course : Course) → rest_mark setting course (last_stop course) ≡ there course
 rest-there setting course = ap (λ b. cond b (there course)
     (trail_mark (since_top setting course) (last_stop course) Empty))
     (eq-eqb (last_stop course) (last_stop course) refl)

@@ -40,7 +40,7 @@ linked-push setting from number (first ∷ later) move h g a b c d w (f0, f1, f2
       d w f7,
 )
 
-last-inside : (setting : Setting) (from number : ℕ) (moves : List Move) → from < setting.nodes
+pub last-inside : (setting : Setting) (from number : ℕ) (moves : List Move) → from < setting.nodes
     → AreLinked setting from number moves → fold (λ node (m : Move). m.to) from moves < setting.nodes
 unfolding AreLinked
 last-inside setting from number [] h linked = h

@@ -1,34 +1,26 @@
 -- Each level has an address at the home of a node that is near where the subscriber stands.
-use Rattle.std.proofs.Common.{◌≡◌, inl, inr, ℕ, suc, ◌<◌, ◌≤◌, Bool, true, false, cond, not, ◌==◌, ◌&&◌, List, [], ◌∷◌, ◌++◌, Option, Some, None, map, take, refl, sym, ap, ◌∙◌, subst, arith}
+use Rattle.std.proofs.Common.{◌≡◌, inl, inr, ℕ, suc, ◌<◌, ◌≤◌, Bool, true, false, cond, not, ◌==◌, ◌&&◌, List, [], ◌∷◌, ◌++◌, Some, None, map, take, refl, sym, ap, ◌∙◌, subst, arith}
 use Rattle.std.specs.Prelude.{nat_le}
 use Rattle.std.proofs.lemmas.Bool.{eqb-true, eq-eqb}
 use Rattle.std.proofs.lemmas.Bool.Decides.{nat_tests}
 use Rattle.node_set.specs.Ascending.{has}
 use Rattle.node_set.specs.SetLaws.{has-passing, passing_over}
-use Rattle.entry_word.specs.declared.mark.PresenceMark.{PresenceMark}
 use Rattle.entry_word.specs.declared.address.Address.{Address}
 use Rattle.directory.specs.Settings.{Setting}
 use Rattle.directory.specs.Courses.{address_node, base, Course, Move}
 use Rattle.directory.specs.Writes.{old_home}
-use Rattle.directory.specs.Standing.{Commit, commit_by}
+use Rattle.directory.specs.Standing.{commit_by}
 use Rattle.trail_laws.specs.Trail.{HasMetric}
 use Rattle.trail_laws.proofs.Links.{base-low, IsSound, stop-inside}
 use Rattle.trail_laws.proofs.ClosedMarks.{base-with, IsNext}
 use Rattle.trail_laws.proofs.ClosedEntries.{entry_written, new_entry, rest_entry}
-use Rattle.trail_laws.proofs.ClosedViews.{clearing, coming, IsPhase, old_levels, passage, Phase, phase_commits, phase_entry, purged_nodes, renewed_levels, View, while_clearing}
+use Rattle.trail_laws.proofs.ClosedViews.{clearing, coming, IsPhase, old_levels, passage, Phase, phase_commits, phase_entry, renewed_levels, Shown, View, while_clearing}
 use Rattle.trail_laws.proofs.ClosedWrites.{in-levels}
 use Rattle.trail_laws.proofs.LinkedStops.{weight_from, old-inside}
 use Rattle.trail_laws.proofs.Tells.{next-stands, rest-stands, stands}
 use Rattle.trail_laws.proofs.Addresses.{not-taken}
-use Rattle.trail_laws.proofs.Comings.{rest-has, written-has}
+use Rattle.trail_laws.proofs.Holders.{move_address}
 use Rattle.trail_laws.proofs.Prices.{address-near, AreLazy, lazy-front, lazy-whole, weight-push}
-
--- the home of a node near this one has an address
-abbrev pub HasNear : Setting → (ℕ → ℕ → Option Address) → ℕ → ℕ → Type 0
-HasNear setting entries level last =
-    (node : ℕ) × (address : Address) × (node < setting.nodes)
-    × (setting.distance node last < setting.threshold level)
-    × (entries level (setting.home level node) ≡ Some address)
 
 -- at a level that a move doesn't renew the address stays near
 near-kept : (setting : Setting) (course : Course) (move : Move) (level : ℕ) → HasMetric setting
@@ -53,24 +45,54 @@ near-kept setting course move level metric sound next below lazy e = omega (
     old_inside : address_node course level < setting.nodes
     old_inside = old-inside setting course level sound
 
-pub level-has : (setting : Setting) (from : ℕ) (marks : ℕ → PresenceMark) (entries : ℕ → ℕ → Option Address)
-    (commits : List Commit) (off : Bool) (moves : List Move) (level : ℕ) → HasMetric setting → level ≤ setting.top
-    → AreLazy setting moves → View setting from marks entries commits off moves
-    → HasNear setting entries level (stands from commits)
-level-has setting from marks entries commits off moves level metric below lazy (inl h) = (
+-- ---- each level has an address
+rest-has : (setting : Setting) (course : Course) (level : ℕ)
+    → rest_entry setting course level (setting.home level (address_node course level))
+    ≡ Some (record { number = base level course.moves; node = address_node course level })
+rest-has setting course level =
+    ap (λ b. cond b (Some (record { number = base level course.moves; node = address_node course level })) None)
+    (eq-eqb (setting.home level (address_node course level))
+    (setting.home level (address_node course level)) refl)
+
+written-has : (setting : Setting) (course : Course) (move : Move) (written : List ℕ) (level : ℕ)
+    → (address : Address) × (entry_written setting course move written level
+    (setting.home level (address_node course level)) ≡ Some address)
+written-has setting course move written level = at_test
+    (has level written && setting.home level (address_node course level) == setting.home level move.to)
+  where
+    at_test : (b : Bool) → (address : Address) × (cond b (new_entry move)
+        (rest_entry setting course level (setting.home level (address_node course level))) ≡ Some address)
+    at_test true = (record { number = move.number; node = move.to }, refl)
+    at_test false = (
+      record { number = base level course.moves; node = address_node course level },
+      rest-has setting course level,
+    )
+
+-- the home of a node has an address, and while no level has gathered its threshold the node is near where the subscriber
+-- stands
+abbrev pub HasNear : Setting → Shown → ℕ → Type 0
+HasNear setting shown level =
+    (node : ℕ) × (address : Address) × (node < setting.nodes)
+    × (shown.entries level (setting.home level node) ≡ Some address)
+    × (HasMetric setting → AreLazy setting shown.moves
+    → setting.distance node (stands shown.from shown.commits) < setting.threshold level)
+
+pub level-has : (setting : Setting) (shown : Shown) (level : ℕ) → level ≤ setting.top → View setting shown
+    → HasNear setting shown level
+level-has setting shown level below (inl h) = (
   address_node h.course level,
   _,
   old-inside setting h.course level h.sound,
-  subst (λ n. setting.distance (address_node h.course level) n < setting.threshold level)
-      (sym (ap (stands from) h.commits_are ∙ rest-stands h.course from h.begins))
+  h.entries_are level _ below ∙ rest-has setting h.course level,
+  λ metric lazy. subst (λ n. setting.distance (address_node h.course level) n < setting.threshold level)
+      (sym (ap (stands shown.from) h.commits_are ∙ rest-stands h.course shown.from h.begins))
       (omega (
         arith,
         address-near setting h.course level h.sound metric,
         lazy-whole setting h.course.moves level below (subst (AreLazy setting) h.moves_are lazy),
       )),
-  h.entries_are level _ below ∙ rest-has setting h.course level,
 )
-level-has setting from marks entries commits off moves level metric below lazy (inr h) = at_phase h.phase h.is_phase
+level-has setting shown level below (inr h) = at_phase h.phase h.is_phase
     (λ cluster. h.entries_are level cluster below) h.commits_are
   where
     course : Course
@@ -79,44 +101,52 @@ level-has setting from marks entries commits off moves level metric below lazy (
     move : Move
     move = h.move
 
-    its_lazy : AreLazy setting (course.moves ++ move ∷ [])
-    its_lazy = subst (AreLazy setting) h.moves_are lazy
-
-    old_one : (written : List ℕ) → ((cluster : ℕ) → entries level cluster
-        ≡ entry_written setting course move written level cluster)
-        → setting.distance (address_node course level) (stands from commits) < setting.threshold level
-        → HasNear setting entries level (stands from commits)
-    old_one written e near = let found = written-has setting course move written level
-        in (
-          address_node course level,
-          found.0,
-          old-inside setting course level h.sound,
-          near,
-          e (setting.home level (address_node course level)) ∙ found.1,
-        )
-
-    stood : commits ≡ map commit_by (course.moves ++ move ∷ []) → stands from commits ≡ move.to
-    stood c = ap (stands from) c ∙ next-stands setting course move from h.next h.begins
-
-    new_near : commits ≡ map commit_by (course.moves ++ move ∷ [])
-        → setting.distance move.to (stands from commits) < setting.threshold level
-    new_near c = omega (
-      arith,
-      ap (setting.distance move.to) (stood c),
-      metric.none move.to h.next.inside,
-      lazy-front setting course.moves (move ∷ []) level below its_lazy,
-    )
-
-    old_near : commits ≡ map commit_by (course.moves ++ move ∷ []) → nat_le level move.renewed ≡ false
-        → setting.distance (address_node course level) (stands from commits) < setting.threshold level
-    old_near c t = omega (
-      arith,
-      ap (setting.distance (address_node course level)) (stood c),
-      near-kept setting course move level metric h.sound h.next below its_lazy t,
-    )
+    Near : ℕ → Type 0
+    Near node = HasMetric setting → AreLazy setting shown.moves
+        → setting.distance node (stands shown.from shown.commits) < setting.threshold level
 
     new_home : ℕ
     new_home = setting.home level move.to
+
+    its_old : ℕ
+    its_old = old_home setting course level
+
+    -- the old address is there, or the new one
+    old_one : ((address : Address) × (shown.entries level (setting.home level (address_node course level))
+        ≡ Some address)) → Near (address_node course level) → HasNear setting shown level
+    old_one found near =
+        (address_node course level, found.0, old-inside setting course level h.sound, found.1, near)
+
+    new_one : shown.commits ≡ map commit_by (course.moves ++ move ∷ [])
+        → shown.entries level new_home ≡ new_entry move → HasNear setting shown level
+    new_one c e = (
+      move.to,
+      move_address move,
+      h.next.inside,
+      e,
+      λ metric lazy. omega (
+        arith,
+        ap (setting.distance move.to)
+            (ap (stands shown.from) c ∙ next-stands setting course move shown.from h.next h.begins),
+        metric.none move.to h.next.inside,
+        lazy-front setting course.moves (move ∷ []) level below (subst (AreLazy setting) h.moves_are lazy),
+      ),
+    )
+
+    found_old : (written : List ℕ) → ((cluster : ℕ) → shown.entries level cluster
+        ≡ entry_written setting course move written level cluster)
+        → (address : Address) × (shown.entries level (setting.home level (address_node course level)) ≡ Some address)
+    found_old written e = let found = written-has setting course move written level in
+        (found.0, e (setting.home level (address_node course level)) ∙ found.1)
+
+    old_near : shown.commits ≡ map commit_by (course.moves ++ move ∷ []) → nat_le level move.renewed ≡ false
+        → Near (address_node course level)
+    old_near c t metric lazy = omega (
+      arith,
+      ap (setting.distance (address_node course level))
+          (ap (stands shown.from) c ∙ next-stands setting course move shown.from h.next h.begins),
+      near-kept setting course move level metric h.sound h.next below (subst (AreLazy setting) h.moves_are lazy) t,
+    )
 
     new_written : nat_le level move.renewed ≡ true
         → entry_written setting course move (renewed_levels move) level new_home ≡ new_entry move
@@ -127,26 +157,20 @@ level-has setting from marks entries commits off moves level metric below lazy (
         (eq-eqb new_home new_home refl)
 
     at_phase : (phase : Phase) → IsPhase setting course move phase
-        → ((cluster : ℕ) → entries level cluster ≡ phase_entry setting course move phase level cluster)
-        → commits ≡ phase_commits course move phase
-        → HasNear setting entries level (stands from commits)
-    at_phase (coming written) p e c = old_one written e (omega (
+        → ((cluster : ℕ) → shown.entries level cluster ≡ phase_entry setting course move phase level cluster)
+        → shown.commits ≡ phase_commits course move phase → HasNear setting shown level
+    at_phase (coming written) p e c = old_one (found_old written e) (λ metric lazy. omega (
       arith,
-      ap (setting.distance (address_node course level)) (ap (stands from) c ∙ rest-stands course from h.begins),
+      ap (setting.distance (address_node course level))
+          (ap (stands shown.from) c ∙ rest-stands course shown.from h.begins),
       address-near setting course level h.sound metric,
-      lazy-front setting course.moves (move ∷ []) level below its_lazy,
+      lazy-front setting course.moves (move ∷ []) level below (subst (AreLazy setting) h.moves_are lazy),
     ))
     at_phase passage p e c = at_level (nat_le level move.renewed) refl
       where
-        at_level : (b : Bool) → nat_le level move.renewed ≡ b → HasNear setting entries level (stands from commits)
-        at_level true t = (
-          move.to,
-          record { number = move.number; node = move.to },
-          h.next.inside,
-          new_near c,
-          e new_home ∙ new_written t,
-        )
-        at_level false t = old_one (renewed_levels move) e (old_near c t)
+        at_level : (b : Bool) → nat_le level move.renewed ≡ b → HasNear setting shown level
+        at_level true t = new_one c (e new_home ∙ new_written t)
+        at_level false t = old_one (found_old (renewed_levels move) e) (old_near c t)
     at_phase (clearing erased purged) (while_clearing n k in_order) e c = at_level
         (nat_le level move.renewed) refl
       where
@@ -156,9 +180,6 @@ level-has setting from marks entries commits off moves level metric below lazy (
             (passing_over (λ l. not (old_home setting course l == setting.home l move.to)) level 0
             (suc move.renewed) (let high : move.renewed < level = grind (arith, nat_tests, t) in omega
             (arith, high)))
-
-        its_old : ℕ
-        its_old = old_home setting course level
 
         never : (b : Bool) → (b && false) ≡ false
         never true = refl
@@ -173,31 +194,15 @@ level-has setting from marks entries commits off moves level metric below lazy (
             (arith, nat_tests, t) in omega (arith, low))
             ∙ ap not (eq-eqb its_old new_home (sym (eqb-true new_home its_old e2)))))
 
-        its_entry : nat_le level move.renewed ≡ true
-            → phase_entry setting course move (clearing (take n (old_levels setting course move))
-            (take k (purged_nodes setting course move))) level new_home ≡ new_entry move
-        its_entry t =
-            ap (λ b. cond b None (entry_written setting course move (renewed_levels move) level new_home))
-            (kept t (new_home == its_old) refl)
-            ∙ new_written t
-
-        at_level : (b : Bool) → nat_le level move.renewed ≡ b → HasNear setting entries level (stands from commits)
-        at_level true t = (
-          move.to,
-          record { number = move.number; node = move.to },
-          h.next.inside,
-          new_near c,
-          e new_home ∙ its_entry t,
-        )
+        at_level : (b : Bool) → nat_le level move.renewed ≡ b → HasNear setting shown level
+        at_level true t = new_one c (e new_home
+            ∙ (ap (λ b. cond b None (entry_written setting course move (renewed_levels move) level new_home))
+            (kept t (new_home == its_old) refl) ∙ new_written t))
         at_level false t =
-            let found = written-has setting course move (renewed_levels move) level in (
-              address_node course level,
+            let found = written-has setting course move (renewed_levels move) level in
+            old_one (
               found.0,
-              old-inside setting course level h.sound,
-              old_near c t,
-              e (setting.home level (address_node course level))
-                  ∙ (ap (λ b. cond (b && setting.home level
-                  (address_node course level) == old_home setting course level) None
-                  (entry_written setting course move (renewed_levels move) level
-                  (setting.home level (address_node course level)))) (erased_few t) ∙ found.1),
+              e its_old ∙ (ap (λ b. cond (b && its_old == its_old) None
+                  (entry_written setting course move (renewed_levels move) level its_old)) (erased_few t) ∙ found.1),
             )
+            (old_near c t)

@@ -1,23 +1,22 @@
 -- Where a subscriber was after so many commits, the number is no lower: so the marks of a trail rise from hop to hop.
-use Rattle.std.proofs.Common.{◌≡◌, ◌≢◌, ◌⊎◌, inl, inr, ℕ, ◌+◌, ◌-◌, ◌<◌, ◌≤◌, ◌^◌, ◌==◌, Bool, true, false, cond, List, [], ◌∷◌, ◌++◌, Option, length, length-append, map, refl, sym, ap, ◌∙◌, subst, arith, eqb-true, eq-eqb}
+use Rattle.std.proofs.Common.{◌≡◌, ◌≢◌, ◌⊎◌, inl, inr, ℕ, ◌+◌, ◌-◌, ◌<◌, ◌≤◌, ◌^◌, ◌==◌, Bool, true, false, cond, List, [], ◌∷◌, ◌++◌, length, length-append, map, refl, sym, ap, ◌∙◌, subst, arith, eqb-true, eq-eqb}
 use Rattle.std.proofs.lemmas.Bool.{cases_eq, cases_lt}
 use Rattle.std.proofs.lemmas.List.{length-map}
 use Rattle.std.proofs.lemmas.Option.{slice_get_within}
 use Rattle.std.proofs.lemmas.List.Sums.{fold-append}
 use Rattle.node_set.specs.Ascending.{has}
-use Rattle.entry_word.specs.declared.address.Address.{Address}
 use Rattle.entry_word.specs.declared.mark.PresenceMark.{PresenceMark}
 use Rattle.entry_word.specs.declared.mark.PresenceMark.TheVariants.{Empty, Here, Gone, Coming, Off}
 use Rattle.directory.specs.Settings.{Setting, start}
 use Rattle.directory.specs.Courses.{Course, Move, last_stop}
-use Rattle.directory.specs.Histories.{History, puts_to}
+use Rattle.directory.specs.Histories.{History}
 use Rattle.directory.specs.Legal.{IsLegal}
-use Rattle.directory.specs.Puts.{course_in}
-use Rattle.directory.specs.Standing.{Commit, commit_by, commits, number, off}
-use Rattle.trail_laws.specs.Trail.{GoesUp, MarksTell, MarkTells, NumbersGoUp, entry_seen, mark_seen}
+use Rattle.directory.specs.Standing.{Commit, commit_by, commits, number}
+use Rattle.trail_laws.specs.Trail.{GoesUp, MarksTell, MarkTells, NumbersGoUp, mark_seen}
 use Rattle.trail_laws.proofs.Links.{AreLinked, IsSound}
 use Rattle.trail_laws.proofs.ClosedMarks.{IsNext, mark_coming, mark_erasing, mark_passing, rest_mark, since_top, there, trail_mark, trail_mark-push}
-use Rattle.trail_laws.proofs.ClosedViews.{Phase, View, coming, passage, clearing, phase_commits, phase_mark}
+use Rattle.trail_laws.proofs.ClosedViews.{Phase, View, coming, passage, clearing, phase_commits, phase_mark, Shown}
+use Rattle.trail_laws.proofs.Views.{shown}
 use Rattle.trail_laws.proofs.LinkedStops.{IsLeft, last-left, stop_at}
 use Rattle.trail_laws.proofs.Leads.{first_of, low_of, stop-end, trail-count, trail-ends, trail-linked, trail-stops, with-linked, with-stops}
 use Rattle.trail_laws.proofs.Laws.{HistoryView, Laws, view}
@@ -203,23 +202,24 @@ long-trail setting course move marks begin commits sound next begins commits_are
       ∙ stops-told begin course.start commits (course.moves ++ move ∷ []) j begins commits_are);
 }
 
-has-trail : (setting : Setting) (from : ℕ) (marks : ℕ → PresenceMark) (entries : ℕ → ℕ → Option Address)
-    (commits : List Commit) (off : Bool) (moves : List Move) → View setting from marks entries commits off moves
-    → HasTrail setting marks from commits
-has-trail setting from marks entries commits off moves (inl h) =
-    short-trail setting h.course marks from commits h.sound h.begins h.commits_are
+has-trail : (setting : Setting) (shown : Shown) → View setting shown
+    → HasTrail setting shown.marks shown.from shown.commits
+has-trail setting shown (inl h) =
+    short-trail setting h.course shown.marks shown.from shown.commits h.sound h.begins h.commits_are
     (λ v p w low is. rest-gone setting h.course v p w (sym (h.marks_are v low) ∙ is))
-has-trail setting from marks entries commits off moves (inr h) = at_phase h.phase h.marks_are h.commits_are
+has-trail setting shown (inr h) = at_phase h.phase h.marks_are h.commits_are
   where
-    at_phase : (phase : Phase) → ((v : ℕ) → v < setting.nodes → marks v ≡ phase_mark setting h.course h.move phase v)
-        → commits ≡ phase_commits h.course h.move phase → HasTrail setting marks from commits
-    at_phase (coming written) are c = short-trail setting h.course marks from commits h.sound h.begins c
+    at_phase : (phase : Phase)
+        → ((v : ℕ) → v < setting.nodes → shown.marks v ≡ phase_mark setting h.course h.move phase v)
+        → shown.commits ≡ phase_commits h.course h.move phase → HasTrail setting shown.marks shown.from shown.commits
+    at_phase (coming written) are c = short-trail setting h.course shown.marks shown.from shown.commits h.sound h.begins c
         (λ v p w low is. let rest = coming-gone setting h.course h.move v p w (sym (are v low) ∙ is) in
         (rest.0, rest.1))
-    at_phase passage are c = long-trail setting h.course h.move marks from commits h.sound h.next h.begins c
+    at_phase passage are c =
+        long-trail setting h.course h.move shown.marks shown.from shown.commits h.sound h.next h.begins c
         (λ v p w low is. passing-gone setting h.course h.move v p w h.next (sym (are v low) ∙ is))
     at_phase (clearing erased purged) are c =
-        long-trail setting h.course h.move marks from commits h.sound h.next h.begins c
+        long-trail setting h.course h.move shown.marks shown.from shown.commits h.sound h.next h.begins c
         (λ v p w low is. clearing-gone setting h.course h.move purged v p w h.next (sym (are v low) ∙ is))
 
 -- where a subscriber was after so many commits, the number is no lower, and that of a Gone is higher
@@ -232,9 +232,7 @@ stop-goes_up laws tells setting sub history low legal j w few stop inside =
     at_mark (mark_seen setting sub history w) refl (tells setting sub history low legal w inside)
   where
     trail : HasTrail setting (mark_seen setting sub history) (start setting sub) (commits sub history)
-    trail = has-trail setting (start setting sub) (mark_seen setting sub history) (entry_seen setting sub history)
-        (commits sub history) (off sub history) (course_in setting sub (puts_to sub history)).moves
-        (view laws setting sub history low legal)
+    trail = has-trail setting (shown setting sub history) (view laws setting sub history low legal)
 
     at_mark : (mark : PresenceMark) → mark_seen setting sub history w ≡ mark
         → MarkTells setting sub history w (mark_seen setting sub history w) → GoesUp j mark

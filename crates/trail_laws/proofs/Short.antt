@@ -1,59 +1,29 @@
 -- The laws of near levels and of short ways after every legal history.
-use Rattle.std.proofs.Common.{◌≡◌, ◌⊎◌, inl, inr, ℕ, suc, ◌+◌, ◌*◌, ◌<◌, ◌≤◌, Bool, List, [], ◌∷◌, ◌++◌, Option, Some, None, map, refl, sym, ap, ◌∙◌, subst, arith}
+use Rattle.std.proofs.Common.{◌≡◌, ◌⊎◌, inl, inr, ℕ, suc, ◌+◌, ◌*◌, ◌≤◌, Some, None, refl, sym, ap, ◌∙◌, subst, arith}
 use Rattle.std.proofs.lemmas.Bool.Decides.{nat_tests}
-use Rattle.entry_word.specs.declared.address.Address.{Address}
-use Rattle.entry_word.specs.declared.mark.PresenceMark.{PresenceMark}
 use Rattle.entry_word.specs.declared.mark.PresenceMark.TheVariants.{Gone, Coming}
-use Rattle.directory.specs.Settings.{Setting, start}
-use Rattle.directory.specs.Histories.{puts_to}
-use Rattle.directory.specs.Courses.{Move}
-use Rattle.directory.specs.Puts.{course_in}
-use Rattle.directory.specs.Standing.{Commit, commit_by, commits, number, off, standing}
-use Rattle.trail_laws.specs.Trail.{EntriesTell, EntryTells, entry_seen, mark_seen, MarksTell, MarkTells}
+use Rattle.directory.specs.Standing.{number, standing}
+use Rattle.trail_laws.specs.Trail.{EntriesTell, EntryTells, mark_seen, MarksTell, MarkTells}
 use Rattle.trail_laws.specs.Phases.{AddressesLeadByPhase, PhasesCover}
 use Rattle.trail_laws.specs.Ways.{AddressesLeadShortly, ComingsLeadShortly, LevelsStayNear, PassagesAreOpen, StandsInside}
-use Rattle.trail_laws.proofs.Links.{stop-inside}
-use Rattle.trail_laws.proofs.Tells.{next-stands, rest-stands, stands}
-use Rattle.trail_laws.proofs.ClosedViews.{clearing, coming, passage as is_passage, Phase, phase_commits, View}
+use Rattle.trail_laws.proofs.Stops.{view-inside}
+use Rattle.trail_laws.proofs.Views.{shown}
 use Rattle.trail_laws.proofs.Comings.{coming-leads_on}
 use Rattle.trail_laws.proofs.Laws.{HistoryView, Laws, view}
 use Rattle.trail_laws.proofs.Lazy.{legal-lazy}
 use Rattle.trail_laws.proofs.Nearby.{level-has}
 use Rattle.trail_laws.proofs.Passages.{coming-opens, PassageLaws}
 
--- a subscriber stands at a node of the network
-view-inside : (setting : Setting) (from : ℕ) (marks : ℕ → PresenceMark) (entries : ℕ → ℕ → Option Address)
-    (commits : List Commit) (off : Bool) (moves : List Move) → View setting from marks entries commits off moves
-    → stands from commits < setting.nodes
-view-inside setting from marks entries commits off moves (inl h) =
-    subst (λ n. n < setting.nodes) (sym (ap (stands from) h.commits_are ∙ rest-stands h.course from h.begins))
-    (stop-inside setting h.course h.sound)
-view-inside setting from marks entries commits off moves (inr h) = at_phase h.phase h.commits_are
-  where
-    after : commits ≡ map commit_by (h.course.moves ++ h.move ∷ []) → stands from commits < setting.nodes
-    after c = subst (λ n. n < setting.nodes)
-        (sym (ap (stands from) c ∙ next-stands setting h.course h.move from h.next h.begins)) h.next.inside
-
-    at_phase : (phase : Phase) → commits ≡ phase_commits h.course h.move phase → stands from commits < setting.nodes
-    at_phase (coming written) c =
-        subst (λ n. n < setting.nodes) (sym (ap (stands from) c ∙ rest-stands h.course from h.begins))
-        (stop-inside setting h.course h.sound)
-    at_phase is_passage c = after c
-    at_phase (clearing erased purged) c = after c
-
 pub stands-inside : Laws → StandsInside
 unfolding HistoryView
 stands-inside laws setting sub history low legal =
-    view-inside setting (start setting sub) (mark_seen setting sub history) (entry_seen setting sub history)
-    (commits sub history) (off sub history) (course_in setting sub (puts_to sub history)).moves
-    (view laws setting sub history low legal)
+    view-inside setting (shown setting sub history) (view laws setting sub history low legal)
 
 pub levels-near : Laws → LevelsStayNear
 unfolding HistoryView
 levels-near laws setting sub history low metric some legal level below =
-    level-has setting (start setting sub) (mark_seen setting sub history) (entry_seen setting sub history)
-    (commits sub history) (off sub history) (course_in setting sub (puts_to sub history)).moves level metric below
-    (legal-lazy setting sub history some legal) (view laws setting sub history low legal)
+    let its = level-has setting (shown setting sub history) level below (view laws setting sub history low legal) in
+    (its.0, its.1, its.2, its.4 metric (legal-lazy setting sub history some legal), its.3)
 
 pub passages-open : PassageLaws → PassagesAreOpen
 passages-open laws setting sub history low legal node p from inside comes reached =
@@ -95,9 +65,7 @@ addresses-short by_phase cover tell setting sub history low metric some legal le
 pub comings-short : Laws → MarksTell → ComingsLeadShortly
 unfolding HistoryView
 comings-short laws marks setting sub history low metric legal node p u pass inside comes opens =
-    let there = coming-leads_on setting (start setting sub) (mark_seen setting sub history)
-    (entry_seen setting sub history) (commits sub history) (off sub history)
-    (course_in setting sub (puts_to sub history)).moves node p u None inside
+    let there = coming-leads_on setting (shown setting sub history) node p u None inside
     (view laws setting sub history low legal) comes in (
       there.2.hops,
       there.2.way,

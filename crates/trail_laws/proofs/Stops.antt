@@ -1,15 +1,14 @@
 -- Where the commits of a subscriber lead, and where each begins.
-use Rattle.std.proofs.Common.{◌≡◌, inl, inr, ℕ, zero, suc, ◌-◌, ◌<◌, ◌≤◌, Bool, List, [], ◌∷◌, ◌++◌, Option, Some, length, map, fold, refl, sym, ap, ◌∙◌, subst, arith}
+use Rattle.std.proofs.Common.{◌⊎◌, true, false, ◌≡◌, inl, inr, ℕ, zero, suc, ◌-◌, ◌<◌, ◌≤◌, List, [], ◌∷◌, ◌++◌, Some, length, map, fold, refl, sym, ap, ◌∙◌, subst, arith}
 use Rattle.std.specs.Prelude.{slice_get, slice_index}
 use Rattle.std.proofs.lemmas.List.{get_or_append_left, length-map, map-append}
-use Rattle.entry_word.specs.declared.mark.PresenceMark.{PresenceMark}
-use Rattle.entry_word.specs.declared.address.Address.{Address}
 use Rattle.directory.specs.Settings.{Setting}
 use Rattle.directory.specs.Courses.{Course, Move}
 use Rattle.directory.specs.Standing.{Commit, commit_by}
-use Rattle.trail_laws.proofs.Links.{AreLinked, IsSound, linked-push, stop-inside}
+use Rattle.trail_laws.proofs.Links.{AreLinked, IsSound, last-inside, linked-push, moves-count, stop-inside}
+use Rattle.trail_laws.proofs.Tells.{stands, stands-moves}
 use Rattle.trail_laws.proofs.ClosedMarks.{IsNext}
-use Rattle.trail_laws.proofs.ClosedViews.{View, Phase, clearing, coming, passage, phase_commits}
+use Rattle.trail_laws.proofs.ClosedViews.{Shown, View, Phase, clearing, coming, passage, phase_commits}
 use Rattle.trail_laws.proofs.LinkedStops.{stop_at}
 
 -- where a subscriber is after so many of its commits
@@ -64,14 +63,6 @@ left-linked setting from number (m ∷ moves) (f0, f1, f2, f3, f4, f5, f6, f7) z
 left-linked setting from number (m ∷ moves) (f0, f1, f2, f3, f4, f5, f6, f7) (suc i) c h =
     left-linked setting m.to (suc number) moves f7 i c h
 
-left-course : (setting : Setting) (from begin : ℕ) (commits : List Commit) (moves : List Move) → from ≡ begin
-    → commits ≡ map commit_by moves → AreLinked setting from 0 moves
-    → (i : ℕ) (c : Commit) → slice_get commits i ≡ Some c → stop_after begin commits i ≡ c.from
-left-course setting from begin commits moves begins commits_are linked i c h =
-    sym (stops-told begin from commits moves i begins commits_are)
-    ∙ (stops-told from from (map commit_by moves) moves i refl refl
-    ∙ left-linked setting from 0 moves linked i c (sym (ap (λ cs. slice_get cs i) commits_are) ∙ h))
-
 course-linked : (setting : Setting) (course : Course) (move : Move) → IsSound setting course
     → IsNext setting course move → AreLinked setting course.start 0 (course.moves ++ move ∷ [])
 course-linked setting course move sound next =
@@ -80,19 +71,82 @@ course-linked setting course move sound next =
     (subst (λ n. n < setting.nodes) (sym next.from) (stop-inside setting course sound)) next.inside next.moving
     next.renewed next.weight sound.linked
 
-pub stop-left : (setting : Setting) (from : ℕ) (marks : ℕ → PresenceMark) (entries : ℕ → ℕ → Option Address)
-    (commits : List Commit) (off : Bool) (moves : List Move) → View setting from marks entries commits off moves
-    → (i : ℕ) (c : Commit) → slice_get commits i ≡ Some c → stop_after from commits i ≡ c.from
-stop-left setting from marks entries commits off moves (inl h) =
-    left-course setting h.course.start from commits h.course.moves h.begins h.commits_are h.sound.linked
-stop-left setting from marks entries commits off moves (inr h) = at_phase h.phase h.commits_are
+-- the moves of a view that are committed: all, or all but one
+pub record IsCommitted (setting : Setting) (shown : Shown) : Type 0 where
+  pub moves : List Move
+  pub begins : shown.from < setting.nodes
+  pub linked : AreLinked setting shown.from 0 moves
+  pub are : shown.commits ≡ map commit_by moves
+  pub count : length shown.commits ≡ length moves
+  pub rest : (shown.moves ≡ moves) ⊎ ((length shown.moves ≡ suc (length moves)) × (shown.off ≡ false))
+
+pub committed : (setting : Setting) (shown : Shown) → View setting shown → IsCommitted setting shown
+committed setting shown (inl h) = record {
+  moves = h.course.moves;
+  begins = subst (λ n. n < setting.nodes) h.begins h.sound.begins;
+  linked = subst (λ n. AreLinked setting n 0 h.course.moves) h.begins h.sound.linked;
+  are = h.commits_are;
+  count = ap length h.commits_are ∙ length-map h.course.moves commit_by;
+  rest = inl h.moves_are;
+}
+committed setting shown (inr h) = at_phase h.phase h.commits_are
   where
-    at_phase : (phase : Phase) → commits ≡ phase_commits h.course h.move phase
-        → (i : ℕ) (c : Commit) → slice_get commits i ≡ Some c → stop_after from commits i ≡ c.from
-    at_phase (coming written) e =
-        left-course setting h.course.start from commits h.course.moves h.begins e h.sound.linked
-    at_phase passage e = left-course setting h.course.start from commits (h.course.moves ++ h.move ∷ []) h.begins e
-        (course-linked setting h.course h.move h.sound h.next)
-    at_phase (clearing erased purged) e =
-        left-course setting h.course.start from commits (h.course.moves ++ h.move ∷ []) h.begins e
-        (course-linked setting h.course h.move h.sound h.next)
+    begins : shown.from < setting.nodes
+    begins = subst (λ n. n < setting.nodes) h.begins h.sound.begins
+
+    all : shown.commits ≡ map commit_by (h.course.moves ++ h.move ∷ []) → IsCommitted setting shown
+    all c = record {
+      moves = h.course.moves ++ h.move ∷ [];
+      begins = begins;
+      linked = subst (λ n. AreLinked setting n 0 (h.course.moves ++ h.move ∷ [])) h.begins
+          (course-linked setting h.course h.move h.sound h.next);
+      are = c;
+      count = ap length c ∙ length-map (h.course.moves ++ h.move ∷ []) commit_by;
+      rest = inl h.moves_are;
+    }
+
+    at_phase : (phase : Phase) → shown.commits ≡ phase_commits h.course h.move phase → IsCommitted setting shown
+    at_phase (coming written) c = record {
+      moves = h.course.moves;
+      begins = begins;
+      linked = subst (λ n. AreLinked setting n 0 h.course.moves) h.begins h.sound.linked;
+      are = c;
+      count = ap length c ∙ length-map h.course.moves commit_by;
+      rest = inr (ap length h.moves_are ∙ moves-count h.course h.move, h.off_is);
+    }
+    at_phase passage c = all c
+    at_phase (clearing erased purged) c = all c
+
+-- at most one move is begun that isn't committed, and none when the subscriber is off
+pub view-counts : (setting : Setting) (shown : Shown) → View setting shown
+    → (length shown.moves ≡ suc (length shown.commits)) ⊎ (length shown.moves ≡ length shown.commits)
+view-counts setting shown view =
+    let its = committed setting shown view in
+    elim its.rest [
+      | inl all ↦ inr (ap length all ∙ sym its.count)
+      | inr more ↦ inl (more.0 ∙ ap suc (sym its.count))
+    ]
+
+pub off-counts : (setting : Setting) (shown : Shown) → View setting shown → shown.off ≡ true
+    → length shown.moves ≡ length shown.commits
+off-counts setting shown view off =
+    let its = committed setting shown view in
+    elim its.rest [
+      | inl all ↦ ap length all ∙ sym its.count
+      | inr more ↦ let clash : true ≡ false = sym off ∙ more.1 in cc
+    ]
+
+-- it stands at a node of the network
+pub view-inside : (setting : Setting) (shown : Shown) → View setting shown
+    → stands shown.from shown.commits < setting.nodes
+view-inside setting shown view =
+    let its = committed setting shown view in
+    subst (λ n. n < setting.nodes) (sym (ap (stands shown.from) its.are ∙ stands-moves shown.from its.moves))
+    (last-inside setting shown.from 0 its.moves its.begins its.linked)
+
+pub stop-left : (setting : Setting) (shown : Shown) → View setting shown
+    → (i : ℕ) (c : Commit) → slice_get shown.commits i ≡ Some c → stop_after shown.from shown.commits i ≡ c.from
+stop-left setting shown view i c h =
+    let its = committed setting shown view in
+    ap (λ cs. stop_after shown.from cs i) its.are
+    ∙ left-linked setting shown.from 0 its.moves its.linked i c (sym (ap (λ cs. slice_get cs i) its.are) ∙ h)

@@ -1,5 +1,5 @@
 -- What marks tell.
-use Rattle.std.proofs.Common.{◌≡◌, ◌⊎◌, inl, inr, ℕ, zero, suc, ◌+◌, ◌-◌, ◌<◌, ◌≤◌, Bool, true, false, cond, ◌==◌, List, [], ◌∷◌, ◌++◌, Option, Some, length, map, drop, fold, refl, sym, ap, ◌∙◌, subst, arith}
+use Rattle.std.proofs.Common.{◌≡◌, ◌⊎◌, inl, inr, ℕ, zero, suc, ◌+◌, ◌-◌, ◌<◌, ◌≤◌, Bool, true, false, cond, ◌==◌, List, [], ◌∷◌, ◌++◌, Some, length, map, drop, fold, refl, sym, ap, ◌∙◌, subst, arith}
 use Rattle.std.specs.Prelude.{slice_get, option_map}
 use Rattle.std.proofs.lemmas.Bool.{eqb-true, eq-eqb}
 use Rattle.std.proofs.lemmas.List.{append-nil, length-map, map-append}
@@ -7,13 +7,12 @@ use Rattle.std.proofs.lemmas.List.Sums.{fold-append}
 use Rattle.node_set.specs.Ascending.{has}
 use Rattle.entry_word.specs.declared.mark.PresenceMark.{PresenceMark}
 use Rattle.entry_word.specs.declared.mark.PresenceMark.TheVariants.{Empty, Here, Gone, Coming, Off}
-use Rattle.entry_word.specs.declared.address.Address.{Address}
 use Rattle.directory.specs.Settings.{Setting}
 use Rattle.directory.specs.Courses.{Move, Course, base, last_stop}
 use Rattle.directory.specs.Standing.{Commit, commit_by}
 use Rattle.trail_laws.proofs.Links.{AreLinked, IsSound, base-low, stop-inside, moves-count}
 use Rattle.trail_laws.proofs.ClosedMarks.{IsNext, rest_mark, mark_coming, mark_passing, mark_erasing, since_top, there, trail_mark}
-use Rattle.trail_laws.proofs.ClosedViews.{clearing, coming, IsPhase, passage, Phase, phase_commits, phase_mark, View}
+use Rattle.trail_laws.proofs.ClosedViews.{clearing, coming, IsPhase, passage, Phase, phase_commits, phase_mark, Shown, View}
 use Rattle.trail_laws.proofs.LinkedStops.{IsLeft, last-left, stop_at}
 use Rattle.directory.specs.ListLaws.{slice_get-left}
 use Rattle.std.proofs.lemmas.Option.{slice_get-map}
@@ -255,26 +254,25 @@ clearing-is setting from marks course move purged node sound next begins = at_pu
     at_purged false = at_to (node == move.to) refl
 
 -- so a mark of a view tells it
-pub mark-is : (setting : Setting) (from : ℕ) (marks : ℕ → PresenceMark) (entries : ℕ → ℕ → Option Address)
-    (commits : List Commit) (off : Bool) (moves : List Move) (node : ℕ) → node < setting.nodes
-    → View setting from marks entries commits off moves
-    → MarkIs setting.nodes from marks commits off moves node (marks node)
-mark-is setting from marks entries commits off moves node low (inl h) =
+pub mark-is : (setting : Setting) (shown : Shown) (node : ℕ) → node < setting.nodes → View setting shown
+    → MarkIs setting.nodes shown.from shown.marks shown.commits shown.off shown.moves node (shown.marks node)
+mark-is setting shown node low (inl h) =
     rw (h.marks_are node low, h.commits_are, h.off_is)
-    (rest-is from marks moves setting h.course node h.sound h.begins)
-mark-is setting from marks entries commits off moves node low (inr h) = at_phase h.phase h.is_phase
+    (rest-is shown.from shown.marks shown.moves setting h.course node h.sound h.begins)
+mark-is setting shown node low (inr h) = at_phase h.phase h.is_phase
     (h.marks_are node low) h.commits_are (h.marks_are h.move.from
     (subst (λ n. n < setting.nodes) (sym h.next.from) (stop-inside setting h.course h.sound)))
   where
     at_phase : (phase : Phase) → IsPhase setting h.course h.move phase
-        → marks node ≡ phase_mark setting h.course h.move phase node → commits ≡ phase_commits h.course h.move phase
-        → marks h.move.from ≡ phase_mark setting h.course h.move phase h.move.from
-        → MarkIs setting.nodes from marks commits off moves node (marks node)
+        → shown.marks node ≡ phase_mark setting h.course h.move phase node
+        → shown.commits ≡ phase_commits h.course h.move phase
+        → shown.marks h.move.from ≡ phase_mark setting h.course h.move phase h.move.from
+        → MarkIs setting.nodes shown.from shown.marks shown.commits shown.off shown.moves node (shown.marks node)
     at_phase (coming written) p m c f = rw (m, c, h.off_is, h.moves_are)
-        (coming-is setting from marks h.course h.move node h.sound h.next h.begins)
+        (coming-is setting shown.from shown.marks h.course h.move node h.sound h.next h.begins)
     at_phase passage p m c f = rw (m, c, h.off_is, h.moves_are)
-        (passing-is setting from marks h.course h.move node h.sound h.next h.begins
+        (passing-is setting shown.from shown.marks h.course h.move node h.sound h.next h.begins
         (f ∙ ap (λ b. cond b (Gone h.move.number h.move.to) (mark_coming setting h.course h.move h.move.from))
         (eq-eqb h.move.from h.move.from refl)))
     at_phase (clearing erased purged) p m c f = rw (m, c, h.off_is, h.moves_are)
-        (clearing-is setting from marks h.course h.move purged node h.sound h.next h.begins)
+        (clearing-is setting shown.from shown.marks h.course h.move purged node h.sound h.next h.begins)
