@@ -26,7 +26,7 @@ use Rattle.trail_laws.proofs.Laws.{HistoryView, Laws, view}
 use Rattle.trail_laws.proofs.Stops.{off-counts, stop_after, stop-last, stop-left, stop-listed, view-counts}
 use Rattle.trail_laws.proofs.Passing.{front-legal, number-grows}
 use Rattle.trail_laws.proofs.Rising.{stop-goes_up}
-use Rattle.trail_laws.proofs.Right.{gone-known, IsGood, IsSafe, look-good, safe-later}
+use Rattle.trail_laws.proofs.Right.{good-safe, gone-known, IsSafe, look-good, safe-later}
 use Rattle.trail_laws.proofs.Behind.{after_coming, after_gone, Behind, behind-later, Continues, ended-none, IsBegun, IsBehind, IsTracked, none-rise, nothing, one-more, Rises, tracked-nothing}
 
 -- what is taken from the laws of marks and of fronts
@@ -62,10 +62,8 @@ off-rests laws setting sub history low legal e =
 zero-up : (setting : Setting) (sub : ℕ) (seen : History) (node : ℕ) (mark : PresenceMark)
     → MarkTells setting sub seen node mark → GoesUp 0 mark
 zero-up setting sub seen node Empty tells = tt
-zero-up setting sub seen node (Here q) tells = omega arith
 zero-up setting sub seen node (Gone q to) tells = tells.0
-zero-up setting sub seen node (Coming q from) tells = omega arith
-zero-up setting sub seen node (Off q) tells = omega arith
+zero-up setting sub seen node mark tells = omega arith
 
 fits-up : ChaseLaws → (setting : Setting) (sub : ℕ) (seen : History) (behind : Behind) (known : Option ℕ) (node : ℕ)
     → setting.nodes ≤ 2 ^ 16 → IsLegal setting sub seen → node < setting.nodes
@@ -83,12 +81,10 @@ fits-up laws setting sub seen behind known node low legal inside is = at_stop is
 fits-begun : ChaseLaws → (setting : Setting) (sub : ℕ) (seen : History) (n node : ℕ) (mark : PresenceMark)
     → setting.nodes ≤ 2 ^ 16 → IsLegal setting sub seen → n ≤ moves_begun setting sub seen
     → MarkTells setting sub seen node mark → IsBegun n mark
-fits-begun laws setting sub seen n node Empty low legal early tells = tt
-fits-begun laws setting sub seen n node (Here q) low legal early tells = tt
-fits-begun laws setting sub seen n node (Gone q to) low legal early tells = tt
 fits-begun laws setting sub seen n node (Coming q from) low legal early tells = omega (arith, early, tells.0)
 fits-begun laws setting sub seen n node (Off q) low legal early tells =
     omega (arith, early, tells.1, off-rests laws.cells setting sub seen low legal tells.2)
+fits-begun laws setting sub seen n node mark low legal early tells = tt
 
 -- where a Gone and a Coming lead
 unknown : (p q : ℕ) (known : Option ℕ) → is_known q (known_with p known) ≡ false → p ≤ q - 1
@@ -230,20 +226,11 @@ look-rises laws setting history call t (chases chase node) key words behind low 
     (chase-rises laws setting history call t chase node words behind low legal tracked safe.1) more
 look-rises laws setting history call t (ended found) key words behind low legal safe tracked wanted more = cc
 
-good-safe : (setting : Setting) (sub : ℕ) (seen : History) (pursuit : Pursuit) → IsGood setting sub seen pursuit
-    → IsSafe setting (number sub seen) pursuit
-good-safe setting sub seen at_origin good = tt
-good-safe setting sub seen (climbs known weight reader later) good = good
-good-safe setting sub seen (chases chase node) good = good
-good-safe setting sub seen (ended found) good = tt
-
 tracked-later : (setting : Setting) (sub t u : ℕ) (history : History) (behind : Behind) (pursuit : Pursuit) → t ≤ u
     → IsTracked setting sub (before t history) behind pursuit → IsTracked setting sub (before u history) behind pursuit
-tracked-later setting sub t u history behind at_origin h tracked = tracked
-tracked-later setting sub t u history behind (climbs known weight reader later) h tracked = tracked
 tracked-later setting sub t u history behind (chases chase node) h tracked =
     behind-later setting sub t u history behind chase.known node h tracked
-tracked-later setting sub t u history behind (ended found) h tracked = tt
+tracked-later setting sub t u history behind other h tracked = tracked
 
 -- the looks of a find
 looks-rise : ChaseLaws → (setting : Setting) (history : History) (actor : ℕ) (call : FindCall)

@@ -66,11 +66,8 @@ abbrev pub above : Setting → (ℕ → PresenceMark) → ℕ → ℕ
 above setting marks number = length (sift (λ v. gone_above number (marks v)) 0 setting.nodes)
 
 gone_above-less : (p q : ℕ) (mark : PresenceMark) → q ≤ p → gone_above p mark ≡ true → gone_above q mark ≡ true
-gone_above-less p q Empty h e = cc
-gone_above-less p q (Here r) h e = cc
 gone_above-less p q (Gone r to) h e = grind (arith, nat_tests)
-gone_above-less p q (Coming r from) h e = cc
-gone_above-less p q (Off r) h e = cc
+gone_above-less p q mark h e = cc
 
 -- a node with a Gone counts for less than its number
 pub above-less : (setting : Setting) (marks : ℕ → PresenceMark) (v p q to : ℕ) → v < setting.nodes

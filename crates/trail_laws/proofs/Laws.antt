@@ -33,6 +33,10 @@ pub record Laws : Type 0 where
   pub told : CommitsAreTold
   pub off_told : OffIsTold
 
+pub laws : LegalIsAmid → MarksAreLeft → EntriesAreLeft → CommitsAreTold → OffIsTold → Laws
+laws amid marks entries told off =
+    record { amid = amid; marks = marks; entries = entries; told = told; off_told = off }
+
 unfoldable pub HistoryView : Setting → ℕ → History → Type 0
 HistoryView setting sub history = View setting (shown setting sub history)
 

@@ -2,7 +2,7 @@
 use Rattle.std.proofs.Common.{◌≡◌, ℕ, true, false, sym, ap, ◌∙◌, subst, inl, inr}
 use Rattle.entry_word.specs.Marks.{says_here}
 use Rattle.entry_word.specs.declared.mark.PresenceMark.{PresenceMark}
-use Rattle.entry_word.specs.declared.mark.PresenceMark.TheVariants.{Empty, Here, Gone, Coming, Off}
+use Rattle.entry_word.specs.declared.mark.PresenceMark.TheVariants.{Here, Off}
 use Rattle.directory.specs.Settings.{Setting}
 use Rattle.directory.specs.Histories.{History}
 use Rattle.directory.specs.Legal.{IsLegal}
@@ -15,11 +15,8 @@ use Rattle.trail_laws.specs.Trail.{mark_seen, MarksTell, MarkTells}
 
 here-tells : (setting : Setting) (sub : ℕ) (history : History) (node : ℕ) (mark : PresenceMark)
     → says_here mark ≡ true → MarkTells setting sub history node mark → IsOnAt setting sub history node
-here-tells setting sub history node Empty h tells = let clash : false ≡ true = h in cc
 here-tells setting sub history node (Here p) h tells = (tells.0, tells.2)
-here-tells setting sub history node (Gone p to) h tells = let clash : false ≡ true = h in cc
-here-tells setting sub history node (Coming p from) h tells = let clash : false ≡ true = h in cc
-here-tells setting sub history node (Off p) h tells = let clash : false ≡ true = h in cc
+here-tells setting sub history node mark h tells = let clash : false ≡ true = h in cc
 
 pub listed-stand : CensusIsMark → MarksTell → ListedStandThere
 listed-stand says tells setting sub history node low below legal h =

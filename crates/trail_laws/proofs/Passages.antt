@@ -7,7 +7,7 @@ use Rattle.std.proofs.lemmas.List.Folds.{list_any-append}
 use Rattle.std.proofs.lemmas.List.Sums.{fold-append}
 use Rattle.entry_word.specs.Marks.{mark_in}
 use Rattle.entry_word.specs.declared.mark.PresenceMark.{PresenceMark}
-use Rattle.entry_word.specs.declared.mark.PresenceMark.TheVariants.{Empty, Here, Gone, Coming, Off}
+use Rattle.entry_word.specs.declared.mark.PresenceMark.TheVariants.{Here, Gone, Coming}
 use Rattle.entry_word.specs.declared.visit.Key.TheVariants.{Presence, Entry}
 use Rattle.entry_word.specs.declared.visit.Act.{Act}
 use Rattle.entry_word.specs.declared.visit.Act.TheVariants.{Look, Put, Census}
@@ -27,20 +27,14 @@ use Rattle.directory.specs.HistoryLaws.{commits-append}
 -- a confirm is a Here with its number at its node
 confirm-here : (c : Commit) (node : ℕ) (mark : PresenceMark) → confirms c node mark ≡ true
     → (node ≡ c.to) × (mark ≡ Here c.number)
-confirm-here c node Empty h = cc
-confirm-here c node (Gone p to) h = cc
-confirm-here c node (Coming p from) h = cc
-confirm-here c node (Off p) h = cc
 confirm-here c node (Here p) h =
     let both : ((node == c.to) ≡ true) × ((p == c.number) ≡ true) = and_parts (node == c.to) (p == c.number) h in
     (eqb-true node c.to both.0, ap (λ n. Here n) (eqb-true p c.number both.1))
+confirm-here c node mark h = cc
 
 confirm-other : (c : Commit) (node : ℕ) (mark : PresenceMark) → (node == c.to) ≡ false → confirms c node mark ≡ false
-confirm-other c node Empty h = refl
-confirm-other c node (Gone p to) h = refl
-confirm-other c node (Coming p from) h = refl
-confirm-other c node (Off p) h = refl
 confirm-other c node (Here p) h = ap (λ b. b && p == c.number) h
+confirm-other c node mark h = refl
 
 -- a put for a subscriber leaves the mark at a node alone, or is that mark
 put-cases : (sub x word : ℕ) (act : Act) → is_put_for sub act ≡ true

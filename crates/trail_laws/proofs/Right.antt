@@ -29,13 +29,6 @@ use Rattle.trail_laws.specs.Rightness.{AnswersAreRight, HasNumber, IsRight, Numb
 use Rattle.trail_laws.proofs.Passing.{front-legal, number-grows, through-puts}
 use Rattle.trail_laws.proofs.Chases.{knows-with}
 
--- a pursuit that isn't the end
-abbrev pub IsUnderWay : Pursuit → Type 0
-IsUnderWay at_origin = Unit {0}
-IsUnderWay (climbs known weight reader later) = Unit {0}
-IsUnderWay (chases chase node) = Unit {0}
-IsUnderWay (ended found) = ⊥
-
 -- what a find knows at a pursuit is at most the number, and its readers are of levels of the plan
 abbrev pub Low : Setting → Reader → Type 0
 Low setting reader = reader.level ≤ setting.top
@@ -52,10 +45,9 @@ knows-more most more (Some n) h k = omega (arith, k)
 
 pub safe-later : (setting : Setting) (most more : ℕ) (pursuit : Pursuit) → most ≤ more → IsSafe setting most pursuit
     → IsSafe setting more pursuit
-safe-later setting most more at_origin h safe = tt
 safe-later setting most more (climbs known weight reader later) h safe = (knows-more most more known h safe.0, safe.1)
 safe-later setting most more (chases chase node) h safe = (knows-more most more chase.known h safe.0, safe.1)
-safe-later setting most more (ended found) h safe = tt
+safe-later setting most more other h safe = tt
 
 -- what holds of an answer told at a history
 abbrev pub RightAt : Setting → ℕ → History → Found → Type 0
@@ -72,6 +64,11 @@ IsGood setting sub seen (climbs known weight reader later) = IsSafe setting (num
     (climbs known weight reader later)
 IsGood setting sub seen (chases chase node) = IsSafe setting (number sub seen) (chases chase node)
 IsGood setting sub seen (ended found) = RightAt setting sub seen found
+
+pub good-safe : (setting : Setting) (sub : ℕ) (seen : History) (pursuit : Pursuit) → IsGood setting sub seen pursuit
+    → IsSafe setting (number sub seen) pursuit
+good-safe setting sub seen (ended found) good = tt
+good-safe setting sub seen other good = good
 
 low-readers : (setting : Setting) (node first count : ℕ) → first + count ≤ levels setting
     → All (Low setting) (flat_map (λ level. map (λ cluster. record { level = level; cluster = cluster })
@@ -197,17 +194,12 @@ commits-through sub actor t key history h = ap (filter_map
 right-through : (setting : Setting) (history : History) (sub actor t : ℕ) (key : Key) (found : Found)
     → slice_get history t ≡ Some (look_by actor key) → RightAt setting sub (before t history) found
     → IsRight setting history sub found t
-right-through setting history sub actor t key (At node q level weight) h right = (
-  right.0 ∙ sym (ap (fold (λ n (c : Commit). c.to) (start setting sub)) (commits-through sub actor t key history h)),
-  right.1 ∙ sym (ap length (commits-through sub actor t key history h)),
-  ap ends_off (through-puts sub actor key t history h) ∙ right.2,
-)
-right-through setting history sub actor t key (OffAt node q level weight) h right = (
-  right.0 ∙ sym (ap (fold (λ n (c : Commit). c.to) (start setting sub)) (commits-through sub actor t key history h)),
-  right.1 ∙ sym (ap length (commits-through sub actor t key history h)),
-  ap ends_off (through-puts sub actor key t history h) ∙ right.2,
-)
 right-through setting history sub actor t key (Again why weight) h right = tt
+right-through setting history sub actor t key found h right = (
+  right.0 ∙ sym (ap (fold (λ n (c : Commit). c.to) (start setting sub)) (commits-through sub actor t key history h)),
+  right.1 ∙ sym (ap length (commits-through sub actor t key history h)),
+  ap ends_off (through-puts sub actor key t history h) ∙ right.2,
+)
 
 pub last-more : (t u : ℕ) (later : List ℕ) → last_of (t ∷ u ∷ later) ≡ last_of (u ∷ later)
 last-more t u later = ap (λ n. slice_index (t ∷ u ∷ later) n)
@@ -224,89 +216,50 @@ read-one setting history actor t key call pursuit later h = ap
     (words_at setting history) later)) h
 
 -- the looks of a find end with a right answer
-right-looks : MarksTell → EntriesTell → FrontsAreLegal
-    → (setting : Setting) (history : History) (actor : ℕ) (call : FindCall) (found : Found) → setting.nodes ≤ 2 ^ 16
-    → call.from < setting.nodes → IsLegal setting call.sub history
-    → (tickets : List ℕ) (earliest : ℕ) (pursuit : Pursuit) → IsUnderWay pursuit
-    → IsSafe setting (number call.sub (before earliest history)) pursuit
-    → AreLooks setting history actor call earliest pursuit tickets
-    → fold (after_word setting call) pursuit (flat_map (words_at setting history) tickets) ≡ ended found
-    → IsRight setting history call.sub found (last_of tickets)
-unfolding AreLooks
-right-looks marks entries fronts setting history actor call found low inside legal [] earliest pursuit open_pursuit safe
-    looks ends = absurd (subst IsUnderWay ends open_pursuit)
-right-looks marks entries fronts setting history actor call found low inside legal
-    (t ∷ later) earliest pursuit open_pursuit safe (first, (key, wanted, is_look, rest)) ends =
-    at_next (after_word setting call pursuit (cell setting (before t history) key)) refl
-    (look-good marks entries setting (before t history) call pursuit key low inside
-    (front-legal fronts setting call.sub history t low legal)
-    (safe-later setting (number call.sub (before earliest history)) (number call.sub (before t history)) pursuit
-    (number-grows call.sub earliest t history first) safe) wanted)
-    rest (sym (read-one setting history actor t key call pursuit later is_look) ∙ ends)
-    (λ s o g a e. right-looks marks entries fronts setting history actor call found low inside legal later
-    (suc t) s o g a e)
-  where
-    seen_later : number call.sub (before t history) ≤ number call.sub (before (suc t) history)
-    seen_later = number-grows call.sub t (suc t) history (omega arith)
+module _ (marks : MarksTell) (entries : EntriesTell) (fronts : FrontsAreLegal) (setting : Setting) (history : History)
+    (actor : ℕ) (call : FindCall) (found : Found) (low : setting.nodes ≤ 2 ^ 16) (inside : call.from < setting.nodes)
+    (legal : IsLegal setting call.sub history) where
+  next-good : (t : ℕ) (pursuit : Pursuit) (key : Key) → IsSafe setting (number call.sub (before t history)) pursuit
+      → key_of call pursuit ≡ Some key → IsGood setting call.sub (before t history)
+      (after_word setting call pursuit (cell setting (before t history) key))
+  next-good t pursuit key = look-good marks entries setting (before t history) call pursuit key low inside
+      (front-legal fronts setting call.sub history t low legal)
 
-    Further : Type 0
-    Further = (s : Pursuit) → IsUnderWay s → IsSafe setting (number call.sub (before (suc t) history)) s
-        → AreLooks setting history actor call (suc t) s later
-        → fold (after_word setting call) s (flat_map (words_at setting history) later) ≡ ended found
-        → IsRight setting history call.sub found (last_of later)
+  right-looks : (later : List ℕ) (t : ℕ) (key : Key) (pursuit : Pursuit)
+      → slice_get history t ≡ Some (look_by actor key) → IsGood setting call.sub (before t history) pursuit
+      → AreLooks setting history actor call (suc t) pursuit later
+      → fold (after_word setting call) pursuit (flat_map (words_at setting history) later) ≡ ended found
+      → IsRight setting history call.sub found (last_of (t ∷ later))
+  unfolding AreLooks
+  right-looks [] t key pursuit is_look good looks ends = right-through setting history call.sub actor t key found is_look
+      (subst (IsGood setting call.sub (before t history)) ends good)
+  right-looks (u ∷ later) t key pursuit is_look good (first, (next, wanted, its_look, rest)) ends =
+      subst (IsRight setting history call.sub found) (sym (last-more t u later))
+      (right-looks later u next (after_word setting call pursuit (cell setting (before u history) next)) its_look
+      (next-good u pursuit next (safe-later setting (number call.sub (before t history)) _ pursuit
+      (number-grows call.sub t u history (omega (arith, first)))
+      (good-safe setting call.sub (before t history) pursuit good)) wanted)
+      rest (sym (read-one setting history actor u next call pursuit later its_look) ∙ ends))
 
-    longer : (s : Pursuit) → IsUnderWay s → (ts : List ℕ)
-        → fold (after_word setting call) s (flat_map (words_at setting history) ts) ≡ ended found
-        → IsRight setting history call.sub found (last_of ts)
-        → IsRight setting history call.sub found (last_of (t ∷ ts))
-    longer s o [] e right = absurd (subst IsUnderWay e o)
-    longer s o (u ∷ ts) e right = subst (IsRight setting history call.sub found) (sym (last-more t u ts)) right
-
-    over : (f : Found) (ts : List ℕ) → AreLooks setting history actor call (suc t) (ended f) ts
-        → fold (after_word setting call) (ended f) (flat_map (words_at setting history) ts) ≡ ended found
-        → RightAt setting call.sub (before t history) f → IsRight setting history call.sub found (last_of (t ∷ ts))
-    over f [] a e right = let same : f ≡ found = cc in subst
-        (λ (g : Found). IsRight setting history call.sub g t) same
-        (right-through setting history call.sub actor t key f is_look right)
-    over f (u ∷ ts) (h, (k, w, l, r)) e right = cc
-
-    at_next : (s : Pursuit) → after_word setting call pursuit (cell setting (before t history) key) ≡ s
-        → IsGood setting call.sub (before t history) (after_word setting call pursuit
-        (cell setting (before t history) key))
-        → AreLooks setting history actor call (suc t) (after_word setting call pursuit
-        (cell setting (before t history) key)) later
-        → fold (after_word setting call) (after_word setting call pursuit (cell setting (before t history) key))
-        (flat_map (words_at setting history) later) ≡ ended found → Further
-        → IsRight setting history call.sub found (last_of (t ∷ later))
-    at_next s same good looks e more = at_pursuit s
-        (subst (IsGood setting call.sub (before t history)) same good)
-        (subst (λ x. AreLooks setting history actor call (suc t) x later) same looks)
-        (subst (λ x. fold (after_word setting call) x (flat_map (words_at setting history) later) ≡ ended found) same
-        e)
-      where
-        at_pursuit : (s : Pursuit) → IsGood setting call.sub (before t history) s
-            → AreLooks setting history actor call (suc t) s later
-            → fold (after_word setting call) s (flat_map (words_at setting history) later) ≡ ended found
-            → IsRight setting history call.sub found (last_of (t ∷ later))
-        at_pursuit at_origin g a e = longer at_origin tt later e (more at_origin tt tt a e)
-        at_pursuit (climbs known weight reader rest) g a e = longer (climbs known weight reader rest) tt later e
-            (more (climbs known weight reader rest) tt
-            (safe-later setting _ _ (climbs known weight reader rest) seen_later g) a e)
-        at_pursuit (chases chase node) g a e = longer (chases chase node) tt later e
-            (more (chases chase node) tt (safe-later setting _ _ (chases chase node) seen_later g) a e)
-        at_pursuit (ended f) g a e = over f later a e g
+  first-right : (tickets : List ℕ) → AreLooks setting history actor call 0 at_origin tickets
+      → find setting call (flat_map (words_at setting history) tickets) ≡ ended found
+      → IsRight setting history call.sub found (last_of tickets)
+  unfolding AreLooks
+  first-right [] looks ends = let clash : at_origin ≡ ended found = ends in cc
+  first-right (t ∷ later) (first, (key, wanted, is_look, rest)) ends =
+      right-looks later t key (after_word setting call at_origin (cell setting (before t history) key)) is_look
+      (next-good t at_origin key tt wanted) rest
+      (sym (read-one setting history actor t key call at_origin later is_look) ∙ ends)
 
 pub answers-right : MarksTell → EntriesTell → FrontsAreLegal → AnswersAreRight
 answers-right marks entries fronts setting history actor call found tickets low inside legal find =
-    right-looks marks entries fronts setting history actor call found low inside legal tickets 0 at_origin tt tt
-    find.looks find.answer
+    first-right marks entries fronts setting history actor call found low inside legal tickets find.looks find.answer
 
 -- so numbers never fall
 number-of : (setting : Setting) (history : History) (sub : ℕ) (found : Found) (last p : ℕ)
     → IsRight setting history sub found last → HasNumber found p → p ≡ number sub (through last history)
-number-of setting history sub (At node q level weight) last p right has = sym has ∙ right.1
-number-of setting history sub (OffAt node q level weight) last p right has = sym has ∙ right.1
 number-of setting history sub (Again why weight) last p right has = absurd has
+number-of setting history sub found last p right has = sym has ∙ right.1
 
 pub never-fall : MarksTell → EntriesTell → FrontsAreLegal → NumbersNeverFall
 never-fall marks entries fronts setting history actor other sub from other_from p q found other_found tickets
