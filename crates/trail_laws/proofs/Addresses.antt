@@ -102,8 +102,8 @@ entry-placed setting shown level cluster address below (inr h) is_some = rw h.mo
         at_top false t (inr whole) = unpurged (ap (λ b. take p (cond b (purge_nodes setting course move) [])) t
             ∙ nothing p)
         at_top true t (inr whole) =
-            new-placed setting shown.from shown.marks course move level cluster address h.sound h.next h.begins below here
-            (only-new setting course move level cluster address below t
+            new-placed setting shown.from shown.marks course move level cluster address h.sound h.next h.begins below
+            here (only-new setting course move level cluster address below t
             (ap (λ levels. entry_erased setting course move (renewed_levels move) levels level cluster)
             (sym whole) ∙ e))
           where

@@ -13,7 +13,7 @@ use Rattle.trail_laws.specs.Trail.{answers, IsLed, HasMetric, KnowsAtMost}
 use Rattle.trail_laws.proofs.Links.{AreLinked}
 use Rattle.trail_laws.proofs.ClosedMarks.{trail_mark, there}
 use Rattle.trail_laws.proofs.GoneCounts.{above, above-less}
-use Rattle.trail_laws.proofs.LinkedStops.{IsLeft, last-left, stop_at, way-short, weight-mono, weight-step, weight_from}
+use Rattle.trail_laws.proofs.LinkedStops.{last-left, LeavesMark, stop_at, way-short, weight-mono, weight-step, weight_from}
 
 -- ---- arrivals
 pub record Arrival (setting : Setting) (marks : ℕ → PresenceMark) (known : Option ℕ)
@@ -24,43 +24,11 @@ pub record Arrival (setting : Setting) (marks : ℕ → PresenceMark) (known : O
   pub few : hops ≤ most_hops
   pub short : HasMetric setting → way ≤ most_way
 
-pub arrived : (setting : Setting) (marks : ℕ → PresenceMark) (known : Option ℕ) (node last most_hops most_way : ℕ)
-    → node ≡ last → answers known (marks node) ≡ true → Arrival setting marks known node last most_hops most_way
-unfolding IsLed
-arrived setting marks known node last most_hops most_way same answered = record
-    { hops = 0; way = 0; led = (same, answered, refl); few = omega arith; short = λ metric. omega arith }
-
--- one hop more
-hopped : (setting : Setting) (marks : ℕ → PresenceMark) (known : Option ℕ) (node to last most_hops most_way : ℕ)
-    → lead known (marks node) ≡ Some to
-    → Arrival setting marks (known_after known (marks node)) to last most_hops most_way
-    → Arrival setting marks known node last (suc most_hops) (setting.distance node to + most_way)
-unfolding IsLed
-hopped setting marks known node to last most_hops most_way leads more = record {
-  hops = suc more.hops;
-  way = setting.distance node to + more.way;
-  led = (to, more.way, leads, refl, more.led);
-  few = omega (arith, more.few);
-  short = λ metric. omega (arith, more.short metric);
-}
-
 -- what is known stays within the most
 pub knows-with : (most p : ℕ) (known : Option ℕ) → KnowsAtMost most known → p ≤ most
     → KnowsAtMost most (known_with p known)
 knows-with most p None knows low = low
 knows-with most p (Some k) knows low = omega (arith, knows)
-
-pub longer : (setting : Setting) (marks : ℕ → PresenceMark) (known : Option ℕ)
-    (node last few few_more short short_more : ℕ) → few ≤ few_more → (HasMetric setting → short ≤ short_more)
-    → Arrival setting marks known node last few short → Arrival setting marks known node last few_more short_more
-longer setting marks known node last few few_more short short_more h g a = record {
-  hops = a.hops;
-  way = a.way;
-  led = a.led;
-  few = omega (arith, a.few, h);
-  short = λ metric. omega
-      (arith, a.short metric, g metric);
-}
 
 knows-it : (number : ℕ) (known : Option ℕ) → is_known number (known_with number known) ≡ true
 knows-it number None = let e : nat_le number number ≡ true = grind (arith, nat_tests) in e
@@ -72,219 +40,220 @@ knows-less : (most number : ℕ) (known : Option ℕ) → KnowsAtMost most known
 knows-less most number None h low = refl
 knows-less most number (Some k) h low = grind (arith, nat_tests)
 
--- where a trail is left: a node is one of its exits, from where the marks lead to the end, or its mark is that of the
--- trail
-pub Exits : Setting → (ℕ → PresenceMark) → ℕ → ℕ → ℕ → List Move → ℕ → ℕ → ℕ → Type 0
-Exits setting marks from number last moves most more_hops more_way =
-    (i v : ℕ) (known : Option ℕ) → i ≤ length moves → v < setting.nodes → stop_at from moves i ≡ v
-    → KnowsAtMost most known
-    → Arrival setting marks known v last (more_hops + above setting marks (number + i))
-    (weight_from moves i + more_way)
-    ⊎ ((marks v ≡ trail_mark moves v Empty) × (i < length moves))
-
--- along the trail the numbers rise until an exit
-pub leads : (setting : Setting) (marks : ℕ → PresenceMark) (from number last : ℕ) (moves : List Move)
-    (most more_hops more_way : ℕ) → AreLinked setting from number moves → number + length moves ≤ most
-    → Exits setting marks from number last moves most more_hops more_way → (fuel i v : ℕ) (known : Option ℕ)
-    → length moves ≤ fuel + i → i ≤ length moves → v < setting.nodes → stop_at from moves i ≡ v
-    → KnowsAtMost most known
-    → Arrival setting marks known v last (more_hops + above setting marks (number + i))
-    (weight_from moves i + more_way)
-unfolding Exits
-leads setting marks from number last moves most more_hops more_way linked all exits zero i v known enough low inside
-    is_stop knows = at_exit (exits i v known low inside is_stop knows)
+-- a stop that isn't the last is left by a move
+before-end : (from end : ℕ) (moves : List Move) (i v : ℕ) → stop_at from moves (length moves) ≡ end
+    → i ≤ length moves → stop_at from moves i ≡ v → v ≢ end → i < length moves
+before-end from end moves i v ends low is_stop other = at_last (cases_eq i (length moves))
   where
-    at_exit : Arrival setting marks known v last (more_hops + above setting marks (number + i))
-        (weight_from moves i + more_way) ⊎ ((marks v ≡ trail_mark moves v Empty) × (i < length moves))
-        → Arrival setting marks known v last (more_hops + above setting marks (number + i))
-        (weight_from moves i + more_way)
-    at_exit (inl there) = there
-    at_exit (inr goes) = absurd (omega (arith, goes.1))
-leads setting marks from number last moves most more_hops more_way linked all exits
-    (suc fuel) i v known enough low inside is_stop knows =
-    at_exit (exits i v known low inside is_stop knows)
-    (λ j w k h1 h2 h3 h4 h5. leads setting marks from number last moves most more_hops more_way linked all exits
-    fuel j w k h1 h2 h3 h4 h5)
-  where
-    Goal : Type 0
-    Goal = Arrival setting marks known v last (more_hops + above setting marks (number + i))
-        (weight_from moves i + more_way)
+    at_last : (i ≡ length moves) ⊎ (i ≢ length moves) → i < length moves
+    at_last (inl e) = absurd (other (sym is_stop ∙ (ap (stop_at from moves) e ∙ ends)))
+    at_last (inr before) = omega (arith, low, before)
 
-    at_exit : Arrival setting marks known v last (more_hops + above setting marks (number + i))
-        (weight_from moves i + more_way) ⊎ ((marks v ≡ trail_mark moves v Empty) × (i < length moves))
-        → ((j w : ℕ) (k : Option ℕ) → length moves ≤ fuel + j → j ≤ length moves → w < setting.nodes
-        → stop_at from moves j ≡ w → KnowsAtMost most k
-        → Arrival setting marks k w last (more_hops + above setting marks (number + j))
-        (weight_from moves j + more_way)) → Goal
-    at_exit (inl there) more = there
-    at_exit (inr goes) more = at_left (last-left setting from number moves v Empty linked)
-      where
-        at_left : ((trail_mark moves v Empty ≡ Empty) × ((j : ℕ) → j < length moves → stop_at from moves j ≡ v → ⊥))
-            ⊎ IsLeft setting from number moves v (trail_mark moves v Empty) → Goal
-        at_left (inl none) = absurd (none.1 i goes.1 is_stop)
-        at_left (inr left) =
-            longer setting marks known v last (suc (more_hops + above setting marks (number + suc left.place)))
-            (more_hops + above setting marks (number + i))
-            (setting.distance v left.move.to + (weight_from moves (suc left.place) + more_way))
-            (weight_from moves i + more_way)
-            (omega (arith, rises))
-            (λ metric. omega (
-              arith,
-              weight-step moves left.place left.move left.is_move,
-              left.its_weight,
-              weight-mono moves i left.place late,
-            ))
-            (hopped setting marks known v left.move.to last
-            (more_hops + above setting marks (number + suc left.place))
-            (weight_from moves (suc left.place) + more_way) (ap (lead known) gone)
-            (subst (λ m. Arrival setting marks (known_after known m) left.move.to last
-            (more_hops + above setting marks (number + suc left.place))
-            (weight_from moves (suc left.place) + more_way)) (sym gone)
-            (more (suc left.place) left.move.to (known_with left.move.number known) (omega (arith, enough, late))
-            (omega (arith, left.within)) left.inside left.goes_on
-            (knows-with most left.move.number known knows (omega (arith, left.its_number, left.within, all))))))
-          where
-            late : i ≤ left.place
-            late = left.last i goes.1 is_stop
+module _ (setting : Setting) (marks : ℕ → PresenceMark) where
+  pub arrived : (known : Option ℕ) (node last most_hops most_way : ℕ) → node ≡ last
+      → answers known (marks node) ≡ true → Arrival setting marks known node last most_hops most_way
+  unfolding IsLed
+  arrived known node last most_hops most_way same answered = record
+      { hops = 0; way = 0; led = (same, answered, refl); few = omega arith; short = λ metric. omega arith }
 
-            gone : marks v ≡ Gone left.move.number left.move.to
-            gone = goes.0 ∙ left.mark_is
+  -- one hop more
+  hopped : (known : Option ℕ) (node to last most_hops most_way : ℕ) → lead known (marks node) ≡ Some to
+      → Arrival setting marks (known_after known (marks node)) to last most_hops most_way
+      → Arrival setting marks known node last (suc most_hops) (setting.distance node to + most_way)
+  unfolding IsLed
+  hopped known node to last most_hops most_way leads more = record {
+    hops = suc more.hops;
+    way = setting.distance node to + more.way;
+    led = (to, more.way, leads, refl, more.led);
+    few = omega (arith, more.few);
+    short = λ metric. omega (arith, more.short metric);
+  }
 
-            rises : above setting marks (number + suc left.place) < above setting marks (number + i)
-            rises = above-less setting marks v (number + suc left.place) (number + i) left.move.to inside
-                (gone ∙ ap (λ n. Gone n left.move.to) (left.its_number
-                ∙ (let e : suc (number + left.place) ≡ number + suc left.place = omega arith in e)))
-                (omega (arith, late))
+  pub longer : (known : Option ℕ) (node last few few_more short short_more : ℕ) → few ≤ few_more
+      → (HasMetric setting → short ≤ short_more) → Arrival setting marks known node last few short
+      → Arrival setting marks known node last few_more short_more
+  longer known node last few few_more short short_more h g a = record {
+    hops = a.hops;
+    way = a.way;
+    led = a.led;
+    few = omega (arith, a.few, h);
+    short = λ metric. omega (arith, a.short metric, g metric);
+  }
 
-stop-last : (from : ℕ) (moves : List Move) (i : ℕ) → i ≤ length moves → (i < length moves) ⊎ (i ≡ length moves)
-stop-last from moves i h = grind (arith, nat_tests)
+  -- from a stop of a trail the marks lead to the end, in no more hops than nodes hold a later Gone, and so many more
+  abbrev pub Arrives : ℕ → ℕ → List Move → ℕ → ℕ → ℕ → ℕ → Option ℕ → Type 0
+  Arrives number last moves more_hops more_way i v known =
+      Arrival setting marks known v last (more_hops + above setting marks (number + i)) (weight_from moves i + more_way)
 
--- at rest: the end of the trail is an exit
-pub rest-exits : (setting : Setting) (marks : ℕ → PresenceMark) (from number last : ℕ) (moves : List Move) (most : ℕ)
-    → stop_at from moves (length moves) ≡ last
-    → ((known : Option ℕ) → answers known (marks last) ≡ true)
-    → ((v : ℕ) → v < setting.nodes → v ≢ last → marks v ≡ trail_mark moves v Empty)
-    → Exits setting marks from number last moves most 0 0
-unfolding Exits
-rest-exits setting marks from number last moves most ends answered others i v known low inside is_stop knows = at_last
-    (cases_eq v last)
-  where
-    at_last : (v ≡ last) ⊎ (v ≢ last) → Arrival setting marks known v last (0 + above setting marks (number + i))
-        (weight_from moves i + 0) ⊎ ((marks v ≡ trail_mark moves v Empty) × (i < length moves))
-    at_last (inl same) = inl (arrived setting marks known v last _ _ same
-        (subst (λ x. answers known (marks x) ≡ true) (sym same) (answered known)))
-    at_last (inr other) = at_end (stop-last from moves i low)
-      where
-        at_end : (i < length moves) ⊎ (i ≡ length moves)
-            → Arrival setting marks known v last (0 + above setting marks (number + i)) (weight_from moves i + 0)
-            ⊎ ((marks v ≡ trail_mark moves v Empty) × (i < length moves))
-        at_end (inl l) = inr (others v inside other, l)
-        at_end (inr e) = absurd (other (sym is_stop ∙ (ap (stop_at from moves) e ∙ ends)))
+  -- where a trail is left: a stop is one of its exits, from where the marks lead to the end, or its mark is that of the
+  -- trail
+  pub Exits : ℕ → ℕ → ℕ → List Move → ℕ → ℕ → ℕ → Type 0
+  Exits from number last moves most more_hops more_way =
+      (i v : ℕ) (known : Option ℕ) → i ≤ length moves → v < setting.nodes → stop_at from moves i ≡ v
+      → KnowsAtMost most known
+      → Arrives number last moves more_hops more_way i v known
+      ⊎ ((marks v ≡ trail_mark moves v Empty) × (i < length moves))
 
--- a Coming that isn't known to be committed leads back
-pub back-leads : (setting : Setting) (marks : ℕ → PresenceMark) (last most p to : ℕ) (known : Option ℕ) → most < p
-    → KnowsAtMost most known → marks to ≡ Coming p last → ((k : Option ℕ) → answers k (marks last) ≡ true)
-    → Arrival setting marks known to last 1 (setting.distance to last + 0)
-back-leads setting marks last most p to known above_most knows comes answered =
-    hopped setting marks known to last last 0 0 (ap (lead known) comes
-    ∙ ap (λ b. cond b None (Some last)) (knows-less most p known knows above_most))
-    (arrived setting marks (known_after known (marks to)) last last 0 0 refl
-    (answered (known_after known (marks to))))
+  -- along the trail the numbers rise until an exit
+  pub leads : (from number last : ℕ) (moves : List Move) (most more_hops more_way : ℕ)
+      → AreLinked setting from number moves → number + length moves ≤ most
+      → Exits from number last moves most more_hops more_way → (fuel i v : ℕ) (known : Option ℕ)
+      → length moves ≤ fuel + i → i ≤ length moves → v < setting.nodes → stop_at from moves i ≡ v
+      → KnowsAtMost most known → Arrives number last moves more_hops more_way i v known
+  unfolding Exits
+  leads from number last moves most more_hops more_way linked all exits zero i v known enough low inside is_stop knows =
+      elim (exits i v known low inside is_stop knows) [
+        | inl there ↦ there
+        | inr goes ↦ absurd (omega (arith, goes.1))
+      ]
+  leads from number last moves most more_hops more_way linked all exits (suc fuel) i v known enough low inside is_stop
+      knows =
+      at_exit (exits i v known low inside is_stop knows)
+      (λ j w k h1 h2 h3 h4 h5. leads from number last moves most more_hops more_way linked all exits fuel j w k h1 h2 h3
+      h4 h5)
+    where
+      Goal : Type 0
+      Goal = Arrives number last moves more_hops more_way i v known
 
--- before the commit of a move: the node that is come to leads back to where the subscriber stands, no farther than the
--- trail does
-pub coming-exits : (setting : Setting) (marks : ℕ → PresenceMark) (from number last : ℕ) (moves : List Move)
-    (most p to : ℕ) → AreLinked setting from number moves → from < setting.nodes
-    → stop_at from moves (length moves) ≡ last → most < p
-    → marks to ≡ Coming p last → ((known : Option ℕ) → answers known (marks last) ≡ true)
-    → ((v : ℕ) → v < setting.nodes → v ≢ last → v ≢ to → marks v ≡ trail_mark moves v Empty)
-    → Exits setting marks from number last moves most 1 0
-unfolding Exits
-coming-exits setting marks from number last moves most p to linked begins ends above_most comes answered others i v
-    known low inside is_stop knows = at_last (cases_eq v last) (cases_eq v to)
-  where
-    Goal : Type 0
-    Goal = Arrival setting marks known v last (1 + above setting marks (number + i)) (weight_from moves i + 0)
-        ⊎ ((marks v ≡ trail_mark moves v Empty) × (i < length moves))
+      at_exit : Arrives number last moves more_hops more_way i v known
+          ⊎ ((marks v ≡ trail_mark moves v Empty) × (i < length moves))
+          → ((j w : ℕ) (k : Option ℕ) → length moves ≤ fuel + j → j ≤ length moves → w < setting.nodes
+          → stop_at from moves j ≡ w → KnowsAtMost most k → Arrives number last moves more_hops more_way j w k) → Goal
+      at_exit (inl there) more = there
+      at_exit (inr goes) more = at_left (last-left setting from number moves v Empty linked)
+        where
+          at_left : LeavesMark setting from number moves v Empty → Goal
+          at_left (inl none) = absurd (none.1 i goes.1 is_stop)
+          at_left (inr left) =
+              longer known v last (suc (more_hops + above setting marks (number + suc left.place)))
+              (more_hops + above setting marks (number + i))
+              (setting.distance v left.move.to + (weight_from moves (suc left.place) + more_way))
+              (weight_from moves i + more_way)
+              (omega (arith, rises))
+              (λ metric. omega (
+                arith,
+                weight-step moves left.place left.move left.is_move,
+                left.its_weight,
+                weight-mono moves i left.place late,
+              ))
+              (hopped known v left.move.to last _ _ (ap (lead known) gone)
+              (subst (λ m. Arrival setting marks (known_after known m) left.move.to last
+              (more_hops + above setting marks (number + suc left.place))
+              (weight_from moves (suc left.place) + more_way)) (sym gone)
+              (more (suc left.place) left.move.to (known_with left.move.number known) (omega (arith, enough, late))
+              (omega (arith, left.within)) left.inside left.goes_on
+              (knows-with most left.move.number known knows (omega (arith, left.its_number, left.within, all))))))
+            where
+              late : i ≤ left.place
+              late = left.last i goes.1 is_stop
 
-    at_last : (v ≡ last) ⊎ (v ≢ last) → (v ≡ to) ⊎ (v ≢ to) → Goal
-    at_last (inl same) t = inl (arrived setting marks known v last _ _ same
-        (subst (λ x. answers known (marks x) ≡ true) (sym same) (answered known)))
-    at_last (inr other) (inl at_to) =
-        inl (longer setting marks known v last 1 (1 + above setting marks (number + i)) (setting.distance v last + 0)
-        (weight_from moves i + 0) (omega arith)
-        (λ metric. omega (arith, way metric))
-        (subst (λ x. Arrival setting marks known x last 1 (setting.distance x last + 0)) (sym at_to)
-        (back-leads setting marks last most p to known above_most knows comes answered)))
-      where
-        way : HasMetric setting → setting.distance v last ≤ weight_from moves i
-        way metric = subst (λ x. setting.distance x last ≤ weight_from moves i) is_stop
-            (subst (λ x. setting.distance (stop_at from moves i) x ≤ weight_from moves i) ends
-            (way-short setting from number moves i linked begins metric low))
-    at_last (inr other) (inr off_to) = at_end (stop-last from moves i low)
-      where
-        at_end : (i < length moves) ⊎ (i ≡ length moves) → Goal
-        at_end (inl l) = inr (others v inside other off_to, l)
-        at_end (inr e) = absurd (other (sym is_stop ∙ (ap (stop_at from moves) e ∙ ends)))
+              gone : marks v ≡ Gone left.move.number left.move.to
+              gone = goes.0 ∙ left.mark_is
 
--- between commit and confirm: from the node that was left one hop leads on, and a Coming that isn't known leads there
--- and back
-pub left-leads : (setting : Setting) (marks : ℕ → PresenceMark) (left p to : ℕ) (known : Option ℕ)
-    → marks left ≡ Gone p to → marks to ≡ Coming p left
-    → Arrival setting marks known left to 1 (setting.distance left to + 0)
-left-leads setting marks left p to known gone comes =
-    hopped setting marks known left to to 0 0 (ap (lead known) gone)
-    (subst (λ m. Arrival setting marks (known_after known m) to to 0 0) (sym gone)
-    (arrived setting marks (known_with p known) to to 0 0 refl
-    (ap (answers (known_with p known)) comes ∙ knows-it p known)))
+              rises : above setting marks (number + suc left.place) < above setting marks (number + i)
+              rises = above-less setting marks v (number + suc left.place) (number + i) left.move.to inside
+                  (gone ∙ ap (λ n. Gone n left.move.to) (left.its_number
+                  ∙ (let e : suc (number + left.place) ≡ number + suc left.place = omega arith in e)))
+                  (omega (arith, late))
 
-pub passing-leads : (setting : Setting) (marks : ℕ → PresenceMark) (left p to : ℕ) (known : Option ℕ)
-    → marks left ≡ Gone p to → marks to ≡ Coming p left
-    → Arrival setting marks known to to 2 (setting.distance to left + (setting.distance left to + 0))
-passing-leads setting marks left p to known gone comes = at_known (is_known p known) refl
-  where
-    at_known : (b : Bool) → is_known p known ≡ b → Arrival setting marks known to to 2
-        (setting.distance to left + (setting.distance left to + 0))
-    at_known true e = arrived setting marks known to to 2 _ refl (ap (answers known) comes ∙ e)
-    at_known false e =
-        hopped setting marks known to left to 1 (setting.distance left to + 0)
-        (ap (lead known) comes ∙ ap (λ b. cond b None (Some left)) e)
-        (left-leads setting marks left p to (known_after known (marks to)) gone comes)
+  -- at rest: the end of the trail is an exit
+  pub rest-exits : (from number last : ℕ) (moves : List Move) (most : ℕ) → stop_at from moves (length moves) ≡ last
+      → ((known : Option ℕ) → answers known (marks last) ≡ true)
+      → ((v : ℕ) → v < setting.nodes → v ≢ last → marks v ≡ trail_mark moves v Empty)
+      → Exits from number last moves most 0 0
+  unfolding Exits
+  rest-exits from number last moves most ends answered others i v known low inside is_stop knows =
+      elim (cases_eq v last) [
+        | inl same ↦ inl (arrived known v last _ _ same
+            (subst (λ x. answers known (marks x) ≡ true) (sym same) (answered known)))
+        | inr other ↦ inr (others v inside other, before-end from last moves i v ends low is_stop other)
+      ]
 
-pub passing-exits : (setting : Setting) (marks : ℕ → PresenceMark) (from number left : ℕ) (moves : List Move)
-    (most p to : ℕ) → stop_at from moves (length moves) ≡ left → number + length moves < p → left < setting.nodes
-    → to < setting.nodes
-    → marks left ≡ Gone p to → marks to ≡ Coming p left
-    → ((v : ℕ) → v < setting.nodes → v ≢ left → v ≢ to → marks v ≡ trail_mark moves v Empty)
-    → Exits setting marks from number to moves most 1 (2 * setting.distance left to)
-unfolding Exits
-passing-exits setting marks from number left moves most p to ends above_all left_inside to_inside gone comes others i
-    v known low inside is_stop knows = at_last (cases_eq v to) (cases_eq v left)
-  where
-    Goal : Type 0
-    Goal = Arrival setting marks known v to (1 + above setting marks (number + i))
-        (weight_from moves i + 2 * setting.distance left to)
-        ⊎ ((marks v ≡ trail_mark moves v Empty) × (i < length moves))
+  -- a Coming that isn't known to be committed leads back
+  pub back-leads : (last most p to : ℕ) (known : Option ℕ) → most < p → KnowsAtMost most known
+      → marks to ≡ Coming p last
+      → ((k : Option ℕ) → answers k (marks last) ≡ true)
+      → Arrival setting marks known to last 1 (setting.distance to last + 0)
+  back-leads last most p to known above_most knows comes answered =
+      hopped known to last last 0 0 (ap (lead known) comes
+      ∙ ap (λ b. cond b None (Some last)) (knows-less most p known knows above_most))
+      (arrived (known_after known (marks to)) last last 0 0 refl (answered (known_after known (marks to))))
 
-    counted : above setting marks p < above setting marks (number + i)
-    counted = above-less setting marks left p (number + i) to left_inside gone (omega (arith, above_all, low))
+  -- before the commit of a move: the node that is come to leads back to where the subscriber stands, no farther than
+  -- the trail does
+  pub coming-exits : (from number last : ℕ) (moves : List Move) (most p to : ℕ) → AreLinked setting from number moves
+      → from < setting.nodes → stop_at from moves (length moves) ≡ last → most < p → marks to ≡ Coming p last
+      → ((known : Option ℕ) → answers known (marks last) ≡ true)
+      → ((v : ℕ) → v < setting.nodes → v ≢ last → v ≢ to → marks v ≡ trail_mark moves v Empty)
+      → Exits from number last moves most 1 0
+  unfolding Exits
+  coming-exits from number last moves most p to linked begins ends above_most comes answered others i v known low inside
+      is_stop knows = at_last (cases_eq v last) (cases_eq v to)
+    where
+      at_last : (v ≡ last) ⊎ (v ≢ last) → (v ≡ to) ⊎ (v ≢ to) → Arrives number last moves 1 0 i v known
+          ⊎ ((marks v ≡ trail_mark moves v Empty) × (i < length moves))
+      at_last (inl same) t = inl (arrived known v last _ _ same
+          (subst (λ x. answers known (marks x) ≡ true) (sym same) (answered known)))
+      at_last (inr other) (inl at_to) =
+          inl (longer known v last 1 (1 + above setting marks (number + i)) (setting.distance v last + 0)
+          (weight_from moves i + 0) (omega arith) (λ metric. omega (arith, way metric))
+          (subst (λ x. Arrival setting marks known x last 1 (setting.distance x last + 0)) (sym at_to)
+          (back-leads last most p to known above_most knows comes answered)))
+        where
+          way : HasMetric setting → setting.distance v last ≤ weight_from moves i
+          way metric = subst (λ x. setting.distance x last ≤ weight_from moves i) is_stop
+              (subst (λ x. setting.distance (stop_at from moves i) x ≤ weight_from moves i) ends
+              (way-short setting from number moves i linked begins metric low))
+      at_last (inr other) (inr off_to) =
+          inr (others v inside other off_to, before-end from last moves i v ends low is_stop other)
 
-    at_last : (v ≡ to) ⊎ (v ≢ to) → (v ≡ left) ⊎ (v ≢ left) → Goal
-    at_last (inl at_to) l =
-        inl (subst (λ x. Arrival setting marks known x to (1 + above setting marks (number + i))
-        (weight_from moves i + 2 * setting.distance left to)) (sym at_to)
-        (longer setting marks known to to 2 (1 + above setting marks (number + i)) _
-        (weight_from moves i + 2 * setting.distance left to) (omega (arith, counted))
-        (λ metric. omega (arith, metric.both_ways to left to_inside left_inside))
-        (passing-leads setting marks left p to known gone comes)))
-    at_last (inr off_to) (inl at_left) =
-        inl (subst (λ x. Arrival setting marks known x to (1 + above setting marks (number + i))
-        (weight_from moves i + 2 * setting.distance left to)) (sym at_left)
-        (longer setting marks known left to 1 (1 + above setting marks (number + i)) _
-        (weight_from moves i + 2 * setting.distance left to) (omega arith)
-        (λ metric. omega arith) (left-leads setting marks left p to known gone comes)))
-    at_last (inr off_to) (inr off_left) = at_end (stop-last from moves i low)
-      where
-        at_end : (i < length moves) ⊎ (i ≡ length moves) → Goal
-        at_end (inl l) = inr (others v inside off_left off_to, l)
-        at_end (inr e) = absurd (off_left (sym is_stop ∙ (ap (stop_at from moves) e ∙ ends)))
+  -- between commit and confirm: from the node that was left one hop leads on, and a Coming that isn't known leads there
+  -- and back
+  pub left-leads : (left p to : ℕ) (known : Option ℕ) → marks left ≡ Gone p to → marks to ≡ Coming p left
+      → Arrival setting marks known left to 1 (setting.distance left to + 0)
+  left-leads left p to known gone comes =
+      hopped known left to to 0 0 (ap (lead known) gone)
+      (subst (λ m. Arrival setting marks (known_after known m) to to 0 0) (sym gone)
+      (arrived (known_with p known) to to 0 0 refl (ap (answers (known_with p known)) comes ∙ knows-it p known)))
+
+  pub passing-leads : (left p to : ℕ) (known : Option ℕ) → marks left ≡ Gone p to → marks to ≡ Coming p left
+      → Arrival setting marks known to to 2 (setting.distance to left + (setting.distance left to + 0))
+  passing-leads left p to known gone comes = at_known (is_known p known) refl
+    where
+      at_known : (b : Bool) → is_known p known ≡ b → Arrival setting marks known to to 2
+          (setting.distance to left + (setting.distance left to + 0))
+      at_known true e = arrived known to to 2 _ refl (ap (answers known) comes ∙ e)
+      at_known false e =
+          hopped known to left to 1 (setting.distance left to + 0)
+          (ap (lead known) comes ∙ ap (λ b. cond b None (Some left)) e)
+          (left-leads left p to (known_after known (marks to)) gone comes)
+
+  pub passing-exits : (from number left : ℕ) (moves : List Move) (most p to : ℕ)
+      → stop_at from moves (length moves) ≡ left → number + length moves < p → left < setting.nodes → to < setting.nodes
+      → marks left ≡ Gone p to → marks to ≡ Coming p left
+      → ((v : ℕ) → v < setting.nodes → v ≢ left → v ≢ to → marks v ≡ trail_mark moves v Empty)
+      → Exits from number to moves most 1 (2 * setting.distance left to)
+  unfolding Exits
+  passing-exits from number left moves most p to ends above_all left_inside to_inside gone comes others i v known low
+      inside is_stop knows = at_last (cases_eq v to) (cases_eq v left)
+    where
+      counted : above setting marks p < above setting marks (number + i)
+      counted = above-less setting marks left p (number + i) to left_inside gone (omega (arith, above_all, low))
+
+      at_exit : (x few way : ℕ) → v ≡ x → few ≤ 1 + above setting marks (number + i)
+          → (HasMetric setting → way ≤ weight_from moves i + 2 * setting.distance left to)
+          → Arrival setting marks known x to few way
+          → Arrives number to moves 1 (2 * setting.distance left to) i v known
+      at_exit x few way same less short there = subst (λ y. Arrives number to moves 1 (2 * setting.distance left to) i y
+          known) (sym same) (longer known x to few _ way _ less short there)
+
+      at_last : (v ≡ to) ⊎ (v ≢ to) → (v ≡ left) ⊎ (v ≢ left)
+          → Arrives number to moves 1 (2 * setting.distance left to) i v known
+          ⊎ ((marks v ≡ trail_mark moves v Empty) × (i < length moves))
+      at_last (inl at_to) l = inl (at_exit to 2 _ at_to (omega (arith, counted))
+          (λ metric. omega (arith, metric.both_ways to left to_inside left_inside))
+          (passing-leads left p to known gone comes))
+      at_last (inr off_to) (inl at_left) = inl (at_exit left 1 _ at_left (omega arith) (λ metric. omega arith)
+          (left-leads left p to known gone comes))
+      at_last (inr off_to) (inr off_left) =
+          inr (others v inside off_left off_to, before-end from left moves i v ends low is_stop off_left)

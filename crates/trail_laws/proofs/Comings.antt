@@ -1,5 +1,5 @@
 -- A Coming stands at one node, and leads to where the subscriber stands.
-use Rattle.std.proofs.Common.{◌≡◌, ◌⊎◌, inl, inr, ℕ, ◌+◌, ◌<◌, ◌≤◌, Bool, true, false, cond, ◌==◌, List, Option, length, refl, sym, ap, ◌∙◌, arith}
+use Rattle.std.proofs.Common.{◌≡◌, inl, inr, ℕ, ◌+◌, ◌<◌, ◌≤◌, Bool, true, false, cond, ◌==◌, List, Option, length, refl, sym, ap, ◌∙◌, arith}
 use Rattle.std.proofs.lemmas.Bool.{eqb-true}
 use Rattle.node_set.specs.Ascending.{has}
 use Rattle.entry_word.specs.declared.mark.PresenceMark.TheVariants.{Empty, Here, Gone, Coming, Off}
@@ -9,7 +9,7 @@ use Rattle.trail_laws.proofs.Links.{IsSound}
 use Rattle.trail_laws.proofs.ClosedMarks.{mark_coming, mark_erasing, mark_passing, rest_mark, since_top, there, trail_mark}
 use Rattle.trail_laws.proofs.ClosedViews.{clearing, coming, passage, Phase, phase_commits, phase_mark, Shown, View}
 use Rattle.trail_laws.proofs.Chases.{Arrival, arrived, left-leads, longer}
-use Rattle.trail_laws.proofs.LinkedStops.{IsLeft, last-left, stop_at}
+use Rattle.trail_laws.proofs.LinkedStops.{last-left, LeavesMark}
 use Rattle.trail_laws.proofs.Tells.{next-stands, rest-stands, stands}
 use Rattle.trail_laws.proofs.Leads.{coming-there, first_of, low_of, passing-at_to, passing-gone, trail-linked}
 
@@ -19,11 +19,8 @@ trail-not_coming setting course v p u sound h = at_left
     (last-left setting (first_of setting course) (low_of setting course) (since_top setting course) v Empty
     (trail-linked setting course sound))
   where
-    at_left : ((trail_mark (since_top setting course) v Empty ≡ Empty)
-        × ((i : ℕ) → i < length (since_top setting course)
-        → stop_at (first_of setting course) (since_top setting course) i ≡ v → ⊥))
-        ⊎ IsLeft setting (first_of setting course) (low_of setting course) (since_top setting course) v
-        (trail_mark (since_top setting course) v Empty) → ⊥
+    at_left : LeavesMark setting (first_of setting course) (low_of setting course) (since_top setting course) v Empty
+        → ⊥
     at_left (inl none) = let clash : Empty ≡ Coming p u = sym none.0 ∙ h in cc
     at_left (inr left) = let clash : Gone left.move.number left.move.to ≡ Coming p u = sym left.mark_is ∙ h in cc
 

@@ -277,12 +277,17 @@ with-stops setting course move i sound =
           base-low setting course setting.top sound,
         )))
 
+-- the last of these moves ends at its new node
+pub with-end : (setting : Setting) (course : Course) (move : Move)
+    → stop_at (first_of setting course) (since_top setting course ++ move ∷ [])
+    (length (since_top setting course ++ move ∷ [])) ≡ move.to
+with-end setting course move =
+    stop-end (first_of setting course) (since_top setting course ++ move ∷ [])
+    ∙ fold-append (λ node (m : Move). m.to) (first_of setting course) (since_top setting course) (move ∷ [])
+
 module _ (setting : Setting) (course : Course) (move : Move) (marks : ℕ → PresenceMark)
     (sound : IsSound setting course) (next : IsNext setting course move)
     (marks_are : (v : ℕ) → v < setting.nodes → marks v ≡ mark_erasing setting course move [] v) where
-  moves : List Move
-  moves = since_top setting course ++ move ∷ []
-
   pub clearing-here : marks move.to ≡ Here move.number
   clearing-here = marks_are move.to next.inside ∙ ap (λ b. cond b (Here move.number)
       (mark_passing setting course move move.to)) (eq-eqb move.to move.to refl)
@@ -319,7 +324,7 @@ module _ (setting : Setting) (course : Course) (move : Move) (marks : ℕ → Pr
       (since_top setting course ++ move ∷ []) (suc (length course.moves)) 0 0
       (with-linked setting course move sound next) (omega (arith, counted, trail-count setting course sound))
       (rest-exits setting marks (first_of setting course) (low_of setting course) move.to
-      (since_top setting course ++ move ∷ []) (suc (length course.moves)) ends
+      (since_top setting course ++ move ∷ []) (suc (length course.moves)) (with-end setting course move)
       (λ k. ap (answers k) clearing-here) others)
       (suc (length (since_top setting course))) (q - low_of setting course) v known (omega (arith, counted))
       (omega (arith, counted, trail-count setting course sound, to_end, from_low)) inside is_place knows))
@@ -340,8 +345,3 @@ module _ (setting : Setting) (course : Course) (move : Move) (marks : ℕ → Pr
       weights = ap (λ ms. weight_from ms (q - low_of setting course)) (with-trail setting course move sound)
           ∙ ap (sum_by (λ (m : Move). m.weight)) (drop-more (low_of setting course) (q - low_of setting course)
           (course.moves ++ move ∷ []) ∙ ap (λ n. drop n (course.moves ++ move ∷ [])) placed)
-
-      ends : stop_at (first_of setting course) (since_top setting course ++ move ∷ [])
-          (length (since_top setting course ++ move ∷ [])) ≡ move.to
-      ends = stop-end (first_of setting course) (since_top setting course ++ move ∷ [])
-          ∙ fold-append (λ n (m : Move). m.to) (first_of setting course) (since_top setting course) (move ∷ [])

@@ -55,21 +55,28 @@ pub record IsLeft (setting : Setting) (from number : ℕ) (moves : List Move) (v
   pub goes_on : stop_at from moves (suc place) ≡ move.to
   pub last : (i : ℕ) → i < length moves → stop_at from moves i ≡ v → i ≤ place
 
-pub last-left : (setting : Setting) (from number : ℕ) (moves : List Move) (v : ℕ) (mark : PresenceMark)
-    → AreLinked setting from number moves
-    → ((trail_mark moves v mark ≡ mark) × ((i : ℕ) → i < length moves → stop_at from moves i ≡ v → ⊥))
+-- no move left the node, whose mark is the one before them, or one was the last to leave it
+abbrev pub LeavesMark : Setting → ℕ → ℕ → List Move → ℕ → PresenceMark → Type 0
+LeavesMark setting from number moves v mark =
+    ((trail_mark moves v mark ≡ mark) × ((i : ℕ) → i < length moves → stop_at from moves i ≡ v → ⊥))
     ⊎ IsLeft setting from number moves v (trail_mark moves v mark)
+
+pub last-left : (setting : Setting) (from number : ℕ) (moves : List Move) (v : ℕ) (mark : PresenceMark)
+    → AreLinked setting from number moves → LeavesMark setting from number moves v mark
 unfolding AreLinked trail_mark
 last-left setting from number [] v mark linked = inl (refl, λ i low same. omega arith)
 last-left setting from number (m ∷ later) v mark (f0, f1, f2, f3, f4, f5, f6, f7) =
-    at_test (v == m.from) refl (λ x. last-left setting m.to (suc number) later v x f7)
+    at_test (v == m.from) refl (last-left setting m.to (suc number) later v (its_mark (v == m.from)) f7)
   where
     its_mark : Bool → PresenceMark
     its_mark b = cond b (Gone m.number m.to) mark
 
-    moved : IsLeft setting m.to (suc number) later v (trail_mark later v (its_mark (v == m.from)))
-        → IsLeft setting from number (m ∷ later) v (trail_mark later v (its_mark (v == m.from)))
-    moved h = record {
+    at_test : (b : Bool) → (v == m.from) ≡ b
+        → LeavesMark setting m.to (suc number) later v (its_mark (v == m.from))
+        → ((trail_mark later v (its_mark (v == m.from)) ≡ mark)
+        × ((i : ℕ) → i < length (m ∷ later) → stop_at from (m ∷ later) i ≡ v → ⊥))
+        ⊎ IsLeft setting from number (m ∷ later) v (trail_mark later v (its_mark (v == m.from)))
+    at_test b e (inr h) = inr (record {
       place = suc h.place;
       move = h.move;
       is_move = h.is_move;
@@ -81,60 +88,34 @@ last-left setting from number (m ∷ later) v mark (f0, f1, f2, f3, f4, f5, f6, 
       inside = h.inside;
       mark_is = h.mark_is;
       goes_on = h.goes_on;
-      last = λ i low same. at_first i low same;
-    }
+      last = at_first;
+    })
       where
         at_first : (i : ℕ) → i < length (m ∷ later) → stop_at from (m ∷ later) i ≡ v → i ≤ suc h.place
         at_first zero low same = omega arith
         at_first (suc i) low same = omega (arith, h.last i (omega arith) same)
-
-    at_test : (b : Bool) → (v == m.from) ≡ b
-        → ((x : PresenceMark) → ((trail_mark later v x ≡ x)
-        × ((i : ℕ) → i < length later → stop_at m.to later i ≡ v → ⊥))
-        ⊎ IsLeft setting m.to (suc number) later v (trail_mark later v x))
-        → ((trail_mark later v (its_mark (v == m.from)) ≡ mark)
-        × ((i : ℕ) → i < length (m ∷ later) → stop_at from (m ∷ later) i ≡ v → ⊥))
-        ⊎ IsLeft setting from number (m ∷ later) v (trail_mark later v (its_mark (v == m.from)))
-    at_test true e more = at_more (more (its_mark (v == m.from)))
+    at_test true e (inl h) = inr (record {
+      place = 0;
+      move = m;
+      is_move = refl;
+      within = omega arith;
+      its_number = f0 ∙ (let n : suc number ≡ suc (number + 0) = omega arith in n);
+      its_from = sym (eqb-true v m.from e);
+      its_weight = f6 ∙ ap (λ x. setting.distance x m.to) (sym (eqb-true v m.from e));
+      inside = f3;
+      mark_is = h.0 ∙ ap its_mark e;
+      goes_on = refl;
+      last = at_first;
+    })
       where
-        at_more : ((trail_mark later v (its_mark (v == m.from)) ≡ its_mark (v == m.from))
-            × ((i : ℕ) → i < length later → stop_at m.to later i ≡ v → ⊥))
-            ⊎ IsLeft setting m.to (suc number) later v (trail_mark later v (its_mark (v == m.from)))
-            → ((trail_mark later v (its_mark (v == m.from)) ≡ mark)
-            × ((i : ℕ) → i < length (m ∷ later) → stop_at from (m ∷ later) i ≡ v → ⊥))
-            ⊎ IsLeft setting from number (m ∷ later) v (trail_mark later v (its_mark (v == m.from)))
-        at_more (inr h) = inr (moved h)
-        at_more (inl h) = inr (record {
-          place = 0;
-          move = m;
-          is_move = refl;
-          within = omega arith;
-          its_number = f0 ∙ (let n : suc number ≡ suc (number + 0) = omega arith in n);
-          its_from = sym (eqb-true v m.from e);
-          its_weight = f6 ∙ ap (λ x. setting.distance x m.to) (sym (eqb-true v m.from e));
-          inside = f3;
-          mark_is = h.0 ∙ ap its_mark e;
-          goes_on = refl;
-          last = at_first;
-        })
-          where
-            at_first : (i : ℕ) → i < length (m ∷ later) → stop_at from (m ∷ later) i ≡ v → i ≤ 0
-            at_first zero low same = omega arith
-            at_first (suc i) low same = absurd (h.1 i (omega arith) same)
-    at_test false e more = at_more (more (its_mark (v == m.from)))
+        at_first : (i : ℕ) → i < length (m ∷ later) → stop_at from (m ∷ later) i ≡ v → i ≤ 0
+        at_first zero low same = omega arith
+        at_first (suc i) low same = absurd (h.1 i (omega arith) same)
+    at_test false e (inl h) = inl (h.0 ∙ ap its_mark e, at_first)
       where
-        at_more : ((trail_mark later v (its_mark (v == m.from)) ≡ its_mark (v == m.from))
-            × ((i : ℕ) → i < length later → stop_at m.to later i ≡ v → ⊥))
-            ⊎ IsLeft setting m.to (suc number) later v (trail_mark later v (its_mark (v == m.from)))
-            → ((trail_mark later v (its_mark (v == m.from)) ≡ mark)
-            × ((i : ℕ) → i < length (m ∷ later) → stop_at from (m ∷ later) i ≡ v → ⊥))
-            ⊎ IsLeft setting from number (m ∷ later) v (trail_mark later v (its_mark (v == m.from)))
-        at_more (inr h) = inr (moved h)
-        at_more (inl h) = inl (h.0 ∙ ap its_mark e, at_first)
-          where
-            at_first : (i : ℕ) → i < length (m ∷ later) → stop_at from (m ∷ later) i ≡ v → ⊥
-            at_first zero low same = let clash : (v == m.from) ≡ true = eq-eqb v m.from (sym same ∙ sym f1) in cc
-            at_first (suc i) low same = h.1 i (omega arith) same
+        at_first : (i : ℕ) → i < length (m ∷ later) → stop_at from (m ∷ later) i ≡ v → ⊥
+        at_first zero low same = let clash : (v == m.from) ≡ true = eq-eqb v m.from (sym same ∙ sym f1) in cc
+        at_first (suc i) low same = h.1 i (omega arith) same
 
 pub stops-inside : (setting : Setting) (from number : ℕ) (moves : List Move) (i : ℕ)
     → AreLinked setting from number moves → from < setting.nodes → i ≤ length moves

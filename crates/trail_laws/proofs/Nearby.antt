@@ -68,8 +68,8 @@ written-has setting course move written level = at_test
       rest-has setting course level,
     )
 
--- the home of a node has an address, and while no level has gathered its threshold the node is near where the subscriber
--- stands
+-- the home of a node has an address, and while no level has gathered its threshold the node is near where the
+-- subscriber stands
 abbrev pub HasNear : Setting → Shown → ℕ → Type 0
 HasNear setting shown level =
     (node : ℕ) × (address : Address) × (node < setting.nodes)

@@ -231,7 +231,8 @@ module _ (marks : MarksTell) (entries : EntriesTell) (fronts : FrontsAreLegal) (
       → fold (after_word setting call) pursuit (flat_map (words_at setting history) later) ≡ ended found
       → IsRight setting history call.sub found (last_of (t ∷ later))
   unfolding AreLooks
-  right-looks [] t key pursuit is_look good looks ends = right-through setting history call.sub actor t key found is_look
+  right-looks [] t key pursuit is_look good looks ends =
+      right-through setting history call.sub actor t key found is_look
       (subst (IsGood setting call.sub (before t history)) ends good)
   right-looks (u ∷ later) t key pursuit is_look good (first, (next, wanted, its_look, rest)) ends =
       subst (IsRight setting history call.sub found) (sym (last-more t u later))

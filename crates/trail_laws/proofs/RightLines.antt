@@ -14,7 +14,7 @@ use Rattle.directory.specs.Statements.{LinesAreMade, OrdersAreDone, OrdersArePla
 use Rattle.directory.specs.declared.answers.Done.{Done}
 use Rattle.directory.specs.declared.answers.Done.TheVariants.{Moved, Switched, Found as FoundBy, Off as OffBy, Again as AgainBy}
 use Rattle.directory.specs.declared.answers.Found.{Found}
-use Rattle.directory.specs.declared.answers.Found.TheVariants.{At, Off as OffAt, Again}
+use Rattle.directory.specs.declared.answers.Found.TheVariants.{Again}
 use Rattle.trail_laws.specs.Rightness.{AgainHasItsCause, AnswersAreRight, HasNumber, NumbersNeverFall, ReadsTop}
 use Rattle.trail_laws.specs.RightOutcomes.{IsRightLine, NumbersRise, OutcomesAreRight, TellsNumber}
 
@@ -23,12 +23,10 @@ right_find : AnswersAreRight → AgainHasItsCause → (setting : Setting) (histo
     (call : FindCall) (found : Found) (seen : List ℕ) → setting.nodes ≤ 2 ^ 16 → ReadsTop setting
     → IsFindCall setting call → IsLegal setting call.sub history → IsFind setting history actor call found seen
     → IsRightLine setting history (found_line actor call found (first_of seen) (last_of seen))
-right_find right cause setting history actor call (At node n level weight) seen low reads is legal find =
-    right setting history actor call (At node n level weight) seen low is.inside legal find
-right_find right cause setting history actor call (OffAt node n level weight) seen low reads is legal find =
-    right setting history actor call (OffAt node n level weight) seen low is.inside legal find
 right_find right cause setting history actor call (Again why weight) seen low reads is legal find =
     cause setting history actor call why weight seen low reads is.inside legal find
+right_find right cause setting history actor call found seen low reads is legal find =
+    right setting history actor call found seen low is.inside legal find
 
 -- so the line of a find is
 right_line : AnswersAreRight → AgainHasItsCause → (setting : Setting) (scripts : Scripts) (history : History)
@@ -88,34 +86,21 @@ told_by : (setting : Setting) (history : History) (actor from : ℕ) (found : Fo
     → IsFind setting history actor (record { from = from; sub = sub }) found seen
     → line ≡ found_line actor (record { from = from; sub = sub }) found (first_of seen) (last_of seen)
     → TellsNumber line s p ticket → Numbered setting history s p ticket
-told_by setting history actor from (At node n level weight) seen line sub s p ticket is find tells told =
-    let told_there : (sub ≡ s) × (n ≡ p) × (last_of seen ≡ ticket) =
-    subst (λ (l : Done). TellsNumber l s p ticket) tells told in
-    subst (λ (x : ℕ). Numbered setting history x p ticket) told_there.0 (record {
-      actor = actor;
-      from = from;
-      found = At node n level weight;
-      seen = seen;
-      is = is;
-      find = find;
-      number = told_there.1;
-      last = told_there.2;
-    })
-told_by setting history actor from (OffAt node n level weight) seen line sub s p ticket is find tells told =
-    let told_there : (sub ≡ s) × (n ≡ p) × (last_of seen ≡ ticket) =
-    subst (λ (l : Done). TellsNumber l s p ticket) tells told in
-    subst (λ (x : ℕ). Numbered setting history x p ticket) told_there.0 (record {
-      actor = actor;
-      from = from;
-      found = OffAt node n level weight;
-      seen = seen;
-      is = is;
-      find = find;
-      number = told_there.1;
-      last = told_there.2;
-    })
 told_by setting history actor from (Again why weight) seen line sub s p ticket is find tells told =
     absurd (subst (λ (l : Done). TellsNumber l s p ticket) tells told)
+told_by setting history actor from found seen line sub s p ticket is find tells told =
+    let told_there : (sub ≡ s) × HasNumber found p × (last_of seen ≡ ticket) =
+    subst (λ (l : Done). TellsNumber l s p ticket) tells told in
+    subst (λ (x : ℕ). Numbered setting history x p ticket) told_there.0 (record {
+      actor = actor;
+      from = from;
+      found = found;
+      seen = seen;
+      is = is;
+      find = find;
+      number = told_there.1;
+      last = told_there.2;
+    })
 
 numbered : (setting : Setting) (scripts : Scripts) (history : History) → AreValid setting scripts → (line : Done)
     (s p ticket : ℕ) → IsMade setting scripts history line → TellsNumber line s p ticket

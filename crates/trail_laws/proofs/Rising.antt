@@ -3,7 +3,6 @@ use Rattle.std.proofs.Common.{◌≡◌, ◌≢◌, ◌⊎◌, inl, inr, ℕ, �
 use Rattle.std.proofs.lemmas.Bool.{cases_eq, cases_lt}
 use Rattle.std.proofs.lemmas.List.{length-map}
 use Rattle.std.proofs.lemmas.Option.{slice_get_within}
-use Rattle.std.proofs.lemmas.List.Sums.{fold-append}
 use Rattle.node_set.specs.Ascending.{has}
 use Rattle.entry_word.specs.declared.mark.PresenceMark.{PresenceMark}
 use Rattle.entry_word.specs.declared.mark.PresenceMark.TheVariants.{Empty, Here, Gone, Coming, Off}
@@ -17,8 +16,8 @@ use Rattle.trail_laws.proofs.Links.{AreLinked, IsSound}
 use Rattle.trail_laws.proofs.ClosedMarks.{IsNext, mark_coming, mark_erasing, mark_passing, rest_mark, since_top, there, trail_mark, trail_mark-push}
 use Rattle.trail_laws.proofs.ClosedViews.{Phase, View, coming, passage, clearing, phase_commits, phase_mark, Shown}
 use Rattle.trail_laws.proofs.Views.{shown}
-use Rattle.trail_laws.proofs.LinkedStops.{IsLeft, last-left, stop_at}
-use Rattle.trail_laws.proofs.Leads.{first_of, low_of, stop-end, trail-count, trail-ends, trail-linked, trail-stops, with-linked, with-stops}
+use Rattle.trail_laws.proofs.LinkedStops.{last-left, LeavesMark, stop_at}
+use Rattle.trail_laws.proofs.Leads.{trail-count, trail-ends, trail-linked, trail-stops, with-end, with-linked, with-stops}
 use Rattle.trail_laws.proofs.Laws.{HistoryView, Laws, view}
 use Rattle.trail_laws.proofs.Stops.{stop_after, stop-listed, stops-told}
 
@@ -41,8 +40,7 @@ later : (setting : Setting) (marks : ℕ → PresenceMark) (from number : ℕ) (
 later setting marks from number moves is j w q x low few stops at_w =
     at_left (last-left setting from number moves w Empty is.linked)
   where
-    at_left : ((trail_mark moves w Empty ≡ Empty) × ((i : ℕ) → i < length moves → stop_at from moves i ≡ w → ⊥))
-        ⊎ IsLeft setting from number moves w (trail_mark moves w Empty) → j < q
+    at_left : LeavesMark setting from number moves w Empty → j < q
     at_left (inl none) = absurd (not-empty q x (trail_mark moves w Empty) none.0 (is.gone w q x low at_w))
     at_left (inr left) = at_place (cases_lt j number)
       where
@@ -128,14 +126,6 @@ clearing-gone setting course move purged v p w next h = at_purged (has v purged)
     at_purged false true g = cc
     at_purged false false g = passing-gone setting course move v p w next g
 
--- the last of these moves ends at its new node
-with-end : (setting : Setting) (course : Course) (move : Move)
-    → stop_at (first_of setting course) (since_top setting course ++ move ∷ [])
-    (length (since_top setting course ++ move ∷ [])) ≡ move.to
-with-end setting course move =
-    stop-end (first_of setting course) (since_top setting course ++ move ∷ [])
-    ∙ fold-append (λ node (m : Move). m.to) (first_of setting course) (since_top setting course) (move ∷ [])
-
 -- the trail of a view, which ends the commits
 record HasTrail (setting : Setting) (marks : ℕ → PresenceMark) (begin : ℕ) (commits : List Commit) : Type 0 where
   from : ℕ
@@ -145,32 +135,38 @@ record HasTrail (setting : Setting) (marks : ℕ → PresenceMark) (begin : ℕ)
   count : length commits ≡ number + length moves
   stops : (j : ℕ) → number ≤ j → stop_at from moves (j - number) ≡ stop_after begin commits j
 
+-- the moves from a number on, which end at this node, as all moves do
+trail-of : (setting : Setting) (marks : ℕ → PresenceMark) (from number start last begin : ℕ) (moves all : List Move)
+    (commits : List Commit) → AreLinked setting from number moves → stop_at from moves (length moves) ≡ last
+    → ((i : ℕ) → stop_at from moves i ≡ stop_at start all (number + i)) → number + length moves ≡ length all
+    → start ≡ begin → commits ≡ map commit_by all
+    → ((v p w : ℕ) → v < setting.nodes → marks v ≡ Gone p w → (trail_mark moves v Empty ≡ Gone p w) × (v ≢ last))
+    → HasTrail setting marks begin commits
+trail-of setting marks from number start last begin moves all commits linked ends stops count begins commits_are told =
+    record {
+      from = from;
+      number = number;
+      moves = moves;
+      is = record {
+        linked = linked;
+        gone = λ v p w low h. (told v p w low h).0;
+        ends = λ v p w low h same. (told v p w low h).1 (same ∙ ends);
+      };
+      count = omega (arith, ap length commits_are, length-map all commit_by, count);
+      stops = λ j h.
+          let placed : number + (j - number) ≡ j = omega (arith, h) in
+          stops (j - number) ∙ (ap (stop_at start all) placed
+          ∙ stops-told begin start commits all j begins commits_are);
+    }
+
 short-trail : (setting : Setting) (course : Course) (marks : ℕ → PresenceMark) (begin : ℕ) (commits : List Commit)
     → IsSound setting course → course.start ≡ begin → commits ≡ map commit_by course.moves
     → ((v p w : ℕ) → v < setting.nodes → marks v ≡ Gone p w
     → (trail_mark (since_top setting course) v Empty ≡ Gone p w) × (v ≢ last_stop course))
     → HasTrail setting marks begin commits
-short-trail setting course marks begin commits sound begins commits_are told = record {
-  from = first_of setting course;
-  number = low_of setting course;
-  moves = since_top setting course;
-  is = record {
-    linked = trail-linked setting course sound;
-    gone = λ v p w low h. (told v p w low h).0;
-    ends = λ v p w low h same. (told v p w low h).1 (same ∙ trail-ends setting course sound);
-  };
-  count = omega (
-    arith,
-    ap length commits_are,
-    length-map course.moves commit_by,
-    trail-count setting course sound,
-  );
-  stops = λ j h.
-      let placed : low_of setting course + (j - low_of setting course) ≡ j = omega (arith, h) in
-      trail-stops setting course (j - low_of setting course) sound
-      ∙ (ap (stop_at course.start course.moves) placed
-      ∙ stops-told begin course.start commits course.moves j begins commits_are);
-}
+short-trail setting course marks begin commits sound = trail-of setting marks _ _ course.start (last_stop course) begin _
+    course.moves commits (trail-linked setting course sound) (trail-ends setting course sound)
+    (λ i. trail-stops setting course i sound) (trail-count setting course sound)
 
 long-trail : (setting : Setting) (course : Course) (move : Move) (marks : ℕ → PresenceMark) (begin : ℕ)
     (commits : List Commit) → IsSound setting course → IsNext setting course move → course.start ≡ begin
@@ -178,29 +174,14 @@ long-trail : (setting : Setting) (course : Course) (move : Move) (marks : ℕ �
     → ((v p w : ℕ) → v < setting.nodes → marks v ≡ Gone p w
     → (trail_mark (since_top setting course ++ move ∷ []) v Empty ≡ Gone p w) × (v ≢ move.to))
     → HasTrail setting marks begin commits
-long-trail setting course move marks begin commits sound next begins commits_are told = record {
-  from = first_of setting course;
-  number = low_of setting course;
-  moves = since_top setting course ++ move ∷ [];
-  is = record {
-    linked = with-linked setting course move sound next;
-    gone = λ v p w low h. (told v p w low h).0;
-    ends = λ v p w low h same. (told v p w low h).1 (same ∙ with-end setting course move);
-  };
-  count = omega (
-    arith,
-    ap length commits_are,
-    length-map (course.moves ++ move ∷ []) commit_by,
-    length-append course.moves (move ∷ []),
-    length-append (since_top setting course) (move ∷ []),
-    trail-count setting course sound,
-  );
-  stops = λ j h.
-      let placed : low_of setting course + (j - low_of setting course) ≡ j = omega (arith, h) in
-      with-stops setting course move (j - low_of setting course) sound
-      ∙ (ap (stop_at course.start (course.moves ++ move ∷ [])) placed
-      ∙ stops-told begin course.start commits (course.moves ++ move ∷ []) j begins commits_are);
-}
+long-trail setting course move marks begin commits sound next = trail-of setting marks _ _ course.start move.to begin _
+    (course.moves ++ move ∷ []) commits (with-linked setting course move sound next) (with-end setting course move)
+    (λ i. with-stops setting course move i sound) (omega (
+      arith,
+      length-append course.moves (move ∷ []),
+      length-append (since_top setting course) (move ∷ []),
+      trail-count setting course sound,
+    ))
 
 has-trail : (setting : Setting) (shown : Shown) → View setting shown
     → HasTrail setting shown.marks shown.from shown.commits
@@ -212,7 +193,8 @@ has-trail setting shown (inr h) = at_phase h.phase h.marks_are h.commits_are
     at_phase : (phase : Phase)
         → ((v : ℕ) → v < setting.nodes → shown.marks v ≡ phase_mark setting h.course h.move phase v)
         → shown.commits ≡ phase_commits h.course h.move phase → HasTrail setting shown.marks shown.from shown.commits
-    at_phase (coming written) are c = short-trail setting h.course shown.marks shown.from shown.commits h.sound h.begins c
+    at_phase (coming written) are c =
+        short-trail setting h.course shown.marks shown.from shown.commits h.sound h.begins c
         (λ v p w low is. let rest = coming-gone setting h.course h.move v p w (sym (are v low) ∙ is) in
         (rest.0, rest.1))
     at_phase passage are c =

@@ -38,59 +38,44 @@ IsSure setting sub seen call Within (chases chase node) =
 IsSure setting sub seen call Within (ended found) = IsAnswered found × Within (found_weight found)
 
 -- ---- it stays
-address-alike : (setting : Setting) (sub : ℕ) (one other : History) (call : FindCall) (Within : ℕ → Type 0)
-    → IsAlike setting sub one other → (weight : ℕ) (reader : Reader) (address : Address)
-    → AffordsAddress setting sub one call Within weight reader address
-    → AffordsAddress setting sub other call Within weight reader address
-address-alike setting sub one other call Within alike weight reader address h known knows =
-    let led = h known (subst (λ n. KnowsAtMost n known) alike.count knows) in (
-      led.0,
-      led.1,
-      led.2,
-      subst (λ n. IsLed setting (mark_seen setting sub other) known address.node n led.0 led.1) (sym alike.stands)
-          (led-alike setting (mark_seen setting sub one) (mark_seen setting sub other) alike.marks known address.node
-          (standing setting sub one) led.0 led.1 led.3),
-      led.4,
-    )
+module _ (setting : Setting) (sub : ℕ) (one other : History) (call : FindCall) (Within : ℕ → Type 0)
+    (alike : IsAlike setting sub one other) where
+  led-on : (known : Option ℕ) (node hops way : ℕ)
+      → IsLed setting (mark_seen setting sub one) known node (standing setting sub one) hops way
+      → IsLed setting (mark_seen setting sub other) known node (standing setting sub other) hops way
+  led-on known node hops way led =
+      subst (λ n. IsLed setting (mark_seen setting sub other) known node n hops way) (sym alike.stands)
+      (led-alike setting (mark_seen setting sub one) (mark_seen setting sub other) alike.marks known node
+      (standing setting sub one) hops way led)
 
-entry-alike : (old new : Option Address) (on other_on : Type 0) (there other_there : Address → Type 0) → new ≡ old
-    → (on → other_on) → ((a : Address) → there a → other_there a) → EntryAsks old on there
-    → EntryAsks new other_on other_there
-entry-alike None None on other_on there other_there same f g h = f h
-entry-alike None (Some b) on other_on there other_there same f g h = cc
-entry-alike (Some a) None on other_on there other_there same f g h = cc
-entry-alike (Some a) (Some b) on other_on there other_there same f g h =
-    let is_one : a ≡ b = cc in subst (λ (x : Address). other_there x) is_one (g a h)
+  entry-alike : (old new : Option Address) (on other_on : Type 0) (there other_there : Address → Type 0) → new ≡ old
+      → (on → other_on) → ((a : Address) → there a → other_there a) → EntryAsks old on there
+      → EntryAsks new other_on other_there
+  entry-alike None None on other_on there other_there same f g h = f h
+  entry-alike (Some a) (Some b) on other_on there other_there same f g h =
+      let is_one : a ≡ b = cc in subst (λ (x : Address). other_there x) is_one (g a h)
+  entry-alike old new on other_on there other_there same f g h = cc
 
-affords-alike : (setting : Setting) (sub : ℕ) (one other : History) (call : FindCall) (Within : ℕ → Type 0)
-    → IsAlike setting sub one other → (weight : ℕ) (readers : List Reader)
-    → Affords setting sub one call Within weight readers → Affords setting sub other call Within weight readers
-unfolding Affords
-affords-alike setting sub one other call Within alike weight [] h = h
-affords-alike setting sub one other call Within alike weight (reader ∷ later) h =
-    entry-alike (entry_seen setting sub one reader.level reader.cluster)
-    (entry_seen setting sub other reader.level reader.cluster) _ _ _ _ (alike.entries reader.level reader.cluster)
-    (affords-alike setting sub one other call Within alike (weight + 2 * way_in setting call reader) later)
-    (λ a. address-alike setting sub one other call Within alike weight reader a) h
+  affords-alike : (weight : ℕ) (readers : List Reader)
+      → Affords setting sub one call Within weight readers → Affords setting sub other call Within weight readers
+  unfolding Affords
+  affords-alike weight [] h = h
+  affords-alike weight (reader ∷ later) h =
+      entry-alike (entry_seen setting sub one reader.level reader.cluster)
+      (entry_seen setting sub other reader.level reader.cluster) _ _ _ _ (alike.entries reader.level reader.cluster)
+      (affords-alike (weight + 2 * way_in setting call reader) later)
+      (λ address its known knows.
+      let led = its known (subst (λ n. KnowsAtMost n known) alike.count knows) in
+      (led.0, led.1, led.2, led-on known address.node led.0 led.1 led.3, led.4)) h
 
-pub sure-alike : (setting : Setting) (sub : ℕ) (one other : History) (call : FindCall) (Within : ℕ → Type 0)
-    → IsAlike setting sub one other → (pursuit : Pursuit) → IsSure setting sub one call Within pursuit
-    → IsSure setting sub other call Within pursuit
-sure-alike setting sub one other call Within alike at_origin sure = tt
-sure-alike setting sub one other call Within alike (climbs known weight reader later) sure = (
-  subst (λ n. KnowsAtMost n known) (sym alike.count) sure.0,
-  affords-alike setting sub one other call Within alike weight (reader ∷ later) sure.1,
-)
-sure-alike setting sub one other call Within alike (chases chase node) sure = (
-  sure.0,
-  sure.1,
-  sure.2,
-  subst (λ n. IsLed setting (mark_seen setting sub other) chase.known node n sure.0 sure.1) (sym alike.stands)
-      (led-alike setting (mark_seen setting sub one) (mark_seen setting sub other) alike.marks chase.known node
-      (standing setting sub one) sure.0 sure.1 sure.3),
-  sure.4,
-)
-sure-alike setting sub one other call Within alike (ended found) sure = sure
+  pub sure-alike : (pursuit : Pursuit) → IsSure setting sub one call Within pursuit
+      → IsSure setting sub other call Within pursuit
+  sure-alike at_origin sure = tt
+  sure-alike (climbs known weight reader later) sure =
+      (subst (λ n. KnowsAtMost n known) (sym alike.count) sure.0, affords-alike weight (reader ∷ later) sure.1)
+  sure-alike (chases chase node) sure =
+      (sure.0, sure.1, sure.2, led-on chase.known node sure.0 sure.1 sure.3, sure.4)
+  sure-alike (ended found) sure = sure
 
 -- what is used of the laws
 pub record Used : Type 0 where
@@ -139,135 +124,103 @@ sure-until used setting sub history call Within (suc k) t pursuit low legal with
     (λ u h g. quiet u h (omega arith)) sure))
 
 -- ---- one look
-climb-sure : (setting : Setting) (sub : ℕ) (seen : History) (call : FindCall) (Within : ℕ → Type 0) (known : Option ℕ)
-    (weight : ℕ) (readers : List Reader) → KnowsAtMost (number sub seen) known
-    → Affords setting sub seen call Within weight readers
-    → IsSure setting sub seen call Within (climb known weight readers)
-unfolding Affords
-climb-sure setting sub seen call Within known weight [] knows some = absurd some
-climb-sure setting sub seen call Within known weight (reader ∷ later) knows some = (knows, some)
+module _ (setting : Setting) (seen : History) (call : FindCall) (Within : ℕ → Type 0) where
+  abbrev pub IsSureOf : Pursuit → Type 0
+  IsSureOf pursuit = IsSure setting call.sub seen call Within pursuit
 
-origin-sure : (setting : Setting) (seen : History) (call : FindCall) (Within : ℕ → Type 0) (mark : PresenceMark)
-    → Begins setting seen call Within → mark_seen setting call.sub seen call.from ≡ mark
-    → MarkTells setting call.sub seen call.from mark
-    → IsSure setting call.sub seen call Within (after_origin setting call mark)
-origin-sure setting seen call Within Empty begins same tells =
-    climb-sure setting call.sub seen call Within None 0 (all_readers setting call.from) tt
-    (begins.climbing (λ p from e. other (sym same ∙ e)) (λ p e. here (sym same ∙ e)) (λ p e. off (sym same ∙ e)))
-  where
-    other : {p from : ℕ} → Empty ≡ Coming p from → ⊥
-    other e = cc
+  climb-sure : (known : Option ℕ) (weight : ℕ) (readers : List Reader) → KnowsAtMost (number call.sub seen) known
+      → Affords setting call.sub seen call Within weight readers → IsSureOf (climb known weight readers)
+  unfolding Affords
+  climb-sure known weight [] knows some = absurd some
+  climb-sure known weight (reader ∷ later) knows some = (knows, some)
 
-    here : {p : ℕ} → Empty ≡ Here p → ⊥
-    here e = cc
+  origin-sure : (mark : PresenceMark) → Begins setting seen call Within
+      → mark_seen setting call.sub seen call.from ≡ mark → MarkTells setting call.sub seen call.from mark
+      → IsSureOf (after_origin setting call mark)
+  origin-sure Empty begins same tells = climb-sure None 0 (all_readers setting call.from) tt (begins.climbing
+      (λ p from e. let clash : Empty ≡ Coming p from = sym same ∙ e in cc)
+      (λ p e. let clash : Empty ≡ Here p = sym same ∙ e in cc)
+      (λ p e. let clash : Empty ≡ Off p = sym same ∙ e in cc))
+  origin-sure (Gone q to) begins same tells = climb-sure (Some q) 0 (all_readers setting call.from)
+      (gone-known setting call.sub seen call.from q to tells) (begins.climbing
+      (λ p from e. let clash : Gone q to ≡ Coming p from = sym same ∙ e in cc)
+      (λ p e. let clash : Gone q to ≡ Here p = sym same ∙ e in cc)
+      (λ p e. let clash : Gone q to ≡ Off p = sym same ∙ e in cc))
+  origin-sure (Coming q from) begins same tells =
+      let there = begins.chasing q from same in
+      (there.0, there.1, omega (arith, there.2), there.3, there.4)
+  origin-sure mark begins same tells = (tt, begins.here)
 
-    off : {p : ℕ} → Empty ≡ Off p → ⊥
-    off e = cc
-origin-sure setting seen call Within (Here q) begins same tells = (tt, begins.here)
-origin-sure setting seen call Within (Off q) begins same tells = (tt, begins.here)
-origin-sure setting seen call Within (Gone q to) begins same tells =
-    climb-sure setting call.sub seen call Within (Some q) 0 (all_readers setting call.from)
-    (gone-known setting call.sub seen call.from q to tells)
-    (begins.climbing (λ p from e. other (sym same ∙ e)) (λ p e. here (sym same ∙ e)) (λ p e. off (sym same ∙ e)))
-  where
-    other : {p from : ℕ} → Gone q to ≡ Coming p from → ⊥
-    other e = cc
+  entry-sure : (known : Option ℕ) (weight : ℕ) (reader : Reader) (later : List Reader) (entry : Option Address)
+      → KnowsAtMost (number call.sub seen) known
+      → EntryAsks entry (Affords setting call.sub seen call Within (weight + 2 * way_in setting call reader) later)
+      (λ address. AffordsAddress setting call.sub seen call Within weight reader address)
+      → IsSureOf (after_entry setting call known weight reader later entry)
+  entry-sure known weight reader later None knows some =
+      climb-sure known (weight + 2 * way_in setting call reader) later knows some
+  entry-sure known weight reader later (Some address) knows some =
+      let there = some known knows in
+      (there.0, there.1, omega (arith, there.2), there.3, there.4)
 
-    here : {p : ℕ} → Gone q to ≡ Here p → ⊥
-    here e = cc
+  -- a hop along what leads
+  hop-sure : (known level : Option ℕ) (weight hops_left node to hops way : ℕ) → suc hops ≤ hops_left
+      → IsLed setting (mark_seen setting call.sub seen) known to (standing setting call.sub seen) hops way
+      → Within (weight + setting.distance node to + way)
+      → IsSureOf (hop setting known level weight hops_left node to)
+  hop-sure known level weight zero node to hops way few led allowed = absurd (omega arith)
+  hop-sure known level weight (suc more) node to hops way few led allowed =
+      (hops, way, omega arith, led, allowed)
 
-    off : {p : ℕ} → Gone q to ≡ Off p → ⊥
-    off e = cc
-origin-sure setting seen call Within (Coming q from) begins same tells =
-    let there = begins.chasing q from same in
-    (there.0, there.1, omega (arith, there.2), there.3, there.4)
+  hop-on : (chase : Chase) (node to : ℕ) (known : Option ℕ) (hops way : ℕ) → suc hops ≤ chase.hops_left
+      → IsLed setting (mark_seen setting call.sub seen) chase.known node (standing setting call.sub seen) (suc hops) way
+      → Within (chase.weight + way) → lead chase.known (mark_seen setting call.sub seen node) ≡ Some to
+      → known_after chase.known (mark_seen setting call.sub seen node) ≡ known
+      → IsSureOf (hop setting known chase.level chase.weight chase.hops_left node to)
+  unfolding IsLed
+  hop-on chase node to known hops way few led allowed leads knows =
+      let at_to : Some to ≡ Some led.0 = sym leads ∙ led.2 in
+      let is_to : led.0 ≡ to = cc in
+      hop-sure known chase.level chase.weight chase.hops_left node to hops led.1 few
+      (subst (λ n. IsLed setting (mark_seen setting call.sub seen) known n (standing setting call.sub seen) hops led.1)
+      is_to (subst (λ k. IsLed setting (mark_seen setting call.sub seen) k led.0 (standing setting call.sub seen) hops
+      led.1) knows led.4))
+      (subst (λ n. Within (chase.weight + setting.distance node n + led.1)) is_to (subst Within
+      (let e : chase.weight + way ≡ chase.weight + setting.distance node led.0 + led.1 = omega (arith, led.3) in e)
+      allowed))
 
-entry-sure : (setting : Setting) (seen : History) (call : FindCall) (Within : ℕ → Type 0) (known : Option ℕ)
-    (weight : ℕ) (reader : Reader) (later : List Reader) (entry : Option Address)
-    → KnowsAtMost (number call.sub seen) known
-    → EntryAsks entry (Affords setting call.sub seen call Within (weight + 2 * way_in setting call reader) later)
-    (λ address. AffordsAddress setting call.sub seen call Within weight reader address)
-    → IsSure setting call.sub seen call Within (after_entry setting call known weight reader later entry)
-entry-sure setting seen call Within known weight reader later None knows some =
-    climb-sure setting call.sub seen call Within known (weight + 2 * way_in setting call reader) later knows some
-entry-sure setting seen call Within known weight reader later (Some address) knows some =
-    let there = some known knows in
-    (there.0, there.1, omega (arith, there.2), there.3, there.4)
+  mark-sure : (chase : Chase) (node : ℕ) (mark : PresenceMark) → mark_seen setting call.sub seen node ≡ mark
+      → (hops way : ℕ) → hops ≤ chase.hops_left
+      → IsLed setting (mark_seen setting call.sub seen) chase.known node (standing setting call.sub seen) hops way
+      → Within (chase.weight + way) → IsSureOf (after_mark setting chase node mark)
+  unfolding IsLed
+  mark-sure chase node Empty same zero way few led allowed =
+      let clash : false ≡ true = sym (ap (answers chase.known) same) ∙ led.1 in cc
+  mark-sure chase node (Gone q to) same zero way few led allowed =
+      let clash : false ≡ true = sym (ap (answers chase.known) same) ∙ led.1 in cc
+  mark-sure chase node (Coming q from) same zero way few led allowed =
+      subst (λ b. IsSureOf (cond b (ended (At node q chase.level chase.weight))
+      (hop setting chase.known chase.level chase.weight chase.hops_left node from)))
+      (sym (sym (ap (answers chase.known) same) ∙ led.1))
+      (tt, subst Within (let e : chase.weight + way ≡ chase.weight = omega (arith, led.2) in e) allowed)
+  mark-sure chase node mark same zero way few led allowed =
+      (tt, subst Within (let e : chase.weight + way ≡ chase.weight = omega (arith, led.2) in e) allowed)
+  mark-sure chase node (Gone q to) same (suc hops) way few led allowed =
+      hop-on chase node to (known_with q chase.known) hops way few led allowed (ap (lead chase.known) same)
+      (ap (known_after chase.known) same)
+  mark-sure chase node (Coming q from) same (suc hops) way few led allowed = at_known (is_known q chase.known) refl
+    where
+      leads : (b : Bool) → is_known q chase.known ≡ b
+          → lead chase.known (mark_seen setting call.sub seen node) ≡ cond b None (Some from)
+      leads b e = ap (lead chase.known) same ∙ ap (λ b. cond b None (Some from)) e
 
--- a hop along what leads
-hop-sure : (setting : Setting) (sub : ℕ) (seen : History) (call : FindCall) (Within : ℕ → Type 0)
-    (known level : Option ℕ) (weight hops_left node to hops way : ℕ) → suc hops ≤ hops_left
-    → IsLed setting (mark_seen setting sub seen) known to (standing setting sub seen) hops way
-    → Within (weight + setting.distance node to + way)
-    → IsSure setting sub seen call Within (hop setting known level weight hops_left node to)
-hop-sure setting sub seen call Within known level weight zero node to hops way few led allowed = absurd (omega arith)
-hop-sure setting sub seen call Within known level weight (suc more) node to hops way few led allowed =
-    (hops, way, omega arith, led, allowed)
-
-mark-sure : (setting : Setting) (sub : ℕ) (seen : History) (call : FindCall) (Within : ℕ → Type 0) (chase : Chase)
-    (node : ℕ) (mark : PresenceMark) → mark_seen setting sub seen node ≡ mark → (hops way : ℕ)
-    → hops ≤ chase.hops_left
-    → IsLed setting (mark_seen setting sub seen) chase.known node (standing setting sub seen) hops way
-    → Within (chase.weight + way) → IsSure setting sub seen call Within (after_mark setting chase node mark)
-unfolding IsLed
-mark-sure setting sub seen call Within chase node Empty same zero way few led allowed =
-    let clash : false ≡ true = sym (ap (answers chase.known) same) ∙ led.1 in cc
-mark-sure setting sub seen call Within chase node (Here q) same zero way few led allowed =
-    (tt, subst Within (let e : chase.weight + way ≡ chase.weight = omega (arith, led.2) in e) allowed)
-mark-sure setting sub seen call Within chase node (Off q) same zero way few led allowed =
-    (tt, subst Within (let e : chase.weight + way ≡ chase.weight = omega (arith, led.2) in e) allowed)
-mark-sure setting sub seen call Within chase node (Gone q to) same zero way few led allowed =
-    let clash : false ≡ true = sym (ap (answers chase.known) same) ∙ led.1 in cc
-mark-sure setting sub seen call Within chase node (Coming q from) same zero way few led allowed =
-    subst (λ b. IsSure setting sub seen call Within
-    (cond b (ended (At node q chase.level chase.weight))
-    (hop setting chase.known chase.level chase.weight chase.hops_left node from)))
-    (sym (sym (ap (answers chase.known) same) ∙ led.1))
-    (tt, subst Within (let e : chase.weight + way ≡ chase.weight = omega (arith, led.2) in e) allowed)
-mark-sure setting sub seen call Within chase node Empty same (suc hops) way few led allowed =
-    let clash : None ≡ Some led.0 = sym (ap (lead chase.known) same) ∙ led.2 in cc
-mark-sure setting sub seen call Within chase node (Here q) same (suc hops) way few led allowed =
-    let clash : None ≡ Some led.0 = sym (ap (lead chase.known) same) ∙ led.2 in cc
-mark-sure setting sub seen call Within chase node (Off q) same (suc hops) way few led allowed =
-    let clash : None ≡ Some led.0 = sym (ap (lead chase.known) same) ∙ led.2 in cc
-mark-sure setting sub seen call Within chase node (Gone q to) same (suc hops) way few led allowed =
-    let at_to : Some to ≡ Some led.0 = sym (ap (lead chase.known) same) ∙ led.2 in
-    let is_to : led.0 ≡ to = cc in
-    hop-sure setting sub seen call Within (known_with q chase.known) chase.level chase.weight chase.hops_left node to
-    hops
-    led.1 few
-    (subst (λ n. IsLed setting (mark_seen setting sub seen) (known_with q chase.known) n
-    (standing setting sub seen) hops
-    led.1) is_to
-    (subst (λ k. IsLed setting (mark_seen setting sub seen) k led.0 (standing setting sub seen) hops led.1)
-    (ap (known_after chase.known) same) led.4))
-    (subst (λ n. Within (chase.weight + setting.distance node n + led.1)) is_to
-    (subst Within (let e : chase.weight + way ≡ chase.weight + setting.distance node led.0 + led.1 = omega
-    (arith, led.3)
-    in e) allowed))
-mark-sure setting sub seen call Within chase node (Coming q from) same (suc hops) way few led allowed =
-    at_known (is_known q chase.known) refl
-  where
-    at_known : (b : Bool) → is_known q chase.known ≡ b
-        → IsSure setting sub seen call Within
-        (cond b (ended (At node q chase.level chase.weight))
-        (hop setting chase.known chase.level chase.weight chase.hops_left node from))
-    at_known true e =
-        let clash : None ≡ Some led.0 =
-        sym (ap (lead chase.known) same ∙ ap (λ b. cond b None (Some from)) e) ∙ led.2 in cc
-    at_known false e =
-        let at_from : Some from ≡ Some led.0 =
-        sym (ap (lead chase.known) same ∙ ap (λ b. cond b None (Some from)) e) ∙ led.2 in
-        let is_from : led.0 ≡ from = cc in
-        hop-sure setting sub seen call Within chase.known chase.level chase.weight chase.hops_left node from hops
-        led.1 few
-        (subst (λ n. IsLed setting (mark_seen setting sub seen) chase.known n (standing setting sub seen) hops led.1)
-        is_from
-        (subst (λ k. IsLed setting (mark_seen setting sub seen) k led.0 (standing setting sub seen) hops led.1)
-        (ap (known_after chase.known) same) led.4))
-        (subst (λ n. Within (chase.weight + setting.distance node n + led.1)) is_from
-        (subst Within (let e2 : chase.weight + way ≡ chase.weight + setting.distance node led.0 + led.1 =
-        omega (arith, led.3) in e2) allowed))
+      at_known : (b : Bool) → is_known q chase.known ≡ b
+          → IsSureOf (cond b (ended (At node q chase.level chase.weight))
+          (hop setting chase.known chase.level chase.weight chase.hops_left node from))
+      at_known true e = let clash : None ≡ Some led.0 = sym (leads true e) ∙ led.2 in cc
+      at_known false e = hop-on chase node from chase.known hops way few led allowed (leads false e)
+          (ap (known_after chase.known) same)
+  mark-sure chase node mark same (suc hops) way few led allowed =
+      let clash : None ≡ Some led.0 = sym (ap (lead chase.known) same) ∙ led.2 in cc
 
 pub look-sure : Used → (setting : Setting) (seen : History) (call : FindCall) (Within : ℕ → Type 0) (pursuit : Pursuit)
     (key : Key) → (pursuit ≡ at_origin → Begins setting seen call Within) → setting.nodes ≤ 2 ^ 16
@@ -291,6 +244,6 @@ look-sure used setting seen call Within (chases chase node) key begins low insid
     let e : Presence node call.sub ≡ key = cc in
     subst (λ (k : Key). IsSure setting call.sub seen call Within
     (after_mark setting chase node (mark_in (cell setting seen k)))) e
-    (mark-sure setting call.sub seen call Within chase node (mark_seen setting call.sub seen node) refl sure.0 sure.1
+    (mark-sure setting seen call Within chase node (mark_seen setting call.sub seen node) refl sure.0 sure.1
     sure.2 sure.3 sure.4)
 look-sure used setting seen call Within (ended found) key begins low inside legal sure wanted = cc

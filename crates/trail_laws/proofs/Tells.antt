@@ -13,7 +13,7 @@ use Rattle.directory.specs.Standing.{Commit, commit_by}
 use Rattle.trail_laws.proofs.Links.{AreLinked, IsSound, base-low, stop-inside, moves-count}
 use Rattle.trail_laws.proofs.ClosedMarks.{IsNext, rest_mark, mark_coming, mark_passing, mark_erasing, since_top, there, trail_mark}
 use Rattle.trail_laws.proofs.ClosedViews.{clearing, coming, IsPhase, passage, Phase, phase_commits, phase_mark, Shown, View}
-use Rattle.trail_laws.proofs.LinkedStops.{IsLeft, last-left, stop_at}
+use Rattle.trail_laws.proofs.LinkedStops.{last-left, LeavesMark, stop_at}
 use Rattle.directory.specs.ListLaws.{slice_get-left}
 use Rattle.std.proofs.lemmas.Option.{slice_get-map}
 
@@ -75,11 +75,7 @@ gone-is from marks off all setting course node mark more sound same =
     low : ℕ
     low = base setting.top course.moves
 
-    at_left : ((trail_mark (since_top setting course) node Empty ≡ Empty)
-        × ((i : ℕ) → i < length (since_top setting course)
-        → stop_at (stop_at course.start course.moves low) (since_top setting course) i ≡ node → ⊥))
-        ⊎ IsLeft setting (stop_at course.start course.moves low) (0 + low) (since_top setting course) node
-        (trail_mark (since_top setting course) node Empty)
+    at_left : LeavesMark setting (stop_at course.start course.moves low) (0 + low) (since_top setting course) node Empty
         → MarkIs setting.nodes from marks (map commit_by course.moves ++ more) off all node mark
     at_left (inl none) = subst (MarkIs setting.nodes from marks (map commit_by course.moves ++ more) off all node)
         (sym none.0 ∙ same) tt
@@ -145,113 +141,84 @@ own-gone setting course move next = ap (slice_get (map commit_by (course.moves +
     at_end (x ∷ xs) = at_end xs
 
 -- each phase of a move
-coming-is : (setting : Setting) (from : ℕ) (marks : ℕ → PresenceMark) (course : Course) (move : Move) (node : ℕ)
-    → IsSound setting course → IsNext setting course move → course.start ≡ from
-    → MarkIs setting.nodes from marks (map commit_by course.moves) false (course.moves ++ move ∷ []) node
-    (mark_coming setting course move node)
-coming-is setting from marks course move node sound next begins = at_to (node == move.to) refl
-  where
-    at_to : (b : Bool) → (node == move.to) ≡ b → MarkIs setting.nodes from marks (map commit_by course.moves) false
-        (course.moves ++ move ∷ []) node (cond b (Coming move.number move.from) (rest_mark setting course node))
-    at_to true e = (
-      next.number ∙ sym (moves-count course move),
-      subst (λ n. n < setting.nodes) (sym next.from) (stop-inside setting course sound),
-      refl,
-      inl (
-        next.number ∙ ap suc (sym (length-map course.moves commit_by)),
-        next.from
-            ∙ sym (rest-stands course from begins),
-      ),
-    )
-    at_to false e = subst (λ b. MarkIs setting.nodes from marks (map commit_by course.moves) b
-        (course.moves ++ move ∷ []) node (rest_mark setting course node)) next.is_on
-        (rest-is from marks (course.moves ++ move ∷ []) setting course node sound begins)
+module _ (setting : Setting) (from : ℕ) (marks : ℕ → PresenceMark) (course : Course) (move : Move) (node : ℕ)
+    (sound : IsSound setting course) (next : IsNext setting course move) (begins : course.start ≡ from) where
+  coming-is : MarkIs setting.nodes from marks (map commit_by course.moves) false (course.moves ++ move ∷ []) node
+      (mark_coming setting course move node)
+  coming-is = at_to (node == move.to) refl
+    where
+      at_to : (b : Bool) → (node == move.to) ≡ b
+          → MarkIs setting.nodes from marks (map commit_by course.moves) false (course.moves ++ move ∷ []) node
+          (cond b (Coming move.number move.from) (rest_mark setting course node))
+      at_to true e = (
+        next.number ∙ sym (moves-count course move),
+        subst (λ n. n < setting.nodes) (sym next.from) (stop-inside setting course sound),
+        refl,
+        inl (
+          next.number ∙ ap suc (sym (length-map course.moves commit_by)),
+          next.from ∙ sym (rest-stands course from begins),
+        ),
+      )
+      at_to false e = subst (λ b. MarkIs setting.nodes from marks (map commit_by course.moves) b
+          (course.moves ++ move ∷ []) node (rest_mark setting course node)) next.is_on
+          (rest-is from marks (course.moves ++ move ∷ []) setting course node sound begins)
 
--- the marks of the trail, when the subscriber has left it
-trail-is : (setting : Setting) (from : ℕ) (marks : ℕ → PresenceMark) (course : Course) (move : Move) (node : ℕ)
-    → IsSound setting course → IsNext setting course move → (node == move.from) ≡ false
-    → MarkIs setting.nodes from marks (map commit_by (course.moves ++ move ∷ [])) false
-    (course.moves ++ move ∷ []) node (rest_mark setting course node)
-trail-is setting from marks course move node sound next other =
-    subst (λ m. MarkIs setting.nodes from marks (map commit_by (course.moves ++ move ∷ [])) false
-    (course.moves ++ move ∷ []) node m)
-    (sym (ap (λ b. cond b (there course) (trail_mark (since_top setting course) node Empty))
-    (ap (λ n. node == n) (sym next.from) ∙ other)))
-    (subst (λ (cs : List Commit). MarkIs setting.nodes from marks cs false (course.moves ++ move ∷ []) node
-    (trail_mark (since_top setting course) node Empty)) (sym (map-append commit_by course.moves (move ∷ [])))
-    (gone-is from marks false (course.moves ++ move ∷ []) setting course node
-    (trail_mark (since_top setting course) node Empty) (commit_by move ∷ []) sound refl))
+  -- what a mark tells once the move is committed
+  abbrev pub TellsCommit : PresenceMark → Type 0
+  TellsCommit mark = MarkIs setting.nodes from marks (map commit_by (course.moves ++ move ∷ [])) false
+      (course.moves ++ move ∷ []) node mark
 
-left-is : (setting : Setting) (from : ℕ) (marks : ℕ → PresenceMark) (course : Course) (move : Move) (node : ℕ)
-    → IsNext setting course move → (node == move.from) ≡ true
-    → MarkIs setting.nodes from marks (map commit_by (course.moves ++ move ∷ [])) false
-    (course.moves ++ move ∷ []) node (Gone move.number move.to)
-left-is setting from marks course move node next e = (
-  omega (arith, next.number),
-  own-gone setting course move next
-      ∙ ap (λ f. Some (record { number = move.number; from = f; to = move.to })) (sym (eqb-true node move.from e)),
-  next.inside,
-)
+  all-count : move.number ≡ length (map commit_by (course.moves ++ move ∷ []))
+  all-count = next.number ∙ (sym (moves-count course move) ∙ sym (length-map (course.moves ++ move ∷ []) commit_by))
 
-passing-is : (setting : Setting) (from : ℕ) (marks : ℕ → PresenceMark) (course : Course) (move : Move) (node : ℕ)
-    → IsSound setting course → IsNext setting course move → course.start ≡ from
-    → marks move.from ≡ Gone move.number move.to
-    → MarkIs setting.nodes from marks (map commit_by (course.moves ++ move ∷ [])) false
-    (course.moves ++ move ∷ []) node (mark_passing setting course move node)
-passing-is setting from marks course move node sound next begins gone = at_from (node == move.from) refl
-  where
-    at_from : (b : Bool) → (node == move.from) ≡ b → MarkIs setting.nodes from marks
-        (map commit_by (course.moves ++ move ∷ [])) false (course.moves ++ move ∷ []) node
-        (cond b (Gone move.number move.to) (mark_coming setting course move node))
-    at_from true e = left-is setting from marks course move node next e
-    at_from false e = at_to (node == move.to) refl
-      where
-        at_to : (b : Bool) → (node == move.to) ≡ b → MarkIs setting.nodes from marks
-            (map commit_by (course.moves ++ move ∷ [])) false (course.moves ++ move ∷ []) node
-            (cond b (Coming move.number move.from) (rest_mark setting course node))
-        at_to true t = (
-          next.number ∙ sym (moves-count course move),
-          subst (λ n. n < setting.nodes) (sym next.from) (stop-inside setting course sound),
-          refl,
-          inr (
-            next.number ∙ (sym (moves-count course move) ∙ sym (length-map (course.moves ++ move ∷ []) commit_by)),
-            eqb-true node move.to t ∙ sym (next-stands setting course move from next begins),
-            gone ∙ ap (λ n. Gone move.number n) (sym (eqb-true node move.to t)),
-          ),
-        )
-        at_to false t = trail-is setting from marks course move node sound next e
+  -- the marks of the trail, when the subscriber has left it
+  trail-is : (node == move.from) ≡ false → TellsCommit (rest_mark setting course node)
+  trail-is other = subst TellsCommit
+      (sym (ap (λ b. cond b (there course) (trail_mark (since_top setting course) node Empty))
+      (ap (λ n. node == n) (sym next.from) ∙ other)))
+      (subst (λ (cs : List Commit). MarkIs setting.nodes from marks cs false (course.moves ++ move ∷ []) node
+      (trail_mark (since_top setting course) node Empty)) (sym (map-append commit_by course.moves (move ∷ [])))
+      (gone-is from marks false (course.moves ++ move ∷ []) setting course node
+      (trail_mark (since_top setting course) node Empty) (commit_by move ∷ []) sound refl))
 
-clearing-is : (setting : Setting) (from : ℕ) (marks : ℕ → PresenceMark) (course : Course) (move : Move)
-    (purged : List ℕ) (node : ℕ) → IsSound setting course → IsNext setting course move → course.start ≡ from
-    → MarkIs setting.nodes from marks (map commit_by (course.moves ++ move ∷ [])) false
-    (course.moves ++ move ∷ []) node (mark_erasing setting course move purged node)
-clearing-is setting from marks course move purged node sound next begins = at_purged (has node purged)
-  where
-    Goal : PresenceMark → Type 0
-    Goal m = MarkIs setting.nodes from marks (map commit_by (course.moves ++ move ∷ [])) false
-        (course.moves ++ move ∷ []) node m
+  left-is : (node == move.from) ≡ true → TellsCommit (Gone move.number move.to)
+  left-is e = (
+    omega (arith, next.number),
+    own-gone setting course move next
+        ∙ ap (λ f. Some (record { number = move.number; from = f; to = move.to })) (sym (eqb-true node move.from e)),
+    next.inside,
+  )
 
-    at_from : (b t : Bool) → (node == move.from) ≡ b → t ≡ false
-        → Goal (cond b (Gone move.number move.to) (cond t (Coming move.number move.from)
-        (rest_mark setting course node)))
-    at_from true t e off = left-is setting from marks course move node next e
-    at_from false true e off = cc
-    at_from false false e off = trail-is setting from marks course move node sound next e
+  passing-is : marks move.from ≡ Gone move.number move.to → TellsCommit (mark_passing setting course move node)
+  passing-is gone = at_from (node == move.from) (node == move.to) refl refl
+    where
+      at_from : (b t : Bool) → (node == move.from) ≡ b → (node == move.to) ≡ t
+          → TellsCommit (cond b (Gone move.number move.to)
+          (cond t (Coming move.number move.from) (rest_mark setting course node)))
+      at_from true t e at = left-is e
+      at_from false true e at = (
+        next.number ∙ sym (moves-count course move),
+        subst (λ n. n < setting.nodes) (sym next.from) (stop-inside setting course sound),
+        refl,
+        inr (
+          all-count,
+          eqb-true node move.to at ∙ sym (next-stands setting course move from next begins),
+          gone ∙ ap (λ n. Gone move.number n) (sym (eqb-true node move.to at)),
+        ),
+      )
+      at_from false false e at = trail-is e
 
-    at_to : (b : Bool) → (node == move.to) ≡ b → Goal (cond b (Here move.number)
-        (mark_passing setting course move node))
-    at_to true t = (
-      eqb-true node move.to t ∙ sym (next-stands setting course move from next begins),
-      next.number
-          ∙ (sym (moves-count course move) ∙ sym (length-map (course.moves ++ move ∷ []) commit_by)),
-      refl,
-    )
-    at_to false t = at_from (node == move.from) (node == move.to) refl t
-
-    at_purged : (b : Bool) → Goal (cond b Empty (cond (node == move.to) (Here move.number)
-        (mark_passing setting course move node)))
-    at_purged true = tt
-    at_purged false = at_to (node == move.to) refl
+  clearing-is : (purged : List ℕ) → TellsCommit (mark_erasing setting course move purged node)
+  clearing-is purged = at_marks (has node purged) (node == move.to) (node == move.from) refl refl
+    where
+      at_marks : (p t f : Bool) → (node == move.to) ≡ t → (node == move.from) ≡ f
+          → TellsCommit (cond p Empty (cond t (Here move.number) (cond f (Gone move.number move.to)
+          (cond t (Coming move.number move.from) (rest_mark setting course node)))))
+      at_marks true t f at e = tt
+      at_marks false true f at e =
+          (eqb-true node move.to at ∙ sym (next-stands setting course move from next begins), all-count, refl)
+      at_marks false false true at e = left-is e
+      at_marks false false false at e = trail-is e
 
 -- so a mark of a view tells it
 pub mark-is : (setting : Setting) (shown : Shown) (node : ℕ) → node < setting.nodes → View setting shown
@@ -275,4 +242,4 @@ mark-is setting shown node low (inr h) = at_phase h.phase h.is_phase
         (f ∙ ap (λ b. cond b (Gone h.move.number h.move.to) (mark_coming setting h.course h.move h.move.from))
         (eq-eqb h.move.from h.move.from refl)))
     at_phase (clearing erased purged) p m c f = rw (m, c, h.off_is, h.moves_are)
-        (clearing-is setting shown.from shown.marks h.course h.move purged node h.sound h.next h.begins)
+        (clearing-is setting shown.from shown.marks h.course h.move node h.sound h.next h.begins purged)

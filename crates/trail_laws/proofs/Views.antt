@@ -192,7 +192,8 @@ module _ (setting : Setting) (sub : ℕ) (before : List Step) (node : ℕ) (scri
       at_front (is_passing same) = subst Goal (sym same) (in-phase passage while_passing)
       at_front (is_erasing e p in_order same) = subst Goal (sym (same
           ∙ ap (λ ws. mark_at its_move.to (Coming its_move.number its_move.from) ∷ (addresses ++
-          (mark_at its_move.from (Gone its_move.number its_move.to) ∷ (mark_at its_move.to (Here its_move.number) ∷ ws))))
+          (mark_at its_move.from (Gone its_move.number its_move.to)
+          ∷ (mark_at its_move.to (Here its_move.number) ∷ ws))))
           (shaped (take-map _ e (old_levels setting its_course its_move))
           (take-map _ p (purged_nodes setting its_course its_move)))))
           (in-phase _ (while_clearing e p (erased-order e p in_order)))
