@@ -1,30 +1,26 @@
 -- A quiet find has its answer: what it stands on stays while no visit of a move is made.
-use Rattle.std.proofs.Common.{◌≡◌, ◌≢◌, ◌⊎◌, inl, inr, ℕ, zero, suc, ◌+◌, ◌-◌, ◌*◌, ◌<◌, ◌≤◌, ◌^◌, Bool, true, false, cond, ◌==◌, ◌||◌, List, [], ◌∷◌, ◌++◌, Option, Some, None, map, fold, refl, sym, ap, ◌∙◌, subst, arith}
+use Rattle.std.proofs.Common.{◌≡◌, ◌≢◌, ◌⊎◌, inl, inr, ℕ, zero, suc, ◌+◌, ◌-◌, ◌*◌, ◌<◌, ◌≤◌, ◌^◌, Bool, true, false, ◌==◌, ◌||◌, List, [], ◌∷◌, ◌++◌, Option, Some, None, map, fold, refl, sym, ap, ◌∙◌, subst, arith}
 use Rattle.std.specs.Prelude.{All, flat_map, is_some}
 use Rattle.std.proofs.lemmas.Bool.{eqb-true, cases_eq, cases_lt}
 use Rattle.std.proofs.lemmas.Bool.Decides.{nat_tests}
 use Rattle.std.proofs.lemmas.List.Elements.{All-head, All-tail}
 use Rattle.std.proofs.lemmas.Option.{slice_get_within}
 use Rattle.node_set.specs.Ascending.{has}
-use Rattle.entry_word.specs.Marks.{mark_in}
-use Rattle.entry_word.specs.Addresses.{address_in}
 use Rattle.entry_word.specs.declared.address.Address.{Address}
-use Rattle.entry_word.specs.declared.mark.PresenceMark.{PresenceMark}
-use Rattle.entry_word.specs.declared.mark.PresenceMark.TheVariants.{Empty, Here, Gone, Coming, Off}
 use Rattle.directory.specs.Settings.{levels, Setting}
 use Rattle.directory.specs.Histories.{before, cell, History, words_at}
 use Rattle.directory.specs.Writes.{numbers_from}
 use Rattle.directory.specs.Legal.{IsLegal}
-use Rattle.directory.specs.Finds.{after_entry, after_mark, after_origin, after_word, all_readers, at_origin, Chase, chases, climb, climbs, ended, find, FindCall, hop, is_known, known_with, Reader, Pursuit, way_in, found_weight}
+use Rattle.directory.specs.Finds.{after_word, all_readers, at_origin, ended, find, FindCall, Reader, Pursuit, way_in, found_weight}
 use Rattle.directory.specs.Looks.{AreLooks, first_of, IsFind, IsQuiet, last_of, look_by, moves_at}
 use Rattle.directory.specs.declared.answers.Found.{Found}
-use Rattle.directory.specs.declared.answers.Found.TheVariants.{At, Again}
+use Rattle.directory.specs.declared.answers.Found.TheVariants.{Again}
 use Rattle.trail_laws.specs.Trail.{entry_seen}
 use Rattle.trail_laws.specs.Rightness.{AgainHasItsCause, IsAnswered, QuietFindsAnswer, ReadsTop}
 use Rattle.trail_laws.specs.Within.{Affords, AffordsAddress, Begins, EntryAsks, WeighsAtMost, QuietFindsStayWithin}
 use Rattle.trail_laws.proofs.Passing.{front-legal}
 use Rattle.trail_laws.proofs.Right.{last-more, Low, read-one, readers-low}
-use Rattle.trail_laws.proofs.Sure.{IsSure, Used, look-sure, sure-until}
+use Rattle.trail_laws.proofs.Sure.{first-sure, IsSure, Used, look-sure, sure-until}
 
 -- ---- all looks
 -- the last look comes no earlier than the first
@@ -42,123 +38,55 @@ last-late setting history actor call earliest pursuit t (u ∷ later) (first, (k
           (after_word setting call pursuit (cell setting (before t history) key)) u later rest,
     ))
 
--- after a look the pursuit is no more the first
-IsBegun : Pursuit → Type 0
-IsBegun at_origin = ⊥
-IsBegun (climbs known weight reader later) = Unit {0}
-IsBegun (chases chase node) = Unit {0}
-IsBegun (ended found) = Unit {0}
+module _ (used : Used) (setting : Setting) (history : History) (actor : ℕ) (call : FindCall) (Within : ℕ → Type 0)
+    (found : Found) (low : setting.nodes ≤ 2 ^ 16) (inside : call.from < setting.nodes)
+    (legal : IsLegal setting call.sub history) where
+  sure-looks : (later : List ℕ) (t : ℕ) (pursuit : Pursuit)
+      → IsSure setting call.sub (before t history) call Within pursuit
+      → AreLooks setting history actor call (suc t) pursuit later
+      → ((u : ℕ) → t ≤ u → u ≤ last_of (t ∷ later) → moves_at call.sub history u ≡ false)
+      → fold (after_word setting call) pursuit (flat_map (words_at setting history) later) ≡ ended found
+      → IsAnswered found × Within (found_weight found)
+  unfolding AreLooks
+  sure-looks [] t pursuit sure looks quiet ends =
+      subst (IsSure setting call.sub (before t history) call Within) ends sure
+  sure-looks (u ∷ later) t pursuit sure (first, (key, wanted, is_look, rest)) quiet ends =
+      sure-looks later u (after_word setting call pursuit (cell setting (before u history) key))
+      (look-sure setting (before u history) call Within pursuit key waited wanted) rest
+      (λ x h g. quiet x (omega (arith, first, h)) (omega (arith, g, last-more t u later)))
+      (sym (read-one setting history actor u key call pursuit later is_look) ∙ ends)
+    where
+      late : u ≤ last_of (u ∷ later)
+      late = last-late setting history actor call (suc t) pursuit u later (first, (key, wanted, is_look, rest))
 
-climb-begun : (known : Option ℕ) (weight : ℕ) (readers : List Reader) → IsBegun (climb known weight readers)
-unfolding IsBegun
-climb-begun known weight [] = tt
-climb-begun known weight (reader ∷ later) = tt
+      waited : IsSure setting call.sub (before u history) call Within pursuit
+      waited = let e : (u - t) + t ≡ u = omega (arith, first) in
+          subst (λ n. IsSure setting call.sub (before n history) call Within pursuit) e
+          (sure-until used setting call.sub history call Within (u - t) t pursuit low legal
+          (omega (arith, first, slice_get_within history u (look_by actor key) is_look))
+          (λ x h g. quiet x h (omega (arith, first, g, late, last-more t u later))) sure)
 
-hop-begun : (setting : Setting) (known level : Option ℕ) (weight hops_left node to : ℕ)
-    → IsBegun (hop setting known level weight hops_left node to)
-unfolding IsBegun
-hop-begun setting known level weight zero node to = tt
-hop-begun setting known level weight (suc more) node to = tt
+  -- a quiet find whose beginning is sure has an answer within what is allowed
+  first-looks : (tickets : List ℕ) → Begins setting (before (first_of tickets) history) call Within
+      → IsQuiet history call.sub (first_of tickets) (last_of tickets)
+      → AreLooks setting history actor call 0 at_origin tickets
+      → find setting call (flat_map (words_at setting history) tickets) ≡ ended found
+      → IsAnswered found × Within (found_weight found)
+  unfolding AreLooks
+  first-looks [] begins quiet looks ends = let clash : at_origin ≡ ended found = ends in cc
+  first-looks (t ∷ later) begins quiet (first, (key, wanted, is_look, rest)) ends =
+      sure-looks later t (after_word setting call at_origin (cell setting (before t history) key))
+      (first-sure used setting (before t history) call Within key begins low inside
+      (front-legal used.fronts setting call.sub history t low legal) wanted) rest quiet
+      (sym (read-one setting history actor t key call at_origin later is_look) ∙ ends)
 
-mark-begun : (setting : Setting) (chase : Chase) (node : ℕ) (mark : PresenceMark)
-    → IsBegun (after_mark setting chase node mark)
-unfolding IsBegun
-mark-begun setting chase node Empty = tt
-mark-begun setting chase node (Here q) = tt
-mark-begun setting chase node (Off q) = tt
-mark-begun setting chase node (Gone q to) =
-    hop-begun setting (known_with q chase.known) chase.level chase.weight chase.hops_left node to
-mark-begun setting chase node (Coming q from) = at_known (is_known q chase.known)
-  where
-    at_known : (b : Bool) → IsBegun
-        (cond b (ended (At node q chase.level chase.weight))
-        (hop setting chase.known chase.level chase.weight chase.hops_left node from))
-    at_known true = tt
-    at_known false = hop-begun setting chase.known chase.level chase.weight chase.hops_left node from
-
-origin-begun : (setting : Setting) (call : FindCall) (mark : PresenceMark) → IsBegun (after_origin setting call mark)
-unfolding IsBegun
-origin-begun setting call Empty = climb-begun None 0 (all_readers setting call.from)
-origin-begun setting call (Here q) = tt
-origin-begun setting call (Off q) = tt
-origin-begun setting call (Gone q to) = climb-begun (Some q) 0 (all_readers setting call.from)
-origin-begun setting call (Coming q from) = tt
-
-entry-begun : (setting : Setting) (call : FindCall) (known : Option ℕ) (weight : ℕ) (reader : Reader)
-    (later : List Reader)
-    (entry : Option Address) → IsBegun (after_entry setting call known weight reader later entry)
-unfolding IsBegun
-entry-begun setting call known weight reader later None = climb-begun known
-    (weight + 2 * way_in setting call reader) later
-entry-begun setting call known weight reader later (Some address) = tt
-
-word-begun : (setting : Setting) (call : FindCall) (pursuit : Pursuit) (word : ℕ)
-    → IsBegun (after_word setting call pursuit word)
-unfolding IsBegun
-word-begun setting call at_origin word = origin-begun setting call (mark_in word)
-word-begun setting call (climbs known weight reader later) word =
-    entry-begun setting call known weight reader later (address_in word)
-word-begun setting call (chases chase node) word = mark-begun setting chase node (mark_in word)
-word-begun setting call (ended found) word = tt
-
-begun : (setting : Setting) (call : FindCall) (pursuit : Pursuit) (word : ℕ)
-    → after_word setting call pursuit word ≡ at_origin
-    → ⊥
-unfolding IsBegun
-begun setting call pursuit word e = subst IsBegun e (word-begun setting call pursuit word)
-
-sure-looks : Used → (setting : Setting) (history : History) (actor : ℕ) (call : FindCall) (Within : ℕ → Type 0)
-    (found : Found) → setting.nodes ≤ 2 ^ 16 → call.from < setting.nodes → IsLegal setting call.sub history
-    → (later : List ℕ) (t : ℕ) (pursuit : Pursuit) → (pursuit ≡ at_origin → ⊥)
-    → IsSure setting call.sub (before t history) call Within pursuit
-    → AreLooks setting history actor call (suc t) pursuit later
-    → ((u : ℕ) → t ≤ u → u ≤ last_of (t ∷ later) → moves_at call.sub history u ≡ false)
-    → fold (after_word setting call) pursuit (flat_map (words_at setting history) later) ≡ ended found
-    → IsAnswered found × Within (found_weight found)
-unfolding AreLooks
-sure-looks used setting history actor call Within found low inside legal [] t pursuit is_begun sure looks quiet ends =
-    subst (IsSure setting call.sub (before t history) call Within) ends sure
-sure-looks used setting history actor call Within found low inside legal (u ∷ later) t pursuit is_begun sure
-    (first, (key, wanted, is_look, rest)) quiet ends =
-    sure-looks used setting history actor call Within found low inside legal later u
-    (after_word setting call pursuit (cell setting (before u history) key))
-    (begun setting call pursuit (cell setting (before u history) key))
-    (look-sure used setting (before u history) call Within pursuit key (λ e. absurd (is_begun e)) low inside
-    (front-legal used.fronts setting call.sub history u low legal) waited wanted) rest
-    (λ x h g. quiet x (omega (arith, first, h)) (omega (arith, g, last-more t u later)))
-    (sym (read-one setting history actor u key call pursuit later is_look) ∙ ends)
-  where
-    late : u ≤ last_of (u ∷ later)
-    late = last-late setting history actor call (suc t) pursuit u later (first, (key, wanted, is_look, rest))
-
-    waited : IsSure setting call.sub (before u history) call Within pursuit
-    waited = let e : (u - t) + t ≡ u = omega (arith, first) in
-        subst (λ n. IsSure setting call.sub (before n history) call Within pursuit) e
-        (sure-until used setting call.sub history call Within (u - t) t pursuit low legal
-        (omega (arith, first, slice_get_within history u (look_by actor key) is_look))
-        (λ x h g. quiet x h (omega (arith, first, g, late, last-more t u later))) sure)
-
--- a quiet find whose beginning is sure has an answer within what is allowed
 pub quiet-within : Used → (setting : Setting) (history : History) (actor : ℕ) (call : FindCall) (Within : ℕ → Type 0)
     (found : Found) (tickets : List ℕ) → setting.nodes ≤ 2 ^ 16 → call.from < setting.nodes
     → IsLegal setting call.sub history → Begins setting (before (first_of tickets) history) call Within
     → IsFind setting history actor call found tickets
     → IsQuiet history call.sub (first_of tickets) (last_of tickets) → IsAnswered found × Within (found_weight found)
-unfolding AreLooks
-quiet-within used setting history actor call Within found [] low inside legal begins find quiet =
-    let clash : at_origin ≡ ended found = find.answer in cc
-quiet-within used setting history actor call Within found (t ∷ later) low inside legal begins find quiet =
-    at_looks find.looks
-  where
-    at_looks : AreLooks setting history actor call 0 at_origin (t ∷ later) → IsAnswered found
-        × Within (found_weight found)
-    at_looks (first, (key, wanted, is_look, rest)) =
-        sure-looks used setting history actor call Within found low inside legal later t
-        (after_word setting call at_origin (cell setting (before t history) key))
-        (begun setting call at_origin (cell setting (before t history) key))
-        (look-sure used setting (before t history) call Within at_origin key (λ e. begins) low inside
-        (front-legal used.fronts setting call.sub history t low legal) tt wanted) rest quiet
-        (sym (read-one setting history actor t key call at_origin later is_look) ∙ find.answer)
+quiet-within used setting history actor call Within found tickets low inside legal begins find quiet =
+    first-looks used setting history actor call Within found low inside legal tickets begins quiet find.looks find.answer
 
 -- ---- without a bound: the home at the top level has an address that the origin reads
 abbrev pub HasReader : Setting → ℕ → History → List Reader → Type 0

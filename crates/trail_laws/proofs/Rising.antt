@@ -164,7 +164,8 @@ short-trail : (setting : Setting) (course : Course) (marks : ℕ → PresenceMar
     → ((v p w : ℕ) → v < setting.nodes → marks v ≡ Gone p w
     → (trail_mark (since_top setting course) v Empty ≡ Gone p w) × (v ≢ last_stop course))
     → HasTrail setting marks begin commits
-short-trail setting course marks begin commits sound = trail-of setting marks _ _ course.start (last_stop course) begin _
+short-trail setting course marks begin commits sound =
+    trail-of setting marks _ _ course.start (last_stop course) begin _
     course.moves commits (trail-linked setting course sound) (trail-ends setting course sound)
     (λ i. trail-stops setting course i sound) (trail-count setting course sound)
 

@@ -26,9 +26,9 @@ use Rattle.trail_laws.proofs.Passing.{front-legal}
 use Rattle.trail_laws.proofs.Right.{gone-known}
 use Rattle.trail_laws.proofs.Alike.{alike-step, IsAlike, led-alike}
 
--- what makes a find sure of an answer within what is allowed, at a pursuit
+-- what makes a find sure of an answer within what is allowed, at a pursuit after its first look
 abbrev pub IsSure : Setting → ℕ → History → FindCall → (ℕ → Type 0) → Pursuit → Type 0
-IsSure setting sub seen call Within at_origin = Unit {0}
+IsSure setting sub seen call Within at_origin = ⊥
 IsSure setting sub seen call Within (climbs known weight reader later) =
     KnowsAtMost (number sub seen) known × Affords setting sub seen call Within weight (reader ∷ later)
 IsSure setting sub seen call Within (chases chase node) =
@@ -70,12 +70,11 @@ module _ (setting : Setting) (sub : ℕ) (one other : History) (call : FindCall)
 
   pub sure-alike : (pursuit : Pursuit) → IsSure setting sub one call Within pursuit
       → IsSure setting sub other call Within pursuit
-  sure-alike at_origin sure = tt
   sure-alike (climbs known weight reader later) sure =
       (subst (λ n. KnowsAtMost n known) (sym alike.count) sure.0, affords-alike weight (reader ∷ later) sure.1)
   sure-alike (chases chase node) sure =
       (sure.0, sure.1, sure.2, led-on chase.known node sure.0 sure.1 sure.3, sure.4)
-  sure-alike (ended found) sure = sure
+  sure-alike other_pursuit sure = sure
 
 -- what is used of the laws
 pub record Used : Type 0 where
@@ -222,28 +221,34 @@ module _ (setting : Setting) (seen : History) (call : FindCall) (Within : ℕ �
   mark-sure chase node mark same (suc hops) way few led allowed =
       let clash : None ≡ Some led.0 = sym (ap (lead chase.known) same) ∙ led.2 in cc
 
-pub look-sure : Used → (setting : Setting) (seen : History) (call : FindCall) (Within : ℕ → Type 0) (pursuit : Pursuit)
-    (key : Key) → (pursuit ≡ at_origin → Begins setting seen call Within) → setting.nodes ≤ 2 ^ 16
-    → call.from < setting.nodes → IsLegal setting call.sub seen → IsSure setting call.sub seen call Within pursuit
-    → key_of call pursuit ≡ Some key
-    → IsSure setting call.sub seen call Within (after_word setting call pursuit (cell setting seen key))
+-- the look at the origin, and one after it
+pub first-sure : Used → (setting : Setting) (seen : History) (call : FindCall) (Within : ℕ → Type 0) (key : Key)
+    → Begins setting seen call Within → setting.nodes ≤ 2 ^ 16 → call.from < setting.nodes
+    → IsLegal setting call.sub seen → key_of call at_origin ≡ Some key
+    → IsSure setting call.sub seen call Within (after_word setting call at_origin (cell setting seen key))
 unfolding Affords
-look-sure used setting seen call Within at_origin key begins low inside legal sure wanted =
+first-sure used setting seen call Within key begins low inside legal wanted =
     let e : Presence call.from call.sub ≡ key = cc in
     subst (λ (k : Key). IsSure setting call.sub seen call Within
     (after_origin setting call (mark_in (cell setting seen k)))) e
-    (origin-sure setting seen call Within (mark_seen setting call.sub seen call.from) (begins refl) refl
+    (origin-sure setting seen call Within (mark_seen setting call.sub seen call.from) begins refl
     (used.marks setting call.sub seen low legal call.from inside))
-look-sure used setting seen call Within (climbs known weight reader later) key begins low inside legal sure wanted =
+
+pub look-sure : (setting : Setting) (seen : History) (call : FindCall) (Within : ℕ → Type 0) (pursuit : Pursuit)
+    (key : Key) → IsSure setting call.sub seen call Within pursuit → key_of call pursuit ≡ Some key
+    → IsSure setting call.sub seen call Within (after_word setting call pursuit (cell setting seen key))
+unfolding Affords
+look-sure setting seen call Within at_origin key sure wanted = absurd sure
+look-sure setting seen call Within (climbs known weight reader later) key sure wanted =
     let e : Entry reader.level reader.cluster call.sub ≡ key = cc in
     subst (λ (k : Key). IsSure setting call.sub seen call Within
     (after_entry setting call known weight reader later (address_in (cell setting seen k)))) e
     (entry-sure setting seen call Within known weight reader later
     (entry_seen setting call.sub seen reader.level reader.cluster) sure.0 sure.1)
-look-sure used setting seen call Within (chases chase node) key begins low inside legal sure wanted =
+look-sure setting seen call Within (chases chase node) key sure wanted =
     let e : Presence node call.sub ≡ key = cc in
     subst (λ (k : Key). IsSure setting call.sub seen call Within
     (after_mark setting chase node (mark_in (cell setting seen k)))) e
     (mark-sure setting seen call Within chase node (mark_seen setting call.sub seen node) refl sure.0 sure.1
     sure.2 sure.3 sure.4)
-look-sure used setting seen call Within (ended found) key begins low inside legal sure wanted = cc
+look-sure setting seen call Within (ended found) key sure wanted = cc
