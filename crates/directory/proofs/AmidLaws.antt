@@ -1,5 +1,5 @@
 -- How far legal puts are with the steps that they begin.
-use Rattle.std.proofs.Common.{◌≡◌, ℕ, zero, suc, ◌-◌, ◌<◌, ◌≤◌, false, List, [], ◌∷◌, ◌++◌, length, map, take, refl, sym, ap, ◌∙◌, arith, append_assoc, length-append, inl, inr, ◌⊎◌}
+use Rattle.std.proofs.Common.{◌≡◌, ℕ, suc, ◌-◌, ◌<◌, ◌≤◌, false, List, [], ◌∷◌, ◌++◌, length, map, take, sym, ap, ◌∙◌, arith, append_assoc, length-append, inl, inr, ◌⊎◌}
 use Rattle.std.specs.List.{cons_option}
 use Rattle.std.proofs.lemmas.List.{append-nil, take_all, take-append-le, take-map, length_push, length-take, map-append}
 use Rattle.entry_word.specs.Marks.{MarksUnpack}
@@ -10,7 +10,7 @@ use Rattle.directory.specs.Writes.{Write, visit_of, step_writes, writes, visits}
 use Rattle.directory.specs.Puts.{steps_from, steps_in}
 use Rattle.directory.specs.Amid.{IsAmid}
 use Rattle.directory.specs.Statements.{LegalIsAmid, StepsBeginAtRest}
-use Rattle.directory.proofs.StepLaws.{IsCourse, course-after, one-begun, begun, next-decided, AreBegun}
+use Rattle.directory.proofs.StepLaws.{IsCourse, course-after, one-begun, begun, next-decided, nothing-taken, AreBegun}
 use Rattle.directory.specs.StepLaws.{steps-append, take-append, visits_in, take-more}
 use Rattle.std.proofs.lemmas.Bool.{cases_lt}
 
@@ -30,36 +30,6 @@ amid : MarksUnpack → (setting : Setting) (sub : ℕ) (course : Course) (steps 
     → IsCourse setting course → MaySteps setting course steps
     → AreAmid setting sub course steps k
 unfolding writes steps_from MaySteps
-amid unpacks setting sub course [] zero sound may = record {
-  before = [];
-  under = [];
-  made = 0;
-  shown = refl;
-  one = omega arith;
-  some = omega arith;
-  few = omega arith;
-  front = refl;
-}
-amid unpacks setting sub course [] (suc k) sound may = record {
-  before = [];
-  under = [];
-  made = 0;
-  shown = refl;
-  one = omega arith;
-  some = omega arith;
-  few = omega arith;
-  front = refl;
-}
-amid unpacks setting sub course (step ∷ steps) zero sound may = record {
-  before = [];
-  under = [];
-  made = 0;
-  shown = refl;
-  one = omega arith;
-  some = omega arith;
-  few = omega arith;
-  front = refl;
-}
 amid unpacks setting sub course (step ∷ steps) (suc k) sound may = at_cases (cases_lt (length mine) (suc k))
     (amid unpacks setting sub (after_step setting course step) steps (suc k - length mine)
     (course-after setting course step sound may.0) may.1)
@@ -116,6 +86,16 @@ amid unpacks setting sub course (step ∷ steps) (suc k) sound may = at_cases (c
           (take far.made (writes setting (after_steps setting (after_step setting course step) far.before)
           far.under)))));
     }
+amid unpacks setting sub course steps k sound may = record {
+  before = [];
+  under = [];
+  made = 0;
+  shown = ap (steps_from course.is_off) (nothing-taken {A = Visit} k);
+  one = omega arith;
+  some = omega arith;
+  few = omega arith;
+  front = nothing-taken {A = Write} k;
+}
 
 pub legal-amid : MarksUnpack → LegalIsAmid
 legal-amid unpacks setting sub puts low legal = told (amid unpacks setting sub (course_at (start setting sub))

@@ -4,7 +4,7 @@ use Rattle.std.proofs.lemmas.Bool.{and_parts, and_from, eqb-true, eq-eqb}
 use Rattle.entry_word.specs.declared.visit.Key.{Key}
 use Rattle.entry_word.specs.declared.visit.Key.TheVariants.{Presence, Entry}
 use Rattle.entry_word.specs.declared.visit.Act.{Act}
-use Rattle.entry_word.specs.declared.visit.Act.TheVariants.{Look, Put, Census}
+use Rattle.entry_word.specs.declared.visit.Act.TheVariants.{Put}
 use Rattle.entry_word.specs.declared.visit.Visit.{Visit}
 use Rattle.directory.specs.Keys.{key_sub, same_key, opening}
 use Rattle.directory.specs.Histories.{History, word_after, is_put_for, puts_to}
@@ -15,13 +15,12 @@ same_key-true : (one other : Key) → same_key one other ≡ true → one ≡ ot
 same_key-true (Presence v s) (Presence w t) h =
     let both : ((v == w) ≡ true) × ((s == t) ≡ true) = and_parts (v == w) (s == t) h in
     let a : v ≡ w = eqb-true v w both.0 in let b : s ≡ t = eqb-true s t both.1 in cc
-same_key-true (Presence v s) (Entry i c t) h = cc
-same_key-true (Entry i c s) (Presence w t) h = cc
 same_key-true (Entry i c s) (Entry j d t) h =
     let one : ((i == j && c == d) ≡ true) × ((s == t) ≡ true) = and_parts (i == j && c == d) (s == t) h in
     let two : ((i == j) ≡ true) × ((c == d) ≡ true) = and_parts (i == j) (c == d) one.0 in
     let x : i ≡ j = eqb-true i j two.0 in let y : c ≡ d = eqb-true c d two.1 in let z : s
     ≡ t = eqb-true s t one.1 in cc
+same_key-true one other h = cc
 
 same_key-refl : (key : Key) → same_key key key ≡ true
 same_key-refl (Presence v s) = and_from (v == v) (s == s) (eq-eqb v v refl) (eq-eqb s s refl)
@@ -37,7 +36,6 @@ same_key-means one other = (
 
 -- what isn't put for a subscriber changes none of its cells
 act-kept : (key : Key) (word : ℕ) (act : Act) → is_put_for (key_sub key) act ≡ false → word_after key word act ≡ word
-act-kept key word (Look other) h = refl
 act-kept key word (Put other new) h = at_test (same_key key other) refl
   where
     at_test : (b : Bool) → same_key key other ≡ b → cond b new word ≡ word
@@ -46,7 +44,7 @@ act-kept key word (Put other new) h = at_test (same_key key other) refl
         let same : key ≡ other = same_key-true key other e in
         let its : (key_sub other == key_sub key) ≡ true = eq-eqb (key_sub other) (key_sub key)
         (ap key_sub (sym same)) in cc
-act-kept key word (Census node) h = refl
+act-kept key word act h = refl
 
 puts-enough : (key : Key) (word : ℕ) (history : History)
     → fold (λ w (visit : Visit). word_after key w visit.act) word history

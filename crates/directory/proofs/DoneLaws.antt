@@ -3,16 +3,16 @@ use Rattle.std.proofs.Common.{◌≡◌, ◌≤◌, ◌<◌, ◌^◌, ◌++◌, 
 use Rattle.std.proofs.lemmas.List.{drop_all, length-take, take-append-drop, take_all}
 use Rattle.entry_word.specs.Marks.{MarksUnpack}
 use Rattle.directory.specs.Settings.{Setting, start, subs}
-use Rattle.directory.specs.Histories.{History, own, puts_to}
+use Rattle.directory.specs.Histories.{History, puts_to}
 use Rattle.directory.specs.Courses.{after_steps, Course, course_at, Step, move_to, switch_off, switch_on}
 use Rattle.directory.specs.Writes.{visits, writes}
 use Rattle.directory.specs.Puts.{puts_left, steps_in}
 use Rattle.directory.specs.Orders.{AreValid, IsDone, IsPlayed, script_visits, Scripts, steps_of}
 use Rattle.directory.specs.Statements.{DoneIsRest, DoneShowsScript}
-use Rattle.directory.specs.StepLaws.{visits-append, visits_in, past-end}
+use Rattle.directory.specs.StepLaws.{visits-append, visits_in}
 use Rattle.directory.proofs.StepLaws.{AreBegun, begun}
-use Rattle.directory.proofs.NextLaws.{played-own, played-puts}
-use Rattle.directory.specs.HistoryLaws.{next-sub}
+use Rattle.directory.proofs.NextLaws.{played-puts}
+use Rattle.directory.proofs.StepsMade.{own-all}
 
 -- the visits of a front of some steps are no more than theirs
 fewer-visits : (setting : Setting) (sub : ℕ) (course : Course) (steps : List Step) (k : ℕ)
@@ -67,11 +67,7 @@ all-put : (setting : Setting) (scripts : Scripts) (history : History) (sub : ℕ
     → IsPlayed setting scripts history → IsDone setting scripts history sub
     → puts_to sub history ≡ script_visits setting scripts sub
 all-put setting scripts history sub known played done =
-    let whole : length (script_visits setting scripts sub) ≤ length (own sub history) =
-    past-end (script_visits setting scripts sub) (length (own sub history))
-    (sym (next-sub setting scripts history sub known) ∙ done) in
-    played-puts setting scripts history sub known played ∙ played-own setting scripts history sub known played
-    ∙ take_all (length (own sub history)) (script_visits setting scripts sub) whole
+    played-puts setting scripts history sub known played ∙ own-all setting scripts history sub known played done
 
 -- and show a front of its steps
 all-begun : MarksUnpack → (setting : Setting) (scripts : Scripts) (sub : ℕ) → setting.nodes ≤ 2 ^ 16

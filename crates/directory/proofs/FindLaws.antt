@@ -3,7 +3,7 @@ use Rattle.std.proofs.Common.{◌≡◌, ℕ, zero, suc, ◌+◌, ◌*◌, ◌�
 use Rattle.entry_word.specs.Marks.{mark_in}
 use Rattle.entry_word.specs.Addresses.{address_in}
 use Rattle.entry_word.specs.declared.mark.PresenceMark.{PresenceMark}
-use Rattle.entry_word.specs.declared.mark.PresenceMark.TheVariants.{Empty, Here, Gone, Coming, Off}
+use Rattle.entry_word.specs.declared.mark.PresenceMark.TheVariants.{Empty, Gone, Coming}
 use Rattle.std.proofs.lemmas.List.Sums.{sum_by-cons}
 use Rattle.directory.specs.Settings.{Setting}
 use Rattle.entry_word.specs.declared.address.Address.{Address}
@@ -41,35 +41,16 @@ climb-passes setting call known weight (reader ∷ passed) later (word ∷ words
 hop-once : (setting : Setting) (known level : Option ℕ) (weight hops node : ℕ) (mark : PresenceMark) (to : ℕ)
     → lead known mark ≡ Some to
     → after_mark setting (record { known = known; level = level; weight = weight; hops_left = suc hops }) node mark
-    ≡ chases (record {
-      known = known_after known mark;
-      level = level;
-      weight = weight + setting.distance node to;
-      hops_left = hops;
-    }) to
-hop-once setting known level weight hops node Empty to h = cc
-hop-once setting known level weight hops node (Here number) to h = cc
-hop-once setting known level weight hops node (Off number) to h = cc
+    ≡ hop setting (known_after known mark) level weight (suc hops) node to
 hop-once setting known level weight hops node (Gone number next) to h = let e : next ≡ to = cc in rw e refl
 hop-once setting known level weight hops node (Coming number next) to h = at_test (is_known number known) h
   where
     at_test : (b : Bool) → cond b None (Some next) ≡ Some to
-        → cond b (ended (At node number level weight))
-        (chases (record {
-          known = known;
-          level = level;
-          weight = weight + setting.distance node next;
-          hops_left =
-              hops;
-        }) next)
-        ≡ chases (record {
-          known = known;
-          level = level;
-          weight = weight + setting.distance node to;
-          hops_left = hops;
-        }) to
+        → cond b (ended (At node number level weight)) (hop setting known level weight (suc hops) node next)
+        ≡ hop setting known level weight (suc hops) node to
     at_test true h = cc
     at_test false h = let e : next ≡ to = cc in rw e refl
+hop-once setting known level weight hops node mark to h = cc
 
 -- the chase along marks that lead on
 pub chase-hops : (setting : Setting) (call : FindCall) (known last_known level : Option ℕ)
@@ -111,9 +92,6 @@ hop-left setting call known level weight (suc more) node to = omega arith
 
 mark-left : (setting : Setting) (call : FindCall) (chase : Chase) (node : ℕ) (mark : PresenceMark)
     → looks_left setting call (after_mark setting chase node mark) ≤ chase.hops_left
-mark-left setting call chase node Empty = omega arith
-mark-left setting call chase node (Here number) = omega arith
-mark-left setting call chase node (Off number) = omega arith
 mark-left setting call chase node (Gone number to) = hop-left setting call
     (known_with number chase.known) chase.level chase.weight chase.hops_left node to
 mark-left setting call chase node (Coming number from) = at_test (is_known number chase.known)
@@ -122,6 +100,7 @@ mark-left setting call chase node (Coming number from) = at_test (is_known numbe
         (hop setting chase.known chase.level chase.weight chase.hops_left node from)) ≤ chase.hops_left
     at_test true = omega arith
     at_test false = hop-left setting call chase.known chase.level chase.weight chase.hops_left node from
+mark-left setting call chase node mark = omega arith
 
 entry-left : (setting : Setting) (call : FindCall) (known : Option ℕ) (weight : ℕ) (reader : Reader)
     (later : List Reader) (entry : Option Address)
@@ -135,10 +114,8 @@ origin-left : (setting : Setting) (call : FindCall) (mark : PresenceMark)
     → looks_left setting call (after_origin setting call mark) ≤ length (all_readers setting call.from) +
     (setting.nodes + 3)
 origin-left setting call Empty = climb-left setting call None 0 (all_readers setting call.from)
-origin-left setting call (Here number) = omega arith
-origin-left setting call (Off number) = omega arith
 origin-left setting call (Gone number to) = climb-left setting call (Some number) 0 (all_readers setting call.from)
-origin-left setting call (Coming number from) = omega arith
+origin-left setting call mark = omega arith
 
 pub looks-fall : LooksFall
 looks-fall setting call at_origin word key h = omega (arith, origin-left setting call (mark_in word))

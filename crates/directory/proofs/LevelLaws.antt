@@ -7,7 +7,7 @@ use Rattle.node_set.specs.Ascending.{has, sift}
 use Rattle.entry_word.specs.declared.mark.PresenceMark.TheVariants.{Empty, Here, Gone}
 use Rattle.directory.specs.Settings.{Setting}
 use Rattle.directory.specs.Writes.{mark_at, entry_at, numbers_from, new_address, old_home, erasure_writes, purge_writes, trail, step_writes}
-use Rattle.directory.specs.Courses.{Step, move_to, switch_off, switch_on, Move, Course, course_at, stop, base, address_node, gathered_weight, next_move, after_step, after_steps}
+use Rattle.directory.specs.Courses.{Step, move_to, Move, Course, course_at, stop, base, address_node, gathered_weight, next_move, after_step, after_steps}
 use Rattle.directory.proofs.HistoryLaws.{base-after}
 use Rattle.directory.specs.StepLaws.{highest-low}
 use Rattle.node_set.specs.SetLaws.{length-passing-le}
@@ -34,10 +34,7 @@ numbered-steps setting course [] f = f
 numbered-steps setting course (move_to node ∷ steps) f = numbered-steps setting
     (after_step setting course (move_to node)) steps (numbered-append 0 course.moves (next_move setting course node)
     (let e : suc (length course.moves) ≡ suc (0 + length course.moves) = omega arith in e) f)
-numbered-steps setting course (switch_off ∷ steps) f = numbered-steps setting
-    (after_step setting course switch_off) steps f
-numbered-steps setting course (switch_on ∷ steps) f = numbered-steps setting
-    (after_step setting course switch_on) steps f
+numbered-steps setting course (switch ∷ steps) f = numbered-steps setting (after_step setting course switch) steps f
 
 base-low : (level n low : ℕ) (moves : List Move) → low ≤ n → AreNumbered n moves
     → fold (λ last (m : Move). cond (nat_le level m.renewed) m.number last) low moves ≤ n + length moves

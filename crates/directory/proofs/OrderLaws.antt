@@ -226,16 +226,6 @@ own-order setting scripts history played =
     )
     (turn-some setting scripts (take t history) visit.actor visit (played t visit h)))
 
--- the order of the actors of a history that is played to its end gives that history again
-pub same-again : OrdersAreOwn
-same-again setting scripts history played done =
-    rw (
-      after_turns-append setting scripts [] (map (λ (visit : Visit). visit.actor) history)
-          (last_turns setting scripts),
-      own-order setting scripts history played,
-    )
-    (all-idle setting scripts history (last_turns setting scripts) done)
-
 -- a played history, whoever made it, becomes the history of the order of its actors
 pub completed : HistoriesAreOrdered
 completed setting scripts history played =
@@ -244,3 +234,8 @@ completed setting scripts history played =
           (last_turns setting scripts),
       own-order setting scripts history played,
     ) refl
+
+-- the order of the actors of a history that is played to its end gives that history again
+pub same-again : OrdersAreOwn
+same-again setting scripts history played done =
+    completed setting scripts history played ∙ all-idle setting scripts history (last_turns setting scripts) done

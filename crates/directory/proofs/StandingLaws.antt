@@ -7,12 +7,13 @@ use Rattle.std.proofs.lemmas.List.Elements.{filter_map-append}
 use Rattle.entry_word.specs.declared.mark.PresenceMark.TheVariants.{Empty, Here, Gone, Coming}
 use Rattle.directory.specs.Settings.{Setting, start}
 use Rattle.directory.specs.Histories.{puts_to}
-use Rattle.directory.specs.Courses.{Step, move_to, switch_off, switch_on, Move, Course, course_at, next_move, after_step, after_steps}
+use Rattle.directory.specs.Courses.{Step, move_to, Move, Course, course_at, next_move, after_step, after_steps}
 use Rattle.directory.specs.Writes.{Write, mark_at, entry_at, numbers_from, new_address, erasure_writes, purge_writes, move_writes, step_writes, writes}
 use Rattle.directory.specs.Puts.{steps_in, course_in}
 use Rattle.directory.specs.Standing.{Commit, commit_by, commits, number}
 use Rattle.directory.specs.States.{write_commit}
 use Rattle.directory.proofs.StateLaws.{commits-told}
+use Rattle.directory.proofs.StepLaws.{nothing-taken}
 use Rattle.entry_word.specs.Marks.{MarksUnpack}
 use Rattle.directory.specs.Statements.{CommitsAreMoves, StandsAtStop}
 use Rattle.directory.specs.StepLaws.{take-append, start-kept}
@@ -22,8 +23,7 @@ unfoldable pub added : Setting → Course → List Step → List Move
 added setting course [] = []
 added setting course (move_to node ∷ steps) = next_move setting course node ∷ added setting
     (after_step setting course (move_to node)) steps
-added setting course (switch_off ∷ steps) = added setting (after_step setting course switch_off) steps
-added setting course (switch_on ∷ steps) = added setting (after_step setting course switch_on) steps
+added setting course (switch ∷ steps) = added setting (after_step setting course switch) steps
 
 pub moves-added : (setting : Setting) (course : Course) (steps : List Step)
     → (after_steps setting course steps).moves ≡ course.moves ++ added setting course steps
@@ -33,8 +33,7 @@ moves-added setting course (move_to node ∷ steps) =
     moves-added setting (after_step setting course (move_to node)) steps
     ∙ append_assoc course.moves (next_move setting course node ∷ [])
     (added setting (after_step setting course (move_to node)) steps)
-moves-added setting course (switch_off ∷ steps) = moves-added setting (after_step setting course switch_off) steps
-moves-added setting course (switch_on ∷ steps) = moves-added setting (after_step setting course switch_on) steps
+moves-added setting course (switch ∷ steps) = moves-added setting (after_step setting course switch) steps
 
 -- writes that are no commits
 unfoldable NoCommits : List Write → Type 0
@@ -117,10 +116,6 @@ record AreCommitted (setting : Setting) (course : Course) (steps : List Step) (k
   listed : filter_map write_commit (take k (writes setting course steps))
       ≡ map commit_by (take count (added setting course steps))
 
-nothing-taken : (k : ℕ) → take {A = Write} k [] ≡ []
-nothing-taken zero = refl
-nothing-taken (suc k) = refl
-
 parted : (setting : Setting) (course : Course) (step : Step) (steps : List Step) (k : ℕ)
     → filter_map write_commit (take k (step_writes setting course step ++ writes setting
     (after_step setting course step) steps))
@@ -138,34 +133,8 @@ committed setting course [] k = record {
   count = 0;
   few = omega arith;
   listed = ap (filter_map write_commit)
-      (nothing-taken k);
+      (nothing-taken {A = Write} k);
 }
-committed setting course (switch_off ∷ steps) k = switched
-    (committed setting (after_step setting course switch_off) steps (k - 1))
-  where
-    switched : AreCommitted setting (after_step setting course switch_off) steps (k - 1)
-        → AreCommitted setting course (switch_off ∷ steps) k
-    switched later = record {
-      count = later.count;
-      few = later.few;
-      listed = parted setting course switch_off steps k
-          ∙ (ap (λ cs. cs ++ filter_map write_commit (take (k - 1)
-          (writes setting (after_step setting course switch_off) steps)))
-          (none-listed (take k (step_writes setting course switch_off)) (no-take k _ (refl, tt))) ∙ later.listed);
-    }
-committed setting course (switch_on ∷ steps) k = switched
-    (committed setting (after_step setting course switch_on) steps (k - 1))
-  where
-    switched : AreCommitted setting (after_step setting course switch_on) steps (k - 1)
-        → AreCommitted setting course (switch_on ∷ steps) k
-    switched later = record {
-      count = later.count;
-      few = later.few;
-      listed = parted setting course switch_on steps k
-          ∙ (ap (λ cs. cs ++ filter_map write_commit (take (k - 1)
-          (writes setting (after_step setting course switch_on) steps)))
-          (none-listed (take k (step_writes setting course switch_on)) (no-take k _ (refl, tt))) ∙ later.listed);
-    }
 committed setting course (move_to node ∷ steps) k = moved
     (committed setting (after_step setting course (move_to node)) steps (k - length mine))
     (is_past (suc (length addresses)) k) refl
@@ -188,26 +157,27 @@ committed setting course (move_to node ∷ steps) k = moved
           its_move))),
     )
 
+    split : (b : Bool) → is_past (suc (length addresses)) k ≡ b
+        → filter_map write_commit (take k (writes setting course (move_to node ∷ steps)))
+        ≡ cond b (commit_by its_move ∷ []) [] ++ filter_map write_commit (take (k - length mine)
+        (writes setting (after_step setting course (move_to node)) steps))
+    split b e = parted setting course (move_to node) steps k ∙ ap (λ cs. cs ++ filter_map write_commit
+        (take (k - length mine) (writes setting (after_step setting course (move_to node)) steps)))
+        (move-listed setting course its_move k ∙ ap (λ b. cond b (commit_by its_move ∷ []) []) e)
+
     moved : AreCommitted setting (after_step setting course (move_to node)) steps (k - length mine) → (b : Bool)
         → is_past (suc (length addresses)) k ≡ b → AreCommitted setting course (move_to node ∷ steps) k
     moved later true e = record {
       count = suc later.count;
       few = omega (arith, later.few);
-      listed = parted setting course (move_to node) steps k
-          ∙ (ap (λ cs. cs ++ filter_map write_commit (take (k - length mine)
-          (writes setting (after_step setting course (move_to node)) steps)))
-          (move-listed setting course its_move k ∙ ap (λ b. cond b (commit_by its_move ∷ []) []) e)
-          ∙ ap (λ cs. commit_by its_move ∷ cs) later.listed);
+      listed = split true e ∙ ap (λ cs. commit_by its_move ∷ cs) later.listed;
     }
     moved later false e = record {
       count = 0;
       few = omega arith;
-      listed = parted setting course (move_to node) steps k
-          ∙ (ap (λ cs. cs ++ filter_map write_commit (take (k - length mine)
-          (writes setting (after_step setting course (move_to node)) steps)))
-          (move-listed setting course its_move k ∙ ap (λ b. cond b (commit_by its_move ∷ []) []) e)
+      listed = split false e
           ∙ ap (λ n. filter_map write_commit (take n (writes setting
-          (after_step setting course (move_to node)) steps))) none_more);
+          (after_step setting course (move_to node)) steps))) none_more;
     }
       where
         early : k ≤ suc (length addresses)
@@ -215,6 +185,19 @@ committed setting course (move_to node ∷ steps) k = moved
 
         none_more : k - length mine ≡ 0
         none_more = omega (arith, early, longer)
+committed setting course (switch ∷ steps) k = switched
+    (committed setting (after_step setting course switch) steps (k - 1))
+  where
+    switched : AreCommitted setting (after_step setting course switch) steps (k - 1)
+        → AreCommitted setting course (switch ∷ steps) k
+    switched later = record {
+      count = later.count;
+      few = later.few;
+      listed = parted setting course switch steps k
+          ∙ (ap (λ cs. cs ++ filter_map write_commit (take (k - 1)
+          (writes setting (after_step setting course switch) steps)))
+          (none-listed (take k (step_writes setting course switch)) (no-take k _ (refl, tt))) ∙ later.listed);
+    }
 
 -- the commits of a legal history are the first moves of its course
 pub commits-are_moves : MarksUnpack → CommitsAreMoves

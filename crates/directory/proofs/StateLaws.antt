@@ -1,6 +1,6 @@
 -- A cell after a legal history holds what the writes that are made have left; and these fit into their words.
 use Rattle.std.proofs.Common.{◌≡◌, ℕ, zero, suc, ◌<◌, ◌≤◌, ◌^◌, Bool, true, false, cond, ◌==◌, ◌&&◌, List, [], ◌∷◌, ◌++◌, Option, Some, None, length, map, take, fold, refl, ap, ◌∙◌, arith}
-use Rattle.std.specs.Prelude.{if◌then◌else◌, unwrap_or, filter_map}
+use Rattle.std.specs.Prelude.{unwrap_or, filter_map}
 use Rattle.std.specs.List.{cons_option}
 use Rattle.std.proofs.lemmas.Bool.{eq-eqb}
 use Rattle.std.proofs.lemmas.List.{take-map}
@@ -48,23 +48,13 @@ entry-write sub level cluster address (entry_at other c new) = rw (eq-eqb sub su
     at_test true = refl
     at_test false = refl
 
--- some writes
-mark-writes : (sub node : ℕ) (mark : PresenceMark) (ws : List Write)
-    → fold (λ word (visit : Visit). word_after (Presence node sub) word visit.act) (mark_word mark)
-    (map (visit_of sub) ws) ≡ mark_word (fold (mark_after node) mark ws)
-mark-writes sub node mark [] = refl
-mark-writes sub node mark (write ∷ ws) =
-    ap (λ w. fold (λ word (visit : Visit). word_after (Presence node sub) word visit.act) w (map (visit_of sub) ws))
-    (mark-write sub node mark write) ∙ mark-writes sub node (mark_after node mark write) ws
-
-entry-writes : (sub level cluster : ℕ) (address : Option Address) (ws : List Write)
-    → fold (λ word (visit : Visit). word_after (Entry level cluster sub) word visit.act) (address_word address)
-    (map (visit_of sub) ws) ≡ address_word (fold (entry_after level cluster) address ws)
-entry-writes sub level cluster address [] = refl
-entry-writes sub level cluster address (write ∷ ws) =
-    ap (λ w. fold (λ word (visit : Visit). word_after (Entry level cluster sub) word visit.act) w
-    (map (visit_of sub) ws)) (entry-write sub level cluster address write)
-    ∙ entry-writes sub level cluster (entry_after level cluster address write) ws
+-- some writes: a cell holds the word of what they leave
+writes-left : {A : Type 0} (f : ℕ → Visit → ℕ) (after : A → Write → A) (word : A → ℕ) (sub : ℕ)
+    → ((a : A) (write : Write) → f (word a) (visit_of sub write) ≡ word (after a write)) → (a : A) (ws : List Write)
+    → fold f (word a) (map (visit_of sub) ws) ≡ word (fold after a ws)
+writes-left f after word sub one a [] = refl
+writes-left f after word sub one a (write ∷ ws) = ap (λ w. fold f w (map (visit_of sub) ws)) (one a write)
+    ∙ writes-left f after word sub one (after a write) ws
 
 -- the puts of a legal history are the visits of the writes that are made
 pub puts-made : (setting : Setting) (sub : ℕ) (history : History) → IsLegal setting sub history
@@ -78,7 +68,8 @@ pub mark-word_left : (setting : Setting) (sub : ℕ) (history : History) → IsL
 mark-word_left setting sub history legal node =
     cell-of_puts setting history (Presence node sub) ∙ (ap (λ puts. cell setting puts (Presence node sub))
     (puts-made setting sub history legal)
-    ∙ mark-writes sub node (opening_mark setting sub node) (writes_made setting sub (puts_to sub history)))
+    ∙ writes-left (λ w (visit : Visit). word_after (Presence node sub) w visit.act) (mark_after node) mark_word sub
+    (mark-write sub node) (opening_mark setting sub node) (writes_made setting sub (puts_to sub history)))
 
 pub entry-word_left : (setting : Setting) (sub : ℕ) (history : History) → IsLegal setting sub history
     → (level cluster : ℕ)
@@ -87,7 +78,8 @@ pub entry-word_left : (setting : Setting) (sub : ℕ) (history : History) → Is
 entry-word_left setting sub history legal level cluster =
     cell-of_puts setting history (Entry level cluster sub)
     ∙ (ap (λ puts. cell setting puts (Entry level cluster sub)) (puts-made setting sub history legal)
-    ∙ entry-writes sub level cluster (opening_entry setting sub level cluster)
+    ∙ writes-left (λ w (visit : Visit). word_after (Entry level cluster sub) w visit.act) (entry_after level cluster)
+    address_word sub (entry-write sub level cluster) (opening_entry setting sub level cluster)
     (writes_made setting sub (puts_to sub history)))
 
 -- the writes of steps fit into their words
@@ -152,31 +144,31 @@ small-made setting sub history low legal =
     (record { low = low; inside = legal.script.begins; few = omega arith }) legal.script.allowed)
 
 -- what is left fits into its word
-small-mark_left : (node : ℕ) (mark : PresenceMark) (ws : List Write) → IsSmallMark mark → AreSmall ws
-    → IsSmallMark (fold (mark_after node) mark ws)
+small-left : {A : Type 0} (IsSmall : A → Type 0) (after : A → Write → A)
+    → ((a : A) (write : Write) → IsSmall a → IsSmallWrite write → IsSmall (after a write)) → (a : A) (ws : List Write)
+    → IsSmall a → AreSmall ws → IsSmall (fold after a ws)
 unfolding AreSmall
-small-mark_left node mark [] small all = small
-small-mark_left node mark (mark_at other new ∷ ws) small all = small-mark_left node
-    (if node == other then new else mark) ws (at_test (node == other) all.0) all.1
-  where
-    at_test : (b : Bool) → IsSmallMark new → IsSmallMark (cond b new mark)
-    at_test true h = h
-    at_test false h = small
-small-mark_left node mark (entry_at level cluster address ∷ ws) small all = small-mark_left node mark ws small all.1
+small-left IsSmall after one a [] small all = small
+small-left IsSmall after one a (write ∷ ws) small all =
+    small-left IsSmall after one (after a write) ws (one a write small all.0) all.1
 
-small-entry_left : (level cluster : ℕ) (address : Option Address) (ws : List Write) → IsSmallAddress address
-    → AreSmall ws → IsSmallAddress (fold (entry_after level cluster) address ws)
-unfolding AreSmall
-small-entry_left level cluster address [] small all = small
-small-entry_left level cluster address (mark_at node mark ∷ ws) small all = small-entry_left level cluster address ws
-    small all.1
-small-entry_left level cluster address (entry_at other c new ∷ ws) small all = small-entry_left level cluster
-    (if level == other && cluster == c then new else address) ws
-    (at_test (level == other && cluster == c) all.0) all.1
+small-mark_after : (node : ℕ) (mark : PresenceMark) (write : Write) → IsSmallMark mark → IsSmallWrite write
+    → IsSmallMark (mark_after node mark write)
+small-mark_after node mark (mark_at other new) small fits = at_test (node == other)
   where
-    at_test : (b : Bool) → IsSmallAddress new → IsSmallAddress (cond b new address)
-    at_test true h = h
-    at_test false h = small
+    at_test : (b : Bool) → IsSmallMark (cond b new mark)
+    at_test true = fits
+    at_test false = small
+small-mark_after node mark (entry_at level cluster address) small fits = small
+
+small-entry_after : (level cluster : ℕ) (address : Option Address) (write : Write) → IsSmallAddress address
+    → IsSmallWrite write → IsSmallAddress (entry_after level cluster address write)
+small-entry_after level cluster address (mark_at node mark) small fits = small
+small-entry_after level cluster address (entry_at other c new) small fits = at_test (level == other && cluster == c)
+  where
+    at_test : (b : Bool) → IsSmallAddress (cond b new address)
+    at_test true = fits
+    at_test false = small
 
 -- so what is read of a legal history is what its writes have left
 pub mark-read : MarksUnpack → MarksAreLeft
@@ -184,7 +176,7 @@ mark-read unpacks setting sub history low legal node =
     ap mark_in (mark-word_left setting sub history legal node)
     ∙ ap (λ m. unwrap_or m Empty) (unpacks (mark_left setting sub
     (writes_made setting sub (puts_to sub history)) node)
-    (small-mark_left node (opening_mark setting sub node) _ (at_test (is_start setting node sub))
+    (small-left IsSmallMark (mark_after node) (small-mark_after node) (opening_mark setting sub node) _ (at_test (is_start setting node sub))
     (small-made setting sub history low legal)))
   where
     at_test : (b : Bool) → IsSmallMark (cond b (Here 0) Empty)
@@ -196,7 +188,8 @@ entry-read unpacks setting sub history low legal level cluster =
     ap address_in (entry-word_left setting sub history legal level cluster)
     ∙ ap (λ a. unwrap_or a None) (unpacks (entry_left setting sub
     (writes_made setting sub (puts_to sub history)) level cluster)
-    (small-entry_left level cluster (opening_entry setting sub level cluster) _
+    (small-left IsSmallAddress (entry_after level cluster) (small-entry_after level cluster)
+    (opening_entry setting sub level cluster) _
     (at_test (is_start_home setting level cluster sub) legal.script.begins low)
     (small-made setting sub history low legal)))
   where

@@ -139,7 +139,7 @@ course-after setting course (move_to node) sound may =
 course-after setting course switch_off sound may = record { low = sound.low; inside = sound.inside; few = sound.few }
 course-after setting course switch_on sound may = record { low = sound.low; inside = sound.inside; few = sound.few }
 
-nothing-taken : (k : ℕ) → take {A = Visit} k [] ≡ []
+pub nothing-taken : {A : Type 0} (k : ℕ) → take {A = A} k [] ≡ []
 nothing-taken zero = refl
 nothing-taken (suc k) = refl
 
@@ -163,12 +163,12 @@ one-begun unpacks setting sub course (move_to node) k later sound may =
     ∙ ap (λ b. steps_from b later) (sym may.is_on))
 one-begun unpacks setting sub course switch_off k later sound may =
     ap (λ vs. steps_from course.is_off (visit_of sub (mark_at (last_stop course) (Off (length course.moves))) ∷
-    (vs ++ later))) (nothing-taken k)
+    (vs ++ later))) (nothing-taken {A = Visit} k)
     ∙ ap (λ m. cons_option (mark_step course.is_off (last_stop course) m) (steps_from (says_off m) later))
     (read-mark unpacks (Off (length course.moves)) sound.few)
 one-begun unpacks setting sub course switch_on k later sound may =
     ap (λ vs. steps_from course.is_off (visit_of sub (mark_at (last_stop course) (Here (length course.moves))) ∷
-    (vs ++ later))) (nothing-taken k)
+    (vs ++ later))) (nothing-taken {A = Visit} k)
     ∙ (ap (λ m. cons_option (mark_step course.is_off (last_stop course) m) (steps_from (says_off m) later))
     (read-mark unpacks (Here (length course.moves)) sound.few)
     ∙ ap (λ b. cons_option (mark_step b (last_stop course) (Here (length course.moves))) (steps_from false later))
@@ -177,12 +177,6 @@ one-begun unpacks setting sub course switch_on k later sound may =
 pub begun : MarksUnpack → (setting : Setting) (sub : ℕ) (course : Course) (steps : List Step) (k : ℕ)
     → IsCourse setting course → MaySteps setting course steps → AreBegun setting sub course steps k
 unfolding writes steps_from MaySteps
-begun unpacks setting sub course [] zero sound may = record
-    { count = 0; few = omega arith; shown = refl; enough = refl }
-begun unpacks setting sub course [] (suc k) sound may = record
-    { count = 0; few = omega arith; shown = refl; enough = refl }
-begun unpacks setting sub course (step ∷ steps) zero sound may = record
-    { count = 0; few = omega arith; shown = refl; enough = refl }
 begun unpacks setting sub course (step ∷ steps) (suc k) sound may =
     more (begun unpacks setting sub (after_step setting course step) steps (suc k - length mine)
     (course-after setting course step sound may.0) may.1)
@@ -208,6 +202,9 @@ begun unpacks setting sub course (step ∷ steps) (suc k) sound may =
       enough = parted steps ∙ (ap (λ vs. take (suc k) mine ++ vs) later.enough
           ∙ sym (parted (take later.count steps)));
     }
+begun unpacks setting sub course steps k sound may =
+    let none : take {A = Visit} k [] ≡ [] = nothing-taken k in
+    record { count = 0; few = omega arith; shown = ap (steps_from course.is_off) none; enough = refl }
 
 -- the first steps of some that may come may come
 may-take : (setting : Setting) (course : Course) (steps : List Step) (count : ℕ) → MaySteps setting course steps

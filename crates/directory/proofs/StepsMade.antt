@@ -1,5 +1,5 @@
 -- The lines of a subscriber are made by its visits: each step's by all the writes of the step.
-use Rattle.std.proofs.Common.{◌≡◌, ℕ, zero, suc, ◌<◌, ◌≤◌, List, [], ◌∷◌, ◌++◌, Option, Some, None, length, map, take, drop, refl, sym, ap, ◌∙◌, subst, arith, append_assoc}
+use Rattle.std.proofs.Common.{◌≡◌, ℕ, ◌<◌, List, [], ◌∷◌, ◌++◌, Option, Some, length, map, take, drop, refl, sym, ap, ◌∙◌, subst, append_assoc}
 use Rattle.std.specs.Prelude.{slice_get, All}
 use Rattle.std.proofs.lemmas.List.{take_at, drop_at, take-map, drop-map, length-map, map-append, take_all}
 use Rattle.std.proofs.lemmas.List.Sums.{fold-append}
@@ -15,6 +15,7 @@ use Rattle.directory.specs.Outcomes.{step_line, step_lines, sub_lines, IsStepLin
 use Rattle.directory.proofs.NextLaws.{played-own}
 use Rattle.directory.proofs.TicketLaws.{tickets-tell, tickets-ascend, ascending_take, ascending_drop}
 use Rattle.directory.specs.HistoryLaws.{next-sub}
+use Rattle.directory.specs.StepLaws.{past-end}
 use Rattle.std.proofs.lemmas.Simd.{map-map}
 
 -- the first visits of some are those of the first writes, and the others those of the others
@@ -87,11 +88,6 @@ steps_made setting scripts history sub done (step ∷ left) seen script ascendin
     parts = parted history sub seen (step_writes setting course step)
         (writes setting (after_step setting course step) left) made
 
-get_none : (xs : List Visit) (i : ℕ) → slice_get xs i ≡ None → length xs ≤ i
-get_none [] i h = omega arith
-get_none (x ∷ xs) zero h = cc
-get_none (x ∷ xs) (suc i) h = omega (arith, get_none xs i h)
-
 -- a subscriber that is done has made all visits of its script
 pub own-all : (setting : Setting) (scripts : Scripts) (history : History) (sub : ℕ) → sub < subs setting
     → IsPlayed setting scripts history → IsDone setting scripts history sub
@@ -99,7 +95,7 @@ pub own-all : (setting : Setting) (scripts : Scripts) (history : History) (sub :
 own-all setting scripts history sub below played done =
     played-own setting scripts history sub below played
     ∙ take_all (length (own sub history)) (script_visits setting scripts sub)
-    (get_none (script_visits setting scripts sub) (length (own sub history))
+    (past-end (script_visits setting scripts sub) (length (own sub history))
     (sym (next-sub setting scripts history sub below) ∙ done))
 
 pub sub_made : (setting : Setting) (scripts : Scripts) (history : History) (sub : ℕ) → sub < subs setting
