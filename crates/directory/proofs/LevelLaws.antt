@@ -34,7 +34,7 @@ numbered-steps setting course [] f = f
 numbered-steps setting course (move_to node ∷ steps) f = numbered-steps setting
     (after_step setting course (move_to node)) steps (numbered-append 0 course.moves (next_move setting course node)
     (let e : suc (length course.moves) ≡ suc (0 + length course.moves) = omega arith in e) f)
-numbered-steps setting course (switch ∷ steps) f = numbered-steps setting (after_step setting course switch) steps f
+numbered-steps setting course (step ∷ steps) f = numbered-steps setting (after_step setting course step) steps f
 
 base-low : (level n low : ℕ) (moves : List Move) → low ≤ n → AreNumbered n moves
     → fold (λ last (m : Move). cond (nat_le level m.renewed) m.number last) low moves ≤ n + length moves

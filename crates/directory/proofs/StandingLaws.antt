@@ -23,7 +23,7 @@ unfoldable pub added : Setting → Course → List Step → List Move
 added setting course [] = []
 added setting course (move_to node ∷ steps) = next_move setting course node ∷ added setting
     (after_step setting course (move_to node)) steps
-added setting course (switch ∷ steps) = added setting (after_step setting course switch) steps
+added setting course (step ∷ steps) = added setting (after_step setting course step) steps
 
 pub moves-added : (setting : Setting) (course : Course) (steps : List Step)
     → (after_steps setting course steps).moves ≡ course.moves ++ added setting course steps
@@ -33,7 +33,7 @@ moves-added setting course (move_to node ∷ steps) =
     moves-added setting (after_step setting course (move_to node)) steps
     ∙ append_assoc course.moves (next_move setting course node ∷ [])
     (added setting (after_step setting course (move_to node)) steps)
-moves-added setting course (switch ∷ steps) = moves-added setting (after_step setting course switch) steps
+moves-added setting course (step ∷ steps) = moves-added setting (after_step setting course step) steps
 
 -- writes that are no commits
 unfoldable NoCommits : List Write → Type 0
@@ -185,18 +185,18 @@ committed setting course (move_to node ∷ steps) k = moved
 
         none_more : k - length mine ≡ 0
         none_more = omega (arith, early, longer)
-committed setting course (switch ∷ steps) k = switched
-    (committed setting (after_step setting course switch) steps (k - 1))
+committed setting course (step ∷ steps) k = switched
+    (committed setting (after_step setting course step) steps (k - 1))
   where
-    switched : AreCommitted setting (after_step setting course switch) steps (k - 1)
-        → AreCommitted setting course (switch ∷ steps) k
+    switched : AreCommitted setting (after_step setting course step) steps (k - 1)
+        → AreCommitted setting course (step ∷ steps) k
     switched later = record {
       count = later.count;
       few = later.few;
-      listed = parted setting course switch steps k
+      listed = parted setting course step steps k
           ∙ (ap (λ cs. cs ++ filter_map write_commit (take (k - 1)
-          (writes setting (after_step setting course switch) steps)))
-          (none-listed (take k (step_writes setting course switch)) (no-take k _ (refl, tt))) ∙ later.listed);
+          (writes setting (after_step setting course step) steps)))
+          (none-listed (take k (step_writes setting course step)) (no-take k _ (refl, tt))) ∙ later.listed);
     }
 
 -- the commits of a legal history are the first moves of its course

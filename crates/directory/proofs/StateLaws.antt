@@ -176,7 +176,8 @@ mark-read unpacks setting sub history low legal node =
     ap mark_in (mark-word_left setting sub history legal node)
     ∙ ap (λ m. unwrap_or m Empty) (unpacks (mark_left setting sub
     (writes_made setting sub (puts_to sub history)) node)
-    (small-left IsSmallMark (mark_after node) (small-mark_after node) (opening_mark setting sub node) _ (at_test (is_start setting node sub))
+    (small-left IsSmallMark (mark_after node) (small-mark_after node) (opening_mark setting sub node) _
+    (at_test (is_start setting node sub))
     (small-made setting sub history low legal)))
   where
     at_test : (b : Bool) → IsSmallMark (cond b (Here 0) Empty)

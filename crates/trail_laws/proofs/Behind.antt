@@ -106,11 +106,9 @@ below-less a b [] h all = tt
 below-less a b (x ∷ xs) h all = (omega (arith, h, all.0), below-less a b xs h all.1)
 
 goes-back : (p : ℕ) (mark : PresenceMark) → GoesUp (p - 1) mark → IsBegun p mark → GoesBack p mark
-goes-back p Empty up begun = tt
 goes-back p (Here q) up begun = omega (arith, up)
 goes-back p (Gone q to) up begun = omega (arith, up)
-goes-back p (Coming q from) up begun = begun
-goes-back p (Off q) up begun = begun
+goes-back p mark up begun = begun
 
 -- what a mark leaves for the next one
 abbrev pub after_gone : ℕ → Behind
@@ -129,12 +127,6 @@ Continues behind (Off q) later = later ≡ []
 pub one-more : (behind : Behind) (mark : PresenceMark) (later : List PresenceMark) → behind.gone ≤ behind.place
     → GoesUp behind.place mark → IsBegun behind.begun mark → Continues behind mark later
     → Rises behind (mark ∷ later)
-one-more behind Empty later low up begun none = subst (λ l. Rises behind (Empty ∷ l)) (sym none)
-    (record { head = (tt, tt); on = tt; above = tt; ascends = tt })
-one-more behind (Here q) later low up begun none = subst (λ l. Rises behind (Here q ∷ l)) (sym none)
-    (record { head = (up, tt); on = tt; above = tt; ascends = tt })
-one-more behind (Off q) later low up begun none = subst (λ l. Rises behind (Off q ∷ l)) (sym none)
-    (record { head = (up, begun); on = tt; above = tt; ascends = tt })
 one-more behind (Gone q to) later low up begun rest = record {
   head = (up, tt);
   on = joined later rest.head rest.on;
@@ -156,6 +148,8 @@ one-more behind (Coming q from) later low up begun rest = record {
         → FollowOn (Coming q from ∷ marks)
     joined [] head on = tt
     joined (next ∷ more) head on = (goes-back q next head.0 head.1, on)
+one-more behind mark later low up begun none = subst (λ l. Rises behind (mark ∷ l)) (sym none)
+    (record { head = (up, begun); on = tt; above = tt; ascends = tt })
 
 -- no mark is read after the end
 pub ended-none : (setting : Setting) (call : FindCall) (pursuit : Pursuit) (words : List ℕ)

@@ -11,7 +11,7 @@ use Rattle.entry_word.specs.declared.visit.Key.TheVariants.{Presence}
 use Rattle.directory.specs.Settings.{Setting, start}
 use Rattle.directory.specs.Histories.{before, cell, History, words_at, words_by}
 use Rattle.directory.specs.Legal.{IsLegal}
-use Rattle.directory.specs.Finds.{after_mark, after_word, at_origin, Chase, chases, climbs, ended, FindCall, hop, is_known, key_of, known_with, Pursuit}
+use Rattle.directory.specs.Finds.{after_mark, after_word, at_origin, Chase, chases, ended, FindCall, hop, is_known, key_of, known_with, Pursuit}
 use Rattle.directory.specs.Looks.{AreLooks}
 use Rattle.directory.specs.Standing.{commits, number, off, standing}
 use Rattle.directory.specs.Statements.{FrontsAreLegal}
@@ -37,20 +37,14 @@ pub record ChaseLaws : Type 0 where
   pub fronts : FrontsAreLegal
 
 -- what the counts of a legal history tell
-counted : Laws → (setting : Setting) (sub : ℕ) (history : History) → setting.nodes ≤ 2 ^ 16
-    → IsLegal setting sub history
-    → (moves_begun setting sub history ≡ suc (number sub history)) ⊎ (moves_begun setting sub history
-    ≡ number sub history)
-unfolding HistoryView
-counted laws setting sub history low legal =
-    view-counts setting (shown setting sub history) (view laws setting sub history low legal)
-
 number-few : Laws → (setting : Setting) (sub : ℕ) (history : History) → setting.nodes ≤ 2 ^ 16
     → IsLegal setting sub history → number sub history ≤ moves_begun setting sub history
-number-few laws setting sub history low legal = elim (counted laws setting sub history low legal) [
-  | inl more ↦ omega (arith, more)
-  | inr same ↦ omega (arith, same)
-]
+unfolding HistoryView
+number-few laws setting sub history low legal =
+    elim (view-counts setting (shown setting sub history) (view laws setting sub history low legal)) [
+      | inl more ↦ omega (arith, more)
+      | inr same ↦ omega (arith, same)
+    ]
 
 off-rests : Laws → (setting : Setting) (sub : ℕ) (history : History) → setting.nodes ≤ 2 ^ 16
     → IsLegal setting sub history → off sub history ≡ true → moves_begun setting sub history ≡ number sub history
@@ -112,30 +106,28 @@ coming-leads : ChaseLaws → (setting : Setting) (sub : ℕ) (seen : History) (b
     → is_known p known ≡ false → IsBehind setting sub seen (after_coming behind p) known from
 unfolding HistoryView
 coming-leads laws setting sub seen behind known node p from low legal tells is new = record {
-  few = few tells.3;
-  stop = inr (stop tells.3);
+  few = (led tells.3).0;
+  stop = inr (led tells.3).1;
   early = omega (arith, tells.0);
   rises = is.fresh p new;
   fresh = is.fresh;
 }
   where
-    few : ((p ≡ suc (number sub seen)) × (from ≡ standing setting sub seen))
+    led : ((p ≡ suc (number sub seen)) × (from ≡ standing setting sub seen))
         ⊎ ((p ≡ number sub seen) × (node ≡ standing setting sub seen) × (mark_seen setting sub seen from ≡ Gone p node))
-        → p - 1 ≤ number sub seen
-    few (inl early) = omega (arith, early.0)
-    few (inr late) = omega (arith, late.0)
-
-    stop : ((p ≡ suc (number sub seen)) × (from ≡ standing setting sub seen))
-        ⊎ ((p ≡ number sub seen) × (node ≡ standing setting sub seen) × (mark_seen setting sub seen from ≡ Gone p node))
-        → stop_after (start setting sub) (commits sub seen) (p - 1) ≡ from
-    stop (inl early) =
-        let e : p - 1 ≡ length (commits sub seen) = omega (arith, early.0) in
-        ap (stop_after (start setting sub) (commits sub seen)) e
-        ∙ (stop-last (start setting sub) (commits sub seen) ∙ sym early.1)
-    stop (inr late) =
+        → (p - 1 ≤ number sub seen) × (stop_after (start setting sub) (commits sub seen) (p - 1) ≡ from)
+    led (inl early) =
+        let e : p - 1 ≡ length (commits sub seen) = omega (arith, early.0) in (
+          omega (arith, early.0),
+          ap (stop_after (start setting sub) (commits sub seen)) e
+              ∙ (stop-last (start setting sub) (commits sub seen) ∙ sym early.1),
+        )
+    led (inr late) =
         let gone : MarkTells setting sub seen from (Gone p node) = subst (MarkTells setting sub seen from) late.2
-        (laws.marks setting sub seen low legal from tells.1) in
-        stop-left setting (shown setting sub seen) (view laws.cells setting sub seen low legal) (p - 1) _ gone.1
+        (laws.marks setting sub seen low legal from tells.1) in (
+          omega (arith, late.0),
+          stop-left setting (shown setting sub seen) (view laws.cells setting sub seen low legal) (p - 1) _ gone.1,
+        )
 
 -- one look of a chase
 module _ (laws : ChaseLaws) (setting : Setting) (history : History) (call : FindCall) (t : ℕ) (chase : Chase)
@@ -207,14 +199,6 @@ look-rises : ChaseLaws → (setting : Setting) (history : History) (call : FindC
     → Rises b (marks_chased setting call
     (after_word setting call pursuit (cell setting (before t history) key)) words))
     → Rises behind (marks_chased setting call pursuit (cell setting (before t history) key ∷ words))
-look-rises laws setting history call t at_origin key words behind low legal safe tracked wanted more =
-    subst (λ b. Rises b (marks_chased setting call at_origin (cell setting (before t history) key ∷ words)))
-    (sym tracked) (more nothing (tracked-nothing setting call.sub (before (suc t) history) _))
-look-rises laws setting history call t (climbs known weight reader later) key words behind low legal safe tracked
-    wanted more =
-    subst (λ b. Rises b (marks_chased setting call (climbs known weight reader later)
-    (cell setting (before t history) key ∷ words)))
-    (sym tracked) (more nothing (tracked-nothing setting call.sub (before (suc t) history) _))
 look-rises laws setting history call t (chases chase node) key words behind low legal safe tracked wanted more =
     let e : key ≡ Presence node call.sub = cc in
     subst (λ (k : Key). ((b : Behind) → IsTracked setting call.sub (before (suc t) history) b
@@ -225,6 +209,9 @@ look-rises laws setting history call t (chases chase node) key words behind low 
     (after_mark setting chase node (mark_in (cell setting (before t history) k))) words)) (sym e)
     (chase-rises laws setting history call t chase node words behind low legal tracked safe.1) more
 look-rises laws setting history call t (ended found) key words behind low legal safe tracked wanted more = cc
+look-rises laws setting history call t pursuit key words behind low legal safe tracked wanted more =
+    subst (λ b. Rises b (marks_chased setting call pursuit (cell setting (before t history) key ∷ words)))
+    (sym tracked) (more nothing (tracked-nothing setting call.sub (before (suc t) history) _))
 
 tracked-later : (setting : Setting) (sub t u : ℕ) (history : History) (behind : Behind) (pursuit : Pursuit) → t ≤ u
     → IsTracked setting sub (before t history) behind pursuit → IsTracked setting sub (before u history) behind pursuit

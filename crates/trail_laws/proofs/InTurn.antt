@@ -1,10 +1,12 @@
 -- Each line of an actor's finds begins behind the last visit of those before it.
 use Rattle.std.proofs.Common.{◌≡◌, ◌⊎◌, inl, inr, ℕ, zero, suc, ◌+◌, ◌<◌, ◌≤◌, List, [], ◌∷◌, ◌++◌, length, map, take, drop, fold, get_or, refl, sym, ap, ◌∙◌, subst, arith, Option}
 use Rattle.std.specs.Prelude.{Some, None, flat_map, slice_get}
+use Rattle.std.proofs.lemmas.Bool.{cases_lt}
+use Rattle.std.proofs.lemmas.Option.{slice_get_within}
 use Rattle.node_set.specs.Ascending.{IsAscending}
 use Rattle.directory.specs.Settings.{Setting, start, subs}
 use Rattle.directory.specs.Statements.{CallersCount, FindsFollow, TicketsAscend}
-use Rattle.directory.specs.Courses.{Course, Step, after_step, course_at, move_to, switch_off, switch_on}
+use Rattle.directory.specs.Courses.{Course, Step, after_step, course_at, move_to}
 use Rattle.directory.specs.Finds.{FindCall, Pursuit, after_word, answer_of}
 use Rattle.directory.specs.Histories.{History, tickets, words_read}
 use Rattle.directory.specs.Orders.{Answer, Caller as Seeker, IsPlayed, Scripts, after_read, caller_at, caller_in, finds_of, read_by, steps_of, with_pursuit}
@@ -90,15 +92,6 @@ looked-all setting [] caller h = h
 looked-all setting (word ∷ words) caller h =
     looked-all setting words (after_read setting caller word) (looked-more setting caller caller.calls word h)
 
-get-rising : (xs : List ℕ) (i j : ℕ) → IsAscending xs → i ≤ j → j < length xs → get_or xs i 0 ≤ get_or xs j 0
-get-rising [] i j ascending le short = absurd (omega (arith, short))
-get-rising (x ∷ xs) zero zero ascending le short = omega arith
-get-rising (x ∷ xs) zero (suc j) ascending le short =
-    omega (arith, below_each x xs j ascending.0 (omega (arith, short)))
-get-rising (x ∷ xs) (suc i) zero ascending le short = absurd (omega (arith, le))
-get-rising (x ∷ xs) (suc i) (suc j) ascending le short =
-    get-rising xs i j ascending.1 (omega (arith, le)) (omega (arith, short))
-
 get-above : (xs : List ℕ) (i j : ℕ) → IsAscending xs → i < j → j < length xs → get_or xs i 0 < get_or xs j 0
 get-above [] i j ascending le short = absurd (omega (arith, short))
 get-above (x ∷ xs) zero zero ascending le short = absurd (omega (arith, le))
@@ -107,6 +100,12 @@ get-above (x ∷ xs) zero (suc j) ascending le short =
 get-above (x ∷ xs) (suc i) zero ascending le short = absurd (omega (arith, le))
 get-above (x ∷ xs) (suc i) (suc j) ascending le short =
     get-above xs i j ascending.1 (omega (arith, le)) (omega (arith, short))
+
+get-rising : (xs : List ℕ) (i j : ℕ) → IsAscending xs → i ≤ j → j < length xs → get_or xs i 0 ≤ get_or xs j 0
+get-rising xs i j ascending le short = elim (cases_lt i j) [
+  | inl less ↦ omega (arith, get-above xs i j ascending less short)
+  | inr same ↦ omega (arith, ap (λ n. get_or xs n 0) (let e : i ≡ j = omega (arith, le, same) in e))
+]
 
 -- so the lines of one caller are in turn
 map-at : {A B : Type 0} (f : A → B) (xs : List A) (i : ℕ) (y : B) → slice_get (map f xs) i ≡ Some y
@@ -182,11 +181,6 @@ line-of-caller setting scripts history actor i line at =
     sym (ap actor_of a.2)
     ∙ actor-found actor a.0.call a.0.found (get_or seen a.0.first 0) (get_or seen a.0.last 0)
 
-got-within : {A : Type 0} (xs : List A) (i : ℕ) (y : A) → slice_get xs i ≡ Some y → i < length xs
-got-within [] i y h = cc
-got-within (x ∷ xs) zero y h = omega arith
-got-within (x ∷ xs) (suc i) y h = omega (arith, got-within xs i y h)
-
 -- the lines of each actor lie together
 block-above : (f : ℕ → List Done) (x k : ℕ) → ((a i : ℕ) (y : Done) → x ≤ a → slice_get (f a) i ≡ Some y
     → actor_of y ≡ a) → (i : ℕ) (y : Done) → slice_get (flat_map f (numbers_from x k)) i ≡ Some y → x ≤ actor_of y
@@ -224,15 +218,14 @@ all-in-turn f x (suc k) each order i j one other le at_one at_other same =
       each x i one (omega arith) a,
       block-above f (suc x) k (λ c i y h. each c i y (omega (arith, h))) b.0 other b.2,
     ))
-    at_parts (inr a) (inl b) later = absurd (omega (arith, le, a.1, got-within (f x) j other b))
+    at_parts (inr a) (inl b) later = absurd (omega (arith, le, a.1, slice_get_within (f x) j other b))
     at_parts (inr a) (inr b) later = later a.0 b.0 (omega (arith, le, a.1, b.1)) a.2 b.2
 
 -- the lines of subscribers tell of no find
 step-untold : (setting : Setting) (sub : ℕ) (course : Course) (step : Step) (seen : List ℕ) (find : FindLine)
     → find_of (step_line setting sub course step seen) ≡ Some find → ⊥
 step-untold setting sub course (move_to node) seen find told = cc
-step-untold setting sub course switch_off seen find told = cc
-step-untold setting sub course switch_on seen find told = cc
+step-untold setting sub course step seen find told = cc
 
 steps-untold : (setting : Setting) (sub : ℕ) (course : Course) (steps : List Step) (seen : List ℕ) (i : ℕ)
     (line : Done) (find : FindLine) → slice_get (step_lines setting sub course steps seen) i ≡ Some line

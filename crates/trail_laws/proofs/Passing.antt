@@ -1,5 +1,5 @@
 -- What a legal history is at its fronts: they are legal, numbers only grow, and a look changes nothing.
-use Rattle.std.proofs.Common.{◌≡◌, ℕ, zero, suc, ◌+◌, ◌-◌, ◌≤◌, ◌^◌, Bool, true, false, cond, List, [], ◌∷◌, ◌++◌, Some, length, take, filter, refl, sym, ap, ◌∙◌, subst, arith, length-append}
+use Rattle.std.proofs.Common.{◌<◌, ◌≡◌, ℕ, zero, suc, ◌+◌, ◌-◌, ◌≤◌, ◌^◌, Bool, true, false, cond, List, [], ◌∷◌, ◌++◌, Some, length, take, filter, refl, sym, ap, ◌∙◌, subst, arith, length-append}
 use Rattle.std.specs.Prelude.{slice_get}
 use Rattle.std.proofs.lemmas.List.{append-nil, length-take}
 use Rattle.std.proofs.lemmas.List.Elements.{filter-append}
@@ -10,10 +10,10 @@ use Rattle.directory.specs.Settings.{Setting, start}
 use Rattle.directory.specs.Courses.{Course, Step, after_step, after_steps, course_at, move_to, next_move, switch_off, switch_on}
 use Rattle.directory.specs.Histories.{before, History, is_put_for, puts_to, through}
 use Rattle.directory.specs.Legal.{ArePuts, IsLegal}
-use Rattle.directory.specs.Looks.{look_by}
-use Rattle.directory.specs.Puts.{course_in, ends_off, steps_from, steps_in}
+use Rattle.directory.specs.Looks.{look_by, moves_at, moves_by}
+use Rattle.directory.specs.Puts.{course_in, ends_off, is_of_move, steps_from, steps_in}
 use Rattle.directory.specs.Standing.{Commit, commits, number}
-use Rattle.directory.specs.StepLaws.{puts-push, steps-append, take-more}
+use Rattle.directory.specs.StepLaws.{puts-push, slice_get-within, steps-append, take-more}
 use Rattle.directory.specs.Statements.{FrontsAreLegal}
 use Rattle.directory.specs.HistoryLaws.{commits-append}
 use Rattle.trail_laws.specs.Phases.{moves_begun}
@@ -41,6 +41,33 @@ front-legal fronts setting sub history t low legal =
     (fronts setting sub (puts_to sub history) (length (puts_to sub (take t history))) low
     (omega (arith, ap length same, length-take (length (puts_to sub (take t history))) (puts_to sub history)))
     legal)
+
+-- what a visit keeps that is none of a move holds from a front to a later one, while no move is made
+module _ (fronts : FrontsAreLegal) (setting : Setting) (sub : ℕ) (history : History) (P : History → Type 0)
+    (low : setting.nodes ≤ 2 ^ 16) (legal : IsLegal setting sub history)
+    (one : (seen : History) (visit : Visit) → IsLegal setting sub seen → IsLegal setting sub (seen ++ visit ∷ [])
+    → is_of_move sub seen visit.act ≡ false → P seen → P (seen ++ visit ∷ [])) where
+  quiet-steps : (k t : ℕ) → k + t ≤ length history
+      → ((u : ℕ) → t ≤ u → u < k + t → moves_at sub history u ≡ false) → P (before t history)
+      → P (before (k + t) history)
+  quiet-steps zero t within quiet now = let e : 0 + t ≡ t = omega arith in rw e now
+  quiet-steps (suc k) t within quiet now =
+      let found = slice_get-within history (k + t) (omega (arith, within)) in
+      let more : before (suc (k + t)) history ≡ before (k + t) history ++ found.0 ∷ [] =
+      take-more history (k + t) found.0 found.1 in
+      let e : suc k + t ≡ suc (k + t) = omega arith in
+      subst P (sym (ap (λ n. before n history) e ∙ more))
+      (one (before (k + t) history) found.0 (front-legal fronts setting sub history (k + t) low legal)
+      (subst (IsLegal setting sub) more (front-legal fronts setting sub history (suc (k + t)) low legal))
+      (sym (ap (λ o. moves_by sub (before (k + t) history) o) found.1) ∙ quiet (k + t) (omega arith) (omega arith))
+      (quiet-steps k t (omega (arith, within)) (λ u h g. quiet u h (omega (arith, g))) now))
+
+  pub while-quiet : (t u : ℕ) → t ≤ u → u ≤ length history
+      → ((x : ℕ) → t ≤ x → x < u → moves_at sub history x ≡ false) → P (before t history) → P (before u history)
+  while-quiet t u order within quiet now =
+      let e : (u - t) + t ≡ u = omega (arith, order) in
+      subst (λ n. P (before n history)) e (quiet-steps (u - t) t (omega (arith, within, e))
+      (λ x h g. quiet x h (omega (arith, g, e))) now)
 
 take-further : (k t : ℕ) (xs : History) → (rest : History) × (take (k + t) xs ≡ take t xs ++ rest)
 take-further k zero xs = (take (k + 0) xs, refl)

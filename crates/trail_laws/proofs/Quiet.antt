@@ -60,11 +60,9 @@ module _ (used : Used) (setting : Setting) (history : History) (actor : ℕ) (ca
       late = last-late setting history actor call (suc t) pursuit u later (first, (key, wanted, is_look, rest))
 
       waited : IsSure setting call.sub (before u history) call Within pursuit
-      waited = let e : (u - t) + t ≡ u = omega (arith, first) in
-          subst (λ n. IsSure setting call.sub (before n history) call Within pursuit) e
-          (sure-until used setting call.sub history call Within (u - t) t pursuit low legal
-          (omega (arith, first, slice_get_within history u (look_by actor key) is_look))
-          (λ x h g. quiet x h (omega (arith, first, g, late, last-more t u later))) sure)
+      waited = sure-until used setting call.sub history call Within t u pursuit low legal (omega (arith, first))
+          (omega (arith, slice_get_within history u (look_by actor key) is_look))
+          (λ x h g. quiet x h (omega (arith, g, late, last-more t u later))) sure
 
   -- a quiet find whose beginning is sure has an answer within what is allowed
   first-looks : (tickets : List ℕ) → Begins setting (before (first_of tickets) history) call Within
@@ -86,7 +84,8 @@ pub quiet-within : Used → (setting : Setting) (history : History) (actor : ℕ
     → IsFind setting history actor call found tickets
     → IsQuiet history call.sub (first_of tickets) (last_of tickets) → IsAnswered found × Within (found_weight found)
 quiet-within used setting history actor call Within found tickets low inside legal begins find quiet =
-    first-looks used setting history actor call Within found low inside legal tickets begins quiet find.looks find.answer
+    first-looks used setting history actor call Within found low inside legal tickets begins quiet find.looks
+    find.answer
 
 -- ---- without a bound: the home at the top level has an address that the origin reads
 abbrev pub HasReader : Setting → ℕ → History → List Reader → Type 0

@@ -1,6 +1,5 @@
 -- While a find is quiet its subscriber stands still, and what passage is open stays so.
-use Rattle.std.proofs.Common.{◌≡◌, ℕ, zero, suc, ◌+◌, ◌-◌, ◌<◌, ◌≤◌, ◌^◌, Bool, true, false, List, [], ◌∷◌, ◌++◌, Some, length, drop, refl, sym, ap, ◌∙◌, subst, arith}
-use Rattle.std.specs.Prelude.{slice_get}
+use Rattle.std.proofs.Common.{◌≡◌, ℕ, suc, ◌<◌, ◌≤◌, ◌^◌, Bool, true, false, List, [], ◌∷◌, ◌++◌, length, drop, refl, sym, ap, ◌∙◌, subst, arith}
 use Rattle.std.proofs.lemmas.Option.{slice_get_within}
 use Rattle.std.proofs.Math.ListN.{drop_of_length-le}
 use Rattle.entry_word.specs.Marks.{mark_in}
@@ -11,17 +10,17 @@ use Rattle.directory.specs.Settings.{Setting}
 use Rattle.directory.specs.Histories.{before, cell, History, is_put_for, puts_to, through}
 use Rattle.directory.specs.Finds.{after_word, at_origin, ended, FindCall, Pursuit}
 use Rattle.directory.specs.Legal.{ArePuts, IsLegal}
-use Rattle.directory.specs.Looks.{AreLooks, last_of, look_by, moves_at, moves_by}
+use Rattle.directory.specs.Looks.{AreLooks, last_of, look_by}
 use Rattle.directory.specs.Puts.{is_of_move, steps_in}
 use Rattle.directory.specs.Standing.{number, passage, standing}
-use Rattle.directory.specs.StepLaws.{slice_get-within, take-more, puts-push_other, puts-push_own}
+use Rattle.directory.specs.StepLaws.{puts-push_other, puts-push_own}
 use Rattle.directory.specs.Writes.{visits}
 use Rattle.trail_laws.specs.Trail.{mark_seen}
 use Rattle.trail_laws.specs.Phases.{RestIsSettled}
 use Rattle.trail_laws.specs.Ways.{IsOpenAtMost, PassagesAreOpen, StandsInside}
 use Rattle.trail_laws.specs.Within.{QuietFindsStandStill}
 use Rattle.trail_laws.proofs.Alike.{alike-step, IsSwitching, switching}
-use Rattle.trail_laws.proofs.Passing.{front-legal}
+use Rattle.trail_laws.proofs.Passing.{front-legal, while-quiet}
 use Rattle.trail_laws.proofs.Sure.{Used}
 use Rattle.trail_laws.proofs.Quiet.{last-late}
 use Rattle.trail_laws.proofs.Right.{last-more}
@@ -76,32 +75,6 @@ still-step used rested setting sub one history visit low legal legal_more quiet 
         at_rest = drop_of_length-le (visits setting sub (steps_in (puts_to sub history)))
             {i = length (puts_to sub history)} (omega (arith, done))
 
-still-until : Used → RestIsSettled → (setting : Setting) (sub : ℕ) (history : History) (k t : ℕ)
-    → setting.nodes ≤ 2 ^ 16 → IsLegal setting sub history → k + t ≤ length history
-    → ((u : ℕ) → t ≤ u → u < k + t → moves_at sub history u ≡ false)
-    → IsStill setting sub (before t history) (before (k + t) history)
-still-until used rested setting sub history zero t low legal within quiet =
-    let e : 0 + t ≡ t = omega arith in
-    rw e (record { stands = refl; count = refl; open_too = λ p u comes same. comes })
-still-until used rested setting sub history (suc k) t low legal within quiet =
-    at_visit (slice_get-within history (k + t) (omega (arith, within)))
-    (still-until used rested setting sub history k t low legal (omega (arith, within))
-    (λ u h g. quiet u h (omega (arith, g))))
-  where
-    at_visit : (visit : Visit) × (slice_get history (k + t) ≡ Some visit)
-        → IsStill setting sub (before t history) (before (k + t) history)
-        → IsStill setting sub (before t history) (before (suc k + t) history)
-    at_visit (visit, found) still =
-        let more : before (suc (k + t)) history ≡ before (k + t) history ++ visit ∷ [] =
-        take-more history (k + t) visit found in
-        let e : suc k + t ≡ suc (k + t) = omega arith in
-        subst (λ h. IsStill setting sub (before t history) h) (sym (ap (λ n. before n history) e ∙ more))
-        (still-step used rested setting sub (before t history) (before (k + t) history) visit low
-        (front-legal used.fronts setting sub history (k + t) low legal)
-        (subst (IsLegal setting sub) more (front-legal used.fronts setting sub history (suc (k + t)) low legal))
-        (sym (ap (λ o. moves_by sub (before (k + t) history) o) found) ∙ quiet (k + t) (omega arith) (omega arith))
-        still)
-
 -- the last look of a find is a visit of the history
 last-inside : (setting : Setting) (history : History) (actor : ℕ) (call : FindCall) (earliest : ℕ) (pursuit : Pursuit)
     (t : ℕ)
@@ -126,13 +99,13 @@ stand-still used rested opens inside setting history actor call found (t ∷ lat
     ends : last_of (t ∷ later) < length history
     ends = last-inside setting history actor call 0 at_origin t later find.looks
 
-    count : (suc (last_of (t ∷ later)) - t) + t ≡ suc (last_of (t ∷ later))
-    count = omega (arith, late)
-
     still : IsStill setting call.sub (before t history) (through (last_of (t ∷ later)) history)
-    still = subst (λ n. IsStill setting call.sub (before t history) (before n history)) count
-        (still-until used rested setting call.sub history (suc (last_of (t ∷ later)) - t) t low legal
-        (omega (arith, ends, count)) (λ u h g. quiet u h (omega (arith, g, count))))
+    still = while-quiet used.fronts setting call.sub history (IsStill setting call.sub (before t history)) low legal
+        (λ seen visit is more calm now.
+        still-step used rested setting call.sub (before t history) seen visit low is more calm now)
+        t (suc (last_of (t ∷ later))) (omega (arith, late)) (omega (arith, ends))
+        (λ x h g. quiet x h (omega (arith, g)))
+        (record { stands = refl; count = refl; open_too = λ p u comes same. comes })
 
     legal_last : IsLegal setting call.sub (through (last_of (t ∷ later)) history)
     legal_last = front-legal used.fronts setting call.sub history (suc (last_of (t ∷ later))) low legal

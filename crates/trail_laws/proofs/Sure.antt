@@ -1,6 +1,5 @@
 -- What makes a find sure of an answer at each pursuit: a look keeps it, and what is no put of a move.
 use Rattle.std.proofs.Common.{◌≡◌, ℕ, zero, suc, ◌+◌, ◌*◌, ◌<◌, ◌≤◌, ◌^◌, Bool, true, false, cond, List, [], ◌∷◌, ◌++◌, Option, Some, None, length, refl, sym, ap, ◌∙◌, subst, arith}
-use Rattle.std.specs.Prelude.{slice_get}
 use Rattle.entry_word.specs.Marks.{mark_in}
 use Rattle.entry_word.specs.Addresses.{address_in}
 use Rattle.entry_word.specs.declared.address.Address.{Address}
@@ -8,21 +7,19 @@ use Rattle.entry_word.specs.declared.mark.PresenceMark.{PresenceMark}
 use Rattle.entry_word.specs.declared.mark.PresenceMark.TheVariants.{Empty, Here, Gone, Coming, Off}
 use Rattle.entry_word.specs.declared.visit.Key.{Key}
 use Rattle.entry_word.specs.declared.visit.Key.TheVariants.{Presence, Entry}
-use Rattle.entry_word.specs.declared.visit.Visit.{Visit}
 use Rattle.directory.specs.Settings.{Setting}
 use Rattle.directory.specs.Histories.{before, cell, History}
 use Rattle.directory.specs.Legal.{IsLegal}
 use Rattle.directory.specs.Finds.{after_entry, after_mark, after_origin, after_word, all_readers, at_origin, Chase, chases, climb, climbs, ended, FindCall, hop, is_known, key_of, known_with, Reader, Pursuit, way_in, found_weight}
-use Rattle.directory.specs.Looks.{moves_at, moves_by}
+use Rattle.directory.specs.Looks.{moves_at}
 use Rattle.directory.specs.Parts.{known_after, lead}
 use Rattle.directory.specs.Standing.{number, standing}
-use Rattle.directory.specs.StepLaws.{slice_get-within, take-more}
 use Rattle.directory.specs.Statements.{CellsOfPuts, FrontsAreLegal, MarksAreLeft, StepsBeginAtRest}
 use Rattle.directory.specs.declared.answers.Found.TheVariants.{At}
 use Rattle.trail_laws.specs.Trail.{AddressesLead, answers, ComingsLead, entry_seen, IsLed, KnowsAtMost, mark_seen, MarksTell, MarkTells, TopHasEntry}
 use Rattle.trail_laws.specs.Rightness.{IsAnswered}
 use Rattle.trail_laws.specs.Within.{Affords, AffordsAddress, Begins, EntryAsks}
-use Rattle.trail_laws.proofs.Passing.{front-legal}
+use Rattle.trail_laws.proofs.Passing.{while-quiet}
 use Rattle.trail_laws.proofs.Right.{gone-known}
 use Rattle.trail_laws.proofs.Alike.{alike-step, IsAlike, led-alike}
 
@@ -87,40 +84,16 @@ pub record Used : Type 0 where
   pub comings : ComingsLead
   pub top : TopHasEntry
 
--- one ticket on, where it is no visit of a move
-pub sure-next : Used → (setting : Setting) (sub : ℕ) (history : History) (call : FindCall) (Within : ℕ → Type 0)
-    (t : ℕ)
-    (pursuit : Pursuit) → setting.nodes ≤ 2 ^ 16 → IsLegal setting sub history → t < length history
-    → moves_at sub history t ≡ false → IsSure setting sub (before t history) call Within pursuit
-    → IsSure setting sub (before (suc t) history) call Within pursuit
-sure-next used setting sub history call Within t pursuit low legal within quiet sure =
-    at_visit (slice_get-within history t within)
-  where
-    at_visit : (visit : Visit) × (slice_get history t ≡ Some visit)
-        → IsSure setting sub (before (suc t) history) call Within pursuit
-    at_visit (visit, found) =
-        let more : before (suc t) history ≡ before t history ++ visit ∷ [] = take-more history t visit found in
-        subst (λ h. IsSure setting sub h call Within pursuit) (sym more)
-        (sure-alike setting sub (before t history) (before t history ++ visit ∷ []) call Within
-        (alike-step used.cells used.marks_left used.rests setting sub (before t history) visit low
-        (front-legal used.fronts setting sub history t low legal)
-        (subst (IsLegal setting sub) more (front-legal used.fronts setting sub history (suc t) low legal))
-        (sym (ap (λ o. moves_by sub (before t history) o) found) ∙ quiet)) pursuit sure)
-
--- and so it is up to a later ticket
+-- up to a later ticket, while no move is made
 pub sure-until : Used → (setting : Setting) (sub : ℕ) (history : History) (call : FindCall) (Within : ℕ → Type 0)
-    (k t : ℕ) (pursuit : Pursuit) → setting.nodes ≤ 2 ^ 16 → IsLegal setting sub history → k + t ≤ length history
-    → ((u : ℕ) → t ≤ u → u < k + t → moves_at sub history u ≡ false)
+    (t u : ℕ) (pursuit : Pursuit) → setting.nodes ≤ 2 ^ 16 → IsLegal setting sub history → t ≤ u → u ≤ length history
+    → ((x : ℕ) → t ≤ x → x < u → moves_at sub history x ≡ false)
     → IsSure setting sub (before t history) call Within pursuit
-    → IsSure setting sub (before (k + t) history) call Within pursuit
-sure-until used setting sub history call Within zero t pursuit low legal within quiet sure =
-    let e : 0 + t ≡ t = omega arith in rw e sure
-sure-until used setting sub history call Within (suc k) t pursuit low legal within quiet sure =
-    let e : suc k + t ≡ suc (k + t) = omega arith in
-    rw e (sure-next used setting sub history call Within (k + t) pursuit low legal (omega arith)
-    (quiet (k + t) (omega arith) (omega arith))
-    (sure-until used setting sub history call Within k t pursuit low legal (omega arith)
-    (λ u h g. quiet u h (omega arith)) sure))
+    → IsSure setting sub (before u history) call Within pursuit
+sure-until used setting sub history call Within t u pursuit low legal =
+    while-quiet used.fronts setting sub history (λ seen. IsSure setting sub seen call Within pursuit) low legal
+    (λ seen visit is more quiet sure. sure-alike setting sub seen (seen ++ visit ∷ []) call Within
+    (alike-step used.cells used.marks_left used.rests setting sub seen visit low is more quiet) pursuit sure) t u
 
 -- ---- one look
 module _ (setting : Setting) (seen : History) (call : FindCall) (Within : ℕ → Type 0) where

@@ -256,11 +256,11 @@ amid-view setting sub before (move_to node ∷ []) made script one some few =
     (next_move setting (course_of setting sub before) node))))
     (amid-move setting sub before node (record { known = script.known; begins = script.begins; allowed = may.0 })
     may.1 made some)
-amid-view setting sub before (switch ∷ []) made script one some few =
+amid-view setting sub before (step ∷ []) made script one some few =
     let e : made ≡ 1 = omega (arith, some, few) in
-    rw e (subst (λ ws. WritesView setting sub ws (course_of setting sub (before ++ switch ∷ [])).moves)
-    (writes-more setting (course_at (start setting sub)) before switch)
-    (rests setting sub (before ++ switch ∷ []) script))
+    rw e (subst (λ ws. WritesView setting sub ws (course_of setting sub (before ++ step ∷ [])).moves)
+    (writes-more setting (course_at (start setting sub)) before step)
+    (rests setting sub (before ++ step ∷ []) script))
 amid-view setting sub before (step ∷ other ∷ more) made script one some few = absurd (omega (arith, one))
 
 -- what is shown after a history
