@@ -9,14 +9,13 @@ use Rattle.std.proofs.lemmas.List.Sums.{fold-append}
 use Rattle.entry_word.specs.Marks.{mark_in, says_here, says_off}
 use Rattle.entry_word.specs.Addresses.{address_in}
 use Rattle.entry_word.specs.declared.mark.PresenceMark.{PresenceMark}
-use Rattle.entry_word.specs.declared.mark.PresenceMark.TheVariants.{Empty, Here, Gone, Coming, Off}
+use Rattle.entry_word.specs.declared.mark.PresenceMark.TheVariants.{Empty, Here, Off}
 use Rattle.entry_word.specs.declared.visit.Key.{Key}
 use Rattle.entry_word.specs.declared.visit.Key.TheVariants.{Presence, Entry}
 use Rattle.entry_word.specs.declared.visit.Act.{Act}
-use Rattle.entry_word.specs.declared.visit.Act.TheVariants.{Look, Put, Census}
+use Rattle.entry_word.specs.declared.visit.Act.TheVariants.{Put}
 use Rattle.entry_word.specs.declared.visit.Visit.{Visit}
 use Rattle.directory.specs.Settings.{Setting, start}
-use Rattle.directory.specs.Keys.{key_sub}
 use Rattle.directory.specs.Histories.{cell, History, is_put_for, puts_to, word_after}
 use Rattle.directory.specs.Courses.{Course, course_at, last_stop, Step, switch_off, switch_on}
 use Rattle.directory.specs.Writes.{visit_of, visits, writes, step_writes, mark_at}
@@ -29,6 +28,7 @@ use Rattle.directory.specs.StepLaws.{steps-append, visits_in, visits-append, put
 use Rattle.directory.specs.Statements.{CellsOfPuts, MarksAreLeft, StepsBeginAtRest}
 use Rattle.trail_laws.specs.Trail.{answers, entry_seen, IsLed, mark_seen}
 use Rattle.trail_laws.proofs.Links.{stop-inside}
+use Rattle.trail_laws.proofs.Passing.{cell-kept}
 use Rattle.trail_laws.proofs.ClosedMarks.{since_top, there, trail_mark}
 use Rattle.trail_laws.proofs.Views.{rest-marks_of, sound-script}
 use Rattle.directory.specs.HistoryLaws.{commits-append}
@@ -54,8 +54,9 @@ pub alike-other : CellsOfPuts → (setting : Setting) (sub : ℕ) (history : His
     → is_put_for sub visit.act ≡ false → IsAlike setting sub history (history ++ visit ∷ [])
 alike-other cells setting sub history visit other = record {
   marks = λ v. alike-same (mark_seen setting sub history v) (mark_seen setting sub (history ++ visit ∷ []) v)
-      (ap mark_in (sym (kept (Presence v sub) refl)));
-  entries = λ level cluster. ap address_in (kept (Entry level cluster sub) refl);
+      (ap mark_in (sym (cell-kept cells setting sub history visit (Presence v sub) refl other)));
+  entries = λ level cluster. ap address_in
+      (cell-kept cells setting sub history visit (Entry level cluster sub) refl other);
   stands = ap (λ puts. fold (λ n (c : Commit). c.to) (start setting sub)
       (filter_map (λ (v : Visit). commit_of (node_put v.act) (mark_put v.act)) puts)) same;
   count = ap (λ puts. length (filter_map (λ (v : Visit). commit_of (node_put v.act) (mark_put v.act)) puts)) same;
@@ -63,11 +64,6 @@ alike-other cells setting sub history visit other = record {
   where
     same : puts_to sub (history ++ visit ∷ []) ≡ puts_to sub history
     same = puts-push_other sub history visit other
-
-    kept : (key : Key) → key_sub key ≡ sub → cell setting (history ++ visit ∷ []) key ≡ cell setting history key
-    kept key e = cells setting (history ++ visit ∷ []) key
-        ∙ (ap (λ puts. cell setting puts key) (ap (λ s. puts_to s (history ++ visit ∷ [])) e
-        ∙ (same ∙ ap (λ s. puts_to s history) (sym e))) ∙ sym (cells setting history key))
 
 -- what a switch puts
 pub record IsSwitching (sub : ℕ) (history : History) (visit : Visit) : Type 0 where
@@ -102,8 +98,6 @@ switching sub history visit put quiet = at_act visit.act refl put is_switching
     at_act : (act : Act) → visit.act ≡ act → is_put_for sub act ≡ true
         → (says_off (mark_put act) || (ends_off (puts_to sub history) && says_here (mark_put act))) ≡ true
         → IsSwitching sub history visit
-    at_act (Look key) e p x = cc
-    at_act (Census node) e p x = cc
     at_act (Put (Entry level cluster s) word) e p x = let none : (ends_off (puts_to sub history) && false)
         ≡ true = x in let clash : false ≡ true = sym (false-and (ends_off (puts_to sub history))) ∙ none in cc
     at_act (Put (Presence node s) word) e p x = at_mark (mark_in word) refl x
@@ -117,11 +111,6 @@ switching sub history visit put quiet = at_act visit.act refl put is_switching
         at_mark : (mark : PresenceMark) → mark_in word ≡ mark
             → (says_off mark || (ends_off (puts_to sub history) && says_here mark)) ≡ true
             → IsSwitching sub history visit
-        at_mark Empty m y = let clash : false ≡ true = sym (false-and (ends_off (puts_to sub history))) ∙ y in cc
-        at_mark (Gone q to) m y = let clash : false ≡ true = sym (false-and (ends_off (puts_to sub history)))
-            ∙ y in cc
-        at_mark (Coming q from) m y = let clash : false ≡ true = sym (false-and (ends_off (puts_to sub history)))
-            ∙ y in cc
         at_mark (Off q) m y = record {
           node = node;
           word = word;
@@ -146,6 +135,8 @@ switching sub history visit put quiet = at_act visit.act refl put is_switching
           where
             was_off : ends_off (puts_to sub history) ≡ true
             was_off = (and_parts (ends_off (puts_to sub history)) true y).0
+        at_mark mark m y = let clash : false ≡ true = sym (false-and (ends_off (puts_to sub history))) ∙ y in cc
+    at_act act e p x = cc
 
 get-next : (xs ys zs : List Visit) (visit : Visit) → xs ++ visit ∷ [] ≡ take (length (xs ++ visit ∷ [])) (ys ++ zs)
     → length xs ≡ length ys → slice_get zs 0 ≡ Some visit

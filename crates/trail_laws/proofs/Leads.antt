@@ -102,34 +102,41 @@ pub trail-begins : (setting : Setting) (course : Course) → IsSound setting cou
 trail-begins setting course sound = stops-inside setting course.start 0 course.moves
     (low_of setting course) sound.linked sound.begins (base-low setting course setting.top sound)
 
--- from a stop the marks lead on, whatever the exits
-pub stop-leads : (setting : Setting) (course : Course) (marks : ℕ → PresenceMark) (last most more_hops more_way : ℕ)
+-- from a stop of all moves, of which these are the last, the marks lead on, whatever the exits
+trail-leads : (setting : Setting) (marks : ℕ → PresenceMark) (last most more_hops more_way from number start : ℕ)
+    (moves all : List Move) → moves ≡ drop number all → AreLinked setting from number moves
+    → number + length moves ≡ length all → ((i : ℕ) → stop_at from moves i ≡ stop_at start all (number + i))
+    → length all ≤ most → Exits setting marks from number last moves most more_hops more_way
+    → (q v : ℕ) (known : Option ℕ) → number ≤ q → q ≤ length all → v < setting.nodes → stop_at start all q ≡ v
+    → KnowsAtMost most known
+    → Arrival setting marks known v last (more_hops + above setting marks q) (weight_from all q + more_way)
+trail-leads setting marks last most more_hops more_way from number start moves all same linked count stops within exits
+    q v known from_low to_end inside is_stop knows =
+    subst (λ n. Arrival setting marks known v last (more_hops + above setting marks n) (weight_from all q + more_way))
+    placed (subst (λ w. Arrival setting marks known v last (more_hops + above setting marks (number + (q - number)))
+    (w + more_way)) weights
+    (leads setting marks from number last moves most more_hops more_way linked (omega (arith, count, within)) exits
+    (length moves) (q - number) v known (omega arith) (omega (arith, count, to_end, from_low)) inside
+    (stops (q - number) ∙ (ap (stop_at start all) placed ∙ is_stop)) knows))
+  where
+    placed : number + (q - number) ≡ q
+    placed = omega (arith, from_low)
+
+    weights : weight_from moves (q - number) ≡ weight_from all q
+    weights = ap (sum_by (λ (m : Move). m.weight)) (ap (drop (q - number)) same
+        ∙ (drop-more number (q - number) all ∙ ap (λ n. drop n all) placed))
+
+stop-leads : (setting : Setting) (course : Course) (marks : ℕ → PresenceMark) (last most more_hops more_way : ℕ)
     → IsSound setting course → length course.moves ≤ most
     → Exits setting marks (first_of setting course) (low_of setting course) last
     (since_top setting course) most more_hops more_way
     → (q v : ℕ) (known : Option ℕ) → low_of setting course ≤ q → q ≤ length course.moves → v < setting.nodes
     → stop_at course.start course.moves q ≡ v → KnowsAtMost most known
     → Arrival setting marks known v last (more_hops + above setting marks q) (weight_from course.moves q + more_way)
-stop-leads setting course marks last most more_hops more_way sound all exits q v known from_low to_end inside is_stop
-    knows =
-    subst (λ n. Arrival setting marks known v last (more_hops + above setting marks n)
-    (weight_from course.moves q + more_way)) placed
-    (subst (λ w. Arrival setting marks known v last (more_hops + above setting marks
-    (low_of setting course + (q - low_of setting course))) (w + more_way)) weights
-    (leads setting marks (first_of setting course) (low_of setting course) last
-    (since_top setting course) most more_hops more_way (trail-linked setting course sound)
-    (omega (arith, trail-count setting course sound, all)) exits
-    (length (since_top setting course)) (q - low_of setting course) v known (omega arith)
-    (omega (arith, trail-count setting course sound, to_end, from_low)) inside
-    (trail-stops setting course (q - low_of setting course) sound
-    ∙ (ap (stop_at course.start course.moves) placed ∙ is_stop)) knows))
-  where
-    placed : low_of setting course + (q - low_of setting course) ≡ q
-    placed = omega (arith, from_low)
-
-    weights : weight_from (since_top setting course) (q - low_of setting course) ≡ weight_from course.moves q
-    weights = ap (sum_by (λ (m : Move). m.weight)) (drop-more (low_of setting course)
-        (q - low_of setting course) course.moves ∙ ap (λ n. drop n course.moves) placed)
+stop-leads setting course marks last most more_hops more_way sound =
+    trail-leads setting marks last most more_hops more_way (first_of setting course) (low_of setting course)
+    course.start (since_top setting course) course.moves refl (trail-linked setting course sound)
+    (trail-count setting course sound) (λ i. trail-stops setting course i sound)
 
 -- ---- at rest
 answered-there : (course : Course) (known : Option ℕ) → answers known (there course) ≡ true
@@ -313,35 +320,17 @@ module _ (setting : Setting) (course : Course) (move : Move) (marks : ℕ → Pr
       → KnowsAtMost (suc (length course.moves)) known
       → Arrival setting marks known v move.to (above setting marks q) (weight_from (course.moves ++ move ∷ []) q)
   clearing-leads q v known from_low to_end inside is_stop knows =
-      subst (λ n. Arrival setting marks known v move.to (above setting marks n)
-      (weight_from (course.moves ++ move ∷ []) q)) placed
-      (longer setting marks known v move.to (0 + above setting marks
-      (low_of setting course + (q - low_of setting course)))
-      (above setting marks (low_of setting course + (q - low_of setting course)))
-      (weight_from (since_top setting course ++ move ∷ []) (q - low_of setting course) + 0)
-      (weight_from (course.moves ++ move ∷ []) q) (omega arith) (λ metric. omega (arith, weights))
-      (leads setting marks (first_of setting course) (low_of setting course) move.to
-      (since_top setting course ++ move ∷ []) (suc (length course.moves)) 0 0
-      (with-linked setting course move sound next) (omega (arith, counted, trail-count setting course sound))
+      longer setting marks known v move.to (0 + above setting marks q) (above setting marks q) _
+      (weight_from (course.moves ++ move ∷ []) q) (omega arith) (λ metric. omega arith)
+      (trail-leads setting marks move.to (suc (length course.moves)) 0 0 (first_of setting course)
+      (low_of setting course) course.start (since_top setting course ++ move ∷ []) (course.moves ++ move ∷ [])
+      (with-trail setting course move sound) (with-linked setting course move sound next)
+      (omega (arith, counted, length-append (since_top setting course) (move ∷ []), trail-count setting course sound))
+      (λ i. with-stops setting course move i sound) (omega (arith, counted))
       (rest-exits setting marks (first_of setting course) (low_of setting course) move.to
       (since_top setting course ++ move ∷ []) (suc (length course.moves)) (with-end setting course move)
       (λ k. ap (answers k) clearing-here) others)
-      (suc (length (since_top setting course))) (q - low_of setting course) v known (omega (arith, counted))
-      (omega (arith, counted, trail-count setting course sound, to_end, from_low)) inside is_place knows))
+      q v known from_low (omega (arith, counted, to_end)) inside is_stop knows)
     where
-      placed : low_of setting course + (q - low_of setting course) ≡ q
-      placed = omega (arith, from_low)
-
-      counted : length (since_top setting course ++ move ∷ []) ≡ suc (length (since_top setting course))
-      counted = omega (arith, length-append (since_top setting course) (move ∷ []))
-
-      is_place : stop_at (first_of setting course) (since_top setting course ++ move ∷ []) (q - low_of setting course)
-          ≡ v
-      is_place = with-stops setting course move (q - low_of setting course) sound
-          ∙ (ap (stop_at course.start (course.moves ++ move ∷ [])) placed ∙ is_stop)
-
-      weights : weight_from (since_top setting course ++ move ∷ []) (q - low_of setting course)
-          ≡ weight_from (course.moves ++ move ∷ []) q
-      weights = ap (λ ms. weight_from ms (q - low_of setting course)) (with-trail setting course move sound)
-          ∙ ap (sum_by (λ (m : Move). m.weight)) (drop-more (low_of setting course) (q - low_of setting course)
-          (course.moves ++ move ∷ []) ∙ ap (λ n. drop n (course.moves ++ move ∷ [])) placed)
+      counted : length (course.moves ++ move ∷ []) ≡ suc (length course.moves)
+      counted = omega (arith, length-append course.moves (move ∷ []))

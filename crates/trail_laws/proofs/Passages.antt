@@ -21,7 +21,7 @@ use Rattle.directory.specs.Standing.{Commit, commit_of, commits, confirms, numbe
 use Rattle.directory.specs.StepLaws.{by_fronts, steps-append, take-more, puts-push_other, puts-push_own}
 use Rattle.directory.specs.Statements.{CellsOfPuts, CommitsAreMoves, FrontsAreLegal}
 use Rattle.trail_laws.specs.Trail.{mark_seen, MarksTell, MarkTells}
-use Rattle.trail_laws.proofs.Passing.{front-legal}
+use Rattle.trail_laws.proofs.Passing.{cell-kept, front-legal}
 use Rattle.directory.specs.HistoryLaws.{commits-append}
 
 -- a confirm is a Here with its number at its node
@@ -133,9 +133,7 @@ past-step laws setting sub c history visit low inside legal legal_more past = at
         same = puts-push_other sub history visit e
 
         kept : cell setting (history ++ visit ∷ []) (Presence c.to sub) ≡ cell setting history (Presence c.to sub)
-        kept = laws.cells setting (history ++ visit ∷ []) (Presence c.to sub)
-            ∙ (ap (λ puts. cell setting puts (Presence c.to sub)) same
-            ∙ sym (laws.cells setting history (Presence c.to sub)))
+        kept = cell-kept laws.cells setting sub history visit (Presence c.to sub) refl e
     at_put true e any = at_cases (put-cases sub c.to (cell setting history (Presence c.to sub)) visit.act e)
         (confirmed c visit) refl
       where

@@ -8,13 +8,14 @@ use Rattle.entry_word.specs.declared.visit.Key.{Key}
 use Rattle.entry_word.specs.declared.visit.Visit.{Visit}
 use Rattle.directory.specs.Settings.{Setting, start}
 use Rattle.directory.specs.Courses.{Course, Step, after_step, after_steps, course_at, move_to, next_move, switch_off, switch_on}
-use Rattle.directory.specs.Histories.{before, History, is_put_for, puts_to, through}
+use Rattle.directory.specs.Keys.{key_sub}
+use Rattle.directory.specs.Histories.{before, cell, History, is_put_for, puts_to, through}
 use Rattle.directory.specs.Legal.{ArePuts, IsLegal}
 use Rattle.directory.specs.Looks.{look_by, moves_at, moves_by}
 use Rattle.directory.specs.Puts.{course_in, ends_off, is_of_move, steps_from, steps_in}
 use Rattle.directory.specs.Standing.{Commit, commits, number}
-use Rattle.directory.specs.StepLaws.{puts-push, slice_get-within, steps-append, take-more}
-use Rattle.directory.specs.Statements.{FrontsAreLegal}
+use Rattle.directory.specs.StepLaws.{puts-push, puts-push_other, slice_get-within, steps-append, take-more}
+use Rattle.directory.specs.Statements.{CellsOfPuts, FrontsAreLegal}
 use Rattle.directory.specs.HistoryLaws.{commits-append}
 use Rattle.trail_laws.specs.Phases.{moves_begun}
 
@@ -142,3 +143,13 @@ pub through-puts : (sub actor : ℕ) (key : Key) (t : ℕ) (history : History)
     ≡ puts_to sub (before t history)
 through-puts sub actor key t history h = ap (puts_to sub) (through-look actor key t history h)
     ∙ puts-look sub actor key (before t history)
+
+-- what isn't put for a subscriber leaves its cells alone
+pub cell-kept : CellsOfPuts → (setting : Setting) (sub : ℕ) (history : History) (visit : Visit) (key : Key)
+    → key_sub key ≡ sub → is_put_for sub visit.act ≡ false
+    → cell setting (history ++ visit ∷ []) key ≡ cell setting history key
+cell-kept cells setting sub history visit key its other =
+    cells setting (history ++ visit ∷ []) key
+    ∙ (ap (λ puts. cell setting puts key) (ap (λ s. puts_to s (history ++ visit ∷ [])) its
+    ∙ (puts-push_other sub history visit other ∙ ap (λ s. puts_to s history) (sym its)))
+    ∙ sym (cells setting history key))

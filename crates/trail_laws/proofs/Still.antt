@@ -13,14 +13,14 @@ use Rattle.directory.specs.Legal.{ArePuts, IsLegal}
 use Rattle.directory.specs.Looks.{AreLooks, last_of, look_by}
 use Rattle.directory.specs.Puts.{is_of_move, steps_in}
 use Rattle.directory.specs.Standing.{number, passage, standing}
-use Rattle.directory.specs.StepLaws.{puts-push_other, puts-push_own}
+use Rattle.directory.specs.StepLaws.{puts-push_own}
 use Rattle.directory.specs.Writes.{visits}
 use Rattle.trail_laws.specs.Trail.{mark_seen}
 use Rattle.trail_laws.specs.Phases.{RestIsSettled}
 use Rattle.trail_laws.specs.Ways.{IsOpenAtMost, PassagesAreOpen, StandsInside}
 use Rattle.trail_laws.specs.Within.{QuietFindsStandStill}
 use Rattle.trail_laws.proofs.Alike.{alike-step, IsSwitching, switching}
-use Rattle.trail_laws.proofs.Passing.{front-legal, while-quiet}
+use Rattle.trail_laws.proofs.Passing.{cell-kept, front-legal, while-quiet}
 use Rattle.trail_laws.proofs.Sure.{Used}
 use Rattle.trail_laws.proofs.Quiet.{last-late}
 use Rattle.trail_laws.proofs.Right.{last-more}
@@ -48,16 +48,8 @@ still-step used rested setting sub one history visit low legal legal_more quiet 
     at_put : (b : Bool) → is_put_for sub visit.act ≡ b → (p u : ℕ)
         → mark_seen setting sub history (standing setting sub one) ≡ Coming p u → p ≡ number sub history
         → mark_seen setting sub (history ++ visit ∷ []) (standing setting sub one) ≡ Coming p u
-    at_put false e p u comes same = ap mark_in kept ∙ comes
-      where
-        as_before : puts_to sub (history ++ visit ∷ []) ≡ puts_to sub history
-        as_before = puts-push_other sub history visit e
-
-        kept : cell setting (history ++ visit ∷ []) (Presence (standing setting sub one) sub)
-            ≡ cell setting history (Presence (standing setting sub one) sub)
-        kept = used.cells setting (history ++ visit ∷ []) (Presence (standing setting sub one) sub)
-            ∙ (ap (λ puts. cell setting puts (Presence (standing setting sub one) sub)) as_before
-            ∙ sym (used.cells setting history (Presence (standing setting sub one) sub)))
+    at_put false e p u comes same = ap mark_in
+        (cell-kept used.cells setting sub history visit (Presence (standing setting sub one) sub) refl e) ∙ comes
     at_put true e p u comes same = absurd ((rested setting sub history low legal at_rest).0.1 u
         (ap (mark_seen setting sub history) still.stands ∙ (comes ∙ ap (λ n. Coming n u) same)))
       where
