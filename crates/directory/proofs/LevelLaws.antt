@@ -1,8 +1,9 @@
 -- What a move does to the levels: those that it renews have its node and have gathered nothing, the others go on.
-use Rattle.std.proofs.Common.{◌≡◌, ℕ, zero, suc, ◌+◌, ◌≤◌, Bool, true, false, cond, List, [], ◌∷◌, ◌++◌, length, map, drop, fold, refl, ap, ◌∙◌, arith, length-append}
+use Rattle.std.proofs.Common.{sym, ◌≡◌, ℕ, suc, ◌+◌, ◌≤◌, Bool, true, false, cond, List, [], ◌∷◌, ◌++◌, length, map, drop, fold, ap, ◌∙◌, arith, length-append}
 use Rattle.std.specs.Prelude.{◌==◌, ◌&&◌, not, None, nat_le, sum_by, get_or}
-use Rattle.std.proofs.lemmas.List.Sums.{sum_by-append}
-use Rattle.std.proofs.lemmas.List.{length-map}
+use Rattle.std.proofs.lemmas.List.Sums.{sum_by_push}
+use Rattle.std.proofs.Math.ListN.{drop_of_length-le}
+use Rattle.std.proofs.lemmas.List.{drop-append-le, get_or_append_left, get_or_at, length-map, map-append}
 use Rattle.node_set.specs.Ascending.{has, sift}
 use Rattle.entry_word.specs.declared.mark.PresenceMark.TheVariants.{Empty, Here, Gone}
 use Rattle.directory.specs.Settings.{Setting}
@@ -50,29 +51,11 @@ base-low level n low (move ∷ later) h f =
     at_test true = omega (arith, f.0)
     at_test false = omega (arith, h)
 
-drop-short : (k : ℕ) (xs : List Move) (x : Move) → k ≤ length xs → drop k (xs ++ x ∷ []) ≡ drop k xs ++ x ∷ []
-drop-short zero xs x h = refl
-drop-short (suc k) [] x h = absurd (omega arith)
-drop-short (suc k) (y ∷ xs) x h = drop-short k xs x (omega arith)
-
-drop-past : (k : ℕ) (xs : List Move) (x : Move) → k ≡ suc (length xs) → drop k (xs ++ x ∷ []) ≡ []
-drop-past zero xs x h = absurd (omega arith)
-drop-past (suc zero) [] x h = refl
-drop-past (suc (suc k)) [] x h = absurd (omega arith)
-drop-past (suc k) (y ∷ xs) x h = drop-past k xs x (omega arith)
-
-stop-kept : (k node : ℕ) (xs : List Move) (x : Move) → k ≤ length xs
-    → get_or (node ∷ map (λ (m : Move). m.to) (xs ++ x ∷ [])) k 0 ≡ get_or (node ∷ map (λ (m : Move). m.to) xs) k 0
-stop-kept zero node xs x h = refl
-stop-kept (suc k) node [] x h = absurd (omega arith)
-stop-kept (suc k) node (y ∷ xs) x h = stop-kept k y.to xs x (omega arith)
-
-stop-last : (k node : ℕ) (xs : List Move) (x : Move) → k ≡ suc (length xs)
-    → get_or (node ∷ map (λ (m : Move). m.to) (xs ++ x ∷ [])) k 0 ≡ x.to
-stop-last zero node xs x h = absurd (omega arith)
-stop-last (suc zero) node [] x h = refl
-stop-last (suc (suc k)) node [] x h = absurd (omega arith)
-stop-last (suc k) node (y ∷ xs) x h = stop-last k y.to xs x (omega arith)
+base-few : (level : ℕ) (course : Course) → AreNumbered 0 course.moves
+    → base level course.moves ≤ length course.moves
+base-few level course numbered =
+    let e : base level course.moves ≤ 0 + length course.moves = base-low level 0 0 course.moves
+    (omega arith) numbered in omega (arith, e)
 
 -- what a move does to a level
 pub gathered-after : (setting : Setting) (course : Course) (node level : ℕ) → AreNumbered 0 course.moves
@@ -86,18 +69,14 @@ gathered-after setting course node level numbered = ap
     move : Move
     move = next_move setting course node
 
-    low : base level course.moves ≤ length course.moves
-    low = let e : base level course.moves ≤ 0 + length course.moves = base-low level 0 0 course.moves
-        (omega arith) numbered in omega (arith, e)
-
     at_test : (b : Bool) → sum_by (λ (m : Move). m.weight)
         (drop (cond b move.number (base level course.moves)) (course.moves ++ move ∷ []))
         ≡ cond b 0 (gathered_weight course level + move.weight)
-    at_test true = ap (sum_by (λ (m : Move). m.weight)) (drop-past move.number course.moves move refl)
-    at_test false =
-        ap (sum_by (λ (m : Move). m.weight)) (drop-short (base level course.moves) course.moves move low)
-        ∙ (sum_by-append (λ (m : Move). m.weight) (drop (base level course.moves) course.moves) (move ∷ [])
-        ∙ ap (λ w. gathered_weight course level + w) (let e : 0 + move.weight ≡ move.weight = omega arith in e))
+    at_test true = ap (sum_by (λ (m : Move). m.weight)) (drop_of_length-le (course.moves ++ move ∷ [])
+        {i = suc (length course.moves)} (omega (arith, length-append course.moves (move ∷ []))))
+    at_test false = ap (sum_by (λ (m : Move). m.weight)) (drop-append-le (base level course.moves) course.moves
+        (move ∷ []) (base-few level course numbered))
+        ∙ sum_by_push (λ (m : Move). m.weight) (drop (base level course.moves) course.moves) move
 
 pub address-after : (setting : Setting) (course : Course) (node level : ℕ) → AreNumbered 0 course.moves
     → address_node (after_step setting course (move_to node)) level
@@ -108,14 +87,21 @@ address-after setting course node level numbered = ap (stop (after_step setting 
     move : Move
     move = next_move setting course node
 
-    low : base level course.moves ≤ length course.moves
-    low = let e : base level course.moves ≤ 0 + length course.moves = base-low level 0 0 course.moves
-        (omega arith) numbered in omega (arith, e)
+    stops : List ℕ
+    stops = course.start ∷ map (λ (m : Move). m.to) course.moves
+
+    longer : course.start ∷ map (λ (m : Move). m.to) (course.moves ++ move ∷ []) ≡ stops ++ move.to ∷ []
+    longer = ap (λ xs. course.start ∷ xs) (map-append (λ (m : Move). m.to) course.moves (move ∷ []))
+
+    count : suc (length course.moves) ≡ length stops
+    count = omega (arith, length-map course.moves (λ (m : Move). m.to))
 
     at_test : (b : Bool) → stop (after_step setting course (move_to node))
         (cond b move.number (base level course.moves)) ≡ cond b node (address_node course level)
-    at_test true = stop-last move.number course.start course.moves move refl
-    at_test false = stop-kept (base level course.moves) course.start course.moves move low
+    at_test true = ap (λ xs. get_or xs move.number 0) longer ∙ get_or_at stops move.to [] 0 move.number (sym count)
+    at_test false = ap (λ xs. get_or xs (base level course.moves) 0) longer
+        ∙ get_or_append_left stops (move.to ∷ []) 0 (base level course.moves)
+        (omega (arith, count, base-few level course numbered))
 
 -- the same of a course that steps lead to
 abbrev pub course_of : Setting → ℕ → List Step → Course

@@ -18,6 +18,7 @@ use Rattle.directory.proofs.StepLaws.{script-legal}
 use Rattle.entry_word.specs.Marks.{MarksUnpack}
 use Rattle.directory.specs.Statements.{OrdersArePlayed, OwnPutsAlone, ScriptsInOrder, PlayedIsLegal, MoreIsPlayed}
 use Rattle.directory.specs.StepLaws.{by_fronts, own-push, puts-push, take-more}
+use Rattle.directory.specs.ListLaws.{slice_get-right}
 use Rattle.directory.specs.HistoryLaws.{next-sub, next-caller, none-played, turn-none}
 
 -- a subscriber's write is a put for itself alone
@@ -91,7 +92,8 @@ played-push setting scripts history actor visit e played ticket found h =
           let within : ticket < length (history ++ visit ∷ []) = slice_get_within
           (history ++ visit ∷ []) ticket found h in
           let same : ticket ≡ length history = omega (arith, length_push history visit) in
-          let at_end : Some visit ≡ Some found = sym (get-end history visit ticket same) ∙ h in
+          let at_end : Some visit ≡ Some found = sym (slice_get-right history (visit ∷ []) ticket 0
+          (omega (arith, same))) ∙ h in
           let is_found : visit ≡ found = cc in
           let own_one : visit.actor ≡ actor = next-actor setting scripts history actor visit e in
           rw (take-append-le ticket history (visit ∷ []) (omega arith), take_all ticket history (omega arith))
@@ -103,11 +105,6 @@ played-push setting scripts history actor visit e played ticket found h =
     get-left [] ys i h = absurd (omega arith)
     get-left (x ∷ xs) ys zero h = refl
     get-left (x ∷ xs) ys (suc i) h = get-left xs ys i (omega arith)
-
-    get-end : (xs : History) (x : Visit) (i : ℕ) → i ≡ length xs → slice_get (xs ++ x ∷ []) i ≡ Some x
-    get-end [] x i h = rw h refl
-    get-end (y ∷ ys) x zero h = absurd (omega arith)
-    get-end (y ∷ ys) x (suc i) h = get-end ys x i (omega arith)
 
 -- each visit of the history of an order was its actor's next one
 pub played-of_play : (setting : Setting) (scripts : Scripts) (order : List ℕ)

@@ -2,11 +2,11 @@
 use Rattle.std.proofs.Common.{◌≡◌, ℕ, zero, suc, ◌+◌, ◌-◌, ◌<◌, ◌≤◌, Bool, true, false, cond, ◌==◌, List, [], ◌∷◌, ◌++◌, Option, Some, None, length, take, map, fold, refl, sym, ap, ◌∙◌, subst, arith, inl, inr, ◌⊎◌, ◌||◌}
 use Rattle.std.specs.Prelude.{sum_by, flat_map, replicate, option_map}
 use Rattle.std.proofs.lemmas.Bool.{eqb-true, lt-ltb, le-ltb, ne_eqb, eq-eqb, cases_lt}
-use Rattle.std.proofs.lemmas.Bool.Decides.{nat_tests}
 use Rattle.std.proofs.lemmas.List.{append-nil, length_push, get_or_past, map-append}
 use Rattle.std.proofs.lemmas.List.Sums.{fold-append}
 use Rattle.std.proofs.lemmas.Option.{slice_get_within}
 use Rattle.node_set.specs.Ascending.{has}
+use Rattle.node_set.specs.SetLaws.{has-passing}
 use Rattle.entry_word.specs.declared.visit.Key.{Key}
 use Rattle.entry_word.specs.declared.visit.Visit.{Visit}
 use Rattle.directory.specs.Settings.{Setting, subs}
@@ -129,16 +129,6 @@ done-after setting scripts actor history played = at_next
           | inr many ↦ absurd (omega arith)
         ]
 
--- a number of a range
-in_numbers : (x v k : ℕ) → v ≤ x → x < v + k → has x (numbers_from v k) ≡ true
-in_numbers x v zero low high = absurd (omega arith)
-in_numbers x v (suc k) low high = at_test (x == v) refl (in_numbers x (suc v) k)
-  where
-    at_test : (b : Bool) → (x == v) ≡ b → (suc v ≤ x → x < suc v + k → has x (numbers_from (suc v) k) ≡ true)
-        → (b || has x (numbers_from (suc v) k)) ≡ true
-    at_test true e later = refl
-    at_test false e later = later (grind (arith, nat_tests)) (omega arith)
-
 pub after_turns-append : (setting : Setting) (scripts : Scripts) (history : History) (one other : List ℕ)
     → after_turns setting scripts history (one ++ other)
     ≡ after_turns setting scripts (after_turns setting scripts history one) other
@@ -196,8 +186,8 @@ all-done setting scripts order actor =
     (history_of setting scripts order) actor) [
       | inl low ↦ rw (after_turns-append setting scripts [] order (last_turns setting scripts))
           (done-each setting scripts actor (numbers_from 0 (actors setting scripts))
-          (after_turns setting scripts [] order) (in_numbers actor 0 (actors setting scripts) (omega arith)
-          (omega arith)) (played-of_play setting scripts order))
+          (after_turns setting scripts [] order) (has-passing (λ p. true) actor 0 (actors setting scripts)
+          (omega arith) (omega arith)) (played-of_play setting scripts order))
       | inr high ↦ stranger-done setting scripts (history_of setting scripts order) actor high
     ]
 

@@ -13,7 +13,7 @@ use Rattle.directory.specs.Puts.{steps_in, course_in}
 use Rattle.directory.specs.Standing.{Commit, commit_by, commits, number}
 use Rattle.directory.specs.States.{write_commit}
 use Rattle.directory.proofs.StateLaws.{commits-told}
-use Rattle.directory.proofs.StepLaws.{nothing-taken}
+use Rattle.directory.proofs.StepLaws.{Each, each-append, each-map, each-take, nothing-taken}
 use Rattle.entry_word.specs.Marks.{MarksUnpack}
 use Rattle.directory.specs.Statements.{CommitsAreMoves, StandsAtStop}
 use Rattle.directory.specs.StepLaws.{take-append, start-kept}
@@ -35,29 +35,12 @@ moves-added setting course (move_to node ∷ steps) =
     (added setting (after_step setting course (move_to node)) steps)
 moves-added setting course (step ∷ steps) = moves-added setting (after_step setting course step) steps
 
--- writes that are no commits
-unfoldable NoCommits : List Write → Type 0
-NoCommits [] = Unit {0}
-NoCommits (write ∷ later) = (write_commit write ≡ None) × NoCommits later
+-- a write that is no commit
+abbrev IsNoCommit : Write → Type 0
+IsNoCommit write = write_commit write ≡ None
 
-no-append : (xs ys : List Write) → NoCommits xs → NoCommits ys → NoCommits (xs ++ ys)
-unfolding NoCommits
-no-append [] ys f g = g
-no-append (x ∷ xs) ys f g = (f.0, no-append xs ys f.1 g)
-
-no-map : (h : ℕ → Write) → ((i : ℕ) → write_commit (h i) ≡ None) → (xs : List ℕ) → NoCommits (map h xs)
-unfolding NoCommits
-no-map h f [] = tt
-no-map h f (x ∷ xs) = (f x, no-map h f xs)
-
-no-take : (k : ℕ) (xs : List Write) → NoCommits xs → NoCommits (take k xs)
-unfolding NoCommits
-no-take zero xs f = tt
-no-take (suc k) [] f = tt
-no-take (suc k) (x ∷ xs) f = (f.0, no-take k xs f.1)
-
-none-listed : (xs : List Write) → NoCommits xs → filter_map write_commit xs ≡ []
-unfolding NoCommits
+none-listed : (xs : List Write) → Each IsNoCommit xs → filter_map write_commit xs ≡ []
+unfolding Each
 none-listed [] f = refl
 none-listed (x ∷ xs) f = ap (λ o. cons_option o (filter_map write_commit xs)) f.0 ∙ none-listed xs f.1
 
@@ -74,39 +57,39 @@ not-past zero (suc k) h = cc
 not-past (suc place) (suc k) h = omega (arith, not-past place k h)
 
 -- a front of a list with one commit has it or not
-one-listed : (xs : List Write) (y : Write) (zs : List Write) (commit : Commit) (k : ℕ) → NoCommits xs → NoCommits zs
-    → write_commit y ≡ Some commit
+one-listed : (xs : List Write) (y : Write) (zs : List Write) (commit : Commit) (k : ℕ) → Each IsNoCommit xs
+    → Each IsNoCommit zs → write_commit y ≡ Some commit
     → filter_map write_commit (take k (xs ++ y ∷ zs)) ≡ cond (is_past (length xs) k) (commit ∷ []) []
-unfolding NoCommits is_past
+unfolding Each is_past
 one-listed [] y zs commit zero f g h = refl
 one-listed [] y zs commit (suc k) f g h = ap (λ o. cons_option o (filter_map write_commit (take k zs))) h
-    ∙ ap (λ cs. commit ∷ cs) (none-listed (take k zs) (no-take k zs g))
+    ∙ ap (λ cs. commit ∷ cs) (none-listed (take k zs) (each-take IsNoCommit k zs g))
 one-listed (x ∷ xs) y zs commit zero f g h = refl
 one-listed (x ∷ xs) y zs commit (suc k) f g h = ap (λ o. cons_option o
     (filter_map write_commit (take k (xs ++ y ∷ zs)))) f.0 ∙ one-listed xs y zs commit k f.1 g h
 
-no-purges : (setting : Setting) (course : Course) (move : Move) → NoCommits (purge_writes setting course move)
-unfolding NoCommits
+no-purges : (setting : Setting) (course : Course) (move : Move) → Each IsNoCommit (purge_writes setting course move)
+unfolding Each
 no-purges setting course move = at_test (move.renewed == setting.top) _
   where
-    at_test : (b : Bool) (nodes : List ℕ) → NoCommits (cond b (map (λ node. mark_at node Empty) nodes) [])
-    at_test true nodes = no-map (λ node. mark_at node Empty) (λ i. refl) nodes
+    at_test : (b : Bool) (nodes : List ℕ) → Each IsNoCommit (cond b (map (λ node. mark_at node Empty) nodes) [])
+    at_test true nodes = each-map IsNoCommit (λ node. mark_at node Empty) (λ i. refl) nodes
     at_test false nodes = tt
 
 move-listed : (setting : Setting) (course : Course) (move : Move) (k : ℕ)
     → filter_map write_commit (take k (move_writes setting course move))
     ≡ cond (is_past (suc (length (map (new_address setting move) (numbers_from 0 (suc move.renewed))))) k)
     (commit_by move ∷ []) []
-unfolding NoCommits is_past
+unfolding Each is_past
 move-listed setting course move k =
     one-listed (mark_at move.to (Coming move.number move.from) ∷ map (new_address setting move)
     (numbers_from 0 (suc move.renewed))) (mark_at move.from (Gone move.number move.to))
     (mark_at move.to (Here move.number) ∷ (erasure_writes setting course move ++ purge_writes setting course move))
     (commit_by move) k
-    (refl, no-map (new_address setting move) (λ i. refl) (numbers_from 0 (suc move.renewed))) (
+    (refl, each-map IsNoCommit (new_address setting move) (λ i. refl) (numbers_from 0 (suc move.renewed))) (
       refl,
-      no-append (erasure_writes setting course move) (purge_writes setting course move)
-          (no-map (λ level. entry_at level _ None) (λ i. refl) _) (no-purges setting course move),
+      each-append IsNoCommit (erasure_writes setting course move) (purge_writes setting course move)
+          (each-map IsNoCommit (λ level. entry_at level _ None) (λ i. refl) _) (no-purges setting course move),
     ) refl
 
 -- the first visits of steps commit to the first moves that they add
@@ -128,7 +111,7 @@ parted setting course step steps k =
     (take (k - length (step_writes setting course step)) (writes setting (after_step setting course step) steps))
 
 committed : (setting : Setting) (course : Course) (steps : List Step) (k : ℕ) → AreCommitted setting course steps k
-unfolding added writes NoCommits
+unfolding added writes Each
 committed setting course [] k = record {
   count = 0;
   few = omega arith;
@@ -196,7 +179,8 @@ committed setting course (step ∷ steps) k = switched
       listed = parted setting course step steps k
           ∙ (ap (λ cs. cs ++ filter_map write_commit (take (k - 1)
           (writes setting (after_step setting course step) steps)))
-          (none-listed (take k (step_writes setting course step)) (no-take k _ (refl, tt))) ∙ later.listed);
+          (none-listed (take k (step_writes setting course step)) (each-take IsNoCommit k _ (refl, tt)))
+          ∙ later.listed);
     }
 
 -- the commits of a legal history are the first moves of its course

@@ -16,37 +16,43 @@ use Rattle.directory.specs.Puts.{node_put, mark_put, mark_step, steps_from, step
 use Rattle.directory.specs.Legal.{IsScript, ArePuts}
 use Rattle.directory.specs.Statements.{FrontsAreLegal, ScriptsAreLegal, DueIsLegal, BeginningIsLegal, NextIsDecided}
 use Rattle.directory.specs.StepLaws.{steps-append, take-append, visits-append, visits_in, take-more}
+use Rattle.directory.specs.ListLaws.{slice_get-right}
 use Rattle.entry_word.specs.MarkLaws.{read-mark}
+
+-- what holds of each of a list
+unfoldable pub Each : {A : Type 0} (P : A → Type 0) → List A → Type 0
+Each P [] = Unit {0}
+Each P (x ∷ later) = P x × Each P later
+
+pub each-append : {A : Type 0} (P : A → Type 0) (xs ys : List A) → Each P xs → Each P ys → Each P (xs ++ ys)
+unfolding Each
+each-append P [] ys f g = g
+each-append P (x ∷ xs) ys f g = (f.0, each-append P xs ys f.1 g)
+
+pub each-take : {A : Type 0} (P : A → Type 0) (k : ℕ) (xs : List A) → Each P xs → Each P (take k xs)
+unfolding Each
+each-take P zero xs f = tt
+each-take P (suc k) [] f = tt
+each-take P (suc k) (x ∷ xs) f = (f.0, each-take P k xs f.1)
+
+pub each-map : {A B : Type 0} (P : B → Type 0) (h : A → B) → ((x : A) → P (h x)) → (xs : List A) → Each P (map h xs)
+unfolding Each
+each-map P h f [] = tt
+each-map P h f (x ∷ xs) = (f x, each-map P h f xs)
+
+each-image : {A B : Type 0} (P : B → Type 0) (h : A → B) (xs : List A) → Each (λ x. P (h x)) xs → Each P (map h xs)
+unfolding Each
+each-image P h [] f = tt
+each-image P h (x ∷ xs) f = (f.0, each-image P h xs f.1)
 
 -- a put that begins no step, when no Off was put before it, and is none itself
 abbrev IsPlain : Visit → Type 0
 IsPlain visit = (mark_step false (node_put visit.act) (mark_put visit.act) ≡ None)
     × (says_off (mark_put visit.act) ≡ false)
 
-unfoldable ArePlain : List Visit → Type 0
-ArePlain [] = Unit {0}
-ArePlain (visit ∷ later) = IsPlain visit × ArePlain later
-
-plain-append : (xs ys : List Visit) → ArePlain xs → ArePlain ys → ArePlain (xs ++ ys)
-unfolding ArePlain
-plain-append [] ys f g = g
-plain-append (x ∷ xs) ys f g = (f.0, plain-append xs ys f.1 g)
-
-plain-take : (k : ℕ) (xs : List Visit) → ArePlain xs → ArePlain (take k xs)
-unfolding ArePlain
-plain-take zero xs f = tt
-plain-take (suc k) [] f = tt
-plain-take (suc k) (x ∷ xs) f = (f.0, plain-take k xs f.1)
-
-plain-map : (sub : ℕ) (h : ℕ → Write) → ((i : ℕ) → IsPlain (visit_of sub (h i))) → (xs : List ℕ)
-    → ArePlain (map (visit_of sub) (map h xs))
-unfolding ArePlain
-plain-map sub h f [] = tt
-plain-map sub h f (x ∷ xs) = (f x, plain-map sub h f xs)
-
 -- plain puts show no step
-plain-skipped : (xs ys : List Visit) → ArePlain xs → steps_from false (xs ++ ys) ≡ steps_from false ys
-unfolding ArePlain steps_from
+plain-skipped : (xs ys : List Visit) → Each IsPlain xs → steps_from false (xs ++ ys) ≡ steps_from false ys
+unfolding Each steps_from
 plain-skipped [] ys f = refl
 plain-skipped (x ∷ xs) ys f =
     ap (λ o. cons_option o (steps_from (says_off (mark_put x.act)) (xs ++ ys))) f.0.0
@@ -68,44 +74,27 @@ after_coming setting course move =
     ∷ (mark_at move.to (Here move.number)
     ∷ (erasure_writes setting course move ++ purge_writes setting course move)))
 
-plain-purging : (setting : Setting) (sub : ℕ) (course : Course) (move : Move)
-    → ArePlain (map (visit_of sub) (purge_writes setting course move))
-unfolding ArePlain
-plain-purging setting sub course move = at_test (move.renewed == setting.top) _
-  where
-    at_test : (b : Bool) (nodes : List ℕ) → ArePlain (map (visit_of sub)
-        (cond b (map (λ node. mark_at node Empty) nodes) []))
-    at_test true nodes = plain-map sub (λ node. mark_at node Empty) (λ i. (refl, refl)) nodes
-    at_test false nodes = tt
-
 plain-after : MarksUnpack → (setting : Setting) (sub : ℕ) (course : Course) (move : Move) → move.number < 2 ^ 32
-    → move.to < 2 ^ 16
-    → ArePlain (map (visit_of sub) (after_coming setting course move))
-unfolding ArePlain
-plain-after unpacks setting sub course move few low =
-    subst ArePlain (sym (map-append (visit_of sub) (map (new_address setting move)
-    (numbers_from 0 (suc move.renewed))) last_writes))
-    (plain-append (map (visit_of sub) (map (new_address setting move) (numbers_from 0 (suc move.renewed))))
-    (map (visit_of sub) last_writes)
-    (plain-map sub (new_address setting move) (λ i. (refl, refl)) (numbers_from 0 (suc move.renewed))) last_plain)
-  where
-    last_writes : List Write
-    last_writes = mark_at move.from (Gone move.number move.to) ∷
-        (mark_at move.to (Here move.number) ∷ (erasure_writes setting course move ++ purge_writes setting course move))
-
-    ends_plain : ArePlain (map (visit_of sub) (erasure_writes setting course move ++ purge_writes setting course move))
-    ends_plain =
-        subst ArePlain (sym (map-append (visit_of sub) (erasure_writes setting course move)
-        (purge_writes setting course move)))
-        (plain-append (map (visit_of sub) (erasure_writes setting course move))
-        (map (visit_of sub) (purge_writes setting course move))
-        (plain-map sub _ (λ i. (refl, refl)) _) (plain-purging setting sub course move))
-
-    last_plain : ArePlain (map (visit_of sub) last_writes)
-    last_plain = (
+    → move.to < 2 ^ 16 → Each IsPlain (map (visit_of sub) (after_coming setting course move))
+unfolding Each
+plain-after unpacks setting sub course move few low = each-image IsPlain (visit_of sub)
+    (after_coming setting course move)
+    (each-append IsPlainWrite (map (new_address setting move) (numbers_from 0 (suc move.renewed))) _
+    (each-map IsPlainWrite (new_address setting move) (λ i. (refl, refl)) (numbers_from 0 (suc move.renewed))) (
       plain-mark unpacks sub move.from (Gone move.number move.to) (few, low) refl refl,
-      (plain-mark unpacks sub move.to (Here move.number) few refl refl, ends_plain),
-    )
+      (
+        plain-mark unpacks sub move.to (Here move.number) few refl refl,
+        each-append IsPlainWrite (erasure_writes setting course move) (purge_writes setting course move)
+            (each-map IsPlainWrite _ (λ i. (refl, refl)) _) (at_test (move.renewed == setting.top) _),
+      ),
+    ))
+  where
+    IsPlainWrite : Write → Type 0
+    IsPlainWrite write = IsPlain (visit_of sub write)
+
+    at_test : (b : Bool) (nodes : List ℕ) → Each IsPlainWrite (cond b (map (λ node. mark_at node Empty) nodes) [])
+    at_test true nodes = each-map IsPlainWrite (λ node. mark_at node Empty) (λ i. (refl, refl)) nodes
+    at_test false nodes = tt
 
 -- the steps that the first k visits of some steps begin: they show just these, and are visits of these
 pub record AreBegun (setting : Setting) (sub : ℕ) (course : Course) (steps : List Step) (k : ℕ) : Type 0 where
@@ -159,7 +148,7 @@ one-begun unpacks setting sub course (move_to node) k later sound may =
     let rest : List Visit = map (visit_of sub) (after_coming setting course (next_move setting course node)) in
     ap (λ m. cons_option (mark_step course.is_off node m) (steps_from (says_off m) (take k rest ++ later))) read
     ∙ ap (λ xs. move_to node ∷ xs) (plain-skipped (take k rest) later
-    (plain-take k rest (plain-after unpacks setting sub course (next_move setting course node) few low))
+    (each-take IsPlain k rest (plain-after unpacks setting sub course (next_move setting course node) few low))
     ∙ ap (λ b. steps_from b later) (sym may.is_on))
 one-begun unpacks setting sub course switch_off k later sound may =
     ap (λ vs. steps_from course.is_off (visit_of sub (mark_at (last_stop course) (Off (length course.moves))) ∷
@@ -308,10 +297,6 @@ begin-legal unpacks setting sub puts step visit low legal rest may first =
     whole : (xs : List Visit) (n : ℕ) → n ≡ length xs → take n xs ≡ xs
     whole xs n e = take_all n xs (omega (arith, e))
 
-    at_end : (xs ys : List Visit) (x : Visit) → slice_get ys 0 ≡ Some x → slice_get (xs ++ ys) (length xs) ≡ Some x
-    at_end [] ys x h = h
-    at_end (y ∷ xs) ys x h = at_end xs ys x h
-
     joined : visits setting sub (steps_in puts ++ step ∷ [])
         ≡ visits setting sub (steps_in puts) ++ visits_in setting sub (course_in setting sub puts) (step ∷ [])
     joined = visits-append setting sub (course_at (start setting sub)) (steps_in puts) (step ∷ [])
@@ -328,7 +313,7 @@ begin-legal unpacks setting sub puts step visit low legal rest may first =
         ap (λ xs. slice_get xs (length puts)) joined ∙ (ap
         (λ n. slice_get (visits setting sub (steps_in puts) ++ visits_in setting sub (course_in setting sub puts)
         (step ∷ [])) n) rest
-        ∙ at_end (visits setting sub (steps_in puts)) (visits_in setting sub (course_in setting sub puts) (step ∷ []))
-        visit first) in
+        ∙ (slice_get-right (visits setting sub (steps_in puts))
+        (visits_in setting sub (course_in setting sub puts) (step ∷ [])) _ 0 (omega arith) ∙ first)) in
         ap (λ xs. xs ++ visit ∷ []) front ∙ sym (take-more (visits setting sub (steps_in puts ++ step ∷ []))
         (length puts) visit due)
